@@ -1,0 +1,45 @@
+//! A text that is read once, from its beginning to its end.
+
+ghost use Rattle.std.specs.Prelude.{◌≡◌, ◌<◌, ◌≤◌, ◌^◌, length, IfOk};
+ghost use Rattle.nt_outside.specs.Faults.{RoseOnFailed};
+ghost use Rattle.nt_outside.specs.Source.{SourceState, TakesNext, TakesFront};
+
+use crate::fault::{Failed, Refused};
+use std::alloc::Global;
+
+/// A text, by the bytes that are left of it.
+pub trait Source {
+    ghost state: { Self → SourceState };
+
+    /// Puts the next bytes first into `buf`, and says how many they are: none at the end of the text alone.
+    /// After `Failed` nothing was taken.
+    fn read(&mut self, buf: &mut [u8]) -> Result<usize, Failed>
+        requires { 0 < length buf.old }
+        ensures { TakesNext (state self.old) (state self.new) buf.new result };
+}
+
+/// An empty buffer for the pieces of a text.
+fn empty_piece() -> [u8; 512] {
+    [0; 512]
+}
+
+/// The bytes of a text, to its end where they are at most `most`, and more than `most` of them where it is longer.
+pub fn read_front<S: Source>(alloc: Global, source: &mut S, most: usize) -> Result<Vec<u8>, Refused>
+    requires { most < 2 ^ 62 }
+    ensures front { IfOk result (λ bytes. TakesFront (S.state source.old).left most bytes.items) }
+    ensures cause { RoseOnFailed (S.state source.old).faults (S.state source.new).faults result }
+{
+    let mut bytes = Vec::new(alloc);
+    let mut piece = empty_piece();
+    for _ in 0..=most {
+        let count = source.read(&mut piece)?;
+        if count == 0 {
+            return Ok(bytes);
+        }
+        bytes.extend_from_slice(&piece[..count])?;
+        if bytes.len() > most {
+            return Ok(bytes);
+        }
+    }
+    Ok(bytes)
+}
