@@ -1,0 +1,32 @@
+-- The primes of the XXH3 description.
+use Rattle.std.specs.Prelude.{ℕ}
+
+abbrev pub P32_1 : ℕ
+P32_1 = 0x9e3779b1
+
+abbrev pub P32_2 : ℕ
+P32_2 = 0x85ebca77
+
+abbrev pub P32_3 : ℕ
+P32_3 = 0xc2b2ae3d
+
+abbrev pub P64_1 : ℕ
+P64_1 = 0x9e3779b185ebca87
+
+abbrev pub P64_2 : ℕ
+P64_2 = 0xc2b2ae3d27d4eb4f
+
+abbrev pub P64_3 : ℕ
+P64_3 = 0x165667b19e3779f9
+
+abbrev pub P64_4 : ℕ
+P64_4 = 0x85ebca77c2b2ae63
+
+abbrev pub P64_5 : ℕ
+P64_5 = 0x27d4eb2f165667c5
+
+abbrev pub MX1 : ℕ
+MX1 = 0x165667919e3779f9
+
+abbrev pub MX2 : ℕ
+MX2 = 0x9fb21c651e98df25

@@ -1,0 +1,13 @@
+//! XXH3-64 with seed 0: the checksum of pages, envelopes and anchors.
+#![tactic(auto)]
+
+mod constants;
+mod middle;
+mod mix;
+mod short;
+mod whole;
+
+pub use whole::sum;
+
+#[cfg(test)]
+mod tests;
