@@ -2,6 +2,7 @@
 #![tactic(auto)]
 
 mod constants;
+mod long;
 mod middle;
 mod mix;
 mod short;
