@@ -1,6 +1,6 @@
 //! What is wrong with a file.
 
-ghost use Rattle.std.specs.Prelude.{◌≡◌};
+ghost use Rattle.std.specs.Prelude.{◌≡◌, ◌≤◌, length};
 
 /// The first fault of a file. Parts that a code does not use are 0.
 #[derive(Clone, Copy, Debug, PartialEq, Eq)]
@@ -26,7 +26,8 @@ impl ReadError {
 
     /// The name of the code.
     pub fn name(&self) -> &'static str
-        ensures { result.now ≡ name_of self.now.code }
+        ensures name { result.now ≡ name_of self.now.code }
+        ensures short { length result.now ≤ 14 }
     {
         match self.code {
             0 => "Unknown",
