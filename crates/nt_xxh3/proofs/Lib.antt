@@ -1,1 +1,2 @@
 pub mod Stripes
+pub mod Kept

@@ -1,5 +1,5 @@
 -- The accumulators of an input that grows.
-use Rattle.std.proofs.Common.{◌≡◌, ℕ, zero, suc, ◌+◌, ◌-◌, ◌*◌, ◌/◌, ◌<◌, ◌≤◌, List, [], ◌∷◌, ◌++◌, length, take, drop, refl, sym, ap, ◌∙◌, arith, length-append, length-drop, add-one, add-zero}
+use Rattle.std.proofs.Common.{◌≡◌, ℕ, zero, suc, ◌+◌, ◌-◌, ◌*◌, ◌/◌, ◌<◌, ◌≤◌, List, ◌++◌, length, take, drop, refl, sym, ◌∙◌, arith, length-drop, add-zero}
 use Rattle.std.proofs.lemmas.List.{take-append-le, drop-append-le, take-append-drop, length-take-le}
 use Rattle.std.proofs.Math.Seq.{drop-append-add}
 use Rattle.nt_xxh3.specs.Long.{initial_lanes, stripes, stripe_at, after, after_stripe, merged, above_240}
@@ -44,14 +44,11 @@ unfolding stripes
 stripes_start m = refl
 
 -- a whole input: the stripes that end before its last byte, and its last 64 bytes
-pub above_240_of : (x front last taken lanes : List ℕ) (result : ℕ) → 0 < length x
-    → front ≡ take (length x - 1) x → taken ≡ stripes ([] ++ front) (0 + length front / 64)
-    → last ≡ drop (length x - 64) x → lanes ≡ after_stripe taken last 121
-    → result ≡ merged (length x) lanes → result ≡ above_240 x
+pub above_240_of : (x front taken last : List ℕ) (result k : ℕ) → 0 < length x
+    → front ≡ take (length x - 1) x → k ≡ (length x - 1) / 64 → taken ≡ stripes front k
+    → last ≡ drop (length x - 64) x → result ≡ merged (length x) (after_stripe taken last 121) → result ≡ above_240 x
 unfolding above_240
-above_240_of x front last taken lanes result some front_is taken_is last_is lanes_is result_is =
-    let len : length front ≡ length x - 1 = ap length front_is ∙ length-take-le (length x - 1) x (omega arith) in
-    let count : 0 + length front / 64 ≡ (length x - 1) / 64 = omega arith in
+above_240_of x front taken last result k some front_is count taken_is last_is result_is =
     let all : taken ≡ stripes x ((length x - 1) / 64) =
     taken_is ∙ rw (count, front_is) (stripes-take x (length x - 1) ((length x - 1) / 64) (omega arith) (omega arith)) in
-    rw (result_is, lanes_is, last_is, all) refl
+    rw (result_is, last_is, all) refl

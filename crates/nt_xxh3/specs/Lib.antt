@@ -4,4 +4,6 @@ pub mod Steps
 pub mod Short
 pub mod Middle
 pub mod Long
+pub mod Window
+pub mod Pieces
 pub mod Sum

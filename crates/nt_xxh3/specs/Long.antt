@@ -1,6 +1,6 @@
 -- XXH3 description, inputs above 240 bytes: eight accumulators take stripes of 64 bytes, and are
 -- scrambled after each block of 16 stripes.
-use Rattle.std.specs.Prelude.{ℕ, zero, suc, ◌+◌, ◌*◌, ◌-◌, ◌/◌, ◌%◌, ◌^◌, List, [], ◌∷◌, length, take, drop, slice_index, bit_xor, nat_eq, if◌then◌else◌}
+use Rattle.std.specs.Prelude.{◌≡◌, ℕ, zero, suc, ◌+◌, ◌*◌, ◌-◌, ◌/◌, ◌%◌, ◌^◌, List, [], ◌∷◌, ◌++◌, length, take, drop, slice_index, bit_xor, nat_eq, if◌then◌else◌}
 use Rattle.nt_xxh3.specs.declared.constants.TheConstants.{SECRET}
 use Rattle.nt_xxh3.specs.Primes.{P32_1, P32_2, P32_3, P64_1, P64_2, P64_3, P64_4, P64_5}
 use Rattle.nt_xxh3.specs.Steps.{word_at, xor_shift, fold, avalanche, sum_below}
@@ -51,6 +51,11 @@ stripe_at bytes k = take 64 (drop (64 * k) bytes)
 unfoldable pub stripes : List ℕ → ℕ → List ℕ
 stripes bytes zero = initial_lanes
 stripes bytes (suc k) = after (stripes bytes k) k (stripe_at bytes k)
+
+-- accumulators that had taken so many stripes take those of the bytes that follow
+abbrev pub Follows : List ℕ → ℕ → List ℕ → List ℕ → ℕ → Type 0
+Follows old taken bytes new total =
+    (front : List ℕ) → length front ≡ 64 * taken → old ≡ stripes front taken → new ≡ stripes (front ++ bytes) total
 
 -- two neighbouring accumulators, folded with the secret from byte 11 on
 abbrev pub folded : List ℕ → ℕ → ℕ

@@ -5,9 +5,12 @@ mod constants;
 mod long;
 mod middle;
 mod mix;
+mod pieces;
 mod short;
 mod whole;
+mod window;
 
+pub use pieces::Sum;
 pub use whole::sum;
 
 #[cfg(test)]

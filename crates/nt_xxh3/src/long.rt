@@ -1,15 +1,15 @@
 //! The eight accumulators of an input above 240 bytes.
 
-ghost use Rattle.std.specs.Prelude.{◌≡◌, ℕ, List, ◌+◌, ◌*◌, ◌/◌, ◌<◌, ◌≤◌, ◌^◌, ◌++◌, length};
-ghost use Rattle.nt_xxh3.specs.Long.{initial_lanes, halves, lane_after, lane_scrambled, after_stripe, scrambled, after, stripes, merged, above_240};
+ghost use Rattle.std.specs.Prelude.{◌≡◌, ◌+◌, ◌/◌, ◌<◌, ◌≤◌, ◌^◌, length};
+ghost use Rattle.nt_xxh3.specs.Long.{initial_lanes, halves, lane_after, lane_scrambled, after_stripe, scrambled, after, merged, above_240, Follows};
 
 use crate::constants::{
     PRIME32_1, PRIME32_2, PRIME32_3, PRIME64_1, PRIME64_2, PRIME64_3, PRIME64_4, PRIME64_5, SECRET,
 };
 use crate::mix::{avalanche, fold, word_at};
 
-/// A stripe of the input.
-const STRIPE: usize = 64;
+/// The bytes of a stripe.
+pub const STRIPE: usize = 64;
 
 /// The low half of a word times its high half.
 #[inline(always)]
@@ -46,22 +46,25 @@ fn lane_scrambled(words: &[u64; 8], i: usize) -> u64
     (shifted ^ word_at(&SECRET, 128 + 8 * i)).wrapping_mul(PRIME32_1)
 }
 
-/// The accumulators.
+/// The accumulators, and how many stripes of the input they took.
 #[derive(Clone, Copy)]
 pub struct Lanes {
     pub words: [u64; 8],
+    pub taken: usize,
 }
 
 impl Lanes {
     /// The accumulators before the first stripe.
     pub fn new() -> Lanes
-        ensures { result.words ≡ initial_lanes }
+        ensures words { result.words ≡ initial_lanes }
+        ensures taken { result.taken ≡ 0 }
     {
         Lanes {
             words: [
                 PRIME32_3, PRIME64_1, PRIME64_2, PRIME64_3, PRIME64_4, PRIME32_2, PRIME64_5,
                 PRIME32_1,
             ],
+            taken: 0,
         }
     }
 
@@ -71,7 +74,8 @@ impl Lanes {
     pub fn take_stripe(&mut self, stripe: &[u8], secret: usize)
         requires stripe { length stripe.now ≡ 64 }
         requires secret { secret + 64 ≤ 192 }
-        ensures { self.new.words ≡ after_stripe self.old.words stripe.now secret }
+        ensures words { self.new.words ≡ after_stripe self.old.words stripe.now secret }
+        ensures taken { self.new.taken ≡ self.old.taken }
     {
         let words = [
             lane_after(&self.words, stripe, secret, 0),
@@ -90,7 +94,8 @@ impl Lanes {
     #[inline(always)]
     #[tactic(auto, unfolding(crate::specs::Long::scrambled))]
     fn scramble(&mut self)
-        ensures { self.new.words ≡ scrambled self.old.words }
+        ensures words { self.new.words ≡ scrambled self.old.words }
+        ensures taken { self.new.taken ≡ self.old.taken }
     {
         let words = [
             lane_scrambled(&self.words, 0),
@@ -105,12 +110,13 @@ impl Lanes {
         self.words = words;
     }
 
-    /// Takes stripe k of the input.
+    /// Takes stripe k of the input, without counting it.
     #[inline(always)]
     #[tactic(auto, unfolding(crate::specs::Long::after))]
     fn take_next(&mut self, k: usize, stripe: &[u8])
         requires { length stripe.now ≡ 64 }
-        ensures { self.new.words ≡ after self.old.words k stripe.now }
+        ensures words { self.new.words ≡ after self.old.words k stripe.now }
+        ensures taken { self.new.taken ≡ self.old.taken }
     {
         self.take_stripe(stripe, 8 * (k % 16));
         if k % 16 == 15 {
@@ -118,22 +124,28 @@ impl Lanes {
         }
     }
 
-    /// Takes the whole stripes of bytes that follow on so many stripes of the input.
-    pub fn take_stripes(&mut self, before: usize, bytes: &[u8])
-        requires { before + length bytes.now < 2 ^ 64 }
-        ensures { (m : List ℕ) → length m ≡ 64 * before → self.old.words ≡ stripes m before → self.new.words ≡ stripes (m ++ bytes.now) (before + length bytes.now / 64) }
+    /// Takes the whole stripes of the bytes that follow on what was taken.
+    pub fn take_stripes(&mut self, bytes: &[u8])
+        requires { self.old.taken + length bytes.now < 2 ^ 64 }
+        ensures taken { self.new.taken ≡ self.old.taken + length bytes.now / 64 }
+        ensures words { Follows self.old.words self.old.taken bytes.now self.new.words self.new.taken }
     {
-        for k in 0..bytes.len() / STRIPE {
+        let before = self.taken;
+        let count = bytes.len() / STRIPE;
+        for k in 0..count {
             let at = STRIPE * k;
             self.take_next(before + k, &bytes[at..at + STRIPE]);
         }
+        self.taken = before + count;
     }
 
-    /// The checksum of an input of so many bytes.
+    /// The checksum of an input of so many bytes, from its last 64 bytes.
     #[tactic(auto, unfolding(crate::specs::Long::merged))]
-    pub fn merged(&self, len: u64) -> u64
-        ensures { result ≡ merged len self.now.words }
+    pub fn finish(mut self, last: &[u8], len: u64) -> u64
+        requires { length last.now ≡ 64 }
+        ensures { result ≡ merged len (after_stripe self.words last.now 121) }
     {
+        self.take_stripe(last, 121);
         let mut total = len.wrapping_mul(PRIME64_1);
         for i in 0..4 {
             total = total.wrapping_add(fold(
@@ -145,14 +157,13 @@ impl Lanes {
     }
 }
 
-#[tactic(auto, unfolding(crate::specs::Long::above_240))]
+/// The checksum of more than 240 bytes.
 pub fn sum_above_240(bytes: &[u8]) -> u64
     requires { 240 < length bytes.now }
     ensures { result ≡ above_240 bytes.now }
 {
     let len = bytes.len();
     let mut lanes = Lanes::new();
-    lanes.take_stripes(0, &bytes[..len - 1]);
-    lanes.take_stripe(&bytes[len - STRIPE..], 121);
-    lanes.merged(len as u64)
+    lanes.take_stripes(&bytes[..len - 1]);
+    lanes.finish(&bytes[len - STRIPE..], len as u64)
 }

@@ -1,262 +1,224 @@
-//! Sums that the reference implementation gives.
+//! Sums that the reference implementation gives. The input of a length are the bytes
+//! `i * 131 mod 251`, and both tables were printed by a C loop over `XXH3_64bits` of xxhash.h 0.8.1,
+//! as Debian's libxxhash-dev has it.
+
+ghost use Rattle.std.specs.Prelude.{◌≡◌, ◌+◌, ◌<◌, ◌^◌, ◌++◌, length};
+ghost use Rattle.nt_xxh3.specs.Sum.{xxh3};
 
 use super::*;
 use std::test::*;
 
-/// Sums of 0, 1, 2 and so on up to 240 bytes, of which byte i is `i * 131 mod 251`, by
-/// `XXH3_64bits` of xxhash.h 0.8.1 as Debian's libxxhash-dev has it: a C loop printed them.
-const SUMS: [u64; 241] = [
-    0x2d06_8005_38d3_94c2,
-    0xc44b_dff4_074e_ecdb,
-    0x433c_e72a_5f67_ae52,
-    0xc3ab_f7ae_2e25_0b5a,
-    0x6e5c_9679_d43c_1e41,
-    0x254f_5eea_b9f6_9fb1,
-    0xef72_d9d7_78b6_8110,
-    0x2000_9afb_4a4c_822b,
-    0x2c21_27bb_b99b_325e,
-    0x8436_430b_381f_7fd6,
-    0xa52e_287b_5d97_2419,
-    0x7600_f206_9f8d_8c62,
-    0x4337_ccd8_4acd_81e7,
-    0x9448_1843_98c0_be54,
-    0xa63d_286f_0f9d_b948,
-    0x3484_5f23_0b11_725a,
-    0xbea4_2f62_eac4_54d0,
-    0xc5bc_95c9_90fc_83b4,
-    0xf2de_12da_3076_e03d,
-    0x6adf_4ffb_a906_ce0f,
-    0x87bf_d13e_f14f_b769,
-    0x742d_5226_3cde_eacd,
-    0x2081_6236_f6b6_7bae,
-    0x8b9c_b5db_a950_28f8,
-    0x3942_fdea_d335_1bd5,
-    0xdd34_d216_db3a_1498,
-    0xdeac_92e0_9d7c_2242,
-    0x1b7a_3210_ec37_526e,
-    0x989b_5b9e_2c31_6028,
-    0xbdfb_9edb_3bd1_60af,
-    0xbfe3_ea6f_adc1_955b,
-    0xe2ee_0d92_65f3_a7dd,
-    0x270f_c40a_309c_23ad,
-    0x4de9_193e_f7fa_bcc1,
-    0x25b7_ecc1_25bb_f71e,
-    0xd29b_53f6_41a0_d716,
-    0x5940_84dd_101f_dc69,
-    0xefc4_ee84_f6b0_ca1c,
-    0x6862_1482_5391_bbf7,
-    0x09fb_4c30_427a_765f,
-    0xf5d5_a084_2ada_084f,
-    0x2a25_a6eb_69e7_d492,
-    0xe08e_bd47_bac5_8479,
-    0x15e1_4c1f_fb9b_8cb4,
-    0x31df_2072_fed9_95fe,
-    0x9aa5_57d5_3da4_1c31,
-    0xbc63_5445_7b03_9d25,
-    0xa875_2c33_8caa_a864,
-    0xb546_e76e_ed46_6bb5,
-    0x27ed_cff6_cff9_9e43,
-    0x27d5_5eb9_bd05_9b3b,
-    0x2bec_ded6_be17_c68d,
-    0x0482_eb2a_01ce_40a6,
-    0x35d9_2d4e_5d98_185a,
-    0xa020_6d08_eb7b_aa5d,
-    0xdcb2_1a20_f8c2_2271,
-    0x6b0f_488d_999f_9cfc,
-    0x6697_f83a_262d_1b0d,
-    0xe4f6_3a2b_c3a1_1922,
-    0xbbc9_f623_22b0_6cbe,
-    0xf8a8_4c03_06e7_d7eb,
-    0x7673_c1de_7b91_a3af,
-    0x8f18_6d17_93b8_ea3b,
-    0x15d7_0157_c8b7_134f,
-    0xd0bd_b3e3_c36a_32e8,
-    0x60b7_06ea_92d6_e22e,
-    0xd1e0_8264_e10e_a36d,
-    0x091f_c730_c92d_9fca,
-    0x04d5_2afd_4210_a5d6,
-    0xa044_3da9_88a0_8688,
-    0x66ab_7b81_3ad7_c994,
-    0xb419_1f6e_e368_0e15,
-    0x7d53_bd4a_710f_e502,
-    0x597e_c3a7_048d_018f,
-    0xda3c_50db_4df3_19a2,
-    0x40dc_f693_1be5_9cec,
-    0xffd9_bf32_cb3c_65bb,
-    0x944c_24f5_103a_8467,
-    0x9702_2c0d_77ab_87a9,
-    0xe6be_9ae8_c53b_5afe,
-    0x1fb7_9aa5_2e45_f521,
-    0x1386_046f_ed78_e56f,
-    0x04b7_c2d2_8029_0aa7,
-    0x4b92_41b8_7f36_6421,
-    0xa133_f4cb_17d5_7b3f,
-    0x041c_4980_6a4f_ff46,
-    0x074d_6460_864c_ce20,
-    0x75a4_e308_17ad_8232,
-    0x2f0e_1c04_fb45_60c1,
-    0xd2e7_bf15_e9cb_acc1,
-    0x86f5_7ff5_907a_67a9,
-    0xc07f_6e80_f592_ee37,
-    0x933b_756e_3033_68e7,
-    0x01ca_a874_0b23_dd94,
-    0x3637_4e27_d12f_e338,
-    0xdf9d_a291_9633_e014,
-    0xd18d_44b6_31a7_3073,
-    0xa57e_f040_7c7a_fe78,
-    0x1c71_9418_f80d_3e19,
-    0xe1e5_f553_0ea0_48e1,
-    0x0033_376c_ccaf_52d6,
-    0xa133_0581_83ce_1f2b,
-    0xd3f7_7134_949c_6ffe,
-    0x77d0_1e37_d15f_e549,
-    0xa02c_e0b5_649e_9225,
-    0x3216_cc4b_6088_cb4e,
-    0x81f1_83c7_efb3_a51a,
-    0xaf65_5c4e_011f_a3b3,
-    0x6a86_876f_789c_d061,
-    0xa5b8_9153_1ef0_eca7,
-    0xe8f3_a164_485b_0b46,
-    0x15ad_9e7b_3c3a_ca77,
-    0x70da_d92f_2d8b_8fe4,
-    0xe55b_19e2_ddc2_d1ff,
-    0x52e2_d01f_9a4f_e640,
-    0x45ea_1053_7040_0ceb,
-    0xcfc0_2933_c3e9_ffbd,
-    0xa55b_7181_3933_78ed,
-    0x54c2_34ef_8c10_6aec,
-    0x90e5_4cad_53b5_eca6,
-    0xa7e5_ce88_12bc_2d97,
-    0x200f_29a5_733e_7e9c,
-    0x2d19_e418_0086_3f5f,
-    0xf8da_80c8_df21_b431,
-    0x7b8b_7a1f_f542_6684,
-    0xf009_da09_9389_9857,
-    0x0c0d_ca4c_4122_a1ed,
-    0x4664_55ce_f318_c036,
-    0x3d41_caa0_b80a_4385,
-    0x2877_95ae_c899_cb57,
-    0x1bda_d0eb_e0d4_17f8,
-    0x3b97_cb6d_f71a_a914,
-    0x6c60_dc03_5a77_8768,
-    0x9ecc_d7b7_37cb_3fd8,
-    0x4b40_e0ef_89a5_3972,
-    0xd0b1_ba69_fbe8_1bcc,
-    0xfe52_81b9_5045_4f06,
-    0xb47b_b859_b6f3_97cb,
-    0xe25f_c9ff_2b75_8e7d,
-    0x6dd1_bb7b_95f2_8fa7,
-    0xdbcb_de10_c63f_3456,
-    0x133d_aa59_cc9c_2f16,
-    0xbbe0_6c7c_f7da_997a,
-    0x3ad7_86cf_c6e7_96b0,
-    0xb21d_ac5d_d293_4dd0,
-    0xff70_7347_759a_2949,
-    0x5589_2ec0_c35c_0992,
-    0x8d11_14d5_127d_f1a3,
-    0x5116_f9aa_790e_cb9d,
-    0x350a_b228_078f_87de,
-    0x4aed_79c3_f693_3c11,
-    0x00d0_9341_4ec9_97ff,
-    0x8fce_a007_8674_92e8,
-    0xebe1_af65_a898_ddbe,
-    0x4c10_e438_e455_2dfe,
-    0xd629_1d93_d8a9_cec1,
-    0x0e7c_22b1_5fa3_0df7,
-    0x450c_93bb_7deb_fc5c,
-    0x6896_00f5_0316_b80b,
-    0xedcc_39a0_a711_f501,
-    0x443a_1473_513b_3a85,
-    0x1982_5ea5_12a6_3111,
-    0x8ed7_b2ea_10dd_dd06,
-    0xfe99_b5ab_d869_986a,
-    0x71a4_dadb_4aa8_0290,
-    0x7089_5273_2f2f_d984,
-    0xf018_304a_d79b_32d4,
-    0xc009_aaa2_5433_9da0,
-    0x2794_4aff_6fde_0d4b,
-    0x21f4_3c4e_a994_6797,
-    0xa6c7_34d4_4845_031f,
-    0xffb7_4a0f_3925_6802,
-    0xbf52_58b3_a93d_c1cd,
-    0xe332_dfb3_35f5_8ecb,
-    0xec10_90c2_d3ac_5741,
-    0xf3e8_648c_bf5f_926a,
-    0x267e_b090_ef42_d9b6,
-    0xe32d_fcb2_c233_054d,
-    0x8035_55c8_e7a7_8de0,
-    0xed52_0606_461f_fefb,
-    0x7f6b_a5f6_95d6_0782,
-    0xed28_610f_4ee0_bfe1,
-    0x9b12_807d_1494_adec,
-    0x472c_f092_e850_e92f,
-    0x782b_85ab_966b_4211,
-    0xb70c_6e02_ac48_f813,
-    0xbbb7_776b_42df_1b19,
-    0x7fba_c4e4_d50e_62dc,
-    0x1a44_8688_e228_db05,
-    0xc075_bb4a_8e92_016a,
-    0x3078_39bd_7613_6933,
-    0x0f8e_b8a8_5134_0f65,
-    0x742c_3978_0509_73ce,
-    0x2d59_fc95_28da_27f4,
-    0x59ed_817f_144b_c4f6,
-    0x08e7_e00a_3bdb_4fe1,
-    0xb628_59d8_8687_2b98,
-    0xc081_6022_341b_8fe5,
-    0x9b51_535f_e4a1_9667,
-    0x456e_1367_d3de_4e5b,
-    0xfe0a_0685_f97a_170f,
-    0x2619_410a_6720_a1dd,
-    0xe998_9adf_6abe_c8d2,
-    0xa7a5_e612_7090_6541,
-    0xa8f0_d258_cc50_7a71,
-    0x917b_899e_5583_fb26,
-    0xe55d_74a3_f56f_a955,
-    0x2e2b_094b_41b7_f509,
-    0x11ab_99f7_efe1_35ef,
-    0x592a_aa56_bfb1_1271,
-    0x8756_e476_e743_7f38,
-    0x3d70_94b8_fff4_4c0c,
-    0xfb61_a8f0_bdf6_7b1c,
-    0xeb94_22e8_bf0c_a7b7,
-    0x130d_ee9a_2638_aa47,
-    0xd797_337c_c4cf_c72d,
-    0xaa86_991f_1f6f_e7d7,
-    0x75c0_b34e_242d_fe84,
-    0x538e_523b_7f1f_2376,
-    0x153f_450d_bb36_ab3b,
-    0x6a1b_cb0f_704d_ba0c,
-    0xe501_f490_9389_f593,
-    0x1863_2c60_4a8d_aba0,
-    0xc31c_8174_6622_71c3,
-    0xbd12_f91c_f516_184e,
-    0x293e_9a4e_101d_ff67,
-    0x31ba_973c_a4a6_323b,
-    0x74ae_cb2c_7c74_fdd2,
-    0xddcb_4c66_c24a_7aa6,
-    0xaa2e_61c2_3604_48bb,
-    0x9f09_9283_45c0_0dc1,
-    0x7cc5_b26f_778a_316b,
-    0xcfe3_f823_c234_e46f,
-    0xfc59_0ff5_6f24_bbb4,
-    0x32b7_3071_1168_b726,
-    0xbbcf_f6a0_6734_eb5b,
-    0x0a83_9a14_309d_a5d4,
-    0xe4db_be83_9938_de38,
-    0x3afb_b639_12f9_7f82,
-    0xa6d6_68f3_39af_b17d,
-    0x4da2_ab79_21d0_6c5e,
+/// The sums of all lengths below 1100, twenty lengths a number: from 0 on, the number so far,
+/// exclusive or the next sum, is multiplied by 0x9e3779b97f4a7c15.
+const FOLDED: [u64; 55] = [
+    0x89d5_df4b_2041_cbd6,
+    0x3459_8721_8e3b_f967,
+    0xbba4_6cd9_694e_eba7,
+    0x1abc_4f02_6463_cda2,
+    0x8016_cf9a_ca88_6b3d,
+    0xe7bd_53b5_2311_7a55,
+    0xe4fc_304d_6a45_1a46,
+    0x1307_a7b3_3bf5_0ab3,
+    0x275a_b617_091d_01b8,
+    0x4338_ccdd_f8db_5e56,
+    0xb3ea_1b7a_91b1_ea33,
+    0x39d0_ca52_1fab_bc72,
+    0x8d7b_2409_e01f_8c23,
+    0x21c9_94ad_7096_5f00,
+    0xc0aa_cb7f_471f_31b3,
+    0x39b2_a97e_630b_9d42,
+    0xb930_6a5c_3e85_bccc,
+    0x2017_7697_fb26_814e,
+    0xa20c_20ca_0de3_62a0,
+    0x81be_199e_7f71_5419,
+    0xe784_9d29_4be8_0f67,
+    0xae3c_3460_5607_5352,
+    0xca4d_4562_1bf9_a759,
+    0x8b3b_665c_7179_522f,
+    0xc65b_df1a_a521_0d1c,
+    0x3f14_8ede_e959_db23,
+    0x66a6_35e8_c634_73a7,
+    0xef85_facd_a3ec_5da3,
+    0x5403_efc3_9026_64a2,
+    0x51bc_a35f_8061_8b97,
+    0x29fa_3d32_c7a9_8f77,
+    0x5907_047f_f756_e868,
+    0xfe0b_9eeb_7eff_c3f3,
+    0x874e_cc2a_91dc_7d58,
+    0xc607_b03f_9283_41ec,
+    0xbcb3_6ce5_f671_e796,
+    0x8f64_ff99_2fbd_c3cb,
+    0xc4a7_ff78_c884_422d,
+    0x2c14_99a9_554d_ac6d,
+    0x5112_2387_798a_a802,
+    0x4cdd_1bc4_fbf4_9ba2,
+    0xa8df_298b_4e5d_3181,
+    0xc9a1_adb0_2db6_f82c,
+    0x1a3c_c55c_8be4_abdf,
+    0xe2ee_057c_ba9c_f81a,
+    0x290d_5740_d2d7_59fe,
+    0xdc74_0d76_40da_9c1a,
+    0xe643_8ec9_ef55_5c4d,
+    0xc596_81ea_e473_6ea7,
+    0x2506_b144_74e5_ad5a,
+    0x1f61_c670_b8f5_cefb,
+    0x710d_d18a_6239_5f19,
+    0xab25_d5e8_be92_c7c9,
+    0x1774_f59c_51a7_fea3,
+    0xff21_b2c6_954e_d483,
 ];
 
+/// Lengths about the edges of the length classes and of blocks, and their sums.
+const SINGLE: [(usize, u64); 48] = [
+    (0, 0x2d06_8005_38d3_94c2),
+    (1, 0xc44b_dff4_074e_ecdb),
+    (2, 0x433c_e72a_5f67_ae52),
+    (3, 0xc3ab_f7ae_2e25_0b5a),
+    (4, 0x6e5c_9679_d43c_1e41),
+    (5, 0x254f_5eea_b9f6_9fb1),
+    (6, 0xef72_d9d7_78b6_8110),
+    (7, 0x2000_9afb_4a4c_822b),
+    (8, 0x2c21_27bb_b99b_325e),
+    (9, 0x8436_430b_381f_7fd6),
+    (10, 0xa52e_287b_5d97_2419),
+    (11, 0x7600_f206_9f8d_8c62),
+    (12, 0x4337_ccd8_4acd_81e7),
+    (13, 0x9448_1843_98c0_be54),
+    (14, 0xa63d_286f_0f9d_b948),
+    (15, 0x3484_5f23_0b11_725a),
+    (16, 0xbea4_2f62_eac4_54d0),
+    (17, 0xc5bc_95c9_90fc_83b4),
+    (32, 0x270f_c40a_309c_23ad),
+    (33, 0x4de9_193e_f7fa_bcc1),
+    (64, 0xd0bd_b3e3_c36a_32e8),
+    (65, 0x60b7_06ea_92d6_e22e),
+    (96, 0xd18d_44b6_31a7_3073),
+    (97, 0xa57e_f040_7c7a_fe78),
+    (128, 0x3d41_caa0_b80a_4385),
+    (129, 0x2877_95ae_c899_cb57),
+    (144, 0xb21d_ac5d_d293_4dd0),
+    (145, 0xff70_7347_759a_2949),
+    (239, 0xa6d6_68f3_39af_b17d),
+    (240, 0x4da2_ab79_21d0_6c5e),
+    (241, 0x179e_ad90_5bf7_5a05),
+    (256, 0x4a0b_f471_528a_187b),
+    (257, 0xb57e_b91d_3b6b_1144),
+    (1024, 0x89af_ebe6_14a9_26d7),
+    (1025, 0x6d62_73cf_fcf6_16f7),
+    (1100, 0x2d51_4642_0eae_5685),
+    (2047, 0x2c6c_c8ac_020c_ed42),
+    (2048, 0x2ef1_df25_6302_e71b),
+    (2049, 0x9618_cf89_5b0a_7f08),
+    (4095, 0x0df1_049e_1e4a_3514),
+    (4096, 0x1f0d_35f1_3437_4e5d),
+    (4097, 0xc750_322f_f8d6_0f52),
+    (65536, 0xaf1a_4bda_d1cf_291d),
+    (65537, 0xe1c6_7d69_45aa_5f63),
+    (65538, 0xf104_a610_a7f5_40c3),
+    (1048575, 0x5cad_034f_2241_368c),
+    (1048576, 0x2da7_8478_3632_590d),
+    (1048577, 0x8c5e_270c_b8e4_cccf),
+];
+
+/// The places at which an input of up to 1100 bytes is cut.
+const CUTS: [usize; 14] = [
+    0, 1, 63, 64, 65, 191, 192, 193, 255, 256, 257, 320, 577, 1024,
+];
+
+/// The lengths of pieces that are given again and again.
+const PIECES: [usize; 8] = [61, 64, 127, 192, 256, 257, 1024, 5000];
+
+fn input(rt: &HostRuntime, len: u32) -> Result<Vec<u8>, Fail>
+    requires { len < 2 ^ 24 }
+{
+    Ok((0..len).map(|i| (i * 131 % 251) as u8).collect(rt.alloc())?)
+}
+
+/// The sum of two pieces.
+fn sum_of_two(first: &[u8], second: &[u8]) -> u64
+    requires { length first.now + length second.now < 2 ^ 63 }
+    ensures { result ≡ xxh3 (first.now ++ second.now) }
+{
+    let mut sum = Sum::new();
+    sum.update(first);
+    sum.update(second);
+    sum.finish()
+}
+
+/// The sum in pieces of a length each, and what is left.
+fn sum_in_pieces(bytes: &[u8], piece: usize) -> u64
+    requires some { 0 < piece }
+    requires total { length bytes.now < 2 ^ 63 }
+{
+    let mut sum = Sum::new();
+    let mut rest = bytes;
+    while rest.len() > piece {
+        let (front, back) = rest.split_at(piece);
+        sum.update(front);
+        rest = back;
+    }
+    sum.update(rest);
+    sum.finish()
+}
+
 #[test]
-fn sums_of_the_reference_implementation(rt: HostRuntime) -> Result<(), Fail> {
-    let bytes: Vec<u8> = (0..240u32)
-        .map(|i| (i * 131 % 251) as u8)
-        .collect(rt.alloc())?;
-    for (len, want) in SUMS.iter().enumerate() {
-        assert!(rt; len <= 240 && len <= bytes.len());
-        assert_eq!(rt; sum(&bytes[..len]), *want, "of {len} bytes");
+fn each_length_below_1100(rt: HostRuntime) -> Result<(), Fail> {
+    let bytes = input(&rt, 1100)?;
+    for (range, want) in FOLDED.iter().enumerate() {
+        let mut folded = 0u64;
+        for k in 0..20 {
+            let len = 20 * range + k;
+            assert!(rt; len <= bytes.len());
+            folded = (folded ^ sum(&bytes[..len])).wrapping_mul(0x9e37_79b9_7f4a_7c15);
+        }
+        assert_eq!(rt; folded, *want, "in range {range}");
+    }
+    Ok(())
+}
+
+#[test]
+fn edges_of_classes_and_blocks(rt: HostRuntime) -> Result<(), Fail> {
+    let bytes = input(&rt, 1_048_577)?;
+    for (len, want) in SINGLE {
+        assert!(rt; len <= bytes.len());
+        assert_eq!(rt; sum(&bytes[..len]), want, "of {len} bytes");
+        for piece in PIECES {
+            assert_eq!(rt;
+                sum_in_pieces(&bytes[..len], piece),
+                want,
+                "of {len} bytes by {piece}"
+            );
+        }
+    }
+    Ok(())
+}
+
+#[test]
+fn pieces_joined(rt: HostRuntime) -> Result<(), Fail> {
+    let bytes = input(&rt, 1100)?;
+    for len in 0..1101 {
+        for cut in CUTS {
+            if cut <= len {
+                assert!(rt; len <= bytes.len());
+                let (first, second) = bytes[..len].split_at(cut);
+                assert_eq!(rt;
+                    sum_of_two(first, second),
+                    sum(&bytes[..len]),
+                    "of {len} bytes cut at {cut}"
+                );
+            }
+        }
+    }
+    Ok(())
+}
+
+#[test]
+fn byte_by_byte(rt: HostRuntime) -> Result<(), Fail> {
+    let bytes = input(&rt, 1100)?;
+    let mut so_far = Sum::new();
+    for at in 0..bytes.len() {
+        assert_eq!(rt; so_far.finish(), sum(&bytes[..at]), "of {at} bytes");
+        so_far.update(&bytes[at..at + 1]);
     }
     Ok(())
 }
