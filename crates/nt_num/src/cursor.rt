@@ -62,6 +62,16 @@ impl<'a> Cur<'a> {
         self.left
     }
 
+    /// A second cursor at the same place, to look ahead with.
+    pub fn fork(&self) -> Cur<'a>
+        ensures { result ≡ self.now }
+    {
+        Cur {
+            place: self.place,
+            left: self.left,
+        }
+    }
+
     /// The next `n` bytes.
     pub fn bytes(&mut self, n: usize) -> Result<&'a [u8], Short>
         ensures reading { Gives (λ b. b.now) result self.old self.new (next (λ b. b) n self.old) }

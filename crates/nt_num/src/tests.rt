@@ -11,6 +11,8 @@ fn short_stays(rt: HostRuntime) -> Result<(), Fail> {
     assert_eq!(rt; cur.u16le(), Ok(0x0201));
     assert_eq!(rt; (cur.place(), cur.left()), (2, 1));
     assert_eq!(rt; cur.rest(), [3u8].as_slice());
+    assert_eq!(rt; cur.fork().u8(), Ok(3));
+    assert_eq!(rt; cur.place(), 2);
     Ok(())
 }
 

@@ -1,0 +1,9 @@
+pub mod Steps
+pub mod Numbers
+pub mod Signed
+pub mod Strings
+pub mod Frames
+pub mod Locators
+pub mod Sum
+pub mod Envelopes
+pub mod OneReading

@@ -1,0 +1,29 @@
+use Rattle.std.proofs.Common.{◌^◌}
+use Rattle.std.specs.Int.{w16, w32, w64, from_le_bytes, to_le_bytes, from_be_bytes, to_be_bytes}
+use Rattle.nt_format.proofs.Numbers.{number_spells, little_16, little_32, little_64, big_16, big_32, big_64}
+use Rattle.nt_format.proofs.Signed.{signed_code, signed_spells}
+use Rattle.nt_format.proofs.laws.numbers_are_spelled.Goals as goal
+
+pub returns-clause-little_16 : goal.returns-clause-little_16
+returns-clause-little_16 c = number_spells 2 (2 ^ 16) (from_le_bytes w16) (to_le_bytes w16) little_16
+
+pub returns-clause-little_32 : goal.returns-clause-little_32
+returns-clause-little_32 c = number_spells 4 (2 ^ 32) (from_le_bytes w32) (to_le_bytes w32) little_32
+
+pub returns-clause-little_64 : goal.returns-clause-little_64
+returns-clause-little_64 c = number_spells 8 (2 ^ 64) (from_le_bytes w64) (to_le_bytes w64) little_64
+
+pub returns-clause-big_16 : goal.returns-clause-big_16
+returns-clause-big_16 c = number_spells 2 (2 ^ 16) (from_be_bytes w16) (to_be_bytes w16) big_16
+
+pub returns-clause-big_32 : goal.returns-clause-big_32
+returns-clause-big_32 c = number_spells 4 (2 ^ 32) (from_be_bytes w32) (to_be_bytes w32) big_32
+
+pub returns-clause-big_64 : goal.returns-clause-big_64
+returns-clause-big_64 c = number_spells 8 (2 ^ 64) (from_be_bytes w64) (to_be_bytes w64) big_64
+
+pub returns-clause-signed_32 : goal.returns-clause-signed_32
+returns-clause-signed_32 c = signed_spells w32 4 (signed_code w32 4 little_32)
+
+pub returns-clause-signed_64 : goal.returns-clause-signed_64
+returns-clause-signed_64 c = signed_spells w64 8 (signed_code w64 8 little_64)
