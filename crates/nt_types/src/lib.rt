@@ -2,8 +2,26 @@
 #![tactic(auto)]
 
 mod column_type;
+mod construct;
+mod count;
+mod fault;
+mod line;
+mod member;
+mod name;
+mod names;
+mod progress;
+mod reading;
+mod schema;
+mod shape;
+mod type_text;
+mod word;
 
 pub use column_type::ColumnType;
+pub use fault::{SchemaError, SchemaFault, SchemaKind};
+pub use member::parse_member;
+pub use name::{Bytes, Name};
+pub use schema::parse_schema;
+pub use shape::{Fields, Member, Members, Shape, Shapes};
 
 #[cfg(test)]
 mod tests;

@@ -1,0 +1,14 @@
+pub mod Seen
+pub mod Stack
+pub mod ShapeViews
+pub mod NamesDiffer
+pub mod ReadSteps
+pub mod Forget
+pub mod Depth
+pub mod LineSteps
+pub mod TextLines
+pub mod Spelled
+pub mod Sound
+pub mod Nesting
+pub mod LineText
+pub mod MemberText

@@ -1,0 +1,58 @@
+-- One line of a schema text: a name, blanks, a type, and spaces behind it.
+use Rattle.std.specs.Prelude.{ℕ, Bool, false, List, [], ◌∷◌, ◌-◌, ◌+◌, length, take, drop, max, reverse, Option, Some, None, Result, Ok, Err, nat_le, ◌==◌, ◌&&◌, ◌||◌, if◌then◌else◌}
+use Rattle.std.specs.List.{prefix_len, list_all}
+use Rattle.nt_types.specs.Kinds.{Kind, Part}
+use Rattle.nt_types.specs.Words.{is_word_byte, is_blank, is_space, is_name}
+use Rattle.nt_types.specs.Reading.{read_kind}
+use Rattle.nt_types.specs.Spelling.{depth}
+use Rattle.nt_types.specs.declared.fault.SchemaKind.{SchemaKind}
+use Rattle.nt_types.specs.declared.fault.SchemaKind.TheVariants.{BadName, BadType, TooDeep}
+
+-- the most constructs that are open at a place, from a place with so many open, and so many before
+abbrev pub most_open : ℕ → ℕ → List ℕ → ℕ
+most_open now most [] = most
+most_open now most (b ∷ bs) = if (b == 60) || (b == 123) then most_open (now + 1) (max most (now + 1)) bs
+    else if (b == 62) || (b == 125) then most_open (now - 1) most bs
+    else most_open now most bs
+
+abbrev pub within_depth : Option Kind → Result Kind SchemaKind
+within_depth None = Err BadType
+within_depth (Some k) = if nat_le (depth k) 32 then Ok k else Err TooDeep
+
+-- the kind that a text spells, at most 32 deep
+abbrev pub type_of : List ℕ → Result Kind SchemaKind
+type_of text = within_depth (read_kind text)
+
+abbrev pub is_blank_line : List ℕ → Bool
+is_blank_line line = list_all is_space line
+
+-- without the spaces at its end
+abbrev pub trimmed : List ℕ → List ℕ
+trimmed text = take (length text - prefix_len is_space (reverse text)) text
+
+abbrev pub begins_blank : List ℕ → Bool
+begins_blank [] = false
+begins_blank (b ∷ bs) = is_blank b
+
+-- what follows a name and its blanks, up to the spaces at the end
+abbrev pub type_text : List ℕ → List ℕ
+type_text rest = trimmed (drop (prefix_len is_blank rest) rest)
+
+abbrev pub split_at : List ℕ → List ℕ → Option (List ℕ × List ℕ)
+split_at name rest = if is_name name && begins_blank rest then Some (name, type_text rest) else None
+
+-- the name and the text of the type, where a name and a blank come first
+abbrev pub split_line : List ℕ → Option (List ℕ × List ℕ)
+split_line line = let n = prefix_len is_word_byte line in split_at (take n line) (drop n line)
+
+abbrev pub under_name : List ℕ → Result Kind SchemaKind → Result Part SchemaKind
+under_name name (Ok k) = Ok (record { name = name; of = k })
+under_name name (Err e) = Err e
+
+abbrev pub member_at : Option (List ℕ × List ℕ) → Result Part SchemaKind
+member_at None = Err BadName
+member_at (Some x) = under_name x.0 (type_of x.1)
+
+-- the member that a line spells
+abbrev pub member_of : List ℕ → Result Part SchemaKind
+member_of line = member_at (split_line line)

@@ -1,0 +1,12 @@
+-- The lines of what is left of a text.
+use Rattle.std.specs.Prelude.{ℕ, ◌+◌, ◌==◌, List, [], length, Option, Some, None}
+use Rattle.std.specs.List.{slice_split}
+use Rattle.std.specs.Borrow.{Bor}
+
+abbrev pub lines_left : Option (Bor (List ℕ)) → List (List ℕ)
+lines_left None = []
+lines_left (Some text) = slice_split (λ b. b == 10) text.now
+
+abbrev pub bytes_left : Option (Bor (List ℕ)) → ℕ
+bytes_left None = 0
+bytes_left (Some text) = length text.now + 1

@@ -1,0 +1,45 @@
+-- What shapes stand for.
+use Rattle.std.specs.Prelude.{List}
+use Rattle.nt_types.specs.Kinds.{Kind, Part, bool, char, byte, int, text, list, fields, tuple, choice, kinds_of, parts_of}
+use Rattle.nt_types.specs.declared.shape.Shape.{Shape, fold-Shape}
+use Rattle.nt_types.specs.declared.shape.Shape.TheOpen.{Shape-F, Shapes-F, Member-F, Members-F}
+use Rattle.nt_types.specs.declared.shape.Shapes.{Shapes, fold-Shapes}
+use Rattle.nt_types.specs.declared.shape.Member.{Member, fold-Member}
+use Rattle.nt_types.specs.declared.shape.Members.{Members, fold-Members}
+
+-- one level, with what lies inside already seen
+abbrev pub shape_step : Shape-F Kind Part (List Part) (List Kind) → Kind
+shape_step Shape-F.Bool = bool
+shape_step Shape-F.Char = char
+shape_step Shape-F.Byte = byte
+shape_step (Shape-F.Int bits signed) = int bits signed
+shape_step Shape-F.Text = text
+shape_step (Shape-F.List of) = list of.value
+shape_step (Shape-F.Rec members) = fields (parts_of members)
+shape_step (Shape-F.Tuple shapes) = tuple (kinds_of shapes)
+shape_step (Shape-F.Choice shapes) = choice (kinds_of shapes)
+
+abbrev pub shapes_step : Shapes-F Kind Part (List Part) (List Kind) → List Kind
+shapes_step s = s.list.items
+
+abbrev pub member_step : Member-F Kind Part (List Part) (List Kind) → Part
+member_step m = record { name = m.name; of = m.of }
+
+abbrev pub members_step : Members-F Kind Part (List Part) (List Kind) → List Part
+members_step m = m.list.items
+
+-- the kind of values that a shape describes
+abbrev pub shape_view : Shape → Kind
+shape_view = fold-Shape Kind Part (List Part) (List Kind) shape_step member_step members_step shapes_step
+
+-- the kinds of several shapes
+abbrev pub shapes_view : Shapes → List Kind
+shapes_view = fold-Shapes Kind Part (List Part) (List Kind) shape_step member_step members_step shapes_step
+
+-- the name and the kind of a member
+abbrev pub member_view : Member → Part
+member_view = fold-Member Kind Part (List Part) (List Kind) shape_step member_step members_step shapes_step
+
+-- the names and kinds of several members
+abbrev pub members_view : Members → List Part
+members_view = fold-Members Kind Part (List Part) (List Kind) shape_step member_step members_step shapes_step

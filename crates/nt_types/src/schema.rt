@@ -1,0 +1,75 @@
+//! The fields that a schema text spells.
+
+ghost use Rattle.std.specs.Prelude.{◌≡◌, ◌≤◌, ◌^◌, ◌==◌, ◌∷◌, length};
+ghost use Rattle.std.specs.List.{position_or_len, slice_split};
+ghost use Rattle.nt_types.specs.Views.{members_view};
+ghost use Rattle.nt_types.specs.Schema.{schema_text, take_lines, first_line, at_line};
+ghost use Rattle.nt_types.specs.FaultViews.{GivesText};
+ghost use Rattle.nt_types.specs.TextLines.{lines_left, bytes_left};
+ghost use Rattle.nt_types.specs.declared.fault.SchemaError.TheVariants.{Fault};
+
+use crate::fault::{SchemaError, SchemaFault, SchemaKind};
+use crate::progress::Progress;
+use crate::shape::{Fields, Members};
+use std::alloc::Global;
+
+/// The most bytes of a schema text.
+const MAX_TEXT: usize = 1 << 20;
+
+fn line_len(rest: &[u8]) -> usize
+    ensures value { result ≡ position_or_len (λ b. b == 10) rest.now }
+    ensures within { result ≤ length rest.now }
+{
+    rest.iter().take_while(|byte| **byte != b'\n').count()
+}
+
+/// The first line, and what follows its LF.
+#[tactic(auto, using(crate::proofs::TextLines::cut_last, crate::proofs::TextLines::cut_first))]
+fn cut_line(text: &[u8]) -> (&[u8], Option<&[u8]>)
+    ensures lines { slice_split (λ b. b == 10) text.now ≡ result.0.now ∷ lines_left result.1 }
+    ensures shorter { bytes_left result.1 ≤ length text.now }
+{
+    let (line, after) = text.split_at(line_len(text));
+    match after {
+        [] => (line, None),
+        [_, more @ ..] => (line, Some(more)),
+    }
+}
+
+fn text_fault(kind: SchemaKind) -> SchemaError
+    ensures { result ≡ Fault (at_line 0 kind) }
+{
+    SchemaError::Fault(SchemaFault { line: 0, kind })
+}
+
+/// The fields of the lines, of which there is at least one.
+fn read_lines(alloc: Global, text: &[u8]) -> Result<Fields, SchemaError>
+    requires { length text.now ≤ 2 ^ 20 }
+    ensures { GivesText members_view result (take_lines first_line (slice_split (λ b. b == 10) text.now)) }
+{
+    let mut progress = Progress::new(alloc);
+    let mut rest = Some(text);
+    let mut number = 0u64;
+    while let Some(text) = rest {
+        number += 1;
+        let (line, more) = cut_line(text);
+        match progress.take_line(alloc, line) {
+            Ok(()) => rest = more,
+            Err(error) => return Err(error.at(number)),
+        }
+    }
+    if progress.members.is_empty() {
+        return Err(text_fault(SchemaKind::Empty));
+    }
+    Ok(Members::from_vec(progress.members))
+}
+
+/// Reads the fields of a schema text, one a line.
+pub fn parse_schema(alloc: Global, text: &[u8]) -> Result<Fields, SchemaError>
+    ensures { GivesText members_view result (schema_text text.now) }
+{
+    if text.len() > MAX_TEXT {
+        return Err(text_fault(SchemaKind::TooLong));
+    }
+    read_lines(alloc, text)
+}
