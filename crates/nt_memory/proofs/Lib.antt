@@ -1,0 +1,5 @@
+pub mod Taken
+pub mod Steps
+pub mod Allowed
+pub mod Holding
+pub mod Newest

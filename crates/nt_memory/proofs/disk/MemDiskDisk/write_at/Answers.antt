@@ -1,0 +1,24 @@
+use Rattle.std.proofs.Common.{rules}
+use Rattle.nt_memory.proofs.Allowed.{reads-write, reads-failed_write}
+use Rattle.nt_memory.proofs.Holding.{torn_old}
+use Rattle.nt_memory.proofs.disk.MemDiskDisk.write_at.Goals as goal
+
+pub invariant_of-self : goal.invariant_of-self
+invariant_of-self c = record {
+  reads = reads-failed_write _ _ c.args.self.now.image.items c.args.bytes.now c.args.at c.args.self.now.reads c.requires.inside c.push.ensures.steps;
+}
+
+pub returns-then-count_call-clause-writes : goal.returns-then-count_call-clause-writes
+returns-then-count_call-clause-writes c = record {
+  ok = search rules;
+  err = torn_old _ _ _ c.args.bytes.now c.args.at c.requires.inside c.push.ensures.steps;
+  end = search rules;
+  out = search rules;
+  spare = search rules;
+  cause = search rules;
+}
+
+pub invariant_of-self-2 : goal.invariant_of-self-2
+invariant_of-self-2 c = record {
+  reads = reads-write _ _ c.args.self.now.image.items _ c.args.bytes.now c.args.at c.args.self.now.reads c.push-2.ensures.steps c.put_over.ensures.items;
+}

@@ -1,0 +1,11 @@
+use Rattle.nt_memory.proofs.Steps.{total_bytes-pushed, steps-pushed}
+use Rattle.nt_memory.proofs.log.Log.push.Goals as goal
+
+pub invariant_of-self : goal.invariant_of-self
+invariant_of-self c = record {
+  whole = total_bytes-pushed c.args.self.now.rows.items _ c.args.self.now.bytes.items _ c.args.bytes.now c.args.row c.args.self.now.whole c.push_reserved.ensures.items c.add_reserved.ensures.items c.requires.len;
+}
+
+pub returns-clause-steps : goal.returns-clause-steps
+returns-clause-steps c =
+    steps-pushed c.args.self.now.rows.items _ c.args.self.now.bytes.items _ c.args.bytes.now c.args.row c.args.self.now.whole c.push_reserved.ensures.items c.add_reserved.ensures.items c.requires.len

@@ -1,0 +1,10 @@
+pub mod Tally
+pub mod Text
+pub mod File
+pub mod Rows
+pub mod Logged
+pub mod Disk
+pub mod Planned
+pub mod Named
+pub mod Streams
+pub mod Host

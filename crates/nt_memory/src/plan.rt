@@ -1,0 +1,74 @@
+//! Which calls of which objects are to fail.
+
+ghost use Rattle.std.specs.Prelude.{◌≡◌, [], IfOk};
+ghost use Rattle.nt_memory.specs.Planned.{numbers_for};
+
+use std::alloc::{AllocError, Global};
+
+/// An object of a host: the host, a text or a file that it opened, numbered from 0 in the order of opening, or all its disks.
+#[derive(Clone, Copy, Debug, PartialEq, Eq)]
+pub enum Object {
+    Host,
+    Text(u32),
+    File(u32),
+    Disk,
+}
+
+impl Object {
+    ghost use Rattle.nt_memory.specs.Planned.{is_same};
+
+    pub(crate) fn is_same(self, other: Object) -> bool
+        ensures { result ≡ is_same self other }
+    {
+        match (self, other) {
+            (Object::Host, Object::Host) | (Object::Disk, Object::Disk) => true,
+            (Object::Text(one), Object::Text(two)) | (Object::File(one), Object::File(two)) => one
+                == two,
+            _ => false,
+        }
+    }
+}
+
+/// A call of an object that is to fail.
+#[derive(Clone, Copy, Debug, PartialEq, Eq)]
+pub struct Planned {
+    pub object: Object,
+    pub call: u64,
+}
+
+/// The numbers of an object's calls.
+pub fn numbers_for(
+    alloc: Global,
+    planned: &[Planned],
+    object: Object,
+) -> Result<Vec<u64>, AllocError>
+    ensures { IfOk result (λ numbers. numbers.items ≡ numbers_for object planned.now) }
+{
+    planned
+        .iter()
+        .filter(|p| p.object.is_same(object))
+        .map(|p| p.call)
+        .collect(alloc)
+}
+
+/// The calls that are to fail of objects that are still to be opened, and how many texts and files were opened.
+#[derive(Drop)]
+pub struct Plan {
+    pub planned: Vec<Planned>,
+    pub texts: u32,
+    pub files: u32,
+}
+
+impl Plan {
+    pub fn new(alloc: Global) -> Self
+        ensures planned { result.planned.items ≡ [] }
+        ensures texts { result.texts ≡ 0 }
+        ensures files { result.files ≡ 0 }
+    {
+        Plan {
+            planned: Vec::new(alloc),
+            texts: 0,
+            files: 0,
+        }
+    }
+}

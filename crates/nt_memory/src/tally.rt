@@ -1,0 +1,70 @@
+//! Counts of an object's calls.
+
+ghost use Rattle.std.specs.Prelude.{◌≡◌, ◌+◌, ◌-◌, ◌^◌, ◌≤◌, ◌↔◌, min, IsTrue};
+ghost use Rattle.std.specs.Bool.{OnTrue, OnFalse};
+
+use crate::calls::Calls;
+
+/// How many calls that can fail were made, how many of them failed, and which are to fail.
+#[derive(Drop)]
+pub struct Tally {
+    pub listed: Calls,
+    pub made: u64,
+    pub faults: u64,
+}
+
+impl Tally {
+    ghost use Rattle.nt_outside.specs.Faults.{Rose, TakesIn};
+    ghost use Rattle.nt_memory.specs.Tally.{IsListed, new_tally, counted, faulted, failed, takes_in};
+
+    pub fn new(listed: Calls) -> Self
+        ensures { result ≡ new_tally listed }
+    {
+        Tally {
+            listed,
+            made: 0,
+            faults: 0,
+        }
+    }
+
+    /// Counts a call, and says whether its number is listed.
+    pub fn begin_call(&mut self) -> bool
+        ensures listed { IsTrue result ↔ IsListed self.old }
+        ensures counted { self.new ≡ counted self.old }
+        ensures faults { self.new.faults ≡ self.old.faults }
+    {
+        self.made = self.made.saturating_add(1);
+        self.listed.contains(self.made)
+    }
+
+    pub fn count_fault(&mut self)
+        ensures faulted { self.new ≡ faulted self.old }
+        ensures later { self.old.faults ≤ self.new.faults }
+        ensures rose { Rose self.old.faults self.new.faults }
+    {
+        self.faults = self.faults.saturating_add(1);
+    }
+
+    /// Counts a call, and a fault where its number is listed.
+    pub fn count_call(&mut self) -> bool
+        ensures listed { IsTrue result ↔ IsListed self.old }
+        ensures counted { OnFalse result (self.new ≡ counted self.old) }
+        ensures failed { OnTrue result (self.new ≡ failed self.old) }
+        ensures later { self.old.faults ≤ self.new.faults }
+        ensures rose { OnTrue result (Rose self.old.faults self.new.faults) }
+    {
+        let fails = self.begin_call();
+        if fails {
+            self.count_fault();
+        }
+        fails
+    }
+
+    /// Takes in the faults of another object.
+    pub fn take_in(&mut self, faults: u64)
+        ensures takes_in { self.new ≡ takes_in faults self.old }
+        ensures faults { TakesIn self.old.faults self.new.faults faults }
+    {
+        self.faults = self.faults.saturating_add(faults);
+    }
+}
