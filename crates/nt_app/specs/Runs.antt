@@ -1,0 +1,59 @@
+-- What the program does to a host, whole: the command, and then its message on err.
+use Rattle.std.specs.Prelude.{◌≡◌, ◌⊎◌, ℕ, ◌≤◌, List, [], ◌∷◌, ◌++◌, length, take, Some}
+use Rattle.nt_num.specs.declared.fault.ReadError.{ReadError}
+use Rattle.nt_outside.specs.declared.stream.Stream.TheVariants.{ToErr}
+use Rattle.nt_outside.specs.Faults.{Rose}
+use Rattle.nt_outside.specs.World.{World, Text, File, Out, HostState, file, prints}
+use Rattle.nt_app.specs.PlainFile.{IsPlainFile}
+use Rattle.nt_app.specs.Schemas.{IsSchemaText}
+use Rattle.nt_app.specs.Events.{IsEventText}
+use Rattle.nt_app.specs.Stops.{IsThereWith}
+use Rattle.nt_app.specs.Statuses.{message_of}
+use Rattle.nt_app.specs.Writes.{OthersStay, WriteTold, AsksAsDone}
+use Rattle.nt_app.specs.Entries.{IsNoPlainFile, EntriesTold}
+use Rattle.nt_app.specs.declared.status.Status.{Status}
+use Rattle.nt_app.specs.declared.status.Status.TheVariants as status
+
+-- err gained the message, or its front where a print on err failed
+abbrev pub SaysOnErr : List ℕ → HostState → HostState → World → World → Type 0
+SaysOnErr message old new w w' =
+    (n : ℕ) × (w'.err ≡ w.err ++ take n message) × ((length message ≤ n) ⊎ Rose old.err_faults new.err_faults)
+
+-- a message was printed on err, and nothing else happened
+pub record Reports (message : List ℕ) (old new : HostState) : Type 0 where
+  pub told : (w : World) → old.world ≡ Some w → (n : ℕ) × (new.world ≡ Some (prints ToErr (take n message) w)) × ((length message ≤ n) ⊎ Rose old.err_faults new.err_faults)
+  pub asked : new.asked ≡ old.asked
+  pub faults : new.faults ≡ old.faults
+
+-- a fault that isn't there: the outside served throughout
+abbrev pub Served : HostState → HostState → Type 0
+Served old new = Rose old.faults new.faults → ⊥
+
+-- the words were no command: nothing was asked for, and no file changed
+pub record RefusesWords (old new : HostState) (answer : Status) : Type 0 where
+  pub answer_is : answer ≡ status.Usage
+  pub told : (w : World) → old.world ≡ Some w → (w' : World) × (new.world ≡ Some w') × (w'.files ≡ w.files) × (w'.out ≡ w.out) × SaysOnErr (message_of answer) old new w w'
+  pub asked : new.asked ≡ old.asked
+  pub faults : new.faults ≡ old.faults
+
+-- the words were `write OUT SCHEMA IN`
+pub record RunsWrite (out schema input : List ℕ) (old new : HostState) (answer : Status) : Type 0 where
+  -- where the host tells what it holds
+  pub told : (w : World) → old.world ≡ Some w → (w' : World) × (new.world ≡ Some w') × SaysOnErr (message_of answer) old new w w' × OthersStay out w w' × WriteTold out schema input w w' answer
+  -- what was asked for: all three names where the file is whole, and else the first of them
+  pub asked : AsksAsDone (Text schema ∷ Text input ∷ Out out ∷ []) old.asked new.asked answer
+  -- the outside is blamed only where it failed
+  pub failed : answer ≡ status.Outside → Rose old.faults new.faults
+  -- where both texts are of the right form and the outside serves, the file is whole unless memory runs out
+  pub complete : (w : World) (numbers : List ℕ) → old.world ≡ Some w → IsThereWith IsSchemaText (file w schema) → IsThereWith (λ text. IsEventText text numbers) (file w input) → Served old new → (answer ≡ status.Done) ⊎ (answer ≡ status.Memory)
+
+-- the words were `entries FILE`
+pub record RunsEntries (name : List ℕ) (old new : HostState) (answer : Status) : Type 0 where
+  -- where the host tells what it holds
+  pub told : (w : World) → old.world ≡ Some w → (w' : World) × (new.world ≡ Some w') × SaysOnErr (message_of answer) old new w w' × (w'.files ≡ w.files) × EntriesTold name w w' answer
+  pub asked : AsksAsDone (File name ∷ []) old.asked new.asked answer
+  pub failed : answer ≡ status.Outside → Rose old.faults new.faults
+  -- where the outside serves, a file of numbers is listed unless memory runs out
+  pub complete : (w : World) (numbers : List ℕ) → old.world ≡ Some w → IsThereWith (λ bytes. IsPlainFile bytes numbers) (file w name) → Served old new → (answer ≡ status.Done) ⊎ (answer ≡ status.Memory)
+  -- and any other has its fault named
+  pub refused : (w : World) → old.world ≡ Some w → IsThereWith IsNoPlainFile (file w name) → Served old new → ((fault : ReadError) × (answer ≡ status.File fault)) ⊎ (answer ≡ status.Memory)

@@ -1,0 +1,43 @@
+-- What the program says on err of each answer, and its exit codes.
+use Rattle.std.specs.Prelude.{ℕ, List, [], ◌++◌, Option, Some, None, codes, decimal}
+use Rattle.nt_num.specs.Faults.{name_of}
+use Rattle.nt_num.specs.declared.fault.ReadError.{ReadError}
+use Rattle.nt_app.specs.declared.status.Status.{Status}
+use Rattle.nt_app.specs.declared.status.Status.TheVariants as status
+use Rattle.nt_app.specs.declared.status.TextFault.{TextFault}
+use Rattle.nt_app.specs.declared.status.TextFault.TheVariants.{NotYet}
+
+abbrev pub code_of : Status → ℕ
+code_of status.Done = 0
+code_of status.Usage = 2
+code_of (status.File fault) = 3
+code_of status.Outside = 4
+code_of (status.Text input line kind) = 6
+code_of status.Memory = 7
+
+-- the name of a text's fault
+abbrev pub fault_name : TextFault → List ℕ
+fault_name NotYet = codes "NotYet"
+
+-- the first fault of a file
+abbrev pub file_message : ReadError → List ℕ
+file_message fault =
+    codes "ntuple: file: " ++ decimal fault.code ++ codes " " ++ name_of fault.code ++ codes " at " ++ decimal fault.at ++ codes "\n"
+
+-- which text a fault is in
+abbrev pub text_name : Option ℕ → List ℕ
+text_name None = codes "schema"
+text_name (Some input) = codes "input " ++ decimal input
+
+abbrev pub text_message : Option ℕ → ℕ → TextFault → List ℕ
+text_message input line kind =
+    codes "ntuple: text: " ++ text_name input ++ codes " line " ++ decimal line ++ codes ": " ++ fault_name kind ++ codes "\n"
+
+-- what is printed on err
+abbrev pub message_of : Status → List ℕ
+message_of status.Done = []
+message_of status.Usage = codes "ntuple: usage\n"
+message_of (status.File fault) = file_message fault
+message_of status.Outside = codes "ntuple: outside\n"
+message_of (status.Text input line kind) = text_message input line kind
+message_of status.Memory = codes "ntuple: memory\n"

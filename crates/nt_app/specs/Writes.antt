@@ -1,0 +1,134 @@
+-- What a command `write` does to a host, by its answer.
+use Rattle.std.specs.Prelude.{◌≡◌, ◌≢◌, ◌⊎◌, ℕ, ◌≤◌, List, [], ◌∷◌, ◌++◌, take, codes, Option, Some, None, Result, Ok, Err}
+use Rattle.nt_outside.specs.declared.stream.Stream.TheVariants.{ToOut}
+use Rattle.nt_outside.specs.Faults.{Rose}
+use Rattle.nt_outside.specs.Log.{FailedAppend}
+use Rattle.nt_outside.specs.Disk.{Held}
+use Rattle.nt_outside.specs.World.{World, Stored, Asked, Text, Out, HostState, stored, file, prints}
+use Rattle.nt_app.specs.PlainFile.{plain_file}
+use Rattle.nt_app.specs.Schemas.{IsSchemaText}
+use Rattle.nt_app.specs.Events.{IsEventText}
+use Rattle.nt_app.specs.Writing.{IsUnfinished, NeverBegan}
+use Rattle.nt_app.specs.declared.stop.Stop.{Stop}
+use Rattle.nt_app.specs.declared.stop.Stop.TheVariants as stop
+use Rattle.nt_app.specs.declared.status.Status.{Status}
+use Rattle.nt_app.specs.declared.status.Status.TheVariants as status
+use Rattle.nt_app.specs.Stops.{AsksFirst, IsThereWith, IsNoEventText}
+
+-- the line that tells the commit order of the one cluster
+abbrev pub order_line : List ℕ
+order_line = codes "order 0\n"
+
+-- out gained the front of that line
+abbrev pub PrintsOrderFront : World → Option World → Type 0
+PrintsOrderFront w world = (n : ℕ) × (world ≡ Some (prints ToOut (take n order_line) w))
+
+-- a fact of what a disk holds now
+abbrev pub HoldsNow : Option Held → (Held → Type 0) → Type 0
+HoldsNow held P = (h : Held) × (held ≡ Some h) × P h
+
+-- the whole file stands there, and out gained the line
+abbrev pub EndsWhole : List ℕ → World → Option World → Option Held → Type 0
+EndsWhole numbers w world held =
+    HoldsNow held (λ h. h.image ≡ plain_file numbers) × (world ≡ Some (prints ToOut order_line w))
+
+-- the file can't pass for finished, and out gained the front of the line
+abbrev pub EndsOpen : World → Option World → Option Held → Type 0
+EndsOpen w world held = HoldsNow held (λ h. IsUnfinished h.image) × PrintsOrderFront w world
+
+-- what the writing of the numbers, behind the header, leaves
+abbrev pub NumbersTold : List ℕ → World → Option World → Option Held → Result Unit Stop → Type 0
+NumbersTold numbers w world held (Ok value) = EndsWhole numbers w world held
+NumbersTold numbers w world held (Err stop.Outside) = EndsOpen w world held ⊎ EndsWhole numbers w world held
+NumbersTold numbers w world held (Err stop.NotYet) = ⊥
+NumbersTold numbers w world held (Err stop.Memory) = EndsOpen w world held
+
+-- the whole file of a text's numbers stands there
+abbrev pub EndsWithText : List ℕ → World → Option World → Option Held → Type 0
+EndsWithText text w world held = (numbers : List ℕ) × IsEventText text numbers × EndsWhole numbers w world held
+
+-- what the writing of a file from its text leaves
+abbrev pub FileTold : List ℕ → World → Option World → Option Held → Result Unit Stop → Type 0
+FileTold text w world held (Ok value) = EndsWithText text w world held
+FileTold text w world held (Err stop.Outside) =
+    (EndsOpen w world held ⊎ (HoldsNow held NeverBegan × (world ≡ Some w))) ⊎ EndsWithText text w world held
+FileTold text w world held (Err stop.NotYet) =
+    IsNoEventText text × HoldsNow held (λ h. IsUnfinished h.image) × (world ≡ Some w)
+FileTold text w world held (Err stop.Memory) = EndsOpen w world held
+
+-- every file but one stays
+abbrev pub OthersStay : List ℕ → World → World → Type 0
+OthersStay name w w' = (other : List ℕ) → other ≢ name → stored w' other ≡ stored w other
+
+-- the file of this name can't pass for finished
+abbrev pub IsLeftOpen : List ℕ → World → Type 0
+IsLeftOpen name w = IsThereWith IsUnfinished (file w name)
+
+-- nothing is known of the file of this name, since its first append failed
+abbrev pub IsNeverBegun : List ℕ → World → Type 0
+IsNeverBegun name w = (s : Stored) × (n : ℕ) × (stored w name ≡ Some s) × (s.log ≡ Some (FailedAppend n ∷ []))
+
+-- where a failure leaves the file: as before, open, or never begun
+abbrev pub IsLeftByFailure : List ℕ → World → World → Type 0
+IsLeftByFailure name w w' = (w'.files ≡ w.files) ⊎ (IsLeftOpen name w' ⊎ IsNeverBegun name w')
+
+-- where want of memory leaves the file: as before, or open
+abbrev pub IsLeftByMemory : List ℕ → World → World → Type 0
+IsLeftByMemory name w w' = (w'.files ≡ w.files) ⊎ IsLeftOpen name w'
+
+-- out gained the front of the line
+abbrev pub GainsOrderFront : World → World → Type 0
+GainsOrderFront w w' = (n : ℕ) × (w'.out ≡ w.out ++ take n order_line)
+
+-- the input is the events of some numbers, the file is theirs, and out gained the line
+pub record WritesWhole (out input : List ℕ) (w w' : World) : Type 0 where
+  pub numbers : List ℕ
+  pub input_is : IsThereWith (λ text. IsEventText text numbers) (file w input)
+  pub file_is : file w' out ≡ Some (plain_file numbers)
+  pub printed : w'.out ≡ w.out ++ order_line
+
+-- what the reading of the input and the writing of the file leave
+abbrev pub OutTold : List ℕ → List ℕ → World → World → Result Unit Stop → Type 0
+OutTold out input w w' (Ok value) = WritesWhole out input w w'
+OutTold out input w w' (Err stop.Outside) =
+    (IsLeftByFailure out w w' × GainsOrderFront w w') ⊎ WritesWhole out input w w'
+OutTold out input w w' (Err stop.NotYet) =
+    IsThereWith IsNoEventText (file w input) × IsLeftOpen out w' × (w'.out ≡ w.out)
+OutTold out input w w' (Err stop.Memory) = IsLeftByMemory out w w' × GainsOrderFront w w'
+
+-- the same for the whole command
+abbrev pub TextTold : List ℕ → List ℕ → List ℕ → World → World → Option ℕ → Type 0
+TextTold out schema input w w' None =
+    IsThereWith (λ text. IsSchemaText text → ⊥) (file w schema) × (w'.files ≡ w.files) × (w'.out ≡ w.out)
+TextTold out schema input w w' (Some number) =
+    (number ≡ 0) × IsThereWith IsSchemaText (file w schema) × IsThereWith IsNoEventText (file w input) × IsLeftOpen out w' × (w'.out ≡ w.out)
+
+abbrev pub WriteTold : List ℕ → List ℕ → List ℕ → World → World → Status → Type 0
+WriteTold out schema input w w' status.Done =
+    IsThereWith IsSchemaText (file w schema) × WritesWhole out input w w'
+WriteTold out schema input w w' status.Usage = ⊥
+WriteTold out schema input w w' (status.File fault) = ⊥
+WriteTold out schema input w w' status.Outside =
+    (IsLeftByFailure out w w' × GainsOrderFront w w')
+    ⊎ (IsThereWith IsSchemaText (file w schema) × WritesWhole out input w w')
+WriteTold out schema input w w' (status.Text number line kind) =
+    (line ≡ 0) × TextTold out schema input w w' number
+WriteTold out schema input w w' status.Memory = IsLeftByMemory out w w' × GainsOrderFront w w'
+
+-- what a command asks for: all of it where it is done, and else the first of it; a command never says that the words are none
+abbrev pub AsksAsDone : List Asked → List Asked → List Asked → Status → Type 0
+AsksAsDone objects old new status.Done = new ≡ old ++ objects
+AsksAsDone objects old new status.Usage = ⊥
+AsksAsDone objects old new (status.File fault) = AsksFirst objects old new
+AsksAsDone objects old new status.Outside = AsksFirst objects old new
+AsksAsDone objects old new (status.Text input line kind) = AsksFirst objects old new
+AsksAsDone objects old new status.Memory = AsksFirst objects old new
+
+-- the command before its message is printed
+pub record Writes (out schema input : List ℕ) (old new : HostState) (answer : Status) : Type 0 where
+  -- where the host tells what it holds
+  pub told : (w : World) → old.world ≡ Some w → (w' : World) × (new.world ≡ Some w') × (w'.err ≡ w.err) × OthersStay out w w' × WriteTold out schema input w w' answer
+  pub asked : AsksAsDone (Text schema ∷ Text input ∷ Out out ∷ []) old.asked new.asked answer
+  pub later : old.faults ≤ new.faults
+  pub failed : answer ≡ status.Outside → Rose old.faults new.faults
+  pub err_faults : new.err_faults ≡ old.err_faults

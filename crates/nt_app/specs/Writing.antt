@@ -1,0 +1,51 @@
+-- A file as it grows on a disk. Its first byte is 0 until all the rest stays.
+use Rattle.std.specs.Prelude.{◌≡◌, ◌⊎◌, ℕ, List, [], ◌∷◌, ◌++◌, replicate, Option, Some}
+use Rattle.nt_outside.specs.Log.{FailedAppend, put_at}
+use Rattle.nt_outside.specs.Disk.{Held}
+use Rattle.nt_app.specs.declared.stop.Stop.{Stop}
+use Rattle.nt_app.specs.declared.stop.Stop.TheVariants as stop
+use Rattle.nt_app.specs.Header.{header_blob}
+use Rattle.nt_app.specs.Cluster.{cluster_blob}
+
+-- room for file header and directory record
+unfoldable pub blank : List ℕ
+blank = replicate 226 0
+
+-- a file that is begun: that room, and the header
+abbrev pub begun : List ℕ
+begun = blank ++ header_blob
+
+-- and its one cluster
+abbrev pub gathered : List ℕ → List ℕ
+gathered numbers = begun ++ cluster_blob numbers
+
+-- a file that can't pass for a finished one: it has no byte, or its first byte is 0
+abbrev pub IsUnfinished : List ℕ → Type 0
+IsUnfinished [] = Unit {0}
+IsUnfinished (byte ∷ bytes) = byte ≡ 0
+
+-- a file of which nothing is known, since its first append failed
+abbrev pub NeverBegan : Held → Type 0
+NeverBegan h = (n : ℕ) × (h.log ≡ FailedAppend n ∷ [])
+
+-- what is held becomes something that has this, where it is told
+abbrev pub Leaves : Option Held → Option Held → (Held → Type 0) → Type 0
+Leaves old new P = (h : Held) → old ≡ Some h → (h' : Held) × (new ≡ Some h') × P h'
+
+-- the same, where what was held had something too
+abbrev pub Keeps : Option Held → Option Held → (List ℕ → Type 0) → (List ℕ → Type 0) → Type 0
+Keeps old new P Q = (h : Held) → old ≡ Some h → P h.image → (h' : Held) × (new ≡ Some h') × Q h'.image
+
+-- what is left to write: what stands behind the cluster, what stands in front of the header, and then the first byte
+abbrev pub finished : List ℕ → List ℕ → List ℕ → List ℕ
+finished image tail front = put_at (put_at (image ++ tail) 1 front) 0 (0x72 ∷ [])
+
+-- an image whose first byte is 0
+abbrev pub BeginsWithZero : List ℕ → Type 0
+BeginsWithZero image = (rest : List ℕ) × (image ≡ 0 ∷ rest)
+
+-- what an early end leaves of a file that wasn't there: only after a failure it may be one of which nothing is known
+abbrev pub LeftBy : Stop → Held → Type 0
+LeftBy stop.Outside h = IsUnfinished h.image ⊎ NeverBegan h
+LeftBy stop.NotYet h = IsUnfinished h.image
+LeftBy stop.Memory h = IsUnfinished h.image

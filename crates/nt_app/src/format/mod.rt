@@ -1,0 +1,22 @@
+//! The file of one field, byte by byte.
+
+mod cluster;
+mod container;
+mod directory;
+mod envelopes;
+mod footer;
+mod frames;
+mod header;
+mod laws;
+mod page_list;
+mod reading;
+mod whole;
+
+pub use cluster::cluster_blob;
+pub use header::header_blob;
+pub use laws::{has_chain, has_length, has_one_list, has_pieces, has_pointers};
+pub use reading::{page_numbers, read_plain};
+pub use whole::{front, plain_file, tail};
+
+#[cfg(test)]
+pub mod tests;

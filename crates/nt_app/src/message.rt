@@ -1,0 +1,103 @@
+//! The lines that are printed on err. They are made without memory, so that each answer has its line.
+
+ghost use Rattle.std.specs.Prelude.{◌≡◌, ◌+◌, ◌≤◌, ◌<◌, ◌++◌, length, decimal};
+ghost use Rattle.arrayvec.specs.ArrayString.{array_string_len};
+ghost use Rattle.nt_app.specs.Statuses.{message_of, file_message, text_name, text_message, fault_name};
+
+use crate::status::{Status, TextFault};
+use arrayvec::ArrayString;
+use itoa::Buffer;
+use nt_num::ReadError;
+
+/// The most bytes of a line.
+const MOST: usize = 96;
+
+/// A line, without memory.
+pub type Line = ArrayString<MOST>;
+
+/// The line of an answer; none for `Done`.
+pub fn message_of(status: &Status) -> Line
+    ensures { result.bytes ≡ message_of status.now }
+{
+    match status {
+        Status::Done => Line::new(),
+        Status::Usage => line("ntuple: usage\n"),
+        Status::File(fault) => file_message(fault),
+        Status::Outside => line("ntuple: outside\n"),
+        Status::Text { input, line, kind } => text_message(*input, *line, *kind),
+        Status::Memory => line("ntuple: memory\n"),
+    }
+}
+
+/// A line of this text.
+fn line(text: &str) -> Line
+    requires { length text.now ≤ 40 }
+    ensures { result.bytes ≡ text.now }
+{
+    let mut line = Line::new();
+    line.push_str(text);
+    line
+}
+
+/// Adds the digits of a number.
+fn push_number(line: &mut Line, number: u64)
+    requires { array_string_len line.old ≤ 60 }
+    ensures bytes { line.new.bytes ≡ line.old.bytes ++ decimal number }
+    ensures len { array_string_len line.new ≤ array_string_len line.old + 20 }
+{
+    let mut digits = Buffer::new();
+    line.push_str(digits.format(number));
+}
+
+/// The line of a file's first fault.
+fn file_message(fault: &ReadError) -> Line
+    ensures { result.bytes ≡ file_message fault.now }
+{
+    let mut line = line("ntuple: file: ");
+    push_number(&mut line, u64::from(fault.code));
+    line.push_str(" ");
+    line.push_str(fault.name());
+    line.push_str(" at ");
+    push_number(&mut line, fault.at);
+    line.push_str("\n");
+    line
+}
+
+/// Adds which text a fault is in.
+fn push_text_name(line: &mut Line, input: Option<u32>)
+    requires { array_string_len line.old ≤ 20 }
+    ensures bytes { line.new.bytes ≡ line.old.bytes ++ text_name input }
+    ensures len { array_string_len line.new ≤ array_string_len line.old + 26 }
+{
+    match input {
+        None => line.push_str("schema"),
+        Some(input) => {
+            line.push_str("input ");
+            push_number(line, u64::from(input));
+        }
+    }
+}
+
+/// The name of a text's fault.
+fn fault_name(kind: TextFault) -> &'static str
+    ensures name { result.now ≡ fault_name kind }
+    ensures len { length result.now ≤ 10 }
+{
+    match kind {
+        TextFault::NotYet => "NotYet",
+    }
+}
+
+/// The line of a text's first fault.
+fn text_message(input: Option<u32>, number: u64, kind: TextFault) -> Line
+    ensures { result.bytes ≡ text_message input number kind }
+{
+    let mut line = line("ntuple: text: ");
+    push_text_name(&mut line, input);
+    line.push_str(" line ");
+    push_number(&mut line, number);
+    line.push_str(": ");
+    line.push_str(fault_name(kind));
+    line.push_str("\n");
+    line
+}

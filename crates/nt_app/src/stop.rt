@@ -1,0 +1,67 @@
+//! Why the writing of a file ended early.
+
+ghost use Rattle.std.specs.Prelude.{◌≡◌};
+ghost use Rattle.nt_app.specs.declared.stop.Stop.TheVariants.{Outside, Memory};
+
+use crate::status::{Status, TextFault};
+use nt_outside::{Failed, Refused};
+use std::alloc::AllocError;
+
+/// Why a step ended early.
+#[derive(Clone, Copy, Debug, PartialEq, Eq)]
+pub enum Stop {
+    /// The outside failed.
+    Outside,
+    /// The text that the step reads isn't of the form that is read so far.
+    NotYet,
+    /// Memory ran out.
+    Memory,
+}
+
+impl From<Refused> for Stop {
+    ghost use Rattle.nt_app.specs.Stops.{stop_of};
+
+    ghost from_gives = { λ refused stop. stop ≡ stop_of refused };
+
+    fn from(refused: Refused) -> Self {
+        match refused {
+            Refused::Failed => Stop::Outside,
+            Refused::Memory => Stop::Memory,
+        }
+    }
+}
+
+impl From<Failed> for Stop {
+    ghost from_gives = { λ _ stop. stop ≡ Outside };
+
+    fn from(_: Failed) -> Self {
+        Stop::Outside
+    }
+}
+
+impl From<AllocError> for Stop {
+    ghost from_gives = { λ _ stop. stop ≡ Memory };
+
+    fn from(_: AllocError) -> Self {
+        Stop::Memory
+    }
+}
+
+impl Stop {
+    ghost use Rattle.nt_app.specs.Stops.{status_of};
+
+    /// The answer of the program; `input` says which text was read, the schema where there is none.
+    pub fn status(self, input: Option<u32>) -> Status
+        ensures { result ≡ status_of input self }
+    {
+        match self {
+            Stop::Outside => Status::Outside,
+            Stop::NotYet => Status::Text {
+                input,
+                line: 0,
+                kind: TextFault::NotYet,
+            },
+            Stop::Memory => Status::Memory,
+        }
+    }
+}
