@@ -1,6 +1,6 @@
 //! A text that is read once, from its beginning to its end.
 
-ghost use Rattle.std.specs.Prelude.{◌≡◌, ◌<◌, ◌≤◌, ◌^◌, length, IfOk};
+ghost use Rattle.std.specs.Prelude.{◌≡◌, ◌+◌, ◌<◌, ◌≤◌, ◌^◌, length, vec_len, IfOk};
 ghost use Rattle.nt_outside.specs.Faults.{RoseOnFailed};
 ghost use Rattle.nt_outside.specs.Source.{SourceState, TakesNext, TakesFront};
 
@@ -23,20 +23,23 @@ fn empty_piece() -> [u8; 512] {
     [0; 512]
 }
 
-/// The bytes of a text, to its end where they are at most `most`, and more than `most` of them where it is longer.
+/// The bytes of a text, to its end where they are at most `most`, and `most + 1` of them where it is longer.
 pub fn read_front<S: Source>(alloc: Global, source: &mut S, most: usize) -> Result<Vec<u8>, Refused>
     requires { most < 2 ^ 62 }
     ensures front { IfOk result (λ bytes. TakesFront (S.state source.old).left most bytes.items) }
+    ensures few { IfOk result (λ bytes. vec_len bytes ≤ most + 1) }
     ensures cause { RoseOnFailed (S.state source.old).faults (S.state source.new).faults result }
 {
     let mut bytes = Vec::new(alloc);
     let mut piece = empty_piece();
     for _ in 0..=most {
-        let count = source.read(&mut piece)?;
+        let wanted = (most + 1 - bytes.len()).min(piece.len());
+        let next = &mut piece[..wanted];
+        let count = source.read(next)?;
         if count == 0 {
             return Ok(bytes);
         }
-        bytes.extend_from_slice(&piece[..count])?;
+        bytes.extend_from_slice(&next[..count])?;
         if bytes.len() > most {
             return Ok(bytes);
         }
