@@ -48,7 +48,8 @@ impl RealHost {
 
     /// What the system answered, where want of memory is no fault.
     fn answer(&mut self, opened: io::Result<File>) -> Result<File, Refused>
-        ensures { Counts (state_of self.old) (state_of self.new) result }
+        ensures opened { IfOk opened (λ file. result ≡ Ok file) }
+        ensures counts { Counts (state_of self.old) (state_of self.new) result }
     {
         match opened {
             Ok(file) => Ok(file),
@@ -123,6 +124,7 @@ impl Host for RealHost {
 /// What a stream took, where nothing is a fault. No buffer holds any of it back.
 fn taken(written: io::Result<usize>, faults: &mut Faults) -> Result<usize, Failed>
     ensures count { IfOk result (λ n. (0 < n) × (written ≡ Ok n)) }
+    ensures some { IfOk written (λ n. 0 < n → result ≡ Ok n) }
     ensures cause { HasCause faults.old.count faults.new.count result }
 {
     match written {

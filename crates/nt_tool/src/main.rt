@@ -1,6 +1,9 @@
 //! The program `ntuple`: the commands over the files and streams of the system.
 #![tactic(auto)]
 
+ghost use Rattle.std.specs.Prelude.{◌≡◌};
+ghost use Rattle.nt_app.specs.declared.status.Status.TheVariants.{Memory};
+
 mod asked;
 mod disk;
 mod faults;
@@ -28,7 +31,9 @@ fn words_of(rt: &HostRuntime) -> Result<Vec<String>, AllocError> {
 }
 
 /// Says that memory ran out before the words could be read.
-fn without_words<H: Host>(host: &mut H) -> Status {
+fn without_words<H: Host>(host: &mut H) -> Status
+    ensures { result ≡ Memory }
+{
     let _ = print_all(host, Stream::ToErr, b"ntuple: memory\n");
     Status::Memory
 }
