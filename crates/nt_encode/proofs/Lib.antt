@@ -1,0 +1,10 @@
+pub mod Powers
+pub mod Digits
+pub mod Lists
+pub mod Rows
+pub mod Forms
+pub mod Deltas
+pub mod Zigzags
+pub mod BitRounds
+pub mod Rounds
+pub mod Pairs

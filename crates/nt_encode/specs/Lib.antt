@@ -1,0 +1,9 @@
+pub mod Digits
+pub mod Plain
+pub mod Split
+pub mod Bits
+pub mod Zigzag
+pub mod Delta
+pub mod Switch
+pub mod Forms
+pub mod Pages

@@ -1,0 +1,20 @@
+-- Elements of k bytes whose lowest bytes stand first, then all second bytes, and so on.
+-- RNTuple Binary Format Specification 1.0.0.0, section Column Description, split encoding.
+use Rattle.std.specs.Prelude.{ℕ, ◌+◌, ◌*◌, ◌/◌, ◌%◌, List, length, slice_index}
+use Rattle.nt_encode.specs.Digits.{list_of, digit_of, number_of}
+
+-- element i of n: its byte j stands at j * n + i
+abbrev pub split_value : ℕ → ℕ → List ℕ → ℕ → ℕ
+split_value k n bytes i = number_of 8 k (λ j. slice_index bytes (j * n + i))
+
+-- the n elements of a page
+abbrev pub split_values : ℕ → ℕ → List ℕ → List ℕ
+split_values k n bytes = list_of n (split_value k n bytes)
+
+-- byte p of the page of these elements
+abbrev pub split_byte : List ℕ → ℕ → ℕ
+split_byte words p = digit_of 8 (slice_index words (p % length words)) (p / length words)
+
+-- the page of these elements
+abbrev pub split_bytes : ℕ → List ℕ → List ℕ
+split_bytes k words = list_of (k * length words) (split_byte words)

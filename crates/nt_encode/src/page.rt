@@ -1,0 +1,90 @@
+//! A page of any column type.
+
+ghost use Rattle.std.specs.Prelude.{◌≡◌, ◌≢◌, ◌≤◌, ◌^◌, length};
+ghost use Rattle.nt_types.specs.declared.column_type.ColumnType.TheVariants.{Switch};
+ghost use Rattle.nt_encode.specs.Pages.{page_size, page_values, page_bytes, AllFit};
+
+use crate::bits::{put_bits, take_bits};
+use crate::form::Form;
+use crate::plain::{put_plain, take_plain};
+use crate::split::{put_split, take_indices, take_signed, take_split};
+use nt_types::ColumnType;
+
+/// The bytes of a page of so many elements.
+pub fn size_of(kind: ColumnType, count: u64) -> u64
+    requires { count ≤ 2 ^ 60 }
+    ensures { result ≡ page_size kind count }
+{
+    match kind {
+        ColumnType::Bit => (count + 7) / 8,
+        ColumnType::Byte | ColumnType::Char | ColumnType::Int8 | ColumnType::UInt8 => count,
+        ColumnType::Int16 | ColumnType::UInt16 | ColumnType::SplitInt16 | ColumnType::SplitUInt16 =>
+            2 * count,
+        ColumnType::Int32
+        | ColumnType::UInt32
+        | ColumnType::Index32
+        | ColumnType::SplitInt32
+        | ColumnType::SplitUInt32
+        | ColumnType::SplitIndex32 => 4 * count,
+        ColumnType::Int64
+        | ColumnType::UInt64
+        | ColumnType::Index64
+        | ColumnType::SplitInt64
+        | ColumnType::SplitUInt64
+        | ColumnType::SplitIndex64 => 8 * count,
+        ColumnType::Switch => 12 * count,
+    }
+}
+
+/// Writes a page of any type but Switch. Signed values are given as their two's complement.
+pub fn encode(kind: ColumnType, values: &[u64], out: &mut [u8])
+    requires kind { kind ≢ Switch }
+    requires length { length out.old ≡ page_size kind (length values.now) }
+    requires fits { AllFit kind values.now }
+    ensures { out.new ≡ page_bytes kind values.now }
+{
+    match kind {
+        ColumnType::Bit => put_bits(values, out),
+        ColumnType::Byte | ColumnType::Char | ColumnType::Int8 | ColumnType::UInt8 => {
+            put_plain(values, 1, out)
+        }
+        ColumnType::Int16 | ColumnType::UInt16 => put_plain(values, 2, out),
+        ColumnType::Int32 | ColumnType::UInt32 | ColumnType::Index32 => put_plain(values, 4, out),
+        ColumnType::Int64 | ColumnType::UInt64 | ColumnType::Index64 => put_plain(values, 8, out),
+        ColumnType::Switch => unreachable!(),
+        ColumnType::SplitInt16 => put_split(Form::Zigzag, values, 2, out),
+        ColumnType::SplitUInt16 => put_split(Form::Own, values, 2, out),
+        ColumnType::SplitInt32 => put_split(Form::Zigzag, values, 4, out),
+        ColumnType::SplitUInt32 => put_split(Form::Own, values, 4, out),
+        ColumnType::SplitInt64 => put_split(Form::Zigzag, values, 8, out),
+        ColumnType::SplitUInt64 => put_split(Form::Own, values, 8, out),
+        ColumnType::SplitIndex32 => put_split(Form::Delta, values, 4, out),
+        ColumnType::SplitIndex64 => put_split(Form::Delta, values, 8, out),
+    }
+}
+
+/// Reads a page of any type but Switch. Signed values are given as their two's complement.
+pub fn decode(kind: ColumnType, bytes: &[u8], out: &mut [u64])
+    requires kind { kind ≢ Switch }
+    requires length { length bytes.now ≡ page_size kind (length out.old) }
+    ensures { out.new ≡ page_values kind (length out.new) bytes.now }
+{
+    match kind {
+        ColumnType::Bit => take_bits(bytes, out),
+        ColumnType::Byte | ColumnType::Char | ColumnType::Int8 | ColumnType::UInt8 => {
+            take_plain(bytes, 1, out)
+        }
+        ColumnType::Int16 | ColumnType::UInt16 => take_plain(bytes, 2, out),
+        ColumnType::Int32 | ColumnType::UInt32 | ColumnType::Index32 => take_plain(bytes, 4, out),
+        ColumnType::Int64 | ColumnType::UInt64 | ColumnType::Index64 => take_plain(bytes, 8, out),
+        ColumnType::Switch => unreachable!(),
+        ColumnType::SplitUInt16 => take_split(bytes, 2, out),
+        ColumnType::SplitUInt32 => take_split(bytes, 4, out),
+        ColumnType::SplitUInt64 => take_split(bytes, 8, out),
+        ColumnType::SplitInt16 => take_signed(bytes, 2, out),
+        ColumnType::SplitInt32 => take_signed(bytes, 4, out),
+        ColumnType::SplitInt64 => take_signed(bytes, 8, out),
+        ColumnType::SplitIndex32 => take_indices(bytes, 4, out),
+        ColumnType::SplitIndex64 => take_indices(bytes, 8, out),
+    }
+}

@@ -1,0 +1,34 @@
+//! Pairs of an index and a tag.
+
+ghost use Rattle.std.specs.Prelude.{◌≡◌, ◌*◌, length};
+ghost use Rattle.nt_encode.specs.Switch.{switch_indices, switch_tags, switch_bytes};
+
+use crate::number::{number_at, put_number};
+
+/// The bytes of a pair.
+const PAIR: usize = 12;
+
+/// Writes the page of a Switch column: an index and a tag for each element.
+pub fn encode_switch(indices: &[u64], tags: &[u32], out: &mut [u8])
+    requires tags { length tags.now ≡ length indices.now }
+    requires length { length out.old ≡ 12 * length indices.now }
+    ensures { out.new ≡ switch_bytes indices.now tags.now }
+{
+    for (i, index) in indices.iter().enumerate() {
+        put_number(*index, 8, i * PAIR, out);
+        put_number(u64::from(tags[i]), 4, i * PAIR + 8, out);
+    }
+}
+
+/// Reads the page of a Switch column.
+pub fn decode_switch(bytes: &[u8], indices: &mut [u64], tags: &mut [u32])
+    requires tags { length tags.old ≡ length indices.old }
+    requires length { length bytes.now ≡ 12 * length indices.old }
+    ensures indices { indices.new ≡ switch_indices (length indices.new) bytes.now }
+    ensures tags { tags.new ≡ switch_tags (length tags.new) bytes.now }
+{
+    for (i, index) in indices.iter_mut().enumerate() {
+        *index = number_at(bytes, i * PAIR, 1, 8);
+        tags[i] = number_at(bytes, i * PAIR + 8, 1, 4) as u32;
+    }
+}
