@@ -1,0 +1,4 @@
+pub mod Lists
+pub mod Listing
+pub mod Names
+pub mod Texts

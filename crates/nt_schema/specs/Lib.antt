@@ -1,0 +1,5 @@
+pub mod Table
+pub mod Types
+pub mod Columns
+pub mod Rows
+pub mod NodeViews
