@@ -23,9 +23,9 @@ input_told out schema input w w' e answer is there told =
     subst (WriteTold out schema input w w') (sym is) (input_stop out schema input w w' e there told)
 
 schema_stop : (out schema input : List ℕ) (w : World) (e : Stop) → TellsSchema (file w schema) (Err e) → WriteTold out schema input w w (status_of None e)
-schema_stop out schema input w stop.Outside told = inl (inl refl, (0, sym (append-nil w.out)))
-schema_stop out schema input w stop.NotYet told = (refl, (told, refl, refl))
-schema_stop out schema input w stop.Memory told = (inl refl, (0, sym (append-nil w.out)))
+schema_stop out schema input w stop.Outside told = inl (inl (refl, refl), (0, sym (append-nil w.out)))
+schema_stop out schema input w stop.NotYet told = (refl, (told, (refl, refl), refl))
+schema_stop out schema input w stop.Memory told = (inl (refl, refl), (0, sym (append-nil w.out)))
 
 -- the schema ended it
 pub schema_told : (out schema input : List ℕ) (w : World) (e : Stop) (answer : Status) → answer ≡ status_of None e → TellsSchema (file w schema) (Err e) → WriteTold out schema input w w answer

@@ -29,8 +29,8 @@ asks_refused T refused.Memory a b old one both new first failed memory same =
     elim (memory refl) [ inl stays ↦ (1, same ∙ stays ∙ first) | inr asked ↦ (2, same ∙ two a b old one both first asked) ]
 
 refusal_told : (out input : List ℕ) (w : World) (r : Refused) → OutTold out input w w (Err (stop_of r))
-refusal_told out input w refused.Failed = inl (inl refl, (0, sym (append-nil w.out)))
-refusal_told out input w refused.Memory = (inl refl, (0, sym (append-nil w.out)))
+refusal_told out input w refused.Failed = inl (inl (refl, refl), (0, sym (append-nil w.out)))
+refusal_told out input w refused.Memory = (inl (refl, refl), (0, sym (append-nil w.out)))
 
 -- a refusal before there is a disk leaves all as it was
 pub refused_told : (out input : List ℕ) (w : World) (r : Refused) (e : Stop) → e ≡ stop_of r → OutTold out input w w (Err e)

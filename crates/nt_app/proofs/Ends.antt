@@ -56,6 +56,7 @@ whole_kept : (out input text : List ℕ) (w : World) (h : Held) (numbers : List 
 whole_kept out input text w h numbers is are whole = record {
   numbers = numbers;
   input_is = there (λ t. IsEventText t numbers) (file w input) text is are;
+  made = refl;
   file_is = file_kept out h (prints ToOut order_line (creates out w)) ∙ ap (λ (l : List ℕ). Some l) whole;
   printed = refl;
 }
@@ -69,12 +70,12 @@ pub out_told : (out input : List ℕ) (w : World) (text : List ℕ) (world world
 out_told out input w text world world' held (Ok value) is (numbers, are, ((h, held-is, whole), world-is)) keeps =
     (_, keeps out h (prints ToOut order_line (creates out w)) world-is refl held-is, refl, others_kept out h (prints ToOut order_line (creates out w)), whole_kept out input text w h numbers is are whole)
 out_told out input w text world world' held (Err stop.Outside) is (inl (inl ((h, held-is, open-still), (n, world-is)))) keeps =
-    (_, keeps out h (prints ToOut (take n order_line) (creates out w)) world-is refl held-is, refl, others_kept out h (prints ToOut (take n order_line) (creates out w)), inl (inr (inl (kept_open out h (prints ToOut (take n order_line) (creates out w)) open-still)), (n, refl)))
+    (_, keeps out h (prints ToOut (take n order_line) (creates out w)) world-is refl held-is, refl, others_kept out h (prints ToOut (take n order_line) (creates out w)), inl (inr (refl, inl (kept_open out h (prints ToOut (take n order_line) (creates out w)) open-still)), (n, refl)))
 out_told out input w text world world' held (Err stop.Outside) is (inl (inr ((h, held-is, began), world-is))) keeps =
-    (_, keeps out h (creates out w) world-is refl held-is, refl, others_kept out h (creates out w), inl (inr (inr (kept_never_begun out h (creates out w) began)), (0, sym (append-nil w.out))))
+    (_, keeps out h (creates out w) world-is refl held-is, refl, others_kept out h (creates out w), inl (inr (refl, inr (kept_never_begun out h (creates out w) began)), (0, sym (append-nil w.out))))
 out_told out input w text world world' held (Err stop.Outside) is (inr (numbers, are, ((h, held-is, whole), world-is))) keeps =
     (_, keeps out h (prints ToOut order_line (creates out w)) world-is refl held-is, refl, others_kept out h (prints ToOut order_line (creates out w)), inr (whole_kept out input text w h numbers is are whole))
 out_told out input w text world world' held (Err stop.NotYet) is (none, (h, held-is, open-still), world-is) keeps =
-    (_, keeps out h (creates out w) world-is refl held-is, refl, others_kept out h (creates out w), (there IsNoEventText (file w input) text is none, kept_open out h (creates out w) open-still, refl))
+    (_, keeps out h (creates out w) world-is refl held-is, refl, others_kept out h (creates out w), (there IsNoEventText (file w input) text is none, (refl, kept_open out h (creates out w) open-still), refl))
 out_told out input w text world world' held (Err stop.Memory) is ((h, held-is, open-still), (n, world-is)) keeps =
-    (_, keeps out h (prints ToOut (take n order_line) (creates out w)) world-is refl held-is, refl, others_kept out h (prints ToOut (take n order_line) (creates out w)), (inr (kept_open out h (prints ToOut (take n order_line) (creates out w)) open-still), (n, refl)))
+    (_, keeps out h (prints ToOut (take n order_line) (creates out w)) world-is refl held-is, refl, others_kept out h (prints ToOut (take n order_line) (creates out w)), (inr (refl, kept_open out h (prints ToOut (take n order_line) (creates out w)) open-still), (n, refl)))

@@ -11,7 +11,7 @@ use Rattle.nt_app.specs.PlainFile.{IsPlainFile}
 use Rattle.nt_app.specs.Writing.{IsUnfinished}
 use Rattle.nt_app.specs.Stops.{IsThereWith, AsksFirst}
 use Rattle.nt_app.specs.Entries.{IsNotRoot, FirstFault, status_of_refusal, ListTold, EntriesTold}
-use Rattle.nt_app.specs.Writes.{AsksAsDone}
+use Rattle.nt_app.specs.Writes.{KeepsFiles, AsksAsDone}
 use Rattle.nt_app.specs.declared.status.Status.{Status}
 use Rattle.nt_app.specs.declared.status.Status.TheVariants as status
 use Rattle.nt_app.proofs.Inverse.{size-IsPlainFile}
@@ -71,16 +71,16 @@ numbers_of_start start whole numbers front is =
     subst (λ (l : List ℕ). IsPlainFile l numbers) (sym (whole_front 1361 start whole front ((size-IsPlainFile start numbers is).1))) is
 
 -- what the listing of a file leaves, by the file
-pub entries_told : (name start whole : List ℕ) (w : World) (world : Option World) (answer : Status) → file w name ≡ Some whole → IsFrontOf 1361 start whole → ListTold start w world answer → (w' : World) × (world ≡ Some w') × (w'.err ≡ w.err) × (w'.files ≡ w.files) × EntriesTold name w w' answer
+pub entries_told : (name start whole : List ℕ) (w : World) (world : Option World) (answer : Status) → file w name ≡ Some whole → IsFrontOf 1361 start whole → ListTold start w world answer → (w' : World) × (world ≡ Some w') × (w'.err ≡ w.err) × KeepsFiles w w' × EntriesTold name w w' answer
 entries_told name start whole w world status.Done is front (numbers, plain, printed) =
-    (_, printed, refl, refl, (numbers, there_is_one (λ bytes. IsPlainFile bytes numbers) (file w name) whole is (numbers_of_start start whole numbers front plain), refl))
+    (_, printed, refl, (refl, refl), (numbers, there_is_one (λ bytes. IsPlainFile bytes numbers) (file w name) whole is (numbers_of_start start whole numbers front plain), refl))
 entries_told name start whole w world status.Usage is front told = absurd told
 entries_told name start whole w world (status.File fault) is front (at-start, first, same) =
-    (w, same, refl, refl, (at-start, there_is_one (λ bytes. FirstFault bytes fault.code) (file w name) whole is (fault_of_start start whole fault.code front first), refl))
+    (w, same, refl, (refl, refl), (at-start, there_is_one (λ bytes. FirstFault bytes fault.code) (file w name) whole is (fault_of_start start whole fault.code front first), refl))
 entries_told name start whole w world status.Outside is front (numbers, n, plain, printed) =
-    (_, printed, refl, refl, inr (numbers, n, there_is_one (λ bytes. IsPlainFile bytes numbers) (file w name) whole is (numbers_of_start start whole numbers front plain), refl))
+    (_, printed, refl, (refl, refl), inr (numbers, n, there_is_one (λ bytes. IsPlainFile bytes numbers) (file w name) whole is (numbers_of_start start whole numbers front plain), refl))
 entries_told name start whole w world (status.Text input line kind) is front told = absurd told
-entries_told name start whole w world status.Memory is front same = (w, same, refl, refl, refl)
+entries_told name start whole w world status.Memory is front same = (w, same, refl, (refl, refl), refl)
 
 -- the one file was asked for, whatever came of it
 pub asks_listed : (answer : Status) (a : Asked) (old one new : List Asked) → (answer ≡ status.Usage → ⊥) → one ≡ old ++ a ∷ [] → new ≡ one → AsksAsDone (a ∷ []) old new answer

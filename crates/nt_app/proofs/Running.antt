@@ -64,12 +64,12 @@ plain_has_no_fault bytes numbers code plain (inr (inr (three, begun, root, none)
 -- what a print on err leaves of a command's doing
 write_told_after : (o s i : List ℕ) (w v : World) (err : List ℕ) (answer : Status) → WriteTold o s i w v answer → WriteTold o s i w (record v { err = err }) answer
 write_told_after o s i w v err status.Done told =
-    (told.0, record { numbers = told.1.numbers; input_is = told.1.input_is; file_is = told.1.file_is; printed = told.1.printed })
+    (told.0, record { numbers = told.1.numbers; input_is = told.1.input_is; made = told.1.made; file_is = told.1.file_is; printed = told.1.printed })
 write_told_after o s i w v err status.Usage told = told
 write_told_after o s i w v err (status.File fault) told = told
 write_told_after o s i w v err status.Outside (inl left) = inl left
 write_told_after o s i w v err status.Outside (inr told) =
-    inr (told.0, record { numbers = told.1.numbers; input_is = told.1.input_is; file_is = told.1.file_is; printed = told.1.printed })
+    inr (told.0, record { numbers = told.1.numbers; input_is = told.1.input_is; made = told.1.made; file_is = told.1.file_is; printed = told.1.printed })
 write_told_after o s i w v err (status.Text None line kind) told = told
 write_told_after o s i w v err (status.Text (Some number) line kind) told = told
 write_told_after o s i w v err status.Memory told = told
@@ -163,7 +163,7 @@ run_usage old mid new answer is same reports = record {
   answer_is = is;
   told = λ w told-is.
       let said = reports.told w (ap (λ (h : HostState). h.world) same ∙ told-is) in
-      (_, said.1, refl, refl, (said.0, refl, either_after old mid new said.0 (message_of answer) (ap (λ (h : HostState). h.err_faults) same) said.2));
+      (_, said.1, (refl, refl), refl, (said.0, refl, either_after old mid new said.0 (message_of answer) (ap (λ (h : HostState). h.err_faults) same) said.2));
   asked = reports.asked ∙ ap (λ (h : HostState). h.asked) same;
   faults = reports.faults ∙ ap (λ (h : HostState). h.faults) same;
 }

@@ -10,7 +10,7 @@ use Rattle.nt_app.specs.PlainFile.{IsPlainFile}
 use Rattle.nt_app.specs.Events.{event_lines}
 use Rattle.nt_app.specs.Writing.{IsUnfinished}
 use Rattle.nt_app.specs.Stops.{IsThereWith}
-use Rattle.nt_app.specs.Writes.{AsksAsDone}
+use Rattle.nt_app.specs.Writes.{KeepsFiles, AsksAsDone}
 use Rattle.nt_app.specs.declared.verdict.Verdict.{Verdict}
 use Rattle.nt_app.specs.declared.verdict.Verdict.TheVariants.{Numbers, Fault}
 use Rattle.nt_app.specs.declared.status.Status.{Status}
@@ -74,7 +74,7 @@ ListTold start w world status.Memory = world ≡ Some w
 -- the command before its message is printed
 pub record Lists (name : List ℕ) (old new : HostState) (answer : Status) : Type 0 where
   -- where the host tells what it holds
-  pub told : (w : World) → old.world ≡ Some w → (w' : World) × (new.world ≡ Some w') × (w'.err ≡ w.err) × (w'.files ≡ w.files) × EntriesTold name w w' answer
+  pub told : (w : World) → old.world ≡ Some w → (w' : World) × (new.world ≡ Some w') × (w'.err ≡ w.err) × KeepsFiles w w' × EntriesTold name w w' answer
   pub asked : AsksAsDone (File name ∷ []) old.asked new.asked answer
   pub later : old.faults ≤ new.faults
   pub failed : answer ≡ status.Outside → Rose old.faults new.faults

@@ -9,7 +9,7 @@ use Rattle.nt_app.specs.Schemas.{IsSchemaText}
 use Rattle.nt_app.specs.Events.{IsEventText}
 use Rattle.nt_app.specs.Stops.{IsThereWith}
 use Rattle.nt_app.specs.Statuses.{message_of}
-use Rattle.nt_app.specs.Writes.{OthersStay, WriteTold, AsksAsDone}
+use Rattle.nt_app.specs.Writes.{KeepsFiles, OthersStay, WriteTold, AsksAsDone}
 use Rattle.nt_app.specs.Entries.{IsNoPlainFile, EntriesTold}
 use Rattle.nt_app.specs.declared.status.Status.{Status}
 use Rattle.nt_app.specs.declared.status.Status.TheVariants as status
@@ -29,10 +29,10 @@ pub record Reports (message : List ℕ) (old new : HostState) : Type 0 where
 abbrev pub Served : HostState → HostState → Type 0
 Served old new = Rose old.faults new.faults → ⊥
 
--- the words were no command: nothing was asked for, and no file changed
+-- the words were no command: nothing was asked for, no disk was made, and no file changed
 pub record RefusesWords (old new : HostState) (answer : Status) : Type 0 where
   pub answer_is : answer ≡ status.Usage
-  pub told : (w : World) → old.world ≡ Some w → (w' : World) × (new.world ≡ Some w') × (w'.files ≡ w.files) × (w'.out ≡ w.out) × SaysOnErr (message_of answer) old new w w'
+  pub told : (w : World) → old.world ≡ Some w → (w' : World) × (new.world ≡ Some w') × KeepsFiles w w' × (w'.out ≡ w.out) × SaysOnErr (message_of answer) old new w w'
   pub asked : new.asked ≡ old.asked
   pub faults : new.faults ≡ old.faults
 
@@ -50,7 +50,7 @@ pub record RunsWrite (out schema input : List ℕ) (old new : HostState) (answer
 -- the words were `entries FILE`
 pub record RunsEntries (name : List ℕ) (old new : HostState) (answer : Status) : Type 0 where
   -- where the host tells what it holds
-  pub told : (w : World) → old.world ≡ Some w → (w' : World) × (new.world ≡ Some w') × SaysOnErr (message_of answer) old new w w' × (w'.files ≡ w.files) × EntriesTold name w w' answer
+  pub told : (w : World) → old.world ≡ Some w → (w' : World) × (new.world ≡ Some w') × SaysOnErr (message_of answer) old new w w' × KeepsFiles w w' × EntriesTold name w w' answer
   pub asked : AsksAsDone (File name ∷ []) old.asked new.asked answer
   pub failed : answer ≡ status.Outside → Rose old.faults new.faults
   -- where the outside serves, a file of numbers is listed unless memory runs out

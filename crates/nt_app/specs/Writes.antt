@@ -68,13 +68,25 @@ IsLeftOpen name w = IsThereWith IsUnfinished (file w name)
 abbrev pub IsNeverBegun : List ℕ → World → Type 0
 IsNeverBegun name w = (s : Stored) × (n : ℕ) × (stored w name ≡ Some s) × (s.log ≡ Some (FailedAppend n ∷ []))
 
--- where a failure leaves the file: as before, open, or never begun
-abbrev pub IsLeftByFailure : List ℕ → World → World → Type 0
-IsLeftByFailure name w w' = (w'.files ≡ w.files) ⊎ (IsLeftOpen name w' ⊎ IsNeverBegun name w')
+-- no disk was made, and every file stays
+abbrev pub KeepsFiles : World → World → Type 0
+KeepsFiles w w' = (w'.created ≡ w.created) × (w'.files ≡ w.files)
 
--- where want of memory leaves the file: as before, or open
+-- one disk was made, of this name
+abbrev pub MakesDisk : List ℕ → World → World → Type 0
+MakesDisk name w w' = w'.created ≡ w.created ++ name ∷ []
+
+-- a disk of this name was made, and its file can't pass for finished
+abbrev pub LeavesOpen : List ℕ → World → World → Type 0
+LeavesOpen name w w' = MakesDisk name w w' × IsLeftOpen name w'
+
+-- where a failure leaves the files: as before, or, once a disk was made, with one that is open or never begun
+abbrev pub IsLeftByFailure : List ℕ → World → World → Type 0
+IsLeftByFailure name w w' = KeepsFiles w w' ⊎ (MakesDisk name w w' × (IsLeftOpen name w' ⊎ IsNeverBegun name w'))
+
+-- where want of memory leaves the files: as before, or, once a disk was made, with one that is open
 abbrev pub IsLeftByMemory : List ℕ → World → World → Type 0
-IsLeftByMemory name w w' = (w'.files ≡ w.files) ⊎ IsLeftOpen name w'
+IsLeftByMemory name w w' = KeepsFiles w w' ⊎ LeavesOpen name w w'
 
 -- out gained the front of the line
 abbrev pub GainsOrderFront : World → World → Type 0
@@ -84,6 +96,7 @@ GainsOrderFront w w' = (n : ℕ) × (w'.out ≡ w.out ++ take n order_line)
 pub record WritesWhole (out input : List ℕ) (w w' : World) : Type 0 where
   pub numbers : List ℕ
   pub input_is : IsThereWith (λ text. IsEventText text numbers) (file w input)
+  pub made : MakesDisk out w w'
   pub file_is : file w' out ≡ Some (plain_file numbers)
   pub printed : w'.out ≡ w.out ++ order_line
 
@@ -93,15 +106,15 @@ OutTold out input w w' (Ok value) = WritesWhole out input w w'
 OutTold out input w w' (Err stop.Outside) =
     (IsLeftByFailure out w w' × GainsOrderFront w w') ⊎ WritesWhole out input w w'
 OutTold out input w w' (Err stop.NotYet) =
-    IsThereWith IsNoEventText (file w input) × IsLeftOpen out w' × (w'.out ≡ w.out)
+    IsThereWith IsNoEventText (file w input) × LeavesOpen out w w' × (w'.out ≡ w.out)
 OutTold out input w w' (Err stop.Memory) = IsLeftByMemory out w w' × GainsOrderFront w w'
 
 -- the same for the whole command
 abbrev pub TextTold : List ℕ → List ℕ → List ℕ → World → World → Option ℕ → Type 0
 TextTold out schema input w w' None =
-    IsThereWith (λ text. IsSchemaText text → ⊥) (file w schema) × (w'.files ≡ w.files) × (w'.out ≡ w.out)
+    IsThereWith (λ text. IsSchemaText text → ⊥) (file w schema) × KeepsFiles w w' × (w'.out ≡ w.out)
 TextTold out schema input w w' (Some number) =
-    (number ≡ 0) × IsThereWith IsSchemaText (file w schema) × IsThereWith IsNoEventText (file w input) × IsLeftOpen out w' × (w'.out ≡ w.out)
+    (number ≡ 0) × IsThereWith IsSchemaText (file w schema) × IsThereWith IsNoEventText (file w input) × LeavesOpen out w w' × (w'.out ≡ w.out)
 
 abbrev pub WriteTold : List ℕ → List ℕ → List ℕ → World → World → Status → Type 0
 WriteTold out schema input w w' status.Done =

@@ -31,13 +31,14 @@ asked_as Out name = world.Out name
 abbrev pub asked_of : Ask → Asked
 asked_of a = asked_as a.kind (string_bytes a.name)
 
--- its files, its streams, and the name of the disk that is out
+-- its files, its streams, the name of the disk that is out, and those of all disks
 abbrev pub world_of : MemHost → World
 world_of h = record {
   files = files_of h.files.items;
   out = h.streams.out.items;
   err = h.streams.err.items;
   creating = option_map string_bytes h.creating;
+  created = map string_bytes h.created.items;
 }
 
 -- what it holds, what it was asked for, and its faults
@@ -80,6 +81,7 @@ pub record IsFresh (h : MemHost) : Type 0 where
   pub out : (world_of h).out ≡ []
   pub err : (world_of h).err ≡ []
   pub creating : (world_of h).creating ≡ None
+  pub created : (world_of h).created ≡ []
   pub asked : (state_of h).asked ≡ []
   pub err_faults : (state_of h).err_faults ≡ 0
   pub tally : tally_of h ≡ new_tally []

@@ -35,6 +35,8 @@ pub record World : Type 0 where
   pub err : List ℕ
   -- the name of the disk that was created last and hasn't come back
   pub creating : Option (List ℕ)
+  -- the names whose disks were made, in order
+  pub created : List (List ℕ)
 
 pub record HostState : Type 0 where
   -- what the host holds, where it tells it
@@ -55,7 +57,7 @@ abbrev pub file : World → List ℕ → Option (List ℕ)
 file w name = option_map (λ (s : Stored). s.bytes) (stored w name)
 
 abbrev pub creates : List ℕ → World → World
-creates name w = record w { creating = Some name }
+creates name w = record w { creating = Some name; created = w.created ++ name ∷ [] }
 
 abbrev pub keeps_disk : List ℕ → Held → World → World
 keeps_disk name h w =

@@ -65,6 +65,7 @@ impl MemHost {
         ensures plan { plan_of self.new ≡ plan_of self.old }
         ensures room { room_of_host self.new ≡ room_of_host self.old }
         ensures files { self.new.files ≡ self.old.files }
+        ensures created { self.new.created ≡ self.old.created }
     {
         self.asked.push_reserved(ask);
         let listed = self.tally.begin_call();

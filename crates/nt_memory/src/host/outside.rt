@@ -98,10 +98,13 @@ impl Host for MemHost {
     {
         let ask = self.prepare(Kind::Out, name)?;
         let creating = String::from_str(self.alloc, name)?;
+        let created = String::from_str(self.alloc, name)?;
         let fails = self.calls_of(Object::Disk)?;
         self.files.reserve(1)?;
+        self.created.reserve(1)?;
         match self.admit(ask, Some(creating)) {
             Some(creating) => {
+                self.created.push_reserved(created);
                 self.creating = Some(creating);
                 Ok(MemDisk::new(self.alloc, fails))
             }

@@ -18,7 +18,7 @@ returns-in-Ok g c = record {
 
 pub returns-in-Err : goal.returns-in-Err
 returns-in-Err g c = record {
-  told = λ w is. (w, c.read_file.ensures.world ∙ is, refl, refl, refused_told c.args.name.now w c.in-Err.refused _ c.status_of_refusal.ensures);
+  told = λ w is. (w, c.read_file.ensures.world ∙ is, refl, (refl, refl), refused_told c.args.name.now w c.in-Err.refused _ c.status_of_refusal.ensures);
   asked = asks_refused c.in-Err.refused _ _ _ _ c.status_of_refusal.ensures c.in-Err.ensures.asked_err;
   later = omega (arith, c.read_file.ensures.cause.later);
   failed = λ outside. c.in-Err.ensures.cause.failed (outside_of_refusal _ c.in-Err.refused _ c.status_of_refusal.ensures outside);
