@@ -12,3 +12,4 @@ pub mod Sound
 pub mod Nesting
 pub mod LineText
 pub mod MemberText
+pub mod Rules

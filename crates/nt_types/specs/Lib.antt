@@ -16,3 +16,4 @@ pub mod LineSpelling
 pub mod LineFaults
 pub mod LineErrors
 pub mod FaultViews
+pub mod Rules

@@ -5,6 +5,7 @@ mod column_type;
 mod construct;
 mod count;
 mod fault;
+mod laws;
 mod line;
 mod member;
 mod name;
@@ -18,8 +19,10 @@ mod word;
 
 pub use column_type::ColumnType;
 pub use fault::{SchemaError, SchemaFault, SchemaKind};
+pub use laws::texts_have_fields;
 pub use member::parse_member;
-pub use name::{Bytes, Name};
+pub use name::Name;
+pub use nt_bytes::Bytes;
 pub use schema::parse_schema;
 pub use shape::{Fields, Member, Members, Shape, Shapes};
 

@@ -1,42 +1,6 @@
-//! Bytes and names, as lists of their own.
+//! Names, as lists of their own.
 
 use std::marker::Model;
-
-/// Bytes in a row.
-#[derive(Drop)]
-pub struct Bytes {
-    list: Vec<u8>,
-}
-
-impl Model for Bytes {
-    ghost use Rattle.std.specs.Prelude.{List, ℕ};
-
-    ghost Value = { List ℕ };
-
-    ghost view = { λ b. b.list.items };
-}
-
-impl Bytes {
-    ghost use Rattle.std.specs.Prelude.{◌≡◌};
-
-    pub fn from_vec(list: Vec<u8>) -> Self
-        ensures { result ≡ list.items }
-    {
-        Bytes { list }
-    }
-
-    pub fn as_slice(&self) -> &[u8]
-        ensures { result.now ≡ self.now }
-    {
-        self.list.as_slice()
-    }
-
-    pub fn into_vec(self) -> Vec<u8>
-        ensures { result.items ≡ self }
-    {
-        self.list
-    }
-}
 
 /// The name of a field or of a member.
 #[derive(Drop)]

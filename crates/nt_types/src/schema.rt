@@ -1,9 +1,10 @@
 //! The fields that a schema text spells.
 
-ghost use Rattle.std.specs.Prelude.{◌≡◌, ◌≤◌, ◌^◌, ◌==◌, ◌∷◌, length};
+ghost use Rattle.std.specs.Prelude.{◌≡◌, ◌≤◌, ◌^◌, ◌==◌, ◌∷◌, length, IfOk};
 ghost use Rattle.std.specs.List.{position_or_len, slice_split};
 ghost use Rattle.nt_types.specs.Views.{members_view};
 ghost use Rattle.nt_types.specs.Schema.{schema_text, take_lines, first_line, at_line};
+ghost use Rattle.nt_types.specs.Rules.{AreFields};
 ghost use Rattle.nt_types.specs.FaultViews.{GivesText};
 ghost use Rattle.nt_types.specs.TextLines.{lines_left, bytes_left};
 ghost use Rattle.nt_types.specs.declared.fault.SchemaError.TheVariants.{Fault};
@@ -66,6 +67,14 @@ fn read_lines(alloc: Global, text: &[u8]) -> Result<Fields, SchemaError>
 
 /// Reads the fields of a schema text, one a line.
 pub fn parse_schema(alloc: Global, text: &[u8]) -> Result<Fields, SchemaError>
+    ensures exact { GivesText members_view result (schema_text text.now) }
+    // What is read keeps the rules of fields.
+    ensures rules { IfOk result (λ fields. AreFields (members_view fields)) }
+{
+    read_text(alloc, text)
+}
+
+fn read_text(alloc: Global, text: &[u8]) -> Result<Fields, SchemaError>
     ensures { GivesText members_view result (schema_text text.now) }
 {
     if text.len() > MAX_TEXT {
