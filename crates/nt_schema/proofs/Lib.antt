@@ -1,4 +1,7 @@
 pub mod Lists
 pub mod Listing
 pub mod Names
-pub mod Texts
+pub mod Appended
+pub mod Lengths
+pub mod Short
+pub mod AllNodes

@@ -126,16 +126,17 @@ nothing [] e = refl
 nothing (n ∷ ns) e = cc
 
 -- no fields are inside themselves
-all_inside-self : (id : ℕ) (ns : List Node) → ns ≡ all_inside id ns → ns ≡ []
+pub all_inside-self : (id : ℕ) (ns : List Node) → ns ≡ all_inside id ns → ns ≡ []
 all_inside-self id ns e =
     let same : weight ns ≡ weight (all_inside id ns) = ap weight e in
     let fewer : weight (all_inside id ns) + length ns ≡ weight ns = weight-all_inside id ns in
     nothing ns (omega arith)
 
-uncons : (m n : Node) (ms ns : List Node) → m ∷ ms ≡ n ∷ ns → (m ≡ n) × (ms ≡ ns)
+pub uncons : (m n : Node) (ms ns : List Node) → m ∷ ms ≡ n ∷ ns → (m ≡ n) × (ms ≡ ns)
 uncons m n ms ns e = (cc, cc)
 
-regrouped : (id : ℕ) (front : List Node) (q m : Node) (ms : List Node) → m ≡ q → ms ≡ front ++ (inside id m.of ++ all_inside (id + 1) ms)
+-- the fields inside the first come behind the others that are listed
+pub regrouped : (id : ℕ) (front : List Node) (q m : Node) (ms : List Node) → m ≡ q → ms ≡ front ++ (inside id m.of ++ all_inside (id + 1) ms)
     → ms ≡ (front ++ inside id q.of) ++ all_inside (id + 1) ms
 regrouped id front q m ms h e =
     e ∙ (ap (λ (x : Node). front ++ (inside id x.of ++ all_inside (id + 1) ms)) h ∙ sym (append_assoc front (inside id q.of) (all_inside (id + 1) ms)))

@@ -3,3 +3,4 @@ pub mod Types
 pub mod Columns
 pub mod Rows
 pub mod NodeViews
+pub mod Writing

@@ -1,5 +1,5 @@
 -- The rows of a schema description (RNTuple Binary Format Specification 1.0.0.0, section Schema Description).
-use Rattle.std.specs.Prelude.{ℕ, List, []}
+use Rattle.std.specs.Prelude.{ℕ, ◌^◌, Bool, List, [], length, nat_lt, ◌&&◌}
 use Rattle.nt_schema.specs.declared.rows.FieldRow.{FieldRow}
 use Rattle.nt_schema.specs.declared.rows.ColumnRow.{ColumnRow}
 
@@ -13,3 +13,11 @@ pub record Table : Type 0 where
 -- no rows
 abbrev pub no_rows : Table
 no_rows = record { fields = []; columns = []; header_fields = 0; header_columns = 0 }
+
+-- these rows, all in the header
+abbrev pub in_header : List FieldRow → List ColumnRow → Table
+in_header fields columns = record { fields = fields; columns = columns; header_fields = length fields; header_columns = length columns }
+
+-- names that a description can hold
+abbrev pub is_short : FieldRow → Bool
+is_short r = nat_lt (length r.name) (2 ^ 32) && nat_lt (length r.type_name) (2 ^ 32)

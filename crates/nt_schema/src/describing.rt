@@ -1,23 +1,31 @@
 //! The description of fields.
 
-ghost use Rattle.std.specs.Prelude.{◌≤◌, IfOk};
+ghost use Rattle.std.specs.Prelude.{◌≤◌, IfOk, vec_len};
 ghost use Rattle.nt_types.specs.Views.{members_view};
 ghost use Rattle.nt_types.specs.Kinds.{parts_of};
 ghost use Rattle.nt_types.specs.Schema.{parts_count};
+ghost use Rattle.nt_types.specs.Rules.{AreFields};
+ghost use Rattle.nt_schema.specs.Table.{in_header};
 ghost use Rattle.nt_schema.specs.Rows.{Rows};
 
 use crate::column::push_columns;
 use crate::node::field_row;
 use crate::nodes::all_nodes;
+use crate::rows::{ColumnRow, FieldRow};
 use crate::schema::Schema;
 use nt_types::Fields;
 use std::alloc::{AllocError, Global};
 
-/// The rows of fields that aren't more than a schema text may have, all in the header. Plain
-/// columns keep the bytes of an element together.
-pub fn describe(alloc: Global, fields: &Fields, plain: bool) -> Result<Schema, AllocError>
+/// The rows of fields and of columns.
+fn rows_of(
+    alloc: Global,
+    fields: &Fields,
+    plain: bool,
+) -> Result<(Vec<FieldRow>, Vec<ColumnRow>), AllocError>
     requires { parts_count (parts_of (members_view fields.now)) ≤ 4096 }
-    ensures { IfOk result (λ schema. Rows (members_view fields.now) plain schema) }
+    ensures rows { IfOk result (λ rows. Rows (members_view fields.now) plain (in_header rows.0.items rows.1.items)) }
+    ensures few_fields { IfOk result (λ rows. vec_len rows.0 ≤ 4096) }
+    ensures few_columns { IfOk result (λ rows. vec_len rows.1 ≤ 8192) }
 {
     let nodes = all_nodes(alloc, fields)?;
     let mut field_rows = Vec::new(alloc);
@@ -26,6 +34,17 @@ pub fn describe(alloc: Global, fields: &Fields, plain: bool) -> Result<Schema, A
         push_columns(&mut columns, field_rows.len() as u32, node.of, plain)?;
         field_rows.push(field_row(alloc, node)?)?;
     }
+    Ok((field_rows, columns))
+}
+
+/// The rows of fields that keep the rules of a schema text, all in the header. Plain columns keep
+/// the bytes of an element together.
+#[tactic(auto, using(crate::proofs::AllNodes::described_short))]
+pub fn describe(alloc: Global, fields: &Fields, plain: bool) -> Result<Schema, AllocError>
+    requires { AreFields (members_view fields.now) }
+    ensures { IfOk result (λ schema. Rows (members_view fields.now) plain schema) }
+{
+    let (field_rows, columns) = rows_of(alloc, fields, plain)?;
     Ok(Schema {
         header_fields: field_rows.len() as u32,
         header_columns: columns.len() as u32,

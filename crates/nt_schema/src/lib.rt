@@ -6,14 +6,18 @@ mod describing;
 mod laws;
 mod node;
 mod nodes;
+mod part;
 mod rows;
 mod schema;
 mod type_name;
+mod writing;
 
 pub use describing::describe;
-pub use laws::{descriptions_are_one, texts_can_be_described};
+pub use laws::descriptions_are_one;
+pub use part::Part;
 pub use rows::{ColumnRow, FieldRow};
 pub use schema::Schema;
+pub use writing::write_description;
 
 #[cfg(test)]
 mod tests;

@@ -22,11 +22,13 @@ impl Model for Schema {
 
     ghost Value = { Table };
 
-    ghost use Rattle.std.specs.Prelude.{vec_len, ◌<◌, ◌≤◌, ◌^◌};
+    ghost use Rattle.std.specs.Prelude.{◌≡◌, true, vec_len, ◌<◌, ◌≤◌, ◌^◌};
+    ghost use Rattle.std.specs.List.{list_all};
+    ghost use Rattle.nt_schema.specs.Table.{is_short};
 
     ghost view = { λ s. record { fields = s.fields.items; columns = s.columns.items; header_fields = s.header_fields; header_columns = s.header_columns } };
 
-    ghost invariant = { λ s. (vec_len s.fields < 2 ^ 32) × (vec_len s.columns < 2 ^ 32) × (s.header_fields ≤ vec_len s.fields) × (s.header_columns ≤ vec_len s.columns) };
+    ghost invariant = { λ s. (vec_len s.fields < 2 ^ 32) × (vec_len s.columns < 2 ^ 32) × (s.header_fields ≤ vec_len s.fields) × (s.header_columns ≤ vec_len s.columns) × (list_all is_short s.fields.items ≡ true) };
 }
 
 impl Schema {

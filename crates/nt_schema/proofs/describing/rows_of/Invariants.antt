@@ -1,7 +1,7 @@
 use Rattle.std.proofs.Common.{◌≡◌, ◌++◌, map, drop, vec_len}
 use Rattle.nt_schema.specs.Rows.{field_row, column_rows}
 use Rattle.nt_schema.specs.NodeViews.{node_view}
-use Rattle.nt_schema.proofs.describing.describe.Given as goal
+use Rattle.nt_schema.proofs.describing.rows_of.Given as goal
 use Rattle.std.specs.Prelude.{◌≤◌, ◌*◌}
 
 abbrev pub invariant-loop-node : goal.invariant-loop-node
