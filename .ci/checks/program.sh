@@ -49,7 +49,14 @@ expect 2 'ntuple: usage'
 expect 2 'ntuple: usage' write out.root schema.txt out.root
 expect 2 'ntuple: usage' entries
 expect 2 'ntuple: usage' entries $'\xff.root'
+expect 2 'ntuple: usage' entries --help
+expect 2 'ntuple: usage' write --plain out.root schema.txt events.txt
 [ ! -e out.root ] || fail 'words that are no command made a file'
+
+# what follows `--` is no option
+cp schema.txt ./-schema.txt
+expect 0 '' write dash.root -- -schema.txt events.txt
+same dash.root "$top/crates/nt_tool/data/two.root"
 
 # what the outside refuses
 expect 4 'ntuple: outside' write new.root schema.txt missing.txt
@@ -74,6 +81,15 @@ expect 6 'ntuple: text: input 0 line 0: NotYet' write bad.root schema.txt bad.tx
 printf 'y u64\n' >other.txt
 expect 6 'ntuple: text: schema line 0: NotYet' write other.root other.txt events.txt
 [ ! -e other.root ] || fail 'a schema of another form made a file'
+printf 'x u64\nx u8\n' >twice.txt
+expect 6 'ntuple: text: schema line 2: Repeated' write twice.root twice.txt events.txt
+head -c 2000000 /dev/zero | tr '\0' '\n' >long.txt
+expect 6 'ntuple: text: schema line 0: TooLong' write long.root long.txt events.txt
+printf '\n\tx u64\n' >blank.txt
+expect 6 'ntuple: text: schema line 2: BadName' write blank.root blank.txt events.txt
+printf '\n \t\nx\tu64 \t\r\n' >blanks.txt
+expect 0 '' write blanks.root blanks.txt events.txt
+same blanks.root "$top/crates/nt_tool/data/two.root"
 
 # files of another form
 : >empty.root

@@ -14,7 +14,7 @@ use Rattle.nt_app.specs.Writes.{OutTold, WriteTold, AsksAsDone}
 input_stop : (out schema input : List ℕ) (w w' : World) (e : Stop) → IsThereWith IsSchemaText (file w schema) → OutTold out input w w' (Err e) → WriteTold out schema input w w' (status_of (Some 0) e)
 input_stop out schema input w w' stop.Outside there told =
     elim told [ inl left ↦ inl left | inr whole ↦ inr (there, whole) ]
-input_stop out schema input w w' stop.NotYet there told = (refl, (refl, there, told.0, told.1, told.2))
+input_stop out schema input w w' (stop.Text line kind) there told = (refl, there, told.0, told.1, told.2)
 input_stop out schema input w w' stop.Memory there told = told
 
 -- the input or the file ended it
@@ -24,7 +24,7 @@ input_told out schema input w w' e answer is there told =
 
 schema_stop : (out schema input : List ℕ) (w : World) (e : Stop) → TellsSchema (file w schema) (Err e) → WriteTold out schema input w w (status_of None e)
 schema_stop out schema input w stop.Outside told = inl (inl (refl, refl), (0, sym (append-nil w.out)))
-schema_stop out schema input w stop.NotYet told = (refl, (told, (refl, refl), refl))
+schema_stop out schema input w (stop.Text line kind) told = (told, (refl, refl), refl)
 schema_stop out schema input w stop.Memory told = (inl (refl, refl), (0, sym (append-nil w.out)))
 
 -- the schema ended it
@@ -50,7 +50,7 @@ asks_only a objects old new (suc (suc n), is) = (1, is)
 
 asks_stop : (input : Option ℕ) (e : Stop) (objects old new : List Asked) → AsksFirst objects old new → AsksAsDone objects old new (status_of input e)
 asks_stop input stop.Outside objects old new asks = asks
-asks_stop input stop.NotYet objects old new asks = asks
+asks_stop input (stop.Text line kind) objects old new asks = asks
 asks_stop input stop.Memory objects old new asks = asks
 
 -- an early end asks for the first objects
@@ -60,7 +60,7 @@ asks_stopped input e answer objects old new is asks =
 
 outside_stop : (T : Type 0) (input : Option ℕ) (e : Stop) → status_of input e ≡ status.Outside → IsErrOf {T = T} (Err e) stop.Outside
 outside_stop T input stop.Outside is = refl
-outside_stop T input stop.NotYet is = absurd (cc)
+outside_stop T input (stop.Text line kind) is = absurd (cc)
 outside_stop T input stop.Memory is = absurd (cc)
 
 -- the outside failed only where a step says so

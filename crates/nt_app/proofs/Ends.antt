@@ -13,7 +13,7 @@ use Rattle.nt_app.specs.PlainFile.{plain_file}
 use Rattle.nt_app.specs.declared.stop.Stop.{Stop}
 use Rattle.nt_app.specs.declared.stop.Stop.TheVariants as stop
 use Rattle.nt_app.specs.Events.{IsEventText}
-use Rattle.nt_app.specs.Stops.{IsThereWith, IsNoEventText}
+use Rattle.nt_app.specs.Stops.{IsThereWith, IsNoInputBy}
 use Rattle.nt_app.specs.Writing.{IsUnfinished, NeverBegan}
 use Rattle.nt_app.specs.Writes.{order_line, NumbersTold, FileTold, OthersStay, OutTold, WritesWhole, IsLeftOpen, IsNeverBegun}
 
@@ -22,7 +22,7 @@ pub file_told : (result : Result Unit Stop) (numbers text : List ℕ) (w : World
 file_told (Ok value) numbers text w world held are told = (numbers, are, told)
 file_told (Err stop.Outside) numbers text w world held are told =
     elim told [ inl open-still ↦ inl (inl open-still) | inr whole ↦ inr (numbers, are, whole) ]
-file_told (Err stop.NotYet) numbers text w world held are told = absurd told
+file_told (Err (stop.Text line kind)) numbers text w world held are told = absurd told
 file_told (Err stop.Memory) numbers text w world held are told = told
 
 -- a disk that came back is found under its name
@@ -75,7 +75,7 @@ out_told out input w text world world' held (Err stop.Outside) is (inl (inr ((h,
     (_, keeps out h (creates out w) world-is refl held-is, refl, others_kept out h (creates out w), inl (inr (refl, inr (kept_never_begun out h (creates out w) began)), (0, sym (append-nil w.out))))
 out_told out input w text world world' held (Err stop.Outside) is (inr (numbers, are, ((h, held-is, whole), world-is))) keeps =
     (_, keeps out h (prints ToOut order_line (creates out w)) world-is refl held-is, refl, others_kept out h (prints ToOut order_line (creates out w)), inr (whole_kept out input text w h numbers is are whole))
-out_told out input w text world world' held (Err stop.NotYet) is (none, (h, held-is, open-still), world-is) keeps =
-    (_, keeps out h (creates out w) world-is refl held-is, refl, others_kept out h (creates out w), (there IsNoEventText (file w input) text is none, (refl, kept_open out h (creates out w) open-still), refl))
+out_told out input w text world world' held (Err (stop.Text line kind)) is (none, (h, held-is, open-still), world-is) keeps =
+    (_, keeps out h (creates out w) world-is refl held-is, refl, others_kept out h (creates out w), (there (IsNoInputBy line kind) (file w input) text is none, (refl, kept_open out h (creates out w) open-still), refl))
 out_told out input w text world world' held (Err stop.Memory) is ((h, held-is, open-still), (n, world-is)) keeps =
     (_, keeps out h (prints ToOut (take n order_line) (creates out w)) world-is refl held-is, refl, others_kept out h (prints ToOut (take n order_line) (creates out w)), (inr (refl, kept_open out h (prints ToOut (take n order_line) (creates out w)) open-still), (n, refl)))

@@ -9,7 +9,7 @@ use Rattle.nt_app.proofs.Images.{unfinished_begun}
 
 left_by : (e : Stop) (h : Held) → h.image ≡ begun → LeftBy e h
 left_by stop.Outside h is = inl (unfinished_begun h.image is)
-left_by stop.NotYet h is = unfinished_begun h.image is
+left_by (stop.Text line kind) h is = unfinished_begun h.image is
 left_by stop.Memory h is = unfinished_begun h.image is
 
 -- a file that is begun can't pass for finished, whatever comes next

@@ -12,6 +12,8 @@ pub mod Apart
 pub mod Images
 pub mod Fronts
 pub mod Left
+pub mod Operands
+pub mod Spoken
 pub mod Ends
 pub mod Asking
 pub mod Answered

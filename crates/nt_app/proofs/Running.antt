@@ -1,40 +1,68 @@
 -- A command and the message after it, joined.
-use Rattle.std.proofs.Common.{◌≡◌, ◌⊎◌, ◌∙◌, inl, inr, ap, sym, subst, refl, ℕ, ◌≤◌, List, [], ◌∷◌, ◌++◌, length, take, Option, Some, None, arith}
+use Rattle.std.proofs.Common.{◌≡◌, ◌⊎◌, ◌∙◌, inl, inr, ap, sym, subst, refl, ℕ, ◌≤◌, List, [], ◌∷◌, ◌++◌, length, take, Option, Some, None, Result, Ok, arith}
 use Rattle.std.specs.Prelude.{codes, slice_index}
+use Rattle.std.proofs.lemmas.List.{append-nil}
 use Rattle.nt_num.specs.declared.fault.ReadError.{ReadError}
 use Rattle.nt_outside.specs.Faults.{Rose}
 use Rattle.nt_outside.specs.World.{World, Asked, Text, File, Out, HostState, file}
 use Rattle.nt_app.specs.CommandLine.{IsWrite, IsEntries}
 use Rattle.nt_app.specs.Directory.{file_header_rest}
 use Rattle.nt_app.specs.PlainFile.{front, parts, plain_file, IsPlainFile}
-use Rattle.nt_app.specs.Schemas.{IsSchemaText}
+use Rattle.nt_types.specs.Kinds.{Part}
+use Rattle.nt_types.specs.declared.fault.SchemaFault.{SchemaFault}
+use Rattle.nt_app.specs.declared.status.TextFault.{TextFault}
+use Rattle.nt_app.specs.declared.status.TextFault.TheVariants.{NotYet, Schema}
+use Rattle.nt_app.specs.Schemas.{x_of_u64, IsSchemaText, IsNoSchemaBy}
 use Rattle.nt_app.specs.Events.{IsEventText}
-use Rattle.nt_app.specs.Stops.{IsThereWith, IsNoEventText}
+use Rattle.nt_app.specs.Stops.{IsThereWith, IsNoInputBy}
 use Rattle.nt_app.specs.Statuses.{message_of}
 use Rattle.nt_app.specs.Writing.{IsUnfinished}
 use Rattle.nt_app.specs.Writes.{WriteTold, AsksAsDone, Writes}
 use Rattle.nt_app.specs.Entries.{IsNoPlainFile, FirstFault, EntriesTold, Lists}
+use Rattle.nt_app.proofs.Spoken.{write_is_not_entries}
 use Rattle.nt_app.specs.Runs.{Reports, RefusesWords, RunsWrite, RunsEntries}
 use Rattle.nt_app.specs.declared.status.Status.{Status}
 use Rattle.nt_app.specs.declared.status.Status.TheVariants as status
 
+ok_is : (x y : List Part) → ◌≡◌ {A = Result (List Part) SchemaFault} (Ok x) (Ok y) → x ≡ y
+ok_is x y e = cc
+
+some_is : (x y : List ℕ) → Some x ≡ Some y → x ≡ y
+some_is x y e = cc
+
 -- words that are `write` with some names are so with no others
 pub same_write : (words : List (List ℕ)) (o s i o' s' i' : List ℕ) (old new : HostState) (answer : Status) → IsWrite words o s i → IsWrite words o' s' i' → Writes o s i old new answer → Writes o' s' i' old new answer
 same_write words o s i o' s' i' old new answer one other writes =
-    let joined = sym one.words_are ∙ other.words_are in
-    let out-is : o ≡ o' = cc in
-    let schema-is : s ≡ s' = cc in
-    let input-is : i ≡ i' = cc in
+    let out-is : o ≡ o' = some_is o o' (sym one.names.out_is ∙ other.names.out_is) in
+    let schema-is : s ≡ s' = some_is s s' (sym one.names.schema_is ∙ other.names.schema_is) in
+    let input-is : i ≡ i' = some_is i i' (sym one.names.input_is ∙ other.names.input_is) in
     subst (λ (l : List ℕ). Writes l s' i' old new answer) out-is (subst (λ (l : List ℕ). Writes o l i' old new answer) schema-is (subst (λ (l : List ℕ). Writes o s l old new answer) input-is writes))
 
 pub same_entries : (words : List (List ℕ)) (n n' : List ℕ) (old new : HostState) (answer : Status) → IsEntries words n → IsEntries words n' → Lists n old new answer → Lists n' old new answer
 same_entries words n n' old new answer one other lists =
-    let joined = sym one ∙ other in
-    let same : n ≡ n' = cc in
-    subst (λ (l : List ℕ). Lists l old new answer) same lists
+    subst (λ (l : List ℕ). Lists l old new answer) (some_is n n' (sym one.file_is ∙ other.file_is)) lists
 
 pub not_both : (words : List (List ℕ)) (o s i n : List ℕ) → IsWrite words o s i → IsEntries words n → ⊥
-not_both words o s i n one other = let joined = sym one.words_are ∙ other in cc
+not_both words o s i n one other = write_is_not_entries (some_is (codes "write") (codes "entries") (sym one.begins ∙ other.begins))
+
+-- want of memory for the words leaves all as it was
+pub memory_writes : (o s i : List ℕ) (state : HostState) → Writes o s i state state status.Memory
+memory_writes o s i state = record {
+  told = λ w is. (w, is, refl, λ other differs. refl, (inl (refl, refl), (0, sym (append-nil w.out))));
+  asked = (0, sym (append-nil state.asked));
+  later = omega arith;
+  failed = λ outside. absurd (cc);
+  err_faults = refl;
+}
+
+pub memory_lists : (n : List ℕ) (state : HostState) → Lists n state state status.Memory
+memory_lists n state = record {
+  told = λ w is. (w, is, refl, (refl, refl), refl);
+  asked = (0, sym (append-nil state.asked));
+  later = omega arith;
+  failed = λ outside. absurd (cc);
+  err_faults = refl;
+}
 
 -- a command that is one never says that the words are none
 pub write_is_command : (o s i : List ℕ) (old new : HostState) (answer : Status) → Writes o s i old new answer → answer ≡ status.Usage → ⊥
@@ -87,16 +115,35 @@ not_there_both : (P Q : List ℕ → Type 0) (found : Option (List ℕ)) → ((t
 not_there_both P Q None differ one other = one
 not_there_both P Q (Some text) differ one other = differ text one other
 
+no_schema_both : (line : ℕ) (kind : TextFault) (text : List ℕ) → IsSchemaText text → IsNoSchemaBy line kind text → ⊥
+no_schema_both line NotYet text one (at, (fields, spelled, differ)) = differ (ok_is fields (x_of_u64 ∷ []) (sym spelled ∙ one))
+no_schema_both line (Schema kind) text one other = let both = sym one ∙ other in cc
+
+no_input_both : (line : ℕ) (kind : TextFault) (numbers text : List ℕ) → IsEventText text numbers → IsNoInputBy line kind text → ⊥
+no_input_both line NotYet numbers text one (at, none) = none numbers one
+no_input_both line (Schema kind) numbers text one other = other
+
 write_ends : (o s i : List ℕ) (w v : World) (numbers : List ℕ) (answer : Status) → WriteTold o s i w v answer → IsThereWith IsSchemaText (file w s) → IsThereWith (λ text. IsEventText text numbers) (file w i) → (answer ≡ status.Outside → ⊥) → (answer ≡ status.Done) ⊎ (answer ≡ status.Memory)
 write_ends o s i w v numbers status.Done told schema events served = inl refl
 write_ends o s i w v numbers status.Usage told schema events served = absurd told
 write_ends o s i w v numbers (status.File fault) told schema events served = absurd told
 write_ends o s i w v numbers status.Outside told schema events served = absurd (served refl)
 write_ends o s i w v numbers (status.Text None line kind) told schema events served =
-    absurd (not_there_both IsSchemaText (λ text. IsSchemaText text → ⊥) (file w s) (λ text one other. other one) schema told.1.0)
+    absurd (not_there_both IsSchemaText (IsNoSchemaBy line kind) (file w s) (no_schema_both line kind) schema told.0)
 write_ends o s i w v numbers (status.Text (Some number) line kind) told schema events served =
-    absurd (not_there_both (λ text. IsEventText text numbers) IsNoEventText (file w i) (λ text one none. none numbers one) events told.1.2)
+    absurd (not_there_both (λ text. IsEventText text numbers) (IsNoInputBy line kind) (file w i) (no_input_both line kind numbers) events told.2)
 write_ends o s i w v numbers status.Memory told schema events served = inr refl
+
+-- a schema that is no such text has its fault named
+write_refused : (o s i : List ℕ) (w v : World) (answer : Status) → WriteTold o s i w v answer → IsThereWith (λ text. IsSchemaText text → ⊥) (file w s) → (answer ≡ status.Outside → ⊥) → ((line : ℕ) × (kind : TextFault) × (answer ≡ status.Text None line kind)) ⊎ (answer ≡ status.Memory)
+write_refused o s i w v status.Done told other served = absurd (not_there_both IsSchemaText (λ text. IsSchemaText text → ⊥) (file w s) (λ text one no. no one) told.0 other)
+write_refused o s i w v status.Usage told other served = absurd told
+write_refused o s i w v (status.File fault) told other served = absurd told
+write_refused o s i w v status.Outside told other served = absurd (served refl)
+write_refused o s i w v (status.Text None line kind) told other served = inl (line, kind, refl)
+write_refused o s i w v (status.Text (Some number) line kind) told other served =
+    absurd (not_there_both IsSchemaText (λ text. IsSchemaText text → ⊥) (file w s) (λ text one no. no one) told.1 other)
+write_refused o s i w v status.Memory told other served = inr refl
 
 entries_ends : (n : List ℕ) (w v : World) (numbers : List ℕ) (answer : Status) → EntriesTold n w v answer → IsThereWith (λ bytes. IsPlainFile bytes numbers) (file w n) → (answer ≡ status.Outside → ⊥) → (answer ≡ status.Done) ⊎ (answer ≡ status.Memory)
 entries_ends n w v numbers status.Done told plain served = inl refl
@@ -133,6 +180,9 @@ run_write o s i old mid new answer writes reports = record {
   complete = λ w numbers is schema events served.
       let done = writes.told w is in
       write_ends o s i w done.0 numbers answer done.4 schema events (λ outside. served (subst (λ (n : ℕ). Rose old.faults n) (sym reports.faults) (writes.failed outside)));
+  refused = λ w is other served.
+      let done = writes.told w is in
+      write_refused o s i w done.0 answer done.4 other (λ outside. served (subst (λ (n : ℕ). Rose old.faults n) (sym reports.faults) (writes.failed outside)));
 }
 
 -- `entries`, and then its message
@@ -158,7 +208,7 @@ run_entries n old mid new answer lists reports = record {
 }
 
 -- no command, and then its message
-pub run_usage : (old mid new : HostState) (answer : Status) → answer ≡ status.Usage → mid ≡ old → Reports (message_of answer) mid new → RefusesWords old new answer
+pub run_usage : (old mid new : HostState) (answer : Status) → (answer ≡ status.Usage) ⊎ (answer ≡ status.Memory) → mid ≡ old → Reports (message_of answer) mid new → RefusesWords old new answer
 run_usage old mid new answer is same reports = record {
   answer_is = is;
   told = λ w told-is.

@@ -1,10 +1,47 @@
 -- What words say as a command.
-use Rattle.std.specs.Prelude.{ℕ, List}
+use Rattle.std.specs.Prelude.{◌≡◌, ℕ, List, [], true, false, is_some, Option, Some, None}
+use Rattle.std.specs.List.{All}
+use Rattle.clap.specs.Words.{App, app_of, rule_of, rows_of, found_of, first_value, args_of, groups_of, matches_of, IsParsedFrom, IsPlainArg}
+use Rattle.clap.specs.Built.{TakesValue}
+use Rattle.clap.specs.declared.builder.arg.Arg.{Arg}
+use Rattle.clap.specs.declared.builder.command.Command.{Command as ClapCommand}
+use Rattle.clap.specs.declared.builder.command.Command.TheViews.{out-Command as fields_of}
+use Rattle.clap.specs.declared.parser.matches.ArgMatches.{ArgMatches}
 use Rattle.nt_app.specs.declared.words.Command.{Command}
 use Rattle.nt_app.specs.declared.words.Command.TheVariants.{Write, Entries, Unknown}
-use Rattle.nt_app.specs.CommandLine.{IsWrite, IsEntries, IsNoCommand}
+use Rattle.nt_app.specs.CommandLine.{operand, bare, IsTaken, IsWrite, IsEntries, IsWrong}
 
 abbrev pub Says : List (List ℕ) → Command → Type 0
 Says words (Write out schema input) = IsWrite words out.now schema.now input.now
 Says words (Entries file) = IsEntries words file.now
-Says words Unknown = IsNoCommand words
+Says words Unknown = IsWrong words
+
+-- an operand of this name, as clap keeps it
+pub record IsOperand (id : List ℕ) (a : Arg) : Type 0 where
+  pub id_is : a.id.now ≡ id
+  pub rule : rule_of a ≡ operand id
+  pub plain : IsPlainArg a
+  pub local : a.global ≡ false
+  pub value : TakesValue a
+
+-- a command of this name without arguments, as clap keeps it
+pub record IsBare (name : List ℕ) (c : ClapCommand) : Type 0 where
+  pub app : app_of c ≡ bare name
+  pub args : args_of c ≡ []
+  pub groups : groups_of c ≡ []
+  pub globals : (fields_of c).has_globals ≡ false
+  pub negates : (fields_of c).subcommand_negates_reqs ≡ false
+
+-- something stands under this name
+abbrev pub IsThere : ArgMatches → List ℕ → Type 0
+IsThere m id = is_some (first_value (found_of m) id) ≡ true
+
+-- the command of an application, of which each parse finds something under each of these names
+pub record IsCommandOf (app : App) (ids : List (List ℕ)) (c : ClapCommand) : Type 0 where
+  pub app_is : app_of c ≡ app
+  pub there : (m : ArgMatches) → IsParsedFrom c m → All (IsThere m) ids
+
+-- clap takes the words, and these are its matches; or it doesn't
+abbrev pub Reads : App → List (List ℕ) → Option ArgMatches → Type 0
+Reads app words None = IsTaken app words → ⊥
+Reads app words (Some m) = IsTaken app words × (rows_of (found_of m) ≡ matches_of app words)

@@ -1,5 +1,5 @@
 -- What the program does to a host, whole: the command, and then its message on err.
-use Rattle.std.specs.Prelude.{◌≡◌, ◌⊎◌, ℕ, ◌≤◌, List, [], ◌∷◌, ◌++◌, length, take, Some}
+use Rattle.std.specs.Prelude.{◌≡◌, ◌⊎◌, ℕ, ◌≤◌, List, [], ◌∷◌, ◌++◌, length, take, Some, None}
 use Rattle.nt_num.specs.declared.fault.ReadError.{ReadError}
 use Rattle.nt_outside.specs.declared.stream.Stream.TheVariants.{ToErr}
 use Rattle.nt_outside.specs.Faults.{Rose}
@@ -11,6 +11,7 @@ use Rattle.nt_app.specs.Stops.{IsThereWith}
 use Rattle.nt_app.specs.Statuses.{message_of}
 use Rattle.nt_app.specs.Writes.{KeepsFiles, OthersStay, WriteTold, AsksAsDone}
 use Rattle.nt_app.specs.Entries.{IsNoPlainFile, EntriesTold}
+use Rattle.nt_app.specs.declared.status.TextFault.{TextFault}
 use Rattle.nt_app.specs.declared.status.Status.{Status}
 use Rattle.nt_app.specs.declared.status.Status.TheVariants as status
 
@@ -29,9 +30,9 @@ pub record Reports (message : List ℕ) (old new : HostState) : Type 0 where
 abbrev pub Served : HostState → HostState → Type 0
 Served old new = Rose old.faults new.faults → ⊥
 
--- the words were no command: nothing was asked for, no disk was made, and no file changed
+-- the words were no command, which is said unless memory runs out: nothing was asked for, no disk was made, and no file changed
 pub record RefusesWords (old new : HostState) (answer : Status) : Type 0 where
-  pub answer_is : answer ≡ status.Usage
+  pub answer_is : (answer ≡ status.Usage) ⊎ (answer ≡ status.Memory)
   pub told : (w : World) → old.world ≡ Some w → (w' : World) × (new.world ≡ Some w') × KeepsFiles w w' × (w'.out ≡ w.out) × SaysOnErr (message_of answer) old new w w'
   pub asked : new.asked ≡ old.asked
   pub faults : new.faults ≡ old.faults
@@ -46,6 +47,8 @@ pub record RunsWrite (out schema input : List ℕ) (old new : HostState) (answer
   pub failed : answer ≡ status.Outside → Rose old.faults new.faults
   -- where both texts are of the right form and the outside serves, the file is whole unless memory runs out
   pub complete : (w : World) (numbers : List ℕ) → old.world ≡ Some w → IsThereWith IsSchemaText (file w schema) → IsThereWith (λ text. IsEventText text numbers) (file w input) → Served old new → (answer ≡ status.Done) ⊎ (answer ≡ status.Memory)
+  -- and any other SCHEMA has its fault named
+  pub refused : (w : World) → old.world ≡ Some w → IsThereWith (λ text. IsSchemaText text → ⊥) (file w schema) → Served old new → ((line : ℕ) × (kind : TextFault) × (answer ≡ status.Text None line kind)) ⊎ (answer ≡ status.Memory)
 
 -- the words were `entries FILE`
 pub record RunsEntries (name : List ℕ) (old new : HostState) (answer : Status) : Type 0 where

@@ -5,7 +5,9 @@ use Rattle.nt_num.specs.declared.fault.ReadError.{ReadError}
 use Rattle.nt_app.specs.declared.status.Status.{Status}
 use Rattle.nt_app.specs.declared.status.Status.TheVariants as status
 use Rattle.nt_app.specs.declared.status.TextFault.{TextFault}
-use Rattle.nt_app.specs.declared.status.TextFault.TheVariants.{NotYet}
+use Rattle.nt_app.specs.declared.status.TextFault.TheVariants.{NotYet, Schema}
+use Rattle.nt_types.specs.declared.fault.SchemaKind.{SchemaKind}
+use Rattle.nt_types.specs.declared.fault.SchemaKind.TheVariants.{TooLong, BadName, Repeated, BadType, TooDeep, TooMany, Empty}
 
 abbrev pub code_of : Status → ℕ
 code_of status.Done = 0
@@ -15,9 +17,20 @@ code_of status.Outside = 4
 code_of (status.Text input line kind) = 6
 code_of status.Memory = 7
 
+-- the name of a schema text's fault
+abbrev pub schema_fault_name : SchemaKind → List ℕ
+schema_fault_name TooLong = codes "TooLong"
+schema_fault_name BadName = codes "BadName"
+schema_fault_name Repeated = codes "Repeated"
+schema_fault_name BadType = codes "BadType"
+schema_fault_name TooDeep = codes "TooDeep"
+schema_fault_name TooMany = codes "TooMany"
+schema_fault_name Empty = codes "Empty"
+
 -- the name of a text's fault
 abbrev pub fault_name : TextFault → List ℕ
 fault_name NotYet = codes "NotYet"
+fault_name (Schema kind) = schema_fault_name kind
 
 -- the first fault of a file
 abbrev pub file_message : ReadError → List ℕ

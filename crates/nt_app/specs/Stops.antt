@@ -6,8 +6,11 @@ use Rattle.nt_outside.specs.declared.fault.Refused.{Refused}
 use Rattle.nt_outside.specs.declared.fault.Refused.TheVariants as refused
 use Rattle.nt_app.specs.declared.status.Status.{Status}
 use Rattle.nt_app.specs.declared.status.Status.TheVariants as status
-use Rattle.nt_app.specs.declared.status.TextFault.TheVariants.{NotYet}
-use Rattle.nt_app.specs.Schemas.{IsSchemaText}
+use Rattle.nt_app.specs.declared.status.TextFault.{TextFault}
+use Rattle.nt_app.specs.declared.status.TextFault.TheVariants.{NotYet, Schema}
+use Rattle.nt_types.specs.declared.fault.SchemaError.{SchemaError}
+use Rattle.nt_types.specs.declared.fault.SchemaError.TheVariants as schema
+use Rattle.nt_app.specs.Schemas.{IsSchemaText, IsNoSchemaBy}
 use Rattle.nt_app.specs.Events.{IsEventText}
 use Rattle.nt_app.specs.declared.stop.Stop.{Stop}
 use Rattle.nt_app.specs.declared.stop.Stop.TheVariants as stop
@@ -31,21 +34,33 @@ abbrev pub IsThereWith : (List ℕ → Type 0) → Option (List ℕ) → Type 0
 IsThereWith P None = ⊥
 IsThereWith P (Some text) = P text
 
--- the text is a schema of the one field, or it isn't
+-- the text is a schema of the one field, or why it isn't
 abbrev pub TellsSchema : Option (List ℕ) → Result Unit Stop → Type 0
 TellsSchema text (Ok value) = IsThereWith IsSchemaText text
-TellsSchema text (Err stop.NotYet) = IsThereWith (λ t. IsSchemaText t → ⊥) text
+TellsSchema text (Err (stop.Text line kind)) = IsThereWith (IsNoSchemaBy line kind) text
 TellsSchema text (Err stop.Outside) = Unit {0}
 TellsSchema text (Err stop.Memory) = Unit {0}
+
+-- the same of the text's bytes, where the outside can't fail
+abbrev pub TellsFields : List ℕ → Result Unit Stop → Type 0
+TellsFields text (Ok value) = IsSchemaText text
+TellsFields text (Err (stop.Text line kind)) = IsNoSchemaBy line kind text
+TellsFields text (Err stop.Outside) = ⊥
+TellsFields text (Err stop.Memory) = Unit {0}
 
 -- no list of numbers has this text
 abbrev pub IsNoEventText : List ℕ → Type 0
 IsNoEventText text = (numbers : List ℕ) → IsEventText text numbers → ⊥
 
--- the text is the events of these numbers, or of none
+-- why a text is refused as the input: it is of no form that is read so far
+abbrev pub IsNoInputBy : ℕ → TextFault → List ℕ → Type 0
+IsNoInputBy line NotYet text = (line ≡ 0) × IsNoEventText text
+IsNoInputBy line (Schema kind) text = ⊥
+
+-- the text is the events of these numbers, or why it isn't
 abbrev pub TellsEvents : Option (List ℕ) → Result (List ℕ) Stop → Type 0
 TellsEvents text (Ok numbers) = IsThereWith (λ t. IsEventText t numbers) text
-TellsEvents text (Err stop.NotYet) = IsThereWith IsNoEventText text
+TellsEvents text (Err (stop.Text line kind)) = IsThereWith (IsNoInputBy line kind) text
 TellsEvents text (Err stop.Outside) = Unit {0}
 TellsEvents text (Err stop.Memory) = Unit {0}
 
@@ -54,8 +69,13 @@ abbrev pub stop_of : Refused → Stop
 stop_of refused.Failed = stop.Outside
 stop_of refused.Memory = stop.Memory
 
+-- a schema text without fields as an early end
+abbrev pub stop_of_schema : SchemaError → Stop
+stop_of_schema (schema.Fault fault) = stop.Text fault.line (Schema fault.kind)
+stop_of_schema schema.Memory = stop.Memory
+
 -- the answer of an early end, by the text that was read
 abbrev pub status_of : Option ℕ → Stop → Status
 status_of input stop.Outside = status.Outside
-status_of input stop.NotYet = status.Text input 0 NotYet
+status_of input (stop.Text line kind) = status.Text input line kind
 status_of input stop.Memory = status.Memory

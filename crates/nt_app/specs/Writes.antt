@@ -6,14 +6,15 @@ use Rattle.nt_outside.specs.Log.{FailedAppend}
 use Rattle.nt_outside.specs.Disk.{Held}
 use Rattle.nt_outside.specs.World.{World, Stored, Asked, Text, Out, HostState, stored, file, prints}
 use Rattle.nt_app.specs.PlainFile.{plain_file}
-use Rattle.nt_app.specs.Schemas.{IsSchemaText}
+use Rattle.nt_app.specs.Schemas.{IsSchemaText, IsNoSchemaBy}
 use Rattle.nt_app.specs.Events.{IsEventText}
 use Rattle.nt_app.specs.Writing.{IsUnfinished, NeverBegan}
 use Rattle.nt_app.specs.declared.stop.Stop.{Stop}
 use Rattle.nt_app.specs.declared.stop.Stop.TheVariants as stop
+use Rattle.nt_app.specs.declared.status.TextFault.{TextFault}
 use Rattle.nt_app.specs.declared.status.Status.{Status}
 use Rattle.nt_app.specs.declared.status.Status.TheVariants as status
-use Rattle.nt_app.specs.Stops.{AsksFirst, IsThereWith, IsNoEventText}
+use Rattle.nt_app.specs.Stops.{AsksFirst, IsThereWith, IsNoInputBy}
 
 -- the line that tells the commit order of the one cluster
 abbrev pub order_line : List ℕ
@@ -40,7 +41,7 @@ EndsOpen w world held = HoldsNow held (λ h. IsUnfinished h.image) × PrintsOrde
 abbrev pub NumbersTold : List ℕ → World → Option World → Option Held → Result Unit Stop → Type 0
 NumbersTold numbers w world held (Ok value) = EndsWhole numbers w world held
 NumbersTold numbers w world held (Err stop.Outside) = EndsOpen w world held ⊎ EndsWhole numbers w world held
-NumbersTold numbers w world held (Err stop.NotYet) = ⊥
+NumbersTold numbers w world held (Err (stop.Text line kind)) = ⊥
 NumbersTold numbers w world held (Err stop.Memory) = EndsOpen w world held
 
 -- the whole file of a text's numbers stands there
@@ -52,8 +53,8 @@ abbrev pub FileTold : List ℕ → World → Option World → Option Held → Re
 FileTold text w world held (Ok value) = EndsWithText text w world held
 FileTold text w world held (Err stop.Outside) =
     (EndsOpen w world held ⊎ (HoldsNow held NeverBegan × (world ≡ Some w))) ⊎ EndsWithText text w world held
-FileTold text w world held (Err stop.NotYet) =
-    IsNoEventText text × HoldsNow held (λ h. IsUnfinished h.image) × (world ≡ Some w)
+FileTold text w world held (Err (stop.Text line kind)) =
+    IsNoInputBy line kind text × HoldsNow held (λ h. IsUnfinished h.image) × (world ≡ Some w)
 FileTold text w world held (Err stop.Memory) = EndsOpen w world held
 
 -- every file but one stays
@@ -105,17 +106,18 @@ abbrev pub OutTold : List ℕ → List ℕ → World → World → Result Unit S
 OutTold out input w w' (Ok value) = WritesWhole out input w w'
 OutTold out input w w' (Err stop.Outside) =
     (IsLeftByFailure out w w' × GainsOrderFront w w') ⊎ WritesWhole out input w w'
-OutTold out input w w' (Err stop.NotYet) =
-    IsThereWith IsNoEventText (file w input) × LeavesOpen out w w' × (w'.out ≡ w.out)
+OutTold out input w w' (Err (stop.Text line kind)) =
+    IsThereWith (IsNoInputBy line kind) (file w input) × LeavesOpen out w w' × (w'.out ≡ w.out)
 OutTold out input w w' (Err stop.Memory) = IsLeftByMemory out w w' × GainsOrderFront w w'
 
--- the same for the whole command
-abbrev pub TextTold : List ℕ → List ℕ → List ℕ → World → World → Option ℕ → Type 0
-TextTold out schema input w w' None =
-    IsThereWith (λ text. IsSchemaText text → ⊥) (file w schema) × KeepsFiles w w' × (w'.out ≡ w.out)
-TextTold out schema input w w' (Some number) =
-    (number ≡ 0) × IsThereWith IsSchemaText (file w schema) × IsThereWith IsNoEventText (file w input) × LeavesOpen out w w' × (w'.out ≡ w.out)
+-- what a fault of the schema or of the input leaves
+abbrev pub TextTold : List ℕ → List ℕ → List ℕ → World → World → Option ℕ → ℕ → TextFault → Type 0
+TextTold out schema input w w' None line kind =
+    IsThereWith (IsNoSchemaBy line kind) (file w schema) × KeepsFiles w w' × (w'.out ≡ w.out)
+TextTold out schema input w w' (Some number) line kind =
+    (number ≡ 0) × IsThereWith IsSchemaText (file w schema) × IsThereWith (IsNoInputBy line kind) (file w input) × LeavesOpen out w w' × (w'.out ≡ w.out)
 
+-- what the whole command leaves
 abbrev pub WriteTold : List ℕ → List ℕ → List ℕ → World → World → Status → Type 0
 WriteTold out schema input w w' status.Done =
     IsThereWith IsSchemaText (file w schema) × WritesWhole out input w w'
@@ -124,8 +126,7 @@ WriteTold out schema input w w' (status.File fault) = ⊥
 WriteTold out schema input w w' status.Outside =
     (IsLeftByFailure out w w' × GainsOrderFront w w')
     ⊎ (IsThereWith IsSchemaText (file w schema) × WritesWhole out input w w')
-WriteTold out schema input w w' (status.Text number line kind) =
-    (line ≡ 0) × TextTold out schema input w w' number
+WriteTold out schema input w w' (status.Text number line kind) = TextTold out schema input w w' number line kind
 WriteTold out schema input w w' status.Memory = IsLeftByMemory out w w' × GainsOrderFront w w'
 
 -- what a command asks for: all of it where it is done, and else the first of it; a command never says that the words are none

@@ -47,5 +47,5 @@ BeginsWithZero image = (rest : List ℕ) × (image ≡ 0 ∷ rest)
 -- what an early end leaves of a file that wasn't there: only after a failure it may be one of which nothing is known
 abbrev pub LeftBy : Stop → Held → Type 0
 LeftBy stop.Outside h = IsUnfinished h.image ⊎ NeverBegan h
-LeftBy stop.NotYet h = IsUnfinished h.image
+LeftBy (stop.Text line kind) h = IsUnfinished h.image
 LeftBy stop.Memory h = IsUnfinished h.image

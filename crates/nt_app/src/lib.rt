@@ -18,6 +18,7 @@ mod writing;
 pub use format::{has_chain, has_length, has_one_list, has_pieces, has_pointers};
 pub use program::run;
 pub use status::{Status, TextFault};
+pub use words::wrong_words_are_no_command;
 
 #[cfg(test)]
 mod tests;

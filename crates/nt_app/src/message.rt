@@ -2,12 +2,13 @@
 
 ghost use Rattle.std.specs.Prelude.{◌≡◌, ◌+◌, ◌≤◌, ◌<◌, ◌++◌, length, decimal};
 ghost use Rattle.arrayvec.specs.ArrayString.{array_string_len};
-ghost use Rattle.nt_app.specs.Statuses.{message_of, file_message, text_name, text_message, fault_name};
+ghost use Rattle.nt_app.specs.Statuses.{message_of, file_message, text_name, text_message, fault_name, schema_fault_name};
 
 use crate::status::{Status, TextFault};
 use arrayvec::ArrayString;
 use itoa::Buffer;
 use nt_num::ReadError;
+use nt_types::SchemaKind;
 
 /// The most bytes of a line.
 const MOST: usize = 96;
@@ -85,6 +86,23 @@ fn fault_name(kind: TextFault) -> &'static str
 {
     match kind {
         TextFault::NotYet => "NotYet",
+        TextFault::Schema(kind) => schema_fault_name(kind),
+    }
+}
+
+/// The name of a schema text's fault.
+fn schema_fault_name(kind: SchemaKind) -> &'static str
+    ensures name { result.now ≡ schema_fault_name kind }
+    ensures len { length result.now ≤ 10 }
+{
+    match kind {
+        SchemaKind::TooLong => "TooLong",
+        SchemaKind::BadName => "BadName",
+        SchemaKind::Repeated => "Repeated",
+        SchemaKind::BadType => "BadType",
+        SchemaKind::TooDeep => "TooDeep",
+        SchemaKind::TooMany => "TooMany",
+        SchemaKind::Empty => "Empty",
     }
 }
 

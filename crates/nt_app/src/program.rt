@@ -1,8 +1,8 @@
 //! The top call.
 
-ghost use Rattle.std.specs.Prelude.{◌≡◌, List, ℕ};
+ghost use Rattle.std.specs.Prelude.{◌≡◌, ◌⊎◌, List, ℕ};
 ghost use Rattle.nt_app.specs.declared.status.Status.TheVariants as status;
-ghost use Rattle.nt_app.specs.CommandLine.{texts, IsWrite, IsEntries, IsNoCommand};
+ghost use Rattle.nt_app.specs.CommandLine.{texts, IsWrite, IsEntries, IsNoCommand, IsWrong};
 ghost use Rattle.nt_app.specs.Statuses.{message_of};
 ghost use Rattle.nt_app.specs.Writes.{Writes};
 ghost use Rattle.nt_app.specs.Entries.{Lists};
@@ -28,10 +28,13 @@ fn report<H: Host>(host: &mut H, status: &Status)
 fn obey<H: Host, G: Gate>(alloc: Global, words: &[String], host: &mut H, gate: &G) -> Status
     ensures write { (out schema input : List ℕ) → IsWrite (texts words.now) out schema input → Writes out schema input (H.state host.old) (H.state host.new) result }
     ensures entries { (name : List ℕ) → IsEntries (texts words.now) name → Lists name (H.state host.old) (H.state host.new) result }
-    ensures usage { IsNoCommand (texts words.now) → (result ≡ status.Usage) × (H.state host.new ≡ H.state host.old) }
-    ensures usage_only { result ≡ status.Usage → IsNoCommand (texts words.now) }
+    ensures usage { IsNoCommand (texts words.now) → ((result ≡ status.Usage) ⊎ (result ≡ status.Memory)) × (H.state host.new ≡ H.state host.old) }
+    ensures usage_only { result ≡ status.Usage → IsWrong (texts words.now) }
 {
-    match command_of(words) {
+    let Ok(command) = command_of(alloc, words) else {
+        return Status::Memory;
+    };
+    match command {
         Command::Write { out, schema, input } => write(alloc, host, out, schema, input, gate),
         Command::Entries { file } => entries(alloc, host, file),
         Command::Unknown => Status::Usage,
@@ -40,7 +43,8 @@ fn obey<H: Host, G: Gate>(alloc: Global, words: &[String], host: &mut H, gate: &
 
 /// Does what the words after the program's name say, over a host, and answers how that ended.
 ///
-/// Commands are `write OUT SCHEMA IN`, where OUT is another name than the two that are read, and `entries FILE`.
+/// Commands are `write OUT SCHEMA IN`, where OUT is another name than the two that are read, and `entries FILE`; clap reads
+/// the words after the first.
 /// `rt` is the runtime of those commands that will wait, and `gate` is told the steps of a cluster.
 pub fn run<R, H: Host, G: Gate>(
     _rt: &R,
@@ -52,7 +56,7 @@ pub fn run<R, H: Host, G: Gate>(
     ensures write { (out schema input : List ℕ) → IsWrite (texts words.items) out schema input → RunsWrite out schema input (H.state host.old) (H.state host.new) result }
     ensures entries { (name : List ℕ) → IsEntries (texts words.items) name → RunsEntries name (H.state host.old) (H.state host.new) result }
     ensures usage { IsNoCommand (texts words.items) → RefusesWords (H.state host.old) (H.state host.new) result }
-    ensures usage_only { result ≡ status.Usage → IsNoCommand (texts words.items) }
+    ensures usage_only { result ≡ status.Usage → IsWrong (texts words.items) }
 {
     let status = obey(alloc, &words, host, gate);
     report(host, &status);

@@ -3,12 +3,15 @@
 ghost use Rattle.std.specs.Prelude.{◌≡◌};
 
 use nt_num::ReadError;
+use nt_types::SchemaKind;
 
 /// What is wrong with a text.
 #[derive(Clone, Copy, Debug, PartialEq, Eq)]
 pub enum TextFault {
-    /// It isn't of the form that is read so far.
+    /// It isn't of the form that is written so far.
     NotYet,
+    /// It is no schema text.
+    Schema(SchemaKind),
 }
 
 /// How a command ended.

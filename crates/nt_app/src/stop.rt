@@ -5,6 +5,7 @@ ghost use Rattle.nt_app.specs.declared.stop.Stop.TheVariants.{Outside, Memory};
 
 use crate::status::{Status, TextFault};
 use nt_outside::{Failed, Refused};
+use nt_types::SchemaError;
 use std::alloc::AllocError;
 
 /// Why a step ended early.
@@ -12,8 +13,8 @@ use std::alloc::AllocError;
 pub enum Stop {
     /// The outside failed.
     Outside,
-    /// The text that the step reads isn't of the form that is read so far.
-    NotYet,
+    /// The text that the step reads has this first fault.
+    Text { line: u64, kind: TextFault },
     /// Memory ran out.
     Memory,
 }
@@ -47,6 +48,22 @@ impl From<AllocError> for Stop {
     }
 }
 
+impl From<SchemaError> for Stop {
+    ghost use Rattle.nt_app.specs.Stops.{stop_of_schema};
+
+    ghost from_gives = { λ error stop. stop ≡ stop_of_schema error };
+
+    fn from(error: SchemaError) -> Self {
+        match error {
+            SchemaError::Fault(fault) => Stop::Text {
+                line: fault.line,
+                kind: TextFault::Schema(fault.kind),
+            },
+            SchemaError::Memory => Stop::Memory,
+        }
+    }
+}
+
 impl Stop {
     ghost use Rattle.nt_app.specs.Stops.{status_of};
 
@@ -56,11 +73,7 @@ impl Stop {
     {
         match self {
             Stop::Outside => Status::Outside,
-            Stop::NotYet => Status::Text {
-                input,
-                line: 0,
-                kind: TextFault::NotYet,
-            },
+            Stop::Text { line, kind } => Status::Text { input, line, kind },
             Stop::Memory => Status::Memory,
         }
     }

@@ -1,28 +1,62 @@
-//! The texts of `write`: a schema of the one field x, and the lines of its events.
+//! The texts of `write`: the schema, so far of the one field x, and the lines of its events.
 
 ghost use Rattle.std.specs.Prelude.{◌≡◌, ◌↔◌, ◌≤◌, ◌<◌, ℕ, List, [], ◌∷◌, ◌++◌, Some, length, vec_len, IsTrue, IfOk, OnOk};
 ghost use Rattle.std.specs.Result.{result_map_both};
 ghost use Rattle.nt_outside.specs.World.{World, Text as asked_text, file};
-ghost use Rattle.nt_app.specs.Schemas.{IsSchemaText};
+ghost use Rattle.nt_types.specs.Views.{member_view, members_view};
+ghost use Rattle.nt_app.specs.Schemas.{x_of_u64};
 ghost use Rattle.nt_app.specs.Events.{IsEventText};
-ghost use Rattle.nt_app.specs.Stops.{AsksFor, StopsWithCause, TellsSchema, TellsEvents};
+ghost use Rattle.nt_app.specs.Stops.{AsksFor, StopsWithCause, TellsSchema, TellsFields, TellsEvents};
 
 use crate::events::read_events;
+use crate::status::TextFault;
 use crate::stop::Stop;
 use nt_outside::{Host, Source, read_front};
+use nt_types::{Fields, Member, Shape, parse_schema};
 use std::alloc::Global;
 
-/// The most bytes of a schema text so far: one field and the end of its line.
-const MOST_OF_SCHEMA: usize = 6;
+/// The most bytes of a schema text.
+const MOST_OF_SCHEMA: usize = 1 << 20;
 
 /// The most bytes of an event text so far: 30 lines of a number of 20 digits between brackets.
 const MOST_OF_EVENTS: usize = 690;
 
-/// Whether a text is a schema of the one field x.
-fn is_schema(text: &[u8]) -> bool
-    ensures { IsTrue result ↔ IsSchemaText text.now }
+/// Whether a field is x of std::uint64_t.
+fn is_x_of_u64(field: &Member) -> bool
+    ensures { IsTrue result ↔ (member_view field.now ≡ x_of_u64) }
 {
-    text == b"x u64".as_slice() || text == b"x u64\n".as_slice()
+    match field.of {
+        Shape::Int {
+            bits: 64,
+            signed: false,
+        } => field.name.as_slice() == b"x".as_slice(),
+        _ => false,
+    }
+}
+
+/// Whether these are that field alone.
+fn is_one_field(fields: &Fields) -> bool
+    ensures { IsTrue result ↔ (members_view fields.now ≡ x_of_u64 ∷ []) }
+{
+    match fields.as_slice() {
+        [field] => is_x_of_u64(field),
+        _ => false,
+    }
+}
+
+/// Reads the fields of a schema text.
+fn check_fields(alloc: Global, text: &[u8]) -> Result<(), Stop>
+    ensures { TellsFields text.now result }
+{
+    let fields = parse_schema(alloc, text)?;
+    if is_one_field(&fields) {
+        Ok(())
+    } else {
+        Err(Stop::Text {
+            line: 0,
+            kind: TextFault::NotYet,
+        })
+    }
 }
 
 /// Reads the schema of this name.
@@ -36,11 +70,8 @@ pub fn check_schema<H: Host>(alloc: Global, host: &mut H, name: &str) -> Result<
     let mut text = host.open_text(name)?;
     let read = read_front(alloc, &mut text, MOST_OF_SCHEMA);
     host.put_text(text);
-    if is_schema(&read?) {
-        Ok(())
-    } else {
-        Err(Stop::NotYet)
-    }
+    let bytes = read?;
+    check_fields(alloc, &bytes)
 }
 
 /// Reads the numbers of an event text.
@@ -53,6 +84,9 @@ pub fn read_input<S: Source>(alloc: Global, text: &mut S) -> Result<Vec<u64>, St
     let bytes = read_front(alloc, text, MOST_OF_EVENTS)?;
     match read_events(alloc, bytes)? {
         Some(numbers) => Ok(numbers),
-        None => Err(Stop::NotYet),
+        None => Err(Stop::Text {
+            line: 0,
+            kind: TextFault::NotYet,
+        }),
     }
 }

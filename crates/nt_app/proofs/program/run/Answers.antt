@@ -1,5 +1,5 @@
 use Rattle.std.proofs.Common.{subst, sym}
-use Rattle.nt_app.specs.CommandLine.{texts, IsWrite, IsEntries, IsNoCommand}
+use Rattle.nt_app.specs.CommandLine.{texts, IsWrite, IsEntries, IsNoCommand, IsWrong}
 use Rattle.nt_app.proofs.Running.{run_write, run_entries, run_usage}
 use Rattle.nt_app.proofs.program.run.Goals as goal
 
@@ -18,4 +18,4 @@ returns-clause-usage g c = λ none.
 
 pub returns-clause-usage_only : goal.returns-clause-usage_only
 returns-clause-usage_only g c = λ usage.
-    subst (λ l. IsNoCommand (texts l)) c.deref.ensures.value (c.obey-status.ensures.usage_only usage)
+    subst (λ l. IsWrong (texts l)) c.deref.ensures.value (c.obey-status.ensures.usage_only usage)

@@ -1,14 +1,9 @@
-use Rattle.std.proofs.Common.{subst, sym}
-use Rattle.nt_app.specs.Schemas.{IsSchemaText}
-use Rattle.nt_app.proofs.Fronts.{schema_is_there, schema_is_not_there}
+use Rattle.std.proofs.Common.{subst, ℕ, List}
+use Rattle.nt_app.specs.Stops.{TellsFields}
+use Rattle.nt_app.proofs.Fronts.{schema_is_told}
 use Rattle.nt_app.proofs.texts.check_schema.Goals as goal
 
-pub returns-then-is_schema-clause-told : goal.returns-then-is_schema-clause-told
-returns-then-is_schema-clause-told g c w is =
+pub returns-clause-told : goal.returns-clause-told
+returns-clause-told g c w is =
     let opened = c.in_ok-text.ensures.text.left w is in
-    schema_is_there _ _ c.in_ok-read.field-0.items opened.0 opened.1 c.in_ok-read.ensures.front (subst IsSchemaText c.deref.ensures.value (c.is_schema.ensures.0 c.if-is_schema.true))
-
-pub returns-else-is_schema-clause-told : goal.returns-else-is_schema-clause-told
-returns-else-is_schema-clause-told g c w is =
-    let opened = c.in_ok-text.ensures.text.left w is in
-    schema_is_not_there _ _ c.in_ok-read.field-0.items opened.0 opened.1 c.in_ok-read.ensures.front (λ schema. let yes = c.if-is_schema.ensures.1 (subst IsSchemaText (sym c.deref.ensures.value) schema) in cc)
+    schema_is_told _ _ c.in_ok-bytes.bytes.items _ opened.0 opened.1 c.in_ok-bytes.ensures.front (subst (λ (l : List ℕ). TellsFields l c.check_fields.result) c.deref.ensures.value c.check_fields.ensures)
