@@ -1,0 +1,36 @@
+//! How large a file and its parts may get.
+
+ghost use Rattle.std.specs.Prelude.{◌≡◌, ◌≤◌, ◌^◌, ◌↔◌, IsSome, IfSome};
+
+/// How large a file and its parts may get. The largest limits are 2^30 for a range and 2^56 for
+/// a file.
+#[derive(Clone, Copy, Debug, PartialEq, Eq)]
+pub struct Limits {
+    /// The bytes of one range: a cluster, the header, the footer or a page list, each with its
+    /// key.
+    pub range: u64,
+    /// The bytes of the file.
+    pub file: u64,
+    /// The clusters of the file.
+    pub clusters: u32,
+    ghost range_bound: { range ≤ 2 ^ 30 },
+    ghost file_bound: { file ≤ 2 ^ 56 },
+}
+
+impl Limits {
+    /// These limits, or none where a number is too large.
+    pub fn new(range: u64, file: u64, clusters: u32) -> Option<Limits>
+        ensures some { IfSome result (λ limits. (limits.range ≡ range) × (limits.file ≡ file) × (limits.clusters ≡ clusters)) }
+        ensures exact { IsSome result ↔ ((range ≤ 2 ^ 30) × (file ≤ 2 ^ 56)) }
+    {
+        if range <= 1 << 30 && file <= 1 << 56 {
+            Some(Limits {
+                range,
+                file,
+                clusters,
+            })
+        } else {
+            None
+        }
+    }
+}
