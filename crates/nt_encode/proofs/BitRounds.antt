@@ -1,14 +1,14 @@
 -- Bits of a byte.
-use Rattle.std.proofs.Common.{◌≡◌, ℕ, zero, suc, ◌+◌, ◌-◌, ◌*◌, ◌/◌, ◌%◌, ◌^◌, ◌<◌, ◌≤◌, List, length, get_or, refl, sym, ◌∙◌, ap, arith, ◌⊎◌, inl, inr}
+use Rattle.std.proofs.Common.{◌≡◌, ℕ, zero, suc, ◌+◌, ◌-◌, ◌*◌, ◌/◌, ◌%◌, ◌^◌, ◌<◌, List, length, get_or, refl, sym, ◌∙◌, ap, arith, inl, inr}
 use Rattle.std.proofs.lemmas.Bool.{cases_lt}
 use Rattle.std.proofs.lemmas.List.{get_or_past}
 use Rattle.std.proofs.lemmas.Nat.{pow-add, pow_pos}
 use Rattle.std.proofs.Math.Nat.{one-mul, add-mul-div_right, add-mul-mod_self_right, mod-eq_of_lt, div-eq_of_lt, mul_assoc, mul_comm}
-use Rattle.nt_encode.specs.Digits.{digit_of, number_of, list_of}
+use Rattle.nt_encode.specs.Digits.{number_of}
 use Rattle.nt_encode.specs.Bits.{bit_value, bit_byte, bit_bytes, bit_values}
 use Rattle.nt_encode.proofs.Digits.{number_of-lt, number_of-shifted}
 use Rattle.nt_encode.proofs.Powers.{digit-lt, shifted-is}
-use Rattle.nt_encode.proofs.Lists.{get_or-list_of, list_of_filled, Filled}
+use Rattle.nt_encode.proofs.Lists.{get_or-list_of, list_of_filled}
 
 turned : (top a b : ℕ) → top * (a * (2 * b)) ≡ (top * b * 2) * a
 turned top a b =

@@ -1,12 +1,11 @@
 -- Indices as sums of the words of their page.
-use Rattle.std.proofs.Common.{◌≡◌, ℕ, zero, suc, ◌+◌, ◌-◌, ◌*◌, ◌%◌, ◌^◌, ◌<◌, ◌≤◌, List, length, get_or, take, refl, sym, ◌∙◌, ap, arith, add-one, zero-add}
+use Rattle.std.proofs.Common.{◌≡◌, ℕ, zero, suc, ◌+◌, ◌-◌, ◌%◌, ◌^◌, ◌<◌, List, length, get_or, take, refl, sym, ◌∙◌, arith, add-one, zero-add}
 use Rattle.std.specs.List.{sum}
 use Rattle.std.proofs.lemmas.List.Sums.{sum_by_more}
 use Rattle.std.proofs.lemmas.Nat.{pow_pos}
 use Rattle.std.proofs.Math.Nat.{mod-add-mod, add-mod-mod, add-mod_right, mod-eq_of_lt, mod-lt}
-use Rattle.nt_encode.specs.Digits.{list_of}
 use Rattle.nt_encode.specs.Delta.{delta_value, delta_word, delta_words, delta_values}
-use Rattle.nt_encode.proofs.Lists.{get_or-list_of, length-list_of, list_of_filled, Filled}
+use Rattle.nt_encode.proofs.Lists.{get_or-list_of, length-list_of, list_of_filled}
 
 -- one word more
 pub sum-more : (words : List ℕ) (i : ℕ) → i < length words → sum (take (i + 1) words) ≡ sum (take i words) + get_or words i 0

@@ -1,15 +1,15 @@
 -- Pages of each coding go there and back.
-use Rattle.std.proofs.Common.{◌≡◌, ℕ, ◌+◌, ◌-◌, ◌*◌, ◌/◌, ◌%◌, ◌^◌, ◌<◌, ◌≤◌, List, length, map, get_or, refl, sym, ◌∙◌, ap, arith}
+use Rattle.std.proofs.Common.{◌≡◌, ℕ, ◌+◌, ◌*◌, ◌^◌, ◌<◌, List, length, get_or, refl, sym, ◌∙◌, ap, arith}
 use Rattle.std.proofs.lemmas.List.{length-map, get_or-map, ext_get_or}
 use Rattle.std.proofs.lemmas.Nat.{mul-add-lt}
 use Rattle.std.proofs.Math.Nat.{mod-eq_of_lt}
-use Rattle.nt_encode.specs.Digits.{digit_of, number_of, list_of}
+use Rattle.nt_encode.specs.Digits.{digit_of, number_of}
 use Rattle.nt_encode.specs.Plain.{plain_value, plain_byte, plain_values, plain_bytes}
 use Rattle.nt_encode.specs.Split.{split_value, split_byte, split_values, split_bytes}
 use Rattle.nt_encode.specs.Zigzag.{zigzag_value, zigzag_word, zigzag_values, zigzag_words}
 use Rattle.nt_encode.specs.Delta.{delta_word, delta_words, delta_values}
 use Rattle.nt_encode.proofs.Digits.{number_of-same, number_of-digits}
-use Rattle.nt_encode.proofs.Lists.{get_or-list_of, length-list_of, list_of_filled, Filled}
+use Rattle.nt_encode.proofs.Lists.{get_or-list_of, length-list_of, list_of_filled}
 use Rattle.nt_encode.proofs.Rows.{plain_byte-at, split_byte-at, row-within}
 use Rattle.nt_encode.proofs.Deltas.{delta-round, delta_word-lt}
 use Rattle.nt_encode.proofs.Zigzags.{zigzag-round, zigzag_word-lt}

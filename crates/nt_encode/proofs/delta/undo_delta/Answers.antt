@@ -1,4 +1,4 @@
-use Rattle.std.proofs.Common.{◌≡◌, ◌≢◌, ◌+◌, ◌*◌, ◌%◌, ◌^◌, ◌<◌, ◌≤◌, ℕ, arith, sym, ◌∙◌, ap, length, get_or, get_or-set_other}
+use Rattle.std.proofs.Common.{◌≡◌, ◌≢◌, ◌+◌, ◌*◌, ◌%◌, ◌^◌, ◌<◌, ℕ, arith, ◌∙◌, ap, length, get_or, get_or-set_other}
 use Rattle.nt_encode.proofs.Lists.{list_of_whole, Filled-set}
 use Rattle.nt_encode.proofs.Deltas.{total-more}
 use Rattle.nt_encode.specs.Delta.{delta_value}

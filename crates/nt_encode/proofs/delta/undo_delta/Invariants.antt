@@ -1,5 +1,5 @@
 -- the indices stand in the places of the words so far, and the last of them is the total
-use Rattle.std.proofs.Common.{◌≡◌, ℕ, ◌*◌, ◌%◌, ◌^◌, ◌<◌, ◌≤◌, get_or, sum, take}
+use Rattle.std.proofs.Common.{◌≡◌, ℕ, ◌*◌, ◌%◌, ◌^◌, ◌≤◌, get_or, sum, take}
 use Rattle.nt_encode.specs.Delta.{delta_value}
 use Rattle.nt_encode.proofs.Lists.{Filled}
 use Rattle.nt_encode.proofs.delta.undo_delta.Given as goal

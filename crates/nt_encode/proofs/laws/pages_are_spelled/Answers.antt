@@ -1,4 +1,4 @@
-use Rattle.std.proofs.Common.{◌≡◌, ◌≢◌, ◌<◌, ◌^◌, ℕ, List, length, All, arith, refl, get_or}
+use Rattle.std.proofs.Common.{◌≡◌, ◌≢◌, ℕ, List, length, arith, refl}
 use Rattle.nt_types.specs.declared.column_type.ColumnType.{ColumnType}
 use Rattle.nt_types.specs.declared.column_type.ColumnType.TheVariants.{Bit, Byte, Char, Int8, UInt8, Int16, UInt16, Int32, UInt32, Int64, UInt64, Index32, Index64, Switch, SplitInt16, SplitUInt16, SplitInt32, SplitUInt32, SplitInt64, SplitUInt64, SplitIndex32, SplitIndex64}
 use Rattle.nt_encode.specs.Pages.{page_values, page_bytes, AllFit}

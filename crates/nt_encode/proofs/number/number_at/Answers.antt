@@ -1,4 +1,4 @@
-use Rattle.std.proofs.Common.{◌≡◌, ℕ, ◌+◌, ◌*◌, ◌<◌, ◌^◌, sym, arith, get_or}
+use Rattle.std.proofs.Common.{◌*◌, ◌<◌, sym, arith}
 use Rattle.nt_encode.proofs.Powers.{shifted-lt}
 use Rattle.nt_encode.proofs.Lists.{fits_byte}
 use Rattle.nt_encode.proofs.Digits.{number_of-none, number_of-shifted, shifted-below}

@@ -1,4 +1,4 @@
-use Rattle.std.proofs.Common.{◌≡◌, ◌+◌, ◌*◌, ◌≤◌, ℕ, arith, sym, length, ◌∙◌}
+use Rattle.std.proofs.Common.{◌*◌, ◌≤◌, arith, length, ◌∙◌}
 use Rattle.nt_encode.proofs.Lists.{list_of_whole, Filled-next}
 use Rattle.nt_encode.proofs.Rows.{plain_byte-at, rows-le}
 use Rattle.nt_encode.proofs.plain.put_plain.Goals as goal

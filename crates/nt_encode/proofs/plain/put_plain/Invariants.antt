@@ -1,5 +1,5 @@
 -- the bytes of the elements so far are written
-use Rattle.std.proofs.Common.{ℕ, ◌*◌}
+use Rattle.std.proofs.Common.{◌*◌}
 use Rattle.nt_encode.specs.Plain.{plain_byte}
 use Rattle.nt_encode.proofs.Lists.{Filled}
 use Rattle.nt_encode.proofs.plain.put_plain.Given as goal

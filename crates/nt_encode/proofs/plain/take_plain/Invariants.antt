@@ -1,5 +1,4 @@
 -- the elements so far are read
-use Rattle.std.proofs.Common.{ℕ}
 use Rattle.nt_encode.specs.Plain.{plain_value}
 use Rattle.nt_encode.proofs.Lists.{Filled}
 use Rattle.nt_encode.proofs.plain.take_plain.Given as goal

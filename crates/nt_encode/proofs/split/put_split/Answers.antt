@@ -1,4 +1,4 @@
-use Rattle.std.proofs.Common.{◌≡◌, ◌+◌, ◌*◌, ◌≤◌, ℕ, arith, sym, length, ◌∙◌, ap}
+use Rattle.std.proofs.Common.{◌≡◌, ◌*◌, ◌≤◌, ℕ, arith, sym, length, ◌∙◌, ap}
 use Rattle.std.proofs.Math.Nat.{mul-le-mul_right}
 use Rattle.nt_encode.proofs.Lists.{list_of_whole, Filled-next}
 use Rattle.nt_encode.proofs.Rows.{split_byte-at}

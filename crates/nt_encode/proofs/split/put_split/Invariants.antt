@@ -1,5 +1,5 @@
 -- the planes so far are written
-use Rattle.std.proofs.Common.{ℕ, ◌*◌, length}
+use Rattle.std.proofs.Common.{◌*◌, length}
 use Rattle.nt_encode.specs.Split.{split_byte}
 use Rattle.nt_encode.specs.Forms.{words_of}
 use Rattle.nt_encode.proofs.Lists.{Filled}

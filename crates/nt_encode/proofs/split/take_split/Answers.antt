@@ -1,8 +1,7 @@
-use Rattle.std.proofs.Common.{◌≡◌, ℕ, ◌+◌, ◌*◌, length, get_or, arith, refl}
+use Rattle.std.proofs.Common.{◌+◌, ◌*◌, length, get_or, arith}
 use Rattle.std.proofs.lemmas.Grind.{get_or_default_zero}
 use Rattle.nt_encode.proofs.Lists.{list_of_whole, fits_byte}
 use Rattle.nt_encode.proofs.Digits.{number_of-lt}
-use Rattle.nt_encode.specs.Split.{split_value}
 use Rattle.nt_encode.proofs.split.take_split.Goals as goal
 
 pub returns-clause-words : goal.returns-clause-words

@@ -1,5 +1,5 @@
 -- the elements so far are read
-use Rattle.std.proofs.Common.{ℕ, length}
+use Rattle.std.proofs.Common.{length}
 use Rattle.nt_encode.specs.Split.{split_value}
 use Rattle.nt_encode.proofs.Lists.{Filled}
 use Rattle.nt_encode.proofs.split.take_split.Given as goal

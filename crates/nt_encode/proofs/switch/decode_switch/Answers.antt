@@ -1,4 +1,4 @@
-use Rattle.std.proofs.Common.{◌≡◌, ◌<◌, ◌+◌, ◌*◌, ◌^◌, ℕ, arith, refl, ◌∙◌, get_or}
+use Rattle.std.proofs.Common.{◌<◌, ◌+◌, ◌*◌, ◌^◌, arith, refl, get_or}
 use Rattle.nt_encode.proofs.Lists.{list_of_whole, fits_byte}
 use Rattle.nt_encode.proofs.Digits.{number_of-lt}
 use Rattle.nt_encode.specs.Digits.{number_of}

@@ -1,4 +1,4 @@
-use Rattle.std.proofs.Common.{◌≡◌, ◌*◌, ◌∙◌, sym, length}
+use Rattle.std.proofs.Common.{◌*◌, ◌∙◌, sym, length}
 use Rattle.nt_encode.specs.Delta.{delta_word}
 use Rattle.nt_encode.proofs.Lists.{get_or-list_of}
 use Rattle.nt_encode.proofs.form.Form.word.Goals as goal
