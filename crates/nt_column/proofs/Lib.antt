@@ -1,0 +1,8 @@
+pub mod Numbers
+pub mod Zips
+pub mod Stores
+pub mod Buffers
+pub mod Groups
+pub mod Pages
+pub mod Sets
+pub mod Sizes

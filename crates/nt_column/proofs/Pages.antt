@@ -1,0 +1,99 @@
+-- Pages of elements.
+use Rattle.std.proofs.Common.{◌≡◌, ◌≢◌, ℕ, zero, suc, ◌-◌, ◌*◌, ◌/◌, ◌%◌, ◌^◌, ◌<◌, Bool, true, false, List, length, map, take, drop, get_or, replicate, refl, sym, ◌∙◌, ap, arith, Fits, w8}
+use Rattle.std.specs.Prelude.{nat_lt, if◌then◌else◌}
+use Rattle.std.specs.List.{slice_range}
+use Rattle.std.proofs.lemmas.List.{take-map, drop-map, length-replicate, ext_get_or}
+use Rattle.std.proofs.lemmas.List.FromFn.{get_or-map-range_with_len, length-map-range_with_len}
+use Rattle.std.proofs.Math.Facts.{Fits-lt-pow}
+use Rattle.std.proofs.Math.Nat.{div-one, mod-one, pow-zero, mod-eq_of_lt, one-mul, mul-zero, zero-div}
+use Rattle.nt_types.specs.declared.column_type.ColumnType.{ColumnType}
+use Rattle.nt_types.specs.declared.column_type.ColumnType.TheVariants.{Bit, Byte, Char, Int8, UInt8, Switch}
+use Rattle.nt_types.specs.ColumnTable.{bits_of}
+use Rattle.nt_encode.specs.Digits.{digit_of}
+use Rattle.nt_encode.specs.Plain.{plain_byte, plain_bytes}
+use Rattle.nt_encode.specs.Switch.{pair_byte, switch_byte, switch_bytes}
+use Rattle.nt_encode.specs.Pages.{page_bytes, page_size}
+use Rattle.nt_column.specs.Elements.{Element, plain, numbers, page_of}
+use Rattle.nt_column.specs.Bits.{bit_of}
+use Rattle.nt_column.proofs.Numbers.{numbers-range, numbers-plain, numbers-plain_list, numbers-replicate, tags-replicate}
+
+-- but for a Switch a page is that of the numbers
+pub page_of-numbers : (kind : ColumnType) (es : List Element) → kind ≢ Switch → page_of kind es ≡ page_bytes kind (numbers es)
+page_of-numbers Switch es other = absurd (other refl)
+page_of-numbers kind es other = refl
+
+-- only a Switch has 96 bits
+pub not_switch : (kind : ColumnType) (w : ℕ) → w ≡ bits_of kind → w ≢ 96 → kind ≢ Switch
+not_switch kind w is other same = other (is ∙ ap bits_of same)
+
+-- the page of a part of elements with these numbers
+page-part : (kind : ColumnType) (es : List Element) (a b : ℕ) (ns page : List ℕ) → kind ≢ Switch → numbers es ≡ ns
+    → page ≡ page_bytes kind (slice_range ns a b) → page ≡ page_of kind (slice_range es a b)
+page-part kind es a b ns page other is written =
+    rw (page_of-numbers kind (slice_range es a b) other, numbers-range es a b, is) written
+
+-- of a list ys, read from xs, of numbers
+pub page-numbers : (kind : ColumnType) (xs ys : List ℕ) (a b : ℕ) (page : List ℕ) → kind ≢ Switch → ys ≡ xs
+    → page ≡ page_bytes kind (slice_range ys a b) → page ≡ page_of kind (slice_range (map plain xs) a b)
+page-numbers kind xs ys a b page other same written =
+    page-part kind (map plain xs) a b xs page other (numbers-plain_list xs) (rw same at written)
+
+-- of truth values
+pub page-bits : (kind : ColumnType) (xs ys : List Bool) (a b : ℕ) (page : List ℕ) → kind ≢ Switch → ys ≡ xs
+    → page ≡ page_bytes kind (map bit_of (slice_range ys a b)) → page ≡ page_of kind (slice_range (map (λ (x : Bool). plain (bit_of x)) xs) a b)
+page-bits kind xs ys a b page other same written =
+    let part : map bit_of (slice_range ys a b) ≡ slice_range (map bit_of xs) a b =
+    rw same (sym (take-map bit_of (b - a) (drop a xs)) ∙ ap (take (b - a)) (sym (drop-map bit_of a xs))) in
+    page-part kind _ a b (map bit_of xs) page other (numbers-plain bit_of xs) (written ∙ ap (page_bytes kind) part)
+
+-- a page of bytes is its bytes
+plain_bytes-one : (xs : List ℕ) → ((i : ℕ) → Fits w8 (get_or xs i 0)) → plain_bytes 1 xs ≡ xs
+plain_bytes-one xs fits =
+    ext_get_or 0 (plain_bytes 1 xs) xs (length-map-range_with_len (plain_byte 1 xs) 0 (1 * length xs) ∙ one-mul (length xs)) byte
+  where
+    byte : (i : ℕ) → i < length (plain_bytes 1 xs) → get_or (plain_bytes 1 xs) i 0 ≡ get_or xs i 0
+    byte i h =
+        let count : i < 1 * length xs = omega (arith, length-map-range_with_len (plain_byte 1 xs) 0 (1 * length xs)) in
+        let fit : get_or xs i 0 < 2 ^ 8 = Fits-lt-pow (fits i) in
+        get_or-map-range_with_len (plain_byte 1 xs) 0 (1 * length xs) i i 0 count (omega arith)
+        ∙ rw (div-one i, mod-one i, mul-zero 8, pow-zero 2, div-one (get_or xs i 0)) (mod-eq_of_lt fit)
+
+pub page-bytes : (kind : ColumnType) (xs : List ℕ) → bits_of kind ≡ 8 → ((i : ℕ) → Fits w8 (get_or xs i 0)) → page_bytes kind xs ≡ xs
+page-bytes Byte xs width fits = plain_bytes-one xs fits
+page-bytes Char xs width fits = plain_bytes-one xs fits
+page-bytes Int8 xs width fits = plain_bytes-one xs fits
+page-bytes UInt8 xs width fits = plain_bytes-one xs fits
+page-bytes Bit xs width fits = absurd (omega arith)
+page-bytes kind xs width fits = absurd (omega arith)
+
+zero-get : (n i : ℕ) → get_or {A = ℕ} (replicate n 0) i 0 ≡ 0
+zero-get zero i = refl
+zero-get (suc n) zero = refl
+zero-get (suc n) (suc i) = zero-get n i
+
+zero-digit : (j : ℕ) → digit_of 8 0 j ≡ 0
+zero-digit j = rw zero-div refl
+
+zero-pair : (r : ℕ) → pair_byte 0 0 r ≡ 0
+zero-pair r = elim (nat_lt r 8) as (λ (b : Bool). (if b then digit_of 8 0 r else digit_of 8 0 (r - 8)) ≡ 0) [ true ↦ zero-digit r | false ↦ zero-digit (r - 8) ]
+
+-- a Switch page of zeros has zeros alone
+pub zero-switch : (n m : ℕ) → m ≡ page_size Switch n → replicate m 0 ≡ page_of Switch (replicate n (plain 0))
+zero-switch n m size =
+    rw (numbers-replicate n, tags-replicate n) (ext_get_or 0 (replicate m 0) (switch_bytes (replicate n 0) (replicate n 0)) count byte)
+  where
+    count : length {A = ℕ} (replicate m 0) ≡ length (switch_bytes (replicate n 0) (replicate n 0))
+    count =
+        rw (length-replicate {A = ℕ} m 0, length-map-range_with_len (switch_byte (replicate n 0) (replicate n 0)) 0 (12 * length {A = ℕ} (replicate n 0)), length-replicate {A = ℕ} n 0) (omega arith)
+
+    byte : (i : ℕ) → i < length {A = ℕ} (replicate m 0) → get_or (replicate m 0) i 0 ≡ get_or (switch_bytes (replicate n 0) (replicate n 0)) i 0
+    byte i h =
+        let within : i < 12 * length {A = ℕ} (replicate n 0) = rw (length-replicate {A = ℕ} n 0) (omega (arith, size, length-replicate {A = ℕ} m 0)) in
+        rw (zero-get m i, get_or-map-range_with_len (switch_byte (replicate n 0) (replicate n 0)) 0 (12 * length {A = ℕ} (replicate n 0)) i i 0 within (omega arith), zero-get n (i / 12))
+        (sym (zero-pair (i % 12)))
+
+-- the page of zeros as words
+pub zero-page : (kind : ColumnType) (n k : ℕ) (words page : List ℕ) → kind ≢ Switch → words ≡ replicate n 0 → k ≡ n → page ≡ page_bytes kind words
+    → page ≡ page_of kind (replicate k (plain 0))
+zero-page kind n k words page other zeros count written =
+    rw (count, page_of-numbers kind (replicate n (plain 0)) other, numbers-replicate n, ← zeros) written

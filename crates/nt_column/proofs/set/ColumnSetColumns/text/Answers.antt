@@ -1,0 +1,16 @@
+use Rattle.std.proofs.Common.{◌≤◌, List, subst, length, arith}
+use Rattle.std.proofs.lemmas.Option.{slice_get_within}
+use Rattle.nt_column.specs.Elements.{Element}
+use Rattle.nt_column.proofs.Sets.{elements-at}
+use Rattle.nt_column.proofs.set.ColumnSetColumns.text.Goals as goal
+
+pub text-requires-clause-within : goal.text-requires-clause-within
+text-requires-clause-within c =
+    subst (λ (es : List Element). c.args.to ≤ length es) (elements-at c.args.self.now c.args.column _ c.column.ensures) c.requires.within
+
+pub returns-then-column-columns-clause-text : goal.returns-then-column-columns-clause-text
+returns-then-column-columns-clause-text c =
+    rw (elements-at c.args.self.now c.args.column _ c.column.ensures) c.text.ensures.text
+
+pub returns-else-column-columns-clause-lent : goal.returns-else-column-columns-clause-lent
+returns-else-column-columns-clause-lent c b there = absurd (omega (arith, slice_get_within c.args.self.now c.args.column b there))

@@ -1,0 +1,41 @@
+-- Columns, as their buffers hold them.
+use Rattle.std.specs.Prelude.{ℕ, zero, suc, List, [], ◌∷◌, ◌++◌, map, slice_index_or, replicate}
+use Rattle.nt_types.specs.declared.column_type.ColumnType.{ColumnType}
+use Rattle.nt_column.specs.Elements.{Element, plain}
+
+-- a column: its type, its elements, and how many of them are kept as a count of zeros, which is none or all
+pub record Column : Type 0 where
+  pub kind : ColumnType
+  pub elements : List Element
+  pub zeros : ℕ
+
+-- a buffer: what it holds, and how many elements it has room for
+pub record Buffer : Type 0 where
+  pub column : Column
+  pub spare : ℕ
+
+-- a column without elements
+abbrev pub empty : ColumnType → Column
+empty kind = record { kind = kind; elements = []; zeros = 0 }
+
+-- a column of so many zeros, kept as their count
+abbrev pub zeroed : ColumnType → ℕ → Column
+zeroed kind n = record { kind = kind; elements = replicate n (plain 0); zeros = n }
+
+-- the column with these elements at its end
+abbrev pub with_more : Column → List Element → Column
+with_more c es = record { kind = c.kind; elements = c.elements ++ es; zeros = c.zeros }
+
+-- what the buffers hold, by column
+abbrev pub columns_of : List Buffer → List Column
+columns_of bs = map (λ (b : Buffer). b.column) bs
+
+-- the elements of a column; none of a column that isn't there
+abbrev pub elements_at : List Column → ℕ → List Element
+elements_at cs k = slice_index_or (map (λ (c : Column). c.elements) cs) k []
+
+-- the columns, of which the k-th is changed
+abbrev pub changed : (Column → Column) → ℕ → List Column → List Column
+changed f k [] = []
+changed f zero (c ∷ cs) = f c ∷ cs
+changed f (suc k) (c ∷ cs) = c ∷ changed f k cs

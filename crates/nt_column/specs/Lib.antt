@@ -1,0 +1,8 @@
+pub mod Elements
+pub mod Chunks
+pub mod Column
+pub mod Cow
+pub mod Kept
+pub mod Bits
+pub mod Store
+pub mod Lending

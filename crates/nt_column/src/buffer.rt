@@ -1,0 +1,234 @@
+//! A column in memory, whose elements are added one after the other.
+
+ghost use Rattle.std.specs.Prelude.{◌≡◌, ◌≢◌, ◌+◌, ◌-◌, ◌<◌, ◌≤◌, ◌^◌, [], ◌∷◌, length, map, slice_index, IsTrue, IsSome, IfSome, OnOk, IfOk, IsOkAnd};
+ghost use Rattle.std.specs.List.{slice_range};
+ghost use Rattle.nt_types.specs.declared.column_type.ColumnType.TheVariants.{Switch};
+ghost use Rattle.nt_types.specs.ColumnTable.{bits_of};
+ghost use Rattle.nt_encode.specs.Pages.{page_size};
+ghost use Rattle.nt_column.specs.Elements.{plain, numbers, tags, text_of, page_of};
+ghost use Rattle.nt_column.specs.Cow.{cow_items, is_borrowed};
+ghost use Rattle.nt_column.specs.Column.{empty, zeroed, with_more};
+ghost use Rattle.nt_column.specs.Chunks.{chunks};
+
+use crate::cow::CowSlice;
+use crate::store::Store;
+use crate::zero_page::encode_zeros;
+use nt_types::ColumnType;
+use std::alloc::{AllocError, Global};
+use std::marker::Model;
+
+/// A column's elements, each kept at its own width: a byte where the type has 8 bits. Signed
+/// values are given as their two's complement.
+#[derive(Drop)]
+pub struct ColumnBuf {
+    kind: ColumnType,
+    store: Store,
+    /// So many zeros are the column; then `store` is empty.
+    zeros: usize,
+}
+
+impl Model for ColumnBuf {
+    ghost use Rattle.nt_column.specs.Column.{Buffer};
+
+    ghost Value = { Buffer };
+
+    ghost use Rattle.std.specs.Prelude.{◌≡◌, ◌<◌, [], ◌++◌, replicate};
+    ghost use Rattle.nt_types.specs.ColumnTable.{bits_of};
+    ghost use Rattle.nt_column.specs.Elements.{plain};
+    ghost use Rattle.nt_column.specs.Store.{elements_of, width_of, spare_of};
+
+    ghost view = { λ b. record { column = record { kind = b.kind; elements = replicate b.zeros (plain 0) ++ elements_of b.store; zeros = b.zeros }; spare = spare_of b.store } };
+
+    ghost invariant = { λ b. (width_of b.store ≡ bits_of b.kind) × (0 < b.zeros → elements_of b.store ≡ []) };
+}
+
+impl ColumnBuf {
+    /// No element.
+    pub fn new(alloc: Global, kind: ColumnType) -> ColumnBuf
+        ensures { result.column ≡ empty kind }
+    {
+        ColumnBuf {
+            kind,
+            store: Store::new(alloc, kind),
+            zeros: 0,
+        }
+    }
+
+    /// The type of the column.
+    pub fn kind(&self) -> ColumnType
+        ensures { result ≡ self.now.column.kind }
+    {
+        self.kind
+    }
+
+    /// The number of elements.
+    pub fn len(&self) -> usize
+        ensures { result ≡ length self.now.column.elements }
+    {
+        if self.zeros > 0 {
+            self.zeros
+        } else {
+            self.store.len()
+        }
+    }
+
+    /// The number of pages of at most so many elements.
+    pub fn page_cut(&self, page: u32) -> usize
+        requires { 0 < page }
+        ensures { result ≡ length (chunks page self.now.column.elements) }
+    {
+        self.len().div_ceil(page as usize)
+    }
+
+    /// Takes the memory that so many more elements need. It is called before any push.
+    pub fn reserve(&mut self, more: usize) -> Result<(), AllocError>
+        ensures column { self.new.column ≡ self.old.column }
+        ensures ok { OnOk result (more ≤ self.new.spare) }
+        ensures spare { self.old.spare ≤ self.new.spare }
+    {
+        self.store.reserve(more)
+    }
+
+    /// Adds an element of any type but Switch.
+    pub fn push(&mut self, value: u64)
+        requires kind { self.old.column.kind ≢ Switch }
+        requires stored { self.old.column.zeros ≡ 0 }
+        requires fits { value < 2 ^ bits_of self.old.column.kind }
+        requires spare { 1 ≤ self.old.spare }
+        ensures column { self.new.column ≡ with_more self.old.column (plain value ∷ []) }
+        ensures spare { self.old.spare ≤ self.new.spare + 1 }
+    {
+        self.store.push(value);
+    }
+
+    /// Adds an element of a Switch.
+    pub fn push_switch(&mut self, index: u64, tag: u32)
+        requires kind { self.old.column.kind ≡ Switch }
+        requires stored { self.old.column.zeros ≡ 0 }
+        requires spare { 1 ≤ self.old.spare }
+        ensures column { self.new.column ≡ with_more self.old.column ((index, tag) ∷ []) }
+        ensures spare { self.old.spare ≤ self.new.spare + 1 }
+    {
+        self.store.push_pair(index, tag);
+    }
+
+    /// Adds an element for each byte.
+    pub fn push_bytes(&mut self, bytes: &[u8])
+        requires kind { bits_of self.old.column.kind ≡ 8 }
+        requires stored { self.old.column.zeros ≡ 0 }
+        requires spare { length bytes.now ≤ self.old.spare }
+        ensures column { self.new.column ≡ with_more self.old.column (map plain bytes.now) }
+        ensures spare { self.old.spare ≤ self.new.spare + length bytes.now }
+    {
+        self.store.push_bytes(bytes);
+    }
+
+    /// Takes all elements away, and keeps their memory.
+    pub fn clear(&mut self)
+        ensures column { self.new.column ≡ empty self.old.column.kind }
+        ensures spare { self.old.spare ≤ self.new.spare }
+    {
+        self.store.clear();
+        self.zeros = 0;
+    }
+
+    /// Makes the empty column one of so many zeros, kept as their count. It isn't pushed to.
+    pub(crate) fn zeros(&mut self, count: u64)
+        requires { self.old.column.elements ≡ [] }
+        ensures column { self.new.column ≡ zeroed self.old.column.kind count }
+        ensures spare { self.old.spare ≤ self.new.spare }
+    {
+        self.zeros = count as usize;
+    }
+
+    /// Element i; of a Switch its index.
+    #[inline(always)]
+    pub fn number(&self, i: usize) -> u64
+        requires { i < length self.now.column.elements }
+        ensures { result ≡ slice_index (numbers self.now.column.elements) i }
+    {
+        if self.zeros > 0 {
+            0
+        } else {
+            self.store.number(i)
+        }
+    }
+
+    /// The tag of element i; 0 but in a Switch.
+    pub fn tag(&self, i: usize) -> u32
+        requires { i < length self.now.column.elements }
+        ensures { result ≡ slice_index (tags self.now.column.elements) i }
+    {
+        if self.zeros > 0 { 0 } else { self.store.tag(i) }
+    }
+
+    /// Writes the page of the elements from one place to before another, in the coding of the
+    /// column's type. `words` is room for their numbers.
+    pub fn encode(&self, from: usize, to: usize, words: &mut [u64], out: &mut [u8])
+        requires order { from ≤ to }
+        requires within { to ≤ length self.now.column.elements }
+        requires words { to - from ≤ length words.old }
+        requires length { length out.old ≡ page_size self.now.column.kind (to - from) }
+        ensures { out.new ≡ page_of self.now.column.kind (slice_range self.now.column.elements from to) }
+    {
+        if self.zeros > 0 {
+            encode_zeros(self.kind, to - from, words, out);
+        } else {
+            self.store.encode(self.kind, from, to, words, out);
+        }
+    }
+
+    /// The low bytes of the elements from one place to before another. They are lent where the
+    /// type has 8 bits and the elements aren't kept as a count.
+    pub fn text(
+        &self,
+        alloc: Global,
+        from: usize,
+        to: usize,
+    ) -> Result<CowSlice<'_, u8>, AllocError>
+        requires order { from ≤ to }
+        requires within { to ≤ length self.now.column.elements }
+        ensures text { IfOk result (λ t. cow_items t ≡ text_of (slice_range self.now.column.elements from to)) }
+        ensures lent { bits_of self.now.column.kind ≡ 8 → self.now.column.zeros ≡ 0 → IsOkAnd result (λ t. IsTrue (is_borrowed t)) }
+    {
+        match self.bytes() {
+            Some(bytes) => Ok(lent(bytes, from, to)),
+            None => Ok(CowSlice::Owned(self.low_bytes(alloc, from, to)?)),
+        }
+    }
+
+    /// The elements of 8 bits that are kept here.
+    fn bytes(&self) -> Option<&[u8]>
+        ensures bytes { IfSome result (λ b. map plain b.now ≡ self.now.column.elements) }
+        ensures found { bits_of self.now.column.kind ≡ 8 → self.now.column.zeros ≡ 0 → IsSome result }
+    {
+        if self.zeros > 0 {
+            None
+        } else {
+            self.store.bytes()
+        }
+    }
+
+    /// A copy of the low bytes.
+    fn low_bytes(&self, alloc: Global, from: usize, to: usize) -> Result<Vec<u8>, AllocError>
+        requires order { from ≤ to }
+        requires within { to ≤ length self.now.column.elements }
+        ensures { IfOk result (λ v. v.items ≡ text_of (slice_range self.now.column.elements from to)) }
+    {
+        let mut bytes = Vec::with_capacity(alloc, to - from)?;
+        for i in from..to {
+            bytes.push((self.number(i) % 256) as u8)?;
+        }
+        Ok(bytes)
+    }
+}
+
+/// A part of the elements of 8 bits, as they lie there.
+fn lent(bytes: &[u8], from: usize, to: usize) -> CowSlice<'_, u8>
+    requires order { from ≤ to }
+    requires within { to ≤ length bytes.now }
+    ensures text { cow_items result ≡ text_of (slice_range (map plain bytes.now) from to) }
+    ensures lent { IsTrue (is_borrowed result) }
+{
+    CowSlice::Borrowed(&bytes[from..to])
+}

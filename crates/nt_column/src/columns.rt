@@ -1,0 +1,41 @@
+//! Columns that are read.
+
+ghost use Rattle.std.specs.Prelude.{◌≡◌, ◌<◌, ◌≤◌, ℕ, List, length, slice_index, IfOk};
+ghost use Rattle.std.specs.List.{slice_range};
+ghost use Rattle.nt_column.specs.Elements.{Element, numbers, tags, text_of};
+ghost use Rattle.nt_column.specs.Cow.{cow_items};
+
+use crate::cow::CowSlice;
+use std::alloc::{AllocError, Global};
+
+/// The elements of columns, by the column's id and the element's place, both from 0.
+pub trait Columns {
+    ghost elements: { Self → ℕ → List Element };
+
+    /// The number of a column's elements; 0 of a column that isn't there.
+    fn len(&self, column: u32) -> u64
+        ensures { result ≡ length (elements self.now column) };
+
+    /// An element; of a Switch its index.
+    fn number(&self, column: u32, i: u64) -> u64
+        requires { i < length (elements self.now column) }
+        ensures { result ≡ slice_index (numbers (elements self.now column)) i };
+
+    /// The tag of a Switch's element; 0 in any other column.
+    fn tag(&self, column: u32, i: u64) -> u32
+        requires { i < length (elements self.now column) }
+        ensures { result ≡ slice_index (tags (elements self.now column)) i };
+
+    /// The low bytes of the elements from one place to before another: of a column of 8 bits its
+    /// elements.
+    fn text(
+        &self,
+        alloc: Global,
+        column: u32,
+        from: u64,
+        to: u64,
+    ) -> Result<CowSlice<'_, u8>, AllocError>
+        requires order { from ≤ to }
+        requires within { to ≤ length (elements self.now column) }
+        ensures text { IfOk result (λ t. cow_items t ≡ text_of (slice_range (elements self.now column) from to)) };
+}

@@ -1,0 +1,203 @@
+//! The elements of a buffer, each kept at the width of its type.
+
+ghost use Rattle.std.specs.Prelude.{◌≡◌, ◌≢◌, ◌+◌, ◌-◌, ◌<◌, ◌≤◌, ◌^◌, ◌↔◌, [], ◌∷◌, ◌++◌, length, map, slice_index, OnOk, IsSome, IfSome};
+ghost use Rattle.std.specs.List.{slice_range};
+ghost use Rattle.nt_types.specs.ColumnTable.{bits_of};
+ghost use Rattle.nt_encode.specs.Pages.{page_size};
+ghost use Rattle.nt_column.specs.Elements.{plain, numbers, tags, page_of};
+ghost use Rattle.nt_column.specs.Store.{elements_of, width_of, spare_of};
+
+use crate::pairs::PairList;
+use crate::widths::{encode_16, encode_32, encode_64, encode_bits, encode_bytes};
+use nt_types::ColumnType;
+use std::alloc::{AllocError, Global};
+
+/// Numbers in a list of their own width, or the pairs of a Switch.
+#[derive(Drop)]
+pub enum Store {
+    Bits(Vec<bool>),
+    Bytes(Vec<u8>),
+    Words16(Vec<u16>),
+    Words32(Vec<u32>),
+    Words64(Vec<u64>),
+    Pairs(PairList),
+}
+
+impl Store {
+    /// No element of this type.
+    pub fn new(alloc: Global, kind: ColumnType) -> Store
+        ensures elements { elements_of result ≡ [] }
+        ensures width { width_of result ≡ bits_of kind }
+    {
+        match kind.bits() {
+            1 => Store::Bits(Vec::new(alloc)),
+            8 => Store::Bytes(Vec::new(alloc)),
+            16 => Store::Words16(Vec::new(alloc)),
+            32 => Store::Words32(Vec::new(alloc)),
+            64 => Store::Words64(Vec::new(alloc)),
+            _ => Store::Pairs(PairList::new(alloc)),
+        }
+    }
+
+    /// The number of elements.
+    pub fn len(&self) -> usize
+        ensures { result ≡ length (elements_of self.now) }
+    {
+        match self {
+            Store::Bits(list) => list.len(),
+            Store::Bytes(list) => list.len(),
+            Store::Words16(list) => list.len(),
+            Store::Words32(list) => list.len(),
+            Store::Words64(list) => list.len(),
+            Store::Pairs(pairs) => pairs.len(),
+        }
+    }
+
+    /// Takes the memory for so many more elements.
+    pub fn reserve(&mut self, more: usize) -> Result<(), AllocError>
+        ensures elements { elements_of self.new ≡ elements_of self.old }
+        ensures width { width_of self.new ≡ width_of self.old }
+        ensures ok { OnOk result (more ≤ spare_of self.new) }
+        ensures spare { spare_of self.old ≤ spare_of self.new }
+    {
+        match self {
+            Store::Bits(list) => list.reserve(more),
+            Store::Bytes(list) => list.reserve(more),
+            Store::Words16(list) => list.reserve(more),
+            Store::Words32(list) => list.reserve(more),
+            Store::Words64(list) => list.reserve(more),
+            Store::Pairs(pairs) => pairs.reserve(more),
+        }
+    }
+
+    /// Adds an element of any type but Switch.
+    pub fn push(&mut self, value: u64)
+        requires kind { width_of self.old ≢ 96 }
+        requires fits { value < 2 ^ width_of self.old }
+        requires spare { 0 < spare_of self.old }
+        ensures elements { elements_of self.new ≡ elements_of self.old ++ plain value ∷ [] }
+        ensures width { width_of self.new ≡ width_of self.old }
+        ensures spare { spare_of self.old ≤ spare_of self.new + 1 }
+    {
+        match self {
+            Store::Bits(list) => list.push_reserved(value == 1),
+            Store::Bytes(list) => list.push_reserved(value as u8),
+            Store::Words16(list) => list.push_reserved(value as u16),
+            Store::Words32(list) => list.push_reserved(value as u32),
+            Store::Words64(list) => list.push_reserved(value),
+            Store::Pairs(_) => unreachable!(),
+        }
+    }
+
+    /// Adds an element of a Switch.
+    pub fn push_pair(&mut self, index: u64, tag: u32)
+        requires kind { width_of self.old ≡ 96 }
+        requires spare { 0 < spare_of self.old }
+        ensures elements { elements_of self.new ≡ elements_of self.old ++ (index, tag) ∷ [] }
+        ensures width { width_of self.new ≡ width_of self.old }
+        ensures spare { spare_of self.old ≤ spare_of self.new + 1 }
+    {
+        match self {
+            Store::Pairs(pairs) => pairs.push(index, tag),
+            _ => unreachable!(),
+        }
+    }
+
+    /// Adds elements of 8 bits.
+    pub fn push_bytes(&mut self, bytes: &[u8])
+        requires kind { width_of self.old ≡ 8 }
+        requires spare { length bytes.now ≤ spare_of self.old }
+        ensures elements { elements_of self.new ≡ elements_of self.old ++ map plain bytes.now }
+        ensures width { width_of self.new ≡ width_of self.old }
+        ensures spare { spare_of self.old ≤ spare_of self.new + length bytes.now }
+    {
+        match self {
+            Store::Bytes(list) => match list.extend_from_slice(bytes) {
+                Ok(()) => {}
+                Err(_) => unreachable!(),
+            },
+            _ => unreachable!(),
+        }
+    }
+
+    /// Takes all elements away, and keeps their memory.
+    pub fn clear(&mut self)
+        ensures elements { elements_of self.new ≡ [] }
+        ensures width { width_of self.new ≡ width_of self.old }
+        ensures spare { spare_of self.old ≤ spare_of self.new }
+    {
+        match self {
+            Store::Bits(list) => list.clear(),
+            Store::Bytes(list) => list.clear(),
+            Store::Words16(list) => list.clear(),
+            Store::Words32(list) => list.clear(),
+            Store::Words64(list) => list.clear(),
+            Store::Pairs(pairs) => pairs.clear(),
+        }
+    }
+
+    /// Element i; of a Switch its index.
+    #[inline(always)]
+    pub fn number(&self, i: usize) -> u64
+        requires { i < length (elements_of self.now) }
+        ensures { result ≡ slice_index (numbers (elements_of self.now)) i }
+    {
+        match self {
+            Store::Bits(list) => u64::from(list[i]),
+            Store::Bytes(list) => u64::from(list[i]),
+            Store::Words16(list) => u64::from(list[i]),
+            Store::Words32(list) => u64::from(list[i]),
+            Store::Words64(list) => list[i],
+            Store::Pairs(pairs) => pairs.index(i),
+        }
+    }
+
+    /// The tag of element i; 0 but in a Switch.
+    pub fn tag(&self, i: usize) -> u32
+        requires { i < length (elements_of self.now) }
+        ensures { result ≡ slice_index (tags (elements_of self.now)) i }
+    {
+        match self {
+            Store::Pairs(pairs) => pairs.tag(i),
+            _ => 0,
+        }
+    }
+
+    /// The elements of 8 bits, as they lie here.
+    pub fn bytes(&self) -> Option<&[u8]>
+        ensures found { IsSome result ↔ (width_of self.now ≡ 8) }
+        ensures bytes { IfSome result (λ b. map plain b.now ≡ elements_of self.now) }
+    {
+        match self {
+            Store::Bytes(list) => Some(list),
+            _ => None,
+        }
+    }
+
+    /// Writes the page of the elements from one place to before another. `words` is room for
+    /// their numbers.
+    pub fn encode(
+        &self,
+        kind: ColumnType,
+        from: usize,
+        to: usize,
+        words: &mut [u64],
+        out: &mut [u8],
+    )
+        requires kind { width_of self.now ≡ bits_of kind }
+        requires order { from ≤ to }
+        requires within { to ≤ length (elements_of self.now) }
+        requires words { to - from ≤ length words.old }
+        requires length { length out.old ≡ page_size kind (to - from) }
+        ensures { out.new ≡ page_of kind (slice_range (elements_of self.now) from to) }
+    {
+        match self {
+            Store::Bits(list) => encode_bits(kind, &list[from..to], words, out),
+            Store::Bytes(list) => encode_bytes(kind, &list[from..to], out),
+            Store::Words16(list) => encode_16(kind, &list[from..to], words, out),
+            Store::Words32(list) => encode_32(kind, &list[from..to], words, out),
+            Store::Words64(list) => encode_64(kind, &list[from..to], out),
+            Store::Pairs(pairs) => pairs.encode(from, to, out),
+        }
+    }
+}
