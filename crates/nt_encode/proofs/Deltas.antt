@@ -1,10 +1,10 @@
 -- Indices as sums of the words of their page.
-use Rattle.std.proofs.Common.{◌≡◌, ℕ, zero, suc, ◌+◌, ◌-◌, ◌%◌, ◌^◌, ◌<◌, List, length, get_or, take, refl, sym, ◌∙◌, arith, add-one, zero-add}
+use Rattle.std.proofs.Common.{◌≡◌, ℕ, zero, suc, ◌+◌, ◌-◌, ◌%◌, ◌^◌, ◌<◌, List, length, get_or, take, refl, sym, ◌∙◌, ap, arith, add-one, zero-add}
 use Rattle.std.specs.List.{sum}
 use Rattle.std.proofs.lemmas.List.Sums.{sum_by_more}
 use Rattle.std.proofs.lemmas.Nat.{pow_pos}
 use Rattle.std.proofs.Math.Nat.{mod-add-mod, add-mod-mod, add-mod_right, mod-eq_of_lt, mod-lt}
-use Rattle.nt_encode.specs.Delta.{delta_value, delta_word, delta_words, delta_values}
+use Rattle.nt_encode.specs.Delta.{delta_value, delta_word, delta_words, delta_values, index_before}
 use Rattle.nt_encode.proofs.Lists.{get_or-list_of, length-list_of, list_of_filled}
 
 -- one word more
@@ -52,3 +52,14 @@ pub delta_word-lt : (m : ℕ) (values : List ℕ) → ((i : ℕ) → i < length 
     → delta_word m values i < 2 ^ m
 delta_word-lt m values fits zero h = fits 0 h
 delta_word-lt m values fits (suc i) h = mod-lt _ (pow_pos m)
+
+-- a word is the difference to the index before
+pub delta_word-before : (m : ℕ) (values : List ℕ) (i : ℕ) → get_or values i 0 < 2 ^ m
+    → (get_or values i 0 + (2 ^ m - index_before values i)) % 2 ^ m ≡ delta_word m values i
+delta_word-before m values zero fits =
+    let whole : get_or values 0 0 + (2 ^ m - 0) ≡ get_or values 0 0 + 2 ^ m = omega arith in
+    ap (λ (x : ℕ). x % 2 ^ m) whole ∙ (add-mod_right (get_or values 0 0) (2 ^ m) ∙ mod-eq_of_lt fits)
+delta_word-before m values (suc i) fits = refl
+
+pub index_before-next : (values : List ℕ) (i k : ℕ) → get_or values (i + k) 0 ≡ index_before values (i + (k + 1))
+index_before-next values i k = let next : i + (k + 1) ≡ suc (i + k) = omega arith in rw next refl

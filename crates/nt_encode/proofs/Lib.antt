@@ -3,6 +3,7 @@ pub mod Digits
 pub mod Lists
 pub mod Rows
 pub mod Forms
+pub mod Planes
 pub mod Deltas
 pub mod Zigzags
 pub mod BitRounds

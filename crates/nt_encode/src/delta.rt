@@ -1,7 +1,7 @@
 //! Indices as differences within their page.
 
-ghost use Rattle.std.specs.Prelude.{◌≡◌, ◌+◌, ◌-◌, ◌*◌, ◌%◌, ◌<◌, ◌≤◌, ◌^◌, length, All};
-ghost use Rattle.nt_encode.specs.Delta.{delta_values, delta_word};
+ghost use Rattle.std.specs.Prelude.{◌≡◌, ℕ, ◌+◌, ◌-◌, ◌*◌, ◌%◌, ◌<◌, ◌≤◌, ◌^◌, length, slice_index, All};
+ghost use Rattle.nt_encode.specs.Delta.{delta_values, delta_word, index_before};
 
 /// The sum, modulo the numbers of so many bytes.
 #[inline(always)]
@@ -33,18 +33,29 @@ fn difference_within(a: u64, b: u64, width: usize) -> u64
     }
 }
 
-/// The word of index i: the first index, or the difference to the index before.
+/// The index before index i, or 0 before the first.
 #[inline(always)]
-pub fn delta_word(values: &[u64], i: usize, width: usize) -> u64
+fn index_before(values: &[u64], i: usize, width: usize) -> u64
+    requires fits { All (λ v. v < 2 ^ (8 * width)) values.now }
+    requires within { i ≤ length values.now }
+    ensures value { result ≡ index_before values.now i }
+    ensures fits { result < 2 ^ (8 * width) }
+{
+    if i == 0 { 0 } else { values[i - 1] }
+}
+
+/// Fills a block with the words of the indices from a place on: the differences to the index before.
+#[inline(always)]
+pub fn fill_deltas(values: &[u64], width: usize, from: usize, words: &mut [u64])
     requires width { width ≤ 8 }
     requires fits { All (λ v. v < 2 ^ (8 * width)) values.now }
-    requires within { i < length values.now }
-    ensures { result ≡ delta_word (8 * width) values.now i }
+    requires within { from + length words.old ≤ length values.now }
+    ensures { (k : ℕ) → k < length words.new → slice_index words.new k ≡ delta_word (8 * width) values.now (from + k) }
 {
-    if i == 0 {
-        values[0]
-    } else {
-        difference_within(values[i], values[i - 1], width)
+    let mut last = index_before(values, from, width);
+    for (k, word) in words.iter_mut().enumerate() {
+        *word = difference_within(values[from + k], last, width);
+        last = values[from + k];
     }
 }
 

@@ -2,28 +2,67 @@
 
 ghost use Rattle.std.specs.Prelude.{◌≡◌, ℕ, ◌+◌, ◌*◌, ◌<◌, ◌≤◌, ◌^◌, length, slice_index, All};
 ghost use Rattle.nt_encode.specs.Digits.{digit_of};
-ghost use Rattle.nt_encode.specs.Split.{split_values, split_bytes};
+ghost use Rattle.nt_encode.specs.Split.{split_values, split_bytes, HasElements};
 ghost use Rattle.nt_encode.specs.Forms.{words_of};
 ghost use Rattle.nt_encode.specs.Zigzag.{zigzag_values};
 ghost use Rattle.nt_encode.specs.Delta.{delta_values};
 
-use crate::delta::undo_delta;
+use crate::delta::{fill_deltas, undo_delta};
 use crate::form::Form;
 use crate::number::number_at;
-use crate::zigzag::undo_zigzag;
+use crate::zigzag::{fill_zigzags, undo_zigzag};
 
-/// Writes byte j of each word from a place on.
+/// How many elements are written at a time. Their words are made once, and then put into all
+/// planes.
+const BLOCK: usize = 32;
+
+/// Fills a block with the words of the elements from a place on.
 #[inline(always)]
-fn put_plane(form: Form, values: &[u64], width: usize, j: usize, start: usize, out: &mut [u8])
+fn fill_words(form: Form, values: &[u64], width: usize, from: usize, words: &mut [u64])
     requires width { width ≤ 8 }
-    requires byte { j < width }
+    requires some { 0 < width }
     requires fits { All (λ v. v < 2 ^ (8 * width)) values.now }
-    requires within { start + length values.now ≤ length out.old }
-    ensures written { (i : ℕ) → i < length values.now → slice_index out.new (start + i) ≡ digit_of 8 (slice_index (words_of form width values.now) i) j }
-    ensures below { (p : ℕ) → p < start → slice_index out.new p ≡ slice_index out.old p }
+    requires within { from + length words.old ≤ length values.now }
+    ensures { (k : ℕ) → k < length words.new → slice_index words.new k ≡ slice_index (words_of form width values.now) (from + k) }
 {
-    for i in 0..values.len() {
-        out[start + i] = ((form.word(values, i, width) >> (8 * j)) % 256) as u8;
+    match form {
+        Form::Own => words.copy_from_slice(&values[from..from + words.len()]),
+        Form::Zigzag => fill_zigzags(values, width, from, words),
+        Form::Delta => fill_deltas(values, width, from, words),
+    }
+}
+
+/// Writes byte j of the words of a block from a place on.
+#[inline(always)]
+fn put_plane(words: &[u64], j: usize, start: usize, out: &mut [u8])
+    requires byte { j < 8 }
+    requires within { start + length words.now ≤ length out.old }
+    ensures written { (i : ℕ) → i < length words.now → slice_index out.new (start + i) ≡ digit_of 8 (slice_index words.now i) j }
+    ensures below { (p : ℕ) → p < start → slice_index out.new p ≡ slice_index out.old p }
+    ensures above { (p : ℕ) → start + length words.now ≤ p → slice_index out.new p ≡ slice_index out.old p }
+{
+    for (i, word) in words.iter().enumerate() {
+        out[start + i] = ((*word >> (8 * j)) % 256) as u8;
+    }
+}
+
+/// Writes the bytes of a block of elements, where those of the elements before it are written.
+#[inline(always)]
+fn put_block(form: Form, values: &[u64], width: usize, from: usize, len: usize, out: &mut [u8])
+    requires width { width ≤ 8 }
+    requires some { 0 < width }
+    requires fits { All (λ v. v < 2 ^ (8 * width)) values.now }
+    requires length { length out.old ≡ width * length values.now }
+    requires block { len ≤ 32 }
+    requires within { from + len ≤ length values.now }
+    requires before { HasElements width (length values.now) (words_of form width values.now) from out.old }
+    ensures { HasElements width (length values.now) (words_of form width values.now) (from + len) out.new }
+{
+    let mut words = [0; BLOCK];
+    let words = &mut words[..len];
+    fill_words(form, values, width, from, words);
+    for j in 0..width {
+        put_plane(words, j, j * values.len() + from, out);
     }
 }
 
@@ -31,13 +70,23 @@ fn put_plane(form: Form, values: &[u64], width: usize, j: usize, start: usize, o
 #[inline(always)]
 pub fn put_split(form: Form, values: &[u64], width: usize, out: &mut [u8])
     requires width { width ≤ 8 }
+    requires some { 0 < width }
     requires fits { All (λ v. v < 2 ^ (8 * width)) values.now }
     requires length { length out.old ≡ width * length values.now }
     ensures { out.new ≡ split_bytes width (words_of form width values.now) }
 {
-    for j in 0..width {
-        put_plane(form, values, width, j, j * values.len(), out);
+    let blocks = values.len() / BLOCK;
+    for b in 0..blocks {
+        put_block(form, values, width, b * BLOCK, BLOCK, out);
     }
+    put_block(
+        form,
+        values,
+        width,
+        blocks * BLOCK,
+        values.len() % BLOCK,
+        out,
+    );
 }
 
 /// Reads the words of a page.

@@ -6,8 +6,15 @@ use super::*;
 use nt_types::ColumnType;
 use std::test::*;
 
+const WIDE: &[u64] = &[0, 1, 0xffffffffffffffff, 1 << 63, 0x123456789abcdef];
+
+const WIDE_PAGE: &[u8] = &[
+    0, 0, 0, 0, 0, 0, 0, 0, 1, 0, 0, 0, 0, 0, 0, 0, 0xff, 0xff, 0xff, 0xff, 0xff, 0xff, 0xff, 0xff,
+    0, 0, 0, 0, 0, 0, 0, 0x80, 0xef, 0xcd, 0xab, 0x89, 0x67, 0x45, 0x23, 1,
+];
+
 /// Values and their page, by the integer arithmetic and `struct` of Python.
-const PAGES: [(ColumnType, &[u64], &[u8]); 32] = [
+const PAGES: [(ColumnType, &[u64], &[u8]); 33] = [
     (ColumnType::Byte, &[0, 1, 0xff], &[0, 1, 0xff]),
     (ColumnType::Char, &[0, 1, 0xff], &[0, 1, 0xff]),
     (ColumnType::Int8, &[0, 1, 0xff], &[0, 1, 0xff]),
@@ -32,34 +39,8 @@ const PAGES: [(ColumnType, &[u64], &[u8]); 32] = [
         &[0, 1, 0xffffffff],
         &[0, 0, 0, 0, 1, 0, 0, 0, 0xff, 0xff, 0xff, 0xff],
     ),
-    (
-        ColumnType::Int64,
-        &[
-            0,
-            1,
-            0xffffffffffffffff,
-            0x8000000000000000,
-            0x123456789abcdef,
-        ],
-        &[
-            0, 0, 0, 0, 0, 0, 0, 0, 1, 0, 0, 0, 0, 0, 0, 0, 0xff, 0xff, 0xff, 0xff, 0xff, 0xff,
-            0xff, 0xff, 0, 0, 0, 0, 0, 0, 0, 0x80, 0xef, 0xcd, 0xab, 0x89, 0x67, 0x45, 0x23, 1,
-        ],
-    ),
-    (
-        ColumnType::UInt64,
-        &[
-            0,
-            1,
-            0xffffffffffffffff,
-            0x8000000000000000,
-            0x123456789abcdef,
-        ],
-        &[
-            0, 0, 0, 0, 0, 0, 0, 0, 1, 0, 0, 0, 0, 0, 0, 0, 0xff, 0xff, 0xff, 0xff, 0xff, 0xff,
-            0xff, 0xff, 0, 0, 0, 0, 0, 0, 0, 0x80, 0xef, 0xcd, 0xab, 0x89, 0x67, 0x45, 0x23, 1,
-        ],
-    ),
+    (ColumnType::Int64, WIDE, WIDE_PAGE),
+    (ColumnType::UInt64, WIDE, WIDE_PAGE),
     (
         ColumnType::Index32,
         &[0, 1, 0xffffffff],
@@ -164,6 +145,20 @@ const PAGES: [(ColumnType, &[u64], &[u8]); 32] = [
         ],
     ),
     (ColumnType::SplitUInt64, &[], &[]),
+    (
+        ColumnType::SplitInt16,
+        &[
+            45536, 45573, 45684, 45869, 46128, 46461, 46868, 47349, 47904, 48533, 49236, 50013,
+            50864, 51789, 52788, 53861, 55008, 56229, 57524, 58893, 60336, 61853, 63444, 65109,
+            1312, 3125, 5012, 6973, 9008, 11117, 13300, 15557, 17888, 20293, 22772, 25325, 27952,
+        ],
+        &[
+            63, 245, 23, 165, 159, 5, 215, 21, 191, 213, 87, 69, 159, 101, 151, 53, 63, 181, 151,
+            229, 159, 197, 87, 85, 64, 106, 40, 122, 96, 218, 232, 138, 192, 138, 232, 218, 96,
+            156, 155, 155, 153, 151, 149, 145, 142, 137, 132, 127, 121, 114, 107, 99, 91, 82, 72,
+            62, 51, 40, 28, 16, 3, 10, 24, 39, 54, 70, 86, 103, 121, 139, 158, 177, 197, 218,
+        ],
+    ),
 ];
 
 /// Whether the value has at most so many bits.

@@ -1,6 +1,6 @@
 //! Signed numbers as words that are small where the number is near 0.
 
-ghost use Rattle.std.specs.Prelude.{◌≡◌, ◌+◌, ◌*◌, ◌<◌, ◌≤◌, ◌^◌, All};
+ghost use Rattle.std.specs.Prelude.{◌≡◌, ℕ, ◌+◌, ◌*◌, ◌<◌, ◌≤◌, ◌^◌, length, slice_index, All};
 ghost use Rattle.nt_encode.specs.Zigzag.{zigzag_value, zigzag_values, zigzag_word};
 
 /// The largest number of so many bytes.
@@ -29,6 +29,20 @@ pub fn zigzag_word(value: u64, width: usize) -> u64
         2 * value
     } else {
         2 * (largest - value) + 1
+    }
+}
+
+/// Fills a block with the words of the numbers from a place on.
+#[inline(always)]
+pub fn fill_zigzags(values: &[u64], width: usize, from: usize, words: &mut [u64])
+    requires width { width ≤ 8 }
+    requires some { 0 < width }
+    requires fits { All (λ v. v < 2 ^ (8 * width)) values.now }
+    requires within { from + length words.old ≤ length values.now }
+    ensures { (k : ℕ) → k < length words.new → slice_index words.new k ≡ zigzag_word (8 * width) (slice_index values.now (from + k)) }
+{
+    for (k, word) in words.iter_mut().enumerate() {
+        *word = zigzag_word(values[from + k], width);
     }
 }
 

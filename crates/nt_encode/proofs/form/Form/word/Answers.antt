@@ -1,8 +1,0 @@
-use Rattle.std.proofs.Common.{◌*◌, ◌∙◌, sym, length}
-use Rattle.nt_encode.specs.Delta.{delta_word}
-use Rattle.nt_encode.proofs.Lists.{get_or-list_of}
-use Rattle.nt_encode.proofs.form.Form.word.Goals as goal
-
-pub returns-in-Delta : goal.returns-in-Delta
-returns-in-Delta c =
-    rw c.in-Delta.is (c.delta_word.ensures ∙ sym (get_or-list_of (length c.args.values.now) (delta_word (8 * c.args.width) c.args.values.now) c.args.i c.requires.within))
