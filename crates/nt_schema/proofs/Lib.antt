@@ -5,3 +5,4 @@ pub mod Appended
 pub mod Lengths
 pub mod Short
 pub mod AllNodes
+pub mod ByName

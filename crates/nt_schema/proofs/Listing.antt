@@ -7,7 +7,7 @@ use Rattle.std.proofs.Math.ListN.{get_or}
 use Rattle.nt_types.specs.Kinds.{Kind, Kinds, Parts, Part, bool, char, byte, int, text, list, fields, tuple, choice, no_kinds, kind, no_parts, part, parts_of}
 use Rattle.nt_types.specs.Schema.{field_count, parts_count, kinds_count}
 use Rattle.nt_schema.specs.Rows.{Node, AreNodes, inside, members_in, parts_in, all_inside, at_top, field_row, column_rows, Rows}
-use Rattle.nt_schema.specs.Table.{Table}
+use Rattle.nt_schema.specs.Table.{Table, table_of}
 use Rattle.nt_schema.specs.declared.rows.FieldRow.{FieldRow}
 use Rattle.nt_schema.specs.declared.rows.ColumnRow.{ColumnRow}
 use Rattle.nt_schema.specs.NodeViews.{weight, Lists}
@@ -155,11 +155,7 @@ one_list id (q ∷ front) (m ∷ ms) (n ∷ ns) e f =
 pub AreNodes-one : (ps : List Part) (ms ns : List Node) → AreNodes ps ms → AreNodes ps ns → ms ≡ ns
 AreNodes-one ps ms ns e f = one_list 0 (at_top 0 ps) ms ns e f
 
-table_of : List FieldRow → List ColumnRow → ℕ → ℕ → Table
-table_of f c h k = record { fields = f; columns = c; header_fields = h; header_columns = k }
-
 same_tables : (s t : Table) → s.fields ≡ t.fields → s.columns ≡ t.columns → s.header_fields ≡ t.header_fields → s.header_columns ≡ t.header_columns → s ≡ t
-unfolding table_of
 same_tables s t p q h k =
     ap (λ (f : List FieldRow). table_of f s.columns s.header_fields s.header_columns) p
     ∙ (ap (λ (c : List ColumnRow). table_of t.fields c s.header_fields s.header_columns) q

@@ -4,3 +4,5 @@ pub mod Columns
 pub mod Rows
 pub mod NodeViews
 pub mod Writing
+pub mod Find
+pub mod Keeping

@@ -10,13 +10,17 @@ pub record Table : Type 0 where
   pub header_fields : ℕ
   pub header_columns : ℕ
 
--- no rows
-abbrev pub no_rows : Table
-no_rows = record { fields = []; columns = []; header_fields = 0; header_columns = 0 }
+-- these rows, with so many in the header
+abbrev pub table_of : List FieldRow → List ColumnRow → ℕ → ℕ → Table
+table_of fields columns header_fields header_columns = record { fields = fields; columns = columns; header_fields = header_fields; header_columns = header_columns }
 
 -- these rows, all in the header
 abbrev pub in_header : List FieldRow → List ColumnRow → Table
-in_header fields columns = record { fields = fields; columns = columns; header_fields = length fields; header_columns = length columns }
+in_header fields columns = table_of fields columns (length fields) (length columns)
+
+-- no rows
+abbrev pub no_rows : Table
+no_rows = in_header [] []
 
 -- names that a description can hold
 abbrev pub is_short : FieldRow → Bool

@@ -45,10 +45,6 @@ pub fn describe(alloc: Global, fields: &Fields, plain: bool) -> Result<Schema, A
     ensures { IfOk result (λ schema. Rows (members_view fields.now) plain schema) }
 {
     let (field_rows, columns) = rows_of(alloc, fields, plain)?;
-    Ok(Schema {
-        header_fields: field_rows.len() as u32,
-        header_columns: columns.len() as u32,
-        fields: field_rows,
-        columns,
-    })
+    let (in_header, columns_in_header) = (field_rows.len() as u32, columns.len() as u32);
+    Schema::of_rows(alloc, field_rows, columns, in_header, columns_in_header)
 }

@@ -1,6 +1,7 @@
 //! Descriptions of fields and columns, as a header and its extension have them.
 #![tactic(auto)]
 
+mod by_name;
 mod column;
 mod describing;
 mod laws;

@@ -1,10 +1,14 @@
 //! The rows of a schema, in tables by id.
 
-ghost use Rattle.std.specs.Prelude.{◌≡◌, ◌<◌, length, Some, slice_get};
-ghost use Rattle.nt_schema.specs.Table.{no_rows};
+ghost use Rattle.std.specs.Prelude.{◌≡◌, ◌<◌, length, Some, slice_get, IfOk};
+ghost use Rattle.nt_schema.specs.Table.{no_rows, table_of};
+ghost use Rattle.nt_schema.specs.Find.{find_from};
+ghost use Rattle.nt_schema.specs.Keeping.{IsTable};
 
+use crate::by_name::names_of;
 use crate::rows::{ColumnRow, FieldRow};
-use std::alloc::Global;
+use indexmap::IndexMap;
+use std::alloc::{AllocError, Global};
 use std::marker::Model;
 
 /// The fields and columns of events. Ids of fields and columns count from 0, in the header and on
@@ -15,20 +19,20 @@ pub struct Schema {
     pub(crate) columns: Vec<ColumnRow>,
     pub(crate) header_fields: u32,
     pub(crate) header_columns: u32,
+    /// The first field at the top level of each name.
+    names: IndexMap<Vec<u8>, u32>,
 }
 
 impl Model for Schema {
-    ghost use Rattle.nt_schema.specs.Table.{Table};
+    ghost use Rattle.nt_schema.specs.Table.{Table, table_of};
 
     ghost Value = { Table };
 
-    ghost use Rattle.std.specs.Prelude.{◌≡◌, true, vec_len, ◌<◌, ◌≤◌, ◌^◌};
-    ghost use Rattle.std.specs.List.{list_all};
-    ghost use Rattle.nt_schema.specs.Table.{is_short};
+    ghost use Rattle.nt_schema.specs.Keeping.{IsKept};
 
-    ghost view = { λ s. record { fields = s.fields.items; columns = s.columns.items; header_fields = s.header_fields; header_columns = s.header_columns } };
+    ghost view = { λ s. table_of s.fields.items s.columns.items s.header_fields s.header_columns };
 
-    ghost invariant = { λ s. (vec_len s.fields < 2 ^ 32) × (vec_len s.columns < 2 ^ 32) × (s.header_fields ≤ vec_len s.fields) × (s.header_columns ≤ vec_len s.columns) × (list_all is_short s.fields.items ≡ true) };
+    ghost invariant = { λ s. IsKept (table_of s.fields.items s.columns.items s.header_fields s.header_columns) s.names.entries };
 }
 
 impl Schema {
@@ -41,7 +45,37 @@ impl Schema {
             columns: Vec::new(alloc),
             header_fields: 0,
             header_columns: 0,
+            names: IndexMap::new(alloc),
         }
+    }
+
+    /// A schema of these rows, of which so many stand in the header. Whoever adds rows makes the
+    /// schema anew from all of them.
+    pub(crate) fn of_rows(
+        alloc: Global,
+        fields: Vec<FieldRow>,
+        columns: Vec<ColumnRow>,
+        header_fields: u32,
+        header_columns: u32,
+    ) -> Result<Schema, AllocError>
+        requires { IsTable (table_of fields.items columns.items header_fields header_columns) }
+        ensures { IfOk result (λ schema. schema ≡ table_of fields.items columns.items header_fields header_columns) }
+    {
+        let names = names_of(alloc, &fields)?;
+        Ok(Schema {
+            fields,
+            columns,
+            header_fields,
+            header_columns,
+            names,
+        })
+    }
+
+    /// The first field at the top level of this name.
+    pub fn find(&self, name: &[u8]) -> Option<u32>
+        ensures { result ≡ find_from 0 self.now.fields name.now }
+    {
+        self.names.get(name).copied()
     }
 
     /// The number of fields.

@@ -186,44 +186,41 @@ fn bytes_of(alloc: Global, text: &[u8]) -> Result<Bytes, AllocError> {
 /// A record with a flag and a column of another representation, and in the extension a number that
 /// begins with entry 2.
 fn in_parts(alloc: Global) -> Result<Schema, AllocError> {
-    Ok(Schema {
-        fields: vec![in alloc;
-            FieldRow {
-                parent: 0,
-                role: 2,
-                flags: 4,
-                name: bytes_of(alloc, b"r")?,
-                type_name: bytes_of(alloc, b"odd")?
-            },
-            FieldRow {
-                parent: 1,
-                role: 0,
-                flags: 0,
-                name: bytes_of(alloc, b"y")?,
-                type_name: bytes_of(alloc, b"std::uint16_t")?
-            },
-        ]?,
-        columns: vec![in alloc;
-            ColumnRow {
-                code: 4,
-                bits: 8,
-                field: 0,
-                flags: 0,
-                representation: 3,
-                first: 0
-            },
-            ColumnRow {
-                code: 0x12,
-                bits: 16,
-                field: 1,
-                flags: 1,
-                representation: 0,
-                first: 2
-            },
-        ]?,
-        header_fields: 1,
-        header_columns: 1,
-    })
+    let fields = vec![in alloc;
+        FieldRow {
+            parent: 0,
+            role: 2,
+            flags: 4,
+            name: bytes_of(alloc, b"r")?,
+            type_name: bytes_of(alloc, b"odd")?
+        },
+        FieldRow {
+            parent: 1,
+            role: 0,
+            flags: 0,
+            name: bytes_of(alloc, b"y")?,
+            type_name: bytes_of(alloc, b"std::uint16_t")?
+        },
+    ]?;
+    let columns = vec![in alloc;
+        ColumnRow {
+            code: 4,
+            bits: 8,
+            field: 0,
+            flags: 0,
+            representation: 3,
+            first: 0
+        },
+        ColumnRow {
+            code: 0x12,
+            bits: 16,
+            field: 1,
+            flags: 1,
+            representation: 0,
+            first: 2
+        },
+    ]?;
+    Schema::of_rows(alloc, fields, columns, 1, 1)
 }
 
 #[test]
@@ -231,5 +228,39 @@ fn bytes_of_both_parts(rt: HostRuntime) -> Result<(), Fail> {
     let schema = in_parts(rt.alloc())?;
     assert!(rt; written(rt.alloc(), &schema, Part::Header)?.as_slice() == FLAGS);
     assert!(rt; written(rt.alloc(), &schema, Part::Extension)?.as_slice() == DEFERRED);
+    Ok(())
+}
+
+#[test]
+fn names_at_the_top(rt: HostRuntime) -> Result<(), Fail> {
+    let five = described(rt.alloc(), FIVE, false)?;
+    let found: [(&[u8], Option<u32>); 5] = [
+        (b"x", Some(0)),
+        (b"p", Some(4)),
+        (b"a", None),
+        (b"_0", None),
+        (b"", None),
+    ];
+    for (name, id) in found {
+        assert_eq!(rt; five.find(name), id);
+    }
+    Ok(())
+}
+
+#[test]
+fn the_first_of_a_name(rt: HostRuntime) -> Result<(), Fail> {
+    let alloc = rt.alloc();
+    let mut fields = Vec::new(alloc);
+    for (parent, name) in [(0, b"a"), (0, b"b"), (2, b"b"), (3, b"b")] {
+        fields.push(FieldRow {
+            parent,
+            role: 0,
+            flags: 0,
+            name: bytes_of(alloc, name)?,
+            type_name: bytes_of(alloc, b"")?,
+        })?;
+    }
+    let schema = Schema::of_rows(alloc, fields, Vec::new(alloc), 4, 0)?;
+    assert_eq!(rt; schema.find(b"b"), Some(2));
     Ok(())
 }

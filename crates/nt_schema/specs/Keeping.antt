@@ -1,0 +1,19 @@
+-- What a schema keeps beside its rows.
+use Rattle.std.specs.Prelude.{ℕ, true, ◌≡◌, ◌<◌, ◌≤◌, ◌^◌, List, length, Vec}
+use Rattle.std.specs.List.{list_all}
+use Rattle.std.specs.declared.alloc.Global.{Global}
+use Rattle.nt_schema.specs.Table.{Table, is_short}
+use Rattle.nt_schema.specs.Find.{HasNames}
+
+-- rows that their ids can count, with names that a description can hold
+pub record IsTable (t : Table) : Type 0 where
+  pub few_fields : length t.fields < 2 ^ 32
+  pub few_columns : length t.columns < 2 ^ 32
+  pub header_fields : t.header_fields ≤ length t.fields
+  pub header_columns : t.header_columns ≤ length t.columns
+  pub short : list_all is_short t.fields ≡ true
+
+-- a table, with the first field of each name
+pub record IsKept (t : Table) (names : List (Vec ℕ Global × ℕ)) : Type 0 where
+  pub rows : IsTable t
+  pub by_name : HasNames names t.fields
