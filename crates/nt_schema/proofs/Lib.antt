@@ -6,3 +6,6 @@ pub mod Lengths
 pub mod Short
 pub mod AllNodes
 pub mod ByName
+pub mod Groups
+pub mod Levels
+pub mod OpenKinds

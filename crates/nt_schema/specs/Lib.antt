@@ -6,3 +6,5 @@ pub mod NodeViews
 pub mod Writing
 pub mod Find
 pub mod Keeping
+pub mod Open
+pub mod GroupViews

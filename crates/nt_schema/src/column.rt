@@ -9,7 +9,7 @@ use crate::rows::ColumnRow;
 use nt_types::{ColumnType, Shape};
 use std::alloc::AllocError;
 
-fn int_type(plain: bool, bits: u8, signed: bool) -> ColumnType
+pub(crate) fn int_type(plain: bool, bits: u8, signed: bool) -> ColumnType
     ensures { result ≡ int_type plain bits signed }
 {
     match (bits, plain, signed) {

@@ -4,12 +4,16 @@
 mod by_name;
 mod column;
 mod describing;
+mod grouped;
 mod laws;
 mod node;
 mod nodes;
+mod open_columns;
+mod opening;
 mod part;
 mod rows;
 mod schema;
+mod shapes;
 mod type_name;
 mod writing;
 
@@ -20,5 +24,7 @@ pub use rows::{ColumnRow, FieldRow};
 pub use schema::Schema;
 pub use writing::write_description;
 
+#[cfg(test)]
+mod open_tests;
 #[cfg(test)]
 mod tests;

@@ -1,15 +1,20 @@
 //! The rows of a schema, in tables by id.
 
-ghost use Rattle.std.specs.Prelude.{◌≡◌, ◌<◌, length, Some, slice_get, IfOk};
+ghost use Rattle.std.specs.Prelude.{◌≡◌, ◌<◌, length, Some, slice_get, option_map, option_and_then, IfOk};
+ghost use Rattle.nt_types.specs.Views.{shape_view};
 ghost use Rattle.nt_schema.specs.Table.{no_rows, table_of};
 ghost use Rattle.nt_schema.specs.Find.{find_from};
+ghost use Rattle.nt_schema.specs.Open.{open_kind};
 ghost use Rattle.nt_schema.specs.Keeping.{IsTable};
 
 use crate::by_name::names_of;
 use crate::rows::{ColumnRow, FieldRow};
+use crate::shapes::shapes_of;
 use indexmap::IndexMap;
+use nt_types::Shape;
 use std::alloc::{AllocError, Global};
 use std::marker::Model;
+use std::mem;
 
 /// The fields and columns of events. Ids of fields and columns count from 0, in the header and on
 /// in its extension.
@@ -21,6 +26,8 @@ pub struct Schema {
     pub(crate) header_columns: u32,
     /// The first field at the top level of each name.
     names: IndexMap<Vec<u8>, u32>,
+    /// The shape of each field, where it is at the top level and open.
+    shapes: Vec<Option<Shape>>,
 }
 
 impl Model for Schema {
@@ -28,11 +35,22 @@ impl Model for Schema {
 
     ghost Value = { Table };
 
+    ghost use Rattle.std.specs.Prelude.{map, option_map};
+    ghost use Rattle.nt_types.specs.Views.{shape_view};
     ghost use Rattle.nt_schema.specs.Keeping.{IsKept};
 
     ghost view = { λ s. table_of s.fields.items s.columns.items s.header_fields s.header_columns };
 
-    ghost invariant = { λ s. IsKept (table_of s.fields.items s.columns.items s.header_fields s.header_columns) s.names.entries };
+    ghost invariant = { λ s. IsKept (table_of s.fields.items s.columns.items s.header_fields s.header_columns) s.names.entries (map (option_map shape_view) s.shapes.items) };
+}
+
+fn shape_at(shapes: &[Option<Shape>], id: usize) -> Option<&Shape>
+    ensures { option_map (λ shape. shape_view shape.now) result ≡ option_and_then (option_map shape_view) (slice_get shapes.now id) }
+{
+    match shapes.get(id) {
+        Some(shape) => shape.as_ref(),
+        None => None,
+    }
 }
 
 impl Schema {
@@ -46,6 +64,7 @@ impl Schema {
             header_fields: 0,
             header_columns: 0,
             names: IndexMap::new(alloc),
+            shapes: Vec::new(alloc),
         }
     }
 
@@ -62,13 +81,27 @@ impl Schema {
         ensures { IfOk result (λ schema. schema ≡ table_of fields.items columns.items header_fields header_columns) }
     {
         let names = names_of(alloc, &fields)?;
+        let shapes = shapes_of(alloc, &fields, &columns)?;
         Ok(Schema {
             fields,
             columns,
             header_fields,
             header_columns,
             names,
+            shapes,
         })
+    }
+
+    /// Takes all rows out, so that more can be put behind them; the schema has no row then.
+    pub(crate) fn take_rows(&mut self) -> (Vec<FieldRow>, Vec<ColumnRow>)
+        ensures fields { result.0.items ≡ self.old.fields }
+        ensures columns { result.1.items ≡ self.old.columns }
+        ensures table { IsTable self.old }
+        ensures none { self.new ≡ no_rows }
+    {
+        let alloc = *self.fields.allocator();
+        let taken = mem::replace(self, Schema::new(alloc));
+        (taken.fields, taken.columns)
     }
 
     /// The first field at the top level of this name.
@@ -76,6 +109,14 @@ impl Schema {
         ensures { result ≡ find_from 0 self.now.fields name.now }
     {
         self.names.get(name).copied()
+    }
+
+    /// The shape of the values of an open field at the top level. A tuple has that of a record with
+    /// members `_0`, `_1` and so on.
+    pub fn shape(&self, field: u32) -> Option<&Shape>
+        ensures { option_map (λ shape. shape_view shape.now) result ≡ open_kind self.now field }
+    {
+        shape_at(&self.shapes, field as usize)
     }
 
     /// The number of fields.

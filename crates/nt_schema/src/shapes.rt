@@ -1,0 +1,48 @@
+//! The shapes of all open fields.
+
+ghost use Rattle.std.specs.Prelude.{◌≡◌, ◌<◌, ◌^◌, length, map, option_map, IfOk};
+ghost use Rattle.nt_types.specs.Views.{shape_view};
+ghost use Rattle.nt_schema.specs.Open.{top_kind, open_kinds};
+
+use crate::grouped::Grouped;
+use crate::opening::open_part;
+use crate::rows::{ColumnRow, FieldRow};
+use nt_types::Shape;
+use std::alloc::{AllocError, Global};
+
+/// The most levels of an open field.
+const MAX_DEPTH: u32 = 64;
+
+fn top_shape(
+    alloc: Global,
+    rows: &Grouped<'_>,
+    id: u32,
+    row: &FieldRow,
+) -> Result<Option<Shape>, AllocError>
+    ensures { IfOk result (λ shape. option_map shape_view shape ≡ top_kind rows.now.fields.now rows.now.columns.now id row.now) }
+{
+    if row.parent != id {
+        return Ok(None);
+    }
+    match open_part(alloc, rows, MAX_DEPTH, true, id)? {
+        Some(part) => Ok(Some(part.of)),
+        None => Ok(None),
+    }
+}
+
+/// The shape of each field, where it is at the top level and open. Each field is looked at once.
+pub(crate) fn shapes_of(
+    alloc: Global,
+    fields: &[FieldRow],
+    columns: &[ColumnRow],
+) -> Result<Vec<Option<Shape>>, AllocError>
+    requires { length fields.now < 2 ^ 32 }
+    ensures { IfOk result (λ shapes. map (option_map shape_view) shapes.items ≡ open_kinds fields.now columns.now 0 fields.now) }
+{
+    let rows = Grouped::new(alloc, fields, columns)?;
+    let mut shapes = Vec::new(alloc);
+    for (id, row) in fields.iter().enumerate() {
+        shapes.push(top_shape(alloc, &rows, id as u32, row)?)?;
+    }
+    Ok(shapes)
+}
