@@ -1,200 +1,161 @@
 //! Open and closed fields, and the shapes of described ones.
 
 use crate::shapes::shapes_of;
+use crate::tests::bytes_of;
 use crate::{ColumnRow, FieldRow, describe};
-use nt_types::{Bytes, Shape, parse_schema};
-use std::alloc::Global;
+use nt_types::{Shape, parse_schema};
+use std::alloc::{AllocError, Global};
 use std::test::Fail;
 
-/// The parent, role, flags and type name of a field.
-type Row = (u32, u16, u16, &'static [u8]);
-
-/// The code, bits, field, flags, representation and first element of a column.
-type Column = (u16, u16, u32, u16, u16, u64);
-
-/// The shape of the first field of these rows.
-fn first_shape(alloc: Global, rows: &[Row], columns: &[Column]) -> Result<Option<Shape>, Fail> {
-    let mut field_rows = Vec::new(alloc);
-    for (parent, role, flags, type_name) in rows {
-        field_rows.push(FieldRow {
-            parent: *parent,
-            role: *role,
-            flags: *flags,
-            name: Bytes::from_vec(b"n".to_vec(alloc)?),
-            type_name: Bytes::from_vec(type_name.to_vec(alloc)?),
-        })?;
-    }
-    let mut column_rows = Vec::new(alloc);
-    for (code, bits, field, flags, representation, first) in columns {
-        column_rows.push(ColumnRow {
-            code: *code,
-            bits: *bits,
-            field: *field,
-            flags: *flags,
-            representation: *representation,
-            first: *first,
-        })?;
-    }
-    if field_rows.len() > 100 {
-        return Err("too many rows".into());
-    }
-    let mut shapes = shapes_of(alloc, &field_rows, &column_rows)?;
-    Ok(shapes.swap_remove(0))
+fn field(
+    alloc: Global,
+    parent: u32,
+    role: u16,
+    flags: u16,
+    of: &[u8],
+) -> Result<FieldRow, AllocError> {
+    Ok(FieldRow {
+        parent,
+        role,
+        flags,
+        name: bytes_of(alloc, b"n")?,
+        type_name: bytes_of(alloc, of)?,
+    })
 }
 
-const NUMBER: Row = (0, 0, 0, b"std::uint32_t");
+fn column(code: u16, bits: u16, field: u32) -> ColumnRow {
+    ColumnRow {
+        code,
+        bits,
+        field,
+        flags: 0,
+        representation: 0,
+        first: 0,
+    }
+}
 
-const TEXT: Row = (0, 0, 0, b"std::string");
+/// Whether the first field of these rows is open.
+fn is_open(alloc: Global, fields: &[FieldRow], columns: &[ColumnRow]) -> Result<bool, Fail> {
+    if fields.len() > 100 {
+        return Err("too many rows".into());
+    }
+    let shapes = shapes_of(alloc, fields, columns)?;
+    Ok(matches!(shapes.first(), Some(Some(_))))
+}
 
-const LIST: Row = (0, 1, 0, b"anything");
-
-const BOOL: Row = (0, 0, 0, b"bool");
-
-/// Fields, columns, and whether the first field is open.
-type Case = (&'static [Row], &'static [Column], bool);
-
-const CASES: [Case; 33] = [
-    // A number has one column of its own width and sign, split or plain.
-    (&[NUMBER], &[(0x14, 32, 0, 0, 0, 0)], true),
-    (&[NUMBER], &[(0x08, 32, 0, 0, 0, 0)], true),
-    (&[NUMBER], &[(0x07, 32, 0, 0, 0, 0)], false),
-    (&[NUMBER], &[(0x16, 64, 0, 0, 0, 0)], false),
-    (&[NUMBER], &[(0x14, 64, 0, 0, 0, 0)], false),
-    (&[NUMBER], &[], false),
-    (
-        &[NUMBER],
-        &[(0x14, 32, 0, 0, 0, 0), (0x14, 32, 0, 0, 0, 0)],
-        false,
-    ),
-    (&[(0, 0, 0, b"float")], &[(0x0C, 32, 0, 0, 0, 0)], false),
-    // Representations, flags and first elements.
-    (&[NUMBER], &[(0x14, 32, 0, 0, 1, 0)], false),
-    (&[NUMBER], &[(0x14, 32, 0, 1, 0, 5)], true),
-    (&[NUMBER], &[(0x14, 32, 0, 2, 0, 0)], false),
-    (&[NUMBER], &[(0x14, 32, 0, 1, 0, 1 << 63)], false),
-    (
-        &[(0, 0, 4, b"std::uint32_t")],
-        &[(0x14, 32, 0, 0, 0, 0)],
-        false,
-    ),
-    (
-        &[(0, 0, 1, b"std::uint32_t")],
-        &[(0x14, 32, 0, 0, 0, 0)],
-        false,
-    ),
-    // Only at the top level.
-    (
-        &[(1, 0, 0, b"bool"), (1, 2, 0, b"")],
-        &[(0, 1, 0, 0, 0, 0)],
-        false,
-    ),
-    // A text has its ends and then its bytes, which aren't principal.
-    (&[TEXT], &[(0x0E, 32, 0, 1, 0, 7), (2, 8, 0, 0, 0, 0)], true),
-    (
-        &[TEXT],
-        &[(0x0E, 32, 0, 0, 0, 0), (2, 8, 0, 1, 0, 7)],
-        false,
-    ),
-    (
-        &[TEXT],
-        &[(2, 8, 0, 0, 0, 0), (0x0E, 32, 0, 0, 0, 0)],
-        false,
-    ),
-    (&[TEXT], &[(0x1A, 32, 0, 0, 0, 0)], false),
-    // A collection has one column of ends and one field inside.
-    (
-        &[LIST, BOOL],
-        &[(0x1A, 32, 0, 0, 0, 0), (0, 1, 1, 0, 0, 0)],
-        true,
-    ),
-    (
-        &[LIST, BOOL],
-        &[(0, 1, 1, 0, 0, 0), (0x0F, 64, 0, 0, 0, 0)],
-        true,
-    ),
-    (
-        &[LIST, BOOL],
-        &[(0x1A, 32, 0, 0, 0, 0), (0, 1, 1, 1, 0, 7)],
-        false,
-    ),
-    (
-        &[LIST, BOOL],
-        &[(0x10, 96, 0, 0, 0, 0), (0, 1, 1, 0, 0, 0)],
-        false,
-    ),
-    (&[LIST], &[(0x1A, 32, 0, 0, 0, 0)], false),
-    (
-        &[LIST, BOOL, BOOL],
-        &[
-            (0x1A, 32, 0, 0, 0, 0),
-            (0, 1, 1, 0, 0, 0),
-            (0, 1, 2, 0, 0, 0),
-        ],
-        false,
-    ),
-    // A record has no column and a field inside, whose columns are principal.
-    (&[(0, 2, 4, b""), BOOL], &[(0, 1, 1, 1, 0, 7)], true),
-    (
-        &[(0, 2, 0, b""), BOOL],
-        &[(0, 1, 1, 0, 0, 0), (4, 8, 0, 0, 0, 0)],
-        false,
-    ),
-    (&[(0, 2, 0, b"")], &[], false),
-    (
-        &[(0, 2, 0, b""), (0, 0, 0, b"float")],
-        &[(0x0C, 32, 1, 0, 0, 0)],
-        false,
-    ),
-    // A variant has one column of tags and a field inside.
-    (
-        &[(0, 3, 0, b""), BOOL, BOOL],
-        &[
-            (0x10, 96, 0, 1, 0, 7),
-            (0, 1, 1, 0, 0, 0),
-            (0, 1, 2, 0, 0, 0),
-        ],
-        true,
-    ),
-    (
-        &[(0, 3, 0, b""), BOOL],
-        &[(0x0F, 64, 0, 0, 0, 0), (0, 1, 1, 0, 0, 0)],
-        false,
-    ),
-    (&[(0, 3, 0, b"")], &[(0x10, 96, 0, 0, 0, 0)], false),
-    (&[(0, 4, 0, b""), BOOL], &[(0, 1, 1, 0, 0, 0)], false),
+/// Of a `std::uint32_t`: its flags; its column's code, bits, flags, representation and first
+/// element; whether it is open.
+const NUMBERS: [(u16, u16, u16, u16, u16, u64, bool); 12] = [
+    (0, 0x14, 32, 0, 0, 0, true),
+    (0, 0x08, 32, 0, 0, 0, true),
+    (0, 0x07, 32, 0, 0, 0, false),
+    (0, 0x16, 64, 0, 0, 0, false),
+    (0, 0x0C, 32, 0, 0, 0, false),
+    (0, 0x14, 64, 0, 0, 0, false),
+    (1, 0x14, 32, 0, 0, 0, false),
+    (4, 0x14, 32, 0, 0, 0, false),
+    (0, 0x14, 32, 0, 1, 0, false),
+    (0, 0x14, 32, 1, 0, 5, true),
+    (0, 0x14, 32, 2, 0, 0, false),
+    (0, 0x14, 32, 1, 0, 1 << 63, false),
 ];
 
 #[test]
-fn open_and_closed(rt: HostRuntime) -> Result<(), Fail> {
-    for (number, (rows, columns, open)) in CASES.iter().enumerate() {
-        let shape = first_shape(rt.alloc(), rows, columns)?;
-        assert_eq!(rt; (number, shape.is_some()), (number, *open));
+fn numbers(rt: HostRuntime) -> Result<(), Fail> {
+    for (field_flags, code, bits, flags, representation, first, open) in NUMBERS {
+        let fields = [field(rt.alloc(), 0, 0, field_flags, b"std::uint32_t")?];
+        let columns = [ColumnRow {
+            flags,
+            representation,
+            first,
+            ..column(code, bits, 0)
+        }];
+        assert_eq!(rt; is_open(rt.alloc(), &fields, &columns)?, open);
     }
     Ok(())
 }
 
-/// Collections inside one another, and a bool in the last.
-fn nested(alloc: Global, lists: u32) -> Result<Option<Shape>, Fail> {
-    let mut rows = Vec::new(alloc);
-    let mut columns = Vec::new(alloc);
-    for id in 0..lists {
-        rows.push((if id > 0 { id - 1 } else { 0 }, 1, 0, b"".as_slice()))?;
-        columns.push((0x1B, 64, id, 0, 0, 0))?;
+/// Of a field with bools inside: its role, the code and the bits of its column, how many bools
+/// there are, the first element of their columns, and whether it is open. Code FF is no column.
+const PARENTS: [(u16, u16, u16, u32, u64, bool); 14] = [
+    (1, 0x1A, 32, 1, 0, true),
+    (1, 0x0F, 64, 1, 0, true),
+    (1, 0x1A, 32, 1, 7, false),
+    (1, 0x1A, 32, 0, 0, false),
+    (1, 0x1A, 32, 2, 0, false),
+    (1, 0x10, 96, 1, 0, false),
+    (1, 0xFF, 0, 1, 0, false),
+    (2, 0xFF, 0, 2, 7, true),
+    (2, 0xFF, 0, 0, 0, false),
+    (2, 0x04, 8, 1, 0, false),
+    (3, 0x10, 96, 2, 0, true),
+    (3, 0x10, 96, 0, 0, false),
+    (3, 0x0F, 64, 1, 0, false),
+    (4, 0xFF, 0, 1, 0, false),
+];
+
+#[test]
+fn fields_with_fields(rt: HostRuntime) -> Result<(), Fail> {
+    for (role, code, bits, bools, first, open) in PARENTS {
+        let mut fields = Vec::new(rt.alloc());
+        let mut columns = Vec::new(rt.alloc());
+        fields.push(field(rt.alloc(), 0, role, 0, b"")?)?;
+        if code != 0xFF {
+            columns.push(column(code, bits, 0))?;
+        }
+        for id in 0..bools {
+            fields.push(field(rt.alloc(), 0, 0, 0, b"bool")?)?;
+            columns.push(ColumnRow {
+                flags: 1,
+                first,
+                ..column(0, 1, id + 1)
+            })?;
+        }
+        assert_eq!(rt; is_open(rt.alloc(), &fields, &columns)?, open);
     }
-    rows.push((
-        if lists > 0 { lists - 1 } else { 0 },
-        0,
-        0,
-        b"bool".as_slice(),
-    ))?;
-    columns.push((0, 1, lists, 0, 0, 0))?;
-    first_shape(alloc, &rows, &columns)
+    Ok(())
+}
+
+#[test]
+fn texts(rt: HostRuntime) -> Result<(), Fail> {
+    let fields = [field(rt.alloc(), 0, 0, 0, b"std::string")?];
+    let (ends, bytes) = (column(0x0E, 32, 0), column(2, 8, 0));
+    let late = ColumnRow {
+        flags: 1,
+        first: 7,
+        ..ends
+    };
+    let late_bytes = ColumnRow {
+        flags: 1,
+        first: 7,
+        ..bytes
+    };
+    assert!(rt; is_open(rt.alloc(), &fields, &[late, bytes])?);
+    assert!(rt; !is_open(rt.alloc(), &fields, &[ends, late_bytes])?);
+    assert!(rt; !is_open(rt.alloc(), &fields, &[bytes, ends])?);
+    assert!(rt; !is_open(rt.alloc(), &fields, &[ends])?);
+    Ok(())
+}
+
+/// Whether collections inside one another, with a bool in the last, are open.
+fn nested(alloc: Global, lists: u32) -> Result<bool, Fail> {
+    let mut fields = Vec::new(alloc);
+    let mut columns = Vec::new(alloc);
+    let mut parent = 0;
+    for id in 0..lists {
+        fields.push(field(alloc, parent, 1, 0, b"")?)?;
+        columns.push(column(0x1B, 64, id))?;
+        parent = id;
+    }
+    fields.push(field(alloc, parent, 0, 0, b"bool")?)?;
+    columns.push(column(0, 1, lists))?;
+    is_open(alloc, &fields, &columns)
 }
 
 #[test]
 fn most_levels(rt: HostRuntime) -> Result<(), Fail> {
-    assert!(rt; nested(rt.alloc(), 63)?.is_some());
-    assert!(rt; nested(rt.alloc(), 64)?.is_none());
+    assert!(rt; nested(rt.alloc(), 63)?);
+    assert!(rt; !nested(rt.alloc(), 64)?);
     Ok(())
 }
 
