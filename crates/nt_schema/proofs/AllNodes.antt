@@ -20,7 +20,7 @@ abbrev pub AllNodes : (Node → Type 0) → List Node → Type 0
 AllNodes P [] = Unit {0}
 AllNodes P (n ∷ ns) = P n × AllNodes P ns
 
-AllNodes-append : (P : Node → Type 0) (a b : List Node) → AllNodes P a → AllNodes P b → AllNodes P (a ++ b)
+pub AllNodes-append : (P : Node → Type 0) (a b : List Node) → AllNodes P a → AllNodes P b → AllNodes P (a ++ b)
 AllNodes-append P [] b x y = y
 AllNodes-append P (n ∷ a) b x y = (x.0, AllNodes-append P a b x.1 y)
 

@@ -50,12 +50,15 @@ items_at-set lists at v d item h e i = cases (i == at) (grind (arith, nat_tests)
 abbrev one_inside : ℕ → ℕ → FieldRow → List ℕ
 one_inside parent id r = if (r.parent == parent) && not (id == parent) then id ∷ [] else []
 
-ids_inside-snoc : (parent id : ℕ) (rows : List FieldRow) (r : FieldRow) → ids_inside parent id (rows ++ r ∷ []) ≡ ids_inside parent id rows ++ one_inside parent (id + length rows) r
-ids_inside-snoc parent id [] r = rw (append-nil, add-zero) refl
-ids_inside-snoc parent id (q ∷ rows) r =
+pub ids_inside-append : (parent id : ℕ) (rows more : List FieldRow) → ids_inside parent id (rows ++ more) ≡ ids_inside parent id rows ++ ids_inside parent (id + length rows) more
+ids_inside-append parent id [] more = ap (λ (i : ℕ). ids_inside parent i more) (sym (add-zero id))
+ids_inside-append parent id (q ∷ rows) more =
     let next : (id + 1) + length rows ≡ id + suc (length rows) = omega arith in
-    let later : ids_inside parent (id + 1) (rows ++ r ∷ []) ≡ ids_inside parent (id + 1) rows ++ one_inside parent (id + suc (length rows)) r = rw next at (ids_inside-snoc parent (id + 1) rows r) in
-    ap (λ (z : List ℕ). one_inside parent id q ++ z) later ∙ sym (append_assoc (one_inside parent id q) (ids_inside parent (id + 1) rows) (one_inside parent (id + suc (length rows)) r))
+    let later : ids_inside parent (id + 1) (rows ++ more) ≡ ids_inside parent (id + 1) rows ++ ids_inside parent (id + suc (length rows)) more = rw next at (ids_inside-append parent (id + 1) rows more) in
+    ap (λ (z : List ℕ). one_inside parent id q ++ z) later ∙ sym (append_assoc (one_inside parent id q) (ids_inside parent (id + 1) rows) (ids_inside parent (id + suc (length rows)) more))
+
+ids_inside-snoc : (parent id : ℕ) (rows : List FieldRow) (r : FieldRow) → ids_inside parent id (rows ++ r ∷ []) ≡ ids_inside parent id rows ++ one_inside parent (id + length rows) r
+ids_inside-snoc parent id rows r = ids_inside-append parent id rows (r ∷ []) ∙ ap (λ (z : List ℕ). ids_inside parent id rows ++ z) (append-nil (one_inside parent (id + length rows) r))
 
 -- the fields inside of a field, one field further
 pub ids_inside_next : (rows : List FieldRow) (i : ℕ) (r : FieldRow) (parent : ℕ) → i < length rows → r ≡ get_or rows i r

@@ -9,3 +9,5 @@ pub mod ByName
 pub mod Groups
 pub mod Levels
 pub mod OpenKinds
+pub mod Inside
+pub mod Described

@@ -113,7 +113,7 @@ Lists-here ps nodes next h l =
     let some : length (drop next nodes) ≡ length nodes - next = length-drop next nodes in
     omega arith
 
-weight-all_inside : (id : ℕ) (ns : List Node) → weight (all_inside id ns) + length ns ≡ weight ns
+pub weight-all_inside : (id : ℕ) (ns : List Node) → weight (all_inside id ns) + length ns ≡ weight ns
 weight-all_inside id [] = omega arith
 weight-all_inside id (n ∷ ns) =
     let ih : weight (all_inside (id + 1) ns) + length ns ≡ weight ns = weight-all_inside (id + 1) ns in

@@ -8,3 +8,4 @@ pub mod Find
 pub mod Keeping
 pub mod Open
 pub mod GroupViews
+pub mod AsRead

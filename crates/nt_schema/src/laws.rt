@@ -1,11 +1,20 @@
-//! The law of descriptions.
+//! The laws of descriptions.
 
-ghost use Rattle.std.specs.Prelude.{◌≡◌, Bool, List};
+ghost use Rattle.std.specs.Prelude.{◌≡◌, ℕ, Bool, List, Some, slice_get};
 ghost use Rattle.nt_types.specs.Kinds.{Part};
 ghost use Rattle.nt_schema.specs.Table.{Table};
+ghost use Rattle.nt_types.specs.Rules.{AreFields};
 ghost use Rattle.nt_schema.specs.Rows.{Rows};
+ghost use Rattle.nt_schema.specs.Open.{open_kind};
+ghost use Rattle.nt_schema.specs.AsRead.{as_read};
 
 /// Fields are described by one table of rows at most.
 pub fn descriptions_are_one()
     ensures { (fields : List Part) (plain : Bool) (one other : Table) → Rows fields plain one → Rows fields plain other → one ≡ other }
+{}
+
+/// Described fields are open, and have the shapes that they were described from, with tuples read
+/// as records.
+pub fn described_fields_are_open()
+    ensures { (fields : List Part) (plain : Bool) (table : Table) → AreFields fields → Rows fields plain table → (id : ℕ) (field : Part) → slice_get fields id ≡ Some field → open_kind table id ≡ Some (as_read field.of) }
 {}

@@ -18,7 +18,7 @@ mod type_name;
 mod writing;
 
 pub use describing::describe;
-pub use laws::descriptions_are_one;
+pub use laws::{described_fields_are_open, descriptions_are_one};
 pub use part::Part;
 pub use rows::{ColumnRow, FieldRow};
 pub use schema::Schema;
@@ -28,3 +28,5 @@ pub use writing::write_description;
 mod open_tests;
 #[cfg(test)]
 mod tests;
+#[cfg(test)]
+mod writing_tests;
