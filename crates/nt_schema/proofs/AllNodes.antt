@@ -98,7 +98,7 @@ type_name-length k h = cases (holds_record k)
     cases true = omega arith
     cases false = omega (arith, cpp_name-length k)
 
-field-short : (n : Node) → IsField n → is_short (field_row n) ≡ true
+pub field-short : (n : Node) → IsField n → is_short (field_row n) ≡ true
 field-short n f =
     let named : length n.name ≤ 255 = f.named in
     let typed : length (type_name n.of) < 2 ^ 32 = type_name-length n.of f.few in

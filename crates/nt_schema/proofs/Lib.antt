@@ -1,10 +1,17 @@
 pub mod Lists
 pub mod Listing
 pub mod Names
+pub mod ReadingRows
+pub mod ReadingBack
+pub mod ReadingParts
+pub mod ReadingFound
+pub mod ReadingFoundLists
+pub mod ReadingDescribed
 pub mod Appended
 pub mod Lengths
 pub mod Short
 pub mod AllNodes
+pub mod ReadingSchemas
 pub mod ByName
 pub mod Groups
 pub mod Levels

@@ -3,6 +3,8 @@ pub mod Types
 pub mod Columns
 pub mod Rows
 pub mod NodeViews
+pub mod Reading
+pub mod ReadingBack
 pub mod Writing
 pub mod Find
 pub mod Keeping

@@ -11,6 +11,7 @@ mod nodes;
 mod open_columns;
 mod opening;
 mod part;
+mod reading_laws;
 mod rows;
 mod schema;
 mod shapes;
@@ -20,6 +21,9 @@ mod writing;
 pub use describing::describe;
 pub use laws::{described_fields_are_open, descriptions_are_one};
 pub use part::Part;
+pub use reading_laws::{
+    descriptions_are_read_back, rows_read_are_described, schemas_are_described,
+};
 pub use rows::{ColumnRow, FieldRow};
 pub use schema::Schema;
 pub use writing::write_description;
