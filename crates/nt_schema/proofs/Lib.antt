@@ -1,6 +1,7 @@
 pub mod Lists
 pub mod Listing
 pub mod Names
+pub mod ReadingSteps
 pub mod ReadingRows
 pub mod ReadingBack
 pub mod ReadingParts

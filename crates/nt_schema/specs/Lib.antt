@@ -4,6 +4,7 @@ pub mod Columns
 pub mod Rows
 pub mod NodeViews
 pub mod Reading
+pub mod ReadingCalls
 pub mod ReadingBack
 pub mod Writing
 pub mod Find

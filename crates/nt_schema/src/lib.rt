@@ -4,6 +4,7 @@
 mod by_name;
 mod column;
 mod describing;
+mod description_error;
 mod grouped;
 mod laws;
 mod node;
@@ -11,7 +12,11 @@ mod nodes;
 mod open_columns;
 mod opening;
 mod part;
+mod reading;
+mod reading_columns;
+mod reading_fields;
 mod reading_laws;
+mod reading_words;
 mod rows;
 mod schema;
 mod shapes;
@@ -19,8 +24,10 @@ mod type_name;
 mod writing;
 
 pub use describing::describe;
+pub use description_error::DescriptionError;
 pub use laws::{described_fields_are_open, descriptions_are_one};
 pub use part::Part;
+pub use reading::read_description;
 pub use reading_laws::{
     descriptions_are_read_back, rows_read_are_described, schemas_are_described,
 };
@@ -30,6 +37,8 @@ pub use writing::write_description;
 
 #[cfg(test)]
 mod open_tests;
+#[cfg(test)]
+mod reading_tests;
 #[cfg(test)]
 mod tests;
 #[cfg(test)]

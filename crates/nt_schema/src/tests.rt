@@ -9,11 +9,11 @@ use std::alloc::{AllocError, Global};
 use std::test::Fail;
 
 /// The parent, role, name and type name of a field.
-type Row = (u32, u16, &'static [u8], &'static [u8]);
+pub(crate) type Row = (u32, u16, &'static [u8], &'static [u8]);
 
 pub(crate) const FIVE: &[u8] = b"x u32\ny u16\nt string\nv vec<u8>\np rec{a:bool,b:char}\n";
 
-const FIVE_FIELDS: [Row; 8] = [
+pub(crate) const FIVE_FIELDS: [Row; 8] = [
     (0, 0, b"x", b"std::uint32_t"),
     (1, 0, b"y", b"std::uint16_t"),
     (2, 0, b"t", b"std::string"),
@@ -25,7 +25,7 @@ const FIVE_FIELDS: [Row; 8] = [
 ];
 
 /// The code, bits and field of a column.
-const FIVE_COLUMNS: [(u16, u16, u32); 8] = [
+pub(crate) const FIVE_COLUMNS: [(u16, u16, u32); 8] = [
     (0x14, 32, 0),
     (0x12, 16, 1),
     (0x1B, 64, 2),

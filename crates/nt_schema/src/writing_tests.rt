@@ -6,7 +6,7 @@ use nt_frame::FrameOut;
 use std::alloc::{AllocError, Global};
 use std::test::Fail;
 
-const FIVE_BYTES: &[u8] =
+pub(crate) const FIVE_BYTES: &[u8] =
     b"Y\xfe\xff\xff\xff\xff\xff\xff\x08\0\0\06\0\0\0\0\0\0\0\0\0\0\0\0\0\0\0\0\0\0\0\0\0\0\0\x01\0\
     \0\0x\x0d\0\0\0std::uint32_t\0\0\0\0\0\0\0\06\0\0\0\0\0\0\0\0\0\0\0\0\0\0\0\x01\0\0\0\0\0\0\
     \0\x01\0\0\0y\x0d\0\0\0std::uint16_t\0\0\0\0\0\0\0\04\0\0\0\0\0\0\0\0\0\0\0\0\0\0\0\x02\0\0\
@@ -44,14 +44,14 @@ const OTHER_BYTES: &[u8] =
     \xf4\xff\xff\xff\xff\xff\xff\xff\0\0\0\0\xf4\xff\xff\xff\xff\xff\xff\xff\0\0\0\0";
 
 /// A record field with a flag, and a column with another representation.
-const FLAGS: &[u8] =
+pub(crate) const FLAGS: &[u8] =
     b"\xc8\xff\xff\xff\xff\xff\xff\xff\x01\0\0\0,\0\0\0\0\0\0\0\0\0\0\0\0\0\0\0\0\0\0\0\x02\0\x04\
     \0\x01\0\0\0r\x03\0\0\0odd\0\0\0\0\0\0\0\0\xe0\xff\xff\xff\xff\xff\xff\xff\x01\0\0\0\x14\0\0\
     \0\0\0\0\0\x04\0\x08\0\0\0\0\0\0\0\x03\0\xf4\xff\xff\xff\xff\xff\xff\xff\0\0\0\0\xf4\xff\xff\
     \xff\xff\xff\xff\xff\0\0\0\0";
 
 /// A field and a column with a first element.
-const DEFERRED: &[u8] =
+pub(crate) const DEFERRED: &[u8] =
     b"\xbe\xff\xff\xff\xff\xff\xff\xff\x01\0\0\06\0\0\0\0\0\0\0\0\0\0\0\0\0\0\0\x01\0\0\0\0\0\0\0\
     \x01\0\0\0y\x0d\0\0\0std::uint16_t\0\0\0\0\0\0\0\0\xd8\xff\xff\xff\xff\xff\xff\xff\x01\0\0\0\
     \x1c\0\0\0\0\0\0\0\x12\0\x10\0\x01\0\0\0\x01\0\0\0\x02\0\0\0\0\0\0\0\xf4\xff\xff\xff\xff\xff\
