@@ -1,0 +1,4 @@
+pub mod Groups
+pub mod Pages
+pub mod Sizes
+pub mod Places

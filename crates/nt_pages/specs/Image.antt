@@ -1,0 +1,32 @@
+-- The bytes of a cluster: its columns one after the other, each cut into pages.
+-- RNTuple Binary Format Specification 1.0.0.0, sections Pages and Clusters.
+use Rattle.std.specs.Prelude.{ℕ, ◌≡◌, List, ◌++◌, map, replicate}
+use Rattle.std.specs.List.{flat_map}
+use Rattle.std.specs.Int.{w64, to_le_bytes}
+use Rattle.nt_types.specs.declared.column_type.ColumnType.{ColumnType}
+use Rattle.nt_types.specs.ColumnTable.{code_of}
+use Rattle.nt_xxh3.specs.Sum.{xxh3}
+use Rattle.nt_schema.specs.declared.rows.ColumnRow.{ColumnRow}
+use Rattle.nt_column.specs.Elements.{Element, page_of}
+use Rattle.nt_column.specs.Chunks.{chunks}
+use Rattle.nt_column.specs.Column.{Column}
+
+-- a page as it is stored, with the XXH3-64 of its bytes behind them
+abbrev pub stored_page : ColumnType → List Element → List ℕ
+stored_page kind es = page_of kind es ++ to_le_bytes w64 (xxh3 (page_of kind es))
+
+-- a column, cut into pages of at most so many elements
+abbrev pub column_bytes : ℕ → Column → List ℕ
+column_bytes page c = flat_map (stored_page c.kind) (chunks page c.elements)
+
+-- the payload of a cluster of these columns
+abbrev pub payload : ℕ → List Column → List ℕ
+payload page cs = flat_map (column_bytes page) cs
+
+-- the payload behind 42 bytes of room for its key
+abbrev pub image : ℕ → List Column → List ℕ
+image page cs = replicate 42 0 ++ payload page cs
+
+-- columns of the types that these rows describe
+abbrev pub AreDescribed : List Column → List ColumnRow → Type 0
+AreDescribed cs rows = map (λ (c : Column). code_of c.kind) cs ≡ map (λ (r : ColumnRow). r.code) rows

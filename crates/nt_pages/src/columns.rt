@@ -1,0 +1,71 @@
+//! The pages of columns, one column after the other.
+
+ghost use Rattle.std.specs.Prelude.{◌≡◌, ◌-◌, ◌<◌, ◌≤◌, ◌^◌, ◌++◌, length, min, OnOk, IfOk};
+ghost use Rattle.nt_column.specs.Chunks.{chunks};
+ghost use Rattle.nt_column.specs.Column.{columns_of};
+ghost use Rattle.nt_pages.specs.Image.{column_bytes, payload};
+ghost use Rattle.nt_pages.specs.Metas.{page_metas, column_metas};
+
+use crate::page::put_page;
+use nt_book::{PageList, PageMeta};
+use nt_column::{ColumnBuf, ColumnSet};
+use std::alloc::{AllocError, Global};
+
+/// Makes room for at least so many numbers.
+fn widen(words: &mut Vec<u64>, count: usize) -> Result<(), AllocError>
+    ensures { OnOk result (count ≤ length words.new.items) }
+{
+    if words.len() < count {
+        words.resize(count, 0)?;
+    }
+    Ok(())
+}
+
+/// Appends the pages of a column. `words` is room for the numbers of a page.
+pub fn put_column(
+    alloc: Global,
+    buffer: &ColumnBuf,
+    page: u32,
+    words: &mut [u64],
+    image: &mut Vec<u8>,
+) -> Result<Vec<PageMeta>, AllocError>
+    requires some { 0 < page }
+    requires most { page ≤ 2 ^ 20 }
+    requires words { min (length buffer.now.column.elements) page ≤ length words.old }
+    requires room { 42 ≤ length image.old.items }
+    ensures image { OnOk result (image.new.items ≡ image.old.items ++ column_bytes page buffer.now.column) }
+    ensures metas { IfOk result (λ v. v.items ≡ page_metas buffer.now.column.kind (length image.old.items - 42) (chunks page buffer.now.column.elements)) }
+{
+    let pages = buffer.page_cut(page);
+    let mut metas = Vec::with_capacity(alloc, pages)?;
+    for i in 0..pages {
+        metas.push(put_page(buffer, page, i, words, image)?)?;
+    }
+    Ok(metas)
+}
+
+/// Appends the pages of all columns.
+pub fn put_columns(
+    alloc: Global,
+    columns: &ColumnSet,
+    count: u32,
+    page: u32,
+    image: &mut Vec<u8>,
+) -> Result<Vec<PageList>, AllocError>
+    requires some { 0 < page }
+    requires most { page ≤ 2 ^ 20 }
+    requires count { count ≡ length columns.now }
+    requires room { length image.old.items ≡ 42 }
+    ensures image { OnOk result (image.new.items ≡ image.old.items ++ payload page (columns_of columns.now)) }
+    ensures metas { IfOk result (λ v. v.items ≡ column_metas page 0 (columns_of columns.now)) }
+{
+    let mut words = Vec::new(alloc);
+    let mut lists = Vec::with_capacity(alloc, count as usize)?;
+    for k in 0..count {
+        let buffer = columns.column(k);
+        widen(&mut words, buffer.len().min(page as usize))?;
+        let metas = put_column(alloc, buffer, page, &mut words, image)?;
+        lists.push(PageList::from_vec(metas))?;
+    }
+    Ok(lists)
+}

@@ -1,0 +1,81 @@
+//! A page, encoded in place and hashed right after.
+
+ghost use Rattle.std.specs.Prelude.{◌≡◌, ◌+◌, ◌-◌, ◌<◌, ◌≤◌, ◌^◌, [], ◌++◌, length, min, slice_index_or, OnOk, IfOk};
+ghost use Rattle.std.specs.List.{slice_range};
+ghost use Rattle.nt_encode.specs.Pages.{page_size};
+ghost use Rattle.nt_column.specs.Chunks.{chunks};
+ghost use Rattle.nt_pages.specs.Image.{stored_page};
+ghost use Rattle.nt_pages.specs.Metas.{page_meta};
+
+use nt_book::PageMeta;
+use nt_column::ColumnBuf;
+use nt_encode::size_of;
+use std::alloc::AllocError;
+
+/// The bytes before the payload.
+pub const ROOM: usize = 42;
+
+/// The bytes of a checksum.
+pub const CHECKSUM: usize = 8;
+
+/// Writes the page of the elements from one place to before another, and its checksum.
+fn write_page(buffer: &ColumnBuf, from: usize, to: usize, words: &mut [u64], out: &mut [u8])
+    requires order { from ≤ to }
+    requires within { to ≤ length buffer.now.column.elements }
+    requires words { to - from ≤ length words.old }
+    requires length { length out.old ≡ page_size buffer.now.column.kind (to - from) + 8 }
+    ensures { out.new ≡ stored_page buffer.now.column.kind (slice_range buffer.now.column.elements from to) }
+{
+    let (page, checksum) = out.split_at_mut(out.len() - CHECKSUM);
+    buffer.encode(from, to, words, page);
+    checksum.copy_from_slice(&nt_xxh3::sum(page).to_le_bytes());
+}
+
+/// Appends the page of the elements from one place to before another, and its checksum.
+fn put_part(
+    buffer: &ColumnBuf,
+    from: usize,
+    to: usize,
+    words: &mut [u64],
+    image: &mut Vec<u8>,
+) -> Result<PageMeta, AllocError>
+    requires order { from ≤ to }
+    requires within { to ≤ length buffer.now.column.elements }
+    requires few { to - from ≤ 2 ^ 20 }
+    requires words { to - from ≤ length words.old }
+    requires room { 42 ≤ length image.old.items }
+    ensures image { OnOk result (image.new.items ≡ image.old.items ++ stored_page buffer.now.column.kind (slice_range buffer.now.column.elements from to)) }
+    ensures meta { IfOk result (λ m. m ≡ page_meta buffer.now.column.kind (length image.old.items - 42) (slice_range buffer.now.column.elements from to)) }
+{
+    let size = size_of(buffer.kind(), (to - from) as u64) as usize;
+    let start = image.len();
+    image.resize(start + size + CHECKSUM, 0)?;
+    write_page(buffer, from, to, words, &mut image[start..]);
+    Ok(PageMeta {
+        count: (to - from) as u32,
+        place: (start - ROOM) as u64,
+        size: size as u32,
+    })
+}
+
+/// Appends page i of a column that is cut at so many elements, and its checksum.
+pub fn put_page(
+    buffer: &ColumnBuf,
+    page: u32,
+    i: usize,
+    words: &mut [u64],
+    image: &mut Vec<u8>,
+) -> Result<PageMeta, AllocError>
+    requires some { 0 < page }
+    requires most { page ≤ 2 ^ 20 }
+    requires within { i < length (chunks page buffer.now.column.elements) }
+    requires words { min (length buffer.now.column.elements) page ≤ length words.old }
+    requires room { 42 ≤ length image.old.items }
+    ensures image { OnOk result (image.new.items ≡ image.old.items ++ stored_page buffer.now.column.kind (slice_index_or (chunks page buffer.now.column.elements) i [])) }
+    ensures meta { IfOk result (λ m. m ≡ page_meta buffer.now.column.kind (length image.old.items - 42) (slice_index_or (chunks page buffer.now.column.elements) i [])) }
+{
+    let count = buffer.len();
+    let from = i * page as usize;
+    let to = from + (count - from).min(page as usize);
+    put_part(buffer, from, to, words, image)
+}
