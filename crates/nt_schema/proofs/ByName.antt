@@ -1,28 +1,75 @@
 -- Finding fields by name.
-use Rattle.std.proofs.Common.{ℕ, suc, Bool, true, false, cond, ◌≡◌, ◌<◌, ◌+◌, List, [], ◌∷◌, ◌++◌, length, take, Option, Some, None, refl, sym, ap, ◌∙◌, ◌==◌, if◌then◌else◌, add-one, add-zero, zero-add, Bor, arith}
+use Rattle.std.proofs.Common.{ℕ, suc, Bool, true, false, ◌≡◌, ◌<◌, ◌+◌, List, [], ◌∷◌, ◌++◌, length, take, Option, Some, None, refl, sym, ap, ◌∙◌, ◌==◌, if◌then◌else◌, add-one, add-zero, zero-add, Bor, arith}
 use Rattle.std.proofs.lemmas.List.{length-take-le}
 use Rattle.std.proofs.Math.Seq.{take-suc}
 use Rattle.std.proofs.Math.ListN.{get_or}
 use Rattle.std.specs.Prelude.{◌&&◌, is_some, not}
 use Rattle.std.specs.Option.{option_or, option_copied}
 use Rattle.std.specs.Str.{bytes_eq}
-use Rattle.std.specs.Map.{lookup}
+use Rattle.std.specs.Prelude.{Vec}
+use Rattle.std.specs.declared.alloc.Global.{Global}
+use Rattle.std.specs.declared.cmp.Ordering.{Ordering}
+use Rattle.std.specs.Ordering.{nat_cmp, is_eq, eq_by_cmp}
+use Rattle.std.specs.Cmp.{eq_by_cmp_equiv}
+use Rattle.std.specs.Cmp.Lexicographic.{slice_cmp, nat_list_cmp_total}
+use Rattle.std.specs.Map.{lookup, KeepsOthers, IsKeyTest, AreApart}
+use Rattle.std.specs.BTreeMap.{UpdatesBy}
+use Rattle.std.proofs.lemmas.Slice.Eq.{bytes_eq-Decides}
+use Rattle.std.proofs.lemmas.Map.Text.{is_eq-slice_cmp}
 use Rattle.nt_schema.specs.declared.rows.FieldRow.{FieldRow}
-use Rattle.nt_schema.specs.Find.{find_from}
+use Rattle.nt_schema.specs.Find.{Names, found, find_from}
 
--- one entry more
-lookup-snoc : {K : Type 0} (test : K → Bool) (es : List (K × ℕ)) (k : K) (id : ℕ) → lookup test (es ++ (k, id) ∷ []) ≡ option_or (lookup test es) (if test k then Some id else None)
-lookup-snoc test [] k id = refl
-lookup-snoc test (e ∷ es) k id = cases (test e.0) (lookup-snoc test es k id)
+abbrev Key : Type 0
+Key = Vec ℕ Global
+
+-- names in order
+abbrev keys_cmp : Key → Key → Ordering
+keys_cmp x y = slice_cmp nat_cmp x.items y.items
+
+other_way : (k n name : List ℕ) → k ≡ name → bytes_eq n name ≡ false → bytes_eq k n ≡ false
+other_way k n name is differ = by_case (bytes_eq k n) refl
   where
-    cases : (b : Bool) → lookup test (es ++ (k, id) ∷ []) ≡ option_or (lookup test es) (if test k then Some id else None) → cond b (Some e.1) (lookup test (es ++ (k, id) ∷ [])) ≡ option_or (cond b (Some e.1) (lookup test es)) (if test k then Some id else None)
-    cases true later = refl
-    cases false later = later
+    by_case : (b : Bool) → bytes_eq k n ≡ b → bytes_eq k n ≡ false
+    by_case false e = e
+    by_case true e =
+        let same : k ≡ n = (bytes_eq-Decides k n).0 e in
+        let both : bytes_eq n name ≡ true = (bytes_eq-Decides n name).1 (sym same ∙ is) in
+        cc
 
--- a new name goes last
-pub added : {K : Type 0} (items : K → List ℕ) (old new : List (K × ℕ)) (k : K) (name : List ℕ) (parent id : ℕ) → (parent == id) ≡ true → new ≡ old ++ (k, id) ∷ [] → items k ≡ name
-    → (n : List ℕ) → lookup (λ k. bytes_eq n (items k)) new ≡ option_or (lookup (λ k. bytes_eq n (items k)) old) (if (parent == id) && bytes_eq n name then Some id else None)
-added items old new k name parent id top e is n = rw (e, ← is, top) (lookup-snoc (λ k. bytes_eq n (items k)) old k id)
+-- what a change at some bytes leaves at any others
+other_entries : (test : Key → Bool) (old new : List (Key × ℕ)) → KeepsOthers (eq_by_cmp keys_cmp) test old new → (other : Key → Bool) → IsKeyTest (eq_by_cmp keys_cmp) other → AreApart test other → lookup other new ≡ lookup other old
+unfolding KeepsOthers
+other_entries test old new h = h
+
+apart : (bs cs ks : List ℕ) → bytes_eq bs cs ≡ false → is_eq (slice_cmp nat_cmp bs ks) ≡ true → is_eq (slice_cmp nat_cmp cs ks) ≡ false
+apart bs cs ks differ same = by_case (bytes_eq cs ks) refl
+  where
+    by_case : (b : Bool) → bytes_eq cs ks ≡ b → is_eq (slice_cmp nat_cmp cs ks) ≡ false
+    by_case false e = is_eq-slice_cmp cs ks ∙ e
+    by_case true e =
+        let one : bs ≡ ks = (bytes_eq-Decides bs ks).0 (sym (is_eq-slice_cmp bs ks) ∙ same) in
+        let two : cs ≡ ks = (bytes_eq-Decides cs ks).0 e in
+        let both : bytes_eq bs cs ≡ true = (bytes_eq-Decides bs cs).1 (one ∙ sym two) in
+        cc
+
+or_none : (o : Option ℕ) → o ≡ option_or o None
+or_none None = refl
+or_none (Some x) = refl
+
+-- a new name is kept
+pub added : (old new : Names) (key : Key) (name : List ℕ) (parent id : ℕ) → (parent == id) ≡ true → key.items ≡ name → found old name ≡ None → UpdatesBy keys_cmp (λ k. slice_cmp nat_cmp key.items k.items) old new (Some id)
+    → (n : List ℕ) → found new n ≡ option_or (found old n) (if (parent == id) && bytes_eq n name then Some id else None)
+added old new key name parent id top is none h n = by_case (bytes_eq n name) refl
+  where
+    by_case : (b : Bool) → bytes_eq n name ≡ b → found new n ≡ option_or (found old n) (if (parent == id) && bytes_eq n name then Some id else None)
+    by_case true e =
+        let same : n ≡ name = (bytes_eq-Decides n name).0 e in
+        let at_key : n ≡ key.items = same ∙ sym is in
+        let before : found old n ≡ None = ap (found old) same ∙ none in
+        rw (top, e, before) (ap (found new) at_key ∙ h.1)
+    by_case false e =
+        let differ : bytes_eq key.items n ≡ false = other_way key.items n name is e in
+        rw (top, e) (other_entries _ old.entries new.entries h.3 _ (λ x y. (eq_by_cmp_equiv nat_list_cmp_total).congr n x.items y.items) (λ k. apart key.items n k.items differ) ∙ or_none (found old n))
 
 pub none_found : {X : Type 0} (o : Option (Bor X)) (b : Bool) → is_some o ≡ not b → b ≡ true → option_copied o ≡ None
 none_found None b e t = refl

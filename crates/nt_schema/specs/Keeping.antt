@@ -1,10 +1,9 @@
 -- What a schema keeps beside its rows.
-use Rattle.std.specs.Prelude.{ℕ, true, ◌≡◌, ◌<◌, ◌≤◌, ◌^◌, List, length, Vec, Option}
+use Rattle.std.specs.Prelude.{true, ◌≡◌, ◌<◌, ◌≤◌, ◌^◌, List, length, Option}
 use Rattle.std.specs.List.{list_all}
-use Rattle.std.specs.declared.alloc.Global.{Global}
 use Rattle.nt_schema.specs.Table.{Table, is_short}
 use Rattle.nt_types.specs.Kinds.{Kind}
-use Rattle.nt_schema.specs.Find.{HasNames}
+use Rattle.nt_schema.specs.Find.{Names, HasNames}
 use Rattle.nt_schema.specs.Open.{open_kinds}
 
 -- rows that their ids can count, with names that a description can hold
@@ -16,7 +15,7 @@ pub record IsTable (t : Table) : Type 0 where
   pub short : list_all is_short t.fields ≡ true
 
 -- a table, with the first field of each name, and the kind of each field, where it is at the top level and open
-pub record IsKept (t : Table) (names : List (Vec ℕ Global × ℕ)) (kinds : List (Option Kind)) : Type 0 where
+pub record IsKept (t : Table) (names : Names) (kinds : List (Option Kind)) : Type 0 where
   pub rows : IsTable t
   pub by_name : HasNames names t.fields
   pub shapes : kinds ≡ open_kinds t.fields t.columns 0 t.fields

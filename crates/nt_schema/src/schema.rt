@@ -10,9 +10,9 @@ ghost use Rattle.nt_schema.specs.Keeping.{IsTable};
 use crate::by_name::names_of;
 use crate::rows::{ColumnRow, FieldRow};
 use crate::shapes::shapes_of;
-use indexmap::IndexMap;
 use nt_types::Shape;
 use std::alloc::{AllocError, Global};
+use std::collections::BTreeMap;
 use std::marker::Model;
 use std::mem;
 
@@ -25,7 +25,7 @@ pub struct Schema {
     pub(crate) header_fields: u32,
     pub(crate) header_columns: u32,
     /// The first field at the top level of each name.
-    names: IndexMap<Vec<u8>, u32>,
+    names: BTreeMap<Vec<u8>, u32>,
     /// The shape of each field, where it is at the top level and open.
     shapes: Vec<Option<Shape>>,
 }
@@ -41,7 +41,7 @@ impl Model for Schema {
 
     ghost view = { λ s. table_of s.fields.items s.columns.items s.header_fields s.header_columns };
 
-    ghost invariant = { λ s. IsKept (table_of s.fields.items s.columns.items s.header_fields s.header_columns) s.names.entries (map (option_map shape_view) s.shapes.items) };
+    ghost invariant = { λ s. IsKept (table_of s.fields.items s.columns.items s.header_fields s.header_columns) s.names (map (option_map shape_view) s.shapes.items) };
 }
 
 fn shape_at(shapes: &[Option<Shape>], id: usize) -> Option<&Shape>
@@ -63,7 +63,7 @@ impl Schema {
             columns: Vec::new(alloc),
             header_fields: 0,
             header_columns: 0,
-            names: IndexMap::new(alloc),
+            names: BTreeMap::new(alloc),
             shapes: Vec::new(alloc),
         }
     }

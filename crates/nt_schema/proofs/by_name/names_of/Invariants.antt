@@ -3,4 +3,4 @@ use Rattle.nt_schema.specs.Find.{HasNames}
 use Rattle.nt_schema.proofs.by_name.names_of.Given as goal
 
 abbrev pub invariant-loop-id : goal.invariant-loop-id
-invariant-loop-id l = HasNames l.names.entries (take l.id l.rows)
+invariant-loop-id l = HasNames l.names (take l.id l.rows)
