@@ -4,7 +4,8 @@
 #include <stdio.h>
 #include <stdlib.h>
 #include <string.h>
-#include <time.h>
+
+#include "timing.h"
 
 void nt_encode_page(uint16_t code, const uint64_t *values, size_t count, uint8_t *out, size_t size);
 void nt_decode_page(uint16_t code, const uint8_t *bytes, size_t size, uint64_t *out, size_t count);
@@ -80,17 +81,6 @@ static const struct coding CODINGS[] = {
 static uint64_t *values, *decoded;
 static uint8_t *encoded, *reference;
 
-static double now(void) {
-    struct timespec t;
-    clock_gettime(CLOCK_MONOTONIC, &t);
-    return t.tv_sec + t.tv_nsec * 1e-9;
-}
-
-static int ascending(const void *a, const void *b) {
-    double x = *(const double *)a, y = *(const double *)b;
-    return (x > y) - (x < y);
-}
-
 static void fill(const struct coding *c, size_t count) {
     uint64_t state = 0x9e3779b97f4a7c15;
     for (size_t i = 0; i < count; i++) {
@@ -160,9 +150,7 @@ static void measure(const struct coding *c, const char *what, double (*all)(cons
         ours[round] = all(c, count, 1);
         theirs[round] = all(c, count, 0);
     }
-    qsort(ours, ROUNDS, sizeof *ours, ascending);
-    qsort(theirs, ROUNDS, sizeof *theirs, ascending);
-    double gigabytes = (double)c->width * count / 1e9, mine = gigabytes / ours[ROUNDS / 2], other = gigabytes / theirs[ROUNDS / 2];
+    double gigabytes = (double)c->width * count / 1e9, mine = gigabytes / median(ours, ROUNDS), other = gigabytes / median(theirs, ROUNDS);
     printf("%-12s %s   nt_encode %5.2f GB/s   C %s %5.2f GB/s   ratio %.2f\n", c->name, what, mine, BUILD, other, mine / other);
 }
 

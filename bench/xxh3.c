@@ -4,8 +4,9 @@
 #include <stdint.h>
 #include <stdio.h>
 #include <stdlib.h>
-#include <time.h>
 #include <xxhash.h>
+
+#include "timing.h"
 
 uint64_t nt_xxh3_sum(const uint8_t *bytes, size_t len);
 
@@ -14,17 +15,6 @@ __attribute__((noinline)) static uint64_t reference(const uint8_t *bytes, size_t
 typedef uint64_t (*sum_fn)(const uint8_t *, size_t);
 
 enum { ROUNDS = 15, WHOLE = 64 << 20, PAGE = 16 << 10, LARGEST_COMPARED = 4100 };
-
-static double now(void) {
-    struct timespec t;
-    clock_gettime(CLOCK_MONOTONIC, &t);
-    return t.tv_sec + t.tv_nsec * 1e-9;
-}
-
-static int ascending(const void *a, const void *b) {
-    double x = *(const double *)a, y = *(const double *)b;
-    return (x > y) - (x < y);
-}
 
 /* One pass over `bytes` in pieces; the last sum changes a byte, so that no round can be left out. */
 static double pass(sum_fn sum, uint8_t *bytes, size_t len, size_t piece, size_t turns) {
@@ -57,9 +47,7 @@ static void measure(const char *what, const char *build, uint8_t *bytes, size_t 
         ours[round] = pass(nt_xxh3_sum, bytes, len, piece, turns);
         theirs[round] = pass(reference, bytes, len, piece, turns);
     }
-    qsort(ours, ROUNDS, sizeof *ours, ascending);
-    qsort(theirs, ROUNDS, sizeof *theirs, ascending);
-    double gigabytes = (double)len * turns / 1e9, mine = gigabytes / ours[ROUNDS / 2], other = gigabytes / theirs[ROUNDS / 2];
+    double gigabytes = (double)len * turns / 1e9, mine = gigabytes / median(ours, ROUNDS), other = gigabytes / median(theirs, ROUNDS);
     printf("%-16s nt_xxh3 %6.2f GB/s   xxhash.h %-6s %6.2f GB/s   ratio %.2f\n", what, mine, build, other, mine / other);
 }
 
