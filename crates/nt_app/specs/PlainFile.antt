@@ -1,3 +1,4 @@
+-- Scaffold that goes when the container, the page lists and the reader carry the program.
 -- The whole file of one field x of std::uint64_t, written plain: one cluster group of one cluster of one page (own profile).
 use Rattle.std.specs.Prelude.{◌≡◌, ◌≤◌, ℕ, List, ◌∷◌, ◌++◌, length}
 use Rattle.nt_app.specs.Words.{AreWords}

@@ -19,6 +19,3 @@ pub use format::{has_chain, has_length, has_one_list, has_pieces, has_pointers};
 pub use program::run;
 pub use status::{Status, TextFault};
 pub use words::wrong_words_are_no_command;
-
-#[cfg(test)]
-mod tests;

@@ -1,4 +1,4 @@
-//! The file of one field, byte by byte.
+//! The file of one field, byte by byte: scaffold that goes when the container, the page lists and the reader carry the program.
 
 mod cluster;
 mod container;
@@ -17,6 +17,3 @@ pub use header::header_blob;
 pub use laws::{has_chain, has_length, has_one_list, has_pieces, has_pointers};
 pub use reading::{page_numbers, read_plain};
 pub use whole::{front, plain_file, tail};
-
-#[cfg(test)]
-pub mod tests;

@@ -1,0 +1,56 @@
+//! Words that are a command, and those that are none.
+
+use super::run_words;
+use nt_app::Status;
+use nt_memory::MemHost;
+use std::alloc::{AllocError, Global};
+use std::test::*;
+
+/// Whether these words are refused.
+fn refuses(alloc: Global, words: &[&str]) -> Result<bool, AllocError> {
+    let ran = run_words(alloc, MemHost::new(alloc), words)?;
+    Ok(ran.status == Status::Usage && ran.host.err() == b"ntuple: usage\n".as_slice())
+}
+
+#[test]
+fn other_words_are_refused(rt: HostRuntime) -> Result<(), Fail> {
+    assert!(rt; refuses(rt.alloc(), &[])?);
+    assert!(rt; refuses(rt.alloc(), &["entries"])?);
+    assert!(rt; refuses(rt.alloc(), &["entries", "f", "g"])?);
+    assert!(rt; refuses(rt.alloc(), &["write", "o"])?);
+    assert!(rt; refuses(rt.alloc(), &["write", "o", "s", "o"])?);
+    assert!(rt; refuses(rt.alloc(), &["write", "o", "o", "a"])?);
+    assert!(rt; refuses(rt.alloc(), &["write", "o", "s", "a", "b"])?);
+    assert!(rt; refuses(rt.alloc(), &["read", "o", "s", "a"])?);
+    assert!(rt; refuses(rt.alloc(), &["", "f"])?);
+    // clap: no option of this name, nor one for help or the version
+    assert!(rt; refuses(rt.alloc(), &["write", "--plain", "o", "s", "a"])?);
+    assert!(rt; refuses(rt.alloc(), &["write", "o", "s", "-a"])?);
+    assert!(rt; refuses(rt.alloc(), &["write", "--help"])?);
+    assert!(rt; refuses(rt.alloc(), &["entries", "-h"])?);
+    assert!(rt; refuses(rt.alloc(), &["entries", "--version", "f"])?);
+    assert!(rt; refuses(rt.alloc(), &["entries", "help", "f"])?);
+    assert_eq!(rt; Status::Usage.code(), 2);
+    Ok(())
+}
+
+#[test]
+fn words_are_read_as_clap_reads_them(rt: HostRuntime) -> Result<(), Fail> {
+    let mut host = MemHost::new(rt.alloc());
+    host.add("s", b"x u64")?;
+    host.add("-a", b"[7]")?;
+    // what follows `--` is no option
+    let ran = run_words(rt.alloc(), host, &["write", "o", "--", "s", "-a"])?;
+    assert_eq!(rt; ran.status, Status::Done);
+    let ran = run_words(rt.alloc(), ran.host, &["write", "--", "p", "s", "-a"])?;
+    assert_eq!(rt; ran.status, Status::Done);
+    let ran = run_words(rt.alloc(), ran.host, &["entries", "p", "--"])?;
+    assert_eq!(rt; ran.status, Status::Done);
+    assert_eq!(rt; ran.host.out(), b"order 0\norder 0\n[7]\n".as_slice());
+    // a dash alone and an empty word are names
+    let ran = run_words(rt.alloc(), ran.host, &["entries", "-"])?;
+    assert_eq!(rt; ran.status, Status::Outside);
+    let ran = run_words(rt.alloc(), ran.host, &["entries", ""])?;
+    assert_eq!(rt; ran.status, Status::Outside);
+    Ok(())
+}
