@@ -1,0 +1,9 @@
+pub mod Tickets
+pub mod Prefixes
+pub mod Entries
+pub mod Stages
+pub mod Histories
+pub mod Moves
+pub mod Passes
+pub mod Opening
+pub mod Closing

@@ -1,0 +1,38 @@
+-- Tickets in order, and a value that is out with one pass at most.
+use Rattle.std.specs.Prelude.{◌≡◌, ◌⊎◌, ℕ, ◌^◌, ◌<◌, ◌≤◌, List, [], ◌∷◌}
+use mathlib.Core.Option.{Option as Maybe, some, none}
+use lib.ListN.{get_elem?}
+use Rattle.nt_turn.specs.declared.view.Stage.{Stage}
+use Rattle.nt_turn.specs.declared.view.Stage.TheVariants.{Idle, Waiting, Holding}
+
+-- a pass has the ticket
+abbrev pub HasTicket : ℕ → Stage → Type 0
+HasTicket t Idle = ⊥
+HasTicket t (Waiting u) = t ≡ u
+HasTicket t (Holding u) = t ≡ u
+
+abbrev pub ticket_of : Stage → ℕ
+ticket_of Idle = 0
+ticket_of (Waiting t) = t
+ticket_of (Holding t) = t
+
+-- the value is at home, or it is out
+abbrev pub IsHome : {A : Type 0} → List (Maybe A) → Type 0
+IsHome {A} homes = (x : A) × (homes ≡ some x ∷ [])
+
+abbrev pub IsOut : {A : Type 0} → List (Maybe A) → Type 0
+IsOut homes = homes ≡ none ∷ []
+
+-- one pass holds the value under the ticket that is served
+abbrev pub SomeHolds : List Stage → ℕ → Type 0
+SomeHolds views serving = (by : ℕ) × (get_elem? views by ≡ some (Holding serving))
+
+-- next and serving are the words
+pub record Ordered {A : Type 0} (next serving : ℕ) (homes : List (Maybe A)) (views : List Stage) : Type 0 where
+  pub fits : next < 2 ^ 64
+  pub order : serving ≤ next
+  pub range : (by t : ℕ) (v : Stage) → get_elem? views by ≡ some v → HasTicket t v → (serving ≤ t) × (t < next)
+  pub apart : (i j t : ℕ) (v w : Stage) → get_elem? views i ≡ some v → get_elem? views j ≡ some w → HasTicket t v → HasTicket t w → i ≡ j
+  pub holding : (by t : ℕ) → get_elem? views by ≡ some (Holding t) → (t ≡ serving) × IsOut homes
+  pub home : IsHome homes ⊎ (IsOut homes × SomeHolds views serving)
+

@@ -1,0 +1,13 @@
+//! A lock round a value with a history, which passes take in the order of their tickets.
+#![tactic(auto)]
+
+mod logged;
+mod pass;
+mod rule;
+mod turn;
+mod view;
+mod wait;
+
+pub use logged::Logged;
+pub use pass::Pass;
+pub use turn::Turn;
