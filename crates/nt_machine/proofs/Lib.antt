@@ -1,0 +1,11 @@
+pub mod Counts
+pub mod Dealing
+pub mod Histories
+pub mod Legality
+pub mod Rising
+pub mod Runs
+pub mod Spread
+pub mod Standing
+pub mod Telling
+pub mod Untelling
+pub mod Worked
