@@ -7,3 +7,7 @@ pub mod Locators
 pub mod Sum
 pub mod Envelopes
 pub mod OneReading
+pub mod Pieces
+pub mod Chains
+pub mod Grammars
+pub mod Relations

@@ -4,3 +4,7 @@ pub mod Strings
 pub mod Frames
 pub mod Envelopes
 pub mod Locators
+pub mod Pieces
+pub mod Demands
+pub mod Grammars
+pub mod Relations

@@ -5,6 +5,7 @@
 mod fault;
 mod laws;
 mod locator;
+mod parts;
 
 pub use fault::{EnvelopeFault, LocatorFault};
 pub use laws::{
@@ -12,3 +13,4 @@ pub use laws::{
     locators_are_spelled, numbers_are_spelled, records_are_spelled, strings_are_spelled,
 };
 pub use locator::{Link, Locator};
+pub use parts::{insides_are_found, parts_are_found};
