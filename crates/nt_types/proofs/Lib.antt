@@ -13,3 +13,5 @@ pub mod Nesting
 pub mod LineText
 pub mod MemberText
 pub mod Rules
+pub mod TreeSteps
+pub mod TreeViews

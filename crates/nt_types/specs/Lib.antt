@@ -17,3 +17,6 @@ pub mod LineFaults
 pub mod LineErrors
 pub mod FaultViews
 pub mod Rules
+pub mod TreeData
+pub mod TreeViews
+pub mod Fits

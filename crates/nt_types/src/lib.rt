@@ -5,6 +5,7 @@ mod column_type;
 mod construct;
 mod count;
 mod fault;
+mod fit;
 mod laws;
 mod line;
 mod member;
@@ -14,17 +15,20 @@ mod progress;
 mod reading;
 mod schema;
 mod shape;
+mod tree;
 mod type_text;
 mod word;
 
 pub use column_type::ColumnType;
 pub use fault::{SchemaError, SchemaFault, SchemaKind};
+pub use fit::fits;
 pub use laws::texts_have_fields;
 pub use member::parse_member;
 pub use name::Name;
 pub use nt_bytes::Bytes;
 pub use schema::parse_schema;
 pub use shape::{Fields, Member, Members, Shape, Shapes};
+pub use tree::{Tree, Trees};
 
 #[cfg(test)]
 mod tests;
