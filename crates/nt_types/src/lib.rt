@@ -29,6 +29,3 @@ pub use nt_bytes::Bytes;
 pub use schema::parse_schema;
 pub use shape::{Fields, Member, Members, Shape, Shapes};
 pub use tree::{Tree, Trees};
-
-#[cfg(test)]
-mod tests;
