@@ -37,7 +37,7 @@ envelopes_read a is =
     a.header a.header_size a.header_len a.footer a.footer_size a.footer_len
     (word_64 a.header is.header) (word_64 a.header_size is.header_size) (word_64 a.header_len is.header_len) (word_64 a.footer is.footer) (word_64 a.footer_size is.footer_size) (word_64 a.footer_len is.footer_len)
 
-anchor-chain : (at place : ℕ) (a b c rest : List ℕ) (anchor : Anchor) → Reads (big w16) a 1 → Reads (bytes_at 6) b b → Reads envelopes_at c anchor
+pub anchor-chain : (at place : ℕ) (a b c rest : List ℕ) (anchor : Anchor) → Reads (big w16) a 1 → Reads (bytes_at 6) b b → Reads envelopes_at c anchor
     → anchor_in at (standing place (spread (a ∷ b ∷ c ∷ []) rest)) ≡ Ok anchor
 unfolding anchor_in
 anchor-chain at place a b c rest anchor p q r =
@@ -53,7 +53,7 @@ anchor_reads at place a is =
     anchor-chain at place (to_be_bytes w16 1) (to_be_bytes w16 0 ++ (to_be_bytes w16 0 ++ to_be_bytes w16 0)) (envelopes a) (to_be_bytes w64 (2 ^ 30) ++ []) a
     (word_16 1 (omega arith)) (plain_bytes 6 (to_be_bytes w16 0 ++ (to_be_bytes w16 0 ++ to_be_bytes w16 0)) refl) (envelopes_read a is)
 
-fields-chain : (at place sum : ℕ) (a b c : List ℕ) → Reads (bytes_at 6) a a → length b ≡ 64 → Reads (big w64) c sum → sum ≡ xxh3 b
+pub fields-chain : (at place sum : ℕ) (a b c : List ℕ) → Reads (bytes_at 6) a a → length b ≡ 64 → Reads (big w64) c sum → sum ≡ xxh3 b
     → fields_of at (standing place (concat (a ∷ b ∷ c ∷ []))) ≡ Ok (standing (place + length a) b)
 unfolding fields_of
 fields-chain at place sum a b c p len q same =

@@ -5,3 +5,8 @@ pub mod AnchorBack
 pub mod Lengths
 pub mod FinishedBack
 pub mod Gate
+pub mod Texts
+pub mod Embedding
+pub mod Listing
+pub mod Anchoring
+pub mod Embedded

@@ -3,6 +3,9 @@ pub mod Words
 pub mod FileHeader
 pub mod Keys
 pub mod Anchors
+pub mod Lengths
 pub mod Spelling
 pub mod Finished
+pub mod Texts
+pub mod Embeds
 pub mod Laws

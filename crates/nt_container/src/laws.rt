@@ -1,6 +1,7 @@
 //! The laws of the container's parts, and of files that are made of them.
 
 ghost use Rattle.nt_container.specs.Laws.{
+  AnchorsAreEmbedded,
   MiddlesAreFound,
   BlobsAreFound,
   PartLengths,
@@ -9,6 +10,11 @@ ghost use Rattle.nt_container.specs.Laws.{
   UnfinishedIsFirst,
   FinishedIsRead,
 };
+
+/// A file is read as an anchor exactly where it embeds that anchor.
+pub fn anchors_are_embedded()
+    ensures { AnchorsAreEmbedded }
+{}
 
 /// A finished file is read as its anchor, whatever stands in its middle.
 pub fn finished_is_read()

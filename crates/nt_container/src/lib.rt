@@ -13,7 +13,7 @@ mod parts;
 
 pub use anchor::Anchor;
 pub use laws::{
-    begin_is_gated, blobs_are_found, finished_is_read, middles_are_found, parts_have_lengths,
-    unfinished_is_first, words_are_read,
+    anchors_are_embedded, begin_is_gated, blobs_are_found, finished_is_read, middles_are_found,
+    parts_have_lengths, unfinished_is_first, words_are_read,
 };
 pub use parts::{Directory, FileFields, FileHeader, Key, Sizes};

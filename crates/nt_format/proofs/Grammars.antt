@@ -1,5 +1,5 @@
 -- Readings that agree with a grammar, one behind the other.
-use Rattle.std.proofs.Common.{◌≡◌, ℕ, ◌+◌, Bool, true, false, cond, List, [], ◌++◌, length, Result, Ok, refl, sym, ap, ◌∙◌, append_assoc, arith}
+use Rattle.std.proofs.Common.{◌≡◌, ℕ, ◌+◌, ◌≤◌, Bool, true, false, cond, List, [], ◌++◌, length, Result, Ok, refl, sym, ap, ◌∙◌, append_assoc, arith}
 use Rattle.std.proofs.lemmas.List.{length-append}
 use Rattle.nt_num.specs.Place.{At}
 use Rattle.nt_format.specs.Reading.{◌>>=◌, standing, Spells}
@@ -55,3 +55,26 @@ seq {V = V} {W = W} {E = E} {f = f} {First = First} {Second = Second} g p q = re
 pub choice : {V E : Type 0} {f g : At → Result (V × At) E} {F G : List ℕ → V → Type 0} (b : Bool) → IsRead f F → IsRead g G → IsRead (λ here. cond b (f here) (g here)) (Choice b F G)
 choice true p q = p
 choice false p q = q
+
+-- a grammar whose texts have at most so many bytes
+abbrev pub IsShort : {V : Type 0} → ℕ → (List ℕ → V → Type 0) → Type 0
+IsShort {V = V} most Text = (text : List ℕ) (value : V) → Text text value → length text ≤ most
+
+pub then_short : {V W : Type 0} {First : List ℕ → V → Type 0} {Second : V → List ℕ → W → Type 0} (m n : ℕ) → IsShort m First → ((x : V) → IsShort n (Second x)) → IsShort (m + n) (Then First Second)
+then_short m n p q text value t = omega (arith, ap (λ (l : List ℕ). length l) t.parts, length-append t.first t.second, p t.first t.head t.is_first, q t.head t.second value t.is_second)
+
+pub plain_short : (n : ℕ) → IsShort n (Bytes n)
+plain_short n text value t = omega (arith, ap (λ (l : List ℕ). length l) t.is, t.fits)
+
+pub makes_short : {V : Type 0} (made : V) → IsShort 0 (Makes made)
+makes_short made text value t = omega (arith, ap (λ (l : List ℕ). length l) t.none)
+
+pub spelled_short : {V : Type 0} (n : ℕ) (spelling : V → List ℕ) (Fits : V → Type 0) → ((x : V) → length (spelling x) ≡ n) → IsShort n (Spelled spelling Fits)
+spelled_short n spelling Fits len text value t = omega (arith, ap (λ (l : List ℕ). length l) t.is, len value)
+
+pub choice_short : {V : Type 0} {F G : List ℕ → V → Type 0} (b : Bool) (n : ℕ) → IsShort n F → IsShort n G → IsShort n (Choice b F G)
+choice_short true n p q = p
+choice_short false n p q = q
+
+pub less_short : {V : Type 0} {F : List ℕ → V → Type 0} (m n : ℕ) → m ≤ n → IsShort m F → IsShort n F
+less_short m n le p text value t = omega (arith, le, p text value t)

@@ -1,6 +1,6 @@
 -- Results that agree with a relation, one behind the other.
 use Rattle.std.proofs.Common.{◌≡◌, ℕ, ◌+◌, ◌≤◌, Bool, List, ◌++◌, length, take, drop, Option, Some, None, Result, Ok, Err, refl, sym, ap, subst, ◌∙◌, arith}
-use Rattle.std.proofs.lemmas.List.{take_at, drop_at, take-take, take-append-drop, length-append, length-take}
+use Rattle.std.proofs.lemmas.List.{take_at, drop_at, take-take, take-append-drop, drop-drop}
 use Rattle.nt_num.specs.Place.{At}
 use Rattle.nt_num.specs.Cursor.{part_of}
 use Rattle.nt_format.specs.Reading.{◌>>=◌, refused_as, standing, IsBytes}
@@ -79,23 +79,55 @@ alone_ok : {V E F : Type 0} (fault : E) (r : Result (V × At) F) (value : V) →
 alone_ok {V = V} {E = E} fault (Ok read) value e = (read.1, ap (λ (v : V). Ok (v, read.1)) (ok_is {E = E} read.0 value e))
 alone_ok fault (Err f) value e = absurd cc
 
+-- what stands in the front of a place
+pub front_there : (text rest left bytes : List ℕ) (from : ℕ) → left ≡ text ++ rest → left ≡ drop from bytes → take (length text) (drop from bytes) ≡ text
+front_there text rest left bytes from parts is = ap (λ (l : List ℕ). take (length text) l) (sym is ∙ parts) ∙ take_at text rest (length text) refl
+
 -- a text that stands in front of the bytes from a place on
-pub located : {V F E : Type 0} {reading : At → Result (V × At) F} {Text : List ℕ → V → Type 0} (fault : E) → IsRead reading Text → (most : ℕ) (file : List ℕ) (at : ℕ) → IsBytes file
-    → Agrees (first_in fault reading (window most file at)) (StandsAt most Text file at)
-located {V = V} {F = F} {E = E} {reading = reading} {Text = Text} fault r most file at bytes = record {
+pub located : {V F E : Type 0} {reading : At → Result (V × At) F} {Text : List ℕ → V → Type 0} (fault : E) → IsRead reading Text → (most : ℕ)
+    → ((text : List ℕ) (value : V) → Text text value → length text ≤ most) → (file : List ℕ) (from : ℕ) → IsBytes file
+    → Agrees (first_in fault reading (window most file from)) (StandsAt Text file from)
+located {V = V} {F = F} {E = E} {reading = reading} {Text = Text} fault r most few file from bytes = record {
   reads = λ value h.
       let n : ℕ = length h.text in
-      let front : take n (window most file at) ≡ h.text = take-take n most (drop at file) h.few ∙ h.there in
-      let parts : window most file at ≡ h.text ++ drop n (window most file at) = sym (take-append-drop n (window most file at)) ∙ ap (λ (l : List ℕ). l ++ drop n (window most file at)) front in
-      ap (λ (s : Result (V × At) F). alone_of (refused_as fault s)) (ap (λ (l : List ℕ). reading (standing 0 l)) parts ∙ r.reads h.text value h.is 0 (drop n (window most file at)));
+      let front : take n (window most file from) ≡ h.text = take-take n most (drop from file) (few h.text value h.is) ∙ h.there in
+      let parts : window most file from ≡ h.text ++ drop n (window most file from) = sym (take-append-drop n (window most file from)) ∙ ap (λ (l : List ℕ). l ++ drop n (window most file from)) front in
+      ap (λ (s : Result (V × At) F). alone_of (refused_as fault s)) (ap (λ (l : List ℕ). reading (standing 0 l)) parts ∙ r.reads h.text value h.is 0 (drop n (window most file from)));
   finds = λ value e.
-      let found = alone_ok fault (reading (standing 0 (window most file at))) value e in
-      let t = r.finds (standing 0 (window most file at)) found.0 value (window-bytes most file at bytes) found.1 in
-      let few : length t.0 ≤ most = omega (arith, ap (λ (l : List ℕ). length l) t.1.parts, length-append t.0 found.0.left, length-take most (drop at file)) in
+      let found = alone_ok fault (reading (standing 0 (window most file from))) value e in
+      let t = r.finds (standing 0 (window most file from)) found.0 value (window-bytes most file from bytes) found.1 in
+      let short : length t.0 ≤ most = few t.0 value t.2 in
       record {
         text = t.0;
-        there = sym (take-take (length t.0) most (drop at file) few) ∙ ap (λ (l : List ℕ). take (length t.0) l) t.1.parts ∙ take_at t.0 found.0.left (length t.0) refl;
-        few = few;
+        there = sym (take-take (length t.0) most (drop from file) short) ∙ ap (λ (l : List ℕ). take (length t.0) l) t.1.parts ∙ take_at t.0 found.0.left (length t.0) refl;
         is = t.2;
       };
 }
+
+-- the bytes from a place on, past a text that stands there
+pub past_text : (text bytes : List ℕ) (from : ℕ) → take (length text) (drop from bytes) ≡ text → drop from bytes ≡ text ++ drop (from + length text) bytes
+past_text text bytes from there =
+    sym (take-append-drop (length text) (drop from bytes)) ∙ ap (λ (l : List ℕ). l ++ drop (length text) (drop from bytes)) there
+    ∙ ap (λ (l : List ℕ). text ++ l) (drop-drop (length text) from bytes)
+
+-- what stands at a place stands there as what is left
+pub stands_from : {V : Type 0} {Text : List ℕ → V → Type 0} (bytes : List ℕ) (from : ℕ) (value : V) → IsBytes bytes → (s : StandsAt Text bytes from value)
+    → Stands Text (standing from (drop from bytes)) (value, standing (from + length s.text) (drop (from + length s.text) bytes))
+stands_from bytes from value fits s = record {
+  text = s.text;
+  takes = record { parts = past_text s.text bytes from s.there; place = refl; bytes = IsBytes-drop (from + length s.text) bytes fits };
+  is = s.is;
+}
+
+-- and the other way round
+pub stands_to : {V : Type 0} {Text : List ℕ → V → Type 0} (bytes : List ℕ) (from : ℕ) (value : V) (here after : At) → here.left ≡ drop from bytes
+    → (s : Stands Text here (value, after)) → StandsAt Text bytes from value × (after.left ≡ drop (from + length s.text) bytes)
+stands_to bytes from value here after is s =
+    let there = front_there s.text after.left here.left bytes from s.takes.parts is in (
+      record { text = s.text; there = there; is = s.is },
+      sym (drop_at s.text after.left (length s.text) refl) ∙ ap (λ (l : List ℕ). drop (length s.text) l) (sym s.takes.parts ∙ is) ∙ drop-drop (length s.text) from bytes,
+    )
+
+-- a relation in other words
+pub in_words : {V E : Type 0} {r : Result V E} {P Q : V → Type 0} → ((x : V) → P x → Q x) → ((x : V) → Q x → P x) → Agrees r P → Agrees r Q
+in_words to from a = record { reads = λ x q. a.reads x (from x q); finds = λ x e. to x (a.finds x e) }

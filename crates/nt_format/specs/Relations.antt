@@ -33,11 +33,10 @@ pub record Stands {V : Type 0} (Text : List ℕ → V → Type 0) (here : At) (r
   pub takes : Takes here text read.1
   pub is : Text text read.0
 
--- a text of the grammar, of at most so many bytes, stands at a place of the file, for this value
-pub record StandsAt {V : Type 0} (most : ℕ) (Text : List ℕ → V → Type 0) (file : List ℕ) (at : ℕ) (value : V) : Type 0 where
+-- a text of the grammar stands at a place of these bytes, for this value
+pub record StandsAt {V : Type 0} (Text : List ℕ → V → Type 0) (file : List ℕ) (at : ℕ) (value : V) : Type 0 where
   pub text : List ℕ
   pub there : take (length text) (drop at file) ≡ text
-  pub few : length text ≤ most
   pub is : Text text value
 
 -- the beginning of so many bytes of the file
