@@ -8,7 +8,7 @@ ghost use Rattle.nt_encode.specs.Pages.{page_size};
 ghost use Rattle.nt_column.specs.Elements.{plain, numbers, tags, text_of, page_of};
 ghost use Rattle.nt_column.specs.Cow.{cow_items, is_borrowed};
 ghost use Rattle.nt_column.specs.Column.{empty, zeroed, with_more};
-ghost use Rattle.nt_column.specs.Chunks.{chunks};
+ghost use Rattle.nt_lists.specs.Chunks.{chunks};
 
 use crate::cow::CowSlice;
 use crate::store::Store;

@@ -3,7 +3,8 @@
 ghost use Rattle.std.specs.Prelude.{◌≡◌, ◌<◌, ◌+◌, ◌≤◌, ◌-◌, ◌^◌, ◌++◌, length, take, drop, OnOk, OnErr, vec_len};
 ghost use Rattle.std.specs.Int.{w32, w64, to_le_bytes};
 ghost use Rattle.nt_format.specs.Strings.{string};
-ghost use Rattle.nt_frame.specs.Writing.{frame, put_over};
+ghost use Rattle.nt_lists.specs.Places.{put_at};
+ghost use Rattle.nt_frame.specs.Writing.{frame};
 ghost use Rattle.nt_frame.specs.Marks.{head_len};
 
 use crate::writing::Mark;
@@ -38,7 +39,7 @@ fn list_head(size: u64, count: u32) -> [u8; 12]
 // Puts bytes in the place of as many others.
 fn replace(out: &mut Vec<u8>, at: usize, bytes: &[u8])
     requires { at + length bytes.now ≤ vec_len out.old }
-    ensures { out.new.items ≡ put_over out.old.items at bytes.now }
+    ensures { out.new.items ≡ put_at out.old.items at bytes.now }
 {
     out[at..at + bytes.len()].copy_from_slice(bytes);
 }

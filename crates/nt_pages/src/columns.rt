@@ -1,7 +1,7 @@
 //! The pages of columns, one column after the other.
 
 ghost use Rattle.std.specs.Prelude.{◌≡◌, ◌-◌, ◌<◌, ◌≤◌, ◌^◌, ◌++◌, length, min, OnOk, IfOk};
-ghost use Rattle.nt_column.specs.Chunks.{chunks};
+ghost use Rattle.nt_lists.specs.Chunks.{chunks};
 ghost use Rattle.nt_column.specs.Column.{columns_of};
 ghost use Rattle.nt_pages.specs.Image.{column_bytes, payload};
 ghost use Rattle.nt_pages.specs.Metas.{page_metas, column_metas};

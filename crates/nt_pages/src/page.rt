@@ -3,7 +3,7 @@
 ghost use Rattle.std.specs.Prelude.{◌≡◌, ◌+◌, ◌-◌, ◌<◌, ◌≤◌, ◌^◌, [], ◌++◌, length, min, slice_index_or, OnOk, IfOk};
 ghost use Rattle.std.specs.List.{slice_range};
 ghost use Rattle.nt_encode.specs.Pages.{page_size};
-ghost use Rattle.nt_column.specs.Chunks.{chunks};
+ghost use Rattle.nt_lists.specs.Chunks.{chunks};
 ghost use Rattle.nt_pages.specs.Image.{stored_page};
 ghost use Rattle.nt_pages.specs.Metas.{page_meta};
 
