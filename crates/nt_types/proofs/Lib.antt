@@ -12,4 +12,7 @@ pub mod Sound
 pub mod Nesting
 pub mod LineText
 pub mod MemberText
+pub mod FieldFaults
 pub mod Rules
+pub mod TextFaults
+pub mod TextAnswers

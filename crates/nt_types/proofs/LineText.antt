@@ -5,26 +5,12 @@ use Rattle.std.proofs.lemmas.List.{reverse-append, length-reverse, reverse-rever
 use Rattle.std.proofs.lemmas.List.Folds.{list_all-append, length-prefix_len}
 use Rattle.std.specs.Prelude.{◌&&◌, reverse}
 use Rattle.std.specs.List.{list_all, prefix_len}
+use Rattle.nt_lists.proofs.Bools.{and_true, both_true}
+use Rattle.nt_lists.proofs.Fronts.{take_front, drop_front}
 use Rattle.nt_types.specs.Words.{is_word_byte, is_blank, is_space, is_name}
 use Rattle.nt_types.specs.Lines.{split_line, split_at, begins_blank, type_text, trimmed}
 use Rattle.nt_types.specs.LineSpelling.{IsLine}
 use Rattle.nt_types.proofs.Spelled.{name_bytes}
-
-take_front : (xs ys : List ℕ) → take (length xs) (xs ++ ys) ≡ xs
-take_front [] ys = refl
-take_front (x ∷ xs) ys = ap (λ (l : List ℕ). x ∷ l) (take_front xs ys)
-
-drop_front : (xs ys : List ℕ) → drop (length xs) (xs ++ ys) ≡ ys
-drop_front [] ys = refl
-drop_front (x ∷ xs) ys = drop_front xs ys
-
-and_true : (a b : Bool) → (a && b) ≡ true → (a ≡ true) × (b ≡ true)
-and_true true b e = (refl, e)
-and_true false b e = cc
-
-both_true : (a b : Bool) → a ≡ true → b ≡ true → (a && b) ≡ true
-both_true true b x y = y
-both_true false b x y = cc
 
 all_prefix : (p : ℕ → Bool) (xs : List ℕ) → list_all p (take (prefix_len p xs) xs) ≡ true
 all_prefix p [] = refl
@@ -34,7 +20,7 @@ all_prefix p (x ∷ xs) = cases (p x) refl (all_prefix p xs)
     cases true e h = let n : 1 + prefix_len p xs ≡ suc (prefix_len p xs) = omega arith in rw n (both_true (p x) (list_all p (take (prefix_len p xs) xs)) e h)
     cases false e h = refl
 
-prefix_stops : (p : ℕ → Bool) (xs : List ℕ) (y : ℕ) (ys : List ℕ) → list_all p xs ≡ true → p y ≡ false → prefix_len p (xs ++ y ∷ ys) ≡ length xs
+pub prefix_stops : (p : ℕ → Bool) (xs : List ℕ) (y : ℕ) (ys : List ℕ) → list_all p xs ≡ true → p y ≡ false → prefix_len p (xs ++ y ∷ ys) ≡ length xs
 prefix_stops p [] y ys a n = rw n refl
 prefix_stops p (x ∷ xs) y ys a n =
     let both : (p x ≡ true) × (list_all p xs ≡ true) = and_true _ _ a in
@@ -131,13 +117,13 @@ type_text_core blanks text spaces all core spaced =
     let stops : prefix_len is_blank (blanks ++ (text ++ spaces)) ≡ length blanks = rw core.begins (prefix_stops is_blank blanks core.first (core.later ++ spaces) all core.no_blank) in
     rw (stops, drop_front blanks (text ++ spaces)) (trimmed_core text spaces core spaced)
 
-blank_ends_word : (b : ℕ) → is_blank b ≡ true → is_word_byte b ≡ false
+pub blank_ends_word : (b : ℕ) → is_blank b ≡ true → is_word_byte b ≡ false
 blank_ends_word b e = grind (arith, nat_tests)
 
-abbrev some_pair : List ℕ → List ℕ → Option (List ℕ × List ℕ)
+abbrev pub some_pair : List ℕ → List ℕ → Option (List ℕ × List ℕ)
 some_pair name u = Some (name, u)
 
-at_is : (c d : Bool) (name t text : List ℕ) → c ≡ true → d ≡ true → t ≡ text → cond {A = Option (List ℕ × List ℕ)} (c && d) (Some (name, t)) None ≡ Some (name, text)
+pub at_is : (c d : Bool) (name t text : List ℕ) → c ≡ true → d ≡ true → t ≡ text → cond {A = Option (List ℕ × List ℕ)} (c && d) (Some (name, t)) None ≡ Some (name, text)
 at_is true true name t text e f same = ap (λ (u : List ℕ). some_pair name u) same
 at_is true false name t text e f same = cc
 at_is false d name t text e f same = cc

@@ -11,7 +11,8 @@ use Rattle.nt_types.specs.LineSpelling.{IsLine, IsMember}
 use Rattle.nt_types.specs.declared.fault.SchemaKind.{SchemaKind}
 use Rattle.nt_types.specs.declared.fault.SchemaKind.TheVariants.{TooDeep}
 use Rattle.nt_types.specs.Views.{member_view}
-use Rattle.nt_types.specs.FaultViews.{GivesText}
+use Rattle.nt_lists.specs.Answers.{IsAnswer}
+use Rattle.nt_types.specs.FaultViews.{schema_fault}
 use Rattle.nt_types.specs.declared.fault.SchemaError.{SchemaError}
 use Rattle.nt_types.specs.declared.fault.SchemaFault.{SchemaFault}
 use Rattle.nt_types.specs.declared.shape.Member.{Member}
@@ -43,7 +44,7 @@ int_core bits signed (inr (inl e)) = subst (λ (n : ℕ). IsCore (spell (int n s
 int_core bits signed (inr (inr (inl e))) = subst (λ (n : ℕ). IsCore (spell (int n signed))) (sym e) (int_core_32 signed)
 int_core bits signed (inr (inr (inr e))) = subst (λ (n : ℕ). IsCore (spell (int n signed))) (sym e) (int_core_64 signed)
 
-spell_core : (k : Kind) → IsType false k → IsCore (spell k)
+pub spell_core : (k : Kind) → IsType false k → IsCore (spell k)
 spell_core bool t = record { first = 98; later = codes "ool"; before = codes "boo"; last = 108; begins = refl; ends = refl; no_blank = refl; no_space = refl }
 spell_core char t = record { first = 99; later = codes "har"; before = codes "cha"; last = 114; begins = refl; ends = refl; no_blank = refl; no_space = refl }
 spell_core byte t = record { first = 98; later = codes "yte"; before = codes "byt"; last = 101; begins = refl; ends = refl; no_blank = refl; no_space = refl }
@@ -99,12 +100,3 @@ member_text-sound line p e = member_of-sound line p (ok (member_of line) e)
     ok : (r : Result Part SchemaKind) → at_result 0 r ≡ Ok p → r ≡ Ok p
     ok (Ok q) e = cc
     ok (Err k) e = cc
-
--- the same of what a function answers
-
-pub found : (r : Result Member SchemaError) (line : List ℕ) → GivesText member_view r (member_text line) → IfOk r (λ m. IsMember line (member_view m))
-found (Ok m) line g = member_text-sound line (member_view m) g
-found (Err e) line g = tt
-
-pub only : (r : Result Member SchemaError) (line : List ℕ) (p : Part) → IsMember line p → GivesText member_view r (member_text line) → GivesText member_view r (Ok p)
-only r line p m g = subst (λ (v : Result Part SchemaFault). GivesText member_view r v) (member_text-is line p m) g

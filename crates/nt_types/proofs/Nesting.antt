@@ -3,6 +3,7 @@ use Rattle.std.proofs.Common.{ℕ, List, [], ◌∷◌, ◌++◌, ◌≡◌, ◌
 use Rattle.std.proofs.lemmas.Bool.Decides.{nat_tests}
 use Rattle.std.specs.Prelude.{◌==◌, ◌||◌, ◌&&◌}
 use Rattle.std.specs.List.{list_all}
+use Rattle.nt_lists.proofs.Bools.{and_true}
 use Rattle.nt_types.specs.Kinds.{Kind, Kinds, Parts, bool, char, byte, int, text, list, fields, tuple, choice, no_kinds, kind, no_parts, part}
 use Rattle.nt_types.specs.Words.{is_word_byte}
 use Rattle.nt_types.specs.Lines.{most_open}
@@ -31,10 +32,6 @@ abbrev mutual
   parts_height (part n k ps) = max (height k) (parts_height ps)
 
 -- a word opens and ends nothing
-
-and_true : (a b : Bool) → (a && b) ≡ true → (a ≡ true) × (b ≡ true)
-and_true true b e = (refl, e)
-and_true false b e = cc
 
 no_bracket : (b : ℕ) → is_word_byte b ≡ true → (((b == 60) || (b == 123)) ≡ false) × (((b == 62) || (b == 125)) ≡ false)
 no_bracket b e = (grind (arith, nat_tests), grind (arith, nat_tests))

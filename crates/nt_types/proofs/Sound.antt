@@ -4,6 +4,8 @@ use Rattle.std.proofs.lemmas.Bool.Decides.{nat_tests}
 use Rattle.std.proofs.lemmas.Slice.Eq.{bytes_eq-Decides}
 use Rattle.std.specs.Str.{bytes_eq}
 use Rattle.std.specs.Prelude.{option_and_then, option_map, nat_le, ◌==◌, ◌&&◌, ◌||◌, not, codes}
+use Rattle.nt_lists.proofs.Bools.{and_true}
+use Rattle.nt_lists.proofs.Variants.{some_is}
 use Rattle.nt_types.specs.Kinds.{Kind, Part, bool, char, byte, int, text, list, fields, tuple, choice, kinds_of, parts_of, kinds_list, parts_list}
 use Rattle.nt_types.specs.Words.{is_word_byte, is_name, leaf, number, int_of}
 use Rattle.nt_types.specs.Names.{names_differ}
@@ -135,13 +137,6 @@ IsPut out within o k b p = (placed_text p ≡ construct_text o ++ (spell k ++ b 
 
 byte_is : (b n : ℕ) → (b == n) ≡ true → b ≡ n
 byte_is b n e = grind (arith, nat_tests)
-
-and_true : (a b : Bool) → (a && b) ≡ true → (a ≡ true) × (b ≡ true)
-and_true true b e = (refl, e)
-and_true false b e = cc
-
-some_is : {A : Type 0} (x y : A) → Some x ≡ Some y → x ≡ y
-some_is x y e = cc
 
 list_put : (out within : Bool) (k : Kind) (b : ℕ) (p : Placed) (c : Bool) → (c ≡ true → b ≡ 62) → out ≡ within → IsType within k
     → cond c (Some (ends (list k))) None ≡ Some p → IsPut out within in_list k b p

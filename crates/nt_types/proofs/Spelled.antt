@@ -3,6 +3,7 @@ use Rattle.std.proofs.Common.{ℕ, List, [], ◌∷◌, ◌++◌, ◌≡◌, ◌
 use Rattle.std.proofs.lemmas.Bool.Decides.{nat_tests}
 use Rattle.std.specs.Prelude.{◌⊎◌, option_and_then, nat_le, ◌&&◌, codes}
 use Rattle.std.specs.List.{list_all}
+use Rattle.nt_lists.proofs.Bools.{and_true}
 use Rattle.nt_types.specs.Kinds.{Kind, Kinds, Parts, Part, bool, char, byte, int, text, list, fields, tuple, choice, no_kinds, kind, no_parts, part, kinds_of, parts_of, kinds_list, parts_list}
 use Rattle.nt_types.specs.Words.{is_word_byte, is_name, leaf}
 use Rattle.nt_types.specs.Names.{names_differ}
@@ -35,10 +36,6 @@ after_done os within k rest at_end = refl
 after_done os within k rest at_comma = refl
 after_done os within k rest at_angle = refl
 after_done os within k rest at_brace = refl
-
-and_true : (a b : Bool) → (a && b) ≡ true → (a ≡ true) × (b ≡ true)
-and_true true b e = (refl, e)
-and_true false b e = cc
 
 -- a word is read whole
 word_read : (s : State) (u w rest : List ℕ) → list_all is_word_byte w ≡ true → read true s u (w ++ rest) ≡ read true s (u ++ w) rest

@@ -1,4 +1,5 @@
 pub mod ColumnTable
+pub mod Limits
 pub mod Kinds
 pub mod Views
 pub mod Words
@@ -17,3 +18,5 @@ pub mod LineFaults
 pub mod LineErrors
 pub mod FaultViews
 pub mod Rules
+pub mod TextSpelling
+pub mod TextAnswers

@@ -4,6 +4,7 @@ use Rattle.std.specs.List.{prefix_len, list_all}
 use Rattle.nt_types.specs.Kinds.{Kind, Part}
 use Rattle.nt_types.specs.Words.{is_word_byte, is_blank, is_space, is_name}
 use Rattle.nt_types.specs.Reading.{read_kind}
+use Rattle.nt_types.specs.Limits.{max_depth}
 use Rattle.nt_types.specs.Spelling.{depth}
 use Rattle.nt_types.specs.declared.fault.SchemaKind.{SchemaKind}
 use Rattle.nt_types.specs.declared.fault.SchemaKind.TheVariants.{BadName, BadType, TooDeep}
@@ -17,7 +18,7 @@ most_open now most (b ∷ bs) = if (b == 60) || (b == 123) then most_open (now +
 
 abbrev pub within_depth : Option Kind → Result Kind SchemaKind
 within_depth None = Err BadType
-within_depth (Some k) = if nat_le (depth k) 32 then Ok k else Err TooDeep
+within_depth (Some k) = if nat_le (depth k) max_depth then Ok k else Err TooDeep
 
 -- the kind that a text spells, at most 32 deep
 abbrev pub type_of : List ℕ → Result Kind SchemaKind

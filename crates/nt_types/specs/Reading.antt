@@ -5,6 +5,7 @@ use Rattle.std.specs.Str.{bytes_eq}
 use Rattle.nt_types.specs.Kinds.{Kind, Part, bool, list, fields, tuple, choice, kinds_of, parts_of}
 use Rattle.nt_types.specs.Words.{is_word_byte, is_name, leaf}
 use Rattle.nt_types.specs.Names.{names_differ}
+use Rattle.nt_types.specs.Limits.{max_alternatives}
 
 -- a construct that is open, with the parts that it has so far
 pub data Construct : Type 0 where
@@ -42,7 +43,7 @@ abbrev pub tuple_on : List Kind → ℕ → Option Placed
 tuple_on ks b = if b == 44 then Some (goes (in_tuple ks)) else if b == 62 then Some (ends (tuple (kinds_of ks))) else None
 
 abbrev pub choice_on : Bool → List Kind → ℕ → Option Placed
-choice_on w ks b = if b == 44 then Some (goes (in_choice w ks)) else if (b == 62) && nat_le (length ks) 100 then Some (ends (choice (kinds_of ks))) else None
+choice_on w ks b = if b == 44 then Some (goes (in_choice w ks)) else if (b == 62) && nat_le (length ks) max_alternatives then Some (ends (choice (kinds_of ks))) else None
 
 abbrev pub fields_on : List Part → ℕ → Option Placed
 fields_on ps b = if b == 44 then Some (goes (at_name ps)) else if (b == 125) && names_differ ps then Some (ends (fields (parts_of ps))) else None

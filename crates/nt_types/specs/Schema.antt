@@ -1,8 +1,10 @@
 -- A schema text: a field a line, with empty lines between.
 use Rattle.std.specs.Prelude.{ℕ, List, [], ◌∷◌, ◌++◌, ◌+◌, ◌^◌, length, Option, Some, None, Result, Ok, Err, nat_le, nat_lt, ◌==◌, if◌then◌else◌}
 use Rattle.std.specs.List.{slice_split}
+use Rattle.nt_lists.specs.Chaining.{◌>>=◌}
 use Rattle.nt_types.specs.Kinds.{Kind, Kinds, Parts, Part, bool, char, byte, int, text, list, fields, tuple, choice, no_kinds, kind, no_parts, part}
 use Rattle.nt_types.specs.Names.{has_name}
+use Rattle.nt_types.specs.Limits.{max_text, max_fields}
 use Rattle.nt_types.specs.Lines.{member_of, is_blank_line, split_line, type_of}
 use Rattle.nt_types.specs.declared.fault.SchemaKind.{SchemaKind}
 use Rattle.nt_types.specs.declared.fault.SchemaKind.TheVariants.{TooLong, BadName, Repeated, TooMany, Empty}
@@ -31,7 +33,7 @@ abbrev mutual
 
 -- a field beside so many
 abbrev pub counted : ℕ → List ℕ → Result Kind SchemaKind → Result Part SchemaKind
-counted before name (Ok k) = if nat_le (before + field_count k) 4096 then Ok (record { name = name; of = k }) else Err TooMany
+counted before name (Ok k) = if nat_le (before + field_count k) max_fields then Ok (record { name = name; of = k }) else Err TooMany
 counted before name (Err e) = Err e
 
 abbrev pub field_split : List (List ℕ) → ℕ → Option (List ℕ × List ℕ) → Result Part SchemaKind
@@ -80,11 +82,6 @@ abbrev pub all_fields : List Part → Result (List Part) SchemaFault
 all_fields [] = Err (at_line 0 Empty)
 all_fields (p ∷ ps) = Ok (p ∷ ps)
 
-infixl 10 ◌>>=◌
-abbrev pub ◌>>=◌ : {A B : Type 0} → Result A SchemaFault → (A → Result B SchemaFault) → Result B SchemaFault
-(Ok x) >>= f = f x
-(Err e) >>= f = Err e
-
 abbrev pub take_lines : Progress → List (List ℕ) → Result (List Part) SchemaFault
 take_lines s [] = all_fields s.parts
 take_lines s (l ∷ ls) = take_line s l >>= λ t. take_lines t ls
@@ -94,4 +91,4 @@ first_line = record { line = 1; seen = []; count = 0; parts = [] }
 
 -- the fields that a text spells, or its first fault
 abbrev pub schema_text : List ℕ → Result (List Part) SchemaFault
-schema_text bytes = if nat_lt (2 ^ 20) (length bytes) then Err (at_line 0 TooLong) else take_lines first_line (slice_split (λ b. b == 10) bytes)
+schema_text bytes = if nat_lt max_text (length bytes) then Err (at_line 0 TooLong) else take_lines first_line (slice_split (λ b. b == 10) bytes)

@@ -3,6 +3,7 @@ use Rattle.std.specs.Prelude.{ℕ, Bool, true, false, ◌≡◌, ◌≤◌, ◌+
 use Rattle.nt_types.specs.Kinds.{Kind, Kinds, Parts, bool, char, byte, int, text, list, fields, tuple, choice, no_kinds, kind, no_parts, part, kinds_list, parts_list}
 use Rattle.nt_types.specs.Words.{is_name}
 use Rattle.nt_types.specs.Names.{names_differ}
+use Rattle.nt_types.specs.Limits.{max_alternatives}
 
 -- a width in digits
 abbrev pub digits : ℕ → List ℕ
@@ -52,7 +53,7 @@ abbrev mutual
   IsType within (list k) = IsType within k
   IsType within (fields ps) = (within ≡ false) × (names_differ (parts_list ps) ≡ true) × AreParts ps
   IsType within (tuple ks) = AreKinds within ks
-  IsType within (choice ks) = (length (kinds_list ks) ≤ 100) × AreKinds true ks
+  IsType within (choice ks) = (length (kinds_list ks) ≤ max_alternatives) × AreKinds true ks
 
   -- one kind at least
   pub AreKinds : Bool → Kinds → Type 0

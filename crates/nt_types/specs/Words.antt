@@ -2,6 +2,7 @@
 use Rattle.std.specs.Prelude.{ℕ, Bool, true, false, List, [], ◌∷◌, length, Option, Some, None, option_map, nat_le, ◌==◌, ◌&&◌, ◌||◌, not, codes, if◌then◌else◌}
 use Rattle.std.specs.List.{list_all}
 use Rattle.std.specs.Str.{bytes_eq}
+use Rattle.nt_types.specs.Limits.{max_name}
 use Rattle.nt_types.specs.Kinds.{Kind, bool, char, byte, int, text}
 
 abbrev pub is_digit : ℕ → Bool
@@ -22,7 +23,7 @@ is_space b = (b == 32) || (b == 9) || (b == 13)
 -- a name has 1 to 255 letters, digits or `_`, and no digit comes first
 abbrev pub is_name : List ℕ → Bool
 is_name [] = false
-is_name (b ∷ bs) = not (is_digit b) && nat_le (length (b ∷ bs)) 255 && list_all is_word_byte (b ∷ bs)
+is_name (b ∷ bs) = not (is_digit b) && nat_le (length (b ∷ bs)) max_name && list_all is_word_byte (b ∷ bs)
 
 -- the widths of integers, in digits
 abbrev pub width : List ℕ → Option ℕ

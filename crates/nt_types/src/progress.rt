@@ -5,7 +5,8 @@ ghost use Rattle.nt_types.specs.Views.{shape_view};
 ghost use Rattle.nt_types.specs.Kinds.{Part};
 ghost use Rattle.nt_types.specs.Seen.{Knows};
 ghost use Rattle.nt_types.specs.Schema.{field_of, field_count, part_under};
-ghost use Rattle.nt_types.specs.FaultViews.{GivesLine};
+ghost use Rattle.nt_lists.specs.Answers.{IsAnswer};
+ghost use Rattle.nt_types.specs.FaultViews.{line_fault};
 
 use crate::count::count_fields;
 use crate::fault::{LineError, SchemaKind};
@@ -36,7 +37,7 @@ fn field_of<'a>(
 ) -> Result<(&'a [u8], Shape), LineError>
     requires { before ≤ 4096 }
     ensures few { IfOk result (λ x. before + field_count (shape_view x.1) ≤ 4096) }
-    ensures field { (names : List (List ℕ)) → Knows seen.now names → GivesLine (λ x. part_under x.0.now (shape_view x.1)) result (field_of names before line.now) }
+    ensures field { (names : List (List ℕ)) → Knows seen.now names → IsAnswer (λ x. part_under x.0.now (shape_view x.1)) line_fault result (field_of names before line.now) }
 {
     let Some((name, text)) = split_line(line) else {
         return Err(LineError::Kind(SchemaKind::BadName));
