@@ -7,5 +7,6 @@ ghost use Rattle.nt_column.specs.Elements.{Element, page_of};
 
 /// The page of elements has the size of a page of so many elements of its type.
 pub fn pages_have_their_size()
-    ensures { (kind : ColumnType) (es : List Element) → length (page_of kind es) ≡ page_size kind (length es) }
+    ensures { (kind : ColumnType) (es : List Element)
+        → length (page_of kind es) ≡ page_size kind (length es) }
 {}

@@ -16,7 +16,8 @@ use std::alloc::AllocError;
 /// of a list frame.
 pub(crate) fn put_head(out: &mut Vec<u8>, mark: Mark)
     requires { mark.at + head_len mark.count ≤ vec_len out.old }
-    ensures { out.new.items ≡ take mark.at out.old.items ++ frame mark.count (drop (mark.at + head_len mark.count) out.old.items) }
+    ensures { out.new.items ≡ take mark.at out.old.items ++ frame mark.count
+        (drop (mark.at + head_len mark.count) out.old.items) }
 {
     let size = (out.len() - mark.at) as u64;
     match mark.count {

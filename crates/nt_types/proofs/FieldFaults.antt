@@ -13,7 +13,7 @@ use Rattle.nt_types.specs.Reading.{read_kind}
 use Rattle.nt_types.specs.Spelling.{spell, depth}
 use Rattle.nt_types.specs.Lines.{split_line, type_text, within_depth, type_of, under_name, member_at, member_of}
 use Rattle.nt_types.specs.LineSpelling.{IsLine, IsMember, Spells, BeginsWith, HasFault}
-use Rattle.nt_types.specs.Schema.{field_count, parts_count, counted, field_split, field_of, part_under}
+use Rattle.nt_types.specs.Schema.{field_count, parts_count, within_count, field_split, field_of, part_under}
 use Rattle.nt_types.specs.TextSpelling.{HaveName, IsNew, HasFieldFault}
 use Rattle.nt_types.specs.declared.fault.SchemaKind.{SchemaKind}
 use Rattle.nt_types.specs.declared.fault.SchemaKind.TheVariants.{TooLong, BadName, Repeated, BadType, TooDeep, TooMany, Empty}
@@ -26,9 +26,11 @@ use Rattle.nt_types.proofs.MemberText.{spell_core, member_of-sound}
 
 begins-split : (line name : List ℕ) → BeginsWith line name → (t : List ℕ) × (split_line line ≡ Some (name, t))
 begins-split line name b =
-    let stops : prefix_len is_word_byte (name ++ b.blank ∷ b.rest) ≡ length name = prefix_stops is_word_byte name b.blank b.rest (name_bytes name b.is_name) (blank_ends_word b.blank b.is_blank) in (
+    let stops : prefix_len is_word_byte (name ++ b.blank ∷ b.rest) ≡ length name =
+    prefix_stops is_word_byte name b.blank b.rest (name_bytes name b.is_name) (blank_ends_word b.blank b.is_blank) in (
       type_text (b.blank ∷ b.rest),
-      rw (b.whole, stops, take_front name (b.blank ∷ b.rest), drop_front name (b.blank ∷ b.rest)) (at_is (is_name name) (is_blank b.blank) name _ _ b.is_name b.is_blank refl),
+      rw (b.whole, stops, take_front name (b.blank ∷ b.rest), drop_front name (b.blank ∷ b.rest))
+          (at_is (is_name name) (is_blank b.blank) name _ _ b.is_name b.is_blank refl),
     )
 
 split-begins : (line name t : List ℕ) → split_line line ≡ Some (name, t) → BeginsWith line name
@@ -37,10 +39,18 @@ split-begins line name t e = cases l.blanks l.some_blank l.all_blank l.whole
     l : IsLine line name t
     l = split_line-sound line name t e
 
-    cases : (blanks : List ℕ) → 0 < length blanks → list_all is_blank blanks ≡ true → line ≡ name ++ (blanks ++ (t ++ l.spaces)) → BeginsWith line name
+    cases : (blanks : List ℕ) → 0 < length blanks → list_all is_blank blanks ≡ true → line ≡ name ++ (blanks ++ (t ++ l.spaces))
+        → BeginsWith line name
     cases [] some all whole = absurd (omega arith)
     cases (b ∷ bs) some all whole =
-        record { blank = b; rest = bs ++ (t ++ l.spaces); is_name = l.is_name; is_blank = (and_true (is_blank b) (list_all is_blank bs) all).0; whole = whole }
+        record {
+          blank = b;
+          rest = bs ++ (t ++ l.spaces);
+          is_name = l.is_name;
+          is_blank =
+              (and_true (is_blank b) (list_all is_blank bs) all).0;
+          whole = whole;
+        }
 
 -- a line that begins with a name and a blank begins with no other
 name-same : (line name other t : List ℕ) → split_line line ≡ Some (name, t) → BeginsWith line other → other ≡ name
@@ -63,7 +73,8 @@ spells-begins line p m = split-begins line p.name (spell p.of) (spells-split lin
 
 spells-type : (line name t : List ℕ) (p : Part) → split_line line ≡ Some (name, t) → Spells line p → read_kind t ≡ Some p.of
 spells-type line name t p e m =
-    let same : spell p.of ≡ t = ap (λ (x : List ℕ × List ℕ). x.1) (some_is (p.name, spell p.of) (name, t) (sym (spells-split line p m) ∙ e)) in
+    let same : spell p.of ≡ t =
+    ap (λ (x : List ℕ × List ℕ). x.1) (some_is (p.name, spell p.of) (name, t) (sym (spells-split line p m) ∙ e)) in
     rw (← same) (read_kind-spell p.of m.rules)
 
 type_of-deep : (t : List ℕ) (k : Kind) → read_kind t ≡ Some k → 32 < depth k → type_of t ≡ Err TooDeep
@@ -87,11 +98,16 @@ type_of-fault line name t k e is = cases (read_kind t) refl is
     deep : (j : Kind) (c : Bool) → read_kind t ≡ Some j → nat_le (depth j) 32 ≡ c → (if c then Ok j else Err TooDeep) ≡ Err k
         → ((k ≡ BadType) × HasFault line BadType) ⊎ ((k ≡ TooDeep) × HasFault line TooDeep)
     deep j true read at f = cc
-    deep j false read at f = inr (sym (err_is {A = Kind} TooDeep k f), (part_under name j, split-spells line name t j e read, grind (arith, nat_tests, at)))
+    deep j false read at f =
+        inr (sym (err_is {A = Kind} TooDeep k f), (part_under name j, split-spells line name t j e read, grind (arith, nat_tests, at)))
 
-    cases : (r : Option Kind) → read_kind t ≡ r → within_depth r ≡ Err k → ((k ≡ BadType) × HasFault line BadType) ⊎ ((k ≡ TooDeep) × HasFault line TooDeep)
+    cases : (r : Option Kind) → read_kind t ≡ r → within_depth r ≡ Err k
+        → ((k ≡ BadType) × HasFault line BadType) ⊎ ((k ≡ TooDeep) × HasFault line TooDeep)
     cases None read f =
-        inl (sym (err_is {A = Kind} BadType k f), (name, split-begins line name t e, λ p m. let some : read_kind t ≡ Some p.of = spells-type line name t p e m in cc))
+        inl (
+          sym (err_is {A = Kind} BadType k f),
+          (name, split-begins line name t e, λ p m. let some : read_kind t ≡ Some p.of = spells-type line name t p e m in cc),
+        )
     cases (Some j) read f = deep j (nat_le (depth j) 32) read refl f
 
 -- no name
@@ -111,12 +127,14 @@ no-split line e name b = let s = begins-split line name b in let some : split_li
 pub member_of-fault : (line : List ℕ) (k : SchemaKind) → member_of line ≡ Err k → HasFault line k
 member_of-fault line k e = cases (split_line line) refl e
   where
-    typed : (name t : List ℕ) (r : Result Kind SchemaKind) → split_line line ≡ Some (name, t) → type_of t ≡ r → under_name name r ≡ Err k → HasFault line k
+    typed : (name t : List ℕ) (r : Result Kind SchemaKind) → split_line line ≡ Some (name, t) → type_of t ≡ r → under_name name r ≡ Err k
+        → HasFault line k
     typed name t (Ok j) split is f = cc
     typed name t (Err j) split is f =
         let same : j ≡ k = err_is {A = Part} j k f in
         elim (type_of-fault line name t j split is) [
-          inl x ↦ subst (HasFault line) (sym x.0 ∙ same) x.1 | inr x ↦ subst (HasFault line) (sym x.0 ∙ same) x.1
+          | inl x ↦ subst (HasFault line) (sym x.0 ∙ same) x.1
+          | inr x ↦ subst (HasFault line) (sym x.0 ∙ same) x.1
         ]
 
     cases : (r : Option (List ℕ × List ℕ)) → split_line line ≡ r → member_at r ≡ Err k → HasFault line k
@@ -137,7 +155,9 @@ member_of-refused line Empty f = absurd f
 
 -- a further field on a line, beside the names and the count of those before it
 
-module _ (fields : List Part) (seen : List (List ℕ)) (before : ℕ) (line : List ℕ) (names : (n : List ℕ) → has_name seen n ≡ has_name (map (λ (p : Part). p.name) fields) n) (count : before ≡ parts_count (parts_of fields)) where
+module _ (fields : List Part) (seen : List (List ℕ)) (before : ℕ) (line : List ℕ)
+    (names : (n : List ℕ) → has_name seen n ≡ has_name (map (λ (p : Part). p.name) fields) n)
+    (count : before ≡ parts_count (parts_of fields)) where
   has-not : (name : List ℕ) → (HaveName fields name → ⊥) → has_name seen name ≡ false
   has-not name none = cases (has_name seen name) refl
     where
@@ -154,25 +174,31 @@ module _ (fields : List Part) (seen : List (List ℕ)) (before : ℕ) (line : Li
   pub field_of-fault : (k : SchemaKind) → field_of seen before line ≡ Err k → HasFieldFault fields line k
   field_of-fault k e = cases (split_line line) refl e
     where
-      many : (name t : List ℕ) (j : Kind) (c : Bool) → split_line line ≡ Some (name, t) → IsNew fields line → type_of t ≡ Ok j → nat_le (before + field_count j) 4096 ≡ c
+      many : (name t : List ℕ) (j : Kind) (c : Bool) → split_line line ≡ Some (name, t) → IsNew fields line → type_of t ≡ Ok j
+          → nat_le (before + field_count j) 4096 ≡ c
           → (if c then Ok (part_under name j) else Err TooMany) ≡ Err k → HasFieldFault fields line k
       many name t j true split new is at f = cc
       many name t j false split new is at f =
           let m : IsMember line (part_under name j) = member_of-sound line (part_under name j) (rw (split, is) refl) in
-          subst (HasFieldFault fields line) (err_is {A = Part} TooMany k f) (new, (part_under name j, m, rw (← count) (grind (arith, nat_tests, at))))
+          subst (HasFieldFault fields line) (err_is {A = Part} TooMany k f)
+          (new, (part_under name j, m, rw (← count) (grind (arith, nat_tests, at))))
 
-      typed : (name t : List ℕ) (r : Result Kind SchemaKind) → split_line line ≡ Some (name, t) → IsNew fields line → type_of t ≡ r → counted before name r ≡ Err k
+      typed : (name t : List ℕ) (r : Result Kind SchemaKind) → split_line line ≡ Some (name, t) → IsNew fields line → type_of t ≡ r
+          → within_count before name r ≡ Err k
           → HasFieldFault fields line k
       typed name t (Ok j) split new is f = many name t j (nat_le (before + field_count j) 4096) split new is refl f
       typed name t (Err j) split new is f =
           let same : j ≡ k = err_is {A = Part} j k f in
           elim (type_of-fault line name t j split is) [
-            inl x ↦ subst (HasFieldFault fields line) (sym x.0 ∙ same) (new, x.1) | inr x ↦ subst (HasFieldFault fields line) (sym x.0 ∙ same) (new, x.1)
+            | inl x ↦ subst (HasFieldFault fields line) (sym x.0 ∙ same) (new, x.1)
+            | inr x ↦ subst (HasFieldFault fields line) (sym x.0 ∙ same) (new, x.1)
           ]
 
-      named : (name t : List ℕ) (c : Bool) → split_line line ≡ Some (name, t) → has_name seen name ≡ c → (if c then Err Repeated else counted before name (type_of t)) ≡ Err k
+      named : (name t : List ℕ) (c : Bool) → split_line line ≡ Some (name, t) → has_name seen name ≡ c
+          → (if c then Err Repeated else within_count before name (type_of t)) ≡ Err k
           → HasFieldFault fields line k
-      named name t true split at f = subst (HasFieldFault fields line) (err_is {A = Part} Repeated k f) (name, split-begins line name t split, sym (names name) ∙ at)
+      named name t true split at f =
+          subst (HasFieldFault fields line) (err_is {A = Part} Repeated k f) (name, split-begins line name t split, sym (names name) ∙ at)
       named name t false split at f = typed name t (type_of t) split (is-new name t split at) refl f
 
       cases : (r : Option (List ℕ × List ℕ)) → split_line line ≡ r → field_split seen before r ≡ Err k → HasFieldFault fields line k
@@ -189,15 +215,25 @@ module _ (fields : List Part) (seen : List (List ℕ)) (before : ℕ) (line : Li
       let s = begins-split line name b in
       rw (s.1, has-not name (new name b), type_of-bad line name s.0 s.1 none) refl
   field_of-refused TooDeep (new, (p, m, deep)) =
-      rw (spells-split line p m, has-not p.name (new p.name (spells-begins line p m)), type_of-deep (spell p.of) p.of (read_kind-spell p.of m.rules) deep) refl
+      rw (
+        spells-split line p m,
+        has-not p.name (new p.name (spells-begins line p m)),
+        type_of-deep (spell p.of) p.of (read_kind-spell p.of m.rules) deep,
+      ) refl
   field_of-refused TooMany (new, (p, m, many)) =
       let s : Spells line p = record { line_is = m.line_is; rules = m.rules } in
       let above : nat_le (before + field_count p.of) 4096 ≡ false = rw count (grind (arith, nat_tests)) in
-      rw (spells-split line p s, has-not p.name (new p.name (spells-begins line p s)), type_of-shallow (spell p.of) p.of (read_kind-spell p.of m.rules) m.shallow, above) refl
+      rw (
+        spells-split line p s,
+        has-not p.name (new p.name (spells-begins line p s)),
+        type_of-shallow (spell p.of) p.of (read_kind-spell p.of m.rules) m.shallow,
+        above,
+      ) refl
   field_of-refused TooLong f = absurd f
   field_of-refused Empty f = absurd f
 
-  pub field_of-spelled : (p : Part) → Spells line p → has_name seen p.name ≡ false → depth p.of ≤ 32 → before + field_count p.of ≤ 4096 → field_of seen before line ≡ Ok p
+  pub field_of-spelled : (p : Part) → Spells line p → has_name seen p.name ≡ false → depth p.of ≤ 32 → before + field_count p.of ≤ 4096
+      → field_of seen before line ≡ Ok p
   field_of-spelled p m new shallow few =
       let below : nat_le (before + field_count p.of) 4096 ≡ true = grind (arith, nat_tests) in
       rw (spells-split line p m, new, type_of-shallow (spell p.of) p.of (read_kind-spell p.of m.rules) shallow, below) refl

@@ -2,6 +2,7 @@ pub mod Seen
 pub mod Stack
 pub mod ShapeViews
 pub mod NamesDiffer
+pub mod Malformed
 pub mod ReadSteps
 pub mod Forget
 pub mod Depth

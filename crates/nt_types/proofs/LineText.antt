@@ -16,11 +16,14 @@ all_prefix : (p : ℕ → Bool) (xs : List ℕ) → list_all p (take (prefix_len
 all_prefix p [] = refl
 all_prefix p (x ∷ xs) = cases (p x) refl (all_prefix p xs)
   where
-    cases : (c : Bool) → p x ≡ c → list_all p (take (prefix_len p xs) xs) ≡ true → list_all p (take (cond c (1 + prefix_len p xs) 0) (x ∷ xs)) ≡ true
-    cases true e h = let n : 1 + prefix_len p xs ≡ suc (prefix_len p xs) = omega arith in rw n (both_true (p x) (list_all p (take (prefix_len p xs) xs)) e h)
+    cases : (c : Bool) → p x ≡ c → list_all p (take (prefix_len p xs) xs) ≡ true
+        → list_all p (take (cond c (1 + prefix_len p xs) 0) (x ∷ xs)) ≡ true
+    cases true e h = let n : 1 + prefix_len p xs ≡ suc (prefix_len p xs) = omega arith in
+        rw n (both_true (p x) (list_all p (take (prefix_len p xs) xs)) e h)
     cases false e h = refl
 
-pub prefix_stops : (p : ℕ → Bool) (xs : List ℕ) (y : ℕ) (ys : List ℕ) → list_all p xs ≡ true → p y ≡ false → prefix_len p (xs ++ y ∷ ys) ≡ length xs
+pub prefix_stops : (p : ℕ → Bool) (xs : List ℕ) (y : ℕ) (ys : List ℕ) → list_all p xs ≡ true → p y ≡ false
+    → prefix_len p (xs ++ y ∷ ys) ≡ length xs
 prefix_stops p [] y ys a n = rw n refl
 prefix_stops p (x ∷ xs) y ys a n =
     let both : (p x ≡ true) × (list_all p xs ≡ true) = and_true _ _ a in
@@ -41,7 +44,8 @@ all_reverse p [] a = refl
 all_reverse p (x ∷ xs) a =
     let both : (p x ≡ true) × (list_all p xs ≡ true) = and_true _ _ a in
     let last : reverse (x ∷ xs) ≡ reverse xs ++ x ∷ [] = reverse-append (x ∷ []) xs in
-    rw (last, list_all-append p (reverse xs) (x ∷ [])) (both_true (list_all p (reverse xs)) (list_all p (x ∷ [])) (all_reverse p xs both.1) (both_true (p x) true both.0 refl))
+    rw (last, list_all-append p (reverse xs) (x ∷ []))
+    (both_true (list_all p (reverse xs)) (list_all p (x ∷ [])) (all_reverse p xs both.1) (both_true (p x) true both.0 refl))
 
 -- a text and the spaces at its end
 trimmed_of : (core spaces : List ℕ) → prefix_len is_space (reverse (core ++ spaces)) ≡ length spaces → trimmed (core ++ spaces) ≡ core
@@ -56,10 +60,16 @@ trimmed_sound text =
     let p : ℕ = prefix_len is_space back in
     let core : List ℕ = reverse (drop p back) in
     let spaces : List ℕ = reverse (take p back) in
-    let whole : text ≡ core ++ spaces = sym (reverse-reverse text) ∙ ap reverse (sym (take-append-drop p back)) ∙ reverse-append (take p back) (drop p back) in
+    let whole : text ≡ core ++ spaces = sym (reverse-reverse text) ∙ ap reverse (sym (take-append-drop p back))
+    ∙ reverse-append (take p back) (drop p back) in
     let len : length spaces ≡ p = length-reverse (take p back) ∙ length-prefix_len is_space back in
-    let same : prefix_len is_space (reverse (core ++ spaces)) ≡ length spaces = ap (λ (l : List ℕ). prefix_len is_space (reverse l)) (sym whole) ∙ sym len in
-    (spaces, all_reverse is_space (take p back) (all_prefix is_space back), whole ∙ ap (λ (l : List ℕ). l ++ spaces) (sym (ap trimmed whole ∙ trimmed_of core spaces same)))
+    let same : prefix_len is_space (reverse (core ++ spaces)) ≡ length spaces =
+    ap (λ (l : List ℕ). prefix_len is_space (reverse l)) (sym whole) ∙ sym len in (
+      spaces,
+      all_reverse is_space (take p back) (all_prefix is_space back),
+      whole
+          ∙ ap (λ (l : List ℕ). l ++ spaces) (sym (ap trimmed whole ∙ trimmed_of core spaces same)),
+    )
 
 chosen_pair : (c : Bool) (x y : List ℕ × List ℕ) → cond c (Some x) None ≡ Some y → (c ≡ true) × (x ≡ y)
 chosen_pair true x y e = (refl, cc)
@@ -73,13 +83,15 @@ some_blank (b ∷ bs) e =
 
 pub split_at-sound : (line a rest name text : List ℕ) → line ≡ a ++ rest → split_at a rest ≡ Some (name, text) → IsLine line name text
 split_at-sound line a rest name text whole e =
-    let found : ((is_name a && begins_blank rest) ≡ true) × ((a, type_text rest) ≡ (name, text)) = chosen_pair (is_name a && begins_blank rest) (a, type_text rest) (name, text) e in
+    let found : ((is_name a && begins_blank rest) ≡ true) × ((a, type_text rest) ≡ (name, text)) =
+    chosen_pair (is_name a && begins_blank rest) (a, type_text rest) (name, text) e in
     let both : (is_name a ≡ true) × (begins_blank rest ≡ true) = and_true _ _ found.0 in
     let named : a ≡ name = ap (λ (x : List ℕ × List ℕ). x.0) found.1 in
     let typed : type_text rest ≡ text = ap (λ (x : List ℕ × List ℕ). x.1) found.1 in
     let m : ℕ = prefix_len is_blank rest in
     let end = trimmed_sound (drop m rest) in
-    let cut : rest ≡ take m rest ++ (type_text rest ++ end.0) = sym (take-append-drop m rest) ∙ ap (λ (l : List ℕ). take m rest ++ l) end.2 in
+    let cut : rest ≡ take m rest ++ (type_text rest ++ end.0) = sym (take-append-drop m rest)
+    ∙ ap (λ (l : List ℕ). take m rest ++ l) end.2 in
     record {
       blanks = take m rest;
       spaces = end.0;
@@ -93,7 +105,8 @@ split_at-sound line a rest name text whole e =
 -- where the name and a blank come first, the text and spaces follow
 pub split_line-sound : (line name text : List ℕ) → split_line line ≡ Some (name, text) → IsLine line name text
 split_line-sound line name text e =
-    split_at-sound line (take (prefix_len is_word_byte line) line) (drop (prefix_len is_word_byte line) line) name text (sym (take-append-drop (prefix_len is_word_byte line) line)) e
+    split_at-sound line (take (prefix_len is_word_byte line) line) (drop (prefix_len is_word_byte line) line) name text
+    (sym (take-append-drop (prefix_len is_word_byte line) line)) e
 
 -- a text that neither begins with a blank nor ends with a space
 pub record IsCore (text : List ℕ) : Type 0 where
@@ -107,14 +120,19 @@ pub record IsCore (text : List ℕ) : Type 0 where
   pub no_space : is_space last ≡ false
 
 trimmed_core : (text spaces : List ℕ) → IsCore text → list_all is_space spaces ≡ true → trimmed (text ++ spaces) ≡ text
-trimmed_core text spaces core all = trimmed_of text spaces (rw (reverse-append text spaces, turned) (prefix_stops is_space (reverse spaces) core.last (reverse core.before) (all_reverse is_space spaces all) core.no_space ∙ length-reverse spaces))
+trimmed_core text spaces core all =
+    trimmed_of text spaces
+    (rw (reverse-append text spaces, turned)
+    (prefix_stops is_space (reverse spaces) core.last (reverse core.before) (all_reverse is_space spaces all) core.no_space ∙ length-reverse spaces))
   where
     turned : reverse text ≡ core.last ∷ reverse core.before
     turned = ap reverse core.ends ∙ reverse-append core.before (core.last ∷ [])
 
-type_text_core : (blanks text spaces : List ℕ) → list_all is_blank blanks ≡ true → IsCore text → list_all is_space spaces ≡ true → type_text (blanks ++ (text ++ spaces)) ≡ text
+type_text_core : (blanks text spaces : List ℕ) → list_all is_blank blanks ≡ true → IsCore text → list_all is_space spaces ≡ true
+    → type_text (blanks ++ (text ++ spaces)) ≡ text
 type_text_core blanks text spaces all core spaced =
-    let stops : prefix_len is_blank (blanks ++ (text ++ spaces)) ≡ length blanks = rw core.begins (prefix_stops is_blank blanks core.first (core.later ++ spaces) all core.no_blank) in
+    let stops : prefix_len is_blank (blanks ++ (text ++ spaces)) ≡ length blanks =
+    rw core.begins (prefix_stops is_blank blanks core.first (core.later ++ spaces) all core.no_blank) in
     rw (stops, drop_front blanks (text ++ spaces)) (trimmed_core text spaces core spaced)
 
 pub blank_ends_word : (b : ℕ) → is_blank b ≡ true → is_word_byte b ≡ false
@@ -123,7 +141,8 @@ blank_ends_word b e = grind (arith, nat_tests)
 abbrev pub some_pair : List ℕ → List ℕ → Option (List ℕ × List ℕ)
 some_pair name u = Some (name, u)
 
-pub at_is : (c d : Bool) (name t text : List ℕ) → c ≡ true → d ≡ true → t ≡ text → cond {A = Option (List ℕ × List ℕ)} (c && d) (Some (name, t)) None ≡ Some (name, text)
+pub at_is : (c d : Bool) (name t text : List ℕ) → c ≡ true → d ≡ true → t ≡ text
+    → cond {A = Option (List ℕ × List ℕ)} (c && d) (Some (name, t)) None ≡ Some (name, text)
 at_is true true name t text e f same = ap (λ (u : List ℕ). some_pair name u) same
 at_is true false name t text e f same = cc
 at_is false d name t text e f same = cc
@@ -132,10 +151,13 @@ at_is false d name t text e f same = cc
 pub split_line-is : (line name text : List ℕ) → IsLine line name text → IsCore text → split_line line ≡ Some (name, text)
 split_line-is line name text l core = rw l.whole (cases l.blanks l.some_blank l.all_blank)
   where
-    cases : (blanks : List ℕ) → 0 < length blanks → list_all is_blank blanks ≡ true → split_line (name ++ (blanks ++ (text ++ l.spaces))) ≡ Some (name, text)
+    cases : (blanks : List ℕ) → 0 < length blanks → list_all is_blank blanks ≡ true
+        → split_line (name ++ (blanks ++ (text ++ l.spaces))) ≡ Some (name, text)
     cases [] some all = absurd (omega arith)
     cases (b ∷ bs) some all =
         let both : (is_blank b ≡ true) × (list_all is_blank bs ≡ true) = and_true _ _ all in
-        let stops : prefix_len is_word_byte (name ++ ((b ∷ bs) ++ (text ++ l.spaces))) ≡ length name = prefix_stops is_word_byte name b (bs ++ (text ++ l.spaces)) (name_bytes name l.is_name) (blank_ends_word b both.0) in
+        let stops : prefix_len is_word_byte (name ++ ((b ∷ bs) ++ (text ++ l.spaces))) ≡ length name =
+        prefix_stops is_word_byte name b (bs ++ (text ++ l.spaces)) (name_bytes name l.is_name) (blank_ends_word b both.0) in
         rw (stops, take_front name ((b ∷ bs) ++ (text ++ l.spaces)), drop_front name ((b ∷ bs) ++ (text ++ l.spaces)))
-        (at_is (is_name name) (is_blank b) name (type_text ((b ∷ bs) ++ (text ++ l.spaces))) text l.is_name both.0 (type_text_core (b ∷ bs) text l.spaces all core l.all_space))
+        (at_is (is_name name) (is_blank b) name (type_text ((b ∷ bs) ++ (text ++ l.spaces))) text l.is_name both.0
+        (type_text_core (b ∷ bs) text l.spaces all core l.all_space))

@@ -12,7 +12,7 @@ use Rattle.nt_types.specs.Words.{is_name}
 use Rattle.nt_types.specs.Spelling.{IsType, AreMoreParts, depth, deepest_part}
 use Rattle.nt_types.specs.LineSpelling.{IsMember}
 use Rattle.nt_types.specs.Lines.{split_line, type_of, under_name}
-use Rattle.nt_types.specs.Schema.{Progress, field_count, parts_count, counted, field_split, field_of, with_field, first_line}
+use Rattle.nt_types.specs.Schema.{ProgressData, field_count, parts_count, within_count, field_split, field_of, with_field, first_line}
 use Rattle.nt_types.specs.Rules.{AreFields}
 use Rattle.nt_types.specs.declared.fault.SchemaKind.{SchemaKind}
 use Rattle.nt_types.specs.declared.fault.SchemaKind.TheVariants.{Repeated, TooMany}
@@ -29,10 +29,12 @@ record Counted (before : ℕ) (name : List ℕ) (r : Result Kind SchemaKind) (p 
   read : under_name name r ≡ Ok p
   few : before + field_count p.of ≤ 4096
 
-counted-is : (before : ℕ) (name : List ℕ) (r : Result Kind SchemaKind) (p : Part) → counted before name r ≡ Ok p → Counted before name r p
+counted-is : (before : ℕ) (name : List ℕ) (r : Result Kind SchemaKind) (p : Part) → within_count before name r ≡ Ok p
+    → Counted before name r p
 counted-is before name (Err e) p h = cc
 counted-is before name (Ok k) p h =
-    let q : (nat_le (before + field_count k) 4096 ≡ true) × (record { name = name; of = k } ≡ p) = chosen (nat_le (before + field_count k) 4096) _ p TooMany h in
+    let q : (nat_le (before + field_count k) 4096 ≡ true) × (record { name = name; of = k } ≡ p) =
+    chosen (nat_le (before + field_count k) 4096) _ p TooMany h in
     let same : k ≡ p.of = ap (λ (x : Part). x.of) q.1 in
     record {
       named = sym (ap (λ (x : Part). x.name) q.1);
@@ -49,13 +51,15 @@ pub record Taken (seen : List (List ℕ)) (before : ℕ) (line : List ℕ) (p : 
   pub few : before + field_count p.of ≤ 4096
   pub member : IsMember line p
 
-pub field_of-is : (seen : List (List ℕ)) (before : ℕ) (line : List ℕ) (p : Part) → field_of seen before line ≡ Ok p → Taken seen before line p
+pub field_of-is : (seen : List (List ℕ)) (before : ℕ) (line : List ℕ) (p : Part) → field_of seen before line ≡ Ok p
+    → Taken seen before line p
 field_of-is seen before line p h = cases (split_line line) refl h
   where
     cases : (o : Option (List ℕ × List ℕ)) → split_line line ≡ o → field_split seen before o ≡ Ok p → Taken seen before line p
     cases None split e = cc
     cases (Some x) split e =
-        let q : (has_name seen x.0 ≡ false) × (counted before x.0 (type_of x.1) ≡ Ok p) = chosen_not (has_name seen x.0) (counted before x.0 (type_of x.1)) p Repeated e in
+        let q : (has_name seen x.0 ≡ false) × (within_count before x.0 (type_of x.1) ≡ Ok p) =
+        chosen_not (has_name seen x.0) (within_count before x.0 (type_of x.1)) p Repeated e in
         let c : Counted before x.0 (type_of x.1) p = counted-is before x.0 (type_of x.1) p q.1 in
         let m : IsMember line p = member_of-sound line p (rw split c.read) in
         record {
@@ -71,7 +75,8 @@ field_of-is seen before line p h = cases (split_line line) refl h
 
 parts_count-snoc : (ps : List Part) (p : Part) → parts_count (parts_of (ps ++ p ∷ [])) ≡ parts_count (parts_of ps) + field_count p.of
 parts_count-snoc [] p = omega arith
-parts_count-snoc (q ∷ ps) p = let ih : parts_count (parts_of (ps ++ p ∷ [])) ≡ parts_count (parts_of ps) + field_count p.of = parts_count-snoc ps p in omega arith
+parts_count-snoc (q ∷ ps) p = let ih : parts_count (parts_of (ps ++ p ∷ [])) ≡ parts_count (parts_of ps) + field_count p.of =
+    parts_count-snoc ps p in omega arith
 
 max-most : (a b n : ℕ) → a ≤ n → b ≤ n → max a b ≤ n
 max-most a b n h k = grind (arith, nat_tests)
@@ -85,7 +90,8 @@ deepest-snoc (q ∷ ps) p h k =
     let both = max-parts (depth q.of) (deepest_part (parts_of ps)) 32 h in
     max-most (depth q.of) (deepest_part (parts_of (ps ++ p ∷ []))) 32 both.0 (deepest-snoc ps p both.1 k)
 
-AreMoreParts-snoc : (ps : List Part) (p : Part) → AreMoreParts (parts_of ps) → is_name p.name ≡ true → IsType false p.of → AreMoreParts (parts_of (ps ++ p ∷ []))
+AreMoreParts-snoc : (ps : List Part) (p : Part) → AreMoreParts (parts_of ps) → is_name p.name ≡ true → IsType false p.of
+    → AreMoreParts (parts_of (ps ++ p ∷ []))
 AreMoreParts-snoc [] p g n t = (n, t, tt)
 AreMoreParts-snoc (q ∷ ps) p g n t = (g.0, g.1, AreMoreParts-snoc ps p g.2 n t)
 
@@ -99,7 +105,8 @@ unfolding seen_after
 seen_after-snoc seen [] p = refl
 seen_after-snoc seen (q ∷ ps) p = seen_after-snoc (q.name ∷ seen) ps p
 
-are_new-snoc : (seen : List (List ℕ)) (ps : List Part) (p : Part) → are_new seen ps ≡ true → has_name (seen_after seen ps) p.name ≡ false → are_new seen (ps ++ p ∷ []) ≡ true
+are_new-snoc : (seen : List (List ℕ)) (ps : List Part) (p : Part) → are_new seen ps ≡ true → has_name (seen_after seen ps) p.name ≡ false
+    → are_new seen (ps ++ p ∷ []) ≡ true
 unfolding seen_after
 are_new-snoc seen [] p h new = rw new refl
 are_new-snoc seen (q ∷ ps) p h new =
@@ -139,34 +146,38 @@ deepest-front (p ∷ ps) qs h =
 
 parts_count-front : (ps qs : List Part) → parts_count (parts_of ps) ≤ parts_count (parts_of (ps ++ qs))
 parts_count-front [] qs = omega arith
-parts_count-front (p ∷ ps) qs = let ih : parts_count (parts_of ps) ≤ parts_count (parts_of (ps ++ qs)) = parts_count-front ps qs in omega arith
+parts_count-front (p ∷ ps) qs = let ih : parts_count (parts_of ps) ≤ parts_count (parts_of (ps ++ qs)) = parts_count-front ps qs in
+    omega arith
 
 pub KeepRules-front : (ps qs : List Part) → KeepRules (ps ++ qs) → KeepRules ps
 KeepRules-front ps qs k = record {
   differ = are_new-front [] ps qs k.differ;
   rules = AreMoreParts-front ps qs k.rules;
   shallow = deepest-front ps qs k.shallow;
-  few = (let front : parts_count (parts_of ps) ≤ parts_count (parts_of (ps ++ qs)) = parts_count-front ps qs in let few : parts_count (parts_of (ps ++ qs)) ≤ 4096 = k.few in omega arith);
+  few = (let front : parts_count (parts_of ps) ≤ parts_count (parts_of (ps ++ qs)) = parts_count-front ps qs in
+      let few : parts_count (parts_of (ps ++ qs)) ≤ 4096 = k.few in omega arith);
 }
 
 -- the last of fields that keep the rules
 
-are_new-last : (seen : List (List ℕ)) (ps : List Part) (p : Part) → are_new seen (ps ++ p ∷ []) ≡ true → has_name (seen_after seen ps) p.name ≡ false
+are_new-last : (seen : List (List ℕ)) (ps : List Part) (p : Part) → are_new seen (ps ++ p ∷ []) ≡ true
+    → has_name (seen_after seen ps) p.name ≡ false
 unfolding seen_after
 are_new-last seen [] p h = not_true (has_name seen p.name) (and_true (not (has_name seen p.name)) true h).0
-are_new-last seen (q ∷ ps) p h = are_new-last (q.name ∷ seen) ps p (and_true (not (has_name seen q.name)) (are_new (q.name ∷ seen) (ps ++ p ∷ [])) h).1
+are_new-last seen (q ∷ ps) p h =
+    are_new-last (q.name ∷ seen) ps p (and_true (not (has_name seen q.name)) (are_new (q.name ∷ seen) (ps ++ p ∷ [])) h).1
 
 deepest-last : (ps : List Part) (p : Part) → deepest_part (parts_of (ps ++ p ∷ [])) ≤ 32 → depth p.of ≤ 32
 deepest-last [] p h = (max-parts (depth p.of) 0 32 h).0
 deepest-last (q ∷ ps) p h = deepest-last ps p (max-parts (depth q.of) (deepest_part (parts_of (ps ++ p ∷ []))) 32 h).1
 
 -- what was read up to a line keeps the rules
-pub record Keeps (s : Progress) : Type 0 where
+pub record Keeps (s : ProgressData) : Type 0 where
   pub count : s.count ≡ parts_count (parts_of s.parts)
   pub seen : s.seen ≡ seen_after [] s.parts
   pub fields : KeepRules s.parts
 
-pub Keeps-field : (s : Progress) (line : List ℕ) (p : Part) → Taken s.seen s.count line p → Keeps s → Keeps (with_field s p)
+pub Keeps-field : (s : ProgressData) (line : List ℕ) (p : Part) → Taken s.seen s.count line p → Keeps s → Keeps (with_field s p)
 Keeps-field s line p t k = record {
   count = ap (λ (n : ℕ). n + field_count p.of) k.count ∙ sym (parts_count-snoc s.parts p);
   seen = ap (λ (z : List (List ℕ)). p.name ∷ z) k.seen ∙ sym (seen_after-snoc [] s.parts p);
@@ -179,13 +190,13 @@ Keeps-field s line p t k = record {
 }
 
 -- a field that keeps the rules behind those that were read is new, not too deep and not too many
-pub Keeps-new : (s : Progress) (p : Part) → Keeps s → KeepRules (s.parts ++ p ∷ []) → has_name s.seen p.name ≡ false
+pub Keeps-new : (s : ProgressData) (p : Part) → Keeps s → KeepRules (s.parts ++ p ∷ []) → has_name s.seen p.name ≡ false
 Keeps-new s p k r = rw k.seen (are_new-last [] s.parts p r.differ)
 
-pub Keeps-shallow : (s : Progress) (p : Part) → KeepRules (s.parts ++ p ∷ []) → depth p.of ≤ 32
+pub Keeps-shallow : (s : ProgressData) (p : Part) → KeepRules (s.parts ++ p ∷ []) → depth p.of ≤ 32
 Keeps-shallow s p r = deepest-last s.parts p r.shallow
 
-pub Keeps-few : (s : Progress) (p : Part) → Keeps s → KeepRules (s.parts ++ p ∷ []) → s.count + field_count p.of ≤ 4096
+pub Keeps-few : (s : ProgressData) (p : Part) → Keeps s → KeepRules (s.parts ++ p ∷ []) → s.count + field_count p.of ≤ 4096
 Keeps-few s p k r = rw (k.count, ← parts_count-snoc s.parts p) r.few
 
 pub Keeps-first : Keeps first_line
@@ -199,7 +210,8 @@ has_or true false z = refl
 has_or false true z = refl
 has_or false false z = refl
 
-seen_after-has : (seen : List (List ℕ)) (ps : List Part) (n : List ℕ) → has_name (seen_after seen ps) n ≡ (has_name (map (λ (p : Part). p.name) ps) n || has_name seen n)
+seen_after-has : (seen : List (List ℕ)) (ps : List Part) (n : List ℕ)
+    → has_name (seen_after seen ps) n ≡ (has_name (map (λ (p : Part). p.name) ps) n || has_name seen n)
 unfolding seen_after
 seen_after-has seen [] n = refl
 seen_after-has seen (p ∷ ps) n =
@@ -209,5 +221,5 @@ or_none : (b : Bool) → (b || false) ≡ b
 or_none true = refl
 or_none false = refl
 
-pub Keeps-names : (s : Progress) (n : List ℕ) → Keeps s → has_name s.seen n ≡ has_name (map (λ (p : Part). p.name) s.parts) n
+pub Keeps-names : (s : ProgressData) (n : List ℕ) → Keeps s → has_name s.seen n ≡ has_name (map (λ (p : Part). p.name) s.parts) n
 Keeps-names s n k = rw k.seen (seen_after-has [] s.parts n ∙ or_none (has_name (map (λ (p : Part). p.name) s.parts) n))

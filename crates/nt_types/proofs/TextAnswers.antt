@@ -38,29 +38,35 @@ line-told (Ok m) line g = member_text-sound line (member_view m) g
 line-told (Err (Fault f)) line g = member_text-fault line f g
 line-told (Err Memory) line g = tt
 
-pub line-only : (r : Result Member SchemaError) (line : List ℕ) (p : Part) → IsMember line p → IsAnswer member_view schema_fault r (member_text line)
+pub line-only : (r : Result Member SchemaError) (line : List ℕ) (p : Part) → IsMember line p
+    → IsAnswer member_view schema_fault r (member_text line)
     → IsAnswer member_view schema_fault r (Ok p)
 line-only r line p m g = subst (IsAnswer member_view schema_fault r) (member_text-is line p m) g
 
-pub line-each : (r : Result Member SchemaError) (line : List ℕ) (k : SchemaKind) → HasFault line k → IsAnswer member_view schema_fault r (member_text line)
+pub line-each : (r : Result Member SchemaError) (line : List ℕ) (k : SchemaKind) → HasFault line k
+    → IsAnswer member_view schema_fault r (member_text line)
     → IsAnswer member_view schema_fault r (Err (at_line 0 k))
 line-each r line k f g = subst (IsAnswer member_view schema_fault r) (rw (member_of-refused line k f) refl) g
 
 -- a text
 
-pub text-told : (r : Result Members SchemaError) (text : List ℕ) → IsAnswer members_view schema_fault r (schema_text text) → TellsText text r
+pub text-told : (r : Result Members SchemaError) (text : List ℕ) → IsAnswer members_view schema_fault r (schema_text text)
+    → TellsText text r
 text-told (Ok m) text g = schema_text-told text (members_view m) g
 text-told (Err (Fault f)) text g = schema_text-fault text f g
 text-told (Err Memory) text g = tt
 
-pub text-only : (r : Result Members SchemaError) (text : List ℕ) (fields : List Part) → IsSchema text fields → IsAnswer members_view schema_fault r (schema_text text)
+pub text-only : (r : Result Members SchemaError) (text : List ℕ) (fields : List Part) → IsSchema text fields
+    → IsAnswer members_view schema_fault r (schema_text text)
     → IsAnswer members_view schema_fault r (Ok fields)
 text-only r text fields s g = subst (IsAnswer members_view schema_fault r) (schema_text-is text fields s) g
 
-pub text-each : (r : Result Members SchemaError) (text : List ℕ) (f : SchemaFault) → IsRefused text f.line f.kind → IsAnswer members_view schema_fault r (schema_text text)
+pub text-each : (r : Result Members SchemaError) (text : List ℕ) (f : SchemaFault) → IsRefused text f.line f.kind
+    → IsAnswer members_view schema_fault r (schema_text text)
     → IsAnswer members_view schema_fault r (Err f)
 text-each r text f s g = subst (IsAnswer members_view schema_fault r) (schema_text-refused text f.line f.kind s) g
 
-pub text-rules : (r : Result Members SchemaError) (text : List ℕ) → IsAnswer members_view schema_fault r (schema_text text) → IfOk r (λ fields. AreFields (members_view fields))
+pub text-rules : (r : Result Members SchemaError) (text : List ℕ) → IsAnswer members_view schema_fault r (schema_text text)
+    → IfOk r (λ fields. AreFields (members_view fields))
 text-rules (Ok m) text g = (schema_text-told text (members_view m) g).rules
 text-rules (Err e) text g = tt

@@ -9,6 +9,10 @@ max_text = 2 ^ 20
 abbrev pub max_fields : ℕ
 max_fields = 4096
 
+-- the least count of too many fields
+abbrev pub too_many : ℕ
+too_many = 4097
+
 -- how deep a type may nest, with a leaf counted as 1
 abbrev pub max_depth : ℕ
 max_depth = 32

@@ -38,6 +38,7 @@ abbrev mutual
   spell_more_parts no_parts = []
   spell_more_parts (part n k ps) = 44 ∷ (n ++ 58 ∷ (spell k ++ spell_more_parts ps))
 
+-- one of the widths of integers
 abbrev pub is_width : ℕ → Bool
 is_width bits = (bits == 8) || (bits == 16) || (bits == 32) || (bits == 64)
 

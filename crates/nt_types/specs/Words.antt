@@ -5,6 +5,7 @@ use Rattle.std.specs.Str.{bytes_eq}
 use Rattle.nt_types.specs.Limits.{max_name}
 use Rattle.nt_types.specs.Kinds.{Kind, bool, char, byte, int, text}
 
+-- an ASCII digit
 abbrev pub is_digit : ℕ → Bool
 is_digit b = nat_le 48 b && nat_le b 57
 
@@ -33,6 +34,7 @@ width w = if bytes_eq w (codes "8") then Some 8
     else if bytes_eq w (codes "64") then Some 64
     else None
 
+-- an integer of the width that these digits stand for
 abbrev pub int_of : List ℕ → Bool → Option Kind
 int_of w signed = option_map (λ bits. int bits signed) (width w)
 

@@ -42,9 +42,11 @@ pub fn parse_member(alloc: Global, line: &[u8]) -> Result<Member, SchemaError>
     // The member that the line spells, or what is wrong with the line.
     ensures told { TellsLine line.now result }
     // A member that the line spells is read, unless memory runs out.
-    ensures only { (p : Part) → IsMember line.now p → IsAnswer member_view schema_fault result (Ok p) }
+    ensures only { (p : Part) → IsMember line.now p
+        → IsAnswer member_view schema_fault result (Ok p) }
     // What is wrong is answered, unless memory runs out; TooDeep of each type that nests too deep.
-    ensures each { (kind : SchemaKind) → HasFault line.now kind → IsAnswer member_view schema_fault result (Err (at_line 0 kind)) }
+    ensures each { (kind : SchemaKind) → HasFault line.now kind
+        → IsAnswer member_view schema_fault result (Err (at_line 0 kind)) }
 {
     read_member(alloc, line)
 }

@@ -5,6 +5,7 @@ ghost use Rattle.std.specs.List.{position_or_len, slice_split};
 ghost use Rattle.nt_types.specs.Views.{members_view};
 ghost use Rattle.nt_types.specs.Schema.{schema_text, take_lines, first_line, at_line};
 ghost use Rattle.nt_types.specs.Kinds.{Part};
+ghost use Rattle.nt_types.specs.Limits.{max_text};
 ghost use Rattle.nt_types.specs.Rules.{AreFields};
 ghost use Rattle.nt_types.specs.TextSpelling.{IsSchema, IsRefused};
 ghost use Rattle.nt_types.specs.TextAnswers.{TellsText};
@@ -50,8 +51,9 @@ fn text_fault(kind: SchemaKind) -> SchemaError
 
 /// The fields of the lines, of which there is at least one.
 fn read_lines(alloc: Global, text: &[u8]) -> Result<Fields, SchemaError>
-    requires { length text.now ≤ 2 ^ 20 }
-    ensures { IsAnswer members_view schema_fault result (take_lines first_line (slice_split (λ b. b == 10) text.now)) }
+    requires { length text.now ≤ max_text }
+    ensures { IsAnswer members_view schema_fault result
+        (take_lines first_line (slice_split (λ b. b == 10) text.now)) }
 {
     let mut progress = Progress::new(alloc);
     let mut rest = Some(text);
@@ -75,9 +77,11 @@ pub fn parse_schema(alloc: Global, text: &[u8]) -> Result<Fields, SchemaError>
     // The fields that the text spells, or its first fault.
     ensures told { TellsText text.now result }
     // Fields that the text spells are read, unless memory runs out.
-    ensures only { (fields : List Part) → IsSchema text.now fields → IsAnswer members_view schema_fault result (Ok fields) }
+    ensures only { (fields : List Part) → IsSchema text.now fields
+        → IsAnswer members_view schema_fault result (Ok fields) }
     // The first fault is answered, unless memory runs out.
-    ensures each { (fault : SchemaFault) → IsRefused text.now fault.line fault.kind → IsAnswer members_view schema_fault result (Err fault) }
+    ensures each { (fault : SchemaFault) → IsRefused text.now fault.line fault.kind
+        → IsAnswer members_view schema_fault result (Err fault) }
     // What is read keeps the rules of fields.
     ensures rules { IfOk result (λ fields. AreFields (members_view fields)) }
     // The same by the reading of lines, which callers' own words of schema texts cite.
