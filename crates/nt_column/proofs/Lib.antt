@@ -2,7 +2,6 @@ pub mod Numbers
 pub mod Zips
 pub mod Stores
 pub mod Buffers
-pub mod Groups
 pub mod Pages
 pub mod Sets
 pub mod Sizes

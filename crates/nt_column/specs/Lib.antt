@@ -1,5 +1,4 @@
 pub mod Elements
-pub mod Chunks
 pub mod Column
 pub mod Cow
 pub mod Kept

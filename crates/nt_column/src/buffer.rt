@@ -8,7 +8,7 @@ ghost use Rattle.nt_encode.specs.Pages.{page_size};
 ghost use Rattle.nt_column.specs.Elements.{plain, numbers, tags, text_of, page_of};
 ghost use Rattle.nt_column.specs.Cow.{cow_items, is_borrowed};
 ghost use Rattle.nt_column.specs.Column.{empty, zeroed, with_more};
-ghost use Rattle.nt_column.specs.Chunks.{chunks};
+ghost use Rattle.nt_lists.specs.Chunks.{chunks};
 
 use crate::cow::CowSlice;
 use crate::store::Store;
@@ -169,7 +169,8 @@ impl ColumnBuf {
         requires within { to ≤ length self.now.column.elements }
         requires words { to - from ≤ length words.old }
         requires length { length out.old ≡ page_size self.now.column.kind (to - from) }
-        ensures { out.new ≡ page_of self.now.column.kind (slice_range self.now.column.elements from to) }
+        ensures { out.new ≡ page_of self.now.column.kind
+            (slice_range self.now.column.elements from to) }
     {
         if self.zeros > 0 {
             encode_zeros(self.kind, to - from, words, out);
@@ -188,8 +189,10 @@ impl ColumnBuf {
     ) -> Result<CowSlice<'_, u8>, AllocError>
         requires order { from ≤ to }
         requires within { to ≤ length self.now.column.elements }
-        ensures text { IfOk result (λ t. cow_items t ≡ text_of (slice_range self.now.column.elements from to)) }
-        ensures lent { bits_of self.now.column.kind ≡ 8 → self.now.column.zeros ≡ 0 → IsOkAnd result (λ t. IsTrue (is_borrowed t)) }
+        ensures text { IfOk result
+            (λ t. cow_items t ≡ text_of (slice_range self.now.column.elements from to)) }
+        ensures lent { bits_of self.now.column.kind ≡ 8 → self.now.column.zeros ≡ 0
+            → IsOkAnd result (λ t. IsTrue (is_borrowed t)) }
     {
         match self.bytes() {
             Some(bytes) => Ok(lent(bytes, from, to)),
@@ -200,7 +203,8 @@ impl ColumnBuf {
     /// The elements of 8 bits that are kept here.
     fn bytes(&self) -> Option<&[u8]>
         ensures bytes { IfSome result (λ b. map plain b.now ≡ self.now.column.elements) }
-        ensures found { bits_of self.now.column.kind ≡ 8 → self.now.column.zeros ≡ 0 → IsSome result }
+        ensures found { bits_of self.now.column.kind ≡ 8 → self.now.column.zeros ≡ 0
+            → IsSome result }
     {
         if self.zeros > 0 {
             None
@@ -213,7 +217,8 @@ impl ColumnBuf {
     fn low_bytes(&self, alloc: Global, from: usize, to: usize) -> Result<Vec<u8>, AllocError>
         requires order { from ≤ to }
         requires within { to ≤ length self.now.column.elements }
-        ensures { IfOk result (λ v. v.items ≡ text_of (slice_range self.now.column.elements from to)) }
+        ensures { IfOk result
+            (λ v. v.items ≡ text_of (slice_range self.now.column.elements from to)) }
     {
         let mut bytes = Vec::with_capacity(alloc, to - from)?;
         for i in from..to {

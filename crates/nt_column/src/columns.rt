@@ -37,5 +37,6 @@ pub trait Columns {
     ) -> Result<CowSlice<'_, u8>, AllocError>
         requires order { from ≤ to }
         requires within { to ≤ length (elements self.now column) }
-        ensures text { IfOk result (λ t. cow_items t ≡ text_of (slice_range (elements self.now column) from to)) };
+        ensures text { IfOk result
+            (λ t. cow_items t ≡ text_of (slice_range (elements self.now column) from to)) };
 }

@@ -14,5 +14,5 @@ mod zero_page;
 pub use buffer::ColumnBuf;
 pub use columns::Columns;
 pub use cow::CowSlice;
-pub use laws::{groups_are_cut, pages_have_their_size};
+pub use laws::pages_have_their_size;
 pub use set::ColumnSet;

@@ -98,7 +98,8 @@ impl PairList {
         requires order { from ≤ to }
         requires within { to ≤ length self.now.elements }
         requires length { length out.old ≡ 12 * (to - from) }
-        ensures { out.new ≡ switch_bytes (numbers (slice_range self.now.elements from to)) (tags (slice_range self.now.elements from to)) }
+        ensures { out.new ≡ switch_bytes (numbers (slice_range self.now.elements from to))
+            (tags (slice_range self.now.elements from to)) }
     {
         encode_part(&self.indices, &self.tags, from, to, out);
     }
@@ -110,7 +111,8 @@ fn encode_part(indices: &[u64], tags: &[u32], from: usize, to: usize, out: &mut 
     requires order { from ≤ to }
     requires within { to ≤ length indices.now }
     requires length { length out.old ≡ 12 * (to - from) }
-    ensures { out.new ≡ switch_bytes (slice_range indices.now from to) (slice_range tags.now from to) }
+    ensures { out.new ≡ switch_bytes (slice_range indices.now from to)
+        (slice_range tags.now from to) }
 {
     encode_switch(&indices[from..to], &tags[from..to], out);
 }

@@ -67,7 +67,8 @@ impl ColumnSet {
     pub fn zeros(&mut self, column: u32, count: u64)
         requires column { column < length self.old }
         requires empty { elements_at (columns_of self.old) column ≡ [] }
-        ensures { columns_of self.new ≡ changed (λ c. zeroed c.kind count) column (columns_of self.old) }
+        ensures { columns_of self.new ≡ changed (λ c. zeroed c.kind count) column
+            (columns_of self.old) }
     {
         self.buffer(column).zeros(count);
     }
@@ -117,9 +118,12 @@ impl Columns for ColumnSet {
     ) -> Result<CowSlice<'_, u8>, AllocError>
         requires order { from ≤ to }
         requires within { to ≤ length (elements_at (columns_of self.now) column) }
-        ensures text { IfOk result (λ t. cow_items t ≡ text_of (slice_range (elements_at (columns_of self.now) column) from to)) }
+        ensures text { IfOk result
+            (λ t. cow_items t ≡ text_of
+            (slice_range (elements_at (columns_of self.now) column) from to)) }
         // Nothing is copied of a column of 8 bits whose elements are stored.
-        ensures lent { (b : Buffer) → slice_get self.now column ≡ Some b → bits_of b.column.kind ≡ 8 → b.column.zeros ≡ 0 → IsOkAnd result (λ t. IsTrue (is_borrowed t)) }
+        ensures lent { (b : Buffer) → slice_get self.now column ≡ Some b → bits_of b.column.kind ≡ 8
+            → b.column.zeros ≡ 0 → IsOkAnd result (λ t. IsTrue (is_borrowed t)) }
     {
         if (column as usize) < self.columns() {
             self.column(column).text(alloc, from as usize, to as usize)

@@ -50,7 +50,8 @@ pub fn fill_deltas(values: &[u64], width: usize, from: usize, words: &mut [u64])
     requires width { width ≤ 8 }
     requires fits { All (λ v. v < 2 ^ (8 * width)) values.now }
     requires within { from + length words.old ≤ length values.now }
-    ensures { (k : ℕ) → k < length words.new → slice_index words.new k ≡ delta_word (8 * width) values.now (from + k) }
+    ensures { (k : ℕ) → k < length words.new
+        → slice_index words.new k ≡ delta_word (8 * width) values.now (from + k) }
 {
     let mut last = index_before(values, from, width);
     for (k, word) in words.iter_mut().enumerate() {

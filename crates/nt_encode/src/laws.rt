@@ -16,6 +16,7 @@ pub fn pages_are_spelled()
 pub fn switches_are_spelled()
     ensures indices { (indices tags : List ℕ) → All (λ v. v < 2 ^ 64) indices
         → switch_indices (length indices) (switch_bytes indices tags) ≡ indices }
-    ensures tags { (indices tags : List ℕ) → length tags ≡ length indices → All (λ v. v < 2 ^ 32) tags
+    ensures tags { (indices tags : List ℕ) → length tags ≡ length indices
+        → All (λ v. v < 2 ^ 32) tags
         → switch_tags (length tags) (switch_bytes indices tags) ≡ tags }
 {}

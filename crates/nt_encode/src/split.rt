@@ -23,7 +23,8 @@ fn fill_words(form: Form, values: &[u64], width: usize, from: usize, words: &mut
     requires some { 0 < width }
     requires fits { All (λ v. v < 2 ^ (8 * width)) values.now }
     requires within { from + length words.old ≤ length values.now }
-    ensures { (k : ℕ) → k < length words.new → slice_index words.new k ≡ slice_index (words_of form width values.now) (from + k) }
+    ensures { (k : ℕ) → k < length words.new
+        → slice_index words.new k ≡ slice_index (words_of form width values.now) (from + k) }
 {
     match form {
         Form::Own => words.copy_from_slice(&values[from..from + words.len()]),
@@ -37,9 +38,11 @@ fn fill_words(form: Form, values: &[u64], width: usize, from: usize, words: &mut
 fn put_plane(words: &[u64], j: usize, start: usize, out: &mut [u8])
     requires byte { j < 8 }
     requires within { start + length words.now ≤ length out.old }
-    ensures written { (i : ℕ) → i < length words.now → slice_index out.new (start + i) ≡ digit_of 8 (slice_index words.now i) j }
+    ensures written { (i : ℕ) → i < length words.now
+        → slice_index out.new (start + i) ≡ digit_of 8 (slice_index words.now i) j }
     ensures below { (p : ℕ) → p < start → slice_index out.new p ≡ slice_index out.old p }
-    ensures above { (p : ℕ) → start + length words.now ≤ p → slice_index out.new p ≡ slice_index out.old p }
+    ensures above { (p : ℕ) → start + length words.now ≤ p
+        → slice_index out.new p ≡ slice_index out.old p }
 {
     for (i, word) in words.iter().enumerate() {
         out[start + i] = ((*word >> (8 * j)) % 256) as u8;
@@ -55,8 +58,10 @@ fn put_block(form: Form, values: &[u64], width: usize, from: usize, len: usize, 
     requires length { length out.old ≡ width * length values.now }
     requires block { len ≤ 32 }
     requires within { from + len ≤ length values.now }
-    requires before { HasElements width (length values.now) (words_of form width values.now) from out.old }
-    ensures { HasElements width (length values.now) (words_of form width values.now) (from + len) out.new }
+    requires before { HasElements width (length values.now)
+        (words_of form width values.now) from out.old }
+    ensures { HasElements width (length values.now) (words_of form width values.now)
+        (from + len) out.new }
 {
     let mut words = [0; BLOCK];
     let words = &mut words[..len];

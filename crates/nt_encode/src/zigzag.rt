@@ -39,7 +39,8 @@ pub fn fill_zigzags(values: &[u64], width: usize, from: usize, words: &mut [u64]
     requires some { 0 < width }
     requires fits { All (λ v. v < 2 ^ (8 * width)) values.now }
     requires within { from + length words.old ≤ length values.now }
-    ensures { (k : ℕ) → k < length words.new → slice_index words.new k ≡ zigzag_word (8 * width) (slice_index values.now (from + k)) }
+    ensures { (k : ℕ) → k < length words.new
+        → slice_index words.new k ≡ zigzag_word (8 * width) (slice_index values.now (from + k)) }
 {
     for (k, word) in words.iter_mut().enumerate() {
         *word = zigzag_word(values[from + k], width);

@@ -1,5 +1,5 @@
 -- Writing frames inside frames (RNTuple Binary Format Specification 1.0.0.0, section Frames).
-use Rattle.std.specs.Prelude.{ℕ, ◌+◌, List, [], ◌∷◌, ◌++◌, length, take, drop, Option, Some, None}
+use Rattle.std.specs.Prelude.{ℕ, List, [], ◌∷◌, ◌++◌, Option, Some, None}
 use Rattle.nt_format.specs.Frames.{record_frame, list_frame}
 
 -- a frame that is begun: a list of so many items, or a record; and what stands before it in the frame that it is in, or before all frames
@@ -32,7 +32,3 @@ finished_in (f ∷ frames) inside = record { inside = f.before ++ frame f.count 
 
 abbrev pub finished : Written → Written
 finished w = finished_in w.frames w.inside
-
--- bytes stand in the place of as many others
-abbrev pub put_over : List ℕ → ℕ → List ℕ → List ℕ
-put_over bytes at over = take at bytes ++ over ++ drop (at + length over) bytes

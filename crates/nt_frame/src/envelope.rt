@@ -28,7 +28,8 @@ pub fn seal_envelope(alloc: Global, kind: u16, payload: &[u8]) -> Result<Vec<u8>
 /// The payload of the envelope of this kind that the bytes are, all of them.
 #[tactic(auto, unfolding(nt_format::specs::Envelopes::payload_of))]
 pub fn read_envelope(bytes: &[u8], kind: u16) -> Result<&[u8], EnvelopeFault>
-    ensures { MatchResult result (λ payload. payload_of kind bytes.now ≡ Ok payload.now) (λ e. payload_of kind bytes.now ≡ Err e) }
+    ensures { MatchResult result (λ payload. payload_of kind bytes.now ≡ Ok payload.now)
+        (λ e. payload_of kind bytes.now ≡ Err e) }
 {
     if bytes.len() < 16 {
         return Err(EnvelopeFault::Size);

@@ -3,7 +3,8 @@
 ghost use Rattle.std.specs.Prelude.{◌≡◌, ◌<◌, ◌+◌, ◌≤◌, ◌-◌, ◌^◌, ◌++◌, length, take, drop, OnOk, OnErr, vec_len};
 ghost use Rattle.std.specs.Int.{w32, w64, to_le_bytes};
 ghost use Rattle.nt_format.specs.Strings.{string};
-ghost use Rattle.nt_frame.specs.Writing.{frame, put_over};
+ghost use Rattle.nt_lists.specs.Places.{put_at};
+ghost use Rattle.nt_frame.specs.Writing.{frame};
 ghost use Rattle.nt_frame.specs.Marks.{head_len};
 
 use crate::writing::Mark;
@@ -15,7 +16,8 @@ use std::alloc::AllocError;
 /// of a list frame.
 pub(crate) fn put_head(out: &mut Vec<u8>, mark: Mark)
     requires { mark.at + head_len mark.count ≤ vec_len out.old }
-    ensures { out.new.items ≡ take mark.at out.old.items ++ frame mark.count (drop (mark.at + head_len mark.count) out.old.items) }
+    ensures { out.new.items ≡ take mark.at out.old.items ++ frame mark.count
+        (drop (mark.at + head_len mark.count) out.old.items) }
 {
     let size = (out.len() - mark.at) as u64;
     match mark.count {
@@ -38,7 +40,7 @@ fn list_head(size: u64, count: u32) -> [u8; 12]
 // Puts bytes in the place of as many others.
 fn replace(out: &mut Vec<u8>, at: usize, bytes: &[u8])
     requires { at + length bytes.now ≤ vec_len out.old }
-    ensures { out.new.items ≡ put_over out.old.items at bytes.now }
+    ensures { out.new.items ≡ put_at out.old.items at bytes.now }
 {
     out[at..at + bytes.len()].copy_from_slice(bytes);
 }

@@ -1,4 +1,3 @@
-pub mod Groups
 pub mod Pages
 pub mod Sizes
 pub mod Places

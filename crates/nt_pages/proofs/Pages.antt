@@ -7,7 +7,7 @@ use Rattle.std.proofs.lemmas.List.{length-append, drop_more}
 use Rattle.nt_types.specs.declared.column_type.ColumnType.{ColumnType}
 use Rattle.nt_book.specs.declared.meta.PageMeta.{PageMeta}
 use Rattle.nt_column.specs.Elements.{Element}
-use Rattle.nt_column.specs.Chunks.{chunks}
+use Rattle.nt_lists.specs.Chunks.{chunks}
 use Rattle.nt_column.specs.Column.{Column, Buffer, columns_of}
 use Rattle.nt_pages.specs.Image.{stored_page, column_bytes}
 use Rattle.nt_pages.specs.Metas.{page_meta, page_metas, column_metas}

@@ -6,7 +6,7 @@ use Rattle.std.proofs.lemmas.List.{length-append, drop_at, take_at, append-nil}
 use Rattle.nt_types.specs.declared.column_type.ColumnType.{ColumnType}
 use Rattle.nt_xxh3.specs.Sum.{xxh3}
 use Rattle.nt_column.specs.Elements.{Element, page_of}
-use Rattle.nt_column.specs.Chunks.{chunks}
+use Rattle.nt_lists.specs.Chunks.{chunks}
 use Rattle.nt_column.specs.Column.{Column}
 use Rattle.nt_pages.specs.Image.{stored_page, column_bytes, payload}
 use Rattle.nt_pages.specs.Metas.{page_meta, page_metas, column_metas, stored_at, stored_pages}

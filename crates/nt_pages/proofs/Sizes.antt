@@ -9,7 +9,8 @@ use Rattle.nt_types.specs.declared.column_type.ColumnType.{ColumnType}
 use Rattle.nt_encode.specs.Pages.{page_size}
 use Rattle.nt_xxh3.specs.Sum.{xxh3}
 use Rattle.nt_column.specs.Elements.{Element, page_of}
-use Rattle.nt_column.specs.Chunks.{chunk, chunks}
+use Rattle.nt_lists.specs.Chunks.{chunk, chunks}
+use Rattle.nt_lists.proofs.Groups.{length-chunk}
 use Rattle.nt_column.specs.Column.{Column}
 use Rattle.nt_pages.specs.Image.{stored_page, column_bytes, payload, image}
 
@@ -19,11 +20,6 @@ Sized kind = (es : List Element) → length (page_of kind es) ≡ page_size kind
 
 length-stored : (kind : ColumnType) → Sized kind → (es : List Element) → length (stored_page kind es) ≡ page_size kind (length es) + 8
 length-stored kind sized es = length-append (page_of kind es) (to_le_bytes w64 (xxh3 (page_of kind es))) ∙ ap (λ (n : ℕ). n + 8) (sized es)
-
-length-chunk : (n : ℕ) (es : List Element) (i : ℕ) → length (chunk n es i) ≡ min n (length es - i * n)
-length-chunk n es i =
-    length-take (i * n + n - i * n) (drop (i * n) es) ∙ (ap (λ (k : ℕ). min (i * n + n - i * n) k) (length-drop (i * n) es)
-    ∙ ap (λ (k : ℕ). min k (length es - i * n)) (omega arith))
 
 -- one group more
 one-more : (kind : ColumnType) (n : ℕ) (es : List Element) (k m : ℕ)

@@ -8,7 +8,7 @@ use Rattle.nt_types.specs.ColumnTable.{code_of}
 use Rattle.nt_xxh3.specs.Sum.{xxh3}
 use Rattle.nt_schema.specs.declared.rows.ColumnRow.{ColumnRow}
 use Rattle.nt_column.specs.Elements.{Element, page_of}
-use Rattle.nt_column.specs.Chunks.{chunks}
+use Rattle.nt_lists.specs.Chunks.{chunks}
 use Rattle.nt_column.specs.Column.{Column}
 
 -- a page as it is stored, with the XXH3-64 of its bytes behind them

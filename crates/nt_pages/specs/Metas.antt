@@ -6,7 +6,7 @@ use Rattle.nt_types.specs.declared.column_type.ColumnType.{ColumnType}
 use Rattle.nt_book.specs.declared.meta.PageMeta.{PageMeta}
 use Rattle.nt_book.specs.declared.meta.ClusterMeta.{ClusterMeta}
 use Rattle.nt_column.specs.Elements.{Element, page_of}
-use Rattle.nt_column.specs.Chunks.{chunks}
+use Rattle.nt_lists.specs.Chunks.{chunks}
 use Rattle.nt_column.specs.Column.{Column}
 use Rattle.nt_pages.specs.Image.{stored_page, column_bytes, image}
 

@@ -29,7 +29,8 @@ pub fn build(
     requires most { page ≤ 2 ^ 20 }
     requires columns { AreDescribed (columns_of columns.now) schema.now.columns }
     ensures bytes { IfOk result (λ r. r.bytes ≡ image page (columns_of columns.now)) }
-    ensures meta { IfOk result (λ r. r.meta ≡ cluster_meta page context entries (columns_of columns.now)) }
+    ensures meta { IfOk result
+        (λ r. r.meta ≡ cluster_meta page context entries (columns_of columns.now)) }
 {
     let count = schema.columns();
     let size = image_size(columns, count, page).ok_or(AllocError)?;

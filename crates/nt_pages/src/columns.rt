@@ -1,7 +1,7 @@
 //! The pages of columns, one column after the other.
 
 ghost use Rattle.std.specs.Prelude.{◌≡◌, ◌-◌, ◌<◌, ◌≤◌, ◌^◌, ◌++◌, length, min, OnOk, IfOk};
-ghost use Rattle.nt_column.specs.Chunks.{chunks};
+ghost use Rattle.nt_lists.specs.Chunks.{chunks};
 ghost use Rattle.nt_column.specs.Column.{columns_of};
 ghost use Rattle.nt_pages.specs.Image.{column_bytes, payload};
 ghost use Rattle.nt_pages.specs.Metas.{page_metas, column_metas};
@@ -33,8 +33,11 @@ pub fn put_column(
     requires most { page ≤ 2 ^ 20 }
     requires words { min (length buffer.now.column.elements) page ≤ length words.old }
     requires room { 42 ≤ length image.old.items }
-    ensures image { OnOk result (image.new.items ≡ image.old.items ++ column_bytes page buffer.now.column) }
-    ensures metas { IfOk result (λ v. v.items ≡ page_metas buffer.now.column.kind (length image.old.items - 42) (chunks page buffer.now.column.elements)) }
+    ensures image { OnOk result
+        (image.new.items ≡ image.old.items ++ column_bytes page buffer.now.column) }
+    ensures metas { IfOk result
+        (λ v. v.items ≡ page_metas buffer.now.column.kind (length image.old.items - 42)
+        (chunks page buffer.now.column.elements)) }
 {
     let pages = buffer.page_cut(page);
     let mut metas = Vec::with_capacity(alloc, pages)?;
@@ -56,7 +59,8 @@ pub fn put_columns(
     requires most { page ≤ 2 ^ 20 }
     requires count { count ≡ length columns.now }
     requires room { length image.old.items ≡ 42 }
-    ensures image { OnOk result (image.new.items ≡ image.old.items ++ payload page (columns_of columns.now)) }
+    ensures image { OnOk result
+        (image.new.items ≡ image.old.items ++ payload page (columns_of columns.now)) }
     ensures metas { IfOk result (λ v. v.items ≡ column_metas page 0 (columns_of columns.now)) }
 {
     let mut words = Vec::new(alloc);

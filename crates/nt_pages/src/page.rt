@@ -3,7 +3,7 @@
 ghost use Rattle.std.specs.Prelude.{◌≡◌, ◌+◌, ◌-◌, ◌<◌, ◌≤◌, ◌^◌, [], ◌++◌, length, min, slice_index_or, OnOk, IfOk};
 ghost use Rattle.std.specs.List.{slice_range};
 ghost use Rattle.nt_encode.specs.Pages.{page_size};
-ghost use Rattle.nt_column.specs.Chunks.{chunks};
+ghost use Rattle.nt_lists.specs.Chunks.{chunks};
 ghost use Rattle.nt_pages.specs.Image.{stored_page};
 ghost use Rattle.nt_pages.specs.Metas.{page_meta};
 
@@ -24,7 +24,8 @@ fn write_page(buffer: &ColumnBuf, from: usize, to: usize, words: &mut [u64], out
     requires within { to ≤ length buffer.now.column.elements }
     requires words { to - from ≤ length words.old }
     requires length { length out.old ≡ page_size buffer.now.column.kind (to - from) + 8 }
-    ensures { out.new ≡ stored_page buffer.now.column.kind (slice_range buffer.now.column.elements from to) }
+    ensures { out.new ≡ stored_page buffer.now.column.kind
+        (slice_range buffer.now.column.elements from to) }
 {
     let (page, checksum) = out.split_at_mut(out.len() - CHECKSUM);
     buffer.encode(from, to, words, page);
@@ -44,8 +45,12 @@ fn put_part(
     requires few { to - from ≤ 2 ^ 20 }
     requires words { to - from ≤ length words.old }
     requires room { 42 ≤ length image.old.items }
-    ensures image { OnOk result (image.new.items ≡ image.old.items ++ stored_page buffer.now.column.kind (slice_range buffer.now.column.elements from to)) }
-    ensures meta { IfOk result (λ m. m ≡ page_meta buffer.now.column.kind (length image.old.items - 42) (slice_range buffer.now.column.elements from to)) }
+    ensures image { OnOk result
+        (image.new.items ≡ image.old.items ++ stored_page buffer.now.column.kind
+        (slice_range buffer.now.column.elements from to)) }
+    ensures meta { IfOk result
+        (λ m. m ≡ page_meta buffer.now.column.kind (length image.old.items - 42)
+        (slice_range buffer.now.column.elements from to)) }
 {
     let size = size_of(buffer.kind(), (to - from) as u64) as usize;
     let start = image.len();
@@ -71,8 +76,12 @@ pub fn put_page(
     requires within { i < length (chunks page buffer.now.column.elements) }
     requires words { min (length buffer.now.column.elements) page ≤ length words.old }
     requires room { 42 ≤ length image.old.items }
-    ensures image { OnOk result (image.new.items ≡ image.old.items ++ stored_page buffer.now.column.kind (slice_index_or (chunks page buffer.now.column.elements) i [])) }
-    ensures meta { IfOk result (λ m. m ≡ page_meta buffer.now.column.kind (length image.old.items - 42) (slice_index_or (chunks page buffer.now.column.elements) i [])) }
+    ensures image { OnOk result
+        (image.new.items ≡ image.old.items ++ stored_page buffer.now.column.kind
+        (slice_index_or (chunks page buffer.now.column.elements) i [])) }
+    ensures meta { IfOk result
+        (λ m. m ≡ page_meta buffer.now.column.kind (length image.old.items - 42)
+        (slice_index_or (chunks page buffer.now.column.elements) i [])) }
 {
     let count = buffer.len();
     let from = i * page as usize;

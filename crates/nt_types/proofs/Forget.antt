@@ -6,20 +6,20 @@ use Rattle.std.proofs.lemmas.List.{map-append, length-map}
 use Rattle.nt_types.specs.Kinds.{Kind, Part, bool, list, fields, tuple, choice, kinds_of, parts_of}
 use Rattle.nt_types.specs.Words.{is_word_byte, is_name, leaf}
 use Rattle.nt_types.specs.Names.{are_new, names_differ}
-use Rattle.nt_types.specs.Reading.{Construct, in_list, at_name, in_member, in_tuple, in_choice, goes, ends, State, kept, put, placed, place_on, within_after, started, begun, begin, named_on, named, settled, delimited, ended_on, read, read_kind, start}
+use Rattle.nt_types.specs.Reading.{OpenData, in_list, at_name, in_member, in_tuple, in_choice, goes, ends, ReadingData, kind_kept, put, part_placed, place_on, within_after, started, opened, begin, named_on, named, settled, delimited, ended_on, read, read_kind, start}
 
 -- a member, a construct and a state without what isn't kept
 abbrev forget_part : Part → Part
 forget_part p = record { name = p.name; of = bool }
 
-abbrev forget_construct : Construct → Construct
+abbrev forget_construct : OpenData → OpenData
 forget_construct in_list = in_list
 forget_construct (at_name ps) = at_name (map forget_part ps)
 forget_construct (in_member ps n) = in_member (map forget_part ps) n
 forget_construct (in_tuple ks) = in_tuple (map (λ _. bool) ks)
 forget_construct (in_choice w ks) = in_choice w (map (λ _. bool) ks)
 
-abbrev forget : State → State
+abbrev forget : ReadingData → ReadingData
 forget s = record { stack = map forget_construct s.stack; within = s.within; done = option_map (λ _. bool) s.done }
 
 are_new-forget : (seen : List (List ℕ)) (ps : List Part) → are_new seen (map forget_part ps) ≡ are_new seen ps
@@ -28,9 +28,14 @@ are_new-forget seen (p ∷ ps) = rw (are_new-forget (p.name ∷ seen) ps) refl
 
 -- a construct begins
 
-begin_cases : (s : State) (c1 c2 c3 c4 c5 : Bool)
-    → option_map (begun (forget s)) (cond c1 (cond c2 (Some (at_name [])) None) (cond c3 (Some in_list) (cond c4 (Some (in_tuple [])) (cond c5 (Some (in_choice s.within [])) None))))
-    ≡ option_map forget (option_map (begun s) (cond c1 (cond c2 (Some (at_name [])) None) (cond c3 (Some in_list) (cond c4 (Some (in_tuple [])) (cond c5 (Some (in_choice s.within [])) None)))))
+begin_cases : (s : ReadingData) (c1 c2 c3 c4 c5 : Bool)
+    → option_map (opened (forget s))
+    (cond c1 (cond c2 (Some (at_name [])) None)
+    (cond c3 (Some in_list) (cond c4 (Some (in_tuple [])) (cond c5 (Some (in_choice s.within [])) None))))
+    ≡ option_map forget
+    (option_map (opened s)
+    (cond c1 (cond c2 (Some (at_name [])) None)
+    (cond c3 (Some in_list) (cond c4 (Some (in_tuple [])) (cond c5 (Some (in_choice s.within [])) None)))))
 begin_cases s true true c3 c4 c5 = refl
 begin_cases s true false c3 c4 c5 = refl
 begin_cases s false c2 true c4 c5 = refl
@@ -38,23 +43,28 @@ begin_cases s false c2 false true c5 = refl
 begin_cases s false c2 false false true = refl
 begin_cases s false c2 false false false = refl
 
-begin_none : (s : State) (w : List ℕ) (b : ℕ) → option_map (begun (forget s)) (started s.within w b) ≡ option_map forget (option_map (begun s) (started s.within w b))
-begin_none s w b = begin_cases s (b == 123) (bytes_eq w (codes "rec") && not s.within) (bytes_eq w (codes "vec")) (bytes_eq w (codes "tuple")) (bytes_eq w (codes "var"))
+begin_none : (s : ReadingData) (w : List ℕ) (b : ℕ)
+    → option_map (opened (forget s)) (started s.within w b) ≡ option_map forget (option_map (opened s) (started s.within w b))
+begin_none s w b =
+    begin_cases s (b == 123) (bytes_eq w (codes "rec") && not s.within) (bytes_eq w (codes "vec")) (bytes_eq w (codes "tuple"))
+    (bytes_eq w (codes "var"))
 
-begin-forget : (stack : List Construct) (within : Bool) (done : Option Kind) (w : List ℕ) (b : ℕ)
-    → begin (forget (record { stack = stack; within = within; done = done })) w b ≡ option_map forget (begin (record { stack = stack; within = within; done = done }) w b)
+begin-forget : (stack : List OpenData) (within : Bool) (done : Option Kind) (w : List ℕ) (b : ℕ)
+    → begin (forget (record { stack = stack; within = within; done = done })) w b ≡ option_map forget
+    (begin (record { stack = stack; within = within; done = done }) w b)
 begin-forget stack within None w b = begin_none (record { stack = stack; within = within; done = None }) w b
 begin-forget stack within (Some k) w b = refl
 
 -- a member is named
 
-named_cases : (within : Bool) (ps : List Part) (os : List Construct) (w : List ℕ) (c : Bool)
+named_cases : (within : Bool) (ps : List Part) (os : List OpenData) (w : List ℕ) (c : Bool)
     → cond c (Some (record { stack = in_member (map forget_part ps) w ∷ map forget_construct os; within = within; done = None })) None
     ≡ option_map forget (cond c (Some (record { stack = in_member ps w ∷ os; within = within; done = None })) None)
 named_cases within ps os w true = refl
 named_cases within ps os w false = refl
 
-named_on-forget : (within : Bool) (stack : List Construct) (w : List ℕ) → named_on within (map forget_construct stack) w ≡ option_map forget (named_on within stack w)
+named_on-forget : (within : Bool) (stack : List OpenData) (w : List ℕ)
+    → named_on within (map forget_construct stack) w ≡ option_map forget (named_on within stack w)
 named_on-forget within [] w = refl
 named_on-forget within (in_list ∷ os) w = refl
 named_on-forget within (at_name ps ∷ os) w = named_cases within ps os w (is_name w)
@@ -62,105 +72,130 @@ named_on-forget within (in_member ps n ∷ os) w = refl
 named_on-forget within (in_tuple ks ∷ os) w = refl
 named_on-forget within (in_choice c ks ∷ os) w = refl
 
-named-forget : (stack : List Construct) (within : Bool) (done : Option Kind) (w : List ℕ)
-    → named (forget (record { stack = stack; within = within; done = done })) w ≡ option_map forget (named (record { stack = stack; within = within; done = done }) w)
+named-forget : (stack : List OpenData) (within : Bool) (done : Option Kind) (w : List ℕ)
+    → named (forget (record { stack = stack; within = within; done = done })) w ≡ option_map forget
+    (named (record { stack = stack; within = within; done = done }) w)
 named-forget stack within None w = named_on-forget within stack w
 named-forget stack within (Some k) w = refl
 
 -- a part ends
 
-leaf_cases : (o : Option Kind) → option_map (kept false) o ≡ option_map (λ _. bool) (option_map (kept true) o)
+leaf_cases : (o : Option Kind) → option_map (kind_kept false) o ≡ option_map (λ _. bool) (option_map (kind_kept true) o)
 leaf_cases None = refl
 leaf_cases (Some k) = refl
 
-settled-forget : (done : Option Kind) (w : List ℕ) → settled false (option_map (λ _. bool) done) w ≡ option_map (λ _. bool) (settled true done w)
+settled-forget : (done : Option Kind) (w : List ℕ)
+    → settled false (option_map (λ _. bool) done) w ≡ option_map (λ _. bool) (settled true done w)
 settled-forget None w = leaf_cases (leaf w)
 settled-forget (Some k) [] = refl
 settled-forget (Some k) (b ∷ w) = refl
 
-module _ (within : Bool) (os : List Construct) where
-  list_cases : (k : Kind) (c : Bool) → option_map (placed false within in_list (map forget_construct os)) (cond c (Some (ends (list bool))) None)
-      ≡ option_map forget (option_map (placed true within in_list os) (cond c (Some (ends (list k))) None))
+module _ (within : Bool) (os : List OpenData) where
+  list_cases : (k : Kind) (c : Bool)
+      → option_map (part_placed false within in_list (map forget_construct os)) (cond c (Some (ends (list bool))) None)
+      ≡ option_map forget (option_map (part_placed true within in_list os) (cond c (Some (ends (list k))) None))
   list_cases k true = refl
   list_cases k false = refl
 
-  fields_cases : (o : Construct) (ps : List Part) (c d : Bool) → within_after (forget_construct o) within ≡ within_after o within →
-      option_map (placed false within (forget_construct o) (map forget_construct os)) (cond c (Some (goes (at_name (map forget_part ps)))) (cond d (Some (ends (fields (parts_of (map forget_part ps))))) None))
-      ≡ option_map forget (option_map (placed true within o os) (cond c (Some (goes (at_name ps))) (cond d (Some (ends (fields (parts_of ps)))) None)))
+  fields_cases : (o : OpenData) (ps : List Part) (c d : Bool) → within_after (forget_construct o) within ≡ within_after o within →
+      option_map (part_placed false within (forget_construct o) (map forget_construct os))
+      (cond c (Some (goes (at_name (map forget_part ps)))) (cond d (Some (ends (fields (parts_of (map forget_part ps))))) None))
+      ≡ option_map forget
+      (option_map (part_placed true within o os) (cond c (Some (goes (at_name ps))) (cond d (Some (ends (fields (parts_of ps)))) None)))
   fields_cases o ps true d e = refl
   fields_cases o ps false true e = rw e refl
   fields_cases o ps false false e = refl
 
   tuple_cases : (ls ks : List Kind) (c d : Bool) →
-      option_map (placed false within (in_tuple (map (λ _. bool) ls)) (map forget_construct os)) (cond c (Some (goes (in_tuple (map (λ _. bool) ks)))) (cond d (Some (ends (tuple (kinds_of (map (λ _. bool) ks))))) None))
-      ≡ option_map forget (option_map (placed true within (in_tuple ls) os) (cond c (Some (goes (in_tuple ks))) (cond d (Some (ends (tuple (kinds_of ks)))) None)))
+      option_map (part_placed false within (in_tuple (map (λ _. bool) ls)) (map forget_construct os))
+      (cond c (Some (goes (in_tuple (map (λ _. bool) ks)))) (cond d (Some (ends (tuple (kinds_of (map (λ _. bool) ks))))) None))
+      ≡ option_map forget
+      (option_map (part_placed true within (in_tuple ls) os)
+      (cond c (Some (goes (in_tuple ks))) (cond d (Some (ends (tuple (kinds_of ks)))) None)))
   tuple_cases ls ks true d = refl
   tuple_cases ls ks false true = refl
   tuple_cases ls ks false false = refl
 
   choice_cases : (w : Bool) (ls ks : List Kind) (c d : Bool) →
-      option_map (placed false within (in_choice w (map (λ _. bool) ls)) (map forget_construct os)) (cond c (Some (goes (in_choice w (map (λ _. bool) ks)))) (cond d (Some (ends (choice (kinds_of (map (λ _. bool) ks))))) None))
-      ≡ option_map forget (option_map (placed true within (in_choice w ls) os) (cond c (Some (goes (in_choice w ks))) (cond d (Some (ends (choice (kinds_of ks)))) None)))
+      option_map (part_placed false within (in_choice w (map (λ _. bool) ls)) (map forget_construct os))
+      (cond c (Some (goes (in_choice w (map (λ _. bool) ks)))) (cond d (Some (ends (choice (kinds_of (map (λ _. bool) ks))))) None))
+      ≡ option_map forget
+      (option_map (part_placed true within (in_choice w ls) os)
+      (cond c (Some (goes (in_choice w ks))) (cond d (Some (ends (choice (kinds_of ks)))) None)))
   choice_cases w ls ks true d = refl
   choice_cases w ls ks false true = refl
   choice_cases w ls ks false false = refl
 
-  put-forget : (o : Construct) (k : Kind) (b : ℕ) →
-      option_map (placed false within (forget_construct o) (map forget_construct os)) (put (forget_construct o) bool b) ≡ option_map forget (option_map (placed true within o os) (put o k b))
+  put-forget : (o : OpenData) (k : Kind) (b : ℕ) →
+      option_map (part_placed false within (forget_construct o) (map forget_construct os))
+      (put (forget_construct o) bool b) ≡ option_map forget
+      (option_map (part_placed true within o os) (put o k b))
   put-forget in_list k b = list_cases k (b == 62)
   put-forget (at_name ps) k b = refl
   put-forget (in_member ps n) k b =
-      let together : map forget_part ps ++ record { name = n; of = bool } ∷ [] ≡ map forget_part (ps ++ record { name = n; of = k } ∷ []) = sym (map-append forget_part ps (record { name = n; of = k } ∷ [])) in
-      rw (together, are_new-forget [] (ps ++ record { name = n; of = k } ∷ [])) (fields_cases (in_member ps n) (ps ++ record { name = n; of = k } ∷ []) (b == 44) ((b == 125) && names_differ (ps ++ record { name = n; of = k } ∷ [])) refl)
+      let together : map forget_part ps ++ record { name = n; of = bool } ∷ [] ≡ map forget_part (ps ++ record { name = n; of = k } ∷ []) =
+      sym (map-append forget_part ps (record { name = n; of = k } ∷ [])) in
+      rw (together, are_new-forget [] (ps ++ record { name = n; of = k } ∷ []))
+      (fields_cases (in_member ps n) (ps ++ record { name = n; of = k } ∷ []) (b == 44)
+      ((b == 125) && names_differ (ps ++ record { name = n; of = k } ∷ [])) refl)
   put-forget (in_tuple ks) k b =
       let together : map (λ _. bool) ks ++ bool ∷ [] ≡ map (λ _. bool) (ks ++ k ∷ []) = sym (map-append (λ _. bool) ks (k ∷ [])) in
       rw together (tuple_cases ks (ks ++ k ∷ []) (b == 44) (b == 62))
   put-forget (in_choice w ks) k b =
       let together : map (λ _. bool) ks ++ bool ∷ [] ≡ map (λ _. bool) (ks ++ k ∷ []) = sym (map-append (λ _. bool) ks (k ∷ [])) in
-      rw (together, length-map (ks ++ k ∷ []) (λ _. bool)) (choice_cases w ks (ks ++ k ∷ []) (b == 44) ((b == 62) && nat_le (length (ks ++ k ∷ [])) 100))
+      rw (together, length-map (ks ++ k ∷ []) (λ _. bool))
+      (choice_cases w ks (ks ++ k ∷ []) (b == 44) ((b == 62) && nat_le (length (ks ++ k ∷ [])) 100))
 
-place_on-forget : (within : Bool) (stack : List Construct) (k : Kind) (b : ℕ) → place_on false within (map forget_construct stack) bool b ≡ option_map forget (place_on true within stack k b)
+place_on-forget : (within : Bool) (stack : List OpenData) (k : Kind) (b : ℕ)
+    → place_on false within (map forget_construct stack) bool b ≡ option_map forget (place_on true within stack k b)
 place_on-forget within [] k b = refl
 place_on-forget within (o ∷ os) k b = put-forget within os o k b
 
-placed_cases : (stack : List Construct) (within : Bool) (o : Option Kind) (b : ℕ)
-    → option_and_then (λ k. place_on false within (map forget_construct stack) k b) (option_map (λ _. bool) o) ≡ option_map forget (option_and_then (λ k. place_on true within stack k b) o)
+placed_cases : (stack : List OpenData) (within : Bool) (o : Option Kind) (b : ℕ)
+    → option_and_then (λ k. place_on false within (map forget_construct stack) k b) (option_map (λ _. bool) o) ≡ option_map forget
+    (option_and_then (λ k. place_on true within stack k b) o)
 placed_cases stack within None b = refl
 placed_cases stack within (Some k) b = place_on-forget within stack k b
 
 -- a byte of no word
 
-delimited_cases : (a1 a2 x1 x2 y1 y2 : Option State) (c d : Bool) → a1 ≡ option_map forget a2 → x1 ≡ option_map forget x2 → y1 ≡ option_map forget y2
+delimited_cases : (a1 a2 x1 x2 y1 y2 : Option ReadingData) (c d : Bool) → a1 ≡ option_map forget a2 → x1 ≡ option_map forget x2
+    → y1 ≡ option_map forget y2
     → cond c a1 (cond d x1 y1) ≡ option_map forget (cond c a2 (cond d x2 y2))
 delimited_cases a1 a2 x1 x2 y1 y2 true d a x y = a
 delimited_cases a1 a2 x1 x2 y1 y2 false true a x y = x
 delimited_cases a1 a2 x1 x2 y1 y2 false false a x y = y
 
-delimited-forget : (s : State) (w : List ℕ) (b : ℕ) → delimited false (forget s) w b ≡ option_map forget (delimited true s w b)
+delimited-forget : (s : ReadingData) (w : List ℕ) (b : ℕ) → delimited false (forget s) w b ≡ option_map forget (delimited true s w b)
 delimited-forget s w b = delimited_cases _ _ _ _ _ _ ((b == 60) || (b == 123)) (b == 58)
     (begin-forget s.stack s.within s.done w b) (named-forget s.stack s.within s.done w)
-    (ap (option_and_then (λ k. place_on false s.within (map forget_construct s.stack) k b)) (settled-forget s.done w) ∙ placed_cases s.stack s.within (settled true s.done w) b)
+    (ap (option_and_then (λ k. place_on false s.within (map forget_construct s.stack) k b)) (settled-forget s.done w)
+    ∙ placed_cases s.stack s.within (settled true s.done w) b)
 
 -- all bytes
 
-ended_cases : (stack : List Construct) (o : Option Kind) → is_some (option_and_then (ended_on (map forget_construct stack)) (option_map (λ _. bool) o)) ≡ is_some (option_and_then (ended_on stack) o)
+ended_cases : (stack : List OpenData) (o : Option Kind)
+    → is_some (option_and_then (ended_on (map forget_construct stack)) (option_map (λ _. bool) o)) ≡ is_some
+    (option_and_then (ended_on stack) o)
 ended_cases stack None = refl
 ended_cases [] (Some k) = refl
 ended_cases (o ∷ os) (Some k) = refl
 
-after : (bs : List ℕ) (o : Option State) → ((t : State) → is_some (read false (forget t) [] bs) ≡ is_some (read true t [] bs))
+after : (bs : List ℕ) (o : Option ReadingData) → ((t : ReadingData) → is_some (read false (forget t) [] bs) ≡ is_some (read true t [] bs))
     → is_some (option_and_then (λ t. read false t [] bs) (option_map forget o)) ≡ is_some (option_and_then (λ t. read true t [] bs) o)
 after bs None h = refl
 after bs (Some t) h = h t
 
-byte_cases : (c : Bool) (x1 x2 y1 y2 : Option Kind) → is_some x1 ≡ is_some x2 → is_some y1 ≡ is_some y2 → is_some (cond c x1 y1) ≡ is_some (cond c x2 y2)
+byte_cases : (c : Bool) (x1 x2 y1 y2 : Option Kind) → is_some x1 ≡ is_some x2 → is_some y1 ≡ is_some y2
+    → is_some (cond c x1 y1) ≡ is_some (cond c x2 y2)
 byte_cases true x1 x2 y1 y2 x y = x
 byte_cases false x1 x2 y1 y2 x y = y
 
-read-forget : (s : State) (w bs : List ℕ) → is_some (read false (forget s) w bs) ≡ is_some (read true s w bs)
+read-forget : (s : ReadingData) (w bs : List ℕ) → is_some (read false (forget s) w bs) ≡ is_some (read true s w bs)
 read-forget s w [] = rw (settled-forget s.done w) (ended_cases s.stack (settled true s.done w))
 read-forget s w (b ∷ bs) = byte_cases (is_word_byte b) _ _ _ _ (read-forget s (w ++ b ∷ []) bs)
-    (ap (λ (o : Option State). is_some (option_and_then (λ t. read false t [] bs) o)) (delimited-forget s w b) ∙ after bs (delimited true s w b) (λ t. read-forget t [] bs))
+    (ap (λ (o : Option ReadingData). is_some (option_and_then (λ t. read false t [] bs) o)) (delimited-forget s w b)
+    ∙ after bs (delimited true s w b) (λ t. read-forget t [] bs))
 
 -- where kinds aren't kept, there is one exactly where the text spells one
 pub is_some-read : (bytes : List ℕ) → is_some (read false start [] bytes) ≡ is_some (read_kind bytes)

@@ -2,6 +2,7 @@ pub mod Seen
 pub mod Stack
 pub mod ShapeViews
 pub mod NamesDiffer
+pub mod Malformed
 pub mod ReadSteps
 pub mod Forget
 pub mod Depth
@@ -12,6 +13,9 @@ pub mod Sound
 pub mod Nesting
 pub mod LineText
 pub mod MemberText
+pub mod FieldFaults
 pub mod Rules
 pub mod TreeSteps
 pub mod TreeViews
+pub mod TextFaults
+pub mod TextAnswers

@@ -14,16 +14,18 @@ use Rattle.nt_types.specs.declared.shape.Member.{Member}
 use Rattle.nt_types.proofs.Seen.{Knows-insert}
 
 -- a line that is skipped
-pub skipped : (p : Progress) (s : schema.Progress) (line : List ℕ) → is_blank_line line ≡ true → Follows p s → (t : schema.Progress) × (take_line s line ≡ Ok t) × Follows p t
+pub skipped : (p : Progress) (s : schema.ProgressData) (line : List ℕ) → is_blank_line line ≡ true → Follows p s
+    → (t : schema.ProgressData) × (take_line s line ≡ Ok t) × Follows p t
 skipped p s line e f = (next_line s, rw e refl, record { seen = f.seen; count = f.count; parts = f.parts })
 
 -- a line that has a field
-pub taken : (before after : Progress) (s : schema.Progress) (line : List ℕ) (name : Bor (List ℕ)) (k : Kind) (m : Member)
+pub taken : (before after : Progress) (s : schema.ProgressData) (line : List ℕ) (name : Bor (List ℕ)) (k : Kind) (m : Member)
     → is_blank_line line ≡ false → Follows before s
     → field_of s.seen before.count line ≡ Ok (part_under name.now k) → before.count + field_count k ≤ 4096
     → member_view m ≡ part_under name.now k
-    → after.members.items ≡ before.members.items ++ m ∷ [] → Updates slices_cmp before.seen after.seen name true → after.count ≡ min 4097 (before.count + field_count k)
-    → (t : schema.Progress) × (take_line s line ≡ Ok t) × Follows after t
+    → after.members.items ≡ before.members.items ++ m ∷ [] → Updates slices_cmp before.seen after.seen name true
+    → after.count ≡ min 4097 (before.count + field_count k)
+    → (t : schema.ProgressData) × (take_line s line ≡ Ok t) × Follows after t
 taken before after s line name k m e f read few view members seen count =
     let read' : field_of s.seen s.count line ≡ Ok (part_under name.now k) = rw (← f.count) read in (
       with_field s (part_under name.now k),

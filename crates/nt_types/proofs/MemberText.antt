@@ -11,7 +11,8 @@ use Rattle.nt_types.specs.LineSpelling.{IsLine, IsMember}
 use Rattle.nt_types.specs.declared.fault.SchemaKind.{SchemaKind}
 use Rattle.nt_types.specs.declared.fault.SchemaKind.TheVariants.{TooDeep}
 use Rattle.nt_types.specs.Views.{member_view}
-use Rattle.nt_types.specs.FaultViews.{GivesText}
+use Rattle.nt_lists.specs.Answers.{IsAnswer}
+use Rattle.nt_types.specs.FaultViews.{schema_fault}
 use Rattle.nt_types.specs.declared.fault.SchemaError.{SchemaError}
 use Rattle.nt_types.specs.declared.fault.SchemaFault.{SchemaFault}
 use Rattle.nt_types.specs.declared.shape.Member.{Member}
@@ -22,20 +23,28 @@ use Rattle.nt_types.proofs.Spelled.{read_kind-spell, width_cases}
 -- the text of a type neither begins with a blank nor ends with a space
 
 int_core_8 : (signed : Bool) → IsCore (spell (int 8 signed))
-int_core_8 true = record { first = 105; later = 56 ∷ []; before = 105 ∷ []; last = 56; begins = refl; ends = refl; no_blank = refl; no_space = refl }
-int_core_8 false = record { first = 117; later = 56 ∷ []; before = 117 ∷ []; last = 56; begins = refl; ends = refl; no_blank = refl; no_space = refl }
+int_core_8 true =
+    record { first = 105; later = 56 ∷ []; before = 105 ∷ []; last = 56; begins = refl; ends = refl; no_blank = refl; no_space = refl }
+int_core_8 false =
+    record { first = 117; later = 56 ∷ []; before = 117 ∷ []; last = 56; begins = refl; ends = refl; no_blank = refl; no_space = refl }
 
 int_core_16 : (signed : Bool) → IsCore (spell (int 16 signed))
-int_core_16 true = record { first = 105; later = codes "16"; before = codes "i1"; last = 54; begins = refl; ends = refl; no_blank = refl; no_space = refl }
-int_core_16 false = record { first = 117; later = codes "16"; before = codes "u1"; last = 54; begins = refl; ends = refl; no_blank = refl; no_space = refl }
+int_core_16 true =
+    record { first = 105; later = codes "16"; before = codes "i1"; last = 54; begins = refl; ends = refl; no_blank = refl; no_space = refl }
+int_core_16 false =
+    record { first = 117; later = codes "16"; before = codes "u1"; last = 54; begins = refl; ends = refl; no_blank = refl; no_space = refl }
 
 int_core_32 : (signed : Bool) → IsCore (spell (int 32 signed))
-int_core_32 true = record { first = 105; later = codes "32"; before = codes "i3"; last = 50; begins = refl; ends = refl; no_blank = refl; no_space = refl }
-int_core_32 false = record { first = 117; later = codes "32"; before = codes "u3"; last = 50; begins = refl; ends = refl; no_blank = refl; no_space = refl }
+int_core_32 true =
+    record { first = 105; later = codes "32"; before = codes "i3"; last = 50; begins = refl; ends = refl; no_blank = refl; no_space = refl }
+int_core_32 false =
+    record { first = 117; later = codes "32"; before = codes "u3"; last = 50; begins = refl; ends = refl; no_blank = refl; no_space = refl }
 
 int_core_64 : (signed : Bool) → IsCore (spell (int 64 signed))
-int_core_64 true = record { first = 105; later = codes "64"; before = codes "i6"; last = 52; begins = refl; ends = refl; no_blank = refl; no_space = refl }
-int_core_64 false = record { first = 117; later = codes "64"; before = codes "u6"; last = 52; begins = refl; ends = refl; no_blank = refl; no_space = refl }
+int_core_64 true =
+    record { first = 105; later = codes "64"; before = codes "i6"; last = 52; begins = refl; ends = refl; no_blank = refl; no_space = refl }
+int_core_64 false =
+    record { first = 117; later = codes "64"; before = codes "u6"; last = 52; begins = refl; ends = refl; no_blank = refl; no_space = refl }
 
 int_core : (bits : ℕ) (signed : Bool) → (bits ≡ 8) ⊎ ((bits ≡ 16) ⊎ ((bits ≡ 32) ⊎ (bits ≡ 64))) → IsCore (spell (int bits signed))
 int_core bits signed (inl e) = subst (λ (n : ℕ). IsCore (spell (int n signed))) (sym e) (int_core_8 signed)
@@ -43,16 +52,104 @@ int_core bits signed (inr (inl e)) = subst (λ (n : ℕ). IsCore (spell (int n s
 int_core bits signed (inr (inr (inl e))) = subst (λ (n : ℕ). IsCore (spell (int n signed))) (sym e) (int_core_32 signed)
 int_core bits signed (inr (inr (inr e))) = subst (λ (n : ℕ). IsCore (spell (int n signed))) (sym e) (int_core_64 signed)
 
-spell_core : (k : Kind) → IsType false k → IsCore (spell k)
-spell_core bool t = record { first = 98; later = codes "ool"; before = codes "boo"; last = 108; begins = refl; ends = refl; no_blank = refl; no_space = refl }
-spell_core char t = record { first = 99; later = codes "har"; before = codes "cha"; last = 114; begins = refl; ends = refl; no_blank = refl; no_space = refl }
-spell_core byte t = record { first = 98; later = codes "yte"; before = codes "byt"; last = 101; begins = refl; ends = refl; no_blank = refl; no_space = refl }
+pub spell_core : (k : Kind) → IsType false k → IsCore (spell k)
+spell_core bool t =
+    record {
+      first = 98;
+      later = codes "ool";
+      before = codes "boo";
+      last = 108;
+      begins = refl;
+      ends = refl;
+      no_blank = refl;
+      no_space =
+          refl;
+    }
+spell_core char t =
+    record {
+      first = 99;
+      later = codes "har";
+      before = codes "cha";
+      last = 114;
+      begins = refl;
+      ends = refl;
+      no_blank = refl;
+      no_space =
+          refl;
+    }
+spell_core byte t =
+    record {
+      first = 98;
+      later = codes "yte";
+      before = codes "byt";
+      last = 101;
+      begins = refl;
+      ends = refl;
+      no_blank = refl;
+      no_space =
+          refl;
+    }
 spell_core (int bits signed) t = int_core bits signed (width_cases bits t)
-spell_core text t = record { first = 115; later = codes "tring"; before = codes "strin"; last = 103; begins = refl; ends = refl; no_blank = refl; no_space = refl }
-spell_core (list k) t = record { first = 118; later = codes "ec<" ++ (spell k ++ codes ">"); before = codes "vec<" ++ spell k; last = 62; begins = refl; ends = refl; no_blank = refl; no_space = refl }
-spell_core (fields ps) t = record { first = 114; later = codes "ec{" ++ (spell_parts ps ++ codes "}"); before = codes "rec{" ++ spell_parts ps; last = 125; begins = refl; ends = refl; no_blank = refl; no_space = refl }
-spell_core (tuple ks) t = record { first = 116; later = codes "uple<" ++ (spell_kinds ks ++ codes ">"); before = codes "tuple<" ++ spell_kinds ks; last = 62; begins = refl; ends = refl; no_blank = refl; no_space = refl }
-spell_core (choice ks) t = record { first = 118; later = codes "ar<" ++ (spell_kinds ks ++ codes ">"); before = codes "var<" ++ spell_kinds ks; last = 62; begins = refl; ends = refl; no_blank = refl; no_space = refl }
+spell_core text t =
+    record {
+      first = 115;
+      later = codes "tring";
+      before = codes "strin";
+      last = 103;
+      begins = refl;
+      ends = refl;
+      no_blank = refl;
+      no_space =
+          refl;
+    }
+spell_core (list k) t =
+    record {
+      first = 118;
+      later = codes "ec<" ++ (spell k ++ codes ">");
+      before = codes "vec<" ++ spell k;
+      last = 62;
+      begins = refl;
+      ends =
+          refl;
+      no_blank = refl;
+      no_space = refl;
+    }
+spell_core (fields ps) t =
+    record {
+      first = 114;
+      later = codes "ec{" ++ (spell_parts ps ++ codes "}");
+      before =
+          codes "rec{" ++ spell_parts ps;
+      last = 125;
+      begins = refl;
+      ends = refl;
+      no_blank = refl;
+      no_space = refl;
+    }
+spell_core (tuple ks) t =
+    record {
+      first = 116;
+      later = codes "uple<" ++ (spell_kinds ks ++ codes ">");
+      before = codes "tuple<" ++ spell_kinds ks;
+      last =
+          62;
+      begins = refl;
+      ends = refl;
+      no_blank = refl;
+      no_space = refl;
+    }
+spell_core (choice ks) t =
+    record {
+      first = 118;
+      later = codes "ar<" ++ (spell_kinds ks ++ codes ">");
+      before = codes "var<" ++ spell_kinds ks;
+      last = 62;
+      begins =
+          refl;
+      ends = refl;
+      no_blank = refl;
+      no_space = refl;
+    }
 
 -- what is spelled so is read
 
@@ -79,10 +176,12 @@ depth_cases : (line name t : List ℕ) (k : Kind) (p : Part) (c : Bool) → IsLi
     → under_name name (cond c (Ok k) (Err TooDeep)) ≡ Ok p → IsMember line p
 depth_cases line name t k p true l read shallow e =
     let sound = read_kind-sound t k read in
-    subst (IsMember line) (ok_part (record { name = name; of = k }) p e) (record { line_is = subst (IsLine line name) (sym sound.0) l; rules = sound.1; shallow = few (depth k) shallow })
+    subst (IsMember line) (ok_part (record { name = name; of = k }) p e)
+    (record { line_is = subst (IsLine line name) (sym sound.0) l; rules = sound.1; shallow = few (depth k) shallow })
 depth_cases line name t k p false l read shallow e = cc
 
-read_cases : (line name t : List ℕ) (r : Option Kind) (p : Part) → IsLine line name t → read_kind t ≡ r → under_name name (within_depth r) ≡ Ok p → IsMember line p
+read_cases : (line name t : List ℕ) (r : Option Kind) (p : Part) → IsLine line name t → read_kind t ≡ r
+    → under_name name (within_depth r) ≡ Ok p → IsMember line p
 read_cases line name t None p l read e = cc
 read_cases line name t (Some k) p l read e = depth_cases line name t k p (nat_le (depth k) 32) l read refl e
 
@@ -99,12 +198,3 @@ member_text-sound line p e = member_of-sound line p (ok (member_of line) e)
     ok : (r : Result Part SchemaKind) → at_result 0 r ≡ Ok p → r ≡ Ok p
     ok (Ok q) e = cc
     ok (Err k) e = cc
-
--- the same of what a function answers
-
-pub found : (r : Result Member SchemaError) (line : List ℕ) → GivesText member_view r (member_text line) → IfOk r (λ m. IsMember line (member_view m))
-found (Ok m) line g = member_text-sound line (member_view m) g
-found (Err e) line g = tt
-
-pub only : (r : Result Member SchemaError) (line : List ℕ) (p : Part) → IsMember line p → GivesText member_view r (member_text line) → GivesText member_view r (Ok p)
-only r line p m g = subst (λ (v : Result Part SchemaFault). GivesText member_view r v) (member_text-is line p m) g

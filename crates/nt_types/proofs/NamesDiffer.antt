@@ -10,7 +10,9 @@ use Rattle.nt_types.specs.declared.shape.Member.{Member}
 use Rattle.nt_types.proofs.Seen.{Knows-insert}
 use Rattle.nt_types.proofs.ShapeViews.{member_view-name}
 
-are_new-drop : (seen : List (List ℕ)) (members : List Member) (i : ℕ) (m : Member) → i < length members → m ≡ get_or members i m → are_new seen (map member_view (drop i members)) ≡ (not (has_name seen (member_view m).name) && are_new ((member_view m).name ∷ seen) (map member_view (drop (i + 1) members)))
+are_new-drop : (seen : List (List ℕ)) (members : List Member) (i : ℕ) (m : Member) → i < length members → m ≡ get_or members i m
+    → are_new seen (map member_view (drop i members)) ≡
+    (not (has_name seen (member_view m).name) && are_new ((member_view m).name ∷ seen) (map member_view (drop (i + 1) members)))
 are_new-drop seen members i m h is = rw (add-one, drop-cons members i m, ← is) refl
 
 negated : (a b : Bool) → a ≡ not b → a ≡ true → b ≡ false
@@ -19,7 +21,8 @@ negated true false e t = refl
 negated false b e t = cc
 
 -- one member further, where its name is new
-pub new_member : (set after : BTreeSet (Bor (List ℕ))) (seen : List (List ℕ)) (members : List Member) (i : ℕ) (m : Member) (name : Bor (List ℕ)) (added all : Bool)
+pub new_member : (set after : BTreeSet (Bor (List ℕ))) (seen : List (List ℕ)) (members : List Member) (i : ℕ) (m : Member)
+    (name : Bor (List ℕ)) (added all : Bool)
     → Knows set seen → are_new seen (map member_view (drop i members)) ≡ all
     → i < length members → m ≡ get_or members i m → name.now ≡ m.name
     → added ≡ not (contains slices_cmp set name) → added ≡ true → Updates slices_cmp set after name true
@@ -29,15 +32,18 @@ new_member set after seen members i m name added all k e h is named0 a t u =
     let fresh : has_name seen name.now ≡ false = sym (k name) ∙ negated added (contains slices_cmp set name) a t in
     (name.now ∷ seen, Knows-insert set after seen name k u, rw named (ending (rw named at fresh)))
   where
-    ending : has_name seen (member_view m).name ≡ false → are_new ((member_view m).name ∷ seen) (map member_view (drop (i + 1) members)) ≡ all
+    ending : has_name seen (member_view m).name ≡ false
+        → are_new ((member_view m).name ∷ seen) (map member_view (drop (i + 1) members)) ≡ all
     ending f = let s = are_new-drop seen members i m h is in let s' = rw f at s in sym s' ∙ e
 
 -- a member whose name isn't new
 -- no member is left
-pub last_member : (seen : List (List ℕ)) (members : List Member) (i : ℕ) (all : Bool) → length members ≤ i → are_new seen (map member_view (drop i members)) ≡ all → true ≡ all
+pub last_member : (seen : List (List ℕ)) (members : List Member) (i : ℕ) (all : Bool) → length members ≤ i
+    → are_new seen (map member_view (drop i members)) ≡ all → true ≡ all
 last_member seen members i all h e = let none : drop i members ≡ [] = grind (arith, common_steps) in rw none at e
 
-pub old_member : (set : BTreeSet (Bor (List ℕ))) (seen : List (List ℕ)) (members : List Member) (i : ℕ) (m : Member) (name : Bor (List ℕ)) (added all : Bool)
+pub old_member : (set : BTreeSet (Bor (List ℕ))) (seen : List (List ℕ)) (members : List Member) (i : ℕ) (m : Member) (name : Bor (List ℕ))
+    (added all : Bool)
     → Knows set seen → are_new seen (map member_view (drop i members)) ≡ all
     → i < length members → m ≡ get_or members i m → name.now ≡ m.name
     → added ≡ not (contains slices_cmp set name) → added ≡ false

@@ -16,5 +16,6 @@ cond_or true x = refl
 cond_or false x = refl
 
 -- a set holds what was put in beside what it held
-pub Knows-insert : (s n : BTreeSet (Bor (List ℕ))) (names : List (List ℕ)) (key : Bor (List ℕ)) → Knows s names → Updates slices_cmp s n key true → Knows n (key.now ∷ names)
+pub Knows-insert : (s n : BTreeSet (Bor (List ℕ))) (names : List (List ℕ)) (key : Bor (List ℕ)) → Knows s names
+    → Updates slices_cmp s n key true → Knows n (key.now ∷ names)
 Knows-insert s n names key k u q = u.0 q ∙ rw (is_eq-slice_cmp key.now q.now, k q) (cond_or (bytes_eq key.now q.now) (has_name names q.now))

@@ -4,10 +4,12 @@ use Rattle.std.proofs.lemmas.Bool.Decides.{nat_tests}
 use Rattle.std.proofs.lemmas.Slice.Eq.{bytes_eq-Decides}
 use Rattle.std.specs.Str.{bytes_eq}
 use Rattle.std.specs.Prelude.{option_and_then, option_map, nat_le, ◌==◌, ◌&&◌, ◌||◌, not, codes}
+use Rattle.nt_lists.proofs.Bools.{and_true}
+use Rattle.nt_lists.proofs.Variants.{some_is}
 use Rattle.nt_types.specs.Kinds.{Kind, Part, bool, char, byte, int, text, list, fields, tuple, choice, kinds_of, parts_of, kinds_list, parts_list}
 use Rattle.nt_types.specs.Words.{is_word_byte, is_name, leaf, number, int_of}
 use Rattle.nt_types.specs.Names.{names_differ}
-use Rattle.nt_types.specs.Reading.{Construct, in_list, at_name, in_member, in_tuple, in_choice, Placed, goes, ends, State, start, kept, put, within_after, within_inside, placed, place_on, place, started, begun, begin, named, settled, delimited, ended_on, read, read_kind}
+use Rattle.nt_types.specs.Reading.{OpenData, in_list, at_name, in_member, in_tuple, in_choice, PlacedData, goes, ends, ReadingData, start, kind_kept, put, within_after, within_inside, part_placed, place_on, place, started, opened, begin, named, settled, delimited, ended_on, read, read_kind}
 use Rattle.nt_types.specs.Spelling.{spell, spell_kinds, spell_more_kinds, spell_parts, spell_more_parts, IsType, AreKinds, AreMoreKinds, AreParts, AreMoreParts}
 
 -- the text of what is read
@@ -20,14 +22,14 @@ abbrev ended_parts : List Part → List ℕ
 ended_parts [] = []
 ended_parts (p ∷ ps) = p.name ++ 58 ∷ (spell p.of ++ 44 ∷ ended_parts ps)
 
-abbrev construct_text : Construct → List ℕ
+abbrev construct_text : OpenData → List ℕ
 construct_text in_list = codes "vec<"
 construct_text (at_name ps) = codes "rec{" ++ ended_parts ps
 construct_text (in_member ps n) = codes "rec{" ++ (ended_parts ps ++ (n ++ 58 ∷ []))
 construct_text (in_tuple ks) = codes "tuple<" ++ ended_kinds ks
 construct_text (in_choice w ks) = codes "var<" ++ ended_kinds ks
 
-abbrev stack_text : List Construct → List ℕ
+abbrev stack_text : List OpenData → List ℕ
 stack_text [] = []
 stack_text (o ∷ os) = stack_text os ++ construct_text o
 
@@ -46,14 +48,14 @@ GoodParts [] = Unit {0}
 GoodParts (p ∷ ps) = (is_name p.name ≡ true) × IsType false p.of × GoodParts ps
 
 -- a construct that lies where this flag says whether a choice is open, and inside of it that one
-abbrev GoodConstruct : Construct → Bool → Bool → Type 0
+abbrev GoodConstruct : OpenData → Bool → Bool → Type 0
 GoodConstruct in_list out within = out ≡ within
 GoodConstruct (at_name ps) out within = (out ≡ within) × (within ≡ false) × GoodParts ps
 GoodConstruct (in_member ps n) out within = (out ≡ within) × (within ≡ false) × GoodParts ps × (is_name n ≡ true)
 GoodConstruct (in_tuple ks) out within = (out ≡ within) × GoodKinds within ks
 GoodConstruct (in_choice w ks) out within = (out ≡ w) × (within ≡ true) × GoodKinds true ks
 
-abbrev GoodStack : List Construct → Bool → Type 0
+abbrev GoodStack : List OpenData → Bool → Type 0
 GoodStack [] within = within ≡ false
 GoodStack (o ∷ os) within = (out : Bool) × GoodConstruct o out within × GoodStack os out
 
@@ -91,11 +93,13 @@ GoodKinds-snoc : (within : Bool) (ks : List Kind) (k : Kind) → GoodKinds withi
 GoodKinds-snoc within [] k g t = (t, tt)
 GoodKinds-snoc within (j ∷ ks) k g t = (g.0, GoodKinds-snoc within ks k g.1 t)
 
-AreMoreKinds-snoc : (within : Bool) (ks : List Kind) (k : Kind) → GoodKinds within ks → IsType within k → AreMoreKinds within (kinds_of (ks ++ k ∷ []))
+AreMoreKinds-snoc : (within : Bool) (ks : List Kind) (k : Kind) → GoodKinds within ks → IsType within k
+    → AreMoreKinds within (kinds_of (ks ++ k ∷ []))
 AreMoreKinds-snoc within [] k g t = (t, tt)
 AreMoreKinds-snoc within (j ∷ ks) k g t = (g.0, AreMoreKinds-snoc within ks k g.1 t)
 
-AreKinds-snoc : (within : Bool) (ks : List Kind) (k : Kind) → GoodKinds within ks → IsType within k → AreKinds within (kinds_of (ks ++ k ∷ []))
+AreKinds-snoc : (within : Bool) (ks : List Kind) (k : Kind) → GoodKinds within ks → IsType within k
+    → AreKinds within (kinds_of (ks ++ k ∷ []))
 AreKinds-snoc within [] k g t = (t, tt)
 AreKinds-snoc within (j ∷ ks) k g t = (g.0, AreMoreKinds-snoc within ks k g.1 t)
 
@@ -103,7 +107,8 @@ GoodParts-snoc : (ps : List Part) (p : Part) → GoodParts ps → is_name p.name
 GoodParts-snoc [] p g n t = (n, t, tt)
 GoodParts-snoc (q ∷ ps) p g n t = (g.0, g.1, GoodParts-snoc ps p g.2 n t)
 
-AreMoreParts-snoc : (ps : List Part) (p : Part) → GoodParts ps → is_name p.name ≡ true → IsType false p.of → AreMoreParts (parts_of (ps ++ p ∷ []))
+AreMoreParts-snoc : (ps : List Part) (p : Part) → GoodParts ps → is_name p.name ≡ true → IsType false p.of
+    → AreMoreParts (parts_of (ps ++ p ∷ []))
 AreMoreParts-snoc [] p g n t = (n, t, tt)
 AreMoreParts-snoc (q ∷ ps) p g n t = (g.0, g.1, AreMoreParts-snoc ps p g.2 n t)
 
@@ -121,79 +126,95 @@ list_of-parts (p ∷ ps) = ap (λ (l : List Part). p ∷ l) (list_of-parts ps)
 
 -- a part in a construct
 
-abbrev placed_text : Placed → List ℕ
+abbrev placed_text : PlacedData → List ℕ
 placed_text (goes o) = construct_text o
 placed_text (ends k) = spell k
 
-abbrev GoodPlaced : Bool → Bool → Placed → Type 0
+abbrev GoodPlaced : Bool → Bool → PlacedData → Type 0
 GoodPlaced out within (goes o) = GoodConstruct o out within
 GoodPlaced out within (ends k) = IsType out k
 
 -- what a part and the byte after it make of a construct
-abbrev IsPut : Bool → Bool → Construct → Kind → ℕ → Placed → Type 0
+abbrev IsPut : Bool → Bool → OpenData → Kind → ℕ → PlacedData → Type 0
 IsPut out within o k b p = (placed_text p ≡ construct_text o ++ (spell k ++ b ∷ [])) × GoodPlaced out within p
 
 byte_is : (b n : ℕ) → (b == n) ≡ true → b ≡ n
 byte_is b n e = grind (arith, nat_tests)
 
-and_true : (a b : Bool) → (a && b) ≡ true → (a ≡ true) × (b ≡ true)
-and_true true b e = (refl, e)
-and_true false b e = cc
-
-some_is : {A : Type 0} (x y : A) → Some x ≡ Some y → x ≡ y
-some_is x y e = cc
-
-list_put : (out within : Bool) (k : Kind) (b : ℕ) (p : Placed) (c : Bool) → (c ≡ true → b ≡ 62) → out ≡ within → IsType within k
+list_put : (out within : Bool) (k : Kind) (b : ℕ) (p : PlacedData) (c : Bool) → (c ≡ true → b ≡ 62) → out ≡ within → IsType within k
     → cond c (Some (ends (list k))) None ≡ Some p → IsPut out within in_list k b p
 list_put out within k b p true at same t e =
     subst (IsPut out within in_list k b) (some_is _ _ e) (rw (at refl) refl, subst (λ (v : Bool). IsType v k) (sym same) t)
 list_put out within k b p false at same t e = cc
 
-tuple_put : (out within : Bool) (ks : List Kind) (k : Kind) (b : ℕ) (p : Placed) (c d : Bool) → (c ≡ true → b ≡ 44) → (d ≡ true → b ≡ 62) → out ≡ within → GoodKinds within ks → IsType within k
-    → cond c (Some (goes (in_tuple (ks ++ k ∷ [])))) (cond d (Some (ends (tuple (kinds_of (ks ++ k ∷ []))))) None) ≡ Some p → IsPut out within (in_tuple ks) k b p
+tuple_put : (out within : Bool) (ks : List Kind) (k : Kind) (b : ℕ) (p : PlacedData) (c d : Bool) → (c ≡ true → b ≡ 44)
+    → (d ≡ true → b ≡ 62)
+    → out ≡ within → GoodKinds within ks → IsType within k
+    → cond c (Some (goes (in_tuple (ks ++ k ∷ [])))) (cond d (Some (ends (tuple (kinds_of (ks ++ k ∷ []))))) None) ≡ Some p
+    → IsPut out within (in_tuple ks) k b p
 tuple_put out within ks k b p true d comma angle same g t e =
-    subst (IsPut out within (in_tuple ks) k b) (some_is _ _ e) (rw (comma refl, ended_kinds-snoc ks k) refl, (same, GoodKinds-snoc within ks k g t))
-tuple_put out within ks k b p false true comma angle same g t e =
     subst (IsPut out within (in_tuple ks) k b) (some_is _ _ e)
-    (rw (angle refl, kinds_text ks k) (simp append_assoc), subst (λ (v : Bool). AreKinds v (kinds_of (ks ++ k ∷ []))) (sym same) (AreKinds-snoc within ks k g t))
+    (rw (comma refl, ended_kinds-snoc ks k) refl, (same, GoodKinds-snoc within ks k g t))
+tuple_put out within ks k b p false true comma angle same g t e =
+    subst (IsPut out within (in_tuple ks) k b) (some_is _ _ e) (
+      rw (angle refl, kinds_text ks k) (simp append_assoc),
+      subst (λ (v : Bool). AreKinds v (kinds_of (ks ++ k ∷ []))) (sym same) (AreKinds-snoc within ks k g t),
+    )
 tuple_put out within ks k b p false false comma angle same g t e = cc
 
-choice_put : (out within w : Bool) (ks : List Kind) (k : Kind) (b : ℕ) (p : Placed) (c d : Bool) → (c ≡ true → b ≡ 44) → (d ≡ true → (b ≡ 62) × (length (ks ++ k ∷ []) ≤ 100)) → GoodConstruct (in_choice w ks) out within → IsType within k
-    → cond c (Some (goes (in_choice w (ks ++ k ∷ [])))) (cond d (Some (ends (choice (kinds_of (ks ++ k ∷ []))))) None) ≡ Some p → IsPut out within (in_choice w ks) k b p
+choice_put : (out within w : Bool) (ks : List Kind) (k : Kind) (b : ℕ) (p : PlacedData) (c d : Bool) → (c ≡ true → b ≡ 44)
+    → (d ≡ true → (b ≡ 62) × (length (ks ++ k ∷ []) ≤ 100)) → GoodConstruct (in_choice w ks) out within → IsType within k
+    → cond c (Some (goes (in_choice w (ks ++ k ∷ [])))) (cond d (Some (ends (choice (kinds_of (ks ++ k ∷ []))))) None) ≡ Some p
+    → IsPut out within (in_choice w ks) k b p
 choice_put out within w ks k b p true d comma angle g t e =
     let inner : IsType true k = subst (λ (v : Bool). IsType v k) g.1 t in
-    subst (IsPut out within (in_choice w ks) k b) (some_is _ _ e) (rw (comma refl, ended_kinds-snoc ks k) refl, (g.0, g.1, GoodKinds-snoc true ks k g.2 inner))
+    subst (IsPut out within (in_choice w ks) k b) (some_is _ _ e)
+    (rw (comma refl, ended_kinds-snoc ks k) refl, (g.0, g.1, GoodKinds-snoc true ks k g.2 inner))
 choice_put out within w ks k b p false true comma angle g t e =
     let inner : IsType true k = subst (λ (v : Bool). IsType v k) g.1 t in
-    subst (IsPut out within (in_choice w ks) k b) (some_is _ _ e)
-    (rw ((angle refl).0, kinds_text ks k) (simp append_assoc), (rw (list_of-kinds (ks ++ k ∷ [])) (angle refl).1, AreKinds-snoc true ks k g.2 inner))
+    subst (IsPut out within (in_choice w ks) k b) (some_is _ _ e) (
+      rw ((angle refl).0, kinds_text ks k) (simp append_assoc),
+      (rw (list_of-kinds (ks ++ k ∷ [])) (angle refl).1, AreKinds-snoc true ks k g.2 inner),
+    )
 choice_put out within w ks k b p false false comma angle g t e = cc
 
 regroup : (a n s : List ℕ) → (a ++ (n ++ 58 ∷ s)) ++ 125 ∷ [] ≡ (a ++ (n ++ 58 ∷ [])) ++ (s ++ 125 ∷ [])
-regroup a n s = append_assoc a (n ++ 58 ∷ s) (125 ∷ []) ∙ ap (λ (l : List ℕ). a ++ l) (append_assoc n (58 ∷ s) (125 ∷ []) ∙ sym (append_assoc n (58 ∷ []) (s ++ 125 ∷ []))) ∙ sym (append_assoc a (n ++ 58 ∷ []) (s ++ 125 ∷ []))
+regroup a n s = append_assoc a (n ++ 58 ∷ s) (125 ∷ [])
+    ∙ ap (λ (l : List ℕ). a ++ l) (append_assoc n (58 ∷ s) (125 ∷ []) ∙ sym (append_assoc n (58 ∷ []) (s ++ 125 ∷ [])))
+    ∙ sym (append_assoc a (n ++ 58 ∷ []) (s ++ 125 ∷ []))
 
 regroup_comma : (a n s : List ℕ) → a ++ (n ++ 58 ∷ s) ≡ (a ++ (n ++ 58 ∷ [])) ++ s
 regroup_comma a n s = ap (λ (l : List ℕ). a ++ l) (sym (append_assoc n (58 ∷ []) s)) ∙ sym (append_assoc a (n ++ 58 ∷ []) s)
 
-fields_put : (out within : Bool) (ps : List Part) (n : List ℕ) (k : Kind) (b : ℕ) (p : Placed) (c d : Bool) → (c ≡ true → b ≡ 44)
-    → (d ≡ true → (b ≡ 125) × (names_differ (ps ++ record { name = n; of = k } ∷ []) ≡ true)) → GoodConstruct (in_member ps n) out within → IsType within k
-    → cond c (Some (goes (at_name (ps ++ record { name = n; of = k } ∷ [])))) (cond d (Some (ends (fields (parts_of (ps ++ record { name = n; of = k } ∷ []))))) None) ≡ Some p → IsPut out within (in_member ps n) k b p
+fields_put : (out within : Bool) (ps : List Part) (n : List ℕ) (k : Kind) (b : ℕ) (p : PlacedData) (c d : Bool) → (c ≡ true → b ≡ 44)
+    → (d ≡ true → (b ≡ 125) × (names_differ (ps ++ record { name = n; of = k } ∷ []) ≡ true)) → GoodConstruct (in_member ps n) out within
+    → IsType within k
+    → cond c (Some (goes (at_name (ps ++ record { name = n; of = k } ∷ []))))
+    (cond d (Some (ends (fields (parts_of (ps ++ record { name = n; of = k } ∷ []))))) None) ≡ Some p → IsPut out within
+    (in_member ps n) k b p
 fields_put out within ps n k b p true d comma brace g t e =
     let q : Part = record { name = n; of = k } in
     let inner : IsType false k = subst (λ (v : Bool). IsType v k) g.1 t in
-    subst (IsPut out within (in_member ps n) k b) (some_is _ _ e)
-    (rw (comma refl, ended_parts-snoc ps q) (ap (λ (l : List ℕ). codes "rec{" ++ l) (regroup_comma (ended_parts ps) n (spell k ++ 44 ∷ []))), (g.0, g.1, GoodParts-snoc ps q g.2 g.3 inner))
+    subst (IsPut out within (in_member ps n) k b) (some_is _ _ e) (
+      rw (comma refl, ended_parts-snoc ps q)
+          (ap (λ (l : List ℕ). codes "rec{" ++ l) (regroup_comma (ended_parts ps) n (spell k ++ 44 ∷ []))),
+      (g.0, g.1, GoodParts-snoc ps q g.2 g.3 inner),
+    )
 fields_put out within ps n k b p false true comma brace g t e =
     let q : Part = record { name = n; of = k } in
     let inner : IsType false k = subst (λ (v : Bool). IsType v k) g.1 t in
-    subst (IsPut out within (in_member ps n) k b) (some_is _ _ e)
-    (rw ((brace refl).0, parts_text ps q) (ap (λ (l : List ℕ). codes "rec{" ++ l) (regroup (ended_parts ps) n (spell k))), (g.0 ∙ g.1, rw (list_of-parts (ps ++ q ∷ [])) (brace refl).1, AreParts-snoc ps q g.2 g.3 inner))
+    subst (IsPut out within (in_member ps n) k b) (some_is _ _ e) (
+      rw ((brace refl).0, parts_text ps q)
+          (ap (λ (l : List ℕ). codes "rec{" ++ l) (regroup (ended_parts ps) n (spell k))),
+      (g.0 ∙ g.1, rw (list_of-parts (ps ++ q ∷ [])) (brace refl).1, AreParts-snoc ps q g.2 g.3 inner),
+    )
 fields_put out within ps n k b p false false comma brace g t e = cc
 
 few : (n : ℕ) → nat_le n 100 ≡ true → n ≤ 100
 few n e = grind (arith, nat_tests)
 
-put_sound : (out within : Bool) (o : Construct) (k : Kind) (b : ℕ) (p : Placed) → GoodConstruct o out within → IsType within k → put o k b ≡ Some p → IsPut out within o k b p
+put_sound : (out within : Bool) (o : OpenData) (k : Kind) (b : ℕ) (p : PlacedData) → GoodConstruct o out within → IsType within k
+    → put o k b ≡ Some p → IsPut out within o k b p
 put_sound out within in_list k b p g t e = list_put out within k b p (b == 62) (byte_is b 62) g t e
 put_sound out within (at_name ps) k b p g t e = cc
 put_sound out within (in_member ps n) k b p g t e =
@@ -202,42 +223,50 @@ put_sound out within (in_member ps n) k b p g t e =
 put_sound out within (in_tuple ks) k b p g t e = tuple_put out within ks k b p (b == 44) (b == 62) (byte_is b 44) (byte_is b 62) g.0 g.1 t e
 put_sound out within (in_choice w ks) k b p g t e =
     choice_put out within w ks k b p (b == 44) ((b == 62) && nat_le (length (ks ++ k ∷ [])) 100) (byte_is b 44)
-    (λ d. let both = and_true (b == 62) (nat_le (length (ks ++ k ∷ [])) 100) d in (byte_is b 62 both.0, few (length (ks ++ k ∷ [])) both.1)) g t e
+    (λ d. let both = and_true (b == 62) (nat_le (length (ks ++ k ∷ [])) 100) d in
+    (byte_is b 62 both.0, few (length (ks ++ k ∷ [])) both.1)) g t e
 
 -- what is read, after a step
 
-abbrev state_text : State → List ℕ
+abbrev state_text : ReadingData → List ℕ
 state_text s = stack_text s.stack ++ done_text s.done
 
-abbrev IsGood : State → Type 0
+abbrev IsGood : ReadingData → Type 0
 IsGood s = GoodStack s.stack s.within × GoodDone s.within s.done
 
 -- the state has this text, and keeps the rules
-abbrev Reads : List ℕ → State → Type 0
+abbrev Reads : List ℕ → ReadingData → Type 0
 Reads front s = (state_text s ≡ front) × IsGood s
 
 -- inside a construct that is open, a choice is open as the flag says
-out_is : (o : Construct) (out within : Bool) → GoodConstruct o out within → within_after o within ≡ out
+out_is : (o : OpenData) (out within : Bool) → GoodConstruct o out within → within_after o within ≡ out
 out_is in_list out within g = sym g
 out_is (at_name ps) out within g = sym g.0
 out_is (in_member ps n) out within g = sym g.0
 out_is (in_tuple ks) out within g = sym g.0
 out_is (in_choice w ks) out within g = sym g.0
 
-placed_reads : (within out : Bool) (o : Construct) (os : List Construct) (k : Kind) (b : ℕ) (p : Placed) → GoodConstruct o out within → GoodStack os out → IsPut out within o k b p
-    → Reads (stack_text (o ∷ os) ++ (spell k ++ b ∷ [])) (placed true within o os p)
+placed_reads : (within out : Bool) (o : OpenData) (os : List OpenData) (k : Kind) (b : ℕ) (p : PlacedData) → GoodConstruct o out within
+    → GoodStack os out → IsPut out within o k b p
+    → Reads (stack_text (o ∷ os) ++ (spell k ++ b ∷ [])) (part_placed true within o os p)
 placed_reads within out o os k b (goes q) g below is = (rw is.0 (simp append_assoc), ((out, is.1, below), tt))
-placed_reads within out o os k b (ends q) g below is =
-    (rw is.0 (simp append_assoc), (subst (GoodStack os) (sym (out_is o out within g)) below, subst (λ (v : Bool). IsType v q) (sym (out_is o out within g)) is.1))
+placed_reads within out o os k b (ends q) g below is = (
+  rw is.0 (simp append_assoc),
+  (subst (GoodStack os) (sym (out_is o out within g)) below, subst (λ (v : Bool). IsType v q) (sym (out_is o out within g)) is.1),
+)
 
-place_reads : (within : Bool) (stack : List Construct) (k : Kind) (b : ℕ) (t : State) → GoodStack stack within → IsType within k → place_on true within stack k b ≡ Some t
+place_reads : (within : Bool) (stack : List OpenData) (k : Kind) (b : ℕ) (t : ReadingData) → GoodStack stack within → IsType within k
+    → place_on true within stack k b ≡ Some t
     → Reads (stack_text stack ++ (spell k ++ b ∷ [])) t
 place_reads within [] k b t g i e = cc
 place_reads within (o ∷ os) k b t g i e = placed_case (put o k b) refl e
   where
-    placed_case : (r : Option Placed) → put o k b ≡ r → option_map (placed true within o os) r ≡ Some t → Reads (stack_text (o ∷ os) ++ (spell k ++ b ∷ [])) t
+    placed_case : (r : Option PlacedData) → put o k b ≡ r → option_map (part_placed true within o os) r ≡ Some t
+        → Reads (stack_text (o ∷ os) ++ (spell k ++ b ∷ [])) t
     placed_case None is e = cc
-    placed_case (Some p) is e = subst (Reads (stack_text (o ∷ os) ++ (spell k ++ b ∷ []))) (some_is _ _ e) (placed_reads within g.0 o os k b p g.1 g.2 (put_sound g.0 within o k b p g.1 i is))
+    placed_case (Some p) is e =
+        subst (Reads (stack_text (o ∷ os) ++ (spell k ++ b ∷ []))) (some_is _ _ e)
+        (placed_reads within g.0 o os k b p g.1 g.2 (put_sound g.0 within o k b p g.1 i is))
 
 -- a leaf
 
@@ -248,29 +277,38 @@ abbrev IsSpelled : List ℕ → Kind → Type 0
 IsSpelled w k = (spell k ≡ w) × ((within : Bool) → IsType within k)
 
 width_sound : (w : List ℕ) (signed : Bool) (k : Kind) → int_of w signed ≡ Some k → IsSpelled ((cond signed 105 117) ∷ w) k
-width_sound w signed k e = cases (bytes_eq w (codes "8")) (bytes_eq w (codes "16")) (bytes_eq w (codes "32")) (bytes_eq w (codes "64")) (word_is w (codes "8")) (word_is w (codes "16")) (word_is w (codes "32")) (word_is w (codes "64")) e
+width_sound w signed k e =
+    cases (bytes_eq w (codes "8")) (bytes_eq w (codes "16")) (bytes_eq w (codes "32")) (bytes_eq w (codes "64")) (word_is w (codes "8"))
+    (word_is w (codes "16")) (word_is w (codes "32")) (word_is w (codes "64")) e
   where
-    cases : (a b c d : Bool) → (a ≡ true → w ≡ codes "8") → (b ≡ true → w ≡ codes "16") → (c ≡ true → w ≡ codes "32") → (d ≡ true → w ≡ codes "64")
-        → option_map (λ bits. int bits signed) (cond a (Some 8) (cond b (Some 16) (cond c (Some 32) (cond d (Some 64) None)))) ≡ Some k → IsSpelled ((cond signed 105 117) ∷ w) k
+    cases : (a b c d : Bool) → (a ≡ true → w ≡ codes "8") → (b ≡ true → w ≡ codes "16") → (c ≡ true → w ≡ codes "32")
+        → (d ≡ true → w ≡ codes "64")
+        → option_map (λ bits. int bits signed) (cond a (Some 8) (cond b (Some 16) (cond c (Some 32) (cond d (Some 64) None)))) ≡ Some k
+        → IsSpelled ((cond signed 105 117) ∷ w) k
     cases true b c d ha hb hc hd e = subst (IsSpelled ((cond signed 105 117) ∷ w)) (some_is _ _ e) (rw (ha refl) refl, λ v. refl)
     cases false true c d ha hb hc hd e = subst (IsSpelled ((cond signed 105 117) ∷ w)) (some_is _ _ e) (rw (hb refl) refl, λ v. refl)
     cases false false true d ha hb hc hd e = subst (IsSpelled ((cond signed 105 117) ∷ w)) (some_is _ _ e) (rw (hc refl) refl, λ v. refl)
-    cases false false false true ha hb hc hd e = subst (IsSpelled ((cond signed 105 117) ∷ w)) (some_is _ _ e) (rw (hd refl) refl, λ v. refl)
+    cases false false false true ha hb hc hd e =
+        subst (IsSpelled ((cond signed 105 117) ∷ w)) (some_is _ _ e) (rw (hd refl) refl, λ v. refl)
     cases false false false false ha hb hc hd e = cc
 
 number_sound : (w : List ℕ) (k : Kind) → number w ≡ Some k → IsSpelled w k
 number_sound [] k e = cc
 number_sound (b ∷ w) k e = cases (b == 105) (b == 117) (byte_is b 105) (byte_is b 117) e
   where
-    cases : (c d : Bool) → (c ≡ true → b ≡ 105) → (d ≡ true → b ≡ 117) → cond c (int_of w true) (cond d (int_of w false) None) ≡ Some k → IsSpelled (b ∷ w) k
+    cases : (c d : Bool) → (c ≡ true → b ≡ 105) → (d ≡ true → b ≡ 117) → cond c (int_of w true) (cond d (int_of w false) None) ≡ Some k
+        → IsSpelled (b ∷ w) k
     cases true d hc hd e = rw (hc refl) (width_sound w true k e)
     cases false true hc hd e = rw (hd refl) (width_sound w false k e)
     cases false false hc hd e = cc
 
 leaf_sound : (w : List ℕ) (k : Kind) → leaf w ≡ Some k → IsSpelled w k
-leaf_sound w k e = cases (bytes_eq w (codes "bool")) (bytes_eq w (codes "char")) (bytes_eq w (codes "byte")) (bytes_eq w (codes "string")) (word_is w (codes "bool")) (word_is w (codes "char")) (word_is w (codes "byte")) (word_is w (codes "string")) e
+leaf_sound w k e =
+    cases (bytes_eq w (codes "bool")) (bytes_eq w (codes "char")) (bytes_eq w (codes "byte")) (bytes_eq w (codes "string"))
+    (word_is w (codes "bool")) (word_is w (codes "char")) (word_is w (codes "byte")) (word_is w (codes "string")) e
   where
-    cases : (a b c d : Bool) → (a ≡ true → w ≡ codes "bool") → (b ≡ true → w ≡ codes "char") → (c ≡ true → w ≡ codes "byte") → (d ≡ true → w ≡ codes "string")
+    cases : (a b c d : Bool) → (a ≡ true → w ≡ codes "bool") → (b ≡ true → w ≡ codes "char") → (c ≡ true → w ≡ codes "byte")
+        → (d ≡ true → w ≡ codes "string")
         → cond a (Some bool) (cond b (Some char) (cond c (Some byte) (cond d (Some text) (number w)))) ≡ Some k → IsSpelled w k
     cases true b c d ha hb hc hd e = subst (IsSpelled w) (some_is _ _ e) (sym (ha refl), λ v. tt)
     cases false true c d ha hb hc hd e = subst (IsSpelled w) (some_is _ _ e) (sym (hb refl), λ v. tt)
@@ -279,24 +317,28 @@ leaf_sound w k e = cases (bytes_eq w (codes "bool")) (bytes_eq w (codes "char"))
     cases false false false false ha hb hc hd e = number_sound w k e
 
 -- a part that ends: the text since the construct round it, and the rules
-settled_sound : (within : Bool) (done : Option Kind) (w : List ℕ) (k : Kind) → GoodDone within done → settled true done w ≡ Some k → (spell k ≡ done_text done ++ w) × IsType within k
+settled_sound : (within : Bool) (done : Option Kind) (w : List ℕ) (k : Kind) → GoodDone within done → settled true done w ≡ Some k
+    → (spell k ≡ done_text done ++ w) × IsType within k
 settled_sound within None w k g e = leaf_case (leaf w) refl e
   where
-    leaf_case : (r : Option Kind) → leaf w ≡ r → option_map (kept true) r ≡ Some k → (spell k ≡ w) × IsType within k
+    leaf_case : (r : Option Kind) → leaf w ≡ r → option_map (kind_kept true) r ≡ Some k → (spell k ≡ w) × IsType within k
     leaf_case None is e = cc
     leaf_case (Some j) is e = let found = leaf_sound w k (is ∙ e) in (found.0, found.1 within)
-settled_sound within (Some j) [] k g e = subst (λ (v : Kind). (spell v ≡ spell j ++ []) × IsType within v) (some_is _ _ e) (sym (append-nil (spell j)), g)
+settled_sound within (Some j) [] k g e =
+    subst (λ (v : Kind). (spell v ≡ spell j ++ []) × IsType within v) (some_is _ _ e) (sym (append-nil (spell j)), g)
 settled_sound within (Some j) (b ∷ w) k g e = cc
 
 -- a construct begins
 
 -- what a word and a byte begin
-abbrev IsStarted : Bool → List ℕ → ℕ → Construct → Type 0
+abbrev IsStarted : Bool → List ℕ → ℕ → OpenData → Type 0
 IsStarted within w b o = (construct_text o ≡ w ++ b ∷ []) × GoodConstruct o within (within_inside o within)
 
-started_sound : (within : Bool) (w : List ℕ) (b : ℕ) (o : Construct) → ((b == 60) || (b == 123)) ≡ true → started within w b ≡ Some o → IsStarted within w b o
+started_sound : (within : Bool) (w : List ℕ) (b : ℕ) (o : OpenData) → ((b == 60) || (b == 123)) ≡ true → started within w b ≡ Some o
+    → IsStarted within w b o
 started_sound within w b o which e =
-    cases (b == 123) (bytes_eq w (codes "rec")) within (bytes_eq w (codes "vec")) (bytes_eq w (codes "tuple")) (bytes_eq w (codes "var")) (byte_is b 123) (other b which)
+    cases (b == 123) (bytes_eq w (codes "rec")) within (bytes_eq w (codes "vec")) (bytes_eq w (codes "tuple")) (bytes_eq w (codes "var"))
+    (byte_is b 123) (other b which)
     (word_is w (codes "rec")) (word_is w (codes "vec")) (word_is w (codes "tuple")) (word_is w (codes "var")) e
   where
     other : (n : ℕ) → ((n == 60) || (n == 123)) ≡ true → (n == 123) ≡ false → n ≡ 60
@@ -304,25 +346,31 @@ started_sound within w b o which e =
 
     cases : (brace r v c d f : Bool) → (brace ≡ true → b ≡ 123) → (brace ≡ false → b ≡ 60)
         → (r ≡ true → w ≡ codes "rec") → (c ≡ true → w ≡ codes "vec") → (d ≡ true → w ≡ codes "tuple") → (f ≡ true → w ≡ codes "var")
-        → cond brace (cond (r && not v) (Some (at_name [])) None) (cond c (Some in_list) (cond d (Some (in_tuple [])) (cond f (Some (in_choice v [])) None))) ≡ Some o → IsStarted v w b o
-    cases true true false c d f hb ha hr hc hd hf e = subst (IsStarted false w b) (some_is _ _ e) (rw (hb refl, hr refl) refl, (refl, refl, tt))
+        → cond brace (cond (r && not v) (Some (at_name [])) None)
+        (cond c (Some in_list) (cond d (Some (in_tuple [])) (cond f (Some (in_choice v [])) None))) ≡ Some o → IsStarted v w b o
+    cases true true false c d f hb ha hr hc hd hf e =
+        subst (IsStarted false w b) (some_is _ _ e) (rw (hb refl, hr refl) refl, (refl, refl, tt))
     cases true true true c d f hb ha hr hc hd hf e = cc
     cases true false v c d f hb ha hr hc hd hf e = cc
     cases false r v true d f hb ha hr hc hd hf e = subst (IsStarted v w b) (some_is _ _ e) (rw (ha refl, hc refl) refl, refl)
     cases false r v false true f hb ha hr hc hd hf e = subst (IsStarted v w b) (some_is _ _ e) (rw (ha refl, hd refl) refl, (refl, tt))
-    cases false r v false false true hb ha hr hc hd hf e = subst (IsStarted v w b) (some_is _ _ e) (rw (ha refl, hf refl) refl, (refl, refl, tt))
+    cases false r v false false true hb ha hr hc hd hf e =
+        subst (IsStarted v w b) (some_is _ _ e) (rw (ha refl, hf refl) refl, (refl, refl, tt))
     cases false r v false false false hb ha hr hc hd hf e = cc
 
-begin_reads : (stack : List Construct) (within : Bool) (done : Option Kind) (w : List ℕ) (b : ℕ) (t : State) → ((b == 60) || (b == 123)) ≡ true
+begin_reads : (stack : List OpenData) (within : Bool) (done : Option Kind) (w : List ℕ) (b : ℕ) (t : ReadingData)
+    → ((b == 60) || (b == 123)) ≡ true
     → GoodStack stack within → begin (record { stack = stack; within = within; done = done }) w b ≡ Some t
     → Reads ((stack_text stack ++ done_text done) ++ (w ++ b ∷ [])) t
 begin_reads stack within (Some k) w b t which g e = cc
 begin_reads stack within None w b t which g e = cases (started within w b) refl e
   where
-    s : State
+    s : ReadingData
     s = record { stack = stack; within = within; done = None }
 
-    cases : (r : Option Construct) → started within w b ≡ r → option_map (begun (record { stack = stack; within = within; done = None })) r ≡ Some t → Reads ((stack_text stack ++ []) ++ (w ++ b ∷ [])) t
+    cases : (r : Option OpenData) → started within w b ≡ r
+        → option_map (opened (record { stack = stack; within = within; done = None })) r ≡ Some t
+        → Reads ((stack_text stack ++ []) ++ (w ++ b ∷ [])) t
     cases None is e = cc
     cases (Some o) is e =
         let found = started_sound within w b o which is in
@@ -332,7 +380,7 @@ begin_reads stack within None w b t which g e = cases (started within w b) refl 
 behind : (a q u : List ℕ) → (a ++ (q ++ u)) ++ [] ≡ ((a ++ q) ++ []) ++ u
 behind a q u = rw (append-nil (a ++ (q ++ u)), append-nil (a ++ q)) (sym (append_assoc a q u))
 
-named_reads : (stack : List Construct) (within : Bool) (done : Option Kind) (w : List ℕ) (t : State)
+named_reads : (stack : List OpenData) (within : Bool) (done : Option Kind) (w : List ℕ) (t : ReadingData)
     → GoodStack stack within → named (record { stack = stack; within = within; done = done }) w ≡ Some t
     → Reads ((stack_text stack ++ done_text done) ++ (w ++ 58 ∷ [])) t
 named_reads stack within (Some k) w t g e = cc
@@ -351,19 +399,24 @@ named_reads (at_name ps ∷ os) within None w t g e = cases (is_name w) refl e
 
 -- all bytes
 
-delimited_reads : (s : State) (w : List ℕ) (b : ℕ) (t : State) → IsGood s → delimited true s w b ≡ Some t → Reads (state_text s ++ (w ++ b ∷ [])) t
+delimited_reads : (s : ReadingData) (w : List ℕ) (b : ℕ) (t : ReadingData) → IsGood s → delimited true s w b ≡ Some t
+    → Reads (state_text s ++ (w ++ b ∷ [])) t
 delimited_reads s w b t g e = cases ((b == 60) || (b == 123)) (b == 58) refl (byte_is b 58) e
   where
-    part_case : (r : Option Kind) → settled true s.done w ≡ r → option_and_then (λ k. place_on true s.within s.stack k b) r ≡ Some t → Reads (state_text s ++ (w ++ b ∷ [])) t
+    part_case : (r : Option Kind) → settled true s.done w ≡ r → option_and_then (λ k. place_on true s.within s.stack k b) r ≡ Some t
+        → Reads (state_text s ++ (w ++ b ∷ [])) t
     part_case None is e = cc
     part_case (Some k) is e =
         let found = settled_sound s.within s.done w k g.1 is in
         let same : stack_text s.stack ++ (spell k ++ b ∷ []) ≡ state_text s ++ (w ++ b ∷ []) =
-        rw found.0 (ap (λ (l : List ℕ). stack_text s.stack ++ l) (append_assoc (done_text s.done) w (b ∷ [])) ∙ sym (append_assoc (stack_text s.stack) (done_text s.done) (w ++ b ∷ []))) in
+        rw found.0
+        (ap (λ (l : List ℕ). stack_text s.stack ++ l) (append_assoc (done_text s.done) w (b ∷ []))
+        ∙ sym (append_assoc (stack_text s.stack) (done_text s.done) (w ++ b ∷ []))) in
         subst (λ (l : List ℕ). Reads l t) same (place_reads s.within s.stack k b t g.0 found.1 e)
 
     cases : (c d : Bool) → ((b == 60) || (b == 123)) ≡ c → (d ≡ true → b ≡ 58)
-        → cond c (begin s w b) (cond d (named s w) (option_and_then (λ k. place true s k b) (settled true s.done w))) ≡ Some t → Reads (state_text s ++ (w ++ b ∷ [])) t
+        → cond c (begin s w b) (cond d (named s w) (option_and_then (λ k. place true s k b) (settled true s.done w))) ≡ Some t
+        → Reads (state_text s ++ (w ++ b ∷ [])) t
     cases true d is colon e = begin_reads s.stack s.within s.done w b t is g.0 e
     cases false true is colon e = rw (colon refl) (named_reads s.stack s.within s.done w t g.0 e)
     cases false false is colon e = part_case (settled true s.done w) refl e
@@ -372,33 +425,37 @@ delimited_reads s w b t g e = cases ((b == 60) || (b == 123)) (b == 58) refl (by
 abbrev IsRead : List ℕ → Kind → Type 0
 IsRead bytes k = (spell k ≡ bytes) × IsType false k
 
-ended_read : (stack : List Construct) (within : Bool) (done : Option Kind) (w : List ℕ) (k : Kind) → GoodStack stack within → GoodDone within done
+ended_read : (stack : List OpenData) (within : Bool) (done : Option Kind) (w : List ℕ) (k : Kind) → GoodStack stack within
+    → GoodDone within done
     → option_and_then (ended_on stack) (settled true done w) ≡ Some k → IsRead ((stack_text stack ++ done_text done) ++ w) k
 ended_read stack within done w k g d e = cases stack (settled true done w) g refl e
   where
-    cases : (os : List Construct) (r : Option Kind) → GoodStack os within → settled true done w ≡ r → option_and_then (ended_on os) r ≡ Some k → IsRead ((stack_text os ++ done_text done) ++ w) k
+    cases : (os : List OpenData) (r : Option Kind) → GoodStack os within → settled true done w ≡ r
+        → option_and_then (ended_on os) r ≡ Some k → IsRead ((stack_text os ++ done_text done) ++ w) k
     cases os None g is e = cc
     cases [] (Some j) g is e =
         let found = settled_sound within done w k d (is ∙ e) in
         (found.0, subst (λ (v : Bool). IsType v k) g found.1)
     cases (o ∷ os) (Some j) g is e = cc
 
-read_sound : (s : State) (w bs : List ℕ) (k : Kind) → IsGood s → read true s w bs ≡ Some k → IsRead (state_text s ++ (w ++ bs)) k
+read_sound : (s : ReadingData) (w bs : List ℕ) (k : Kind) → IsGood s → read true s w bs ≡ Some k → IsRead (state_text s ++ (w ++ bs)) k
 read_sound s w [] k g e =
     subst (λ (l : List ℕ). IsRead (state_text s ++ l) k) (sym (append-nil w)) (ended_read s.stack s.within s.done w k g.0 g.1 e)
 read_sound s w (b ∷ bs) k g e =
     byte_case (is_word_byte b) (delimited true s w b) refl (λ e. read_sound s (w ++ b ∷ []) bs k g e) (λ t h f. read_sound t [] bs k h f) e
   where
-    after : (t : State) → Reads (state_text s ++ (w ++ b ∷ [])) t → IsRead (state_text t ++ bs) k → IsRead (state_text s ++ (w ++ b ∷ bs)) k
+    after : (t : ReadingData) → Reads (state_text s ++ (w ++ b ∷ [])) t → IsRead (state_text t ++ bs) k
+        → IsRead (state_text s ++ (w ++ b ∷ bs)) k
     after t r h =
         let same : state_text t ++ bs ≡ state_text s ++ (w ++ b ∷ bs) =
         rw r.0 (append_assoc (state_text s) (w ++ b ∷ []) bs ∙ ap (λ (l : List ℕ). state_text s ++ l) (append_assoc w (b ∷ []) bs)) in
         subst (λ (l : List ℕ). IsRead l k) same h
 
-    byte_case : (c : Bool) (r : Option State) → delimited true s w b ≡ r
+    byte_case : (c : Bool) (r : Option ReadingData) → delimited true s w b ≡ r
         → (read true s (w ++ b ∷ []) bs ≡ Some k → IsRead (state_text s ++ ((w ++ b ∷ []) ++ bs)) k)
-        → ((t : State) → IsGood t → read true t [] bs ≡ Some k → IsRead (state_text t ++ bs) k)
-        → cond c (read true s (w ++ b ∷ []) bs) (option_and_then (λ t. read true t [] bs) r) ≡ Some k → IsRead (state_text s ++ (w ++ b ∷ bs)) k
+        → ((t : ReadingData) → IsGood t → read true t [] bs ≡ Some k → IsRead (state_text t ++ bs) k)
+        → cond c (read true s (w ++ b ∷ []) bs) (option_and_then (λ t. read true t [] bs) r) ≡ Some k
+        → IsRead (state_text s ++ (w ++ b ∷ bs)) k
     byte_case true r is word delimiter e = subst (λ (l : List ℕ). IsRead (state_text s ++ l) k) (append_assoc w (b ∷ []) bs) (word e)
     byte_case false None is word delimiter e = cc
     byte_case false (Some t) is word delimiter e = let r = delimited_reads s w b t g is in after t r (delimiter t r.1 e)

@@ -3,10 +3,11 @@ use Rattle.std.proofs.Common.{ℕ, List, [], ◌∷◌, ◌++◌, ◌≡◌, ◌
 use Rattle.std.proofs.lemmas.Bool.Decides.{nat_tests}
 use Rattle.std.specs.Prelude.{◌⊎◌, option_and_then, nat_le, ◌&&◌, codes}
 use Rattle.std.specs.List.{list_all}
+use Rattle.nt_lists.proofs.Bools.{and_true}
 use Rattle.nt_types.specs.Kinds.{Kind, Kinds, Parts, Part, bool, char, byte, int, text, list, fields, tuple, choice, no_kinds, kind, no_parts, part, kinds_of, parts_of, kinds_list, parts_list}
 use Rattle.nt_types.specs.Words.{is_word_byte, is_name, leaf}
 use Rattle.nt_types.specs.Names.{names_differ}
-use Rattle.nt_types.specs.Reading.{Construct, in_list, at_name, in_member, in_tuple, in_choice, State, place_on, ended_on, read, read_kind}
+use Rattle.nt_types.specs.Reading.{OpenData, in_list, at_name, in_member, in_tuple, in_choice, ReadingData, place_on, ended_on, read, read_kind}
 use Rattle.nt_types.specs.Spelling.{spell, spell_more_kinds, spell_more_parts, is_width, IsType, AreKinds, AreMoreKinds, AreParts, AreMoreParts}
 
 -- what may follow a part
@@ -16,32 +17,30 @@ data IsEnd : List ℕ → Type 0 where
   at_angle : {bs : List ℕ} → IsEnd (62 ∷ bs)
   at_brace : {bs : List ℕ} → IsEnd (125 ∷ bs)
 
-abbrev inside : List Construct → Bool → State
+abbrev inside : List OpenData → Bool → ReadingData
 inside os within = record { stack = os; within = within; done = None }
 
 -- what is read once a part has ended
-abbrev after : List Construct → Bool → Kind → List ℕ → Option Kind
+abbrev after : List OpenData → Bool → Kind → List ℕ → Option Kind
 after os within k [] = ended_on os k
 after os within k (b ∷ bs) = option_and_then (λ t. read true t [] bs) (place_on true within os k b)
 
-after_leaf : (os : List Construct) (within : Bool) (w : List ℕ) (k : Kind) (rest : List ℕ) → leaf w ≡ Some k → IsEnd rest → read true (inside os within) w rest ≡ after os within k rest
+after_leaf : (os : List OpenData) (within : Bool) (w : List ℕ) (k : Kind) (rest : List ℕ) → leaf w ≡ Some k → IsEnd rest
+    → read true (inside os within) w rest ≡ after os within k rest
 after_leaf os within w k rest e at_end = rw e refl
 after_leaf os within w k rest e at_comma = rw e refl
 after_leaf os within w k rest e at_angle = rw e refl
 after_leaf os within w k rest e at_brace = rw e refl
 
-after_done : (os : List Construct) (within : Bool) (k : Kind) (rest : List ℕ) → IsEnd rest → read true (record { stack = os; within = within; done = Some k }) [] rest ≡ after os within k rest
+after_done : (os : List OpenData) (within : Bool) (k : Kind) (rest : List ℕ) → IsEnd rest
+    → read true (record { stack = os; within = within; done = Some k }) [] rest ≡ after os within k rest
 after_done os within k rest at_end = refl
 after_done os within k rest at_comma = refl
 after_done os within k rest at_angle = refl
 after_done os within k rest at_brace = refl
 
-and_true : (a b : Bool) → (a && b) ≡ true → (a ≡ true) × (b ≡ true)
-and_true true b e = (refl, e)
-and_true false b e = cc
-
 -- a word is read whole
-word_read : (s : State) (u w rest : List ℕ) → list_all is_word_byte w ≡ true → read true s u (w ++ rest) ≡ read true s (u ++ w) rest
+word_read : (s : ReadingData) (u w rest : List ℕ) → list_all is_word_byte w ≡ true → read true s u (w ++ rest) ≡ read true s (u ++ w) rest
 word_read s u [] rest e = rw append-nil refl
 word_read s u (b ∷ w) rest e =
     let both : (is_word_byte b ≡ true) × (list_all is_word_byte w ≡ true) = and_true _ _ e in
@@ -60,7 +59,7 @@ parts_of-list no_parts = refl
 parts_of-list (part n k ps) = ap (part n k) (parts_of-list ps)
 
 -- the name of a member is read, and the colon
-member_read : (os : List Construct) (acc : List Part) (n rest : List ℕ) → is_name n ≡ true
+member_read : (os : List OpenData) (acc : List Part) (n rest : List ℕ) → is_name n ≡ true
     → read true (inside (at_name acc ∷ os) false) [] (n ++ 58 ∷ rest) ≡ read true (inside (in_member acc n ∷ os) false) [] rest
 member_read os acc n rest e = word_read (inside (at_name acc ∷ os) false) [] n (58 ∷ rest) (name_bytes n e) ∙ rw e refl
 
@@ -111,23 +110,26 @@ few_tested : (n : ℕ) → n ≤ 100 → nat_le n 100 ≡ true
 few_tested n h = grind (arith, nat_tests)
 
 mutual
-  spelled : (k : Kind) (os : List Construct) (within : Bool) (rest : List ℕ) → IsType within k → IsEnd rest
+  spelled : (k : Kind) (os : List OpenData) (within : Bool) (rest : List ℕ) → IsType within k → IsEnd rest
       → read true (inside os within) [] (spell k ++ rest) ≡ after os within k rest
   spelled bool os within rest t e = after_leaf os within (codes "bool") bool rest refl e
   spelled char os within rest t e = after_leaf os within (codes "char") char rest refl e
   spelled byte os within rest t e = after_leaf os within (codes "byte") byte rest refl e
   spelled (int bits signed) os within rest t e =
       let facts = int_text bits signed t in
-      word_read (inside os within) [] (spell (int bits signed)) rest facts.1 ∙ after_leaf os within (spell (int bits signed)) (int bits signed) rest facts.0 e
+      word_read (inside os within) [] (spell (int bits signed)) rest facts.1
+      ∙ after_leaf os within (spell (int bits signed)) (int bits signed) rest facts.0 e
   spelled text os within rest t e = after_leaf os within (codes "string") text rest refl e
   spelled (list k) os within rest t e =
-      rw (append_assoc (spell k) (62 ∷ []) rest) (spelled k (in_list ∷ os) within (62 ∷ rest) t at_angle ∙ after_done os within (list k) rest e)
+      rw (append_assoc (spell k) (62 ∷ []) rest)
+      (spelled k (in_list ∷ os) within (62 ∷ rest) t at_angle ∙ after_done os within (list k) rest e)
   spelled (fields ps) os within rest t e =
-      subst (λ (v : Bool). read true (inside os v) [] (spell (fields ps) ++ rest) ≡ after os v (fields ps) rest) (sym t.0) (spelled_parts ps os rest t.1 t.2 e)
+      subst (λ (v : Bool). read true (inside os v) [] (spell (fields ps) ++ rest) ≡ after os v (fields ps) rest) (sym t.0)
+      (spelled_parts ps os rest t.1 t.2 e)
   spelled (tuple ks) os within rest t e = spelled_tuple ks os within rest t e
   spelled (choice ks) os within rest t e = spelled_choice ks os within rest t.0 t.1 e
 
-  spelled_tuple : (ks : Kinds) (os : List Construct) (within : Bool) (rest : List ℕ) → AreKinds within ks → IsEnd rest
+  spelled_tuple : (ks : Kinds) (os : List OpenData) (within : Bool) (rest : List ℕ) → AreKinds within ks → IsEnd rest
       → read true (inside os within) [] (spell (tuple ks) ++ rest) ≡ after os within (tuple ks) rest
   spelled_tuple no_kinds os within rest t e = absurd t
   spelled_tuple (kind k ks) os within rest t e =
@@ -136,8 +138,10 @@ mutual
       ∙ spelled_more_tuple ks [] k os within rest t.1 e
       ∙ ap (λ (l : Kinds). after os within (tuple (kind k l)) rest) (kinds_of-list ks))
 
-  spelled_more_tuple : (ks : Kinds) (acc : List Kind) (k : Kind) (os : List Construct) (within : Bool) (rest : List ℕ) → AreMoreKinds within ks → IsEnd rest
-      → after (in_tuple acc ∷ os) within k (spell_more_kinds ks ++ 62 ∷ rest) ≡ after os within (tuple (kinds_of (acc ++ k ∷ kinds_list ks))) rest
+  spelled_more_tuple : (ks : Kinds) (acc : List Kind) (k : Kind) (os : List OpenData) (within : Bool) (rest : List ℕ)
+      → AreMoreKinds within ks → IsEnd rest
+      → after (in_tuple acc ∷ os) within k (spell_more_kinds ks ++ 62 ∷ rest) ≡ after os within
+      (tuple (kinds_of (acc ++ k ∷ kinds_list ks))) rest
   spelled_more_tuple no_kinds acc k os within rest t e = after_done os within (tuple (kinds_of (acc ++ k ∷ []))) rest e
   spelled_more_tuple (kind k' ks) acc k os within rest t e =
       rw (append_assoc (spell k') (spell_more_kinds ks) (62 ∷ rest))
@@ -145,7 +149,8 @@ mutual
       ∙ spelled_more_tuple ks (acc ++ k ∷ []) k' os within rest t.1 e
       ∙ ap (λ (l : List Kind). after os within (tuple (kinds_of l)) rest) (append_assoc acc (k ∷ []) (k' ∷ kinds_list ks)))
 
-  spelled_choice : (ks : Kinds) (os : List Construct) (within : Bool) (rest : List ℕ) → length (kinds_list ks) ≤ 100 → AreKinds true ks → IsEnd rest
+  spelled_choice : (ks : Kinds) (os : List OpenData) (within : Bool) (rest : List ℕ) → length (kinds_list ks) ≤ 100 → AreKinds true ks
+      → IsEnd rest
       → read true (inside os within) [] (spell (choice ks) ++ rest) ≡ after os within (choice ks) rest
   spelled_choice no_kinds os within rest few t e = absurd t
   spelled_choice (kind k ks) os within rest few t e =
@@ -154,8 +159,10 @@ mutual
       ∙ spelled_more_choice ks [] k os within rest few t.1 e
       ∙ ap (λ (l : Kinds). after os within (choice (kind k l)) rest) (kinds_of-list ks))
 
-  spelled_more_choice : (ks : Kinds) (acc : List Kind) (k : Kind) (os : List Construct) (within : Bool) (rest : List ℕ) → length (acc ++ k ∷ kinds_list ks) ≤ 100 → AreMoreKinds true ks → IsEnd rest
-      → after (in_choice within acc ∷ os) true k (spell_more_kinds ks ++ 62 ∷ rest) ≡ after os within (choice (kinds_of (acc ++ k ∷ kinds_list ks))) rest
+  spelled_more_choice : (ks : Kinds) (acc : List Kind) (k : Kind) (os : List OpenData) (within : Bool) (rest : List ℕ)
+      → length (acc ++ k ∷ kinds_list ks) ≤ 100 → AreMoreKinds true ks → IsEnd rest
+      → after (in_choice within acc ∷ os) true k (spell_more_kinds ks ++ 62 ∷ rest) ≡ after os within
+      (choice (kinds_of (acc ++ k ∷ kinds_list ks))) rest
   spelled_more_choice no_kinds acc k os within rest few t e =
       rw (few_tested (length (acc ++ k ∷ [])) few) (after_done os within (choice (kinds_of (acc ++ k ∷ []))) rest e)
   spelled_more_choice (kind k' ks) acc k os within rest few t e =
@@ -165,19 +172,24 @@ mutual
       ∙ spelled_more_choice ks (acc ++ k ∷ []) k' os within rest (rw again few) t.1 e
       ∙ ap (λ (l : List Kind). after os within (choice (kinds_of l)) rest) again)
 
-  spelled_parts : (ps : Parts) (os : List Construct) (rest : List ℕ) → names_differ (parts_list ps) ≡ true → AreParts ps → IsEnd rest
+  spelled_parts : (ps : Parts) (os : List OpenData) (rest : List ℕ) → names_differ (parts_list ps) ≡ true → AreParts ps → IsEnd rest
       → read true (inside os false) [] (spell (fields ps) ++ rest) ≡ after os false (fields ps) rest
   spelled_parts no_parts os rest differ t e = absurd t
   spelled_parts (part n k ps) os rest differ t e =
-      rw (append_assoc (n ++ 58 ∷ (spell k ++ spell_more_parts ps)) (125 ∷ []) rest, append_assoc n (58 ∷ (spell k ++ spell_more_parts ps)) (125 ∷ rest), append_assoc (spell k) (spell_more_parts ps) (125 ∷ rest))
+      rw (
+        append_assoc (n ++ 58 ∷ (spell k ++ spell_more_parts ps)) (125 ∷ []) rest,
+        append_assoc n (58 ∷ (spell k ++ spell_more_parts ps)) (125 ∷ rest),
+        append_assoc (spell k) (spell_more_parts ps) (125 ∷ rest),
+      )
       (member_read os [] n (spell k ++ (spell_more_parts ps ++ 125 ∷ rest)) t.0
       ∙ spelled k (in_member [] n ∷ os) false (spell_more_parts ps ++ 125 ∷ rest) t.1 (end_parts ps rest)
       ∙ spelled_more_parts ps [] n k os rest differ t.2 e
       ∙ ap (λ (l : Parts). after os false (fields (part n k l)) rest) (parts_of-list ps))
 
-  spelled_more_parts : (ps : Parts) (acc : List Part) (n : List ℕ) (k : Kind) (os : List Construct) (rest : List ℕ)
+  spelled_more_parts : (ps : Parts) (acc : List Part) (n : List ℕ) (k : Kind) (os : List OpenData) (rest : List ℕ)
       → names_differ (acc ++ record { name = n; of = k } ∷ parts_list ps) ≡ true → AreMoreParts ps → IsEnd rest
-      → after (in_member acc n ∷ os) false k (spell_more_parts ps ++ 125 ∷ rest) ≡ after os false (fields (parts_of (acc ++ record { name = n; of = k } ∷ parts_list ps))) rest
+      → after (in_member acc n ∷ os) false k (spell_more_parts ps ++ 125 ∷ rest) ≡ after os false
+      (fields (parts_of (acc ++ record { name = n; of = k } ∷ parts_list ps))) rest
   spelled_more_parts no_parts acc n k os rest differ t e =
       rw differ (after_done os false (fields (parts_of (acc ++ record { name = n; of = k } ∷ []))) rest e)
   spelled_more_parts (part n' k' ps) acc n k os rest differ t e =

@@ -28,18 +28,22 @@ pub record Part : Type 0 where
   pub name : List ℕ
   pub of : Kind
 
+-- kinds as data of their own
 abbrev pub kinds_of : List Kind → Kinds
 kinds_of [] = no_kinds
 kinds_of (k ∷ ks) = kind k (kinds_of ks)
 
+-- kinds under names as data of their own
 abbrev pub parts_of : List Part → Parts
 parts_of [] = no_parts
 parts_of (p ∷ ps) = part p.name p.of (parts_of ps)
 
+-- the list of such kinds
 abbrev pub kinds_list : Kinds → List Kind
 kinds_list no_kinds = []
 kinds_list (kind k ks) = k ∷ kinds_list ks
 
+-- the list of such kinds under names
 abbrev pub parts_list : Parts → List Part
 parts_list no_parts = []
 parts_list (part n k ps) = record { name = n; of = k } ∷ parts_list ps

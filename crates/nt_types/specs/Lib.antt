@@ -1,4 +1,5 @@
 pub mod ColumnTable
+pub mod Limits
 pub mod Kinds
 pub mod Views
 pub mod Words
@@ -20,3 +21,5 @@ pub mod Rules
 pub mod TreeData
 pub mod TreeViews
 pub mod Fits
+pub mod TextSpelling
+pub mod TextAnswers

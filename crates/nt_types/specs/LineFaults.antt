@@ -5,9 +5,11 @@ use Rattle.nt_types.specs.declared.fault.LineError.TheVariants as lines
 use Rattle.nt_types.specs.declared.fault.SchemaError.{SchemaError}
 use Rattle.nt_types.specs.declared.fault.SchemaError.TheVariants as errors
 
+-- an error of a line, at its number
 abbrev pub at : LineError → ℕ → SchemaError
 at (lines.Kind k) n = errors.Fault (record { line = n; kind = k })
 at lines.Memory n = errors.Memory
 
+-- an error is that of this line
 abbrev pub IsAt : SchemaError → LineError → ℕ → Type 0
 IsAt error inner n = error ≡ at inner n

@@ -7,6 +7,7 @@ use Rattle.std.specs.Cmp.Lexicographic.{slice_cmp}
 use Rattle.std.specs.BTreeSet.{BTreeSet, contains}
 use Rattle.nt_types.specs.Names.{has_name}
 
+-- the order of borrowed byte strings
 abbrev pub slices_cmp : Bor (List ℕ) → Bor (List ℕ) → Ordering
 slices_cmp a b = slice_cmp nat_cmp a.now b.now
 

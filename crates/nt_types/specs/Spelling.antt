@@ -3,6 +3,7 @@ use Rattle.std.specs.Prelude.{ℕ, Bool, true, false, ◌≡◌, ◌≤◌, ◌+
 use Rattle.nt_types.specs.Kinds.{Kind, Kinds, Parts, bool, char, byte, int, text, list, fields, tuple, choice, no_kinds, kind, no_parts, part, kinds_list, parts_list}
 use Rattle.nt_types.specs.Words.{is_name}
 use Rattle.nt_types.specs.Names.{names_differ}
+use Rattle.nt_types.specs.Limits.{max_alternatives}
 
 -- a width in digits
 abbrev pub digits : ℕ → List ℕ
@@ -37,6 +38,7 @@ abbrev mutual
   spell_more_parts no_parts = []
   spell_more_parts (part n k ps) = 44 ∷ (n ++ 58 ∷ (spell k ++ spell_more_parts ps))
 
+-- one of the widths of integers
 abbrev pub is_width : ℕ → Bool
 is_width bits = (bits == 8) || (bits == 16) || (bits == 32) || (bits == 64)
 
@@ -52,7 +54,7 @@ abbrev mutual
   IsType within (list k) = IsType within k
   IsType within (fields ps) = (within ≡ false) × (names_differ (parts_list ps) ≡ true) × AreParts ps
   IsType within (tuple ks) = AreKinds within ks
-  IsType within (choice ks) = (length (kinds_list ks) ≤ 100) × AreKinds true ks
+  IsType within (choice ks) = (length (kinds_list ks) ≤ max_alternatives) × AreKinds true ks
 
   -- one kind at least
   pub AreKinds : Bool → Kinds → Type 0

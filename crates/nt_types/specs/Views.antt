@@ -19,12 +19,15 @@ shape_step (Shape-F.Rec members) = fields (parts_of members)
 shape_step (Shape-F.Tuple shapes) = tuple (kinds_of shapes)
 shape_step (Shape-F.Choice shapes) = choice (kinds_of shapes)
 
+-- several at one level
 abbrev pub shapes_step : Shapes-F Kind Part (List Part) (List Kind) → List Kind
 shapes_step s = s.list.items
 
+-- a member, whose inside is already seen
 abbrev pub member_step : Member-F Kind Part (List Part) (List Kind) → Part
 member_step m = record { name = m.name; of = m.of }
 
+-- several members
 abbrev pub members_step : Members-F Kind Part (List Part) (List Kind) → List Part
 members_step m = m.list.items
 

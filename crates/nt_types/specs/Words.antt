@@ -2,8 +2,10 @@
 use Rattle.std.specs.Prelude.{ℕ, Bool, true, false, List, [], ◌∷◌, length, Option, Some, None, option_map, nat_le, ◌==◌, ◌&&◌, ◌||◌, not, codes, if◌then◌else◌}
 use Rattle.std.specs.List.{list_all}
 use Rattle.std.specs.Str.{bytes_eq}
+use Rattle.nt_types.specs.Limits.{max_name}
 use Rattle.nt_types.specs.Kinds.{Kind, bool, char, byte, int, text}
 
+-- an ASCII digit
 abbrev pub is_digit : ℕ → Bool
 is_digit b = nat_le 48 b && nat_le b 57
 
@@ -22,7 +24,7 @@ is_space b = (b == 32) || (b == 9) || (b == 13)
 -- a name has 1 to 255 letters, digits or `_`, and no digit comes first
 abbrev pub is_name : List ℕ → Bool
 is_name [] = false
-is_name (b ∷ bs) = not (is_digit b) && nat_le (length (b ∷ bs)) 255 && list_all is_word_byte (b ∷ bs)
+is_name (b ∷ bs) = not (is_digit b) && nat_le (length (b ∷ bs)) max_name && list_all is_word_byte (b ∷ bs)
 
 -- the widths of integers, in digits
 abbrev pub width : List ℕ → Option ℕ
@@ -32,6 +34,7 @@ width w = if bytes_eq w (codes "8") then Some 8
     else if bytes_eq w (codes "64") then Some 64
     else None
 
+-- an integer of the width that these digits stand for
 abbrev pub int_of : List ℕ → Bool → Option Kind
 int_of w signed = option_map (λ bits. int bits signed) (width w)
 

@@ -2,8 +2,10 @@
 
 ghost use Rattle.std.specs.Prelude.{◌≡◌, map, option_map};
 ghost use Rattle.nt_types.specs.Views.{shape_view, member_view};
-ghost use Rattle.nt_types.specs.Reading.{put, within_after, started, within_inside, tuple_on, choice_on, fields_on};
-ghost use Rattle.nt_types.specs.ConstructViews.{Gives, open_view, placed_view};
+ghost use Rattle.nt_types.specs.Reading.{put, within_after, started, within_inside, tuple_on, choice_on, members_on};
+ghost use Rattle.nt_lists.specs.Answers.{IsAnswer};
+ghost use Rattle.nt_types.specs.ConstructViews.{open_view, placed_view};
+ghost use Rattle.nt_types.specs.FaultViews.{type_fault, or_malformed};
 
 use crate::fault::TypeError;
 use crate::name::Name;
@@ -53,8 +55,9 @@ fn choice_on(within: bool, shapes: Vec<Shape>, after: u8) -> Option<Placed>
     }
 }
 
-fn fields_on(alloc: Global, members: Vec<Member>, after: u8) -> Result<Placed, TypeError>
-    ensures { Gives placed_view result (fields_on (map member_view members.items) after) }
+fn members_on(alloc: Global, members: Vec<Member>, after: u8) -> Result<Placed, TypeError>
+    ensures { IsAnswer placed_view type_fault result
+        (or_malformed (members_on (map member_view members.items) after)) }
 {
     match after {
         b',' => Ok(Placed::Goes(Open::Name(members))),
@@ -76,7 +79,8 @@ pub(crate) fn put(
     part: Shape,
     after: u8,
 ) -> Result<Placed, TypeError>
-    ensures { Gives placed_view result (put (open_view construct) (shape_view part) after) }
+    ensures { IsAnswer placed_view type_fault result
+        (or_malformed (put (open_view construct) (shape_view part) after)) }
 {
     match construct {
         Open::List => match after {
@@ -86,7 +90,7 @@ pub(crate) fn put(
         Open::Name(_) => Err(TypeError::Malformed),
         Open::Member(mut members, name) => {
             members.push(Member { name, of: part })?;
-            fields_on(alloc, members, after)
+            members_on(alloc, members, after)
         }
         Open::Tuple(mut shapes) => {
             shapes.push(part)?;

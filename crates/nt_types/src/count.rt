@@ -3,6 +3,7 @@
 ghost use Rattle.std.specs.Prelude.{◌≡◌, ◌≤◌, ◌+◌, min, map};
 ghost use Rattle.nt_types.specs.Views.{shape_view, member_view};
 ghost use Rattle.nt_types.specs.Kinds.{kinds_of, parts_of};
+ghost use Rattle.nt_types.specs.Limits.{too_many};
 ghost use Rattle.nt_types.specs.Schema.{field_count, kinds_count, parts_count};
 
 use crate::shape::{Member, Shape};
@@ -13,8 +14,8 @@ const TOO_MANY: u32 = 4097;
 /// The fields of a shape, those inside of others included, beside so many before it. It stands still at 4097.
 #[cycle(count)]
 pub(crate) fn count_fields(shape: &Shape, before: u32) -> u32
-    requires { before ≤ 4097 }
-    ensures { result ≡ min 4097 (before + field_count (shape_view shape.now)) }
+    requires { before ≤ too_many }
+    ensures { result ≡ min too_many (before + field_count (shape_view shape.now)) }
 {
     let now = TOO_MANY.min(before + 1);
     match shape {
@@ -28,8 +29,8 @@ pub(crate) fn count_fields(shape: &Shape, before: u32) -> u32
 
 #[cycle(count)]
 fn count_shapes(shapes: &[Shape], before: u32) -> u32
-    requires { before ≤ 4097 }
-    ensures { result ≡ min 4097 (before + kinds_count (kinds_of (map shape_view shapes.now))) }
+    requires { before ≤ too_many }
+    ensures { result ≡ min too_many (before + kinds_count (kinds_of (map shape_view shapes.now))) }
 {
     let mut now = before;
     for shape in shapes {
@@ -40,8 +41,9 @@ fn count_shapes(shapes: &[Shape], before: u32) -> u32
 
 #[cycle(count)]
 fn count_members(members: &[Member], before: u32) -> u32
-    requires { before ≤ 4097 }
-    ensures { result ≡ min 4097 (before + parts_count (parts_of (map member_view members.now))) }
+    requires { before ≤ too_many }
+    ensures { result ≡ min too_many
+        (before + parts_count (parts_of (map member_view members.now))) }
 {
     let mut now = before;
     for member in members {

@@ -22,7 +22,7 @@ mod word;
 pub use column_type::ColumnType;
 pub use fault::{SchemaError, SchemaFault, SchemaKind};
 pub use fit::fits;
-pub use laws::texts_have_fields;
+pub use laws::{texts_are_read, texts_have_fields};
 pub use member::parse_member;
 pub use name::Name;
 pub use nt_bytes::Bytes;

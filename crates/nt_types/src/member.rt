@@ -1,12 +1,15 @@
 //! The member that one line spells.
 
-ghost use Rattle.std.specs.Prelude.{◌≡◌, IfOk};
+ghost use Rattle.std.specs.Prelude.{◌≡◌, IfOk, Ok, Err};
 ghost use Rattle.nt_types.specs.Views.{shape_view, member_view};
 ghost use Rattle.nt_types.specs.Lines.{member_of, under_name};
 ghost use Rattle.nt_types.specs.Kinds.{Part};
-ghost use Rattle.nt_types.specs.Schema.{member_text};
-ghost use Rattle.nt_types.specs.LineSpelling.{IsMember};
-ghost use Rattle.nt_types.specs.FaultViews.{GivesLine, GivesText};
+ghost use Rattle.nt_types.specs.Schema.{member_text, at_line};
+ghost use Rattle.nt_types.specs.LineSpelling.{IsMember, HasFault};
+ghost use Rattle.nt_types.specs.TextAnswers.{TellsLine};
+ghost use Rattle.nt_types.specs.declared.fault.SchemaKind.{SchemaKind};
+ghost use Rattle.nt_lists.specs.Answers.{IsAnswer};
+ghost use Rattle.nt_types.specs.FaultViews.{line_fault, schema_fault};
 
 use crate::fault::{LineError, SchemaError, SchemaKind};
 use crate::line::{split_line, type_of};
@@ -25,7 +28,7 @@ pub(crate) fn under_name(alloc: Global, name: &[u8], of: Shape) -> Result<Member
 }
 
 fn member_of(alloc: Global, line: &[u8]) -> Result<Member, LineError>
-    ensures { GivesLine member_view result (member_of line.now) }
+    ensures { IsAnswer member_view line_fault result (member_of line.now) }
 {
     let Some((name, text)) = split_line(line) else {
         return Err(LineError::Kind(SchemaKind::BadName));
@@ -36,18 +39,20 @@ fn member_of(alloc: Global, line: &[u8]) -> Result<Member, LineError>
 
 /// Reads one line of a schema text, without its LF. A fault has line 0.
 pub fn parse_member(alloc: Global, line: &[u8]) -> Result<Member, SchemaError>
-    // What is read is spelled so.
-    ensures found { IfOk result (λ m. IsMember line.now (member_view m)) }
-    // What is spelled so is read, unless memory runs out.
-    ensures only { (p : Part) → IsMember line.now p → GivesText member_view result (Ok p) }
-    // Which fault it is.
-    ensures exact { GivesText member_view result (member_text line.now) }
+    // The member that the line spells, or what is wrong with the line.
+    ensures told { TellsLine line.now result }
+    // A member that the line spells is read, unless memory runs out.
+    ensures only { (p : Part) → IsMember line.now p
+        → IsAnswer member_view schema_fault result (Ok p) }
+    // What is wrong is answered, unless memory runs out; TooDeep of each type that nests too deep.
+    ensures each { (kind : SchemaKind) → HasFault line.now kind
+        → IsAnswer member_view schema_fault result (Err (at_line 0 kind)) }
 {
     read_member(alloc, line)
 }
 
 fn read_member(alloc: Global, line: &[u8]) -> Result<Member, SchemaError>
-    ensures { GivesText member_view result (member_text line.now) }
+    ensures { IsAnswer member_view schema_fault result (member_text line.now) }
 {
     match member_of(alloc, line) {
         Ok(member) => Ok(member),

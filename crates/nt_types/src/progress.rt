@@ -3,9 +3,11 @@
 ghost use Rattle.std.specs.Prelude.{◌≡◌, ◌≤◌, ◌+◌, ℕ, List, IfOk};
 ghost use Rattle.nt_types.specs.Views.{shape_view};
 ghost use Rattle.nt_types.specs.Kinds.{Part};
+ghost use Rattle.nt_types.specs.Limits.{max_fields};
 ghost use Rattle.nt_types.specs.Seen.{Knows};
 ghost use Rattle.nt_types.specs.Schema.{field_of, field_count, part_under};
-ghost use Rattle.nt_types.specs.FaultViews.{GivesLine};
+ghost use Rattle.nt_lists.specs.Answers.{IsAnswer};
+ghost use Rattle.nt_types.specs.FaultViews.{line_fault};
 
 use crate::count::count_fields;
 use crate::fault::{LineError, SchemaKind};
@@ -24,7 +26,7 @@ pub(crate) struct Progress<'a> {
     pub(crate) seen: BTreeSet<&'a [u8]>,
     pub(crate) count: u32,
     pub(crate) members: Vec<Member>,
-    ghost few: { count ≤ 4096 },
+    ghost few: { count ≤ max_fields },
 }
 
 /// The name and the shape of a line's field, beside these names and so many fields before it.
@@ -34,9 +36,11 @@ fn field_of<'a>(
     before: u32,
     line: &'a [u8],
 ) -> Result<(&'a [u8], Shape), LineError>
-    requires { before ≤ 4096 }
-    ensures few { IfOk result (λ x. before + field_count (shape_view x.1) ≤ 4096) }
-    ensures field { (names : List (List ℕ)) → Knows seen.now names → GivesLine (λ x. part_under x.0.now (shape_view x.1)) result (field_of names before line.now) }
+    requires { before ≤ max_fields }
+    ensures few { IfOk result (λ x. before + field_count (shape_view x.1) ≤ max_fields) }
+    ensures field { (names : List (List ℕ)) → Knows seen.now names
+        → IsAnswer (λ x. part_under x.0.now (shape_view x.1)) line_fault result
+        (field_of names before line.now) }
 {
     let Some((name, text)) = split_line(line) else {
         return Err(LineError::Kind(SchemaKind::BadName));
@@ -67,7 +71,8 @@ impl<'a> Progress<'a> {
 
     /// Adds the field of the next line, unless the line is blank.
     pub(crate) fn take_line(&mut self, alloc: Global, line: &'a [u8]) -> Result<(), LineError>
-        ensures { (s : schema.Progress) → Follows self.old s → TakesLine s.line self.new result (schema.take_line s line.now) }
+        ensures { (s : schema.ProgressData) → Follows self.old s
+            → TakesLine s.line self.new result (schema.take_line s line.now) }
     {
         if is_blank_line(line) {
             return Ok(());

@@ -2,8 +2,10 @@
 
 ghost use Rattle.std.specs.Prelude.{◌≡◌, [], ◌∷◌, None, option_map, OnOk, MatchOption};
 ghost use Rattle.nt_types.specs.Views.{shape_view};
-ghost use Rattle.nt_types.specs.Reading.{place, begin, named, settled, delimited, ended, start, kept};
-ghost use Rattle.nt_types.specs.ConstructViews.{Gives, open_view, stack_view};
+ghost use Rattle.nt_types.specs.Reading.{place, begin, named, settled, delimited, text_ended, start, kind_kept};
+ghost use Rattle.nt_lists.specs.Answers.{IsAnswer};
+ghost use Rattle.nt_types.specs.ConstructViews.{open_view, stack_view};
+ghost use Rattle.nt_types.specs.FaultViews.{type_fault, or_malformed};
 
 use crate::construct::{Open, Placed, put, started, within_after, within_inside};
 use crate::fault::TypeError;
@@ -12,8 +14,8 @@ use crate::shape::Shape;
 use crate::word::{is_name, leaf};
 use std::alloc::{AllocError, Global};
 
-fn kept(keep: bool, shape: Shape) -> Shape
-    ensures { shape_view result ≡ kept keep (shape_view shape) }
+fn kind_kept(keep: bool, shape: Shape) -> Shape
+    ensures { shape_view result ≡ kind_kept keep (shape_view shape) }
 {
     if keep { shape } else { Shape::Bool }
 }
@@ -24,7 +26,7 @@ fn settled(keep: bool, done: Option<Shape>, word: &[u8]) -> Option<Shape>
 {
     match done {
         None => match leaf(word) {
-            Some(shape) => Some(kept(keep, shape)),
+            Some(shape) => Some(kind_kept(keep, shape)),
             None => None,
         },
         Some(shape) => match word {
@@ -36,7 +38,8 @@ fn settled(keep: bool, done: Option<Shape>, word: &[u8]) -> Option<Shape>
 
 #[tactic(auto, using(crate::proofs::Stack::stack_pushed))]
 fn pushed(stack: &mut Vec<Open>, inner: Open) -> Result<(), AllocError>
-    ensures { OnOk result (stack_view stack.new.items ≡ open_view inner ∷ stack_view stack.old.items) }
+    ensures { OnOk result
+        (stack_view stack.new.items ≡ open_view inner ∷ stack_view stack.old.items) }
 {
     stack.push(inner)?;
     Ok(())
@@ -44,7 +47,8 @@ fn pushed(stack: &mut Vec<Open>, inner: Open) -> Result<(), AllocError>
 
 #[tactic(auto, using(crate::proofs::Stack::stack_popped))]
 fn popped(stack: &mut Vec<Open>) -> Option<Open>
-    ensures { MatchOption result (stack_view stack.old.items ≡ []) (λ o. stack_view stack.old.items ≡ open_view o ∷ stack_view stack.new.items) }
+    ensures { MatchOption result (stack_view stack.old.items ≡ [])
+        (λ o. stack_view stack.old.items ≡ open_view o ∷ stack_view stack.new.items) }
 {
     stack.pop()
 }
@@ -80,7 +84,8 @@ impl Reading {
     /// A part has ended, and this byte follows it.
     fn place(&mut self, alloc: Global, part: Shape, after: u8) -> Result<(), TypeError>
         requires { self.old.done ≡ None }
-        ensures state { Gives (λ _. state_view self.new) result (place self.old.keep (state_view self.old) (shape_view part) after) }
+        ensures state { IsAnswer (λ _. state_view self.new) type_fault result
+            (or_malformed (place self.old.keep (state_view self.old) (shape_view part) after)) }
         ensures keep { self.new.keep ≡ self.old.keep }
     {
         let Some(outer) = popped(&mut self.stack) else {
@@ -91,7 +96,7 @@ impl Reading {
             Placed::Goes(outer) => pushed(&mut self.stack, outer)?,
             Placed::Ends(shape) => {
                 self.within = within;
-                self.done = Some(kept(self.keep, shape));
+                self.done = Some(kind_kept(self.keep, shape));
             }
         }
         Ok(())
@@ -99,7 +104,8 @@ impl Reading {
 
     /// A construct begins.
     fn begin(&mut self, alloc: Global, word: &[u8], after: u8) -> Result<(), TypeError>
-        ensures state { Gives (λ _. state_view self.new) result (begin (state_view self.old) word.now after) }
+        ensures state { IsAnswer (λ _. state_view self.new) type_fault result
+            (or_malformed (begin (state_view self.old) word.now after)) }
         ensures keep { self.new.keep ≡ self.old.keep }
     {
         if self.done.is_some() {
@@ -115,7 +121,8 @@ impl Reading {
 
     /// The name of a member stands before its type.
     fn name(&mut self, alloc: Global, word: &[u8]) -> Result<(), TypeError>
-        ensures state { Gives (λ _. state_view self.new) result (named (state_view self.old) word.now) }
+        ensures state { IsAnswer (λ _. state_view self.new) type_fault result
+            (or_malformed (named (state_view self.old) word.now)) }
         ensures keep { self.new.keep ≡ self.old.keep }
     {
         if self.done.is_some() {
@@ -136,7 +143,8 @@ impl Reading {
 
     /// A word has ended, and this byte of no word follows it.
     pub(crate) fn delimit(&mut self, alloc: Global, word: &[u8], after: u8) -> Result<(), TypeError>
-        ensures state { Gives (λ _. state_view self.new) result (delimited self.old.keep (state_view self.old) word.now after) }
+        ensures state { IsAnswer (λ _. state_view self.new) type_fault result
+            (or_malformed (delimited self.old.keep (state_view self.old) word.now after)) }
         ensures keep { self.new.keep ≡ self.old.keep }
     {
         match after {
@@ -151,7 +159,7 @@ impl Reading {
 
     /// The text ends after this word.
     pub(crate) fn end(mut self, word: &[u8]) -> Option<Shape>
-        ensures { option_map shape_view result ≡ ended self.keep (state_view self) word.now }
+        ensures { option_map shape_view result ≡ text_ended self.keep (state_view self) word.now }
     {
         let Some(part) = settled(self.keep, self.done.take(), word) else {
             return None;

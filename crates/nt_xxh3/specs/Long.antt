@@ -3,7 +3,8 @@
 use Rattle.std.specs.Prelude.{◌≡◌, ℕ, zero, suc, ◌+◌, ◌*◌, ◌-◌, ◌/◌, ◌%◌, ◌^◌, List, [], ◌∷◌, ◌++◌, length, take, drop, slice_index, bit_xor, nat_eq, if◌then◌else◌}
 use Rattle.nt_xxh3.specs.declared.constants.TheConstants.{SECRET}
 use Rattle.nt_xxh3.specs.Primes.{P32_1, P32_2, P32_3, P64_1, P64_2, P64_3, P64_4, P64_5}
-use Rattle.nt_xxh3.specs.Steps.{word_at, xor_shift, fold, avalanche, sum_below}
+use Rattle.nt_lists.specs.Places.{word_at}
+use Rattle.nt_xxh3.specs.Steps.{xor_shift, fold, avalanche, sum_below}
 
 -- the accumulators at the start
 abbrev pub initial_lanes : List ℕ

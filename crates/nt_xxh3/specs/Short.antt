@@ -3,7 +3,8 @@ use Rattle.std.specs.Prelude.{ℕ, ◌+◌, ◌*◌, ◌-◌, ◌/◌, ◌%◌, 
 use Rattle.std.specs.Int.{w64, rotate_left, swap_bytes}
 use Rattle.nt_xxh3.specs.declared.constants.TheConstants.{SECRET}
 use Rattle.nt_xxh3.specs.Primes.{MX2}
-use Rattle.nt_xxh3.specs.Steps.{half_word_at, word_at, xor_shift, avalanche_64, avalanche, fold}
+use Rattle.nt_lists.specs.Places.{half_word_at, word_at}
+use Rattle.nt_xxh3.specs.Steps.{xor_shift, avalanche_64, avalanche, fold}
 
 -- no bytes: the secret alone
 unfoldable pub of_none : ℕ

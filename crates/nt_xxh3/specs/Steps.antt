@@ -1,17 +1,9 @@
 -- XXH3 description, the steps that several lengths share. Sums and products of 64-bit words are
 -- modulo 2 ^ 64, and words are read with the lowest byte first.
-use Rattle.std.specs.Prelude.{ℕ, zero, suc, ◌+◌, ◌*◌, ◌/◌, ◌%◌, ◌^◌, List, drop, bit_xor}
-use Rattle.std.specs.Int.{w32, w64, from_le_bytes}
+use Rattle.std.specs.Prelude.{ℕ, zero, suc, ◌+◌, ◌*◌, ◌/◌, ◌%◌, ◌^◌, List, bit_xor}
+use Rattle.nt_lists.specs.Places.{word_at}
 use Rattle.nt_xxh3.specs.declared.constants.TheConstants.{SECRET}
 use Rattle.nt_xxh3.specs.Primes.{P64_2, P64_3, MX1}
-
--- the 32-bit word at a place
-abbrev pub half_word_at : List ℕ → ℕ → ℕ
-half_word_at bytes at = from_le_bytes w32 (drop at bytes)
-
--- the 64-bit word at a place
-abbrev pub word_at : List ℕ → ℕ → ℕ
-word_at bytes at = from_le_bytes w64 (drop at bytes)
 
 -- a word, exclusive or itself shifted to the right
 abbrev pub xor_shift : ℕ → ℕ → ℕ

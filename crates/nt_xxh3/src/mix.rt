@@ -1,7 +1,8 @@
 //! The steps that several lengths share.
 
 ghost use Rattle.std.specs.Prelude.{◌≡◌, ◌+◌, ◌≤◌, length};
-ghost use Rattle.nt_xxh3.specs.Steps.{half_word_at, word_at, fold, mix, avalanche, avalanche_64};
+ghost use Rattle.nt_lists.specs.Places.{half_word_at, word_at};
+ghost use Rattle.nt_xxh3.specs.Steps.{fold, mix, avalanche, avalanche_64};
 
 use crate::constants::{PRIME_MX1, PRIME64_2, PRIME64_3, SECRET};
 

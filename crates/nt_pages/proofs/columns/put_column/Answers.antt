@@ -2,7 +2,7 @@ use Rattle.std.proofs.Common.{◌≡◌, ◌∷◌, ◌++◌, ◌+◌, ◌<◌, 
 use Rattle.nt_book.specs.declared.meta.PageMeta.{PageMeta}
 use Rattle.std.proofs.lemmas.List.{drop_more, length-append}
 use Rattle.nt_column.specs.Elements.{Element}
-use Rattle.nt_column.specs.Chunks.{chunks}
+use Rattle.nt_lists.specs.Chunks.{chunks}
 use Rattle.nt_pages.specs.Image.{stored_page}
 use Rattle.nt_pages.proofs.Pages.{bytes-next, place-next, metas-next}
 use Rattle.nt_pages.proofs.columns.put_column.Goals as goal

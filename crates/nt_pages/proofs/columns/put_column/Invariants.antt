@@ -1,6 +1,6 @@
 use Rattle.std.proofs.Common.{◌≡◌, ◌++◌, ◌-◌, ◌≤◌, length, drop}
 use Rattle.std.specs.List.{flat_map}
-use Rattle.nt_column.specs.Chunks.{chunks}
+use Rattle.nt_lists.specs.Chunks.{chunks}
 use Rattle.nt_pages.specs.Image.{stored_page, column_bytes}
 use Rattle.nt_pages.specs.Metas.{page_metas}
 use Rattle.nt_pages.proofs.columns.put_column.Given as goal

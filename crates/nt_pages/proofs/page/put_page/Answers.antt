@@ -1,5 +1,5 @@
 use Rattle.std.proofs.Common.{arith}
-use Rattle.nt_pages.proofs.Groups.{chunk-begins, chunk-read}
+use Rattle.nt_lists.proofs.Groups.{chunk-begins, chunk-read}
 use Rattle.nt_pages.proofs.page.put_page.Goals as goal
 
 pub overflow_mul-from : goal.overflow_mul-from

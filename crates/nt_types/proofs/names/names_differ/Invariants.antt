@@ -5,4 +5,6 @@ use Rattle.nt_types.specs.Seen.{Knows}
 use Rattle.nt_types.proofs.names.names_differ.Given as goal
 
 abbrev pub invariant-loop-member : goal.invariant-loop-member
-invariant-loop-member l = (seen : List (List ℕ)) × Knows l.seen seen × (are_new seen (map member_view (drop l.member-index l.members)) ≡ names_differ (map member_view l.members))
+invariant-loop-member l =
+    (seen : List (List ℕ)) × Knows l.seen seen ×
+    (are_new seen (map member_view (drop l.member-index l.members)) ≡ names_differ (map member_view l.members))

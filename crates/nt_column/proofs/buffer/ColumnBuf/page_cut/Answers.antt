@@ -1,6 +1,6 @@
 use Rattle.std.proofs.Common.{ℕ, ap, sym, ◌∙◌}
 use Rattle.std.specs.Int.{div_ceil}
-use Rattle.nt_column.proofs.Groups.{length-chunks}
+use Rattle.nt_lists.proofs.Groups.{length-chunks}
 use Rattle.nt_column.proofs.buffer.ColumnBuf.page_cut.Goals as goal
 
 pub returns : goal.returns

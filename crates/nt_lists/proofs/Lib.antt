@@ -1,0 +1,5 @@
+pub mod Bools
+pub mod Variants
+pub mod Fronts
+pub mod Groups
+pub mod Places

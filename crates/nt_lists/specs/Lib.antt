@@ -1,0 +1,4 @@
+pub mod Chunks
+pub mod Places
+pub mod Answers
+pub mod Chaining
