@@ -7,3 +7,5 @@ pub mod Locators
 pub mod Sum
 pub mod Envelopes
 pub mod OneReading
+pub mod Chains
+pub mod Placed
