@@ -4,7 +4,7 @@ use Rattle.std.specs.List.{concat}
 use Rattle.std.specs.Int.{w16, w32, w64, to_be_bytes}
 use Rattle.nt_num.specs.Cursor.{big}
 use Rattle.nt_xxh3.specs.Sum.{xxh3}
-use Rattle.nt_format.specs.Reading.{standing}
+use Rattle.nt_format.specs.Reading.{ReadsAs, standing}
 use Rattle.nt_format.proofs.Steps.{part_again}
 use Rattle.nt_format.proofs.Sum.{xxh3_below}
 use Rattle.nt_container.specs.declared.anchor.Anchor.{Anchor}
@@ -12,12 +12,12 @@ use Rattle.nt_format.specs.Demands.{bytes_at}
 use Rattle.nt_container.specs.Anchors.{fields_of, envelopes_at, anchor_in, anchor_from}
 use Rattle.nt_container.specs.Spelling.{envelopes, anchor_fields, anchor_object}
 use Rattle.nt_container.specs.Finished.{IsAnchor}
-use Rattle.nt_format.proofs.Chains.{Reads, spread, total, of_parts}
+use Rattle.nt_format.proofs.Chains.{spread, total, of_parts}
 use Rattle.nt_container.proofs.Words.{word_16, word_64, plain_bytes}
 
-envelopes-chain : (a b c d e f : List ℕ) (header header_size header_len footer footer_size footer_len : ℕ) → Reads (big w64) a header → Reads (big w64) b header_size → Reads (big w64) c header_len
-    → Reads (big w64) d footer → Reads (big w64) e footer_size → Reads (big w64) f footer_len
-    → Reads envelopes_at (concat (a ∷ b ∷ c ∷ d ∷ e ∷ f ∷ [])) (record { header = header; header_size = header_size; header_len = header_len; footer = footer; footer_size = footer_size; footer_len = footer_len })
+envelopes-chain : (a b c d e f : List ℕ) (header header_size header_len footer footer_size footer_len : ℕ) → ReadsAs (big w64) a header → ReadsAs (big w64) b header_size → ReadsAs (big w64) c header_len
+    → ReadsAs (big w64) d footer → ReadsAs (big w64) e footer_size → ReadsAs (big w64) f footer_len
+    → ReadsAs envelopes_at (concat (a ∷ b ∷ c ∷ d ∷ e ∷ f ∷ [])) (record { header = header; header_size = header_size; header_len = header_len; footer = footer; footer_size = footer_size; footer_len = footer_len })
 unfolding envelopes_at
 envelopes-chain a b c d e f header header_size header_len footer footer_size footer_len p q r s t u =
     of_parts envelopes_at (a ∷ b ∷ c ∷ d ∷ e ∷ f ∷ []) (record { header = header; header_size = header_size; header_len = header_len; footer = footer; footer_size = footer_size; footer_len = footer_len }) λ place rest.
@@ -30,14 +30,14 @@ envelopes-chain a b c d e f header header_size header_len footer footer_size foo
       u (total place (a ∷ b ∷ c ∷ d ∷ e ∷ [])) rest,
     ) refl
 
-pub envelopes_read : (a : Anchor) → IsAnchor a → Reads envelopes_at (envelopes a) a
+pub envelopes_read : (a : Anchor) → IsAnchor a → ReadsAs envelopes_at (envelopes a) a
 unfolding envelopes
 envelopes_read a is =
     envelopes-chain (to_be_bytes w64 a.header) (to_be_bytes w64 a.header_size) (to_be_bytes w64 a.header_len) (to_be_bytes w64 a.footer) (to_be_bytes w64 a.footer_size) (to_be_bytes w64 a.footer_len)
     a.header a.header_size a.header_len a.footer a.footer_size a.footer_len
     (word_64 a.header is.header) (word_64 a.header_size is.header_size) (word_64 a.header_len is.header_len) (word_64 a.footer is.footer) (word_64 a.footer_size is.footer_size) (word_64 a.footer_len is.footer_len)
 
-pub anchor-chain : (at place : ℕ) (a b c rest : List ℕ) (anchor : Anchor) → Reads (big w16) a 1 → Reads (bytes_at 6) b b → Reads envelopes_at c anchor
+pub anchor-chain : (at place : ℕ) (a b c rest : List ℕ) (anchor : Anchor) → ReadsAs (big w16) a 1 → ReadsAs (bytes_at 6) b b → ReadsAs envelopes_at c anchor
     → anchor_in at (standing place (spread (a ∷ b ∷ c ∷ []) rest)) ≡ Ok anchor
 unfolding anchor_in
 anchor-chain at place a b c rest anchor p q r =
@@ -53,7 +53,7 @@ anchor_reads at place a is =
     anchor-chain at place (to_be_bytes w16 1) (to_be_bytes w16 0 ++ (to_be_bytes w16 0 ++ to_be_bytes w16 0)) (envelopes a) (to_be_bytes w64 (2 ^ 30) ++ []) a
     (word_16 1 (omega arith)) (plain_bytes 6 (to_be_bytes w16 0 ++ (to_be_bytes w16 0 ++ to_be_bytes w16 0)) refl) (envelopes_read a is)
 
-pub fields-chain : (at place sum : ℕ) (a b c : List ℕ) → Reads (bytes_at 6) a a → length b ≡ 64 → Reads (big w64) c sum → sum ≡ xxh3 b
+pub fields-chain : (at place sum : ℕ) (a b c : List ℕ) → ReadsAs (bytes_at 6) a a → length b ≡ 64 → ReadsAs (big w64) c sum → sum ≡ xxh3 b
     → fields_of at (standing place (concat (a ∷ b ∷ c ∷ []))) ≡ Ok (standing (place + length a) b)
 unfolding fields_of
 fields-chain at place sum a b c p len q same =

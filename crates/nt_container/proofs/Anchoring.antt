@@ -6,10 +6,9 @@ use Rattle.std.specs.List.{concat}
 use Rattle.std.specs.Int.{w16, w64, to_be_bytes}
 use Rattle.nt_num.specs.Place.{At}
 use Rattle.nt_xxh3.specs.Sum.{xxh3}
-use Rattle.nt_format.specs.Reading.{standing, IsBytes}
+use Rattle.nt_format.specs.Reading.{ReadsAs, standing, IsBytes}
 use Rattle.nt_format.specs.Grammars.{Bytes}
 use Rattle.nt_format.specs.Relations.{Agrees, With, Is, Passes, Stands, IsPart}
-use Rattle.nt_format.proofs.Chains.{Reads}
 use Rattle.nt_format.proofs.Sum.{xxh3_below}
 use Rattle.nt_format.proofs.Grammars.{plain}
 use Rattle.nt_format.proofs.Relations.{bind, exactly, refused, test, at, whole}

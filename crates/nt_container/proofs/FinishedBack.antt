@@ -6,7 +6,7 @@ use Rattle.std.proofs.lemmas.Bool.{le-leb, le-ltb}
 use Rattle.std.proofs.lemmas.List.{take_at, length-append}
 use Rattle.nt_num.specs.Place.{At}
 use Rattle.nt_num.specs.Cursor.{big}
-use Rattle.nt_format.specs.Reading.{standing}
+use Rattle.nt_format.specs.Reading.{ReadsAs, standing}
 use Rattle.nt_container.specs.declared.anchor.Anchor.{Anchor}
 use Rattle.nt_container.specs.declared.parts.FileHeader.{FileHeader}
 use Rattle.nt_container.specs.declared.parts.Directory.{Directory}
@@ -20,7 +20,7 @@ use Rattle.nt_container.specs.Anchors.{is_plain, object_of, anchor_from, anchor_
 use Rattle.nt_container.specs.Spelling.{zero_uuid, header_numbers, header_words, header_part, directory_numbers, directory_words, record_names, record_part, file_key, anchor_key, anchor_object, anchor_fields, anchor_part, key_list_part, free_list_part}
 use Rattle.nt_container.specs.Finished.{anchor_place, keys_place, free_place, end_place, parts_behind, finished_file, IsAnchor}
 use Rattle.nt_format.proofs.Pieces.{piece_at, piece_window, split_at, length-concat, part_from, concat-append}
-use Rattle.nt_format.proofs.Chains.{Reads, spread, spread-is, total, of_parts, alone}
+use Rattle.nt_format.proofs.Chains.{spread, spread-is, total, of_parts, alone}
 use Rattle.nt_container.proofs.Words.{word_16, word_32, wide_place, plain_bytes}
 use Rattle.nt_container.proofs.HeaderBack.{header_reads}
 use Rattle.nt_container.proofs.KeysBack.{key_of, anchor_key_reads, file_key_reads}
@@ -49,9 +49,9 @@ header_is file end free rest whole small smaller inside =
     let front : window 75 file 0 ≡ header_words end free = ap (λ (l : List ℕ). take 75 l) whole ∙ take_at (header_words end free) rest 75 (header_words-len end free) in
     ap (λ (l : List ℕ). header_in l (length file)) front ∙ header_inside end free (length file) small smaller inside
 
-numbers-chain : (b c d e f g : List ℕ) (keys_len name_len own parent keys : ℕ) → Reads (bytes_at 8) b b → Reads (big w32) c keys_len → Reads (big w32) d name_len
-    → Reads (place_at true) e own → Reads (place_at true) f parent → Reads (place_at true) g keys
-    → Reads (directory_numbers_at true) (concat (b ∷ c ∷ d ∷ e ∷ f ∷ g ∷ [])) (record { keys = keys; keys_len = keys_len })
+numbers-chain : (b c d e f g : List ℕ) (keys_len name_len own parent keys : ℕ) → ReadsAs (bytes_at 8) b b → ReadsAs (big w32) c keys_len → ReadsAs (big w32) d name_len
+    → ReadsAs (place_at true) e own → ReadsAs (place_at true) f parent → ReadsAs (place_at true) g keys
+    → ReadsAs (directory_numbers_at true) (concat (b ∷ c ∷ d ∷ e ∷ f ∷ g ∷ [])) (record { keys = keys; keys_len = keys_len })
 unfolding directory_numbers_at
 numbers-chain b c d e f g keys_len name_len own parent keys q r s t u v =
     of_parts (directory_numbers_at true) (b ∷ c ∷ d ∷ e ∷ f ∷ g ∷ []) (record { keys = keys; keys_len = keys_len }) λ place rest.
@@ -64,13 +64,13 @@ numbers-chain b c d e f g keys_len name_len own parent keys q r s t u v =
       v (total place (b ∷ c ∷ d ∷ e ∷ f ∷ [])) rest,
     ) refl
 
-directory-chain : (a b : List ℕ) (version : ℕ) (directory : Directory) → Reads (big w16) a version → ltb 1000 version ≡ true → Reads (directory_numbers_at true) b directory
-    → Reads directory_at (concat (a ∷ b ∷ [])) directory
+directory-chain : (a b : List ℕ) (version : ℕ) (directory : Directory) → ReadsAs (big w16) a version → ltb 1000 version ≡ true → ReadsAs (directory_numbers_at true) b directory
+    → ReadsAs directory_at (concat (a ∷ b ∷ [])) directory
 unfolding directory_at
 directory-chain a b version directory p wide q =
     of_parts directory_at (a ∷ b ∷ []) directory λ place rest. rw (p place (spread (b ∷ []) rest), wide, q (total place (a ∷ [])) rest) refl
 
-directory_reads : (keys : ℕ) → keys < 2 ^ 64 → Reads directory_at (directory_words keys) (record { keys = keys; keys_len = 113 })
+directory_reads : (keys : ℕ) → keys < 2 ^ 64 → ReadsAs directory_at (directory_words keys) (record { keys = keys; keys_len = 113 })
 unfolding directory_words directory_numbers
 directory_reads keys small =
     directory-chain (to_be_bytes w16 1005) (directory_numbers keys) 1005 (record { keys = keys; keys_len = 113 }) (word_16 1005 (omega arith)) refl
@@ -83,7 +83,7 @@ directory_is file place keys small e =
     ap (λ (l : List ℕ). directory_in place l) (piece_window file (directory_words keys) place 42 e) ∙ rw read refl
 
 list-chain : (file a b c : List ℕ) (place len : ℕ) (own first : Key) (class : List ℕ) → piece file place len ≡ Some (concat (a ∷ b ∷ c ∷ []))
-    → Reads key_at a (own, class) → Reads (bytes_at own.header_len) a a → Reads (big w32) b 1 → Reads key_at c (first, anchor_class)
+    → ReadsAs key_at a (own, class) → ReadsAs (bytes_at own.header_len) a a → ReadsAs (big w32) b 1 → ReadsAs key_at c (first, anchor_class)
     → anchor_key_of file (record { keys = place; keys_len = len }) ≡ Ok first
 unfolding anchor_key_of anchor_key_in
 list-chain file a b c place len own first class e p q r s =

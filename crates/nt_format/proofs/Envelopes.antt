@@ -11,7 +11,9 @@ use Rattle.nt_num.specs.Place.{At}
 use Rattle.nt_num.specs.Cursor.{next}
 use Rattle.nt_format.specs.Reading.{standing, IsBytes}
 use Rattle.nt_format.specs.Envelopes.{unsealed, envelope, payload_of}
-use Rattle.nt_format.proofs.Steps.{IsBytes-drop, IsBytes-take, ok_is, guard_ok, guard_passed}
+use Rattle.nt_lists.proofs.Chaining.{guard_ok, guard_passed}
+use Rattle.nt_lists.proofs.Variants.{ok_is}
+use Rattle.nt_format.proofs.Steps.{IsBytes-drop, IsBytes-take}
 use Rattle.nt_format.proofs.Numbers.{little_64, number_again}
 use Rattle.nt_format.proofs.Sum.{xxh3_below}
 

@@ -4,9 +4,12 @@ use Rattle.std.specs.Int.{w32, w64, from_le_bytes, to_le_bytes}
 use Rattle.std.proofs.lemmas.Bool.{ltb-false, le-ltb, leb-false, lt-leb}
 use Rattle.nt_num.specs.Place.{At}
 use Rattle.nt_num.specs.Cursor.{little, part_of}
-use Rattle.nt_format.specs.Reading.{◌>>=◌, standing, IsBytes, Takes}
+use Rattle.nt_lists.specs.Chaining.{◌>>=◌}
+use Rattle.nt_format.specs.Reading.{standing, IsBytes, Takes}
 use Rattle.nt_format.specs.Frames.{record_frame, list_frame, record_at, list_at, IsRecord, IsList}
-use Rattle.nt_format.proofs.Steps.{ok_is, bind_ok, refused_as_ok, refused_as_err, guard_ok, Takes-then, part_takes, part_again}
+use Rattle.nt_lists.proofs.Chaining.{bind_ok, refused_as_ok, refused_as_err, guard_ok}
+use Rattle.nt_lists.proofs.Variants.{ok_is}
+use Rattle.nt_format.proofs.Steps.{Takes-then, part_takes, part_again}
 use Rattle.nt_format.proofs.Numbers.{little_32, little_64, number_again, number_takes}
 
 pub record_again : (inside rest : List ℕ) (place : ℕ) → 8 + length inside < 2 ^ 63

@@ -11,3 +11,4 @@ pub mod Pieces
 pub mod Chains
 pub mod Grammars
 pub mod Relations
+pub mod Placed

@@ -9,9 +9,12 @@ use Rattle.nt_format.specs.declared.fault.LocatorFault.{LocatorFault}
 use Rattle.nt_format.specs.declared.fault.LocatorFault.TheVariants.{Short, NotSimple}
 use Rattle.nt_format.specs.declared.locator.Locator.{Locator}
 use Rattle.nt_format.specs.declared.locator.Link.{Link}
-use Rattle.nt_format.specs.Reading.{◌>>=◌, refused_as, standing, IsBytes, Takes, Spells}
+use Rattle.nt_lists.specs.Chaining.{◌>>=◌, refused_as}
+use Rattle.nt_format.specs.Reading.{standing, IsBytes, Takes, Spells}
 use Rattle.nt_format.specs.Locators.{locator, link, locator_at, link_at, IsSimple, IsLink}
-use Rattle.nt_format.proofs.Steps.{ok_is, bind_ok, refused_as_ok, guard_ok, Takes-then}
+use Rattle.nt_lists.proofs.Chaining.{bind_ok, refused_as_ok, guard_ok}
+use Rattle.nt_lists.proofs.Variants.{ok_is}
+use Rattle.nt_format.proofs.Steps.{Takes-then}
 use Rattle.nt_format.proofs.Numbers.{little_32, little_64, number_again, number_takes}
 
 locator_again : (l : Locator) (place : ℕ) (rest : List ℕ) → IsSimple l → locator_at (standing place (locator l ++ rest)) ≡ Ok (l, standing (place + length (locator l)) rest)

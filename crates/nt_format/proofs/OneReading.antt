@@ -5,7 +5,7 @@ use Rattle.nt_num.specs.Place.{At}
 use Rattle.nt_num.specs.Cursor.{next}
 use Rattle.nt_format.specs.Reading.{standing, Spells, HasOneReading}
 use Rattle.nt_format.specs.Frames.{record_frame, list_frame, record_at, list_at, IsRecord, IsList}
-use Rattle.nt_format.proofs.Steps.{ok_is}
+use Rattle.nt_lists.proofs.Variants.{ok_is}
 use Rattle.nt_format.proofs.Numbers.{little_64, number_again}
 use Rattle.nt_format.proofs.Frames.{record_again, list_again}
 

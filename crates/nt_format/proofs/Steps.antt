@@ -1,10 +1,12 @@
 -- Steps of a reading: what came out of them, and what they took from the front.
-use Rattle.std.proofs.Common.{◌≡◌, ℕ, ◌+◌, ◌≤◌, Bool, true, false, cond, ltb, List, ◌++◌, length, take, drop, Result, Ok, Err, refl, sym, ap, ◌∙◌, append_assoc, arith, inl, inr}
+use Rattle.std.proofs.Common.{◌≡◌, ℕ, ◌+◌, ◌≤◌, false, ltb, List, ◌++◌, length, take, drop, Ok, refl, sym, ap, ◌∙◌, append_assoc, arith, inl, inr}
 use Rattle.std.proofs.lemmas.Bool.{cases_lt, ltb-false, le-ltb}
 use Rattle.std.proofs.lemmas.List.{take_at, drop_at, take-append-drop, length-append, length-take, get_or-drop, get_or-take, get_or_past}
 use Rattle.nt_num.specs.Place.{At, past}
 use Rattle.nt_num.specs.Cursor.{next, part_of}
-use Rattle.nt_format.specs.Reading.{◌>>=◌, refused_as, standing, IsBytes, Takes}
+use Rattle.nt_lists.proofs.Chaining.{guard_ok}
+use Rattle.nt_lists.proofs.Variants.{ok_is}
+use Rattle.nt_format.specs.Reading.{standing, IsBytes, Takes}
 
 pub IsBytes-drop : (n : ℕ) (bytes : List ℕ) → IsBytes bytes → IsBytes (drop n bytes)
 IsBytes-drop n bytes h i = rw get_or-drop (h (n + i))
@@ -16,37 +18,6 @@ IsBytes-take n bytes h i =
       | inr le ↦ rw (get_or_past (take n bytes) i 0 (omega (arith, length-take n bytes))) (omega arith)
     ]
 
-abbrev done : {A E : Type 0} → A → Result A E
-done x = Ok x
-
--- one value is read
-pub ok_is : {A E : Type 0} (x y : A) → done {E = E} x ≡ done y → x ≡ y
-ok_is x y e = cc
-
--- the value of a step that was not refused
-pub bind_ok : {A B E : Type 0} (r : Result A E) (f : A → Result B E) (y : B) → (r >>= f) ≡ Ok y → (x : A) × (r ≡ Ok x) × (f x ≡ Ok y)
-bind_ok (Ok x) f y e = (x, refl, e)
-bind_ok (Err d) f y e = absurd cc
-
-pub refused_as_ok : {A E F : Type 0} (fault : F) (r : Result A E) (x : A) → refused_as fault r ≡ Ok x → r ≡ Ok x
-refused_as_ok fault (Ok y) x e = ap (λ (z : _). Ok z) (ok_is y x e)
-refused_as_ok fault (Err d) x e = absurd cc
-
--- a refusal is the fault that it was named
-pub refused_as_err : {A E F : Type 0} (fault : F) (r : Result A E) (e : F) → refused_as fault r ≡ Err e → e ≡ fault
-refused_as_err fault (Ok x) e h = absurd cc
-refused_as_err fault (Err d) e h = cc
-
--- a test that did not refuse
-pub guard_ok : {A E : Type 0} (b : Bool) (d : E) (r : Result A E) (y : A) → cond b (Err d) r ≡ Ok y → (b ≡ false) × (r ≡ Ok y)
-guard_ok true d r y e = absurd cc
-guard_ok false d r y e = (refl, e)
-
--- a test that did not refuse its opposite
-pub guard_passed : {A E : Type 0} (b : Bool) (d : E) (r : Result A E) (y : A) → cond b r (Err d) ≡ Ok y → (b ≡ true) × (r ≡ Ok y)
-guard_passed true d r y e = (refl, e)
-guard_passed false d r y e = absurd cc
-
 pub Takes-then : (a b c : At) (x y : List ℕ) → Takes a x b → Takes b y c → Takes a (x ++ y) c
 Takes-then a b c x y p q = record {
   parts = p.parts ∙ ap (λ (t : List ℕ). x ++ t) q.parts ∙ sym (append_assoc x y c.left);
@@ -55,7 +26,8 @@ Takes-then a b c x y p q = record {
 }
 
 -- the next n bytes, whatever they mean
-pub next_takes : {V : Type 0} (meaning : List ℕ → V) (n : ℕ) (here after : At) (v : V) → IsBytes here.left → next meaning n here ≡ Ok (v, after)
+pub next_takes : {V : Type 0} (meaning : List ℕ → V) (n : ℕ) (here after : At) (v : V) → IsBytes here.left
+    → next meaning n here ≡ Ok (v, after)
     → (text : List ℕ) × (length text ≡ n) × IsBytes text × (meaning text ≡ v) × Takes here text after
 next_takes {V = V} meaning n here after v bytes e =
     let g = guard_ok (ltb (length here.left) n) here.place (Ok (meaning (take n here.left), past n here)) (v, after) e in
@@ -79,7 +51,8 @@ next_again meaning n place text rest len =
     rw (long, take_at text rest n len, drop_at text rest n len) refl
 
 -- the same of the next n bytes as a part
-pub part_again : (n place : ℕ) (text rest : List ℕ) → length text ≡ n → part_of n (standing place (text ++ rest)) ≡ Ok (standing place text, standing (place + n) rest)
+pub part_again : (n place : ℕ) (text rest : List ℕ) → length text ≡ n
+    → part_of n (standing place (text ++ rest)) ≡ Ok (standing place text, standing (place + n) rest)
 part_again n place text rest len = next_again (λ bytes. standing place bytes) n place text rest len
 
 pub part_takes : (n : ℕ) (here inside after : At) → IsBytes here.left → part_of n here ≡ Ok (inside, after)

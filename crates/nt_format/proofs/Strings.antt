@@ -4,9 +4,11 @@ use Rattle.std.specs.Int.{w32, from_le_bytes, to_le_bytes}
 use Rattle.std.proofs.lemmas.List.{length-append}
 use Rattle.nt_num.specs.Place.{At}
 use Rattle.nt_num.specs.Cursor.{next, little}
-use Rattle.nt_format.specs.Reading.{◌>>=◌, standing, IsBytes, Takes, Spells}
+use Rattle.nt_lists.specs.Chaining.{◌>>=◌}
+use Rattle.nt_format.specs.Reading.{standing, IsBytes, Takes, Spells}
 use Rattle.nt_format.specs.Strings.{string, string_at}
-use Rattle.nt_format.proofs.Steps.{bind_ok, refused_as_ok, Takes-then, next_takes, next_again}
+use Rattle.nt_lists.proofs.Chaining.{bind_ok, refused_as_ok}
+use Rattle.nt_format.proofs.Steps.{Takes-then, next_takes, next_again}
 use Rattle.nt_format.proofs.Numbers.{little_32, number_again, number_takes}
 
 string_again : (text : List ℕ) (place : ℕ) (rest : List ℕ) → length text < 2 ^ 32 → string_at (standing place (string text ++ rest)) ≡ Ok (text, standing (place + length (string text)) rest)

@@ -5,7 +5,8 @@ use Rattle.std.specs.Prelude.{ℕ, ◌≡◌, ◌<◌, ◌+◌, ◌-◌, ◌^◌
 use Rattle.std.specs.Int.{w32, w64, to_le_bytes}
 use Rattle.nt_num.specs.Place.{At}
 use Rattle.nt_num.specs.Cursor.{little, part_of}
-use Rattle.nt_format.specs.Reading.{◌>>=◌, refused_as, IsBytes, Takes}
+use Rattle.nt_lists.specs.Chaining.{◌>>=◌, refused_as}
+use Rattle.nt_format.specs.Reading.{IsBytes, Takes}
 
 -- a record frame: the size, and what is inside
 abbrev pub record_frame : List ℕ → List ℕ

@@ -3,7 +3,7 @@ use Rattle.std.specs.Prelude.{ℕ, ◌<◌, ◌^◌, List, ◌++◌, nat_le, if�
 use Rattle.std.specs.Int.{w32, w64, to_le_bytes}
 use Rattle.nt_num.specs.Place.{At}
 use Rattle.nt_num.specs.Cursor.{little}
-use Rattle.nt_format.specs.Reading.{◌>>=◌, refused_as}
+use Rattle.nt_lists.specs.Chaining.{◌>>=◌, refused_as}
 use Rattle.nt_format.specs.declared.fault.LocatorFault.{LocatorFault}
 use Rattle.nt_format.specs.declared.fault.LocatorFault.TheVariants.{Short, NotSimple}
 use Rattle.nt_format.specs.declared.locator.Locator.{Locator}

@@ -1,17 +1,14 @@
 -- Readings: functions of a place in a list of bytes that answer a value and the place behind it, or the first fault.
 use Rattle.std.specs.Prelude.{ℕ, ◌≡◌, ◌+◌, ◌<◌, List, ◌++◌, length, slice_index, Result, Ok, Err}
 use Rattle.nt_num.specs.Place.{At}
+use Rattle.nt_num.specs.Codes.{bad_frame}
+use Rattle.nt_num.specs.Faults.{fault}
+use Rattle.nt_num.specs.declared.fault.ReadError.{ReadError}
 
--- one step after the other, up to the first fault
-infixl 10 ◌>>=◌
-abbrev pub ◌>>=◌ : {A B E : Type 0} → Result A E → (A → Result B E) → Result B E
-(Ok x) >>= f = f x
-(Err e) >>= f = Err e
-
--- whatever is wrong in a reading is this fault
-abbrev pub refused_as : {A E F : Type 0} → F → Result A E → Result A F
-refused_as fault (Ok x) = Ok x
-refused_as fault (Err e) = Err fault
+-- what can't be read is misplaced where it begins
+abbrev pub placed : {A : Type 0} → Result A ℕ → Result A ReadError
+placed (Ok x) = Ok x
+placed (Err at) = Err (fault bad_frame at)
 
 -- a place, and the bytes that are left from it on
 abbrev pub standing : ℕ → List ℕ → At
@@ -37,9 +34,18 @@ pub record Spells {V E : Type 0} (reading : At → Result (V × At) E) (spelling
 -- no bytes begin with the spellings of two values
 abbrev pub HasOneReading : {V : Type 0} → (V → List ℕ) → (V → Type 0) → Type 0
 HasOneReading {V = V} spelling Fits =
-    (one other : V) (rest others : List ℕ) → Fits one → Fits other → spelling one ++ rest ≡ spelling other ++ others → (one ≡ other) × (rest ≡ others)
+    (one other : V) (rest others : List ℕ) → Fits one → Fits other → spelling one ++ rest ≡ spelling other ++ others
+    → (one ≡ other) × (rest ≡ others)
 
--- a call on a place that was old and is new answers what a reading gives; where that is a fault, the place stays
-abbrev pub Answers : {V W E F : Type 0} → (V → W) → (E → F) → Result V E → At → At → Result (W × At) F → Type 0
-Answers view fault (Ok value) old new reading = reading ≡ Ok (view value, new)
-Answers view fault (Err e) old new reading = (reading ≡ Err (fault e)) × (new ≡ old)
+-- this text is read as this value, whatever follows
+abbrev pub ReadsAs : {V E : Type 0} → (At → Result (V × At) E) → List ℕ → V → Type 0
+ReadsAs reading text value = (place : ℕ) (rest : List ℕ)
+    → reading (standing place (text ++ rest)) ≡ Ok (value, standing (place + length text) rest)
+
+-- whatever this reading gives of bytes is such
+abbrev pub Yields : {W E : Type 0} → (At → Result W E) → (W → Type 0) → Type 0
+Yields {W = W} reading Such = (here : At) (w : W) → IsBytes here.left → reading here ≡ Ok w → Such w
+
+-- the value is such, and bytes follow
+abbrev pub AndBytes : {V : Type 0} → (V → Type 0) → V × At → Type 0
+AndBytes Such w = Such w.0 × IsBytes w.1.left

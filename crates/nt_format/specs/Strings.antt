@@ -3,7 +3,7 @@ use Rattle.std.specs.Prelude.{ℕ, List, ◌++◌, length, Result}
 use Rattle.std.specs.Int.{w32, to_le_bytes}
 use Rattle.nt_num.specs.Place.{At}
 use Rattle.nt_num.specs.Cursor.{next, little}
-use Rattle.nt_format.specs.Reading.{◌>>=◌, refused_as}
+use Rattle.nt_lists.specs.Chaining.{◌>>=◌, refused_as}
 
 -- a string: four bytes of length, and that many bytes
 abbrev pub string : List ℕ → List ℕ

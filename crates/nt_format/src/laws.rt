@@ -1,8 +1,7 @@
 //! The laws that join readings and spellings: what is spelled is read, what is read is spelled so,
 //! and no bytes have two readings.
 
-ghost use Rattle.std.specs.Prelude.{◌≡◌, ◌≢◌, ℕ, ◌+◌, ◌^◌, ◌<◌, List, ◌++◌, length, Ok, Err};
-ghost use Rattle.std.specs.Prelude.{FitsSigned};
+ghost use Rattle.std.specs.Prelude.{◌≡◌, ◌≢◌, ℕ, ◌+◌, ◌^◌, ◌<◌, List, ◌++◌, length, Ok, Err, FitsSigned};
 ghost use Rattle.std.specs.Int.{w16, w32, w64, to_le_bytes, to_be_bytes};
 ghost use Rattle.nt_num.specs.Place.{At};
 ghost use Rattle.nt_num.specs.Cursor.{little, little_signed, big};

@@ -1,5 +1,15 @@
 //! What the bytes of an RNTuple file mean: numbers, strings, frames, envelopes and locators, each
-//! with its reading and its spelling, and the laws that join the two.
+//! with its reading and its spelling, and the laws that join the two (RNTuple Binary Format
+//! Specification 1.0.0.0). Definitions, plain structs and laws: nothing here runs.
+//!
+//! Start at `Reading` in specs: a *reading* answers a value and the place behind it, or the first
+//! fault; a *spelling* is the bytes of a value. `Spells` joins both, `ReadsAs` says that a text is
+//! read as a value whatever follows, `Yields` that whatever is read is such. The lemmas by which
+//! readings are chained, for any fault, are `Chains`, `Placed` (numbers and strings) and `Frames`
+//! in proofs, to be cited by the crates above.
+//!
+//! Proved: the contract of each function of `laws`, whose bodies are empty. That the definitions
+//! are the standard's is tested by the crates above, on bytes from outside.
 #![tactic(auto)]
 
 mod fault;

@@ -1,6 +1,7 @@
 //! Frames and locators at a cursor.
 
-ghost use Rattle.nt_format.specs.Reading.{Answers};
+ghost use Rattle.std.specs.Prelude.{◌≡◌, Some, OnErr};
+ghost use Rattle.nt_lists.specs.Answering.{Answers};
 ghost use Rattle.nt_format.specs.Frames.{record_at, list_at};
 ghost use Rattle.nt_format.specs.Locators.{locator_at};
 
@@ -24,7 +25,8 @@ pub struct FrameFault {
 /// that the caller knows is to be skipped.
 #[tactic(auto, unfolding(nt_format::specs::Frames::record_at))]
 pub fn read_record<'a>(cur: &mut Cur<'a>) -> Result<Cur<'a>, FrameFault>
-    ensures { Answers (λ inside. inside) (λ e. e.at) result cur.old cur.new (record_at cur.old) }
+    ensures read { Answers (λ inside. (inside, cur.new)) (λ e. Some e.at) result (record_at cur.old) }
+    ensures stays { OnErr result (cur.new ≡ cur.old) }
 {
     let fault = FrameFault { at: cur.place() };
     let mut ahead = cur.fork();
@@ -40,7 +42,8 @@ pub fn read_record<'a>(cur: &mut Cur<'a>) -> Result<Cur<'a>, FrameFault>
 /// Reads a list frame, and gives the number of its items and a cursor over them.
 #[tactic(auto, unfolding(nt_format::specs::Frames::list_at))]
 pub fn read_list<'a>(cur: &mut Cur<'a>) -> Result<(u32, Cur<'a>), FrameFault>
-    ensures { Answers (λ found. found) (λ e. e.at) result cur.old cur.new (list_at cur.old) }
+    ensures read { Answers (λ found. (found, cur.new)) (λ e. Some e.at) result (list_at cur.old) }
+    ensures stays { OnErr result (cur.new ≡ cur.old) }
 {
     let fault = FrameFault { at: cur.place() };
     let mut ahead = cur.fork();
@@ -61,7 +64,8 @@ pub fn read_list<'a>(cur: &mut Cur<'a>) -> Result<(u32, Cur<'a>), FrameFault>
 /// Reads a simple locator.
 #[tactic(auto, unfolding(nt_format::specs::Locators::locator_at))]
 pub fn read_locator(cur: &mut Cur) -> Result<Locator, LocatorFault>
-    ensures { Answers (λ found. found) (λ e. e) result cur.old cur.new (locator_at cur.old) }
+    ensures read { Answers (λ found. (found, cur.new)) (λ e. Some e) result (locator_at cur.old) }
+    ensures stays { OnErr result (cur.new ≡ cur.old) }
 {
     let mut ahead = cur.fork();
     let size = ahead.u32le().map_err(|_| LocatorFault::Short)?;

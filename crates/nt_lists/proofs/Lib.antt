@@ -3,3 +3,5 @@ pub mod Variants
 pub mod Fronts
 pub mod Groups
 pub mod Places
+pub mod Chaining
+pub mod Answering

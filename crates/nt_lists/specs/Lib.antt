@@ -1,4 +1,4 @@
 pub mod Chunks
 pub mod Places
-pub mod Answers
 pub mod Chaining
+pub mod Answering

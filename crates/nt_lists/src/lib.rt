@@ -5,8 +5,8 @@
 //! nothing that speaks of files, columns or events. It stands on std alone.
 //!
 //! Where to start: `specs/Chunks` (a list cut into groups), `specs/Places` (bytes at a place),
-//! `specs/Answers` (a call beside the reading that it carries out), `specs/Chaining` (one reading
-//! after another). `proofs/` has lemmas that other crates' proofs cite.
+//! `specs/Chaining` (steps that can be refused, one after the other) and `specs/Answering` (a call
+//! answers what is defined, or want of memory). `proofs/` has lemmas that other crates' proofs cite.
 //!
 //! Proved: `groups_are_cut` (the groups joined are the list; each is full but the last),
 //! `writes_keep_the_rest` (what is put at a place stands there, and all else stays). Nothing is

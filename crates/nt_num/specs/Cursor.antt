@@ -21,11 +21,6 @@ little_signed w = next (λ bytes. cast_signed w (from_le_bytes w bytes)) (byte_l
 abbrev pub big : Width → At → Result (ℕ × At) ℕ
 big w = next (from_be_bytes w) (byte_len w)
 
--- a cursor that stood at old and stands at new answered what a reading gives; where it gives nothing, the cursor stays
-abbrev pub Gives : {V W : Type 0} → (V → W) → Result V Short → At → At → Result (W × At) ℕ → Type 0
-Gives view (Ok v) old new reading = reading ≡ Ok (view v, new)
-Gives view (Err e) old new reading = (reading ≡ Err old.place) × (new ≡ old)
-
 -- the next n bytes alone, whose places count from the same beginning
 abbrev pub part_of : ℕ → At → Result (At × At) ℕ
 part_of n here = next (λ bytes. record { place = here.place; left = bytes }) n here

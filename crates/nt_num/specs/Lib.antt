@@ -1,3 +1,4 @@
 pub mod Place
 pub mod Cursor
 pub mod Faults
+pub mod Codes

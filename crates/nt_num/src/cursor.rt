@@ -1,8 +1,9 @@
 //! A cursor over borrowed bytes: each read takes what comes next, and says where too little is left.
 
-ghost use Rattle.std.specs.Prelude.{◌≡◌, length};
+ghost use Rattle.std.specs.Prelude.{◌≡◌, Some, length};
 ghost use Rattle.std.specs.Int.{w8, w16, w32, w64};
-ghost use Rattle.nt_num.specs.Cursor.{Gives, Moves, part_of, next, little, little_signed, big};
+ghost use Rattle.nt_lists.specs.Answering.{Answers};
+ghost use Rattle.nt_num.specs.Cursor.{Moves, part_of, next, little, little_signed, big};
 
 use byteorder::{BigEndian, ByteOrder, LittleEndian};
 use std::marker::Model;
@@ -74,7 +75,8 @@ impl<'a> Cur<'a> {
 
     /// The next `n` bytes.
     pub fn bytes(&mut self, n: usize) -> Result<&'a [u8], Short>
-        ensures reading { Gives (λ b. b.now) result self.old self.new (next (λ b. b) n self.old) }
+        ensures reading { Answers (λ b. (b.now, self.new)) (λ _. Some self.old.place) result
+            (next (λ b. b) n self.old) }
         ensures moves { Moves n result self.old self.new }
     {
         if self.left.len() < n {
@@ -88,7 +90,8 @@ impl<'a> Cur<'a> {
 
     /// A cursor over the next `n` bytes, whose places count from the same beginning.
     pub fn part(&mut self, n: usize) -> Result<Cur<'a>, Short>
-        ensures reading { Gives (λ c. c) result self.old self.new (part_of n self.old) }
+        ensures reading { Answers (λ c. (c, self.new)) (λ _. Some self.old.place) result
+            (part_of n self.old) }
         ensures moves { Moves n result self.old self.new }
     {
         let place = self.place;
@@ -98,7 +101,8 @@ impl<'a> Cur<'a> {
 
     /// The next byte.
     pub fn u8(&mut self) -> Result<u8, Short>
-        ensures reading { Gives (λ v. v) result self.old self.new (little w8 self.old) }
+        ensures reading { Answers (λ v. (v, self.new)) (λ _. Some self.old.place) result
+            (little w8 self.old) }
         ensures moves { Moves 1 result self.old self.new }
     {
         let bytes = self.bytes(1)?;
@@ -107,7 +111,8 @@ impl<'a> Cur<'a> {
 
     /// The next two bytes as a number, the lowest first.
     pub fn u16le(&mut self) -> Result<u16, Short>
-        ensures reading { Gives (λ v. v) result self.old self.new (little w16 self.old) }
+        ensures reading { Answers (λ v. (v, self.new)) (λ _. Some self.old.place) result
+            (little w16 self.old) }
         ensures moves { Moves 2 result self.old self.new }
     {
         let bytes = self.bytes(2)?;
@@ -116,7 +121,8 @@ impl<'a> Cur<'a> {
 
     /// The next four bytes as a number, the lowest first.
     pub fn u32le(&mut self) -> Result<u32, Short>
-        ensures reading { Gives (λ v. v) result self.old self.new (little w32 self.old) }
+        ensures reading { Answers (λ v. (v, self.new)) (λ _. Some self.old.place) result
+            (little w32 self.old) }
         ensures moves { Moves 4 result self.old self.new }
     {
         let bytes = self.bytes(4)?;
@@ -125,7 +131,8 @@ impl<'a> Cur<'a> {
 
     /// The next eight bytes as a number, the lowest first.
     pub fn u64le(&mut self) -> Result<u64, Short>
-        ensures reading { Gives (λ v. v) result self.old self.new (little w64 self.old) }
+        ensures reading { Answers (λ v. (v, self.new)) (λ _. Some self.old.place) result
+            (little w64 self.old) }
         ensures moves { Moves 8 result self.old self.new }
     {
         let bytes = self.bytes(8)?;
@@ -134,7 +141,8 @@ impl<'a> Cur<'a> {
 
     /// The next four bytes as a number in two's complement, the lowest first.
     pub fn i32le(&mut self) -> Result<i32, Short>
-        ensures reading { Gives (λ v. v) result self.old self.new (little_signed w32 self.old) }
+        ensures reading { Answers (λ v. (v, self.new)) (λ _. Some self.old.place) result
+            (little_signed w32 self.old) }
         ensures moves { Moves 4 result self.old self.new }
     {
         let bytes = self.bytes(4)?;
@@ -143,7 +151,8 @@ impl<'a> Cur<'a> {
 
     /// The next eight bytes as a number in two's complement, the lowest first.
     pub fn i64le(&mut self) -> Result<i64, Short>
-        ensures reading { Gives (λ v. v) result self.old self.new (little_signed w64 self.old) }
+        ensures reading { Answers (λ v. (v, self.new)) (λ _. Some self.old.place) result
+            (little_signed w64 self.old) }
         ensures moves { Moves 8 result self.old self.new }
     {
         let bytes = self.bytes(8)?;
@@ -152,7 +161,8 @@ impl<'a> Cur<'a> {
 
     /// The next two bytes as a number, the highest first.
     pub fn u16be(&mut self) -> Result<u16, Short>
-        ensures reading { Gives (λ v. v) result self.old self.new (big w16 self.old) }
+        ensures reading { Answers (λ v. (v, self.new)) (λ _. Some self.old.place) result
+            (big w16 self.old) }
         ensures moves { Moves 2 result self.old self.new }
     {
         let bytes = self.bytes(2)?;
@@ -161,7 +171,8 @@ impl<'a> Cur<'a> {
 
     /// The next four bytes as a number, the highest first.
     pub fn u32be(&mut self) -> Result<u32, Short>
-        ensures reading { Gives (λ v. v) result self.old self.new (big w32 self.old) }
+        ensures reading { Answers (λ v. (v, self.new)) (λ _. Some self.old.place) result
+            (big w32 self.old) }
         ensures moves { Moves 4 result self.old self.new }
     {
         let bytes = self.bytes(4)?;
@@ -170,7 +181,8 @@ impl<'a> Cur<'a> {
 
     /// The next eight bytes as a number, the highest first.
     pub fn u64be(&mut self) -> Result<u64, Short>
-        ensures reading { Gives (λ v. v) result self.old self.new (big w64 self.old) }
+        ensures reading { Answers (λ v. (v, self.new)) (λ _. Some self.old.place) result
+            (big w64 self.old) }
         ensures moves { Moves 8 result self.old self.new }
     {
         let bytes = self.bytes(8)?;

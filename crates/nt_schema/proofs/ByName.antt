@@ -3,10 +3,9 @@ use Rattle.std.proofs.Common.{ℕ, suc, Bool, true, false, ◌≡◌, ◌<◌, �
 use Rattle.std.proofs.lemmas.List.{length-take-le}
 use Rattle.std.proofs.Math.Seq.{take-suc}
 use Rattle.std.proofs.Math.ListN.{get_or}
-use Rattle.std.specs.Prelude.{◌&&◌, is_some, not}
+use Rattle.std.specs.Prelude.{◌&&◌, is_some, not, Vec}
 use Rattle.std.specs.Option.{option_or, option_copied}
 use Rattle.std.specs.Str.{bytes_eq}
-use Rattle.std.specs.Prelude.{Vec}
 use Rattle.std.specs.declared.alloc.Global.{Global}
 use Rattle.std.specs.declared.cmp.Ordering.{Ordering}
 use Rattle.std.specs.Ordering.{nat_cmp, is_eq, eq_by_cmp}
@@ -16,8 +15,8 @@ use Rattle.std.specs.Map.{lookup, KeepsOthers, IsKeyTest, AreApart}
 use Rattle.std.specs.BTreeMap.{UpdatesBy}
 use Rattle.std.proofs.lemmas.Slice.Eq.{bytes_eq-Decides}
 use Rattle.std.proofs.lemmas.Map.Text.{is_eq-slice_cmp}
-use Rattle.nt_schema.specs.declared.rows.FieldRow.{FieldRow}
-use Rattle.nt_schema.specs.Find.{Names, found, find_from}
+use Rattle.nt_grammar.specs.declared.rows.FieldRow.{FieldRow}
+use Rattle.nt_schema.specs.ByName.{Names, found, find_from}
 
 abbrev Key : Type 0
 Key = Vec ℕ Global
@@ -37,7 +36,8 @@ other_way k n name is differ = by_case (bytes_eq k n) refl
         cc
 
 -- what a change at some bytes leaves at any others
-other_entries : (test : Key → Bool) (old new : List (Key × ℕ)) → KeepsOthers (eq_by_cmp keys_cmp) test old new → (other : Key → Bool) → IsKeyTest (eq_by_cmp keys_cmp) other → AreApart test other → lookup other new ≡ lookup other old
+other_entries : (test : Key → Bool) (old new : List (Key × ℕ)) → KeepsOthers (eq_by_cmp keys_cmp) test old new → (other : Key → Bool)
+    → IsKeyTest (eq_by_cmp keys_cmp) other → AreApart test other → lookup other new ≡ lookup other old
 unfolding KeepsOthers
 other_entries test old new h = h
 
@@ -57,11 +57,13 @@ or_none None = refl
 or_none (Some x) = refl
 
 -- a new name is kept
-pub added : (old new : Names) (key : Key) (name : List ℕ) (parent id : ℕ) → (parent == id) ≡ true → key.items ≡ name → found old name ≡ None → UpdatesBy keys_cmp (λ k. slice_cmp nat_cmp key.items k.items) old new (Some id)
+pub added : (old new : Names) (key : Key) (name : List ℕ) (parent id : ℕ) → (parent == id) ≡ true → key.items ≡ name
+    → found old name ≡ None → UpdatesBy keys_cmp (λ k. slice_cmp nat_cmp key.items k.items) old new (Some id)
     → (n : List ℕ) → found new n ≡ option_or (found old n) (if (parent == id) && bytes_eq n name then Some id else None)
 added old new key name parent id top is none h n = by_case (bytes_eq n name) refl
   where
-    by_case : (b : Bool) → bytes_eq n name ≡ b → found new n ≡ option_or (found old n) (if (parent == id) && bytes_eq n name then Some id else None)
+    by_case : (b : Bool) → bytes_eq n name ≡ b → found new n
+        ≡ option_or (found old n) (if (parent == id) && bytes_eq n name then Some id else None)
     by_case true e =
         let same : n ≡ name = (bytes_eq-Decides n name).0 e in
         let at_key : n ≡ key.items = same ∙ sym is in
@@ -69,7 +71,8 @@ added old new key name parent id top is none h n = by_case (bytes_eq n name) ref
         rw (top, e, before) (ap (found new) at_key ∙ h.1)
     by_case false e =
         let differ : bytes_eq key.items n ≡ false = other_way key.items n name is e in
-        rw (top, e) (other_entries _ old.entries new.entries h.3 _ (λ x y. (eq_by_cmp_equiv nat_list_cmp_total).congr n x.items y.items) (λ k. apart key.items n k.items differ) ∙ or_none (found old n))
+        rw (top, e) (other_entries _ old.entries new.entries h.3 _ (λ x y. (eq_by_cmp_equiv nat_list_cmp_total).congr n x.items y.items)
+        (λ k. apart key.items n k.items differ) ∙ or_none (found old n))
 
 pub none_found : {X : Type 0} (o : Option (Bor X)) (b : Bool) → is_some o ≡ not b → b ≡ true → option_copied o ≡ None
 none_found None b e t = refl
@@ -80,25 +83,33 @@ none_found (Some x) false e t = cc
 abbrev one_more : ℕ → FieldRow → List ℕ → Option ℕ
 one_more id r name = if (r.parent == id) && bytes_eq name r.name then Some id else None
 
-find_from-snoc : (id : ℕ) (rows : List FieldRow) (r : FieldRow) (name : List ℕ) → find_from id (rows ++ r ∷ []) name ≡ option_or (find_from id rows name) (one_more (id + length rows) r name)
+find_from-snoc : (id : ℕ) (rows : List FieldRow) (r : FieldRow) (name : List ℕ)
+    → find_from id (rows ++ r ∷ []) name ≡ option_or (find_from id rows name) (one_more (id + length rows) r name)
 find_from-snoc id [] r name = rw add-zero refl
 find_from-snoc id (q ∷ rows) r name = cases ((q.parent == id) && bytes_eq name q.name) (rw next at (find_from-snoc (id + 1) rows r name))
   where
     next : (id + 1) + length rows ≡ id + suc (length rows)
     next = omega arith
 
-    cases : (b : Bool) → find_from (id + 1) (rows ++ r ∷ []) name ≡ option_or (find_from (id + 1) rows name) (one_more (id + suc (length rows)) r name)
-        → (if b then Some id else find_from (id + 1) (rows ++ r ∷ []) name) ≡ option_or (if b then Some id else find_from (id + 1) rows name) (one_more (id + suc (length rows)) r name)
+    cases : (b : Bool) → find_from (id + 1) (rows ++ r ∷ []) name
+        ≡ option_or (find_from (id + 1) rows name) (one_more (id + suc (length rows)) r name)
+        → (if b then Some id else find_from (id + 1) (rows ++ r ∷ []) name)
+        ≡ option_or (if b then Some id else find_from (id + 1) rows name) (one_more (id + suc (length rows)) r name)
     cases true later = refl
     cases false later = later
 
 -- the names of one field more
 pub found-next : (rows : List FieldRow) (i : ℕ) (r : FieldRow) (f g : List ℕ → Option ℕ) → i < length rows → r ≡ get_or rows i r
-    → ((n : List ℕ) → f n ≡ find_from 0 (take i rows) n) → ((n : List ℕ) → g n ≡ option_or (f n) (if (r.parent == i) && bytes_eq n r.name then Some i else None))
+    → ((n : List ℕ) → f n ≡ find_from 0 (take i rows) n)
+    → ((n : List ℕ) → g n ≡ option_or (f n) (if (r.parent == i) && bytes_eq n r.name then Some i else None))
     → (n : List ℕ) → g n ≡ find_from 0 (take (i + 1) rows) n
 found-next rows i r f g h is before now n =
-    let cut : take (i + 1) rows ≡ take i rows ++ r ∷ [] = ap (λ (k : ℕ). take k rows) (add-one i) ∙ (take-suc rows i r h ∙ ap (λ (z : FieldRow). take i rows ++ z ∷ []) (sym is)) in
+    let cut : take (i + 1) rows ≡ take i rows ++ r ∷ [] = ap (λ (k : ℕ). take k rows) (add-one i)
+    ∙ (take-suc rows i r h ∙ ap (λ (z : FieldRow). take i rows ++ z ∷ []) (sym is)) in
     let len : length (take i rows) ≡ i = length-take-le i rows (omega arith) in
-    let one : find_from 0 (take i rows ++ r ∷ []) n ≡ option_or (find_from 0 (take i rows) n) (one_more (0 + length (take i rows)) r n) = find_from-snoc 0 (take i rows) r n in
-    let one' : find_from 0 (take i rows ++ r ∷ []) n ≡ option_or (find_from 0 (take i rows) n) (one_more i r n) = rw (zero-add, len) at one in
-    now n ∙ (ap (λ (o : Option ℕ). option_or o (one_more i r n)) (before n) ∙ (sym one' ∙ ap (λ (z : List FieldRow). find_from 0 z n) (sym cut)))
+    let one : find_from 0 (take i rows ++ r ∷ []) n ≡ option_or (find_from 0 (take i rows) n) (one_more (0 + length (take i rows)) r n) =
+    find_from-snoc 0 (take i rows) r n in
+    let one' : find_from 0 (take i rows ++ r ∷ []) n ≡ option_or (find_from 0 (take i rows) n) (one_more i r n) =
+    rw (zero-add, len) at one in
+    now n ∙ (ap (λ (o : Option ℕ). option_or o (one_more i r n)) (before n)
+    ∙ (sym one' ∙ ap (λ (z : List FieldRow). find_from 0 z n) (sym cut)))

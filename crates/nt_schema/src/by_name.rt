@@ -3,9 +3,9 @@
 ghost use Rattle.std.specs.Prelude.{◌≡◌, ◌<◌, ◌^◌, ℕ, List, Some, None, length, ◌==◌, ◌&&◌, OnOk, IfOk, if◌then◌else◌};
 ghost use Rattle.std.specs.Option.{option_or};
 ghost use Rattle.std.specs.Str.{bytes_eq};
-ghost use Rattle.nt_schema.specs.Find.{found, HasNames};
+ghost use Rattle.nt_schema.specs.ByName.{found, HasNames};
 
-use crate::rows::FieldRow;
+use nt_grammar::FieldRow;
 use std::alloc::{AllocError, Global};
 use std::collections::BTreeMap;
 
@@ -16,7 +16,9 @@ fn add_field(
     row: &FieldRow,
     id: u32,
 ) -> Result<(), AllocError>
-    ensures { OnOk result ((n : List ℕ) → found names.new n ≡ option_or (found names.old n) (if (row.now.parent == id) && bytes_eq n row.now.name then Some id else None)) }
+    ensures { OnOk result ((n : List ℕ)
+        → found names.new n ≡ option_or (found names.old n)
+        (if (row.now.parent == id) && bytes_eq n row.now.name then Some id else None)) }
 {
     let name = row.name.as_slice();
     if row.parent == id && names.get(name).is_none() {

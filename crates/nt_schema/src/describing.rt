@@ -5,14 +5,19 @@ ghost use Rattle.nt_types.specs.Views.{members_view};
 ghost use Rattle.nt_types.specs.Kinds.{parts_of};
 ghost use Rattle.nt_types.specs.Schema.{parts_count};
 ghost use Rattle.nt_types.specs.Rules.{AreFields};
-ghost use Rattle.nt_schema.specs.Table.{in_header};
-ghost use Rattle.nt_schema.specs.Rows.{Rows};
+ghost use Rattle.nt_grammar.specs.Table.{in_header};
+ghost use Rattle.nt_grammar.specs.Rows.{Rows};
 
-use crate::column::push_columns;
-use crate::node::field_row;
-use crate::nodes::all_nodes;
-use crate::rows::{ColumnRow, FieldRow};
+pub(crate) mod columns;
+mod node;
+mod nodes;
+mod type_name;
+
+use crate::describing::columns::push_columns;
+use crate::describing::node::field_row;
+use crate::describing::nodes::all_nodes;
 use crate::schema::Schema;
+use nt_grammar::{ColumnRow, FieldRow};
 use nt_types::Fields;
 use std::alloc::{AllocError, Global};
 
@@ -23,7 +28,8 @@ fn rows_of(
     plain: bool,
 ) -> Result<(Vec<FieldRow>, Vec<ColumnRow>), AllocError>
     requires { parts_count (parts_of (members_view fields.now)) ≤ 4096 }
-    ensures rows { IfOk result (λ rows. Rows (members_view fields.now) plain (in_header rows.0.items rows.1.items)) }
+    ensures rows { IfOk result (λ rows. Rows (members_view fields.now) plain
+        (in_header rows.0.items rows.1.items)) }
     ensures few_fields { IfOk result (λ rows. vec_len rows.0 ≤ 4096) }
     ensures few_columns { IfOk result (λ rows. vec_len rows.1 ≤ 8192) }
 {
@@ -39,7 +45,7 @@ fn rows_of(
 
 /// The rows of fields that keep the rules of a schema text, all in the header. Plain columns keep
 /// the bytes of an element together.
-#[tactic(auto, using(crate::proofs::AllNodes::described_short))]
+#[tactic(auto, using(nt_grammar::proofs::AllNodes::described_short))]
 pub fn describe(alloc: Global, fields: &Fields, plain: bool) -> Result<Schema, AllocError>
     requires { AreFields (members_view fields.now) }
     ensures { IfOk result (λ schema. Rows (members_view fields.now) plain schema) }

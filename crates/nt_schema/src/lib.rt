@@ -1,36 +1,35 @@
-//! Descriptions of fields and columns, as a header and its extension have them.
+//! Schemas: the rows that describe the fields of events, made of a parsed schema text, written as
+//! the descriptions of a header and its extension, and read back from them (RNTuple Binary Format
+//! Specification 1.0.0.0, section Schema Description).
+//!
+//! `describe` makes a `Schema` of fields (folder `describing`); `write_description` and
+//! `read_description` carry one part of it to bytes and back (`writing`, `reading`);
+//! `Schema::shape` says as what values of a field can be read (`shapes`), `Schema::find` finds a
+//! field by name (`by_name`). Start at `schema.rt`. Contracts speak of the definitions of
+//! `nt_grammar`, whose words hold here too; a *schema* is a table of rows together with the names
+//! and shapes that it keeps of them.
+//!
+//! Proved: `describe` gives the one table of its fields; `write_description` appends exactly the
+//! spelling of the part; `read_description` answers exactly the reading of the bytes, its first
+//! fault included, reads back what was written whatever follows, and adds only rows in range;
+//! `find` and `shape` are the first field of a name and the shape of an open field. Only tested:
+//! vectors of bytes from outside, and that each allocation may fail.
 #![tactic(auto)]
 
 mod by_name;
-mod column;
 mod describing;
 mod description_error;
-mod grouped;
-mod laws;
-mod node;
-mod nodes;
-mod open_columns;
-mod opening;
-mod part;
 mod reading;
-mod reading_columns;
-mod reading_fields;
-mod reading_laws;
-mod reading_words;
-mod rows;
 mod schema;
 mod shapes;
-mod type_name;
 mod writing;
 
 pub use describing::describe;
 pub use description_error::DescriptionError;
-pub use laws::{described_fields_are_open, descriptions_are_one};
-pub use part::Part;
-pub use reading::read_description;
-pub use reading_laws::{
+pub use nt_grammar::{
+    ColumnRow, FieldRow, Part, described_fields_are_open, descriptions_are_one,
     descriptions_are_read_back, rows_read_are_described, schemas_are_described,
 };
-pub use rows::{ColumnRow, FieldRow};
+pub use reading::read_description;
 pub use schema::Schema;
 pub use writing::write_description;

@@ -2,21 +2,25 @@
 
 ghost use Rattle.std.specs.Prelude.{◌≡◌, ◌+◌, ◌<◌, ◌≤◌, ◌^◌, true, vec_len, ℕ, List, ◌++◌, length, Ok, OnOk, OnErr};
 ghost use Rattle.std.specs.List.{list_all};
+ghost use Rattle.nt_num.specs.Place.{At};
 ghost use Rattle.nt_format.specs.Reading.{standing, IsBytes};
-ghost use Rattle.nt_schema.specs.Table.{Table, is_short};
-ghost use Rattle.nt_schema.specs.Writing.{description, fields_of, columns_of};
-ghost use Rattle.nt_schema.specs.Reading.{rows_at, description_at};
-ghost use Rattle.nt_schema.specs.ReadingCalls.{Tells};
-ghost use Rattle.nt_schema.specs.ReadingBack.{IsDescribed, Adds, before, up_to};
+ghost use Rattle.nt_grammar.specs.Table.{Table, is_short};
+ghost use Rattle.nt_grammar.specs.Writing.{description, fields_of, columns_of};
+ghost use Rattle.nt_grammar.specs.Reading.{rows_at, description_at};
+ghost use Rattle.nt_lists.specs.Answering.{Answers};
+ghost use Rattle.nt_schema.specs.Reading.{fault_of};
+ghost use Rattle.nt_grammar.specs.ReadingBack.{IsDescribed, Adds, before, up_to};
+
+mod columns;
+mod fields;
+mod words;
 
 use crate::description_error::DescriptionError;
-use crate::part::Part;
-use crate::reading_columns::read_columns;
-use crate::reading_fields::read_fields;
-use crate::reading_laws::{descriptions_are_read_back, rows_read_are_described};
-use crate::rows::{ColumnRow, FieldRow};
+use crate::reading::columns::read_columns;
+use crate::reading::fields::read_fields;
 use crate::schema::Schema;
 use nt_frame::read_list;
+use nt_grammar::{ColumnRow, FieldRow, Part, descriptions_are_read_back, rows_read_are_described};
 use nt_num::Cur;
 
 /// Each item of a slice of bytes is one.
@@ -25,7 +29,7 @@ fn are_bytes(bytes: &[u8])
 {}
 
 /// Reads the rows of a description behind these.
-#[tactic(auto, unfolding(crate::specs::Reading::rows_at))]
+#[tactic(auto, unfolding(nt_grammar::specs::Reading::rows_at))]
 fn read_rows(
     cur: &mut Cur,
     fields: &mut Vec<FieldRow>,
@@ -34,7 +38,8 @@ fn read_rows(
     requires few_fields { vec_len fields.old < 2 ^ 32 }
     requires few_columns { vec_len columns.old < 2 ^ 32 }
     requires short { list_all is_short fields.old.items ≡ true }
-    ensures told { Tells (λ _. (fields.new.items, columns.new.items)) result cur.new (rows_at fields.old.items columns.old.items cur.old) }
+    ensures told { Answers (λ _. ((fields.new.items, columns.new.items), cur.new)) fault_of result
+        (rows_at fields.old.items columns.old.items cur.old) }
     ensures few_fields { vec_len fields.new < 2 ^ 32 }
     ensures few_columns { vec_len columns.new < 2 ^ 32 }
     ensures more_fields { vec_len fields.old ≤ vec_len fields.new }
@@ -48,9 +53,10 @@ fn read_rows(
     Ok(())
 }
 
-#[tactic(auto, unfolding(crate::specs::Reading::description_at))]
+#[tactic(auto, unfolding(nt_grammar::specs::Reading::description_at))]
 fn read_lists(cur: &mut Cur, schema: &mut Schema, part: Part) -> Result<(), DescriptionError>
-    ensures told { Tells (λ _. schema.new) result cur.new (description_at part schema.old cur.old) }
+    ensures told { Answers (λ _. (schema.new, cur.new)) fault_of result
+        (description_at part schema.old cur.old) }
     ensures stays { OnErr result (cur.new ≡ cur.old) }
 {
     let mut ahead = cur.fork();
@@ -77,13 +83,20 @@ pub fn read_description(
     part: Part,
 ) -> Result<(), DescriptionError>
     // What the bytes mean, or which fault is the first.
-    ensures told { Tells (λ _. schema.new) result cur.new (description_at part schema.old cur.old) }
+    ensures told { Answers (λ _. (schema.new, cur.new)) fault_of result
+        (description_at part schema.old cur.old) }
     ensures stays { OnErr result (cur.new ≡ cur.old) }
     // What is written of this part of a table is read behind the rows before it, whatever follows.
     ensures written { (t : Table) (rest : List ℕ)
         → IsDescribed t → length t.fields < 2 ^ 32 → length t.columns < 2 ^ 32
-        → schema.old ≡ before part t → cur.old.left ≡ description (fields_of part t) (columns_of part t) ++ rest
-        → Tells (λ _. schema.new) result cur.new (Ok (up_to part t, standing (cur.old.place + length (description (fields_of part t) (columns_of part t))) rest)) }
+        → schema.old ≡ before part t → cur.old.left
+        ≡ description (fields_of part t) (columns_of part t) ++ rest
+        → Answers {W = Table × At} (λ _. (schema.new, cur.new)) fault_of result
+        (Ok (
+          up_to part t,
+          standing (cur.old.place + length
+              (description (fields_of part t) (columns_of part t))) rest,
+        )) }
     // The rows are in range, so that a table that can be written stays one.
     ensures adds { OnOk result (Adds part schema.old schema.new) }
     ensures described { OnOk result (IsDescribed schema.old → IsDescribed schema.new) }

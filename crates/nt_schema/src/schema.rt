@@ -2,14 +2,14 @@
 
 ghost use Rattle.std.specs.Prelude.{◌≡◌, ◌<◌, length, Some, slice_get, option_map, option_and_then, IfOk};
 ghost use Rattle.nt_types.specs.Views.{shape_view};
-ghost use Rattle.nt_schema.specs.Table.{no_rows, table_of};
-ghost use Rattle.nt_schema.specs.Find.{find_from};
-ghost use Rattle.nt_schema.specs.Open.{open_kind};
-ghost use Rattle.nt_schema.specs.Keeping.{IsTable};
+ghost use Rattle.nt_grammar.specs.Table.{no_rows, table_of};
+ghost use Rattle.nt_schema.specs.ByName.{find_from};
+ghost use Rattle.nt_grammar.specs.Open.{open_shape};
+ghost use Rattle.nt_schema.specs.Schema.{IsTable};
 
 use crate::by_name::names_of;
-use crate::rows::{ColumnRow, FieldRow};
 use crate::shapes::shapes_of;
+use nt_grammar::{ColumnRow, FieldRow};
 use nt_types::Shape;
 use std::alloc::{AllocError, Global};
 use std::collections::BTreeMap;
@@ -31,21 +31,24 @@ pub struct Schema {
 }
 
 impl Model for Schema {
-    ghost use Rattle.nt_schema.specs.Table.{Table, table_of};
+    ghost use Rattle.nt_grammar.specs.Table.{Table, table_of};
 
     ghost Value = { Table };
 
     ghost use Rattle.std.specs.Prelude.{map, option_map};
     ghost use Rattle.nt_types.specs.Views.{shape_view};
-    ghost use Rattle.nt_schema.specs.Keeping.{IsKept};
+    ghost use Rattle.nt_schema.specs.Schema.{IsKept};
 
     ghost view = { λ s. table_of s.fields.items s.columns.items s.header_fields s.header_columns };
 
-    ghost invariant = { λ s. IsKept (table_of s.fields.items s.columns.items s.header_fields s.header_columns) s.names (map (option_map shape_view) s.shapes.items) };
+    ghost invariant = { λ s. IsKept
+        (table_of s.fields.items s.columns.items s.header_fields s.header_columns) s.names
+        (map (option_map shape_view) s.shapes.items) };
 }
 
 fn shape_at(shapes: &[Option<Shape>], id: usize) -> Option<&Shape>
-    ensures { option_map (λ shape. shape_view shape.now) result ≡ option_and_then (option_map shape_view) (slice_get shapes.now id) }
+    ensures { option_map (λ shape. shape_view shape.now) result
+        ≡ option_and_then (option_map shape_view) (slice_get shapes.now id) }
 {
     match shapes.get(id) {
         Some(shape) => shape.as_ref(),
@@ -78,7 +81,8 @@ impl Schema {
         header_columns: u32,
     ) -> Result<Schema, AllocError>
         requires { IsTable (table_of fields.items columns.items header_fields header_columns) }
-        ensures { IfOk result (λ schema. schema ≡ table_of fields.items columns.items header_fields header_columns) }
+        ensures { IfOk result (λ schema. schema
+            ≡ table_of fields.items columns.items header_fields header_columns) }
     {
         let names = names_of(alloc, &fields)?;
         let shapes = shapes_of(alloc, &fields, &columns)?;
@@ -114,7 +118,7 @@ impl Schema {
     /// The shape of the values of an open field at the top level. A tuple has that of a record with
     /// members `_0`, `_1` and so on.
     pub fn shape(&self, field: u32) -> Option<&Shape>
-        ensures { option_map (λ shape. shape_view shape.now) result ≡ open_kind self.now field }
+        ensures { option_map (λ shape. shape_view shape.now) result ≡ open_shape self.now field }
     {
         shape_at(&self.shapes, field as usize)
     }

@@ -2,11 +2,15 @@
 
 ghost use Rattle.std.specs.Prelude.{◌≡◌, ◌<◌, ◌^◌, length, map, option_map, IfOk};
 ghost use Rattle.nt_types.specs.Views.{shape_view};
-ghost use Rattle.nt_schema.specs.Open.{top_kind, open_kinds};
+ghost use Rattle.nt_grammar.specs.Open.{top_shape, open_shapes};
 
-use crate::grouped::Grouped;
-use crate::opening::open_part;
-use crate::rows::{ColumnRow, FieldRow};
+mod columns;
+mod fields;
+mod grouped;
+
+use crate::shapes::fields::open_field;
+use crate::shapes::grouped::Grouped;
+use nt_grammar::{ColumnRow, FieldRow};
 use nt_types::Shape;
 use std::alloc::{AllocError, Global};
 
@@ -19,12 +23,13 @@ fn top_shape(
     id: u32,
     row: &FieldRow,
 ) -> Result<Option<Shape>, AllocError>
-    ensures { IfOk result (λ shape. option_map shape_view shape ≡ top_kind rows.now.fields.now rows.now.columns.now id row.now) }
+    ensures { IfOk result (λ shape. option_map shape_view shape
+        ≡ top_shape rows.now.fields.now rows.now.columns.now id row.now) }
 {
     if row.parent != id {
         return Ok(None);
     }
-    match open_part(alloc, rows, MAX_DEPTH, true, id)? {
+    match open_field(alloc, rows, MAX_DEPTH, true, id)? {
         Some(part) => Ok(Some(part.of)),
         None => Ok(None),
     }
@@ -37,7 +42,8 @@ pub(crate) fn shapes_of(
     columns: &[ColumnRow],
 ) -> Result<Vec<Option<Shape>>, AllocError>
     requires { length fields.now < 2 ^ 32 }
-    ensures { IfOk result (λ shapes. map (option_map shape_view) shapes.items ≡ open_kinds fields.now columns.now 0 fields.now) }
+    ensures { IfOk result (λ shapes. map (option_map shape_view) shapes.items
+        ≡ open_shapes fields.now columns.now 0 fields.now) }
 {
     let rows = Grouped::new(alloc, fields, columns)?;
     let mut shapes = Vec::new(alloc);

@@ -4,13 +4,12 @@ ghost use Rattle.std.specs.Prelude.{◌≡◌, ◌<◌, ◌^◌, true, [], lengt
 ghost use Rattle.std.specs.List.{list_all};
 ghost use Rattle.nt_format.specs.Frames.{list_frame};
 ghost use Rattle.nt_frame.specs.Writing.{appended};
-ghost use Rattle.nt_schema.specs.Table.{is_short};
-ghost use Rattle.nt_schema.specs.Writing.{field_numbers, field_texts, field_record, column_numbers, first_element, column_record, field_records, column_records, description, fields_of, columns_of};
+ghost use Rattle.nt_grammar.specs.Table.{is_short};
+ghost use Rattle.nt_grammar.specs.Writing.{field_numbers, field_texts, field_record, column_numbers, first_element, column_record, field_records, column_records, description, fields_of, columns_of};
 
-use crate::part::Part;
-use crate::rows::{ColumnRow, FieldRow};
 use crate::schema::Schema;
 use nt_frame::FrameOut;
+use nt_grammar::{ColumnRow, FieldRow, Part};
 use std::alloc::AllocError;
 
 /// A column with this bit among its flags has the index of its first element.
@@ -105,7 +104,8 @@ fn put_columns(out: &mut FrameOut, rows: &[ColumnRow]) -> Result<(), AllocError>
 fn put_field_list(out: &mut FrameOut, rows: &[FieldRow]) -> Result<(), AllocError>
     requires short { list_all is_short rows.now ≡ true }
     requires few { length rows.now < 2 ^ 32 }
-    ensures { OnOk result (out.new ≡ appended (list_frame (length rows.now) (field_records rows.now)) out.old) }
+    ensures { OnOk result (out.new ≡ appended
+        (list_frame (length rows.now) (field_records rows.now)) out.old) }
 {
     out.begin_list(rows.len() as u32)?;
     put_fields(out, rows)?;
@@ -116,7 +116,8 @@ fn put_field_list(out: &mut FrameOut, rows: &[FieldRow]) -> Result<(), AllocErro
 #[tactic(auto, using(crate::proofs::Appended::list_of))]
 fn put_column_list(out: &mut FrameOut, rows: &[ColumnRow]) -> Result<(), AllocError>
     requires { length rows.now < 2 ^ 32 }
-    ensures { OnOk result (out.new ≡ appended (list_frame (length rows.now) (column_records rows.now)) out.old) }
+    ensures { OnOk result (out.new ≡ appended
+        (list_frame (length rows.now) (column_records rows.now)) out.old) }
 {
     out.begin_list(rows.len() as u32)?;
     put_columns(out, rows)?;
@@ -152,9 +153,10 @@ fn put_lists(
 }
 
 /// Writes the description of a part of a schema.
-#[tactic(auto, using(crate::proofs::Short::list_all_parts))]
+#[tactic(auto, using(crate::proofs::Appended::list_all_split))]
 pub fn write_description(schema: &Schema, part: Part, out: &mut FrameOut) -> Result<(), AllocError>
-    ensures { OnOk result (out.new ≡ appended (description (fields_of part schema.now) (columns_of part schema.now)) out.old) }
+    ensures { OnOk result (out.new ≡ appended
+        (description (fields_of part schema.now) (columns_of part schema.now)) out.old) }
 {
     let (fields, more_fields) = schema.fields.split_at(schema.header_fields as usize);
     let (columns, more_columns) = schema.columns.split_at(schema.header_columns as usize);

@@ -11,7 +11,7 @@ use Rattle.nt_types.specs.LineSpelling.{IsLine, IsMember}
 use Rattle.nt_types.specs.declared.fault.SchemaKind.{SchemaKind}
 use Rattle.nt_types.specs.declared.fault.SchemaKind.TheVariants.{TooDeep}
 use Rattle.nt_types.specs.Views.{member_view}
-use Rattle.nt_lists.specs.Answers.{IsAnswer}
+use Rattle.nt_lists.specs.Answering.{Answers}
 use Rattle.nt_types.specs.FaultViews.{schema_fault}
 use Rattle.nt_types.specs.declared.fault.SchemaError.{SchemaError}
 use Rattle.nt_types.specs.declared.fault.SchemaFault.{SchemaFault}

@@ -4,7 +4,7 @@ use Rattle.std.proofs.Common.{length-drop}
 use Rattle.std.proofs.lemmas.List.{take_more, get_or-drop}
 use Rattle.nt_types.specs.Kinds.{Kind}
 use Rattle.nt_types.specs.Words.{is_word_byte}
-use Rattle.nt_lists.specs.Answers.{IsRefusal}
+use Rattle.nt_lists.specs.Answering.{Refuses}
 use Rattle.nt_types.specs.FaultViews.{type_fault, or_malformed}
 use Rattle.nt_types.specs.declared.fault.TypeError.{TypeError}
 use Rattle.nt_types.specs.declared.fault.TypeError.TheVariants as types
@@ -47,9 +47,9 @@ read_delimiter keep s t text from i all lt word step e =
 -- a byte of no word, at which the reading stops
 pub read_refused : (e : TypeError) (keep : Bool) (s : ReadingData) (text : List ℕ) (from i : ℕ) (all : Option Kind) → i < length text
     → is_word_byte (get_or text i 0) ≡ false
-    → IsRefusal (type_fault e) (or_malformed (delimited keep s (take (i - from) (drop from text)) (get_or text i 0)))
+    → Refuses (type_fault e) (or_malformed (delimited keep s (take (i - from) (drop from text)) (get_or text i 0)))
     → read keep s (take (i - from) (drop from text)) (drop i text) ≡ all
-    → IsRefusal (type_fault e) (or_malformed all)
+    → Refuses (type_fault e) (or_malformed all)
 read_refused types.Memory keep s text from i all lt word step e = tt
 read_refused types.Malformed keep s text from i all lt word step e =
     let none : delimited keep s (take (i - from) (drop from text)) (get_or text i 0) ≡ None = none_read _ step in

@@ -3,7 +3,7 @@
 ghost use Rattle.std.specs.Prelude.{◌≡◌, map, option_map};
 ghost use Rattle.nt_types.specs.Views.{shape_view, member_view};
 ghost use Rattle.nt_types.specs.Reading.{put, within_after, started, within_inside, tuple_on, choice_on, members_on};
-ghost use Rattle.nt_lists.specs.Answers.{IsAnswer};
+ghost use Rattle.nt_lists.specs.Answering.{Answers};
 ghost use Rattle.nt_types.specs.ConstructViews.{open_view, placed_view};
 ghost use Rattle.nt_types.specs.FaultViews.{type_fault, or_malformed};
 
@@ -56,7 +56,7 @@ fn choice_on(within: bool, shapes: Vec<Shape>, after: u8) -> Option<Placed>
 }
 
 fn members_on(alloc: Global, members: Vec<Member>, after: u8) -> Result<Placed, TypeError>
-    ensures { IsAnswer placed_view type_fault result
+    ensures { Answers placed_view type_fault result
         (or_malformed (members_on (map member_view members.items) after)) }
 {
     match after {
@@ -79,7 +79,7 @@ pub(crate) fn put(
     part: Shape,
     after: u8,
 ) -> Result<Placed, TypeError>
-    ensures { IsAnswer placed_view type_fault result
+    ensures { Answers placed_view type_fault result
         (or_malformed (put (open_view construct) (shape_view part) after)) }
 {
     match construct {

@@ -5,7 +5,7 @@ ghost use Rattle.std.specs.List.{prefix_len};
 ghost use Rattle.nt_types.specs.Views.{shape_view};
 ghost use Rattle.nt_types.specs.Words.{is_word_byte, is_blank, is_space};
 ghost use Rattle.nt_types.specs.Lines.{most_open, type_of, is_blank_line, trimmed, begins_blank, type_text, split_line};
-ghost use Rattle.nt_lists.specs.Answers.{IsAnswer};
+ghost use Rattle.nt_lists.specs.Answering.{Answers};
 ghost use Rattle.nt_types.specs.FaultViews.{line_fault};
 
 use crate::fault::{LineError, SchemaKind};
@@ -40,7 +40,7 @@ fn most_open(text: &[u8]) -> usize
 /// The shape that a text spells. One that nests too deep is read without its parts.
 #[tactic(auto, using(crate::proofs::Depth::type_shallow, crate::proofs::Depth::type_deep, crate::proofs::Depth::type_malformed))]
 pub(crate) fn type_of(alloc: Global, text: &[u8]) -> Result<Shape, LineError>
-    ensures { IsAnswer shape_view line_fault result (type_of text.now) }
+    ensures { Answers shape_view line_fault result (type_of text.now) }
 {
     if most_open(text) < MAX_DEPTH {
         return Ok(read_type(alloc, true, text)?);

@@ -8,7 +8,7 @@ ghost use Rattle.nt_types.specs.Schema.{member_text, at_line};
 ghost use Rattle.nt_types.specs.LineSpelling.{IsMember, HasFault};
 ghost use Rattle.nt_types.specs.TextAnswers.{TellsLine};
 ghost use Rattle.nt_types.specs.declared.fault.SchemaKind.{SchemaKind};
-ghost use Rattle.nt_lists.specs.Answers.{IsAnswer};
+ghost use Rattle.nt_lists.specs.Answering.{Answers};
 ghost use Rattle.nt_types.specs.FaultViews.{line_fault, schema_fault};
 
 use crate::fault::{LineError, SchemaError, SchemaKind};
@@ -28,7 +28,7 @@ pub(crate) fn under_name(alloc: Global, name: &[u8], of: Shape) -> Result<Member
 }
 
 fn member_of(alloc: Global, line: &[u8]) -> Result<Member, LineError>
-    ensures { IsAnswer member_view line_fault result (member_of line.now) }
+    ensures { Answers member_view line_fault result (member_of line.now) }
 {
     let Some((name, text)) = split_line(line) else {
         return Err(LineError::Kind(SchemaKind::BadName));
@@ -43,16 +43,16 @@ pub fn parse_member(alloc: Global, line: &[u8]) -> Result<Member, SchemaError>
     ensures told { TellsLine line.now result }
     // A member that the line spells is read, unless memory runs out.
     ensures only { (p : Part) → IsMember line.now p
-        → IsAnswer member_view schema_fault result (Ok p) }
+        → Answers member_view schema_fault result (Ok p) }
     // What is wrong is answered, unless memory runs out; TooDeep of each type that nests too deep.
     ensures each { (kind : SchemaKind) → HasFault line.now kind
-        → IsAnswer member_view schema_fault result (Err (at_line 0 kind)) }
+        → Answers member_view schema_fault result (Err (at_line 0 kind)) }
 {
     read_member(alloc, line)
 }
 
 fn read_member(alloc: Global, line: &[u8]) -> Result<Member, SchemaError>
-    ensures { IsAnswer member_view schema_fault result (member_text line.now) }
+    ensures { Answers member_view schema_fault result (member_text line.now) }
 {
     match member_of(alloc, line) {
         Ok(member) => Ok(member),

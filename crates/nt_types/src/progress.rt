@@ -6,7 +6,7 @@ ghost use Rattle.nt_types.specs.Kinds.{Part};
 ghost use Rattle.nt_types.specs.Limits.{max_fields};
 ghost use Rattle.nt_types.specs.Seen.{Knows};
 ghost use Rattle.nt_types.specs.Schema.{field_of, field_count, part_under};
-ghost use Rattle.nt_lists.specs.Answers.{IsAnswer};
+ghost use Rattle.nt_lists.specs.Answering.{Answers};
 ghost use Rattle.nt_types.specs.FaultViews.{line_fault};
 
 use crate::count::count_fields;
@@ -39,7 +39,7 @@ fn field_of<'a>(
     requires { before ≤ max_fields }
     ensures few { IfOk result (λ x. before + field_count (shape_view x.1) ≤ max_fields) }
     ensures field { (names : List (List ℕ)) → Knows seen.now names
-        → IsAnswer (λ x. part_under x.0.now (shape_view x.1)) line_fault result
+        → Answers (λ x. part_under x.0.now (shape_view x.1)) line_fault result
         (field_of names before line.now) }
 {
     let Some((name, text)) = split_line(line) else {

@@ -3,7 +3,7 @@
 ghost use Rattle.std.specs.Prelude.{◌≡◌, [], ◌∷◌, None, option_map, OnOk, MatchOption};
 ghost use Rattle.nt_types.specs.Views.{shape_view};
 ghost use Rattle.nt_types.specs.Reading.{place, begin, named, settled, delimited, text_ended, start, kind_kept};
-ghost use Rattle.nt_lists.specs.Answers.{IsAnswer};
+ghost use Rattle.nt_lists.specs.Answering.{Answers};
 ghost use Rattle.nt_types.specs.ConstructViews.{open_view, stack_view};
 ghost use Rattle.nt_types.specs.FaultViews.{type_fault, or_malformed};
 
@@ -84,7 +84,7 @@ impl Reading {
     /// A part has ended, and this byte follows it.
     fn place(&mut self, alloc: Global, part: Shape, after: u8) -> Result<(), TypeError>
         requires { self.old.done ≡ None }
-        ensures state { IsAnswer (λ _. state_view self.new) type_fault result
+        ensures state { Answers (λ _. state_view self.new) type_fault result
             (or_malformed (place self.old.keep (state_view self.old) (shape_view part) after)) }
         ensures keep { self.new.keep ≡ self.old.keep }
     {
@@ -104,7 +104,7 @@ impl Reading {
 
     /// A construct begins.
     fn begin(&mut self, alloc: Global, word: &[u8], after: u8) -> Result<(), TypeError>
-        ensures state { IsAnswer (λ _. state_view self.new) type_fault result
+        ensures state { Answers (λ _. state_view self.new) type_fault result
             (or_malformed (begin (state_view self.old) word.now after)) }
         ensures keep { self.new.keep ≡ self.old.keep }
     {
@@ -121,7 +121,7 @@ impl Reading {
 
     /// The name of a member stands before its type.
     fn name(&mut self, alloc: Global, word: &[u8]) -> Result<(), TypeError>
-        ensures state { IsAnswer (λ _. state_view self.new) type_fault result
+        ensures state { Answers (λ _. state_view self.new) type_fault result
             (or_malformed (named (state_view self.old) word.now)) }
         ensures keep { self.new.keep ≡ self.old.keep }
     {
@@ -143,7 +143,7 @@ impl Reading {
 
     /// A word has ended, and this byte of no word follows it.
     pub(crate) fn delimit(&mut self, alloc: Global, word: &[u8], after: u8) -> Result<(), TypeError>
-        ensures state { IsAnswer (λ _. state_view self.new) type_fault result
+        ensures state { Answers (λ _. state_view self.new) type_fault result
             (or_malformed (delimited self.old.keep (state_view self.old) word.now after)) }
         ensures keep { self.new.keep ≡ self.old.keep }
     {

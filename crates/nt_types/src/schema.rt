@@ -9,7 +9,7 @@ ghost use Rattle.nt_types.specs.Limits.{max_text};
 ghost use Rattle.nt_types.specs.Rules.{AreFields};
 ghost use Rattle.nt_types.specs.TextSpelling.{IsSchema, IsRefused};
 ghost use Rattle.nt_types.specs.TextAnswers.{TellsText};
-ghost use Rattle.nt_lists.specs.Answers.{IsAnswer};
+ghost use Rattle.nt_lists.specs.Answering.{Answers};
 ghost use Rattle.nt_types.specs.FaultViews.{schema_fault};
 ghost use Rattle.nt_types.specs.TextLines.{lines_left, bytes_left};
 ghost use Rattle.nt_types.specs.declared.fault.SchemaError.TheVariants.{Fault};
@@ -52,7 +52,7 @@ fn text_fault(kind: SchemaKind) -> SchemaError
 /// The fields of the lines, of which there is at least one.
 fn read_lines(alloc: Global, text: &[u8]) -> Result<Fields, SchemaError>
     requires { length text.now ≤ max_text }
-    ensures { IsAnswer members_view schema_fault result
+    ensures { Answers members_view schema_fault result
         (take_lines first_line (slice_split (λ b. b == 10) text.now)) }
 {
     let mut progress = Progress::new(alloc);
@@ -78,20 +78,20 @@ pub fn parse_schema(alloc: Global, text: &[u8]) -> Result<Fields, SchemaError>
     ensures told { TellsText text.now result }
     // Fields that the text spells are read, unless memory runs out.
     ensures only { (fields : List Part) → IsSchema text.now fields
-        → IsAnswer members_view schema_fault result (Ok fields) }
+        → Answers members_view schema_fault result (Ok fields) }
     // The first fault is answered, unless memory runs out.
     ensures each { (fault : SchemaFault) → IsRefused text.now fault.line fault.kind
-        → IsAnswer members_view schema_fault result (Err fault) }
+        → Answers members_view schema_fault result (Err fault) }
     // What is read keeps the rules of fields.
     ensures rules { IfOk result (λ fields. AreFields (members_view fields)) }
     // The same by the reading of lines, which callers' own words of schema texts cite.
-    ensures exact { IsAnswer members_view schema_fault result (schema_text text.now) }
+    ensures exact { Answers members_view schema_fault result (schema_text text.now) }
 {
     read_text(alloc, text)
 }
 
 fn read_text(alloc: Global, text: &[u8]) -> Result<Fields, SchemaError>
-    ensures { IsAnswer members_view schema_fault result (schema_text text.now) }
+    ensures { Answers members_view schema_fault result (schema_text text.now) }
 {
     if text.len() > MAX_TEXT {
         return Err(text_fault(SchemaKind::TooLong));

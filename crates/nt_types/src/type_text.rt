@@ -3,7 +3,7 @@
 ghost use Rattle.std.specs.Prelude.{◌≡◌, []};
 ghost use Rattle.nt_types.specs.Views.{shape_view};
 ghost use Rattle.nt_types.specs.Reading.{read, start};
-ghost use Rattle.nt_lists.specs.Answers.{IsAnswer};
+ghost use Rattle.nt_lists.specs.Answering.{Answers};
 ghost use Rattle.nt_types.specs.FaultViews.{type_fault, or_malformed};
 
 use crate::fault::TypeError;
@@ -13,7 +13,7 @@ use crate::word::is_word_byte;
 use std::alloc::Global;
 
 pub(crate) fn read_type(alloc: Global, keep: bool, text: &[u8]) -> Result<Shape, TypeError>
-    ensures { IsAnswer shape_view type_fault result (or_malformed (read keep start [] text.now)) }
+    ensures { Answers shape_view type_fault result (or_malformed (read keep start [] text.now)) }
 {
     let mut reading = Reading::new(alloc, keep);
     let mut from = 0;

@@ -1,5 +1,5 @@
 use Rattle.std.proofs.Common.{take}
-use Rattle.nt_schema.specs.Find.{HasNames}
+use Rattle.nt_schema.specs.ByName.{HasNames}
 use Rattle.nt_schema.proofs.by_name.names_of.Given as goal
 
 abbrev pub invariant-loop-id : goal.invariant-loop-id

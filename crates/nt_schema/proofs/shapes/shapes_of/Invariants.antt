@@ -1,9 +1,10 @@
 use Rattle.std.proofs.Common.{◌≡◌, ◌++◌, map, drop}
 use Rattle.std.specs.Prelude.{option_map}
 use Rattle.nt_types.specs.Views.{shape_view}
-use Rattle.nt_schema.specs.Open.{open_kinds}
+use Rattle.nt_grammar.specs.Open.{open_shapes}
 use Rattle.nt_schema.proofs.shapes.shapes_of.Given as goal
 
 abbrev pub invariant-loop-id : goal.invariant-loop-id
 invariant-loop-id l =
-    map (option_map shape_view) l.shapes.items ++ open_kinds l.fields l.columns l.id (drop l.id l.fields) ≡ open_kinds l.fields l.columns 0 l.fields
+    map (option_map shape_view) l.shapes.items ++ open_shapes l.fields l.columns l.id (drop l.id l.fields)
+    ≡ open_shapes l.fields l.columns 0 l.fields

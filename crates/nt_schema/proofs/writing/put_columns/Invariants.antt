@@ -1,6 +1,6 @@
 use Rattle.std.proofs.Common.{◌≡◌, drop}
 use Rattle.nt_frame.specs.Writing.{appended}
-use Rattle.nt_schema.specs.Writing.{column_records}
+use Rattle.nt_grammar.specs.Writing.{column_records}
 use Rattle.nt_schema.proofs.writing.put_columns.Given as goal
 
 abbrev pub invariant-loop-row : goal.invariant-loop-row

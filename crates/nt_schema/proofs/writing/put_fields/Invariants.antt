@@ -1,8 +1,8 @@
 use Rattle.std.proofs.Common.{◌≡◌, true, drop}
 use Rattle.std.specs.List.{list_all}
 use Rattle.nt_frame.specs.Writing.{appended}
-use Rattle.nt_schema.specs.Table.{is_short}
-use Rattle.nt_schema.specs.Writing.{field_records}
+use Rattle.nt_grammar.specs.Table.{is_short}
+use Rattle.nt_grammar.specs.Writing.{field_records}
 use Rattle.nt_schema.proofs.writing.put_fields.Given as goal
 
 abbrev pub invariant-loop-row : goal.invariant-loop-row

@@ -3,7 +3,7 @@ use Rattle.std.specs.Option.{option_map}
 use Rattle.std.proofs.lemmas.Option.{slice_get-map, slice_get_within, get_or_from_slice_get}
 use Rattle.std.proofs.lemmas.List.{map_more, take_all, length-map}
 use Rattle.nt_types.specs.ColumnTable.{code_of}
-use Rattle.nt_schema.specs.declared.rows.ColumnRow.{ColumnRow}
+use Rattle.nt_grammar.specs.declared.rows.ColumnRow.{ColumnRow}
 use Rattle.nt_column.specs.Column.{Column, Buffer, columns_of}
 use Rattle.nt_pages.specs.Image.{AreDescribed}
 use Rattle.nt_tables.proofs.tests.images.describes.Goals as goal

@@ -1,0 +1,13 @@
+pub mod Listing
+pub mod ReadingRows
+pub mod ReadingBack
+pub mod ReadingParts
+pub mod ReadingFound
+pub mod ReadingFoundLists
+pub mod ReadingDescribed
+pub mod Lengths
+pub mod AllNodes
+pub mod ReadingSchemas
+pub mod FieldsInside
+pub mod Inside
+pub mod Described

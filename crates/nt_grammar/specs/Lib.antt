@@ -1,0 +1,11 @@
+pub mod Codes
+pub mod Table
+pub mod Types
+pub mod Columns
+pub mod Rows
+pub mod Listing
+pub mod Reading
+pub mod ReadingBack
+pub mod Writing
+pub mod Open
+pub mod AsRead

@@ -1,5 +1,0 @@
-use Rattle.nt_schema.proofs.Described.{described-open}
-use Rattle.nt_schema.proofs.laws.described_fields_are_open.Goals as goal
-
-pub returns : goal.returns
-returns c = described-open

@@ -1,9 +1,0 @@
-use Rattle.std.proofs.Common.{◌∙◌, ap, sym}
-use Rattle.std.proofs.Math.ListN.{get_or-map}
-use Rattle.std.proofs.lemmas.List.{length-map}
-use Rattle.nt_schema.specs.NodeViews.{node_view}
-use Rattle.nt_schema.proofs.Listing.{Lists-next}
-use Rattle.nt_schema.proofs.nodes.expand.Goals as goal
-
-pub returns : goal.returns
-returns c = λ ps l. Lists-next ps _ _ _ (node_view c.index-node.result.now) (rw length-map c.requires.here) (ap node_view c.index-node.ensures ∙ sym (get_or-map node_view c.args.nodes.now.items c.args.next c.index-node.result.now)) c.in_ok-push_inside.ensures l

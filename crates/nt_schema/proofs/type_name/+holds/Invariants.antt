@@ -1,9 +1,0 @@
-use Rattle.std.proofs.Common.{◌≡◌, map, drop}
-use Rattle.nt_types.specs.Views.{shape_view}
-use Rattle.nt_types.specs.Kinds.{kinds_of}
-use Rattle.nt_schema.specs.Types.{any_holds_record}
-use Rattle.nt_schema.proofs.type_name.+holds.Given as goal
-
-abbrev pub invariant-any_holds_record-loop-shape : goal.invariant-any_holds_record-loop-shape
-invariant-any_holds_record-loop-shape l =
-    any_holds_record (kinds_of (map shape_view (drop l.shape-index l.shapes))) ≡ any_holds_record (kinds_of (map shape_view l.shapes))
