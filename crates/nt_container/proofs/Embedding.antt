@@ -13,7 +13,8 @@ use Rattle.nt_format.specs.Reading.{standing, IsBytes}
 use Rattle.nt_format.specs.Pieces.{piece, window}
 use Rattle.nt_format.specs.Demands.{demand, first_in}
 use Rattle.nt_format.specs.Relations.{Agrees, With, Is, Passes, Stands, StandsAt}
-use Rattle.nt_format.proofs.Steps.{guard_ok, guard_passed, bind_ok, IsBytes-drop}
+use Rattle.nt_format.proofs.Steps.{IsBytes-drop}
+use Rattle.nt_lists.proofs.Chaining.{guard_ok, guard_passed, bind_ok}
 use Rattle.nt_format.proofs.Relations.{bind, exactly, refused, test, there, part, piece_bytes, at, whole, located, window-bytes, stands_from, stands_to, in_words}
 use Rattle.nt_container.specs.declared.parts.FileHeader.{FileHeader}
 use Rattle.nt_container.specs.Faults.{fault, unfinished, not_root, bad_file_header}

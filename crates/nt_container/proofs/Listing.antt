@@ -7,12 +7,15 @@ use Rattle.std.specs.Str.{bytes_eq}
 use Rattle.nt_num.specs.Place.{At}
 use Rattle.nt_num.specs.Cursor.{big}
 use Rattle.nt_num.specs.declared.fault.ReadError.{ReadError}
-use Rattle.nt_format.specs.Reading.{◌>>=◌, refused_as, standing, IsBytes}
+use Rattle.nt_format.specs.Reading.{standing, IsBytes}
+use Rattle.nt_lists.specs.Chaining.{◌>>=◌, refused_as}
 use Rattle.nt_format.specs.Pieces.{piece}
 use Rattle.nt_format.specs.Demands.{bytes_at}
 use Rattle.nt_format.specs.Grammars.{IsRead, Bytes}
 use Rattle.nt_format.specs.Relations.{Agrees, With, Stands, StandsAt, IsPiece, IsThere}
-use Rattle.nt_format.proofs.Steps.{ok_is, bind_ok, refused_as_ok, IsBytes-drop}
+use Rattle.nt_format.proofs.Steps.{IsBytes-drop}
+use Rattle.nt_lists.proofs.Chaining.{bind_ok, refused_as_ok}
+use Rattle.nt_lists.proofs.Variants.{ok_is}
 use Rattle.nt_format.proofs.Grammars.{plain, seq, gives}
 use Rattle.nt_format.proofs.Relations.{bind, refused, there, part, piece_bytes, at, stands_from, stands_to}
 use Rattle.nt_container.specs.declared.parts.Directory.{Directory}

@@ -6,7 +6,7 @@ use Rattle.nt_num.specs.Place.{At}
 use Rattle.nt_num.specs.Cursor.{big, part_of}
 use Rattle.nt_num.specs.declared.fault.ReadError.{ReadError}
 use Rattle.nt_xxh3.specs.Sum.{xxh3}
-use Rattle.nt_format.specs.Reading.{◌>>=◌, refused_as}
+use Rattle.nt_lists.specs.Chaining.{◌>>=◌, refused_as}
 use Rattle.nt_format.specs.Pieces.{piece_or}
 use Rattle.nt_format.specs.Demands.{bytes_at, demand}
 use Rattle.nt_container.specs.declared.anchor.Anchor.{Anchor}

@@ -6,7 +6,7 @@ use Rattle.std.specs.Str.{bytes_eq}
 use Rattle.nt_num.specs.Place.{At}
 use Rattle.nt_num.specs.Cursor.{big}
 use Rattle.nt_num.specs.declared.fault.ReadError.{ReadError}
-use Rattle.nt_format.specs.Reading.{◌>>=◌}
+use Rattle.nt_lists.specs.Chaining.{◌>>=◌}
 use Rattle.nt_format.specs.Pieces.{window}
 use Rattle.nt_format.specs.Demands.{bytes_at, demand, first_in}
 use Rattle.nt_container.specs.declared.parts.FileHeader.{FileHeader}

@@ -5,7 +5,7 @@ use Rattle.std.specs.Str.{bytes_eq}
 use Rattle.nt_num.specs.Place.{At}
 use Rattle.nt_num.specs.Cursor.{big}
 use Rattle.nt_num.specs.declared.fault.ReadError.{ReadError}
-use Rattle.nt_format.specs.Reading.{◌>>=◌, refused_as}
+use Rattle.nt_lists.specs.Chaining.{◌>>=◌, refused_as}
 use Rattle.nt_format.specs.Pieces.{piece_or}
 use Rattle.nt_format.specs.Demands.{bytes_at, found_or}
 use Rattle.nt_container.specs.declared.parts.Directory.{Directory}

@@ -3,7 +3,7 @@ use Rattle.std.specs.Prelude.{ℕ, Bool, List, ◌∷◌, ◌++◌, length, nat_
 use Rattle.std.specs.Int.{w8, w32, w64, to_be_bytes}
 use Rattle.nt_num.specs.Place.{At}
 use Rattle.nt_num.specs.Cursor.{little, big}
-use Rattle.nt_format.specs.Reading.{◌>>=◌}
+use Rattle.nt_lists.specs.Chaining.{◌>>=◌}
 use Rattle.nt_format.specs.Demands.{bytes_at}
 
 -- a place in the file, of 8 or 4 bytes

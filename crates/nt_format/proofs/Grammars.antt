@@ -2,8 +2,11 @@
 use Rattle.std.proofs.Common.{◌≡◌, ℕ, ◌+◌, ◌≤◌, Bool, true, false, cond, List, [], ◌++◌, length, Result, Ok, refl, sym, ap, ◌∙◌, append_assoc, arith}
 use Rattle.std.proofs.lemmas.List.{length-append}
 use Rattle.nt_num.specs.Place.{At}
-use Rattle.nt_format.specs.Reading.{◌>>=◌, standing, Spells}
-use Rattle.nt_format.proofs.Steps.{ok_is, bind_ok, Takes-then, next_takes, next_again}
+use Rattle.nt_format.specs.Reading.{standing, Spells}
+use Rattle.nt_lists.specs.Chaining.{◌>>=◌}
+use Rattle.nt_format.proofs.Steps.{Takes-then, next_takes, next_again}
+use Rattle.nt_lists.proofs.Chaining.{bind_ok}
+use Rattle.nt_lists.proofs.Variants.{ok_is}
 use Rattle.nt_format.specs.Demands.{bytes_at}
 use Rattle.nt_format.specs.Grammars.{IsRead, Then, Makes, Spelled, Bytes, Choice}
 

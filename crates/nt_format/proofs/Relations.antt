@@ -3,8 +3,11 @@ use Rattle.std.proofs.Common.{◌≡◌, ℕ, ◌+◌, ◌≤◌, Bool, List, �
 use Rattle.std.proofs.lemmas.List.{take_at, drop_at, take-take, take-append-drop, drop-drop}
 use Rattle.nt_num.specs.Place.{At}
 use Rattle.nt_num.specs.Cursor.{part_of}
-use Rattle.nt_format.specs.Reading.{◌>>=◌, refused_as, standing, IsBytes}
-use Rattle.nt_format.proofs.Steps.{ok_is, bind_ok, refused_as_ok, guard_passed, part_takes, part_again, IsBytes-drop, IsBytes-take}
+use Rattle.nt_format.specs.Reading.{standing, IsBytes}
+use Rattle.nt_lists.specs.Chaining.{◌>>=◌, refused_as}
+use Rattle.nt_format.proofs.Steps.{part_takes, part_again, IsBytes-drop, IsBytes-take}
+use Rattle.nt_lists.proofs.Chaining.{bind_ok, refused_as_ok, guard_passed}
+use Rattle.nt_lists.proofs.Variants.{ok_is}
 use Rattle.nt_format.specs.Pieces.{piece, window, standing_or, piece_or}
 use Rattle.nt_format.specs.Demands.{demand, found_or, alone_of, first_in}
 use Rattle.nt_format.proofs.Pieces.{piece_parts}

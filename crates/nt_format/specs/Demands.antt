@@ -2,7 +2,8 @@
 use Rattle.std.specs.Prelude.{ℕ, Bool, List, if◌then◌else◌, Option, Some, None, Result, Ok, Err}
 use Rattle.nt_num.specs.Place.{At}
 use Rattle.nt_num.specs.Cursor.{next}
-use Rattle.nt_format.specs.Reading.{standing, refused_as}
+use Rattle.nt_format.specs.Reading.{standing}
+use Rattle.nt_lists.specs.Chaining.{refused_as}
 
 -- the next n bytes as they are
 abbrev pub bytes_at : ℕ → At → Result (List ℕ × At) ℕ
