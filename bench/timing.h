@@ -2,19 +2,19 @@
 #include <stdlib.h>
 #include <time.h>
 
-static double now(void) {
+static inline double now(void) {
     struct timespec t;
     clock_gettime(CLOCK_MONOTONIC, &t);
     return t.tv_sec + t.tv_nsec * 1e-9;
 }
 
-static int ascending(const void *a, const void *b) {
+static inline int ascending(const void *a, const void *b) {
     double x = *(const double *)a, y = *(const double *)b;
     return (x > y) - (x < y);
 }
 
 /* Sorts the times. */
-static double median(double *times, size_t count) {
+static inline double median(double *times, size_t count) {
     qsort(times, count, sizeof *times, ascending);
     return times[count / 2];
 }

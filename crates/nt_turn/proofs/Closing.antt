@@ -1,16 +1,15 @@
 -- What stands in the slot once all passes were joined.
-use Rattle.std.proofs.Common.{◌≡◌, ◌≢◌, ◌⊎◌, inl, inr, ⊎_elim, ℕ, ◌+◌, ◌<◌, ◌≤◌, Bool, true, false, List, [], ◌∷◌, length, refl, sym, ap, ◌∙◌, subst, arith}
+use Rattle.std.proofs.Common.{◌≡◌, ◌≢◌, ◌⊎◌, inl, inr, ⊎_elim, ℕ, ◌<◌, ◌≤◌, Bool, true, false, List, [], ◌∷◌, refl, sym, ap, ◌∙◌, subst, arith}
 use Rattle.std.specs.List.{AllByRecursion}
 use Rattle.std.proofs.lemmas.Bool.{cases_eq, cases_lt}
 use Rattle.std.proofs.Math.Nat.{eq-or-lt_of_le}
 use Rattle.std.specs.declared.option.Option.{Option}
-use Rattle.std.specs.declared.option.Option.TheVariants.{Some, None}
-use mathlib.Core.Option.{Option as Maybe, some, none, some-injective, some-ne-none}
+use Rattle.std.specs.declared.option.Option.TheVariants.{Some}
+use mathlib.Core.Option.{Option as Maybe, some, some-injective}
 use mathlib.Core.List.{IsPrefix}
 use lib.ListN.{get_elem?}
-use Rattle.atomic_table.specs.Table.{State, Me, Final, Seen}
-use Rattle.nt_turn.specs.declared.view.Stage.{Stage}
-use Rattle.nt_turn.specs.declared.view.Stage.TheVariants.{Idle, Waiting, Holding}
+use Rattle.atomic_table.specs.Table.{Me, Final, Seen}
+use Rattle.nt_turn.specs.declared.view.Stage.TheVariants.{Idle, Holding}
 use Rattle.nt_turn.specs.declared.view.View.{View}
 use Rattle.nt_turn.specs.Tickets.{IsHome, Ordered}
 use Rattle.nt_turn.specs.History.{entries_of, HasNone}
@@ -51,23 +50,26 @@ module _ {V E B : Type 0} (history : V → List E) (born : V → B) (context : E
 
   pub closes : (x : V) × (homes ≡ some (Some x) ∷ []) × Closes history born context (pass_state turn v) x
   closes =
-      let y = h.home at_home.0 at_home.1 in
-      (y.0, at_home.1 ∙ ap (λ (z : Option V). some z ∷ []) y.1, record {
-        seen = subst (IsPrefix v.seen) (sym y.2) (h.each id v at).seen;
-        own = (h.each id v at).own ∙ ap (λ (l : List E). entries_of context l v.number) (sym y.2);
-        kept = subst (λ (k : List (ℕ × List E)). AllByRecursion (λ (p : ℕ × List E). p.1 ≡ entries_of context (history y.0) p.0) k) (sym firsts.1)
-            (All-weaker (λ (k : ℕ × List E). (k.0 < h.splits) × (k.1 ≡ entries_of context h.all k.0)) (λ (k : ℕ × List E). k.1 ≡ entries_of context (history y.0) k.0) (λ k p. p.1 ∙ ap (λ (l : List E). entries_of context l k.0) (sym y.2)) h.kept h.joins);
-        others = λ n ne has. ap (λ (l : List E). entries_of context l n) y.2 ∙ h.unused n (above n ne has);
-        birth = (h.each id v at).birth ∙ ap (λ (b : B). Some b) (sym y.3);
-      })
+      let y = h.home at_home.0 at_home.1 in (
+        y.0,
+        at_home.1 ∙ ap (λ (z : Option V). some z ∷ []) y.1,
+        record {
+          seen = subst (IsPrefix v.seen) (sym y.2) (h.each id v at).seen;
+          own = (h.each id v at).own ∙ ap (λ (l : List E). entries_of context l v.number) (sym y.2);
+          kept = subst (λ (k : List (ℕ × List E)). AllByRecursion (λ (p : ℕ × List E). p.1 ≡ entries_of context (history y.0) p.0) k) (sym firsts.1)
+              (All-weaker (λ (k : ℕ × List E). (k.0 < h.splits) × (k.1 ≡ entries_of context h.all k.0)) (λ (k : ℕ × List E). k.1 ≡ entries_of context (history y.0) k.0) (λ k p. p.1 ∙ ap (λ (l : List E). entries_of context l k.0) (sym y.2)) h.kept h.joins);
+          others = λ n ne has. ap (λ (l : List E). entries_of context l n) y.2 ∙ h.unused n (above n ne has);
+          birth = (h.each id v at).birth ∙ ap (λ (b : B). Some b) (sym y.3);
+        },
+      )
     where
       above : (n : ℕ) → n ≢ v.number → HasNone v.kept n → ((h.splits ≤ n) × (n < seats)) ⊎ (seats < n)
       above n ne has = elim (cases_lt n v.splits) [
         | inl less ↦ absurd (all n less has)
         | inr more ↦ elim (cases_lt n seats) [
-            | inl below ↦ inl (let m = firsts.0 in omega arith, below)
-            | inr over ↦ ⊎_elim (λ s. absurd (ne (sym s ∙ sym one))) (λ s. inr s) (eq-or-lt_of_le over)
-          ]
+          | inl below ↦ inl (let m = firsts.0 in omega arith, below)
+          | inr over ↦ ⊎_elim (λ s. absurd (ne (sym s ∙ sym one))) (λ s. inr s) (eq-or-lt_of_le over)
+        ]
       ]
 
 module _ {V E B : Type 0} (history : V → List E) (born : V → B) (context : E → ℕ) (birth : B) (seats : ℕ) where
@@ -80,4 +82,3 @@ module _ {V E B : Type 0} (history : V → List E) (born : V → B) (context : E
       let c = closes history born context birth seats kept.0 kept.1 s.homes s.views kept.3 kept.4 id turn me.0 (final.1.1, idle.live) idle.stage one all in
       let home : get_elem? slots 0 ≡ some (Some c.0) = final.4 0 (Some c.0) (ap (λ (l : List (Maybe (Option V))). get_elem? l 0) c.1) in
       (c.0, some-injective _ _ (sym there ∙ home), c.2)
-

@@ -3,7 +3,9 @@ pub mod Prefixes
 pub mod Entries
 pub mod Stages
 pub mod Histories
+pub mod Members
 pub mod Moves
 pub mod Passes
 pub mod Opening
 pub mod Closing
+pub mod Joining

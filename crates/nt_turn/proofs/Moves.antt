@@ -1,10 +1,10 @@
 -- Each step of a pass keeps the rule.
-use Rattle.std.proofs.Common.{◌≡◌, ◌≢◌, inl, inr, ⊎_elim, ℕ, ◌+◌, ◌%◌, ◌^◌, ◌<◌, ◌≤◌, ◌==◌, Bool, true, false, List, [], ◌∷◌, ◌++◌, set, refl, sym, ap, ◌∙◌, subst, append-nil, arith}
+use Rattle.std.proofs.Common.{◌≡◌, ◌≢◌, ⊎_elim, ℕ, ◌+◌, ◌%◌, ◌^◌, ◌<◌, ◌==◌, Bool, true, false, List, [], ◌∷◌, ◌++◌, set, refl, sym, ap, ◌∙◌, subst, append-nil, arith}
 use Rattle.std.specs.Prelude.{slice_index, slice_set}
 use Rattle.std.specs.List.{AllByRecursion}
 use Rattle.std.proofs.lemmas.Bool.Decides.{nat_tests}
 use Rattle.std.specs.declared.option.Option.{Option}
-use Rattle.std.specs.declared.option.Option.TheVariants.{Some, None}
+use Rattle.std.specs.declared.option.Option.TheVariants.{Some}
 use mathlib.Core.Option.{Option as Maybe, some, none, some-injective, some-ne-none}
 use mathlib.Core.List.{IsPrefix}
 use lib.ListN.{get_elem?}
@@ -17,14 +17,15 @@ use Rattle.nt_turn.specs.declared.view.View.{View}
 use Rattle.nt_turn.specs.Tickets.{ticket_of, IsHome, Ordered}
 use Rattle.nt_turn.specs.History.{entries_of, longer}
 use Rattle.nt_turn.specs.View.{spent, split_off, after_split, joined, IsAt, stages}
-use Rattle.nt_turn.specs.Steps.{history_in, Drew, Looked, Holds, Gave, Learned, IsIdle, IsWaiting, IsHolding}
+use Rattle.nt_turn.specs.Steps.{Drew, Looked, Holds, Gave, Learned, IsIdle, IsWaiting, IsHolding}
 use Rattle.nt_turn.specs.Pass.{Adds, pass_state}
 use Rattle.atomic_table.specs.Seated.{TableId}
 use Rattle.nt_turn.specs.Rule.{Knows, Histories, InTurn}
 use Rattle.nt_turn.proofs.Tickets.{drawn, taken, given, widened}
 use Rattle.nt_turn.proofs.Stages.{stages_set, stages_snoc, stage_at}
 use Rattle.nt_turn.proofs.Prefixes.{prefix_longer, prefix_none}
-use Rattle.nt_turn.proofs.Histories.{moved, gave, split, join}
+use Rattle.nt_turn.proofs.Histories.{moved, gave}
+use Rattle.nt_turn.proofs.Members.{split, join}
 
 -- the slot of a pass that took one
 pub one_slot : {A : Type 0} (l : List (ℕ × A)) (y : A) → l ≡ (0, y) ∷ [] → l ≡ (0, y) ∷ rest l
@@ -91,7 +92,7 @@ module _ {V E B : Type 0} (history : V → List E) (born : V → B) (context : E
         let whole : IsPrefix (history x.0) h.all = ([], append-nil (history x.0) ∙ x.2) in
         let kept = moved history born context birth seats homes views h id v at w (record { live = refl; number = refl; own = refl; birth = refl; splits = refl; kept = refl }) whole knows.told (λ s e. x.2) (none ∷ []) (λ y e. absurd (empty y e)) in
         let both : Ordered next serving (slice_set homes 0 none) (stages (set views id w)) × Histories history born context birth seats (slice_set homes 0 none) (set views id w)
-            = subst (λ (l : List (Maybe (Option V))). Ordered next serving l (stages (set views id w)) × Histories history born context birth seats l (set views id w)) (sym out) (tickets, kept) in
+        = subst (λ (l : List (Maybe (Option V))). Ordered next serving l (stages (set views id w)) × Histories history born context birth seats l (set views id w)) (sym out) (tickets, kept) in
         let ticket : ticket_of v.stage ≡ serving = ap ticket_of waits ∙ sym same in
         let found : (serving == ticket_of v.stage) ≡ true = ap (λ (k : ℕ). serving == k) (ap ticket_of waits) ∙ is in
         let told : Holds history born context (ticket_of v.stage) (v, []) (w, (0, home.0) ∷ []) = record {
@@ -131,7 +132,7 @@ module _ {V E B : Type 0} (history : V → List E) (born : V → B) (context : E
         let tickets = restaged next (serving + 1) (some (Some x) ∷ []) views id w (given next serving homes (stages views) o id (Some x) own) in
         let kept = gave history born context birth seats homes views h id v at t holds x more is ours birth_is (alone t holds) w refl in
         let both : Ordered next (serving + 1) (slice_set homes 0 (some (Some x))) (stages (set views id w)) × Histories history born context birth seats (slice_set homes 0 (some (Some x))) (set views id w)
-            = subst (λ (l : List (Maybe (Option V))). Ordered next (serving + 1) l (stages (set views id w)) × Histories history born context birth seats l (set views id w)) (sym back) (tickets, kept) in
+        = subst (λ (l : List (Maybe (Option V))). Ordered next (serving + 1) l (stages (set views id w)) × Histories history born context birth seats l (set views id w)) (sym back) (tickets, kept) in
         (w, gives, tt, (next, serving + 1, ap (λ (k : ℕ). next ∷ k ∷ []) word, both.0, both.1), refl)
 
     learn_goes : (s : Stage) → v.stage ≡ s → ((t : ℕ) → s ≡ Holding t → ⊥) → Goes id (v, []) 1 (λ n. n) (Learned (step slots 1 0 0 none) (v, [])) homes views (next ∷ serving ∷ [])

@@ -1,15 +1,14 @@
 -- The rule holds at the start.
-use Rattle.std.proofs.Common.{◌≡◌, ◌≢◌, ◌⊎◌, inl, inr, ℕ, zero, suc, ◌^◌, ◌<◌, ◌≤◌, true, false, List, [], ◌∷◌, refl, sym, ap, ◌∙◌, subst, arith}
+use Rattle.std.proofs.Common.{◌≡◌, inl, ℕ, zero, suc, List, [], ◌∷◌, refl, sym, ap, ◌∙◌, subst, arith}
 use Rattle.std.specs.declared.option.Option.{Option}
-use Rattle.std.specs.declared.option.Option.TheVariants.{Some, None}
-use mathlib.Core.Option.{Option as Maybe, some, none, some-injective, some-ne-none}
+use Rattle.std.specs.declared.option.Option.TheVariants.{Some}
+use mathlib.Core.Option.{Option as Maybe, some, some-injective, some-ne-none}
 use lib.ListN.{get_elem?}
 use Rattle.nt_turn.specs.declared.view.Stage.{Stage}
-use Rattle.nt_turn.specs.declared.view.Stage.TheVariants.{Idle, Waiting, Holding}
+use Rattle.nt_turn.specs.declared.view.Stage.TheVariants.{Idle, Holding}
 use Rattle.nt_turn.specs.declared.view.View.{View}
 use Rattle.nt_turn.specs.Tickets.{HasTicket, Ordered}
-use Rattle.nt_turn.specs.History.{entries_of}
-use Rattle.nt_turn.specs.View.{newcomer, IsAt, stages}
+use Rattle.nt_turn.specs.View.{newcomer}
 use Rattle.nt_turn.specs.Rule.{Knows, Histories, InTurn}
 use Rattle.nt_turn.proofs.Prefixes.{prefix_none}
 

@@ -1,5 +1,6 @@
 -- A pass as its user sees it, and as it stands at the table.
-use Rattle.std.proofs.Common.{◌≡◌, ℕ, ◌<◌, Bool, true, false, List, [], ◌∷◌, refl, sym, ap, ◌∙◌, arith}
+use Rattle.std.proofs.Common.{◌≡◌, ℕ, ◌<◌, Bool, true, false, List, [], ◌∷◌, ◌++◌, refl, sym, ap, ◌∙◌, append-nil, arith}
+use Rattle.std.specs.Prelude.{MatchBool}
 use Rattle.std.specs.declared.option.Option.{Option}
 use Rattle.std.specs.declared.option.Option.TheVariants.{None}
 use Rattle.atomic_table.specs.Table.{Me}
@@ -8,7 +9,7 @@ use Rattle.nt_turn.specs.declared.view.Stage.{Stage}
 use Rattle.nt_turn.specs.declared.view.Stage.TheVariants.{Idle, Waiting, Holding}
 use Rattle.nt_turn.specs.declared.view.View.{View}
 use Rattle.nt_turn.specs.Steps.{IsIdle, IsHolding}
-use Rattle.nt_turn.specs.Pass.{TurnState, PassState, IsPass, IsSettled, IsFree, IsFirst, IsHolder, holds_turn, pass_state}
+use Rattle.nt_turn.specs.Pass.{TurnState, PassState, IsPass, IsSettled, IsFree, IsFirst, IsHolder, Adds, holds_turn, pass_state}
 
 idle_by : {V : Type 0} (s : Stage) (out : List (ℕ × Option V)) → IsSettled s out → holds_turn s ≡ false → (s ≡ Idle) × (out ≡ [])
 idle_by Idle out is free = (refl, is)
@@ -50,3 +51,8 @@ module _ {V E B : Type 0} (id : TableId) (seats : ℕ) (turn : TurnState) (turn_
   holder_of p =
       let at = holding_by me.0.stage me.1 is.settled (ap (λ (q : PassState E B). q.holds) pass_is ∙ p.held) in
       (of_turn p.turn_is, record { ticket = at.0; live = is.live; stage = at.1; out = at.2 })
+
+-- a history of the pass's own with at most one entry more
+pub adds_by : {E B : Type 0} (context : E → ℕ) (pass : PassState E B) (log : List E) (e : E) (done : Bool) → context e ≡ pass.number → MatchBool done (log ≡ pass.seen ++ e ∷ []) (log ≡ pass.seen) → Adds context pass log
+adds_by context pass log e true own is = record { more = e ∷ []; whole = is; ours = (own, tt) }
+adds_by context pass log e false own is = record { more = []; whole = is ∙ sym (append-nil pass.seen); ours = tt }

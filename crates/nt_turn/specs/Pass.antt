@@ -1,5 +1,5 @@
 -- A turn and its passes as their users see them, and what each call does to them.
-use Rattle.std.specs.Prelude.{◌≡◌, ◌≢◌, ℕ, ◌<◌, ◌≤◌, Bool, true, false, List, [], ◌∷◌, ◌++◌}
+use Rattle.std.specs.Prelude.{◌≡◌, ◌≢◌, ℕ, ◌<◌, Bool, true, false, List, [], ◌∷◌, ◌++◌}
 use Rattle.std.specs.List.{AllByRecursion}
 use mathlib.Core.List.{IsPrefix}
 use Rattle.std.specs.declared.option.Option.{Option}
@@ -89,6 +89,10 @@ pub record Adds {E B : Type 0} (context : E → ℕ) (pass : PassState E B) (log
 -- each pass that was split off was joined
 abbrev pub AllJoined : {E B : Type 0} → PassState E B → Type 0
 AllJoined first = (n : ℕ) → n < first.splits → HasNone first.kept n → ⊥
+
+-- of the passes that the first has now split off, each was joined to it since, or was split off and not joined before
+pub record JoinsSince {E B : Type 0} (old new : PassState E B) : Type 0 where
+  pub each : (n : ℕ) → n < new.splits → HasNone new.kept n → (n < old.splits) × HasNone old.kept n
 
 -- the history begins with what the first pass has seen, and has just its entries and those that it keeps; the birth is the one that it knows
 pub record Closes {V E B : Type 0} (history : V → List E) (born : V → B) (context : E → ℕ) (first : PassState E B) (x : V) : Type 0 where

@@ -1,5 +1,5 @@
 -- The rule of the turn: what is true of its table between two steps.
-use Rattle.std.specs.Prelude.{◌≡◌, ◌≢◌, ◌⊎◌, ℕ, ◌<◌, ◌≤◌, Bool, true, false, List, [], ◌∷◌}
+use Rattle.std.specs.Prelude.{◌≡◌, ◌≢◌, ◌⊎◌, ℕ, ◌<◌, ◌≤◌, false, List, [], ◌∷◌}
 use Rattle.std.specs.List.{AllByRecursion}
 use mathlib.Core.Option.{Option as Maybe, some}
 use mathlib.Core.List.{IsPrefix}

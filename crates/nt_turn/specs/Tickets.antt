@@ -35,4 +35,3 @@ pub record Ordered {A : Type 0} (next serving : ℕ) (homes : List (Maybe A)) (v
   pub apart : (i j t : ℕ) (v w : Stage) → get_elem? views i ≡ some v → get_elem? views j ≡ some w → HasTicket t v → HasTicket t w → i ≡ j
   pub holding : (by t : ℕ) → get_elem? views by ≡ some (Holding t) → (t ≡ serving) × IsOut homes
   pub home : IsHome homes ⊎ (IsOut homes × SomeHolds views serving)
-

@@ -4,10 +4,14 @@
 mod logged;
 mod pass;
 mod rule;
+mod shared;
+#[cfg(test)]
+mod tests;
 mod turn;
 mod view;
 mod wait;
 
 pub use logged::Logged;
 pub use pass::Pass;
-pub use turn::Turn;
+pub use shared::turns_cross_threads;
+pub use turn::{MOST_SEATS, Turn};

@@ -17,7 +17,12 @@ impl<V: Logged> TableRule<Option<V>, View<V::Entry, V::Birth>, Key<V>> for Kept 
 }
 
 /// The words and the slot, as all passes share them.
-pub type Cells<V> = Shared<Option<V>, View<<V as Logged>::Entry, <V as Logged>::Birth>, Key<V>, Kept>;
+pub type Cells<V> = Shared<
+    Option<V>,
+    View<<V as Logged>::Entry, <V as Logged>::Birth>,
+    Key<V>,
+    Kept,
+>;
 
 /// A pass at the table.
 pub type Place<V> = Seat<Option<V>, View<<V as Logged>::Entry, <V as Logged>::Birth>>;

@@ -76,7 +76,9 @@ impl<V: Logged> Turn<V> {
             }
             Err(refused) => {
                 let Refused { mut slots } = refused;
-                let Some(slot) = slots.pop() else { unreachable!() };
+                let Some(slot) = slots.pop() else {
+                    unreachable!()
+                };
                 slots.destroy_empty();
                 let Some(value) = slot else { unreachable!() };
                 Err((value, AllocError))

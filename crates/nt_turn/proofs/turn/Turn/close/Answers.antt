@@ -1,4 +1,4 @@
-use Rattle.std.proofs.Common.{◌≡◌, ◌∙◌, sym, subst, Some}
+use Rattle.std.proofs.Common.{◌≡◌, sym, subst}
 use Rattle.nt_turn.specs.Pass.{AllJoined, Closes}
 use Rattle.nt_turn.proofs.Closing.{found}
 use Rattle.nt_turn.proofs.Passes.{first_of}

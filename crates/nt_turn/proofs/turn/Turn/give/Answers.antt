@@ -1,4 +1,4 @@
-use Rattle.std.proofs.Common.{arith, ◌≡◌, ◌<◌, ◌∙◌, ap, sym, subst}
+use Rattle.std.proofs.Common.{arith, ◌<◌, ◌∙◌, ap, sym, subst}
 use Rattle.nt_turn.specs.Pass.{Adds}
 use Rattle.nt_turn.proofs.Moves.{put_gives}
 use Rattle.nt_turn.proofs.Passes.{holder_of}

@@ -1,4 +1,4 @@
-use Rattle.std.proofs.Common.{List, map, ap, ◌∙◌, ◌++◌, ◌∷◌, [], Some}
+use Rattle.std.proofs.Common.{map, ap, ◌∙◌, ◌++◌, ◌∷◌, [], Some}
 use mathlib.Core.Option.{some}
 use Rattle.nt_turn.proofs.Opening.{opens}
 use Rattle.nt_turn.proofs.turn.Turn.new.Goals as goal

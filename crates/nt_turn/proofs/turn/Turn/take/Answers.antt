@@ -1,4 +1,4 @@
-use Rattle.std.proofs.Common.{◌≡◌, ◌∙◌, ap, Some}
+use Rattle.std.proofs.Common.{◌∙◌, ap, Some}
 use Rattle.nt_turn.proofs.Moves.{one_slot}
 use Rattle.nt_turn.proofs.Passes.{free_of}
 use Rattle.nt_turn.proofs.turn.Turn.take.Goals as goal
