@@ -2,6 +2,8 @@
 
 ghost use Rattle.std.specs.Prelude.{◌≡◌, ◌≤◌, ◌^◌, ◌↔◌, IsSome, IfSome};
 
+use thiserror::Error;
+
 /// How large a file and its parts may get. The largest limits are 2^30 for a range and 2^56 for
 /// a file.
 #[derive(Clone, Copy, Debug, PartialEq, Eq)]
@@ -33,4 +35,18 @@ impl Limits {
             None
         }
     }
+}
+
+/// A limit that a range would pass, in the order in which they are looked for.
+#[derive(Clone, Copy, Debug, PartialEq, Eq, Error)]
+pub enum LimitError {
+    /// The range is longer than a range may get.
+    #[error("a range of {len} bytes is above the limit of {limit}")]
+    RangeTooLarge { len: u64, limit: u64 },
+    /// The file would end past the place where it may end.
+    #[error("a file of {end} bytes is above the limit of {limit}")]
+    FileTooLarge { end: u64, limit: u64 },
+    /// The file has as many clusters as it may have.
+    #[error("the file has all its clusters")]
+    TooManyClusters,
 }

@@ -1,0 +1,12 @@
+//! A cluster of a book.
+
+use crate::meta::ClusterMeta;
+use crate::state::RangeState;
+
+/// A cluster, where its range starts in the file, and what became of it.
+#[derive(Drop)]
+pub(crate) struct ClusterRow {
+    pub(crate) meta: ClusterMeta,
+    pub(crate) start: u64,
+    pub(crate) state: RangeState,
+}
