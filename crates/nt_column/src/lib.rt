@@ -16,6 +16,3 @@ pub use columns::Columns;
 pub use cow::CowSlice;
 pub use laws::{groups_are_cut, pages_have_their_size};
 pub use set::ColumnSet;
-
-#[cfg(test)]
-mod tests;

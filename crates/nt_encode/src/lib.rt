@@ -15,6 +15,3 @@ mod zigzag;
 pub use laws::{pages_are_spelled, switches_are_spelled};
 pub use page::{decode, encode, size_of};
 pub use switch::{decode_switch, encode_switch};
-
-#[cfg(test)]
-mod tests;

@@ -10,6 +10,3 @@ pub use envelope::{read_envelope, seal_envelope};
 pub use nt_format::{EnvelopeFault, Link, Locator, LocatorFault};
 pub use reading::{FrameFault, read_list, read_locator, read_record};
 pub use writing::FrameOut;
-
-#[cfg(test)]
-mod tests;

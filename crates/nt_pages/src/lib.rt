@@ -11,6 +11,3 @@ mod size;
 pub use building::build;
 pub use image::ClusterImage;
 pub use laws::pages_lie_where_said;
-
-#[cfg(test)]
-mod tests;

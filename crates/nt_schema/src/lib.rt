@@ -34,12 +34,3 @@ pub use reading_laws::{
 pub use rows::{ColumnRow, FieldRow};
 pub use schema::Schema;
 pub use writing::write_description;
-
-#[cfg(test)]
-mod open_tests;
-#[cfg(test)]
-mod reading_tests;
-#[cfg(test)]
-mod tests;
-#[cfg(test)]
-mod writing_tests;

@@ -25,6 +25,3 @@ pub use name::Name;
 pub use nt_bytes::Bytes;
 pub use schema::parse_schema;
 pub use shape::{Fields, Member, Members, Shape, Shapes};
-
-#[cfg(test)]
-mod tests;
