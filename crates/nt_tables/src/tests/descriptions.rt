@@ -33,6 +33,8 @@ fn worked_rows(rt: HostRuntime) -> Result<(), Fail> {
     let five = described(rt.alloc(), FIVE, false)?;
     assert!(rt; has_fields(&five, &FIVE_FIELDS) && has_columns(&five, &FIVE_COLUMNS));
     assert_eq!(rt; (five.header_fields(), five.header_columns()), (8, 8));
+    let split = described(rt.alloc(), OTHERS, false)?;
+    assert!(rt; has_fields(&split, &OTHER_FIELDS));
     let others = described(rt.alloc(), OTHERS, true)?;
     assert!(rt; has_fields(&others, &OTHER_FIELDS) && has_columns(&others, &OTHER_COLUMNS));
     assert_eq!(rt; (others.header_fields(), others.header_columns()), (11, 8));
