@@ -1,8 +1,8 @@
 -- One reading after another.
 use Rattle.std.specs.Prelude.{Result, Ok, Err}
 
--- what was read, and then what is read by it
 infixl 10 ◌>>=◌
+-- what was read, and then what is read by it
 abbrev pub ◌>>=◌ : {A B E : Type 0} → Result A E → (A → Result B E) → Result B E
 (Ok x) >>= f = f x
 (Err e) >>= f = Err e
