@@ -53,7 +53,8 @@ pub number-read : (xs : List ℕ) (i x : ℕ) → i < length xs → x ≡ get_or
 number-read xs i x within read = get_or_read xs i x within read 0 ∙ ap (λ (ns : List ℕ). get_or ns i 0) (sym (numbers-plain_list xs))
 
 -- a bit that was read from its list
-pub bit-read : (bs : List Bool) (i : ℕ) (b : Bool) → i < length bs → b ≡ get_or bs i b → bit_of b ≡ get_or (numbers (map (λ (x : Bool). plain (bit_of x)) bs)) i 0
+pub bit-read : (bs : List Bool) (i : ℕ) (b : Bool) → i < length bs → b ≡ get_or bs i b
+    → bit_of b ≡ get_or (numbers (map (λ (x : Bool). plain (bit_of x)) bs)) i 0
 bit-read bs i b within read =
     ap bit_of read ∙ (sym (get_or-map bit_of bs i b 0 within) ∙ ap (λ (ns : List ℕ). get_or ns i 0) (sym (numbers-plain bit_of bs)))
 
@@ -83,7 +84,8 @@ pub text-more : (es : List Element) (a i n : ℕ) → a ≤ i → i < length es 
     → text_of (slice_range es a (i + 1)) ≡ text_of (slice_range es a i) ++ (n % 256) ∷ []
 text-more es a i n order within read =
     let count : i < length (numbers es) = rw length-numbers within in
-    let one : slice_range (numbers es) a (i + 1) ≡ slice_range (numbers es) a i ++ get_or (numbers es) i 0 ∷ [] = between_more (numbers es) a i 0 order count in
+    let one : slice_range (numbers es) a (i + 1) ≡ slice_range (numbers es) a i ++ get_or (numbers es) i 0 ∷ [] =
+    between_more (numbers es) a i 0 order count in
     rw (numbers-range es a (i + 1), numbers-range es a i, one, ← read) (map_push (λ (m : ℕ). m % 256) (slice_range (numbers es) a i) n)
 
 bit-lt : (b : Bool) → bit_of b < 2 ^ 1

@@ -40,7 +40,8 @@ page-numbers kind xs ys a b page other same written =
 
 -- of truth values
 pub page-bits : (kind : ColumnType) (xs ys : List Bool) (a b : ℕ) (page : List ℕ) → kind ≢ Switch → ys ≡ xs
-    → page ≡ page_bytes kind (map bit_of (slice_range ys a b)) → page ≡ page_of kind (slice_range (map (λ (x : Bool). plain (bit_of x)) xs) a b)
+    → page ≡ page_bytes kind (map bit_of (slice_range ys a b))
+    → page ≡ page_of kind (slice_range (map (λ (x : Bool). plain (bit_of x)) xs) a b)
 page-bits kind xs ys a b page other same written =
     let part : map bit_of (slice_range ys a b) ≡ slice_range (map bit_of xs) a b =
     rw same (sym (take-map bit_of (b - a) (drop a xs)) ∙ ap (take (b - a)) (sym (drop-map bit_of a xs))) in
@@ -75,7 +76,9 @@ zero-digit : (j : ℕ) → digit_of 8 0 j ≡ 0
 zero-digit j = rw zero-div refl
 
 zero-pair : (r : ℕ) → pair_byte 0 0 r ≡ 0
-zero-pair r = elim (nat_lt r 8) as (λ (b : Bool). (if b then digit_of 8 0 r else digit_of 8 0 (r - 8)) ≡ 0) [ true ↦ zero-digit r | false ↦ zero-digit (r - 8) ]
+zero-pair r =
+    elim (nat_lt r 8) as
+    (λ (b : Bool). (if b then digit_of 8 0 r else digit_of 8 0 (r - 8)) ≡ 0) [ true ↦ zero-digit r | false ↦ zero-digit (r - 8) ]
 
 -- a Switch page of zeros has zeros alone
 pub zero-switch : (n m : ℕ) → m ≡ page_size Switch n → replicate m 0 ≡ page_of Switch (replicate n (plain 0))
@@ -84,16 +87,28 @@ zero-switch n m size =
   where
     count : length {A = ℕ} (replicate m 0) ≡ length (switch_bytes (replicate n 0) (replicate n 0))
     count =
-        rw (length-replicate {A = ℕ} m 0, length-map-range_with_len (switch_byte (replicate n 0) (replicate n 0)) 0 (12 * length {A = ℕ} (replicate n 0)), length-replicate {A = ℕ} n 0) (omega arith)
+        rw (
+          length-replicate {A = ℕ} m 0,
+          length-map-range_with_len (switch_byte (replicate n 0) (replicate n 0)) 0 (12 * length {A = ℕ} (replicate n 0)),
+          length-replicate {A = ℕ} n 0,
+        ) (omega arith)
 
-    byte : (i : ℕ) → i < length {A = ℕ} (replicate m 0) → get_or (replicate m 0) i 0 ≡ get_or (switch_bytes (replicate n 0) (replicate n 0)) i 0
+    byte : (i : ℕ) → i < length {A = ℕ} (replicate m 0)
+        → get_or (replicate m 0) i 0 ≡ get_or (switch_bytes (replicate n 0) (replicate n 0)) i 0
     byte i h =
-        let within : i < 12 * length {A = ℕ} (replicate n 0) = rw (length-replicate {A = ℕ} n 0) (omega (arith, size, length-replicate {A = ℕ} m 0)) in
-        rw (zero-get m i, get_or-map-range_with_len (switch_byte (replicate n 0) (replicate n 0)) 0 (12 * length {A = ℕ} (replicate n 0)) i i 0 within (omega arith), zero-get n (i / 12))
+        let within : i < 12 * length {A = ℕ} (replicate n 0) =
+        rw (length-replicate {A = ℕ} n 0) (omega (arith, size, length-replicate {A = ℕ} m 0)) in
+        rw (
+          zero-get m i,
+          get_or-map-range_with_len (switch_byte (replicate n 0) (replicate n 0)) 0 (12 * length {A = ℕ} (replicate n 0)) i i 0 within
+              (omega arith),
+          zero-get n (i / 12),
+        )
         (sym (zero-pair (i % 12)))
 
 -- the page of zeros as words
-pub zero-page : (kind : ColumnType) (n k : ℕ) (words page : List ℕ) → kind ≢ Switch → words ≡ replicate n 0 → k ≡ n → page ≡ page_bytes kind words
+pub zero-page : (kind : ColumnType) (n k : ℕ) (words page : List ℕ) → kind ≢ Switch → words ≡ replicate n 0 → k ≡ n
+    → page ≡ page_bytes kind words
     → page ≡ page_of kind (replicate k (plain 0))
 zero-page kind n k words page other zeros count written =
     rw (count, page_of-numbers kind (replicate n (plain 0)) other, numbers-replicate n, ← zeros) written

@@ -23,23 +23,28 @@ columns-set bs k b c is = map-set (λ (x : Buffer). x.column) bs k b ∙ ap (set
 
 -- one column more is emptied
 pub emptied-next : (old now : List Column) (i : ℕ) (c d : Column) → now ≡ map (λ (x : Column). empty x.kind) (take i old) ++ drop i old
-    → i < length old → c ≡ empty (get_or now i d).kind → set now i c ≡ map (λ (x : Column). empty x.kind) (take (i + 1) old) ++ drop (i + 1) old
+    → i < length old → c ≡ empty (get_or now i d).kind
+    → set now i c ≡ map (λ (x : Column). empty x.kind) (take (i + 1) old) ++ drop (i + 1) old
 emptied-next old now i c d is within new =
     let front : List Column = map (λ (x : Column). empty x.kind) (take i old) in
     let count : length front ≡ i = length-map (take i old) (λ (x : Column). empty x.kind) ∙ length-take-le i old (omega arith) in
     let parts : now ≡ front ++ get_or old i d ∷ drop (i + 1) old = is ∙ ap (λ (xs : List Column). front ++ xs) (drop_more old i d within) in
-    let here : get_or now i d ≡ get_or old i d = ap (λ (xs : List Column). get_or xs i d) parts ∙ get_or_at front (get_or old i d) (drop (i + 1) old) d i count in
-    let written : set now i c ≡ front ++ c ∷ drop (i + 1) old = ap (λ (xs : List Column). set xs i c) parts ∙ set_at front (get_or old i d) (drop (i + 1) old) c i count in
+    let here : get_or now i d ≡ get_or old i d = ap (λ (xs : List Column). get_or xs i d) parts
+    ∙ get_or_at front (get_or old i d) (drop (i + 1) old) d i count in
+    let written : set now i c ≡ front ++ c ∷ drop (i + 1) old = ap (λ (xs : List Column). set xs i c) parts
+    ∙ set_at front (get_or old i d) (drop (i + 1) old) c i count in
     let item : c ≡ empty (get_or old i d).kind = new ∙ ap (λ (x : Column). empty x.kind) here in
     written ∙ (ap (λ (x : Column). front ++ x ∷ drop (i + 1) old) item
     ∙ (sym (append_assoc front (empty (get_or old i d).kind ∷ []) (drop (i + 1) old))
     ∙ ap (λ (xs : List Column). xs ++ drop (i + 1) old) (sym (map_more (λ (x : Column). empty x.kind) old i d within))))
 
 -- no column comes or goes
-pub emptied-length : (old now : List Column) (i : ℕ) → now ≡ map (λ (x : Column). empty x.kind) (take i old) ++ drop i old → length now ≡ length old
+pub emptied-length : (old now : List Column) (i : ℕ) → now ≡ map (λ (x : Column). empty x.kind) (take i old) ++ drop i old
+    → length now ≡ length old
 emptied-length old now i is =
     ap length is ∙ (length-append (map (λ (x : Column). empty x.kind) (take i old)) (drop i old)
-    ∙ rw (length-map (take i old) (λ (x : Column). empty x.kind)) (sym (length-append (take i old) (drop i old)) ∙ ap length (take-append-drop i old)))
+    ∙ rw (length-map (take i old) (λ (x : Column). empty x.kind))
+    (sym (length-append (take i old) (drop i old)) ∙ ap length (take-append-drop i old)))
 
 -- what was read of a buffer is read of its column
 pub column-read : (bs : List Buffer) (i : ℕ) (b : Buffer) → i < length bs → b ≡ get_or bs i b → b.column ≡ get_or (columns_of bs) i b.column
@@ -55,6 +60,8 @@ columns-changed f (x ∷ bs) zero b new at is =
 columns-changed f (x ∷ bs) (suc k) b new at is = ap (λ (cs : List Column). x.column ∷ cs) (columns-changed f bs k b new at is)
 
 -- the column of a buffer, where all columns are known
-pub column-known : (bs : List Buffer) (cs : List Column) (k : ℕ) (b : Buffer) → columns_of bs ≡ cs → slice_get bs k ≡ Some b → slice_get cs k ≡ Some b.column
+pub column-known : (bs : List Buffer) (cs : List Column) (k : ℕ) (b : Buffer) → columns_of bs ≡ cs → slice_get bs k ≡ Some b
+    → slice_get cs k ≡ Some b.column
 column-known bs cs k b known at =
-    ap (λ (xs : List Column). slice_get xs k) (sym known) ∙ (slice_get-map (λ (x : Buffer). x.column) bs k ∙ ap (option_map (λ (x : Buffer). x.column)) at)
+    ap (λ (xs : List Column). slice_get xs k) (sym known)
+    ∙ (slice_get-map (λ (x : Buffer). x.column) bs k ∙ ap (option_map (λ (x : Buffer). x.column)) at)

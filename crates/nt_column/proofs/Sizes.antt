@@ -54,7 +54,8 @@ length-page_bytes SplitIndex64 ns other = length-delta 8 64 ns ∙ omega arith
 -- a page of pairs
 length-pairs : (es : List Element) → length (page_of Switch es) ≡ page_size Switch (length es)
 length-pairs es =
-    length-map-range_with_len (switch_byte (numbers es) (tags es)) 0 (12 * length (numbers es)) ∙ (ap (λ (n : ℕ). 12 * n) (length-numbers es) ∙ omega arith)
+    length-map-range_with_len (switch_byte (numbers es) (tags es)) 0 (12 * length (numbers es))
+    ∙ (ap (λ (n : ℕ). 12 * n) (length-numbers es) ∙ omega arith)
 
 pub length-page_of : (kind : ColumnType) (es : List Element) → length (page_of kind es) ≡ page_size kind (length es)
 length-page_of Switch es = length-pairs es

@@ -46,6 +46,7 @@ push-seen is ts es i t js us seen same more_is more_ts =
     rw (more_is, more_ts) (zip-push is ts i t same ∙ ap (λ (xs : List Element). xs ++ (i, t) ∷ []) seen)
 
 pub page-seen : (is ts : List ℕ) (es : List Element) (a b : ℕ) (page : List ℕ) → zip is ts ≡ es → length ts ≡ length is
-    → page ≡ switch_bytes (slice_range is a b) (slice_range ts a b) → page ≡ switch_bytes (numbers (slice_range es a b)) (tags (slice_range es a b))
+    → page ≡ switch_bytes (slice_range is a b) (slice_range ts a b)
+    → page ≡ switch_bytes (numbers (slice_range es a b)) (tags (slice_range es a b))
 page-seen is ts es a b page seen same written =
     rw (← seen, indices-range is ts a b same, tags_of-range is ts a b same) written

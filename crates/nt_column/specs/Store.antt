@@ -15,6 +15,10 @@ elements_of (Words32 v) = map plain v.items
 elements_of (Words64 v) = map plain v.items
 elements_of (Pairs p) = p.elements
 
+-- the bits of a pair: an index of 64 and a tag of 32
+abbrev pub pair_width : ℕ
+pair_width = 96
+
 -- the bits of an element
 abbrev pub width_of : Store → ℕ
 width_of (Bits v) = 1
@@ -22,7 +26,7 @@ width_of (Bytes v) = 8
 width_of (Words16 v) = 16
 width_of (Words32 v) = 32
 width_of (Words64 v) = 64
-width_of (Pairs p) = 96
+width_of (Pairs p) = pair_width
 
 -- how many elements there is room for
 abbrev pub spare_of : Store → ℕ

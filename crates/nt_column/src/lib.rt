@@ -1,4 +1,20 @@
 //! Columns in memory: buffers that keep each element at its own width, and sets of them by column.
+//!
+//! `push` and `number` are on the hot path of every event: they take no memory, and `reserve` does
+//! it before. `Columns` is how others read columns; keep it free of buffers.
+//!
+//! Where to start: `buffer.rt` with `specs/Column` (what a buffer holds) and `specs/Elements` (the
+//! elements and their page); `set.rt` and `columns.rt` for columns by id.
+//!
+//! Words: an *element* is a number and a tag, which is 0 but in a Switch; a *plain* element has
+//! tag 0; *zeros* are a column kept as its count; *spare* is how many elements can still be pushed.
+//!
+//! Proved: a push adds its element and takes no memory (`column`, `spare`); a reserve changes no
+//! element; the page of any part (`encode`, by `page_of`); the number of pages (`page_cut`, by
+//! nt_lists' `chunks`); a page's size (`pages_have_their_size`); a set lends its buffers and
+//! answers elements, tags and texts (`Columns`), a text of 8 bits without a copy (`lent`).
+//!
+//! Only tested: pages against tables that were made outside, and a set handed to another thread.
 #![tactic(auto)]
 
 mod buffer;

@@ -5,7 +5,7 @@ ghost use Rattle.std.specs.List.{slice_range};
 ghost use Rattle.nt_types.specs.ColumnTable.{bits_of};
 ghost use Rattle.nt_encode.specs.Pages.{page_size};
 ghost use Rattle.nt_column.specs.Elements.{plain, numbers, tags, page_of};
-ghost use Rattle.nt_column.specs.Store.{elements_of, width_of, spare_of};
+ghost use Rattle.nt_column.specs.Store.{elements_of, width_of, spare_of, pair_width};
 
 use crate::pairs::PairList;
 use crate::widths::{encode_16, encode_32, encode_64, encode_bits, encode_bytes};
@@ -72,7 +72,7 @@ impl Store {
 
     /// Adds an element of any type but Switch.
     pub fn push(&mut self, value: u64)
-        requires kind { width_of self.old ≢ 96 }
+        requires kind { width_of self.old ≢ pair_width }
         requires fits { value < 2 ^ width_of self.old }
         requires spare { 0 < spare_of self.old }
         ensures elements { elements_of self.new ≡ elements_of self.old ++ plain value ∷ [] }
@@ -91,7 +91,7 @@ impl Store {
 
     /// Adds an element of a Switch.
     pub fn push_pair(&mut self, index: u64, tag: u32)
-        requires kind { width_of self.old ≡ 96 }
+        requires kind { width_of self.old ≡ pair_width }
         requires spare { 0 < spare_of self.old }
         ensures elements { elements_of self.new ≡ elements_of self.old ++ (index, tag) ∷ [] }
         ensures width { width_of self.new ≡ width_of self.old }

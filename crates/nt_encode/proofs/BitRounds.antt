@@ -36,11 +36,13 @@ bit-number_of (suc k) f j fits h =
           let same : j ≡ k = omega arith in
           let low : number_of 1 k f < 2 ^ (1 * k) = number_of-lt 1 k f (λ b g. fits b (omega arith)) in
           let low_k : number_of 1 k f < 2 ^ k = rw one-mul at low in
-          rw (same, one-mul k, add-mul-div_right (number_of 1 k f) (f k) (pow_pos k), div-eq_of_lt low_k) (omega (arith, mod-eq_of_lt (fits k (omega arith))))
+          rw (same, one-mul k, add-mul-div_right (number_of 1 k f) (f k) (pow_pos k), div-eq_of_lt low_k)
+          (omega (arith, mod-eq_of_lt (fits k (omega arith))))
     ]
 
 -- bits go there and back
-pub bit-round : (values : List ℕ) → ((i : ℕ) → i < length values → get_or values i 0 < 2) → bit_values (length values) (bit_bytes values) ≡ values
+pub bit-round : (values : List ℕ) → ((i : ℕ) → i < length values → get_or values i 0 < 2)
+    → bit_values (length values) (bit_bytes values) ≡ values
 bit-round values fits =
     sym (list_of_filled values (length values) (bit_value (bit_bytes values)) refl (λ i h. sym (at i h)))
   where

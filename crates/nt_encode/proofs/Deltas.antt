@@ -33,9 +33,12 @@ delta-round_at m values fits zero h =
 delta-round_at m values fits (suc i) h =
     let before : i < length values = omega arith in
     let count : suc i < length (delta_words m values) = rw length-list_of h in
-    let word : get_or (delta_words m values) (suc i) 0 ≡ delta_word m values (suc i) = get_or-list_of (length values) (delta_word m values) (suc i) h in
-    let so_far : sum (take (suc i) (delta_words m values)) % 2 ^ m ≡ get_or values i 0 = rw add-one at (delta-round_at m values fits i before) in
-    let more : sum (take (suc i + 1) (delta_words m values)) ≡ sum (take (suc i) (delta_words m values)) + get_or (delta_words m values) (suc i) 0 =
+    let word : get_or (delta_words m values) (suc i) 0 ≡ delta_word m values (suc i) =
+    get_or-list_of (length values) (delta_word m values) (suc i) h in
+    let so_far : sum (take (suc i) (delta_words m values)) % 2 ^ m ≡ get_or values i 0 =
+    rw add-one at (delta-round_at m values fits i before) in
+    let more : sum (take (suc i + 1) (delta_words m values)) ≡ sum (take (suc i) (delta_words m values)) + get_or (delta_words m values)
+    (suc i) 0 =
     sum-more (delta_words m values) (suc i) count in
     rw (more, word, ← mod-add-mod (sum (take (suc i) (delta_words m values))) (2 ^ m) (delta_word m values (suc i)), so_far)
     (difference-sum m (get_or values i 0) (get_or values (suc i) 0) (fits i before) (fits (suc i) h))
@@ -45,7 +48,8 @@ pub delta-round : (m : ℕ) (values : List ℕ) → ((i : ℕ) → i < length va
     → delta_values m (delta_words m values) ≡ values
 delta-round m values fits =
     let len : length (delta_words m values) ≡ length values = length-list_of (length values) (delta_word m values) in
-    rw len (sym (list_of_filled values (length values) (delta_value m (delta_words m values)) refl (λ i h. sym (delta-round_at m values fits i h))))
+    rw len (sym
+    (list_of_filled values (length values) (delta_value m (delta_words m values)) refl (λ i h. sym (delta-round_at m values fits i h))))
 
 -- the words of indices fit
 pub delta_word-lt : (m : ℕ) (values : List ℕ) → ((i : ℕ) → i < length values → get_or values i 0 < 2 ^ m) → (i : ℕ) → i < length values

@@ -30,7 +30,8 @@ HasElements-block k n words old new block j from len size few taken has plane wr
     in_block : (i b : ℕ) → from + b ≡ i → b < length block → get_or new (j * n + i) 0 ≡ digit_of 8 (get_or words i 0) j
     in_block i b is h =
         let place : j * n + from + b ≡ j * n + i = omega arith in
-        ap (λ (p : ℕ). get_or new p 0) (sym place) ∙ (written b h ∙ ap (λ (x : ℕ). digit_of 8 x j) (taken b h ∙ ap (λ (q : ℕ). get_or words q 0) is))
+        ap (λ (p : ℕ). get_or new p 0) (sym place)
+        ∙ (written b h ∙ ap (λ (x : ℕ). digit_of 8 x j) (taken b h ∙ ap (λ (q : ℕ). get_or words q 0) is))
 
     here : (i : ℕ) → i < from + len → get_or new (j * n + i) 0 ≡ digit_of 8 (get_or words i 0) j
     here i h =
@@ -56,12 +57,18 @@ HasElements-block k n words old new block j from len size few taken has plane wr
     rest i p h g =
         elim (cases_lt p j) [
           | inl before ↦ earlier i p before (omega arith) ∙ has.1 i p h g
-          | inr after ↦ elim (cases_lt j p) [ inl behind ↦ later i p behind ∙ has.1 i p h g | inr last ↦ at_plane i p (omega arith) (omega arith) ]
+          | inr after ↦
+              elim (cases_lt j p) [ inl behind ↦ later i p behind ∙ has.1 i p h g | inr last ↦ at_plane i p (omega arith) (omega arith) ]
         ]
 
 -- where there is a byte, there are elements
 some-elements : (k n p : ℕ) → p < k * n → 0 < n
-some-elements k n p h = elim (cases_lt 0 n) [ inl some ↦ some | inr none ↦ let size : n * k ≤ 0 * k = mul-le-mul_right k none in absurd (omega (arith, mul_comm k n)) ]
+some-elements k n p h =
+    elim (cases_lt 0 n) [
+      | inl some ↦ some
+      | inr none ↦ let size : n * k ≤ 0 * k = mul-le-mul_right k none in
+          absurd (omega (arith, mul_comm k n))
+    ]
 
 all-elements : (k : ℕ) (words bytes : List ℕ) → length bytes ≡ k * length words → HasElements k (length words) words (length words) bytes
     → bytes ≡ split_bytes k words

@@ -6,7 +6,8 @@ use Rattle.nt_format.specs.Frames.{list_frame}
 use Rattle.nt_lists.specs.Places.{put_at}
 
 pub put_at-list : (out head : List ℕ) (at size count : ℕ) → at + 12 ≤ length out → size ≡ length out - at
-    → head ≡ to_le_bytes w64 (2 ^ 64 - size) ++ to_le_bytes w32 count → put_at out at head ≡ take at out ++ list_frame count (drop (at + 12) out)
+    → head ≡ to_le_bytes w64 (2 ^ 64 - size) ++ to_le_bytes w32 count
+    → put_at out at head ≡ take at out ++ list_frame count (drop (at + 12) out)
 put_at-list out head at size count room size_is head_is =
     let inside : List ℕ = drop (at + 12) out in
     let len : length head ≡ 12 = ap length head_is in

@@ -30,5 +30,6 @@ abbrev pub finished_in : List Begun → List ℕ → Written
 finished_in [] inside = record { inside = inside; frames = [] }
 finished_in (f ∷ frames) inside = record { inside = f.before ++ frame f.count inside; frames = frames }
 
+-- the same, of all that is written
 abbrev pub finished : Written → Written
 finished w = finished_in w.frames w.inside

@@ -23,7 +23,8 @@ length-chunk n xs i =
     ∙ ap (λ (k : ℕ). min k (length xs - i * n)) (omega arith))
 
 -- the groups from the k-th on are the rest of the list
-joined-from : {A : Type 0} (n : ℕ) (xs : List A) (m k : ℕ) → length xs ≤ (k + m) * n → flat_map (λ (g : List A). g) (map (chunk n xs) (range_with_len k m)) ≡ drop (k * n) xs
+joined-from : {A : Type 0} (n : ℕ) (xs : List A) (m k : ℕ) → length xs ≤ (k + m) * n
+    → flat_map (λ (g : List A). g) (map (chunk n xs) (range_with_len k m)) ≡ drop (k * n) xs
 joined-from n xs zero k enough = sym (drop_all (k * n) xs (rw add-zero at enough))
 joined-from n xs (suc m) k enough =
     let order : k + 1 + m ≡ k + suc m = omega arith in
@@ -54,7 +55,8 @@ chunk-last n xs i some h =
     let same : (i + 1) * n ≡ div_ceil (length xs) n * n = ap (λ (k : ℕ). k * n) count in
     let parts : (i + 1) * n ≡ i * n + 1 * n = add-mul i 1 n in
     let bound : div_ceil (length xs) n * n < length xs + n = (div_ceil_times (length xs) n some).1 in
-    let size : length (get_or (chunks n xs) i []) ≡ min n (length xs - i * n) = ap length (chunks-at n xs i (omega arith)) ∙ length-chunk n xs i in
+    let size : length (get_or (chunks n xs) i []) ≡ min n (length xs - i * n) = ap length (chunks-at n xs i (omega arith))
+    ∙ length-chunk n xs i in
     (omega arith, omega arith)
 
 -- a group begins before the list's end
@@ -80,6 +82,7 @@ chunk-at n xs i h =
     get_or-map-range_with_len (chunk n xs) 0 (div_ceil (length xs) n) i i [] count (omega arith) ∙ chunk-is n xs i
 
 -- the same, with the numbers that were read
-pub chunk-read : {A : Type 0} (n : ℕ) (xs : List A) (i count size : ℕ) → i < length (chunks n xs) → count ≡ length xs → size ≡ min (count - i * n) n
+pub chunk-read : {A : Type 0} (n : ℕ) (xs : List A) (i count size : ℕ) → i < length (chunks n xs) → count ≡ length xs
+    → size ≡ min (count - i * n) n
     → get_or (chunks n xs) i [] ≡ slice_range xs (i * n) (i * n + size)
 chunk-read n xs i count size h all part = rw (part, all) (chunk-at n xs i h)

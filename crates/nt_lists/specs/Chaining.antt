@@ -1,8 +1,8 @@
 -- Steps that can be refused, one after the other.
 use Rattle.std.specs.Prelude.{Result, Ok, Err}
 
--- one step after the other, up to the first fault
 infixl 10 ◌>>=◌
+-- one step after the other, up to the first fault
 abbrev pub ◌>>=◌ : {A B E : Type 0} → Result A E → (A → Result B E) → Result B E
 (Ok x) >>= f = f x
 (Err e) >>= f = Err e

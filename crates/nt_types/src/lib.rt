@@ -1,4 +1,22 @@
 //! Column types, the shapes of fields, and the schema text that names them.
+//!
+//! Other crates cite the definitions of `specs/`; touch `ColumnTable`, `Kinds`, `Spelling` and
+//! `Rules` only with the standard or the rules of schema texts at hand. `Reading`, `Lines` and
+//! `Schema` are the reader step by step, and stand under private functions.
+//!
+//! Where to start: `specs/TextSpelling` (what a text spells, and its first fault) and
+//! `schema.rt`; `specs/ColumnTable` and `column_type.rt`.
+//!
+//! Words: a *shape* is what the values of a field look like, and a `Kind` in contracts; a *part*
+//! is a shape under a name; a *leaf* has no parts; a *construct* is one that is open while it is
+//! read; a *fault* is what is wrong with a text, and never want of memory.
+//!
+//! Proved: code and bits of each type (`ColumnType::code`, `bits`), the type of a code (`of_code`:
+//! `found`, `each`); the fields of a text or its first fault, and no other (`parse_schema`: `told`,
+//! `only`, `each`), fields by their rules (`rules`); the same of one line (`parse_member`). The
+//! reading of lines is that (`texts_are_read`).
+//!
+//! Only tested: that the table is the standard's, by values typed from it.
 #![tactic(auto)]
 
 mod column_type;

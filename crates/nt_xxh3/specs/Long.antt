@@ -18,8 +18,7 @@ eight f = f 0 ∷ f 1 ∷ f 2 ∷ f 3 ∷ f 4 ∷ f 5 ∷ f 6 ∷ f 7 ∷ []
 abbrev pub halves : ℕ → ℕ
 halves key = key % 2 ^ 32 * (key / 2 ^ 32)
 
--- accumulator i after a stripe, with the secret from a place: it gains the product of its keyed
--- word's halves, and the word of its neighbour
+-- accumulator i after a stripe, with the secret from a place: it gains its keyed word's halves multiplied, and its neighbour's word
 unfoldable pub lane_after : List ℕ → List ℕ → ℕ → ℕ → ℕ
 lane_after lanes stripe secret i =
     (slice_index lanes i + halves (bit_xor (word_at stripe (8 * i)) (word_at SECRET (secret + 8 * i))) + word_at stripe (8 * bit_xor i 1)) % 2 ^ 64
@@ -36,8 +35,7 @@ lane_scrambled lanes i = bit_xor (xor_shift (slice_index lanes i) 47) (word_at S
 unfoldable pub scrambled : List ℕ → List ℕ
 scrambled lanes = eight (lane_scrambled lanes)
 
--- the accumulators after stripe k of the input: it takes the secret from eight bytes for each
--- stripe that its block had before, and the 16th ends the block
+-- the accumulators after stripe k: it takes the secret from eight bytes for each stripe of its block before it; the 16th ends the block
 unfoldable pub after : List ℕ → ℕ → List ℕ → List ℕ
 after lanes k stripe = if nat_eq (k % 16) 15 then scrambled taken else taken
   where
@@ -54,8 +52,8 @@ stripes bytes zero = initial_lanes
 stripes bytes (suc k) = after (stripes bytes k) k (stripe_at bytes k)
 
 -- accumulators that had taken so many stripes take those of the bytes that follow
-abbrev pub Follows : List ℕ → ℕ → List ℕ → List ℕ → ℕ → Type 0
-Follows old taken bytes new total =
+abbrev pub TakesStripes : List ℕ → ℕ → List ℕ → List ℕ → ℕ → Type 0
+TakesStripes old taken bytes new total =
     (front : List ℕ) → length front ≡ 64 * taken → old ≡ stripes front taken → new ≡ stripes (front ++ bytes) total
 
 -- two neighbouring accumulators, folded with the secret from byte 11 on
@@ -67,8 +65,7 @@ folded lanes i =
 unfoldable pub merged : ℕ → List ℕ → ℕ
 merged len lanes = avalanche ((len * P64_1 + sum_below 4 (folded lanes)) % 2 ^ 64)
 
--- more than 240 bytes: each whole stripe that ends before the last byte, then the last 64 bytes
--- with the secret from byte 121
+-- more than 240 bytes: each whole stripe that ends before the last byte, then the last 64 bytes with the secret from byte 121
 unfoldable pub above_240 : List ℕ → ℕ
 above_240 bytes =
     merged (length bytes) (after_stripe (stripes bytes ((length bytes - 1) / 64)) (drop (length bytes - 64) bytes) 121)

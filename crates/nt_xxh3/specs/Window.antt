@@ -2,5 +2,5 @@
 use Rattle.std.specs.Prelude.{ℕ, List, replicate}
 
 -- a stripe of zeros
-unfoldable pub blank : List ℕ
-blank = replicate 64 0
+unfoldable pub zero_stripe : List ℕ
+zero_stripe = replicate 64 0

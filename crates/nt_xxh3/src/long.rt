@@ -1,7 +1,7 @@
 //! The eight accumulators of an input above 240 bytes.
 
 ghost use Rattle.std.specs.Prelude.{◌≡◌, ◌+◌, ◌/◌, ◌<◌, ◌≤◌, ◌^◌, length};
-ghost use Rattle.nt_xxh3.specs.Long.{initial_lanes, halves, lane_after, lane_scrambled, after_stripe, scrambled, after, merged, above_240, Follows};
+ghost use Rattle.nt_xxh3.specs.Long.{initial_lanes, halves, lane_after, lane_scrambled, after_stripe, scrambled, after, merged, above_240, TakesStripes};
 
 use crate::constants::{
     PRIME32_1, PRIME32_2, PRIME32_3, PRIME64_1, PRIME64_2, PRIME64_3, PRIME64_4, PRIME64_5, SECRET,
@@ -128,7 +128,7 @@ impl Lanes {
     pub fn take_stripes(&mut self, bytes: &[u8])
         requires { self.old.taken + length bytes.now < 2 ^ 64 }
         ensures taken { self.new.taken ≡ self.old.taken + length bytes.now / 64 }
-        ensures words { Follows self.old.words self.old.taken bytes.now self.new.words self.new.taken }
+        ensures words { TakesStripes self.old.words self.old.taken bytes.now self.new.words self.new.taken }
     {
         let before = self.taken;
         let count = bytes.len() / STRIPE;

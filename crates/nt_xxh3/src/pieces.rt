@@ -20,7 +20,7 @@ pub struct Sum {
 
 impl Sum {
     ghost use Rattle.nt_xxh3.specs.Sum.{xxh3};
-    ghost use Rattle.nt_xxh3.specs.Pieces.{Holds, Keeps, total_of};
+    ghost use Rattle.nt_xxh3.specs.Pieces.{Holds, Splits, total_of};
 
     /// The sum of no bytes yet.
     #[tactic(auto, unfolding(crate::specs::Pieces::Holds, crate::specs::Pieces::total_of))]
@@ -57,7 +57,7 @@ impl Sum {
         requires { length self.old.window % 64 ≡ 0 }
         ensures window { length self.new.window ≡ 64 }
         ensures total { total_of self.new ≡ total_of self.old }
-        ensures keeps { (m : List ℕ) → Keeps self.old m → Keeps self.new m }
+        ensures keeps { (m : List ℕ) → Splits self.old m → Splits self.new m }
     {
         self.lanes.take_stripes(&self.window.as_slice()[STRIPE..]);
         self.window.keep_last();
@@ -71,7 +71,7 @@ impl Sum {
         requires total { total_of self.old + length rest.now < 2 ^ 63 }
         ensures window { 64 < length self.new.window }
         ensures total { total_of self.new ≡ total_of self.old + length rest.now }
-        ensures keeps { (m : List ℕ) → Keeps self.old m → Keeps self.new (m ++ rest.now) }
+        ensures keeps { (m : List ℕ) → Splits self.old m → Splits self.new (m ++ rest.now) }
     {
         let (stripes, tail) = rest.split_at((rest.len() - 1) / STRIPE * STRIPE);
         self.lanes.take_stripes(stripes);

@@ -1,7 +1,7 @@
 //! The last bytes of an input that comes in pieces.
 
 ghost use Rattle.std.specs.Prelude.{◌≡◌, ℕ, ◌+◌, ◌-◌, ◌%◌, ◌≤◌, List, ◌++◌, length, take, drop};
-ghost use Rattle.nt_xxh3.specs.Window.{blank};
+ghost use Rattle.nt_xxh3.specs.Window.{zero_stripe};
 
 use crate::long::STRIPE;
 use std::marker::Model;
@@ -26,9 +26,9 @@ impl Model for Window {
 
 impl Window {
     /// The blank stripe before the input.
-    #[tactic(auto, unfolding(crate::specs::Window::blank))]
+    #[tactic(auto, unfolding(crate::specs::Window::zero_stripe))]
     pub fn new() -> Window
-        ensures value { result ≡ blank }
+        ensures value { result ≡ zero_stripe }
         ensures len { length result ≡ 64 }
     {
         Window {

@@ -8,4 +8,5 @@ returns-in-Switch c =
 
 pub returns-in_default : goal.returns-in_default
 returns-in_default c =
-    zero-page c.args.kind _ _ _ _ c.in_default.not-Switch (c.fill-in_default.ensures.after (λ y h. h)) c.fill-in_default.ensures.len c.encode.ensures
+    zero-page c.args.kind _ _ _ _ c.in_default.not-Switch
+    (c.fill-in_default.ensures.after (λ y h. h)) c.fill-in_default.ensures.len c.encode.ensures

@@ -12,7 +12,8 @@ loop-k-preserved c =
     let here : c.difference_within.result ≡ delta_word m c.args.values.now i =
     c.difference_within.ensures ∙ ap (λ (b : ℕ). (get_or c.args.values.now i 0 + (2 ^ m - b)) % 2 ^ m) c.loop-k.invariant.1
     ∙ delta_word-before m c.args.values.now i fits in (
-      Filled-set c.loop-k.words c.loop-k.k c.difference_within.result (λ p. delta_word m c.args.values.now (c.args.from + p)) c.loop-k.invariant.0 (omega arith) here,
+      Filled-set c.loop-k.words c.loop-k.k c.difference_within.result
+          (λ p. delta_word m c.args.values.now (c.args.from + p)) c.loop-k.invariant.0 (omega arith) here,
       index_before-next c.args.values.now c.args.from c.loop-k.k,
       fits,
     )

@@ -12,7 +12,8 @@ loop-word-preserved c =
     let here : c.sum_within-total.result ≡ delta_value (8 * c.args.width) c.args.words.now i =
     c.sum_within-total.ensures ∙ ap (λ (x : ℕ). (c.loop-word.total + x) % 2 ^ (8 * c.args.width)) word
     ∙ total-more (8 * c.args.width) c.args.words.now i c.loop-word.total within c.loop-word.invariant.2 in (
-      Filled-set c.loop-word.words i c.sum_within-total.result (delta_value (8 * c.args.width) c.args.words.now) c.loop-word.invariant.0 (omega arith) here,
+      Filled-set c.loop-word.words i c.sum_within-total.result (delta_value (8 * c.args.width) c.args.words.now) c.loop-word.invariant.0
+          (omega arith) here,
       (λ k h.
           let other : k ≢ i = omega arith in
           get_or-set_other c.loop-word.words i k c.sum_within-total.result 0 other ∙ c.loop-word.invariant.1 k (omega arith)),

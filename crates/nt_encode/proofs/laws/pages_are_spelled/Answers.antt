@@ -6,7 +6,8 @@ use Rattle.nt_encode.proofs.BitRounds.{bit-round}
 use Rattle.nt_encode.proofs.Rounds.{plain-round, split-round, signed-round, indices-round}
 use Rattle.nt_encode.proofs.laws.pages_are_spelled.Goals as goal
 
-spelled : (kind : ColumnType) (values : List ℕ) → kind ≢ Switch → AllFit kind values → page_values kind (length values) (page_bytes kind values) ≡ values
+spelled : (kind : ColumnType) (values : List ℕ) → kind ≢ Switch → AllFit kind values
+    → page_values kind (length values) (page_bytes kind values) ≡ values
 spelled Bit values other fits = bit-round values (λ i h. fits i 0 h)
 spelled Byte values other fits = plain-round 1 values (λ i h. fits i 0 h)
 spelled Char values other fits = plain-round 1 values (λ i h. fits i 0 h)

@@ -11,5 +11,6 @@ loop-i-preserved c =
 pub returns : goal.returns
 returns c =
     let end : length c.args.values.now ≤ c.loop-i.i = omega arith in
-    list_of_whole c.loop-i.out (c.args.width * length c.args.values.now) (c.loop-i.i * c.args.width) _ (c.loop-i.auto.out ∙ c.requires.length) c.loop-i.invariant
+    list_of_whole c.loop-i.out (c.args.width * length c.args.values.now) (c.loop-i.i * c.args.width) _
+    (c.loop-i.auto.out ∙ c.requires.length) c.loop-i.invariant
     (rows-le c.args.width (length c.args.values.now) c.loop-i.i end)

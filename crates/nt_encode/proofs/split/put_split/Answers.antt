@@ -11,4 +11,5 @@ returns c =
     let all : n / 32 * 32 + n % 32 ≡ n = omega arith in
     HasElements-all c.args.width (words_of c.args.form c.args.width c.args.values.now) c.put_block-2.new.out n
     (length-words_of c.args.form c.args.width c.args.values.now) (c.put_block-2.auto.out ∙ c.loop-b.auto.out ∙ c.requires.length)
-    (subst (λ (m : ℕ). HasElements c.args.width n (words_of c.args.form c.args.width c.args.values.now) m c.put_block-2.new.out) all c.put_block-2.ensures)
+    (subst (λ (m : ℕ). HasElements c.args.width n
+    (words_of c.args.form c.args.width c.args.values.now) m c.put_block-2.new.out) all c.put_block-2.ensures)

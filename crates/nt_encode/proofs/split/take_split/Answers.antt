@@ -10,4 +10,5 @@ returns-clause-words c = rw c.loop-i.auto.out (list_of_whole c.loop-i.out _ c.lo
 pub returns-clause-fits : goal.returns-clause-fits
 returns-clause-fits c =
     λ k d h. rw (get_or_default_zero c.loop-i.out k d h, c.loop-i.invariant k (omega arith))
-    (number_of-lt 8 c.args.width (λ j. get_or c.args.bytes.now (j * length c.args.out.now + k) 0) (λ j g. fits_byte c.args.bytes.now (j * length c.args.out.now + k) c.type_inv.bytes))
+    (number_of-lt 8 c.args.width (λ j. get_or c.args.bytes.now (j * length c.args.out.now + k) 0)
+    (λ j g. fits_byte c.args.bytes.now (j * length c.args.out.now + k) c.type_inv.bytes))

@@ -7,7 +7,8 @@ use Rattle.nt_encode.proofs.switch.decode_switch.Goals as goal
 pub overflow_cast-tags : goal.overflow_cast-tags
 overflow_cast-tags c =
     let number : number_of 8 4 (λ j. get_or c.args.bytes.now (j * 1 + (c.loop-i.i * 12 + 8)) 0) < 2 ^ 32 =
-    number_of-lt 8 4 (λ j. get_or c.args.bytes.now (j * 1 + (c.loop-i.i * 12 + 8)) 0) (λ j g. fits_byte c.args.bytes.now (j * 1 + (c.loop-i.i * 12 + 8)) c.type_inv.bytes) in
+    number_of-lt 8 4 (λ j. get_or c.args.bytes.now (j * 1 + (c.loop-i.i * 12 + 8)) 0)
+    (λ j g. fits_byte c.args.bytes.now (j * 1 + (c.loop-i.i * 12 + 8)) c.type_inv.bytes) in
     omega (arith, c.number_at-in-loop-i.ensures, number)
 
 pub returns-clause-indices : goal.returns-clause-indices

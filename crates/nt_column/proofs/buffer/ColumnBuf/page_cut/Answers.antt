@@ -5,4 +5,5 @@ use Rattle.nt_column.proofs.buffer.ColumnBuf.page_cut.Goals as goal
 
 pub returns : goal.returns
 returns c =
-    c.div_ceil.ensures ∙ (ap (λ (n : ℕ). div_ceil n c.args.page) c.len.ensures ∙ sym (length-chunks c.args.page c.args.self.now.column.elements))
+    c.div_ceil.ensures
+    ∙ (ap (λ (n : ℕ). div_ceil n c.args.page) c.len.ensures ∙ sym (length-chunks c.args.page c.args.self.now.column.elements))

@@ -9,4 +9,5 @@ encode_part-requires-clause-within c =
 
 pub returns : goal.returns
 returns c =
-    page-seen _ _ _ c.args.from c.args.to _ (ap (λ (k : Kept). k.elements) c.self.view_is) (omega arith) (rw (c.deref.ensures.value, c.deref-2.ensures.value) at c.encode_part.ensures)
+    page-seen _ _ _ c.args.from c.args.to _ (ap (λ (k : Kept). k.elements) c.self.view_is) (omega arith)
+    (rw (c.deref.ensures.value, c.deref-2.ensures.value) at c.encode_part.ensures)

@@ -4,4 +4,5 @@ use Rattle.nt_column.proofs.set.ColumnSet.clear.Given as goal
 
 abbrev pub invariant-loop-i : goal.invariant-loop-i
 invariant-loop-i l =
-    columns_of l.self-inside.buffers.items ≡ map (λ (c : Column). empty c.kind) (take l.i (columns_of l.fn.self)) ++ drop l.i (columns_of l.fn.self)
+    columns_of l.self-inside.buffers.items ≡ map (λ (c : Column). empty c.kind) (take l.i (columns_of l.fn.self)) ++ drop l.i
+    (columns_of l.fn.self)

@@ -8,4 +8,5 @@ zeros-requires c = sym (elements-at c.args.self.now c.args.column _ c.buffer.ens
 
 pub returns : goal.returns
 returns c =
-    columns-changed (λ (x : Column). zeroed x.kind c.args.count) c.args.self.now c.args.column _ _ c.buffer.ensures.value c.zeros.ensures.column
+    columns-changed
+    (λ (x : Column). zeroed x.kind c.args.count) c.args.self.now c.args.column _ _ c.buffer.ensures.value c.zeros.ensures.column

@@ -9,4 +9,5 @@ number-requires c =
 
 pub returns : goal.returns
 returns c =
-    c.number.ensures ∙ ap (λ (es : List Element). get_or (numbers es) c.args.i 0) (sym (elements-at c.args.self.now c.args.column _ c.column.ensures))
+    c.number.ensures
+    ∙ ap (λ (es : List Element). get_or (numbers es) c.args.i 0) (sym (elements-at c.args.self.now c.args.column _ c.column.ensures))

@@ -9,4 +9,5 @@ tag-requires c =
 
 pub returns : goal.returns
 returns c =
-    c.tag.ensures ∙ ap (λ (es : List Element). get_or (tags es) c.args.i 0) (sym (elements-at c.args.self.now c.args.column _ c.column.ensures))
+    c.tag.ensures
+    ∙ ap (λ (es : List Element). get_or (tags es) c.args.i 0) (sym (elements-at c.args.self.now c.args.column _ c.column.ensures))

@@ -6,7 +6,8 @@ use Rattle.nt_frame.proofs.writing.FrameOut.into_bytes.Goals as goal
 
 pub returns-clause-bytes : goal.returns-clause-bytes
 returns-clause-bytes c =
-    sym (written-done (reverse c.self.inside.marks.items) c.self.inside.out.items (ap (λ (w : Written). w.frames) c.self.view_is ∙ c.requires))
+    sym (written-done (reverse c.self.inside.marks.items) c.self.inside.out.items
+    (ap (λ (w : Written). w.frames) c.self.view_is ∙ c.requires))
     ∙ ap (λ (w : Written). w.inside) c.self.view_is
 
 pub returns-clause-fit : goal.returns-clause-fit

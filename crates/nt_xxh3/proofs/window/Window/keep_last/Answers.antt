@@ -4,7 +4,8 @@ use Rattle.std.proofs.lemmas.List.{length-take-le, drop-take, take_at}
 use Rattle.nt_xxh3.proofs.window.Window.keep_last.Goals as goal
 
 -- the last 64 of the first bytes, moved to the front
-take-copy_within : (xs now : List ℕ) (len : ℕ) → 64 ≤ length now → len ≤ length xs → take len xs ≡ now → take 64 (copy_within xs (len - 64) len 0) ≡ drop (length now - 64) now
+take-copy_within : (xs now : List ℕ) (len : ℕ) → 64 ≤ length now → len ≤ length xs → take len xs ≡ now
+    → take 64 (copy_within xs (len - 64) len 0) ≡ drop (length now - 64) now
 take-copy_within xs now len wide fits is =
     let at : ℕ = len - 64 in
     let count : length now ≡ len = sym (ap length is) ∙ length-take-le len xs fits in
@@ -18,4 +19,6 @@ take-copy_within xs now len wide fits is =
     rw (count, ← is) (front ∙ kept)
 
 pub returns : goal.returns
-returns c = rw c.copy_within.ensures.after (take-copy_within c.self.inside.bytes c.args.self.now c.self.inside.len c.requires (omega arith) c.self.view_is)
+returns c =
+    rw c.copy_within.ensures.after
+    (take-copy_within c.self.inside.bytes c.args.self.now c.self.inside.len c.requires (omega arith) c.self.view_is)
