@@ -55,11 +55,12 @@ module _ {V E B : Type 0} (history : V → List E) (born : V → B) (context : E
         → Goes id (v, []) 0 (λ n. either (n == old) (old + 1) n) (Drew (step slots 0 old (old + 1) none) (v, [])) homes views (next ∷ serving ∷ [])
     draw_goes old room idle true is =
         let same : next ≡ old = grind (arith, nat_tests) in
+        let fits : next + 1 < 2 ^ 64 = omega arith in
         let word : either (next == old) (old + 1) next ≡ next + 1 = rw is (omega arith) in
         let w : View E B = record v { stage = Waiting next } in
         let said : Drew (step slots 0 old (old + 1) none) (v, []) next (w, []) = rw is refl in
         let idle_at : get_elem? (stages views) id ≡ some Idle = stage_at views id v at.0 ∙ ap some idle in
-        let tickets = restaged (next + 1) serving homes views id w (drawn next serving homes (stages views) o id (omega arith) idle_at) in
+        let tickets = restaged (next + 1) serving homes views id w (drawn next serving homes (stages views) o id fits idle_at) in
         let kept = moved history born context birth seats homes views h id v at w (record { live = refl; number = refl; own = refl; birth = refl; splits = refl; kept = refl }) knows.seen knows.told (λ t e. absurd (waits next t e)) homes (λ y e. e) in
         (w, keeps, tt, (next + 1, serving, ap (λ (k : ℕ). k ∷ serving ∷ []) word, tickets, kept), said)
       where

@@ -9,14 +9,15 @@ use Rattle.atomic_table.specs.Seated.{TableId}
 use Rattle.nt_turn.specs.declared.view.Stage.{Stage}
 use Rattle.nt_turn.specs.declared.view.Stage.TheVariants.{Idle, Waiting, Holding}
 use Rattle.nt_turn.specs.declared.view.View.{View}
-use Rattle.nt_turn.specs.History.{entries_of, HasNone}
+use Rattle.nt_turn.specs.History.{entries_of, longer, HasNone}
 
 -- which turn it is, and how many passes may be split off its first, whose number that is
 pub record TurnState : Type 0 where
   pub id : TableId
   pub seats : ℕ
 
--- what a pass is of and does, and what it knows: a beginning of the history, its own entries, and for the first pass the entries of those that were joined
+-- a pass: its turn and number, whether it holds the turn, the birth, what it has seen of the history, its own entries,
+-- how many passes were split off it, and the number and entries of each that was joined to it
 pub record PassState (E B : Type 0) : Type 0 where
   pub turn : TableId
   pub number : ℕ
@@ -35,7 +36,8 @@ holds_turn (Holding ticket) = true
 
 -- the pass with this view
 abbrev pub pass_state : {E B : Type 0} → TableId → View E B → PassState E B
-pass_state turn v = record { turn = turn; number = v.number; holds = holds_turn v.stage; birth = v.birth; seen = v.seen; own = v.own; splits = v.splits; kept = v.kept }
+pass_state turn v =
+    record { turn = turn; number = v.number; holds = holds_turn v.stage; birth = v.birth; seen = v.seen; own = v.own; splits = v.splits; kept = v.kept }
 
 -- between two calls a pass doesn't wait, and the value is with its user where it holds the turn
 abbrev pub IsSettled : {V : Type 0} → Stage → List (ℕ × Option V) → Type 0
@@ -52,11 +54,26 @@ pub record IsPass {V E B : Type 0} (number splits : ℕ) (me : Me (Option V) (Vi
 
 -- the first pass of a turn
 abbrev pub first_pass : {E B : Type 0} → TurnState → B → PassState E B
-first_pass turn birth = record { turn = turn.id; number = turn.seats; holds = false; birth = Some birth; seen = []; own = []; splits = 0; kept = [] }
+first_pass turn birth =
+    record { turn = turn.id; number = turn.seats; holds = false; birth = Some birth; seen = []; own = []; splits = 0; kept = [] }
 
 -- the pass that is split off this one: it has the next number, has seen the same, and has no entries
 abbrev pub next_pass : {E B : Type 0} → PassState E B → PassState E B
-next_pass first = record { turn = first.turn; number = first.splits; holds = false; birth = first.birth; seen = first.seen; own = []; splits = 0; kept = [] }
+next_pass first =
+    record { turn = first.turn; number = first.splits; holds = false; birth = first.birth; seen = first.seen; own = []; splits = 0; kept = [] }
+
+-- the pass after it took a value with this history
+abbrev pub after_taking : {E B : Type 0} → PassState E B → List E → PassState E B
+after_taking pass log = record pass { holds = true; seen = log }
+
+-- the pass after it gave a value with this history
+abbrev pub after_giving : {E B : Type 0} → (E → ℕ) → PassState E B → List E → PassState E B
+after_giving context pass log = record pass { holds = false; seen = log; own = entries_of context log pass.number }
+
+-- the first pass after another was joined to it
+abbrev pub after_joining : {E B : Type 0} → PassState E B → PassState E B → PassState E B
+after_joining first other =
+    record first { seen = longer first.seen other.seen; kept = first.kept ++ (other.number, other.own) ∷ [] }
 
 -- the pass is of this turn, and doesn't hold it
 pub record IsFree {E B : Type 0} (turn : TurnState) (pass : PassState E B) : Type 0 where
@@ -74,7 +91,7 @@ pub record IsHolder {E B : Type 0} (turn : TurnState) (pass : PassState E B) : T
   pub turn_is : pass.turn ≡ turn.id
   pub held : pass.holds ≡ true
 
--- the history begins with what the pass had seen, and has just its entries of its number; the birth is the one that the pass knows
+-- the history begins with what the pass had seen, and has just its entries of its number; the birth is the pass's
 pub record Took {V E B : Type 0} (history : V → List E) (born : V → B) (context : E → ℕ) (pass : PassState E B) (x : V) : Type 0 where
   pub seen : IsPrefix pass.seen (history x)
   pub own : pass.own ≡ entries_of context (history x) pass.number
@@ -94,7 +111,7 @@ AllJoined first = (n : ℕ) → n < first.splits → HasNone first.kept n → �
 pub record JoinsSince {E B : Type 0} (old new : PassState E B) : Type 0 where
   pub each : (n : ℕ) → n < new.splits → HasNone new.kept n → (n < old.splits) × HasNone old.kept n
 
--- the history begins with what the first pass has seen, and has just its entries and those that it keeps; the birth is the one that it knows
+-- the history begins with what the first pass has seen, and has just its entries and those that it keeps; the birth is its own
 pub record Closes {V E B : Type 0} (history : V → List E) (born : V → B) (context : E → ℕ) (first : PassState E B) (x : V) : Type 0 where
   pub seen : IsPrefix first.seen (history x)
   pub own : first.own ≡ entries_of context (history x) first.number

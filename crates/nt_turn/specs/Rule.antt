@@ -20,7 +20,8 @@ pub record Knows {E B : Type 0} (context : E → ℕ) (born : B) (all : List E) 
   pub birth : v.birth ≡ Some born
 
 -- one history, of the value at home or of the pass that holds it: all passes have seen it begin, and nobody else has entries
-pub record Histories {V E B : Type 0} (history : V → List E) (born : V → B) (context : E → ℕ) (birth : B) (seats : ℕ) (homes : List (Maybe (Option V))) (views : List (View E B)) : Type 0 where
+pub record Histories {V E B : Type 0} (history : V → List E) (born : V → B) (context : E → ℕ) (birth : B) (seats : ℕ)
+    (homes : List (Maybe (Option V))) (views : List (View E B)) : Type 0 where
   pub all : List E
   pub splits : ℕ
   pub kept : List (ℕ × List E)
@@ -36,6 +37,8 @@ pub record Histories {V E B : Type 0} (history : V → List E) (born : V → B) 
   pub unused : (n : ℕ) → ((splits ≤ n) × (n < seats)) ⊎ (seats < n) → entries_of context all n ≡ []
 
 -- the words are the next ticket and the one that is served; the tickets are in order, and there is one history
-abbrev pub InTurn : {V E B : Type 0} → (V → List E) → (V → B) → (E → ℕ) → B → ℕ → List ℕ → List (Maybe (Option V)) → List (View E B) → Type 0
+abbrev pub InTurn : {V E B : Type 0} → (V → List E) → (V → B) → (E → ℕ) → B → ℕ
+    → List ℕ → List (Maybe (Option V)) → List (View E B) → Type 0
 InTurn history born context birth seats words homes views =
-    (next : ℕ) × (serving : ℕ) × (words ≡ next ∷ serving ∷ []) × Ordered next serving homes (stages views) × Histories history born context birth seats homes views
+    (next : ℕ) × (serving : ℕ) × (words ≡ next ∷ serving ∷ [])
+    × Ordered next serving homes (stages views) × Histories history born context birth seats homes views

@@ -33,7 +33,8 @@ abbrev pub IsDrawn : {V E B : Type 0} → ℕ → Me (Option V) (View E B) → M
 IsDrawn ticket old new = new ≡ (record old.0 { stage = Waiting ticket }, old.1)
 
 -- the pass holds the value under this ticket, has seen all of its history and knows its own entries in it
-pub record Holds {V E B : Type 0} (history : V → List E) (born : V → B) (context : E → ℕ) (ticket : ℕ) (old new : Me (Option V) (View E B)) : Type 0 where
+pub record Holds {V E B : Type 0} (history : V → List E) (born : V → B) (context : E → ℕ) (ticket : ℕ)
+    (old new : Me (Option V) (View E B)) : Type 0 where
   pub value : V
   pub is : new ≡ (record old.0 { stage = Holding ticket; seen = history value }, (0, Some value) ∷ [])
   pub seen : IsPrefix old.0.seen (history value)
@@ -45,8 +46,10 @@ abbrev pub Drew : {V E B : Type 0} → Step (Option V) → Me (Option V) (View E
 Drew step old found new = MatchBool (found == step.first) (IsDrawn found old new) (new ≡ old)
 
 -- the pass holds the value where the word is its ticket, or nothing changed
-abbrev pub Looked : {V E B : Type 0} → (V → List E) → (V → B) → (E → ℕ) → Step (Option V) → Me (Option V) (View E B) → ℕ → Me (Option V) (View E B) → Type 0
-Looked history born context step old found new = MatchBool (found == ticket_of old.0.stage) (Holds history born context (ticket_of old.0.stage) old new) (new ≡ old)
+abbrev pub Looked : {V E B : Type 0} → (V → List E) → (V → B) → (E → ℕ)
+    → Step (Option V) → Me (Option V) (View E B) → ℕ → Me (Option V) (View E B) → Type 0
+Looked history born context step old found new =
+    MatchBool (found == ticket_of old.0.stage) (Holds history born context (ticket_of old.0.stage) old new) (new ≡ old)
 
 -- the history of the value that a pass carries
 abbrev pub history_in : {V E : Type 0} → (V → List E) → List (ℕ × Option V) → List E
@@ -55,12 +58,14 @@ history_in history ((k, None) ∷ xs) = []
 history_in history ((k, Some x) ∷ xs) = history x
 
 -- the value is at home again, and the pass has seen its history
-abbrev pub Gave : {V E B : Type 0} → (V → List E) → (E → ℕ) → Step (Option V) → Me (Option V) (View E B) → ℕ → Me (Option V) (View E B) → Type 0
+abbrev pub Gave : {V E B : Type 0} → (V → List E) → (E → ℕ)
+    → Step (Option V) → Me (Option V) (View E B) → ℕ → Me (Option V) (View E B) → Type 0
 Gave history context step old found new =
     new ≡ (record old.0 { stage = Idle; seen = history_in history old.1; own = entries_of context (history_in history old.1) old.0.number }, [])
 
 -- the pass has seen the longer of what it had seen and what it was told, which begins with both
-pub record Learned {V E B : Type 0} (step : Step (Option V)) (old : Me (Option V) (View E B)) (found : ℕ) (new : Me (Option V) (View E B)) : Type 0 where
+pub record Learned {V E B : Type 0} (step : Step (Option V)) (old : Me (Option V) (View E B))
+    (found : ℕ) (new : Me (Option V) (View E B)) : Type 0 where
   pub is : new ≡ (record old.0 { seen = longer old.0.seen old.0.told; told = [] }, old.1)
   pub seen : IsPrefix old.0.seen (longer old.0.seen old.0.told)
   pub told : IsPrefix old.0.told (longer old.0.seen old.0.told)

@@ -11,15 +11,17 @@ HasTicket t Idle = ⊥
 HasTicket t (Waiting u) = t ≡ u
 HasTicket t (Holding u) = t ≡ u
 
+-- the ticket of a pass, where it has one
 abbrev pub ticket_of : Stage → ℕ
 ticket_of Idle = 0
 ticket_of (Waiting t) = t
 ticket_of (Holding t) = t
 
--- the value is at home, or it is out
+-- a value is at home
 abbrev pub IsHome : {A : Type 0} → List (Maybe A) → Type 0
 IsHome {A} homes = (x : A) × (homes ≡ some x ∷ [])
 
+-- the value is out with a pass
 abbrev pub IsOut : {A : Type 0} → List (Maybe A) → Type 0
 IsOut homes = homes ≡ none ∷ []
 
@@ -27,7 +29,7 @@ IsOut homes = homes ≡ none ∷ []
 abbrev pub SomeHolds : List Stage → ℕ → Type 0
 SomeHolds views serving = (by : ℕ) × (get_elem? views by ≡ some (Holding serving))
 
--- next and serving are the words
+-- the tickets that passes have differ, are drawn and not served before; the value is out exactly while one pass holds it, under the ticket that is served
 pub record Ordered {A : Type 0} (next serving : ℕ) (homes : List (Maybe A)) (views : List Stage) : Type 0 where
   pub fits : next < 2 ^ 64
   pub order : serving ≤ next

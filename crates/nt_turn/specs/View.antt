@@ -9,7 +9,8 @@ use Rattle.nt_turn.specs.declared.view.View.{View}
 
 -- a pass that has done and seen nothing
 abbrev pub newcomer : {E B : Type 0} → ℕ → B → View E B
-newcomer number birth = record { live = true; number = number; stage = Idle; birth = Some birth; seen = []; told = []; own = []; splits = 0; kept = [] }
+newcomer number birth =
+    record { live = true; number = number; stage = Idle; birth = Some birth; seen = []; told = []; own = []; splits = 0; kept = [] }
 
 -- what is left of a pass that was joined
 abbrev pub spent : {E B : Type 0} → View E B
@@ -17,7 +18,8 @@ spent = record { live = false; number = 0; stage = Idle; birth = None; seen = []
 
 -- a pass that is split off the first gets the next number, and has seen what the first has
 abbrev pub split_off : {E B : Type 0} → View E B → View E B
-split_off v = record { live = true; number = v.splits; stage = Idle; birth = v.birth; seen = v.seen; told = []; own = []; splits = 0; kept = [] }
+split_off v =
+    record { live = true; number = v.splits; stage = Idle; birth = v.birth; seen = v.seen; told = []; own = []; splits = 0; kept = [] }
 
 -- the first pass after a split
 abbrev pub after_split : {E B : Type 0} → View E B → View E B

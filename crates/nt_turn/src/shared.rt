@@ -8,7 +8,7 @@ fn may_be_sent<T: Send>() {}
 
 fn may_be_shared<T: Sync>() {}
 
-/// Where the value may go to another thread, a turn and its passes may, and threads may share the turn.
+/// Where the value may go to another thread, so may a turn and its passes, and threads may share the turn.
 pub fn turns_cross_threads<V: Logged + Send>() {
     may_be_sent::<Turn<V>>();
     may_be_shared::<Turn<V>>();

@@ -1,9 +1,8 @@
 //! The lock, and what passes do with it.
 
-ghost use Rattle.std.specs.Prelude.{◌≡◌, ◌+◌, ◌<◌, ◌≤◌, [], ◌∷◌, ◌++◌, true, false, Some, IfOk, IfErr};
+ghost use Rattle.std.specs.Prelude.{◌≡◌, ◌+◌, ◌<◌, ◌≤◌, [], Some, IfOk, IfErr};
 ghost use mathlib.Core.List.{IsPrefix};
-ghost use Rattle.nt_turn.specs.History.{entries_of, longer};
-ghost use Rattle.nt_turn.specs.Pass.{IsFree, IsFirst, IsHolder, Took, Adds, AllJoined, Closes, first_pass, next_pass};
+ghost use Rattle.nt_turn.specs.Pass.{IsFree, IsFirst, IsHolder, Took, Adds, AllJoined, Closes, first_pass, next_pass, after_taking, after_giving, after_joining};
 
 use crate::logged::Logged;
 use crate::pass::Pass;
@@ -45,7 +44,7 @@ impl<V: Logged> Model for Turn<V> {
 }
 
 impl<V: Logged> Turn<V> {
-    /// A turn round a value, and its first pass, whose number is that of the seats.
+    /// A turn round a value with an empty history, and its first pass, whose number is that of the seats.
     ///
     /// Without memory the value comes back.
     pub fn new(alloc: Global, value: V, seats: u32) -> Result<(Turn<V>, Pass<V>), (V, AllocError)>
@@ -86,7 +85,8 @@ impl<V: Logged> Turn<V> {
         }
     }
 
-    /// Splits a pass off the first. It gets the next number, from 0 up.
+    /// Splits a pass off the first, which may have split off as many as there are seats. It gets the next
+    /// number, from 0 up.
     pub fn split(&self, first: &mut Pass<V>) -> Pass<V>
         requires first { IsFirst self.now first.old }
         requires room { first.old.splits < self.now.seats }
@@ -103,10 +103,10 @@ impl<V: Logged> Turn<V> {
         }
     }
 
-    /// Waits for the turn, and takes the value. The pass has then seen its history.
+    /// Waits for the turn, and takes the value. The pass has then seen its whole history.
     pub fn take(&self, rt: &impl Wait, pass: &mut Pass<V>) -> V
         requires free { IsFree self.now pass.old }
-        ensures pass { pass.new ≡ record pass.old { holds = true; seen = V.history result } }
+        ensures pass { pass.new ≡ after_taking pass.old (V.history result) }
         ensures took { Took V.history V.birth V.context pass.old result }
     {
         let cells = &self.table.shared;
@@ -117,12 +117,12 @@ impl<V: Logged> Turn<V> {
         value
     }
 
-    /// Gives the value back with new entries of the pass, and the turn on.
+    /// Gives the value back, with entries of the pass behind its history or none, and the turn on.
     pub fn give(&self, pass: &mut Pass<V>, value: V)
         requires holder { IsHolder self.now pass.old }
         requires adds { Adds V.context pass.old (V.history value) }
         requires birth { pass.old.birth ≡ Some (V.birth value) }
-        ensures { pass.new ≡ record pass.old { holds = false; seen = V.history value; own = entries_of V.context (V.history value) pass.old.number } }
+        ensures { pass.new ≡ after_giving V.context pass.old (V.history value) }
     {
         let cells = &self.table.shared;
         let out = cells.exchange(&mut pass.seat, VALUE, Some(value));
@@ -130,11 +130,11 @@ impl<V: Logged> Turn<V> {
         cells.fetch_add::<Gives>(&mut pass.seat, SERVING, 1);
     }
 
-    /// Joins a pass to the first, which keeps its number and entries.
+    /// Joins a pass to the first, which then keeps its number and entries and has seen what it had.
     pub fn join(&self, first: &mut Pass<V>, other: Pass<V>)
         requires first { IsFirst self.now first.old }
         requires other { IsFree self.now other }
-        ensures first { first.new ≡ record first.old { seen = longer first.old.seen other.seen; kept = first.old.kept ++ (other.number, other.own) ∷ [] } }
+        ensures first { first.new ≡ after_joining first.old other }
         ensures seen { IsPrefix first.old.seen first.new.seen × IsPrefix other.seen first.new.seen }
     {
         let cells = &self.table.shared;

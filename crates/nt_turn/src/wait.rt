@@ -1,8 +1,8 @@
 //! Drawing a ticket, and waiting until it is served.
 //!
-//! A pass draws its ticket once nobody else has one, so that no pass holds the others up that has a ticket and
-//! doesn't run: there may be more threads than processors. Who waits spins a little, then yields the processor
-//! to others, and then sleeps, longer each time.
+//! There may be more threads than processors. So a pass draws its ticket once all tickets that were drawn
+//! are served: one that had a ticket and no processor would hold all others up. Who waits spins a little,
+//! then yields the processor, and then sleeps, longer each time.
 
 ghost use Rattle.std.specs.Prelude.{◌≡◌, MatchOption};
 ghost use Rattle.nt_turn.specs.Steps.{IsIdle, IsWaiting, IsDrawn, Holds};
@@ -20,10 +20,10 @@ const SPINS: u32 = 100;
 /// How often it then yields before it sleeps.
 const YIELDS: u32 = 10;
 
-/// The first sleep in microseconds. Each of the next is twice as long, up to 2^4 times this.
+/// The microseconds of the first sleep. The next are twice as long each, up to 16 times this.
 const NAP: u64 = 64;
 
-/// Waits for a moment, after so many moments before, or until another ticket is served than this one.
+/// Waits for a moment, after so many moments before. It sleeps only while this ticket is served.
 fn pause<V: Logged>(rt: &impl Wait, cells: &Cells<V>, moments: u32, served: u64)
     requires { cells.now.table_id.words ≡ 2 }
 {

@@ -1,4 +1,4 @@
-//! Threads that take the turn, or a lock of the standard library, again and again, for the benchmark alone.
+//! Threads that take the turn, or a lock of the standard library, again and again: for the benchmark alone.
 #![tactic(auto)]
 
 ghost use Rattle.std.specs.Prelude.{◌≤◌};
