@@ -15,5 +15,7 @@ pub mod LineText
 pub mod MemberText
 pub mod FieldFaults
 pub mod Rules
+pub mod LinesAhead
+pub mod LinesRead
 pub mod TextFaults
 pub mod TextAnswers
