@@ -12,7 +12,7 @@ use Rattle.nt_types.specs.Words.{is_word_byte, is_blank, is_name}
 use Rattle.nt_types.specs.Reading.{read_kind}
 use Rattle.nt_types.specs.Spelling.{spell, depth}
 use Rattle.nt_types.specs.Lines.{split_line, type_text, within_depth, type_of, under_name, member_at, member_of}
-use Rattle.nt_types.specs.LineSpelling.{IsLine, IsMember, Spells, BeginsWith, HasFault}
+use Rattle.nt_types.specs.LineSpelling.{IsLine, IsMember, SpellsMember, BeginsWith, HasFault}
 use Rattle.nt_types.specs.Schema.{field_count, parts_count, within_count, field_split, field_of, part_under}
 use Rattle.nt_types.specs.TextSpelling.{HaveName, IsNew, HasFieldFault}
 use Rattle.nt_types.specs.declared.fault.SchemaKind.{SchemaKind}
@@ -58,20 +58,20 @@ name-same line name other t e b =
     let s = begins-split line other b in
     ap (λ (x : List ℕ × List ℕ). x.0) (some_is (other, s.0) (name, t) (sym s.1 ∙ e))
 
-spells-split : (line : List ℕ) (p : Part) → Spells line p → split_line line ≡ Some (p.name, spell p.of)
+spells-split : (line : List ℕ) (p : Part) → SpellsMember line p → split_line line ≡ Some (p.name, spell p.of)
 spells-split line p m = split_line-is line p.name (spell p.of) m.line_is (spell_core p.of m.rules)
 
-split-spells : (line name t : List ℕ) (k : Kind) → split_line line ≡ Some (name, t) → read_kind t ≡ Some k → Spells line (part_under name k)
+split-spells : (line name t : List ℕ) (k : Kind) → split_line line ≡ Some (name, t) → read_kind t ≡ Some k → SpellsMember line (part_under name k)
 split-spells line name t k e read =
     let sound = read_kind-sound t k read in
     record { line_is = subst (IsLine line name) (sym sound.0) (split_line-sound line name t e); rules = sound.1 }
 
-spells-begins : (line : List ℕ) (p : Part) → Spells line p → BeginsWith line p.name
+spells-begins : (line : List ℕ) (p : Part) → SpellsMember line p → BeginsWith line p.name
 spells-begins line p m = split-begins line p.name (spell p.of) (spells-split line p m)
 
 -- the text of a type
 
-spells-type : (line name t : List ℕ) (p : Part) → split_line line ≡ Some (name, t) → Spells line p → read_kind t ≡ Some p.of
+spells-type : (line name t : List ℕ) (p : Part) → split_line line ≡ Some (name, t) → SpellsMember line p → read_kind t ≡ Some p.of
 spells-type line name t p e m =
     let same : spell p.of ≡ t =
     ap (λ (x : List ℕ × List ℕ). x.1) (some_is (p.name, spell p.of) (name, t) (sym (spells-split line p m) ∙ e)) in
@@ -83,7 +83,7 @@ type_of-deep t k read deep = let far : nat_le (depth k) 32 ≡ false = grind (ar
 type_of-shallow : (t : List ℕ) (k : Kind) → read_kind t ≡ Some k → depth k ≤ 32 → type_of t ≡ Ok k
 type_of-shallow t k read shallow = let near : nat_le (depth k) 32 ≡ true = grind (arith, nat_tests) in rw (read, near) refl
 
-type_of-bad : (line name t : List ℕ) → split_line line ≡ Some (name, t) → ((p : Part) → Spells line p → ⊥) → type_of t ≡ Err BadType
+type_of-bad : (line name t : List ℕ) → split_line line ≡ Some (name, t) → ((p : Part) → SpellsMember line p → ⊥) → type_of t ≡ Err BadType
 type_of-bad line name t e none = cases (read_kind t) refl
   where
     cases : (r : Option Kind) → read_kind t ≡ r → within_depth r ≡ Err BadType
@@ -221,7 +221,7 @@ module _ (fields : List Part) (seen : List (List ℕ)) (before : ℕ) (line : Li
         type_of-deep (spell p.of) p.of (read_kind-spell p.of m.rules) deep,
       ) refl
   field_of-refused TooMany (new, (p, m, many)) =
-      let s : Spells line p = record { line_is = m.line_is; rules = m.rules } in
+      let s : SpellsMember line p = record { line_is = m.line_is; rules = m.rules } in
       let above : nat_le (before + field_count p.of) 4096 ≡ false = rw count (grind (arith, nat_tests)) in
       rw (
         spells-split line p s,
@@ -232,7 +232,7 @@ module _ (fields : List Part) (seen : List (List ℕ)) (before : ℕ) (line : Li
   field_of-refused TooLong f = absurd f
   field_of-refused Empty f = absurd f
 
-  pub field_of-spelled : (p : Part) → Spells line p → has_name seen p.name ≡ false → depth p.of ≤ 32 → before + field_count p.of ≤ 4096
+  pub field_of-spelled : (p : Part) → SpellsMember line p → has_name seen p.name ≡ false → depth p.of ≤ 32 → before + field_count p.of ≤ 4096
       → field_of seen before line ≡ Ok p
   field_of-spelled p m new shallow few =
       let below : nat_le (before + field_count p.of) 4096 ≡ true = grind (arith, nat_tests) in

@@ -17,5 +17,7 @@ pub mod FieldFaults
 pub mod Rules
 pub mod TreeSteps
 pub mod TreeViews
+pub mod LinesAhead
+pub mod LinesRead
 pub mod TextFaults
 pub mod TextAnswers

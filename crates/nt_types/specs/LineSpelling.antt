@@ -19,7 +19,7 @@ pub record IsLine (line name text : List ℕ) : Type 0 where
   pub whole : line ≡ name ++ (blanks ++ (text ++ spaces))
 
 -- the line spells this member, however deep its type nests
-pub record Spells (line : List ℕ) (p : Part) : Type 0 where
+pub record SpellsMember (line : List ℕ) (p : Part) : Type 0 where
   pub line_is : IsLine line p.name (spell p.of)
   pub rules : IsType false p.of
 
@@ -40,8 +40,8 @@ pub record BeginsWith (line name : List ℕ) : Type 0 where
 -- this is wrong with a line: it begins with no name and blank, it spells no member, or one whose type nests too deep
 abbrev pub HasFault : List ℕ → SchemaKind → Type 0
 HasFault line BadName = (name : List ℕ) → BeginsWith line name → ⊥
-HasFault line BadType = (name : List ℕ) × BeginsWith line name × ((p : Part) → Spells line p → ⊥)
-HasFault line TooDeep = (p : Part) × Spells line p × (max_depth < depth p.of)
+HasFault line BadType = (name : List ℕ) × BeginsWith line name × ((p : Part) → SpellsMember line p → ⊥)
+HasFault line TooDeep = (p : Part) × SpellsMember line p × (max_depth < depth p.of)
 HasFault line TooLong = ⊥
 HasFault line Repeated = ⊥
 HasFault line TooMany = ⊥

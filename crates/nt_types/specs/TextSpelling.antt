@@ -5,7 +5,7 @@ use Rattle.nt_types.specs.Kinds.{Part, parts_of}
 use Rattle.nt_types.specs.Names.{has_name}
 use Rattle.nt_types.specs.Limits.{max_text, max_fields}
 use Rattle.nt_types.specs.Lines.{is_blank_line}
-use Rattle.nt_types.specs.LineSpelling.{Spells, IsMember, BeginsWith, HasFault}
+use Rattle.nt_types.specs.LineSpelling.{SpellsMember, IsMember, BeginsWith, HasFault}
 use Rattle.nt_types.specs.Schema.{field_count, parts_count}
 use Rattle.nt_types.specs.Rules.{AreFields}
 use Rattle.nt_types.specs.declared.fault.SchemaFault.{SchemaFault}
@@ -25,7 +25,7 @@ abbrev pub SpellEach : List (List ℕ) → List Part → Type 0
 SpellEach [] [] = Unit {0}
 SpellEach [] (p ∷ ps) = ⊥
 SpellEach (l ∷ ls) [] = ⊥
-SpellEach (l ∷ ls) (p ∷ ps) = Spells l p × SpellEach ls ps
+SpellEach (l ∷ ls) (p ∷ ps) = SpellsMember l p × SpellEach ls ps
 
 -- the text is short, its lines that aren't blank spell these fields one by one, and they keep the rules
 pub record IsSchema (text : List ℕ) (fields : List Part) : Type 0 where
