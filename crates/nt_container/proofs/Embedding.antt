@@ -17,7 +17,8 @@ use Rattle.nt_format.proofs.Steps.{IsBytes-drop}
 use Rattle.nt_lists.proofs.Chaining.{guard_ok, guard_passed, bind_ok}
 use Rattle.nt_format.proofs.Relations.{bind, exactly, refused, test, there, part, piece_bytes, at, whole, located, window-bytes, stands_from, stands_to, in_words}
 use Rattle.nt_container.specs.declared.parts.FileHeader.{FileHeader}
-use Rattle.nt_container.specs.Faults.{fault, unfinished, not_root, bad_file_header}
+use Rattle.nt_num.specs.Codes.{unfinished, not_root, bad_file_header}
+use Rattle.nt_num.specs.Faults.{fault}
 use Rattle.nt_container.specs.FileHeader.{begins_root, gate_of, header_at, header_in, header_of, directory_at, directory_of}
 use Rattle.nt_container.specs.Texts.{HeaderText, DirectoryText}
 use Rattle.nt_container.proofs.Texts.{header_text, header-short, directory_text, directory-short}

@@ -2,7 +2,8 @@
 use Rattle.std.proofs.Common.{◌≡◌, ℕ, suc, take, ◌+◌, List, [], ◌∷◌, ◌++◌, length, get_or, set, Err, Some, refl, sym, ap, ◌∙◌, append_assoc, arith}
 use Rattle.std.proofs.lemmas.List.{length-append, length-set, append-nil}
 use Rattle.nt_format.specs.Pieces.{piece}
-use Rattle.nt_container.specs.Faults.{unfinished, fault}
+use Rattle.nt_num.specs.Codes.{unfinished}
+use Rattle.nt_num.specs.Faults.{fault}
 use Rattle.nt_container.specs.FileHeader.{gate_of, header_in}
 use Rattle.nt_container.specs.Anchors.{anchor_of}
 use Rattle.nt_container.specs.Spelling.{header_words, header_part, record_part, begun, blob_key}

@@ -20,7 +20,8 @@ use Rattle.nt_format.proofs.Grammars.{plain, seq, gives}
 use Rattle.nt_format.proofs.Relations.{bind, refused, there, part, piece_bytes, at, stands_from, stands_to}
 use Rattle.nt_container.specs.declared.parts.Directory.{Directory}
 use Rattle.nt_container.specs.declared.parts.Key.{Key}
-use Rattle.nt_container.specs.Faults.{fault, bad_key_list}
+use Rattle.nt_num.specs.Codes.{bad_key_list}
+use Rattle.nt_num.specs.Faults.{fault}
 use Rattle.nt_container.specs.Keys.{anchor_class, key_at, first_anchor, keys_on, anchor_key_in, anchor_key_of}
 use Rattle.nt_container.specs.Texts.{Word32, KeyText, KeysText}
 use Rattle.nt_container.specs.Embeds.{first_of_class, Lists}

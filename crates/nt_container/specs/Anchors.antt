@@ -11,7 +11,8 @@ use Rattle.nt_format.specs.Pieces.{piece_or}
 use Rattle.nt_format.specs.Demands.{bytes_at, demand}
 use Rattle.nt_container.specs.declared.anchor.Anchor.{Anchor}
 use Rattle.nt_container.specs.declared.parts.Key.{Key}
-use Rattle.nt_container.specs.Faults.{bad_anchor, bad_epoch, compressed, out_of_file, fault, fault_with}
+use Rattle.nt_num.specs.Codes.{bad_anchor, bad_epoch, compressed, out_of_file}
+use Rattle.nt_num.specs.Faults.{fault, with_values}
 use Rattle.nt_container.specs.FileHeader.{header_of, directory_place, directory_of}
 use Rattle.nt_container.specs.Keys.{anchor_key_of}
 
@@ -26,8 +27,8 @@ fields_size = 64
 -- the anchor's object is stored as it is, and has the length of one
 unfoldable pub is_plain : Key → Result (Unit {0}) ReadError
 is_plain key = do
-  plain ← demand (nat_eq key.len (key.header_len + key.object_len)) (fault_with compressed key.place key.object_len (key.len - key.header_len))
-  demand (nat_eq key.object_len object_size) (fault_with bad_anchor key.place object_size key.object_len)
+  plain ← demand (nat_eq key.len (key.header_len + key.object_len)) (with_values key.object_len (key.len - key.header_len) (fault compressed key.place))
+  demand (nat_eq key.object_len object_size) (with_values object_size key.object_len (fault bad_anchor key.place))
 
 -- the object behind its key's header
 unfoldable pub object_of : List ℕ → Key → Result At ReadError
@@ -41,7 +42,7 @@ fields_of place object = do
   head ← refused_as (fault bad_anchor place) (bytes_at 6 object)
   fields ← refused_as (fault bad_anchor place) (part_of fields_size head.1)
   kept ← refused_as (fault bad_anchor place) (big w64 fields.1)
-  same ← demand (nat_eq kept.0 (xxh3 fields.0.left)) (fault_with bad_anchor place kept.0 (xxh3 fields.0.left))
+  same ← demand (nat_eq kept.0 (xxh3 fields.0.left)) (with_values kept.0 (xxh3 fields.0.left) (fault bad_anchor place))
   Ok fields.0
 
 -- SeekHeader, NBytesHeader, LenHeader, SeekFooter, NBytesFooter and LenFooter
@@ -59,7 +60,7 @@ envelopes_at here = do
 unfoldable pub anchor_in : ℕ → At → Result Anchor ReadError
 anchor_in place fields = do
   epoch ← refused_as (fault bad_anchor place) (big w16 fields)
-  first ← demand (nat_eq epoch.0 1) (fault_with bad_epoch place 1 epoch.0)
+  first ← demand (nat_eq epoch.0 1) (with_values 1 epoch.0 (fault bad_epoch place))
   versions ← refused_as (fault bad_anchor place) (bytes_at 6 epoch.1)
   envelopes ← refused_as (fault bad_anchor place) (envelopes_at versions.1)
   Ok envelopes.0

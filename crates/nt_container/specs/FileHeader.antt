@@ -11,7 +11,8 @@ use Rattle.nt_format.specs.Pieces.{window}
 use Rattle.nt_format.specs.Demands.{bytes_at, demand, first_in}
 use Rattle.nt_container.specs.declared.parts.FileHeader.{FileHeader}
 use Rattle.nt_container.specs.declared.parts.Directory.{Directory}
-use Rattle.nt_container.specs.Faults.{unfinished, not_root, bad_file_header, bad_directory, fault, fault_with}
+use Rattle.nt_num.specs.Codes.{unfinished, not_root, bad_file_header, bad_directory}
+use Rattle.nt_num.specs.Faults.{fault, with_values}
 use Rattle.nt_container.specs.Words.{place_at}
 
 -- the bytes of a file header with places of 8 bytes, the longer one
@@ -64,7 +65,7 @@ unfoldable pub header_in : List ℕ → ℕ → Result FileHeader ReadError
 header_in head size = do
   gate ← gate_of head
   header ← first_in (fault bad_file_header 0) header_at head
-  inside ← demand (nat_le header.end size) (fault_with bad_file_header end_field header.end size)
+  inside ← demand (nat_le header.end size) (with_values header.end size (fault bad_file_header end_field))
   Ok header
 
 -- the header of a file

@@ -11,7 +11,8 @@ use Rattle.nt_format.specs.Demands.{bytes_at, found_or}
 use Rattle.nt_container.specs.declared.parts.Directory.{Directory}
 use Rattle.nt_container.specs.declared.parts.Sizes.{Sizes}
 use Rattle.nt_container.specs.declared.parts.Key.{Key}
-use Rattle.nt_container.specs.Faults.{bad_key_list, no_ntuple, fault}
+use Rattle.nt_num.specs.Codes.{bad_key_list, no_ntuple}
+use Rattle.nt_num.specs.Faults.{fault}
 use Rattle.nt_container.specs.Words.{place_at, tstring_at}
 
 -- the class of an anchor

@@ -6,7 +6,8 @@ use Rattle.std.specs.Int.{w32, w64, to_be_bytes}
 use Rattle.nt_format.specs.Reading.{standing, IsBytes}
 use Rattle.nt_format.specs.Relations.{Agrees}
 use Rattle.nt_format.specs.Pieces.{piece}
-use Rattle.nt_container.specs.Faults.{unfinished, fault}
+use Rattle.nt_num.specs.Codes.{unfinished}
+use Rattle.nt_num.specs.Faults.{fault}
 use Rattle.nt_container.specs.Words.{place_at, tstring_at, short_tstring, long_tstring}
 use Rattle.nt_container.specs.Lengths.{blob_key_len, header_part_len, record_part_len, begun_len, anchor_part_len, key_list_part_len, free_list_part_len}
 use Rattle.nt_container.specs.Spelling.{header_part, record_part, begun, key_header_len, key_header, blob_key, anchor_part, key_list_part, free_list_part}

@@ -2,9 +2,10 @@
 use Rattle.std.proofs.Common.{◌≡◌, ℕ, ◌+◌, List, Result, Ok, Err, refl, ap, subst}
 use Rattle.nt_num.specs.declared.fault.ReadError.{ReadError}
 use Rattle.nt_num.specs.Place.{At}
-use Rattle.nt_format.specs.Reading.{◌>>=◌}
+use Rattle.nt_lists.specs.Chaining.{◌>>=◌}
 use Rattle.nt_format.specs.Pieces.{piece_or}
-use Rattle.nt_container.specs.Faults.{fault, bad_key_list}
+use Rattle.nt_num.specs.Codes.{bad_key_list}
+use Rattle.nt_num.specs.Faults.{fault}
 use Rattle.nt_container.specs.declared.anchor.Anchor.{Anchor}
 use Rattle.nt_container.specs.declared.parts.FileHeader.{FileHeader}
 use Rattle.nt_container.specs.declared.parts.Directory.{Directory}

@@ -2,9 +2,10 @@
 use Rattle.std.proofs.Common.{◌≡◌, ℕ, suc, ◌+◌, ◌-◌, ◌<◌, ◌≤◌, List, Option, Result, Ok, Err, sym, ap, ◌∙◌, arith}
 use Rattle.nt_num.specs.Place.{At}
 use Rattle.nt_num.specs.declared.fault.ReadError.{ReadError}
-use Rattle.nt_format.specs.Reading.{◌>>=◌, refused_as}
+use Rattle.nt_lists.specs.Chaining.{◌>>=◌, refused_as}
 use Rattle.nt_container.specs.declared.parts.Key.{Key}
-use Rattle.nt_container.specs.Faults.{fault, bad_key_list}
+use Rattle.nt_num.specs.Codes.{bad_key_list}
+use Rattle.nt_num.specs.Faults.{fault}
 use Rattle.nt_container.specs.Keys.{key_at, first_anchor, keys_on}
 
 one_less : (n i : ℕ) → i < n → n - i ≡ suc (n - (i + 1))

@@ -9,7 +9,8 @@ use Rattle.nt_container.specs.declared.anchor.Anchor.{Anchor}
 use Rattle.nt_container.specs.declared.parts.FileHeader.{FileHeader}
 use Rattle.nt_container.specs.declared.parts.Directory.{Directory}
 use Rattle.nt_container.specs.declared.parts.Key.{Key}
-use Rattle.nt_container.specs.Faults.{fault, bad_key_list, out_of_file}
+use Rattle.nt_num.specs.Codes.{bad_key_list, out_of_file}
+use Rattle.nt_num.specs.Faults.{fault}
 use Rattle.nt_container.specs.FileHeader.{header_in, header_of, directory_in, directory_of}
 use Rattle.nt_container.specs.Keys.{anchor_key_in, anchor_key_of}
 use Rattle.nt_container.specs.Anchors.{is_plain, object_of, anchor_from}

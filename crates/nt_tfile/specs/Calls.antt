@@ -3,7 +3,7 @@ use Rattle.std.specs.Prelude.{ℕ, ◌≡◌, ◌≤◌, ◌+◌, List, length, 
 use Rattle.nt_num.specs.Place.{At}
 use Rattle.nt_num.specs.declared.cursor.Short.{Short}
 use Rattle.nt_num.specs.declared.fault.ReadError.{ReadError}
-use Rattle.nt_format.specs.Reading.{◌>>=◌}
+use Rattle.nt_lists.specs.Chaining.{◌>>=◌}
 use Rattle.nt_container.specs.declared.anchor.Anchor.{Anchor}
 use Rattle.nt_container.specs.declared.parts.Key.{Key}
 use Rattle.nt_container.specs.Anchors.{object_of, anchor_from}

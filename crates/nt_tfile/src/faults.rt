@@ -1,7 +1,7 @@
 //! Faults of a container.
 
 ghost use Rattle.std.specs.Prelude.{◌≡◌};
-ghost use Rattle.nt_container.specs.Faults as faults;
+ghost use Rattle.nt_num.specs.Faults as faults;
 
 use nt_num::ReadError;
 
@@ -14,7 +14,7 @@ pub fn fault(code: u8, at: u64) -> ReadError
 
 /// A fault with what is kept and what is found there.
 pub fn fault_with(code: u8, at: u64, kept: u64, found: u64) -> ReadError
-    ensures { result ≡ faults.fault_with code at kept found }
+    ensures { result ≡ faults.with_values kept found (faults.fault code at) }
 {
     ReadError {
         code,
