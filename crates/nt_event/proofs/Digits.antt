@@ -1,0 +1,59 @@
+-- Digits from a place on.
+use Rattle.std.proofs.Common.{◌≡◌, nat_le, true, ℕ, ◌+◌, ◌-◌, ◌*◌, ◌^◌, ◌<◌, ◌≤◌, List, [], ◌∷◌, ◌++◌, length, take, drop, get_or, decimal, refl, sym, ap, ◌∙◌, arith, length-drop, length-take-le, get_or-drop}
+use Rattle.std.proofs.lemmas.List.{take_more, get_or-take}
+use Rattle.std.proofs.lemmas.Bool.{and_parts, leb-true}
+use Rattle.std.proofs.lemmas.Str.{digit_value_digit}
+use Rattle.std.proofs.lemmas.List.Folds.{drop_split}
+use Rattle.std.proofs.lemmas.Str.Parse.{tells_digits, numerals_by_value, digits_value_short}
+use Rattle.std.proofs.lemmas.Fmt.{decimal-digits_value}
+use Rattle.std.specs.List.{slice_range}
+use Rattle.std.specs.Char.{digit_value, is_ascii_digit}
+use Rattle.std.specs.Str.Parse.{AllDigits, digits_value_after, digits_value}
+use Rattle.nt_event.specs.Spells.{Spells}
+
+pub range-next : (xs : List ℕ) (at i : ℕ) → at ≤ i → i < length xs → slice_range xs at (i + 1) ≡ slice_range xs at i ++ get_or xs i 0 ∷ []
+range-next xs at i le h =
+    let step : (i + 1) - at ≡ (i - at) + 1 = omega arith in
+    let back : at + (i - at) ≡ i = omega arith in
+    ap (λ n. take n (drop at xs)) step ∙ take_more (drop at xs) (i - at) 0 (omega (arith, length-drop at xs))
+    ∙ ap (λ c. take (i - at) (drop at xs) ++ c ∷ []) (get_or-drop at xs (i - at) 0 ∙ ap (λ j. get_or xs j 0) back)
+
+after-next : (n : ℕ) (ds : List ℕ) (c : ℕ) → digits_value_after 10 n (ds ++ c ∷ []) ≡ digits_value_after 10 n ds * 10 + digit_value c
+after-next n [] c = refl
+after-next n (d ∷ ds) c = after-next (n * 10 + digit_value d) ds c
+
+pub value-next : (ds : List ℕ) (c : ℕ) → digits_value 10 (ds ++ c ∷ []) ≡ digits_value 10 ds * 10 + digit_value c
+value-next ds c = after-next 0 ds c
+
+pub digits-next : (ds : List ℕ) (c : ℕ) → AllDigits 10 ds → digit_value c < 10 → AllDigits 10 (ds ++ c ∷ [])
+digits-next [] c h k = (k, tt)
+digits-next (d ∷ ds) c h k = (h.0, digits-next ds c h.1 k)
+
+pub value-short : (ds : List ℕ) → AllDigits 10 ds → length ds ≤ 18 → digits_value 10 ds < 10 ^ 18
+value-short ds h few = digits_value_short (numerals_by_value (AllDigits 10) tells_digits) ds 18 h few
+
+pub range-length : (xs : List ℕ) (at i : ℕ) → at ≤ i → i ≤ length xs → length (slice_range xs at i) ≡ i - at
+range-length xs at i le h = length-take-le (i - at) (drop at xs) (omega (arith, length-drop at xs))
+
+pub digit-range : (c : ℕ) → is_ascii_digit c ≡ true → (48 ≤ c) × (c ≤ 57) × (digit_value c + 48 ≡ c)
+digit-range c h =
+    let p = and_parts (nat_le 48 c) (nat_le c 57) h in
+    let low = leb-true 48 c p.0 in
+    let high = leb-true c 57 p.1 in
+    (low, high, digit_value_digit c (low, high))
+
+-- digits as they are printed
+pub printed : (xs : List ℕ) (at i : ℕ) → at < i → i ≤ length xs → i ≤ at + 19 → AllDigits 10 (slice_range xs at i) → (get_or xs at 0 ≡ 48 → i ≤ at + 1) → Spells (decimal (digits_value 10 (slice_range xs at i))) xs at i
+printed xs at i some high few digits first =
+    let ds = slice_range xs at i in
+    let len = range-length xs at i (omega arith) high in
+    let own = numerals_by_value (AllDigits 10) tells_digits in
+    let here : at + 0 ≡ at = omega arith in
+    let head : get_or ds 0 0 ≡ get_or xs at 0 = get_or-take (i - at) (drop at xs) 0 0 (omega arith) ∙ get_or-drop at xs 0 0 ∙ ap (λ j. get_or xs j 0) here in
+    let small : digits_value 10 ds < 10 ^ 19 = digits_value_short own ds 19 digits (omega (arith, len)) in
+    let same = decimal-digits_value own ds digits (omega (arith, len)) (λ e. omega (arith, len, first (sym head ∙ e))) (omega (arith, small)) in
+    record {
+      part_is = drop_split xs at i (omega arith) ∙ ap (λ l. l ++ drop i xs) (sym same);
+      within = high;
+      some = some;
+    }

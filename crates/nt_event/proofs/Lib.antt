@@ -1,0 +1,11 @@
+pub mod ReadBack
+pub mod TreeBack
+pub mod Digits
+pub mod Plain
+pub mod Texts
+pub mod ViewLemmas
+pub mod Steps
+pub mod Fast
+pub mod Prints
+pub mod LineSteps
+pub mod Lawful

@@ -1,0 +1,76 @@
+-- What is printed for an entry is read as its data.
+use Rattle.std.proofs.Common.{◌≡◌, ℕ, ◌≤◌, ℤ, pos, negsuc, List, [], Bool, true, false, Some, option_map, option_and_then, if◌then◌else◌, refl, sym, ap, ◌∙◌, arith, append-nil}
+use Rattle.std.specs.Str.{is_utf8}
+use Rattle.json.specs.Lex.{tokens}
+use Rattle.json.specs.Json as json
+use Rattle.json.specs.Tree.{json_tokens, HasNumbers, ItemsHaveNumbers}
+use Rattle.json.specs.Tree as tree
+use Rattle.json.specs.Print.{IsNumber}
+use Rattle.json.proofs.Printed.Tokens.{tokens-print}
+use Rattle.json.proofs.Printed.Trees.{value-json_tokens, ArePrintable-json_tokens}
+use Rattle.json.proofs.Printed.Decimals.{IsNumber-decimal, IsNumber-signed_decimal}
+use Rattle.serde_json.specs.Data.{Data, number, string, array}
+use Rattle.serde_json.specs.Read.{number_of, of_json, of_items, read, max_depth}
+use Rattle.serde_json.specs.Written.{number_text, outline, items_outline, compact_text}
+use Rattle.serde_json.proofs.Numbers.{number_of-decimal, number_of-negative}
+use Rattle.serde_json.proofs.Texts.{print-outline}
+use Rattle.nt_types.specs.TreeData.{TreeData, TreesData, flag, num, text, items, parts, pick, nothing, no_trees, tree}
+use Rattle.nt_event.specs.Json.{num_data, hex_data, data_of, datas_of, line_of, InWord, InRange, AllInRange}
+
+number_read : (z : ℤ) → InWord z → option_map number (number_of (number_text (num_data z))) ≡ Some (number (num_data z))
+number_read (pos n) h = ap (option_map number) (number_of-decimal n h)
+number_read (negsuc n) h = ap (option_map number) (number_of-negative n h)
+
+number_is : (z : ℤ) → InWord z → IsNumber (number_text (num_data z))
+number_is (pos n) h = IsNumber-decimal n h
+number_is (negsuc n) h = IsNumber-signed_decimal (negsuc n) h
+
+text_read : (b : Bool) (s : List ℕ) → of_json (outline (if b then string s else hex_data s)) ≡ Some (if b then string s else hex_data s)
+text_read true s = refl
+text_read false s = refl
+
+text_numbers : (b : Bool) (s : List ℕ) → HasNumbers (outline (if b then string s else hex_data s))
+text_numbers true s = tt
+text_numbers false s = (tt, tt)
+
+mutual
+  of_json-data : (v : TreeData) → InRange v → of_json (outline (data_of v)) ≡ Some (data_of v)
+  of_json-data (flag b) h = refl
+  of_json-data (num z) h = number_read z h
+  of_json-data (text s) h = text_read (is_utf8 s) s
+  of_json-data (items vs) h = ap (option_map array) (of_items-datas vs h)
+  of_json-data (parts vs) h = ap (option_map array) (of_items-datas vs h)
+  of_json-data (pick tag v) h = rw (number_of-decimal tag (omega (arith, h.0)), of_json-data v h.1) refl
+  of_json-data nothing h = refl
+
+  of_items-datas : (vs : TreesData) → AllInRange vs → of_items (items_outline (datas_of vs)) ≡ Some (datas_of vs)
+  of_items-datas no_trees h = refl
+  of_items-datas (tree v vs) h = rw (of_json-data v h.0, of_items-datas vs h.1) refl
+
+mutual
+  numbers-data : (v : TreeData) → InRange v → HasNumbers (outline (data_of v))
+  numbers-data (flag b) h = tt
+  numbers-data (num z) h = number_is z h
+  numbers-data (text s) h = text_numbers (is_utf8 s) s
+  numbers-data (items vs) h = numbers-datas vs h
+  numbers-data (parts vs) h = numbers-datas vs h
+  numbers-data (pick tag v) h = (IsNumber-decimal tag (omega (arith, h.0)), (numbers-data v h.1, tt))
+  numbers-data nothing h = tt
+
+  numbers-datas : (vs : TreesData) → AllInRange vs → ItemsHaveNumbers (items_outline (datas_of vs))
+  numbers-datas no_trees h = tt
+  numbers-datas (tree v vs) h = (numbers-data v h.0, numbers-datas vs h.1)
+
+-- tokens of a value's outline are read as the value, whatever text gave them
+pub read-tokens : (bytes : List ℕ) (vs : TreesData) → AllInRange vs → tree.depth (outline (array (datas_of vs))) ≤ 127 → tokens bytes ≡ json_tokens (outline (array (datas_of vs))) → read bytes ≡ Some (array (datas_of vs))
+read-tokens bytes vs h shallow same =
+    let j = outline (array (datas_of vs)) in
+    ap (λ ts. option_and_then of_json (option_and_then (λ p. json.if_last p.0 p.1) (json.value max_depth ts))) (same ∙ sym (append-nil (json_tokens j)))
+    ∙ ap (λ o. option_and_then of_json (option_and_then (λ p. json.if_last p.0 p.1) o)) (value-json_tokens j max_depth [] shallow)
+    ∙ ap (option_map array) (of_items-datas vs h)
+
+tokens-compact : (d : Data) → HasNumbers (outline d) → tokens (compact_text d) ≡ json_tokens (outline d)
+tokens-compact d h = ap tokens (sym (print-outline d)) ∙ tokens-print (json_tokens (outline d)) (ArePrintable-json_tokens (outline d) h)
+
+pub read-line_of : (vs : TreesData) → AllInRange vs → tree.depth (outline (array (datas_of vs))) ≤ 127 → read (line_of vs) ≡ Some (array (datas_of vs))
+read-line_of vs h shallow = read-tokens (line_of vs) vs h shallow (tokens-compact (array (datas_of vs)) (numbers-datas vs h))

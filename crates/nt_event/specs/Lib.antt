@@ -1,0 +1,9 @@
+pub mod Limits
+pub mod Json
+pub mod Line
+pub mod Plain
+pub mod Spells
+pub mod Depth
+pub mod Entry
+pub mod Lines
+pub mod LineParts

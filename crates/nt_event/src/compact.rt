@@ -1,0 +1,72 @@
+//! The marks and words of a line in its compact form.
+
+ghost use Rattle.std.specs.Prelude.{◌∷◌, [], ◌≤◌, length, true, false, IfSome};
+ghost use Rattle.serde_json.specs.Written.{compact_text, comma_if};
+ghost use Rattle.nt_types.specs.TreeData.{flag};
+ghost use Rattle.nt_event.specs.Json.{data_of};
+ghost use Rattle.nt_event.specs.Spells.{Spells, MaySpell};
+
+/// Passes a byte.
+pub(crate) fn after(text: &[u8], at: usize, byte: u8) -> Option<usize>
+    ensures { IfSome result (λ end. Spells (byte ∷ []) text.now at end) }
+{
+    if at < text.len() && text[at] == byte {
+        Some(at + 1)
+    } else {
+        None
+    }
+}
+
+/// Passes a comma, where something stands before.
+pub(crate) fn comma(text: &[u8], at: usize, later: bool) -> Option<usize>
+    requires { at ≤ length text.now }
+    ensures { IfSome result (λ end. MaySpell (comma_if later) text.now at end) }
+{
+    if later {
+        after(text, at, b',')
+    } else {
+        Some(at)
+    }
+}
+
+/// Passes `null`.
+pub(crate) fn null(text: &[u8], at: usize) -> Option<usize>
+    ensures { IfSome result (λ end. Spells (110 ∷ 117 ∷ 108 ∷ 108 ∷ []) text.now at end) }
+{
+    let second = after(text, at, b'n')?;
+    let third = after(text, second, b'u')?;
+    let fourth = after(text, third, b'l')?;
+    after(text, fourth, b'l')
+}
+
+/// Passes `true`.
+fn yes(text: &[u8], at: usize) -> Option<usize>
+    ensures { IfSome result (λ end. Spells (116 ∷ 114 ∷ 117 ∷ 101 ∷ []) text.now at end) }
+{
+    let second = after(text, at, b't')?;
+    let third = after(text, second, b'r')?;
+    let fourth = after(text, third, b'u')?;
+    after(text, fourth, b'e')
+}
+
+/// Passes `false`.
+fn no(text: &[u8], at: usize) -> Option<usize>
+    ensures { IfSome result (λ end. Spells (102 ∷ 97 ∷ 108 ∷ 115 ∷ 101 ∷ []) text.now at end) }
+{
+    let second = after(text, at, b'f')?;
+    let third = after(text, second, b'a')?;
+    let fourth = after(text, third, b'l')?;
+    let fifth = after(text, fourth, b's')?;
+    after(text, fifth, b'e')
+}
+
+/// Passes `true` or `false`.
+pub(crate) fn truth(text: &[u8], at: usize) -> Option<(bool, usize)>
+    ensures { IfSome result (λ r. Spells (compact_text (data_of (flag r.0))) text.now at r.1) }
+{
+    if let Some(end) = yes(text, at) {
+        return Some((true, end));
+    }
+    let end = no(text, at)?;
+    Some((false, end))
+}

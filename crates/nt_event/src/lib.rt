@@ -1,0 +1,31 @@
+//! Event text: lines of JSON to trees, and back.
+//!
+//! Start at [`LineReader`], which gives the lines of a text; [`blank`] tells those without an entry, [`read_line`] reads
+//! an entry by the fields of a schema, and [`write_line`] appends the line of one.
+//!
+//! Its words: an *entry* is one tree for each field; its *line* is a JSON array with one value for each field. A value in its
+//! *compact form* stands as `write_line` prints it. What a line means is `entry_of` (specs/Entry.antt), by what
+//! `serde_json` reads; what an entry's line is, `line_of` (specs/Json.antt); what the next line is, `GivesLine`
+//! (specs/Lines.antt). That a line is read back as its entry is the clause of [`lines_are_read_back`].
+#![tactic(auto)]
+
+mod blanks;
+mod compact;
+mod entry;
+mod fault;
+mod integers;
+mod laws;
+mod leaf;
+mod lines;
+mod printing;
+mod quoted;
+mod scan;
+mod strings;
+mod values;
+
+pub use blanks::blank;
+pub use entry::read_line;
+pub use fault::{TextError, TextKind};
+pub use laws::lines_are_read_back;
+pub use lines::{Line, LineError, LineReader};
+pub use printing::write_line;

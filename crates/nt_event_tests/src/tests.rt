@@ -1,0 +1,4 @@
+//! Worked lines and texts.
+
+mod entries;
+mod texts;

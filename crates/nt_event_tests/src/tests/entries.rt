@@ -1,0 +1,156 @@
+//! Lines, with what is printed for their entry, or their fault.
+
+use TextKind::{Count, Misfit, NotArray, NotJson};
+use nt_event::{TextError, TextKind, read_line, write_line};
+use nt_types::parse_schema;
+use std::alloc::{AllocError, Global};
+use std::test::Fail;
+
+/// A schema text, lines, and the lines that are printed for their entries.
+const READ: [(&str, &str, &str); 29] = [
+    ("x u64", "[1]", "[1]"),
+    ("x u64", " [ 1 ] \r", "[1]"),
+    ("x u64", "[18446744073709551615]", "[18446744073709551615]"),
+    ("x i64", "[-9223372036854775808]", "[-9223372036854775808]"),
+    ("x i64", "[9223372036854775807]", "[9223372036854775807]"),
+    ("x i8", "[-128]", "[-128]"),
+    ("c char", "[255]", "[255]"),
+    ("b byte", "[0]", "[0]"),
+    ("a u8\nb bool", "[1,true]", "[1,true]"),
+    ("a u8\nb bool", "[1, false]", "[1,false]"),
+    ("t string", r#"[""]"#, r#"[""]"#),
+    ("t string", r#"[{"hex":"FF00"}]"#, r#"[{"hex":"ff00"}]"#),
+    ("t string", r#"[{"hex":"6869"}]"#, r#"["hi"]"#),
+    ("t string", r#"[{"\u0068ex":"41"}]"#, r#"["A"]"#),
+    ("t string", r#"[{"hex":"41","hex":"42"}]"#, r#"["B"]"#),
+    (
+        "t string",
+        r#"["\"\\\/\b\f\n\r\t"]"#,
+        r#"["\"\\/\b\f\n\r\t"]"#,
+    ),
+    (
+        "t string",
+        r#"["\u0000\u001F\u007f"]"#,
+        "[\"\\u0000\\u001f\u{7f}\"]",
+    ),
+    ("t string", r#"["\u00e9\u20AC\ud83d\ude00"]"#, "[\"é€😀\"]"),
+    ("t string", "[\"é€😀\"]", "[\"é€😀\"]"),
+    ("w vec<string>", r#"[["",""]]"#, r#"[["",""]]"#),
+    ("w vec<string>", "[[]]", "[[]]"),
+    ("w vec<i16>", "[[1,\t-2 ,3]]", "[[1,-2,3]]"),
+    ("v var<u8,string>", "[null]", "[null]"),
+    ("v var<u8,string>", r#"[[2,"a"]]"#, r#"[[2,"a"]]"#),
+    ("v var<u8,string>", "[[1,7]]", "[[1,7]]"),
+    ("v var<u8,string>", "[ [ 1 , 7 ] ]", "[[1,7]]"),
+    ("r rec{a:u8,b:vec<i8>}", "[[1,[-1,2]]]", "[[1,[-1,2]]]"),
+    ("r rec{a:u8,b:vec<i8>}", "[[1, [-1, 2]]]", "[[1,[-1,2]]]"),
+    ("p tuple<bool,u16>", "[[true,65535]]", "[[true,65535]]"),
+];
+
+/// A schema text, lines, and their fault.
+const REFUSED: [(&str, &[u8], TextKind); 37] = [
+    ("x u64", b"", NotJson),
+    ("x u64", b"[", NotJson),
+    ("x u64", b"[01]", NotJson),
+    ("x i64", b"[-01]", NotJson),
+    ("x u64", b"[1]]", NotJson),
+    ("x u64", b"[1e999]", NotJson),
+    ("x u64", b"\xef\xbb\xbf[1]", NotJson),
+    ("t string", b"[\"\xff\"]", NotJson),
+    ("t string", b"[\"\x01\"]", NotJson),
+    ("t string", b"[\"\\ud800\"]", NotJson),
+    ("x u64", b"{}", NotArray),
+    ("x u64", b"null", NotArray),
+    ("x u64", b"[]", Count),
+    ("x u64", b"[1,2]", Count),
+    ("x u64", b"[1.0,2]", Count),
+    ("x u64", b"[1.0]", Misfit),
+    ("x u64", b"[1e3]", Misfit),
+    ("x i64", b"[-0]", Misfit),
+    ("x u64", b"[-1]", Misfit),
+    ("x u64", b"[18446744073709551616]", Misfit),
+    ("x i64", b"[9223372036854775808]", Misfit),
+    ("x i64", b"[-9223372036854775809]", Misfit),
+    ("x u8", b"[256]", Misfit),
+    ("x i8", b"[-129]", Misfit),
+    ("c char", b"[-1]", Misfit),
+    ("x u8", b"[true]", Misfit),
+    ("t string", b"[{\"hex\":\"f\"}]", Misfit),
+    ("t string", b"[{\"Hex\":\"41\"}]", Misfit),
+    ("t string", b"[{\"hex\":\"41\",\"of\":1}]", Misfit),
+    ("v var<u8,string>", b"[[0,1]]", Misfit),
+    ("v var<u8,string>", b"[[3,1]]", Misfit),
+    ("v var<u8,string>", b"[[1]]", Misfit),
+    ("v var<u8,string>", b"[[1,2,3]]", Misfit),
+    ("v var<u8,string>", b"[[4294967297,2]]", Misfit),
+    ("r rec{a:u8,b:u8}", b"[[1]]", Misfit),
+    ("r rec{a:u8,b:u8}", b"[{\"a\":1,\"b\":2}]", Misfit),
+    ("p tuple<bool,u16>", b"[[1,true]]", Misfit),
+];
+
+/// What is printed for the entry of a line.
+fn printed(alloc: Global, schema: &str, line: &[u8]) -> Result<Vec<u8>, TextError> {
+    let Ok(fields) = parse_schema(alloc, schema.as_bytes()) else {
+        return Err(TextError::Memory);
+    };
+    let trees = read_line(alloc, line, &fields)?;
+    let mut out = Vec::new(alloc);
+    match write_line(alloc, &trees, &mut out) {
+        Ok(()) => Ok(out),
+        Err(AllocError) => Err(TextError::Memory),
+    }
+}
+
+#[test]
+fn lines_have_entries(rt: HostRuntime) -> Result<(), Fail> {
+    for (schema, line, expected) in READ {
+        match printed(rt.alloc(), schema, line.as_bytes()) {
+            Ok(text) => {
+                let text = text.as_slice();
+                assert!(rt;
+                    text.len() == expected.len() + 1 && text.starts_with(expected.as_bytes()),
+                    "{line}"
+                );
+            }
+            Err(error) => assert!(rt; false, "{line}: {error:?}"),
+        }
+    }
+    Ok(())
+}
+
+#[test]
+fn lines_have_faults(rt: HostRuntime) -> Result<(), Fail> {
+    for (schema, line, kind) in REFUSED {
+        match printed(rt.alloc(), schema, line) {
+            Ok(_) => assert!(rt; false, "{line:?}"),
+            Err(error) => assert_eq!(rt; error, TextError::Kind(kind), "{line:?}"),
+        }
+    }
+    Ok(())
+}
+
+#[test]
+fn arrays_nest_so_deep(rt: HostRuntime) -> Result<(), Fail> {
+    for (depth, kind) in [(127, Misfit), (128, NotJson)] {
+        let mut line = vec![in rt.alloc(); b'['; depth]?;
+        line.extend_from_slice(vec![in rt.alloc(); b']'; depth]?.as_slice())?;
+        match printed(rt.alloc(), "x u64", line.as_slice()) {
+            Ok(_) => assert!(rt; false),
+            Err(error) => assert_eq!(rt; error, TextError::Kind(kind)),
+        }
+    }
+    Ok(())
+}
+
+#[test]
+fn a_line_has_so_many_bytes(rt: HostRuntime) -> Result<(), Fail> {
+    let mut line = vec![in rt.alloc(); b' '; (1 << 24) - 3]?;
+    line.extend_from_slice(b"[1]")?;
+    assert!(rt; printed(rt.alloc(), "x u64", line.as_slice()).is_ok());
+    line.push(b' ')?;
+    match printed(rt.alloc(), "x u64", line.as_slice()) {
+        Ok(_) => assert!(rt; false),
+        Err(error) => assert_eq!(rt; error, TextError::Kind(TextKind::TooLong)),
+    }
+    Ok(())
+}
