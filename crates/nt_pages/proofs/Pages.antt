@@ -35,13 +35,17 @@ pub lists-next : (page : ℕ) (old new all : List (List PageMeta)) (place after 
     → left ≡ c ∷ rest → new ≡ old ++ page_metas c.kind place (chunks page c.elements) ∷ [] → after ≡ place + length (column_bytes page c)
     → old ++ column_metas page place left ≡ all → new ++ column_metas page after rest ≡ all
 lists-next page old new all place after left rest c parts more behind is =
-    rw (more, behind) (append_assoc old (page_metas c.kind place (chunks page c.elements) ∷ []) (column_metas page (place + length (column_bytes page c)) rest)
+    rw (more, behind)
+    (append_assoc old (page_metas c.kind place (chunks page c.elements) ∷ [])
+    (column_metas page (place + length (column_bytes page c)) rest)
     ∙ (ap (λ (xs : List Column). old ++ column_metas page place xs) (sym parts) ∙ is))
 
 -- the next column of those that are left
-pub columns-next : (bs : List Buffer) (k : ℕ) (b : Buffer) → slice_get bs k ≡ Some b → drop k (columns_of bs) ≡ b.column ∷ drop (k + 1) (columns_of bs)
+pub columns-next : (bs : List Buffer) (k : ℕ) (b : Buffer) → slice_get bs k ≡ Some b
+    → drop k (columns_of bs) ≡ b.column ∷ drop (k + 1) (columns_of bs)
 columns-next bs k b at =
-    let here : slice_get (columns_of bs) k ≡ Some b.column = slice_get-map (λ (x : Buffer). x.column) bs k ∙ ap (option_map (λ (x : Buffer). x.column)) at in
+    let here : slice_get (columns_of bs) k ≡ Some b.column = slice_get-map (λ (x : Buffer). x.column) bs k
+    ∙ ap (option_map (λ (x : Buffer). x.column)) at in
     let within : k < length (columns_of bs) = slice_get_within (columns_of bs) k b.column here in
     drop_more (columns_of bs) k b.column within
     ∙ ap (λ (c : Column). c ∷ drop (k + 1) (columns_of bs)) (get_or_from_slice_get (columns_of bs) k b.column b.column here)

@@ -25,7 +25,8 @@ length-stored kind sized es = length-append (page_of kind es) (to_le_bytes w64 (
 one-more : (kind : ColumnType) (n : ℕ) (es : List Element) (k m : ℕ)
     → length (flat_map (stored_page kind) (map (chunk n es) (range_with_len k (suc m))))
     ≡ length (stored_page kind (chunk n es k)) + length (flat_map (stored_page kind) (map (chunk n es) (range_with_len (k + 1) m)))
-one-more kind n es k m = length-append (stored_page kind (chunk n es k)) (flat_map (stored_page kind) (map (chunk n es) (range_with_len (k + 1) m)))
+one-more kind n es k m =
+    length-append (stored_page kind (chunk n es k)) (flat_map (stored_page kind) (map (chunk n es) (range_with_len (k + 1) m)))
 
 -- a group that has a whole one behind its beginning is full
 full-size : (n k m len : ℕ) → (k + suc m) * n ≤ len → min n (len - k * n) ≡ n
@@ -37,7 +38,8 @@ full-size n k m len within =
 full-stored : (kind : ColumnType) → Sized kind → (n : ℕ) (es : List Element) (k m : ℕ) → (k + suc m) * n ≤ length es
     → length (stored_page kind (chunk n es k)) ≡ page_size kind n + 8
 full-stored kind sized n es k m within =
-    length-stored kind sized (chunk n es k) ∙ ap (λ (c : ℕ). page_size kind c + 8) (length-chunk n es k ∙ full-size n k m (length es) within)
+    length-stored kind sized (chunk n es k)
+    ∙ ap (λ (c : ℕ). page_size kind c + 8) (length-chunk n es k ∙ full-size n k m (length es) within)
 
 -- m full groups from the k-th on
 full-groups : (kind : ColumnType) → Sized kind → (n : ℕ) (es : List Element) (m k : ℕ) → (k + m) * n ≤ length es
@@ -50,8 +52,10 @@ full-groups kind sized n es (suc m) k within =
     one-more kind n es k m ∙ rw (full-stored kind sized n es k m within, rest, suc-mul m (page_size kind n + 8)) (omega arith)
 
 -- and a last one that is not
-last-group : (kind : ColumnType) → Sized kind → (n : ℕ) (es : List Element) (m k : ℕ) → (k + m) * n ≤ length es → length es - (k + m) * n < n
-    → length (flat_map (stored_page kind) (map (chunk n es) (range_with_len k (suc m)))) ≡ m * (page_size kind n + 8) + (page_size kind (length es - (k + m) * n) + 8)
+last-group : (kind : ColumnType) → Sized kind → (n : ℕ) (es : List Element) (m k : ℕ) → (k + m) * n ≤ length es
+    → length es - (k + m) * n < n
+    → length (flat_map (stored_page kind) (map (chunk n es) (range_with_len k (suc m)))) ≡ m * (page_size kind n + 8) +
+    (page_size kind (length es - (k + m) * n) + 8)
 last-group kind sized n es zero k within short =
     let here : k + 0 ≡ k = add-zero k in
     let bound : length es - k * n < n = rw here at short in
@@ -67,7 +71,8 @@ last-group kind sized n es (suc m) k within short =
     one-more kind n es k (suc m) ∙ rw (full-stored kind sized n es k m within, rest, suc-mul m (page_size kind n + 8)) (omega arith)
 
 -- the size of a column whose last page is full
-pub size-full : (kind : ColumnType) → Sized kind → (n : ℕ) (es : List Element) (s : ℕ) → 0 < n → length es % n ≡ 0 → s ≡ length es / n * (page_size kind n + 8)
+pub size-full : (kind : ColumnType) → Sized kind → (n : ℕ) (es : List Element) (s : ℕ) → 0 < n → length es % n ≡ 0
+    → s ≡ length es / n * (page_size kind n + 8)
     → s ≡ length (flat_map (stored_page kind) (chunks n es))
 size-full kind sized n es s some none is =
     let count : div_ceil (length es) n ≡ length es / n = omega arith in
@@ -77,7 +82,8 @@ size-full kind sized n es s some none is =
 
 -- and of one whose last page is shorter
 pub size-short : (kind : ColumnType) → Sized kind → (n : ℕ) (es : List Element) (s : ℕ) → 0 < n → 0 < length es % n
-    → s ≡ length es / n * (page_size kind n + 8) + (page_size kind (length es % n) + 8) → s ≡ length (flat_map (stored_page kind) (chunks n es))
+    → s ≡ length es / n * (page_size kind n + 8) + (page_size kind (length es % n) + 8)
+    → s ≡ length (flat_map (stored_page kind) (chunks n es))
 size-short kind sized n es s some rest is =
     let count : div_ceil (length es) n ≡ suc (length es / n) = omega arith in
     let whole : n * (length es / n) + length es % n ≡ length es = div-add-mod (length es) n in

@@ -1,6 +1,6 @@
 -- The bytes of a cluster: its columns one after the other, each cut into pages.
 -- RNTuple Binary Format Specification 1.0.0.0, sections Pages and Clusters.
-use Rattle.std.specs.Prelude.{ℕ, ◌≡◌, List, ◌++◌, map, replicate}
+use Rattle.std.specs.Prelude.{ℕ, ◌≡◌, ◌^◌, List, ◌++◌, map, replicate}
 use Rattle.std.specs.List.{flat_map}
 use Rattle.std.specs.Int.{w64, to_le_bytes}
 use Rattle.nt_types.specs.declared.column_type.ColumnType.{ColumnType}
@@ -10,6 +10,18 @@ use Rattle.nt_grammar.specs.declared.rows.ColumnRow.{ColumnRow}
 use Rattle.nt_column.specs.Elements.{Element, page_of}
 use Rattle.nt_lists.specs.Chunks.{chunks}
 use Rattle.nt_column.specs.Column.{Column}
+
+-- the bytes of room for the key of a cluster, before its payload
+abbrev pub key_room : ℕ
+key_room = 42
+
+-- the bytes of a page's checksum
+abbrev pub checksum_len : ℕ
+checksum_len = 8
+
+-- the most elements of a page
+abbrev pub max_page : ℕ
+max_page = 2 ^ 20
 
 -- a page as it is stored, with the XXH3-64 of its bytes behind them
 abbrev pub stored_page : ColumnType → List Element → List ℕ
@@ -23,9 +35,9 @@ column_bytes page c = flat_map (stored_page c.kind) (chunks page c.elements)
 abbrev pub payload : ℕ → List Column → List ℕ
 payload page cs = flat_map (column_bytes page) cs
 
--- the payload behind 42 bytes of room for its key
+-- the payload behind the room for its key
 abbrev pub image : ℕ → List Column → List ℕ
-image page cs = replicate 42 0 ++ payload page cs
+image page cs = replicate key_room 0 ++ payload page cs
 
 -- columns of the types that these rows describe
 abbrev pub AreDescribed : List Column → List ColumnRow → Type 0

@@ -8,7 +8,7 @@ use Rattle.nt_book.specs.declared.meta.ClusterMeta.{ClusterMeta}
 use Rattle.nt_column.specs.Elements.{Element, page_of}
 use Rattle.nt_lists.specs.Chunks.{chunks}
 use Rattle.nt_column.specs.Column.{Column}
-use Rattle.nt_pages.specs.Image.{stored_page, column_bytes, image}
+use Rattle.nt_pages.specs.Image.{checksum_len, stored_page, column_bytes, image}
 
 -- a page at a place of the payload; its checksum isn't of its size
 abbrev pub page_meta : ColumnType → ℕ → List Element → PageMeta
@@ -30,7 +30,7 @@ cluster_meta page context entries cs = record { context = context; entries = ent
 
 -- what lies at the place of a page: its bytes and its checksum
 abbrev pub stored_at : List ℕ → PageMeta → List ℕ
-stored_at bytes m = slice_range bytes m.place (m.place + (m.size + 8))
+stored_at bytes m = slice_range bytes m.place (m.place + (m.size + checksum_len))
 
 -- the stored pages of columns
 abbrev pub stored_pages : ℕ → List Column → List (List (List ℕ))

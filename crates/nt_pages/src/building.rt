@@ -1,8 +1,8 @@
 //! The image of a cluster, made of its columns.
 
-ghost use Rattle.std.specs.Prelude.{◌≡◌, ◌<◌, ◌≤◌, ◌^◌, IfOk};
+ghost use Rattle.std.specs.Prelude.{◌≡◌, ◌<◌, ◌≤◌, IfOk};
 ghost use Rattle.nt_column.specs.Column.{columns_of};
-ghost use Rattle.nt_pages.specs.Image.{image, AreDescribed};
+ghost use Rattle.nt_pages.specs.Image.{max_page, image, AreDescribed};
 ghost use Rattle.nt_pages.specs.Metas.{cluster_meta};
 
 use crate::columns::put_columns;
@@ -26,7 +26,7 @@ pub fn build(
     entries: u64,
 ) -> Result<ClusterImage, AllocError>
     requires some { 0 < page }
-    requires most { page ≤ 2 ^ 20 }
+    requires most { page ≤ max_page }
     requires columns { AreDescribed (columns_of columns.now) schema.now.columns }
     ensures bytes { IfOk result (λ r. r.bytes ≡ image page (columns_of columns.now)) }
     ensures meta { IfOk result

@@ -1,9 +1,9 @@
 //! The pages of columns, one column after the other.
 
-ghost use Rattle.std.specs.Prelude.{◌≡◌, ◌-◌, ◌<◌, ◌≤◌, ◌^◌, ◌++◌, length, min, OnOk, IfOk};
+ghost use Rattle.std.specs.Prelude.{◌≡◌, ◌-◌, ◌<◌, ◌≤◌, ◌++◌, length, min, OnOk, IfOk};
 ghost use Rattle.nt_lists.specs.Chunks.{chunks};
 ghost use Rattle.nt_column.specs.Column.{columns_of};
-ghost use Rattle.nt_pages.specs.Image.{column_bytes, payload};
+ghost use Rattle.nt_pages.specs.Image.{key_room, max_page, column_bytes, payload};
 ghost use Rattle.nt_pages.specs.Metas.{page_metas, column_metas};
 
 use crate::page::put_page;
@@ -30,13 +30,13 @@ pub fn put_column(
     image: &mut Vec<u8>,
 ) -> Result<Vec<PageMeta>, AllocError>
     requires some { 0 < page }
-    requires most { page ≤ 2 ^ 20 }
+    requires most { page ≤ max_page }
     requires words { min (length buffer.now.column.elements) page ≤ length words.old }
-    requires room { 42 ≤ length image.old.items }
+    requires room { key_room ≤ length image.old.items }
     ensures image { OnOk result
         (image.new.items ≡ image.old.items ++ column_bytes page buffer.now.column) }
     ensures metas { IfOk result
-        (λ v. v.items ≡ page_metas buffer.now.column.kind (length image.old.items - 42)
+        (λ v. v.items ≡ page_metas buffer.now.column.kind (length image.old.items - key_room)
         (chunks page buffer.now.column.elements)) }
 {
     let pages = buffer.page_cut(page);
@@ -56,9 +56,9 @@ pub fn put_columns(
     image: &mut Vec<u8>,
 ) -> Result<Vec<PageList>, AllocError>
     requires some { 0 < page }
-    requires most { page ≤ 2 ^ 20 }
+    requires most { page ≤ max_page }
     requires count { count ≡ length columns.now }
-    requires room { length image.old.items ≡ 42 }
+    requires room { length image.old.items ≡ key_room }
     ensures image { OnOk result
         (image.new.items ≡ image.old.items ++ payload page (columns_of columns.now)) }
     ensures metas { IfOk result (λ v. v.items ≡ column_metas page 0 (columns_of columns.now)) }

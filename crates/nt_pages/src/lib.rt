@@ -1,4 +1,20 @@
 //! Images of clusters: the pages of all columns with their checksums, and where they lie.
+//!
+//! An image is written to the file in one piece, so its memory is taken at once and each page is
+//! hashed right after it is encoded. Keep both.
+//!
+//! Where to start: `building.rt` with `specs/Image` (the bytes of a cluster) and `specs/Metas`
+//! (where its pages lie); `page.rt` for one page.
+//!
+//! Words: the *payload* is all pages one after the other; the *image* is the payload behind the
+//! *room* for its key; a *stored page* has its checksum behind it; a *place* counts from the
+//! beginning of the payload; a *meta* is what is kept of a page or of a cluster.
+//!
+//! Proved: `build` gives the image and its metas (`bytes`, `meta`); the size that is reserved is
+//! the image's (`image_size`); at the place of each page lie its bytes and their checksum
+//! (`pages_lie_where_said`).
+//!
+//! Only tested: that no more memory is taken than that; images against tables made outside.
 #![tactic(auto)]
 
 mod building;

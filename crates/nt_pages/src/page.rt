@@ -1,10 +1,10 @@
 //! A page, encoded in place and hashed right after.
 
-ghost use Rattle.std.specs.Prelude.{◌≡◌, ◌+◌, ◌-◌, ◌<◌, ◌≤◌, ◌^◌, [], ◌++◌, length, min, slice_index_or, OnOk, IfOk};
+ghost use Rattle.std.specs.Prelude.{◌≡◌, ◌+◌, ◌-◌, ◌<◌, ◌≤◌, [], ◌++◌, length, min, slice_index_or, OnOk, IfOk};
 ghost use Rattle.std.specs.List.{slice_range};
 ghost use Rattle.nt_encode.specs.Pages.{page_size};
 ghost use Rattle.nt_lists.specs.Chunks.{chunks};
-ghost use Rattle.nt_pages.specs.Image.{stored_page};
+ghost use Rattle.nt_pages.specs.Image.{key_room, checksum_len, max_page, stored_page};
 ghost use Rattle.nt_pages.specs.Metas.{page_meta};
 
 use nt_book::PageMeta;
@@ -23,7 +23,7 @@ fn write_page(buffer: &ColumnBuf, from: usize, to: usize, words: &mut [u64], out
     requires order { from ≤ to }
     requires within { to ≤ length buffer.now.column.elements }
     requires words { to - from ≤ length words.old }
-    requires length { length out.old ≡ page_size buffer.now.column.kind (to - from) + 8 }
+    requires length { length out.old ≡ page_size buffer.now.column.kind (to - from) + checksum_len }
     ensures { out.new ≡ stored_page buffer.now.column.kind
         (slice_range buffer.now.column.elements from to) }
 {
@@ -42,14 +42,14 @@ fn put_part(
 ) -> Result<PageMeta, AllocError>
     requires order { from ≤ to }
     requires within { to ≤ length buffer.now.column.elements }
-    requires few { to - from ≤ 2 ^ 20 }
+    requires few { to - from ≤ max_page }
     requires words { to - from ≤ length words.old }
-    requires room { 42 ≤ length image.old.items }
+    requires room { key_room ≤ length image.old.items }
     ensures image { OnOk result
         (image.new.items ≡ image.old.items ++ stored_page buffer.now.column.kind
         (slice_range buffer.now.column.elements from to)) }
     ensures meta { IfOk result
-        (λ m. m ≡ page_meta buffer.now.column.kind (length image.old.items - 42)
+        (λ m. m ≡ page_meta buffer.now.column.kind (length image.old.items - key_room)
         (slice_range buffer.now.column.elements from to)) }
 {
     let size = size_of(buffer.kind(), (to - from) as u64) as usize;
@@ -72,15 +72,15 @@ pub fn put_page(
     image: &mut Vec<u8>,
 ) -> Result<PageMeta, AllocError>
     requires some { 0 < page }
-    requires most { page ≤ 2 ^ 20 }
+    requires most { page ≤ max_page }
     requires within { i < length (chunks page buffer.now.column.elements) }
     requires words { min (length buffer.now.column.elements) page ≤ length words.old }
-    requires room { 42 ≤ length image.old.items }
+    requires room { key_room ≤ length image.old.items }
     ensures image { OnOk result
         (image.new.items ≡ image.old.items ++ stored_page buffer.now.column.kind
         (slice_index_or (chunks page buffer.now.column.elements) i [])) }
     ensures meta { IfOk result
-        (λ m. m ≡ page_meta buffer.now.column.kind (length image.old.items - 42)
+        (λ m. m ≡ page_meta buffer.now.column.kind (length image.old.items - key_room)
         (slice_index_or (chunks page buffer.now.column.elements) i [])) }
 {
     let count = buffer.len();

@@ -1,8 +1,8 @@
 //! How long the image of a cluster is.
 
-ghost use Rattle.std.specs.Prelude.{◌≡◌, ◌<◌, ◌≤◌, ◌^◌, length, IfSome};
+ghost use Rattle.std.specs.Prelude.{◌≡◌, ◌<◌, ◌≤◌, length, IfSome};
 ghost use Rattle.nt_column.specs.Column.{columns_of};
-ghost use Rattle.nt_pages.specs.Image.{column_bytes, image};
+ghost use Rattle.nt_pages.specs.Image.{max_page, column_bytes, image};
 
 use crate::page::{CHECKSUM, ROOM};
 use nt_column::{ColumnBuf, ColumnSet, pages_have_their_size};
@@ -11,7 +11,7 @@ use nt_encode::size_of;
 /// The bytes of a column's pages with their checksums, or none where they are too many.
 fn column_size(buffer: &ColumnBuf, page: u32) -> Option<u64>
     requires some { 0 < page }
-    requires most { page ≤ 2 ^ 20 }
+    requires most { page ≤ max_page }
     ensures { IfSome result (λ n. n ≡ length (column_bytes page buffer.now.column)) }
 {
     pages_have_their_size();
@@ -27,7 +27,7 @@ fn column_size(buffer: &ColumnBuf, page: u32) -> Option<u64>
 /// The bytes of the image, or none where they are too many.
 pub fn image_size(columns: &ColumnSet, count: u32, page: u32) -> Option<u64>
     requires some { 0 < page }
-    requires most { page ≤ 2 ^ 20 }
+    requires most { page ≤ max_page }
     requires count { count ≡ length columns.now }
     ensures { IfSome result (λ n. n ≡ length (image page (columns_of columns.now))) }
 {

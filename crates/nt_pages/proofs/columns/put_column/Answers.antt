@@ -11,13 +11,16 @@ pub loop-i-preserved : goal.loop-i-preserved
 loop-i-preserved c =
     let groups : List (List Element) = chunks c.args.page c.args.buffer.now.column.elements in
     let within : c.loop-i.i < length groups = omega arith in
-    let next : drop c.loop-i.i groups ≡ get_or groups c.loop-i.i [] ∷ drop (c.loop-i.i + 1) groups = drop_more groups c.loop-i.i [] within in
+    let next : drop c.loop-i.i groups ≡ get_or groups c.loop-i.i [] ∷ drop (c.loop-i.i + 1) groups =
+    drop_more groups c.loop-i.i [] within in
     let more = c.in_ok-put_page.ensures.image in
     let told = c.in_ok-push.ensures.items ∙ ap (λ (m : PageMeta). c.loop-i.metas.items ++ m ∷ []) c.in_ok-put_page.ensures.meta in
-    let grown : length c.put_page.new.image.items ≡ length c.loop-i.image.items + length (stored_page c.args.buffer.now.column.kind (get_or groups c.loop-i.i [])) =
+    let grown : length c.put_page.new.image.items ≡ length c.loop-i.image.items + length
+    (stored_page c.args.buffer.now.column.kind (get_or groups c.loop-i.i [])) =
     ap length more ∙ length-append c.loop-i.image.items (stored_page c.args.buffer.now.column.kind (get_or groups c.loop-i.i [])) in
     record {
       image = bytes-next (stored_page c.args.buffer.now.column.kind) _ _ _ _ _ _ next more c.loop-i.invariant.image;
-      metas = metas-next c.args.buffer.now.column.kind _ _ _ _ _ _ _ _ next told (place-next _ _ _ c.loop-i.invariant.room more) c.loop-i.invariant.metas;
+      metas = metas-next c.args.buffer.now.column.kind _ _ _ _ _ _ _ _ next told
+          (place-next _ _ _ c.loop-i.invariant.room more) c.loop-i.invariant.metas;
       room = omega arith;
     }

@@ -8,7 +8,8 @@ use Rattle.nt_pages.proofs.columns.put_column.Given as goal
 -- with the pages that are left the image and the list are whole
 abbrev pub invariant-loop-i : goal.invariant-loop-i
 invariant-loop-i l = record {
-  image : l.image.items ++ flat_map (stored_page l.buffer.column.kind) (drop l.i (chunks l.page l.buffer.column.elements)) ≡ l.fn.image.items ++ column_bytes l.page l.buffer.column;
+  image : l.image.items ++ flat_map (stored_page l.buffer.column.kind)
+      (drop l.i (chunks l.page l.buffer.column.elements)) ≡ l.fn.image.items ++ column_bytes l.page l.buffer.column;
   metas : l.metas.items ++ page_metas l.buffer.column.kind (length l.image.items - 42) (drop l.i (chunks l.page l.buffer.column.elements))
       ≡ page_metas l.buffer.column.kind (length l.fn.image.items - 42) (chunks l.page l.buffer.column.elements);
   room : 42 ≤ length l.image.items;

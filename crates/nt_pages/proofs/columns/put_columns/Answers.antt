@@ -9,8 +9,10 @@ pub loop-k-preserved : goal.loop-k-preserved
 loop-k-preserved c =
     let next = columns-next c.args.columns.now c.loop-k.k c.column-buffer.result.now c.column-buffer.ensures in
     let more = c.in_ok-metas.ensures.image in
-    let told = c.in_ok-push.ensures.items ∙ ap (λ (m : List PageMeta). c.loop-k.lists.items ++ m ∷ []) (c.from_vec.ensures ∙ c.in_ok-metas.ensures.metas) in
-    let grown : length c.put_column.new.image.items ≡ length c.loop-k.image.items + length (column_bytes c.args.page c.column-buffer.result.now.column) =
+    let told = c.in_ok-push.ensures.items
+    ∙ ap (λ (m : List PageMeta). c.loop-k.lists.items ++ m ∷ []) (c.from_vec.ensures ∙ c.in_ok-metas.ensures.metas) in
+    let grown : length c.put_column.new.image.items ≡ length c.loop-k.image.items + length
+    (column_bytes c.args.page c.column-buffer.result.now.column) =
     ap length more ∙ length-append c.loop-k.image.items (column_bytes c.args.page c.column-buffer.result.now.column) in
     record {
       image = bytes-next (column_bytes c.args.page) _ _ _ _ _ _ next more c.loop-k.invariant.image;

@@ -8,7 +8,9 @@ use Rattle.nt_pages.proofs.columns.put_columns.Given as goal
 -- with the columns that are left the image and the lists are whole
 abbrev pub invariant-loop-k : goal.invariant-loop-k
 invariant-loop-k l = record {
-  image : l.image.items ++ flat_map (column_bytes l.page) (drop l.k (columns_of l.columns)) ≡ l.fn.image.items ++ payload l.page (columns_of l.columns);
-  lists : l.lists.items ++ column_metas l.page (length l.image.items - 42) (drop l.k (columns_of l.columns)) ≡ column_metas l.page 0 (columns_of l.columns);
+  image : l.image.items ++ flat_map (column_bytes l.page) (drop l.k (columns_of l.columns)) ≡ l.fn.image.items ++ payload l.page
+      (columns_of l.columns);
+  lists : l.lists.items ++ column_metas l.page (length l.image.items - 42) (drop l.k (columns_of l.columns)) ≡ column_metas l.page 0
+      (columns_of l.columns);
   room : 42 ≤ length l.image.items;
 }

@@ -5,9 +5,11 @@ use Rattle.nt_pages.proofs.size.column_size.Goals as goal
 
 pub returns-then-count-page-eq0 : goal.returns-then-count-page-eq0
 returns-then-count-page-eq0 c =
-    let is : c.in_ok-whole.whole ≡ length c.args.buffer.now.column.elements / c.args.page * (page_size c.args.buffer.now.column.kind c.args.page + 8) =
+    let is : c.in_ok-whole.whole ≡ length c.args.buffer.now.column.elements / c.args.page *
+    (page_size c.args.buffer.now.column.kind c.args.page + 8) =
     cc (c.in_ok-whole.ensures.1, c.len.ensures, c.from-page.ensures, c.size_of.ensures, c.kind-kind.ensures) in
-    let none : length c.args.buffer.now.column.elements % c.args.page ≡ 0 = cc (c.if-count-page-eq0.true, c.len.ensures, c.from-page.ensures) in
+    let none : length c.args.buffer.now.column.elements % c.args.page ≡ 0 =
+    cc (c.if-count-page-eq0.true, c.len.ensures, c.from-page.ensures) in
     size-full c.args.buffer.now.column.kind (c.pages_have_their_size.ensures c.args.buffer.now.column.kind) c.args.page
     c.args.buffer.now.column.elements _ c.requires.some none is
 
@@ -16,9 +18,18 @@ returns-else-count-page-eq0 c =
     let is : c.in_ok-whole.whole + (c.size_of-else-count-page-eq0.result + 8)
     ≡ length c.args.buffer.now.column.elements / c.args.page * (page_size c.args.buffer.now.column.kind c.args.page + 8)
     + (page_size c.args.buffer.now.column.kind (length c.args.buffer.now.column.elements % c.args.page) + 8) =
-    cc (c.in_ok-whole.ensures.1, c.len.ensures, c.from-page.ensures, c.size_of.ensures, c.size_of-else-count-page-eq0.ensures, c.kind-kind.ensures) in
-    let same : c.len.result % c.from-page.result ≡ length c.args.buffer.now.column.elements % c.args.page = cc (c.len.ensures, c.from-page.ensures) in
-    let some : 0 < length c.args.buffer.now.column.elements % c.args.page = pos_of (length c.args.buffer.now.column.elements % c.args.page) (λ h. c.if-count-page-eq0.false (same ∙ h)) in
+    cc (
+      c.in_ok-whole.ensures.1,
+      c.len.ensures,
+      c.from-page.ensures,
+      c.size_of.ensures,
+      c.size_of-else-count-page-eq0.ensures,
+      c.kind-kind.ensures,
+    ) in
+    let same : c.len.result % c.from-page.result ≡ length c.args.buffer.now.column.elements % c.args.page =
+    cc (c.len.ensures, c.from-page.ensures) in
+    let some : 0 < length c.args.buffer.now.column.elements % c.args.page =
+    pos_of (length c.args.buffer.now.column.elements % c.args.page) (λ h. c.if-count-page-eq0.false (same ∙ h)) in
     sum-is c.checked_add.result _ _ _ c.checked_add.ensures
     (size-short c.args.buffer.now.column.kind (c.pages_have_their_size.ensures c.args.buffer.now.column.kind) c.args.page
     c.args.buffer.now.column.elements _ c.requires.some some is)

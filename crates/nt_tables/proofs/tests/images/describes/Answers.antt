@@ -9,10 +9,13 @@ use Rattle.nt_pages.specs.Image.{AreDescribed}
 use Rattle.nt_tables.proofs.tests.images.describes.Goals as goal
 
 -- one column more is of its type
-described-next : (bs : List Buffer) (rows : List ColumnRow) (k : ℕ) (b : Buffer) (r : ColumnRow) → slice_get bs k ≡ Some b → slice_get rows k ≡ Some r
-    → code_of b.column.kind ≡ r.code → AreDescribed (take k (columns_of bs)) (take k rows) → AreDescribed (take (k + 1) (columns_of bs)) (take (k + 1) rows)
+described-next : (bs : List Buffer) (rows : List ColumnRow) (k : ℕ) (b : Buffer) (r : ColumnRow) → slice_get bs k ≡ Some b
+    → slice_get rows k ≡ Some r
+    → code_of b.column.kind ≡ r.code → AreDescribed (take k (columns_of bs)) (take k rows)
+    → AreDescribed (take (k + 1) (columns_of bs)) (take (k + 1) rows)
 described-next bs rows k b r column row same so_far =
-    let at : slice_get (columns_of bs) k ≡ Some b.column = slice_get-map (λ (x : Buffer). x.column) bs k ∙ ap (option_map (λ (x : Buffer). x.column)) column in
+    let at : slice_get (columns_of bs) k ≡ Some b.column = slice_get-map (λ (x : Buffer). x.column) bs k
+    ∙ ap (option_map (λ (x : Buffer). x.column)) column in
     let first = map_more (λ (c : Column). code_of c.kind) (columns_of bs) k b.column (slice_get_within (columns_of bs) k b.column at) in
     let second = map_more (λ (x : ColumnRow). x.code) rows k r (slice_get_within rows k r row) in
     let left : get_or (columns_of bs) k b.column ≡ b.column = get_or_from_slice_get (columns_of bs) k b.column b.column at in
@@ -22,9 +25,11 @@ described-next bs rows k b r column row same so_far =
     first ∙ (ap (λ (xs : List ℕ). xs ++ code_of (get_or (columns_of bs) k b.column).kind ∷ []) so_far
     ∙ (ap (λ (n : ℕ). map (λ (x : ColumnRow). x.code) (take k rows) ++ n ∷ []) item ∙ sym second))
 
-described-all : (cs : List Column) (rows : List ColumnRow) (k : ℕ) → length cs ≤ k → length rows ≤ k → AreDescribed (take k cs) (take k rows) → AreDescribed cs rows
+described-all : (cs : List Column) (rows : List ColumnRow) (k : ℕ) → length cs ≤ k → length rows ≤ k
+    → AreDescribed (take k cs) (take k rows) → AreDescribed cs rows
 described-all cs rows k columns all so_far =
-    ap (map (λ (c : Column). code_of c.kind)) (sym (take_all k cs columns)) ∙ (so_far ∙ ap (map (λ (x : ColumnRow). x.code)) (take_all k rows all))
+    ap (map (λ (c : Column). code_of c.kind)) (sym (take_all k cs columns))
+    ∙ (so_far ∙ ap (map (λ (x : ColumnRow). x.code)) (take_all k rows all))
 
 pub loop-k-preserved : goal.loop-k-preserved
 loop-k-preserved c =
@@ -33,5 +38,6 @@ loop-k-preserved c =
 
 pub returns : goal.returns
 returns c = λ _.
-    let count : length (columns_of c.args.columns.now) ≡ length c.args.columns.now = length-map c.args.columns.now (λ (b : Buffer). b.column) in
+    let count : length (columns_of c.args.columns.now) ≡ length c.args.columns.now =
+    length-map c.args.columns.now (λ (b : Buffer). b.column) in
     described-all (columns_of c.args.columns.now) c.args.schema.now.columns c.loop-k.k (omega arith) (omega arith) c.loop-k.invariant
