@@ -10,13 +10,12 @@ mod turned;
 use crate::locked::count_locked;
 use crate::turned::count_in_turn;
 use std::alloc::Global;
-use std::env;
-use std::io;
 use std::process::ExitCode;
 use std::rt::Runtime;
 use std::sync::Wait;
 use std::thread::Threads;
 use std::time::Instant;
+use std::{env, io};
 
 /// What is measured: the lock, the threads, and how often each takes it.
 #[derive(Drop)]

@@ -9,6 +9,7 @@ pub struct Tally {
 
 impl Logged for Tally {
     type Entry = u32;
+
     type Birth = u32;
 
     ghost use Rattle.std.specs.Prelude.{[]};
