@@ -16,6 +16,7 @@ use std::fs::{File, Metadata, OpenFile};
 use std::io;
 use std::io::{Error, ErrorKind, Read};
 use std::os::unix::fs::FileExt;
+use std::process::Abort;
 use std::test::Fail;
 
 /// Eight bytes, of which a call takes or gives at most three. The first calls are interrupted by a signal, and after so many
@@ -97,7 +98,7 @@ impl OpenFile for Slow {
 }
 
 /// A disk over such a file, whose name stands in this folder.
-fn disk(rt: &HostRuntime, folder: &str, calls: u32) -> Result<RealDisk<Slow>, AllocError>
+fn new_disk(rt: &HostRuntime, folder: &str, calls: u32) -> Result<RealDisk<Slow>, AllocError>
     ensures end { IfOk result (λ d. d.end ≡ 0) }
     ensures out { IfOk result (λ d. d.out.items ≡ []) }
 {
@@ -133,26 +134,37 @@ fn short_reads_go_on_to_the_end(rt: HostRuntime) {
 }
 
 /// An append of five bytes that fails after so many calls, and one of a single byte after it.
-fn append_twice(rt: &HostRuntime, calls: u32) -> Result<(u64, [u8; 8]), AllocError> {
-    let mut disk = disk(rt, ".", calls)?;
+fn append_twice(rt: &impl Abort, disk: RealDisk<Slow>, calls: u32) -> (u64, [u8; 8])
+    requires { disk.end ≡ 0 }
+{
+    let mut disk = disk;
     assert_eq!(rt; disk.append(b"VWXYZ").is_ok(), calls >= 2, "after {calls}");
     disk.file.calls.set(1);
     assert_eq!(rt; disk.append(b"."), Ok(()), "after {calls}");
     assert_eq!(rt; disk.faults() == 0, calls >= 2, "after {calls}");
-    Ok((disk.end(), disk.file.bytes.get()))
+    (disk.end(), disk.file.bytes.get())
 }
 
 #[test]
 fn a_failed_append_ends_where_its_bytes_end(rt: HostRuntime) -> Result<(), Fail> {
-    assert_eq!(rt; append_twice(&rt, 0)?, (1, *b".bcdefgh"));
-    assert_eq!(rt; append_twice(&rt, 1)?, (4, *b"VWX.efgh"));
-    assert_eq!(rt; append_twice(&rt, 2)?, (6, *b"VWXYZ.gh"));
+    assert_eq!(rt;
+        append_twice(&rt, new_disk(&rt, ".", 0)?, 0),
+        (1, *b".bcdefgh")
+    );
+    assert_eq!(rt;
+        append_twice(&rt, new_disk(&rt, ".", 1)?, 1),
+        (4, *b"VWX.efgh")
+    );
+    assert_eq!(rt;
+        append_twice(&rt, new_disk(&rt, ".", 2)?, 2),
+        (6, *b"VWXYZ.gh")
+    );
     Ok(())
 }
 
 #[test]
 fn a_full_disk_counts_each_failure(rt: HostRuntime) -> Result<(), Fail> {
-    let mut disk = disk(&rt, ".", 9)?;
+    let mut disk = new_disk(&rt, ".", 9)?;
     assert_eq!(rt; disk.append(b"abcdefghi"), Err(Failed));
     assert_eq!(rt; (disk.end(), disk.faults()), (8, 1));
     assert_eq!(rt; disk.file.bytes.get(), *b"abcdefgh");
@@ -165,7 +177,7 @@ fn a_full_disk_counts_each_failure(rt: HostRuntime) -> Result<(), Fail> {
 
 #[test]
 fn an_interrupted_append_goes_on(rt: HostRuntime) -> Result<(), Fail> {
-    let mut disk = disk(&rt, ".", 2)?;
+    let mut disk = new_disk(&rt, ".", 2)?;
     disk.file.interrupted.set(3);
     assert_eq!(rt; disk.append(b"VWXYZ"), Ok(()));
     assert_eq!(rt; disk.file.bytes.get(), *b"VWXYZfgh");
@@ -175,10 +187,10 @@ fn an_interrupted_append_goes_on(rt: HostRuntime) -> Result<(), Fail> {
 
 #[test]
 fn the_folder_of_a_new_file_is_synced_once(rt: HostRuntime) -> Result<(), Fail> {
-    let mut disk = disk(&rt, ".", 9)?;
+    let mut disk = new_disk(&rt, ".", 9)?;
     assert_eq!(rt; disk.sync(), Ok(()));
     assert!(rt; !disk.is_new);
-    let mut lost = self::disk(&rt, "no/such/folder", 9)?;
+    let mut lost = new_disk(&rt, "no/such/folder", 9)?;
     assert_eq!(rt; lost.sync(), Err(Failed));
     assert_eq!(rt; lost.pen().err(), Some(Refused::Failed));
     lost.is_new = false;
