@@ -69,6 +69,24 @@ expect 4 'ntuple: outside' entries .
 [ $? -eq 4 ] && [ "$(cat err)" = 'ntuple: outside' ] || fail 'an out that takes nothing is no status 4'
 "$program" entries two.root 2>/dev/full >out || fail 'an err that takes nothing changes the status'
 
+# OUT is never an input, under whatever name
+for input in schema.txt events.txt; do
+    cp "$input" kept
+    ln -s "$input" "link-$input"
+    ln "$input" "hard-$input"
+    for out in "./$input" "$work/$input" "link-$input" "hard-$input"; do
+        expect 4 'ntuple: outside' write "$out" schema.txt events.txt
+        same "$input" kept
+        [ ! -s out ] || fail "an order line, though OUT is $input: $out"
+    done
+done
+ln -s linked.root link.root
+expect 0 '' write link.root schema.txt events.txt
+same linked.root "$top/crates/nt_tool/data/two.root"
+mkdir folder
+expect 0 '' write folder/two.root schema.txt events.txt
+same folder/two.root "$top/crates/nt_tool/data/two.root"
+
 # a file that can't grow is left with byte 0 zero
 (ulimit -f 1 && trap '' XFSZ && "$program" write small.root schema.txt events.txt >out 2>err)
 [ $? -eq 4 ] || fail 'a file that cannot grow is no status 4'

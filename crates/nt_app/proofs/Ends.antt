@@ -7,7 +7,7 @@ use Rattle.std.specs.FinMap as map
 use Rattle.std.specs.FinMap.{gets}
 use Rattle.nt_outside.specs.declared.stream.Stream.TheVariants.{ToOut}
 use Rattle.nt_outside.specs.Log.{Step}
-use Rattle.nt_outside.specs.Disk.{Held}
+use Rattle.nt_outside.specs.Held.{Held}
 use Rattle.nt_outside.specs.World.{World, Files, Stored, file, creates, keeps_disk, prints}
 use Rattle.nt_app.specs.PlainFile.{plain_file}
 use Rattle.nt_app.specs.declared.stop.Stop.{Stop}

@@ -2,7 +2,7 @@
 use Rattle.std.proofs.Common.{◌≡◌, ◌⊎◌, ◌∙◌, inl, inr, ap, sym, subst, refl, ℕ, ◌+◌, List, [], ◌∷◌, ◌++◌, length, drop, suc, arith, append_assoc}
 use Rattle.std.proofs.Math.Seq.{drop-append_seam}
 use Rattle.nt_outside.specs.Log.{put_at}
-use Rattle.nt_outside.specs.Disk.{Held, IsTornWrite}
+use Rattle.nt_outside.specs.Held.{Held, IsTornWrite}
 use Rattle.std.specs.Prelude.{replicate}
 use Rattle.nt_app.specs.Header.{header_blob}
 use Rattle.nt_app.specs.Cluster.{cluster_blob}

@@ -1,7 +1,7 @@
 -- What an early end leaves of a file.
 use Rattle.std.proofs.Common.{◌≡◌, inl, Option, Result, Ok, Err}
 use Rattle.std.specs.Prelude.{IfErr}
-use Rattle.nt_outside.specs.Disk.{Held}
+use Rattle.nt_outside.specs.Held.{Held}
 use Rattle.nt_app.specs.declared.stop.Stop.{Stop}
 use Rattle.nt_app.specs.declared.stop.Stop.TheVariants as stop
 use Rattle.nt_app.specs.Writing.{begun, Leaves, LeftBy}

@@ -53,6 +53,7 @@ memory_writes o s i state = record {
   later = omega arith;
   failed = λ outside. absurd (cc);
   err_faults = refl;
+  opened = refl;
 }
 
 pub memory_lists : (n : List ℕ) (state : HostState) → Lists n state state status.Memory
@@ -62,6 +63,7 @@ memory_lists n state = record {
   later = omega arith;
   failed = λ outside. absurd (cc);
   err_faults = refl;
+  opened = refl;
 }
 
 -- a command that is one never says that the words are none
@@ -177,6 +179,7 @@ run_write o s i old mid new answer writes reports = record {
       );
   asked = subst (λ (l : List Asked). AsksAsDone (Text s ∷ Text i ∷ Out o ∷ []) old.asked l answer) (sym reports.asked) writes.asked;
   failed = λ is. subst (λ (n : ℕ). Rose old.faults n) (sym reports.faults) (writes.failed is);
+  opened = reports.opened ∙ writes.opened;
   complete = λ w numbers is schema events served.
       let done = writes.told w is in
       write_ends o s i w done.0 numbers answer done.4 schema events (λ outside. served (subst (λ (n : ℕ). Rose old.faults n) (sym reports.faults) (writes.failed outside)));
@@ -199,6 +202,7 @@ run_entries n old mid new answer lists reports = record {
       );
   asked = subst (λ (l : List Asked). AsksAsDone (File n ∷ []) old.asked l answer) (sym reports.asked) lists.asked;
   failed = λ is. subst (λ (m : ℕ). Rose old.faults m) (sym reports.faults) (lists.failed is);
+  opened = reports.opened ∙ lists.opened;
   complete = λ w numbers is plain served.
       let done = lists.told w is in
       entries_ends n w done.0 numbers answer done.4 plain (λ outside. served (subst (λ (m : ℕ). Rose old.faults m) (sym reports.faults) (lists.failed outside)));
@@ -216,4 +220,5 @@ run_usage old mid new answer is same reports = record {
       (_, said.1, (refl, refl), refl, (said.0, refl, either_after old mid new said.0 (message_of answer) (ap (λ (h : HostState). h.err_faults) same) said.2));
   asked = reports.asked ∙ ap (λ (h : HostState). h.asked) same;
   faults = reports.faults ∙ ap (λ (h : HostState). h.faults) same;
+  opened = reports.opened ∙ ap (λ (h : HostState). h.opened) same;
 }

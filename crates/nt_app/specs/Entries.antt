@@ -79,6 +79,7 @@ pub record Lists (name : List ℕ) (old new : HostState) (answer : Status) : Typ
   pub later : old.faults ≤ new.faults
   pub failed : answer ≡ status.Outside → Rose old.faults new.faults
   pub err_faults : new.err_faults ≡ old.err_faults
+  pub opened : new.opened ≡ old.opened
 
 -- what the start of a file says of it: its numbers, or its first fault
 abbrev pub Judges : List ℕ → Verdict → Type 0

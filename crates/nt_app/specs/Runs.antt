@@ -25,6 +25,7 @@ pub record Reports (message : List ℕ) (old new : HostState) : Type 0 where
   pub told : (w : World) → old.world ≡ Some w → (n : ℕ) × (new.world ≡ Some (prints ToErr (take n message) w)) × ((length message ≤ n) ⊎ Rose old.err_faults new.err_faults)
   pub asked : new.asked ≡ old.asked
   pub faults : new.faults ≡ old.faults
+  pub opened : new.opened ≡ old.opened
 
 -- a fault that isn't there: the outside served throughout
 abbrev pub Served : HostState → HostState → Type 0
@@ -36,6 +37,7 @@ pub record RefusesWords (old new : HostState) (answer : Status) : Type 0 where
   pub told : (w : World) → old.world ≡ Some w → (w' : World) × (new.world ≡ Some w') × KeepsFiles w w' × (w'.out ≡ w.out) × SaysOnErr (message_of answer) old new w w'
   pub asked : new.asked ≡ old.asked
   pub faults : new.faults ≡ old.faults
+  pub opened : new.opened ≡ old.opened
 
 -- the words were `write OUT SCHEMA IN`
 pub record RunsWrite (out schema input : List ℕ) (old new : HostState) (answer : Status) : Type 0 where
@@ -45,6 +47,8 @@ pub record RunsWrite (out schema input : List ℕ) (old new : HostState) (answer
   pub asked : AsksAsDone (Text schema ∷ Text input ∷ Out out ∷ []) old.asked new.asked answer
   -- the outside is blamed only where it failed
   pub failed : answer ≡ status.Outside → Rose old.faults new.faults
+  -- each object that was opened came back
+  pub opened : new.opened ≡ old.opened
   -- where both texts are of the right form and the outside serves, the file is whole unless memory runs out
   pub complete : (w : World) (numbers : List ℕ) → old.world ≡ Some w → IsThereWith IsSchemaText (file w schema) → IsThereWith (λ text. IsEventText text numbers) (file w input) → Served old new → (answer ≡ status.Done) ⊎ (answer ≡ status.Memory)
   -- and any other SCHEMA has its fault named
@@ -56,6 +60,8 @@ pub record RunsEntries (name : List ℕ) (old new : HostState) (answer : Status)
   pub told : (w : World) → old.world ≡ Some w → (w' : World) × (new.world ≡ Some w') × SaysOnErr (message_of answer) old new w w' × KeepsFiles w w' × EntriesTold name w w' answer
   pub asked : AsksAsDone (File name ∷ []) old.asked new.asked answer
   pub failed : answer ≡ status.Outside → Rose old.faults new.faults
+  -- each object that was opened came back
+  pub opened : new.opened ≡ old.opened
   -- where the outside serves, a file of numbers is listed unless memory runs out
   pub complete : (w : World) (numbers : List ℕ) → old.world ≡ Some w → IsThereWith (λ bytes. IsPlainFile bytes numbers) (file w name) → Served old new → (answer ≡ status.Done) ⊎ (answer ≡ status.Memory)
   -- and any other has its fault named

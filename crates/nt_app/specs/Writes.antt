@@ -3,7 +3,7 @@ use Rattle.std.specs.Prelude.{◌≡◌, ◌≢◌, ◌⊎◌, ℕ, ◌≤◌, L
 use Rattle.nt_outside.specs.declared.stream.Stream.TheVariants.{ToOut}
 use Rattle.nt_outside.specs.Faults.{Rose}
 use Rattle.nt_outside.specs.Log.{FailedAppend}
-use Rattle.nt_outside.specs.Disk.{Held}
+use Rattle.nt_outside.specs.Held.{Held}
 use Rattle.nt_outside.specs.World.{World, Stored, Asked, Text, Out, HostState, stored, file, prints}
 use Rattle.nt_app.specs.PlainFile.{plain_file}
 use Rattle.nt_app.specs.Schemas.{IsSchemaText, IsNoSchemaBy}
@@ -146,3 +146,4 @@ pub record Writes (out schema input : List ℕ) (old new : HostState) (answer : 
   pub later : old.faults ≤ new.faults
   pub failed : answer ≡ status.Outside → Rose old.faults new.faults
   pub err_faults : new.err_faults ≡ old.err_faults
+  pub opened : new.opened ≡ old.opened

@@ -1,7 +1,7 @@
 -- A file as it grows on a disk. Its first byte is 0 until all the rest stays.
 use Rattle.std.specs.Prelude.{◌≡◌, ◌⊎◌, ℕ, List, [], ◌∷◌, ◌++◌, replicate, Option, Some}
 use Rattle.nt_outside.specs.Log.{FailedAppend, put_at}
-use Rattle.nt_outside.specs.Disk.{Held}
+use Rattle.nt_outside.specs.Held.{Held}
 use Rattle.nt_app.specs.declared.stop.Stop.{Stop}
 use Rattle.nt_app.specs.declared.stop.Stop.TheVariants as stop
 use Rattle.nt_app.specs.Header.{header_blob}

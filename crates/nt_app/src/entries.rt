@@ -85,6 +85,7 @@ fn read_file<H: Host>(alloc: Global, host: &mut H, name: &str) -> Result<Vec<u8>
     ensures asked_err { OnErr result (AsksFirst (asked_file name.now ∷ []) (H.state host.old).asked (H.state host.new).asked) }
     ensures cause { RoseOnFailed (H.state host.old).faults (H.state host.new).faults result }
     ensures err_faults { (H.state host.new).err_faults ≡ (H.state host.old).err_faults }
+    ensures opened { (H.state host.new).opened ≡ (H.state host.old).opened }
 {
     let mut file = host.open_file(name)?;
     let read = read_start(alloc, &mut file, MOST_OF_FILE);
@@ -131,6 +132,7 @@ fn print_events<H: Host>(alloc: Global, host: &mut H, numbers: &[u64]) -> Result
     ensures asked { (H.state host.new).asked ≡ (H.state host.old).asked }
     ensures cause { RoseOnFailed (H.state host.old).faults (H.state host.new).faults result }
     ensures err_faults { (H.state host.new).err_faults ≡ (H.state host.old).err_faults }
+    ensures opened { (H.state host.new).opened ≡ (H.state host.old).opened }
 {
     let lines = lines_of(alloc, numbers)?;
     print_all(host, Stream::ToOut, &lines)?;
@@ -155,6 +157,7 @@ fn list<H: Host>(alloc: Global, host: &mut H, start: &[u8]) -> Status
     ensures command { result ≡ status.Usage → ⊥ }
     ensures failed { result ≡ status.Outside → Rose (H.state host.old).faults (H.state host.new).faults }
     ensures err_faults { (H.state host.new).err_faults ≡ (H.state host.old).err_faults }
+    ensures opened { (H.state host.new).opened ≡ (H.state host.old).opened }
 {
     match judge(alloc, start) {
         Ok(Verdict::Numbers(numbers)) => match print_events(alloc, host, &numbers) {

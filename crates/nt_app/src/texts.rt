@@ -66,6 +66,7 @@ pub fn check_schema<H: Host>(alloc: Global, host: &mut H, name: &str) -> Result<
     ensures told { (w : World) → (H.state host.old).world ≡ Some w → TellsSchema (file w name.now) result }
     ensures cause { StopsWithCause (H.state host.old).faults (H.state host.new).faults result }
     ensures err_faults { (H.state host.new).err_faults ≡ (H.state host.old).err_faults }
+    ensures opened { (H.state host.new).opened ≡ (H.state host.old).opened }
 {
     let mut text = host.open_text(name)?;
     let read = read_front(alloc, &mut text, MOST_OF_SCHEMA);

@@ -1,9 +1,9 @@
 //! The command `write`: a schema and the lines of events in, one file out.
 
-ghost use Rattle.std.specs.Prelude.{◌≡◌, ◌⊎◌, ◌<◌, ◌≤◌, ◌+◌, ◌*◌, ℕ, List, [], ◌∷◌, Some, length, vec_len, OnOk, IfOk, IfErr, IsErrOf};
+ghost use Rattle.std.specs.Prelude.{◌≡◌, ◌⊎◌, ◌<◌, ◌≤◌, ◌+◌, ◌-◌, ◌*◌, ℕ, List, [], ◌∷◌, Some, length, vec_len, OnOk, IfOk, IfErr, IsErrOf};
 ghost use Rattle.std.specs.Result.{result_map_both};
 ghost use Rattle.nt_outside.specs.Faults.{Rose};
-ghost use Rattle.nt_outside.specs.Disk.{Held, WhereHeld, nothing_held};
+ghost use Rattle.nt_outside.specs.Held.{Held, WhereHeld, nothing_held};
 ghost use Rattle.nt_outside.specs.World.{World, Text as asked_text, Out as asked_out};
 ghost use Rattle.nt_app.specs.declared.stop.Stop.TheVariants as stop;
 ghost use Rattle.nt_app.specs.Stops.{TellsEvents, AsksFor, StopsWithCause};
@@ -58,6 +58,7 @@ fn write_numbers<H: Host, G: Gate>(
     ensures later { (H.state host.old).faults ≤ (H.state host.new).faults }
     ensures cause { IsErrOf result stop.Outside → Rose (H.Out.state disk.old).faults (H.Out.state disk.new).faults ⊎ Rose (H.state host.old).faults (H.state host.new).faults }
     ensures err_faults { (H.state host.new).err_faults ≡ (H.state host.old).err_faults }
+    ensures opened { (H.state host.new).opened ≡ (H.state host.old).opened }
 {
     append_cluster(alloc, disk, numbers, gate)?;
     print_all(host, Stream::ToOut, b"order 0\n")?;
@@ -83,6 +84,7 @@ fn write_file<H: Host, G: Gate>(
     ensures later { (H.state host.old).faults ≤ (H.state host.new).faults }
     ensures cause { IsErrOf result stop.Outside → Rose (H.Out.state disk.old).faults (H.Out.state disk.new).faults ⊎ Rose (H.state host.old).faults (H.state host.new).faults }
     ensures err_faults { (H.state host.new).err_faults ≡ (H.state host.old).err_faults }
+    ensures opened { (H.state host.new).opened ≡ (H.state host.old).opened - 1 }
 {
     let mut text = text;
     let read = begin_and_read(alloc, disk, &mut text);
@@ -105,6 +107,7 @@ fn write_out<H: Host, G: Gate>(
     ensures asked { AsksFor (asked_text input.now ∷ asked_out out.now ∷ []) (H.state host.old).asked (H.state host.new).asked result }
     ensures cause { StopsWithCause (H.state host.old).faults (H.state host.new).faults result }
     ensures err_faults { (H.state host.new).err_faults ≡ (H.state host.old).err_faults }
+    ensures opened { (H.state host.new).opened ≡ (H.state host.old).opened }
 {
     let text = host.open_text(input)?;
     match host.create(out) {

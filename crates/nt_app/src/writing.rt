@@ -3,7 +3,7 @@
 ghost use Rattle.std.specs.Prelude.{◌≡◌, ◌⊎◌, ℕ, ◌+◌, ◌*◌, ◌^◌, ◌<◌, ◌≤◌, [], ◌∷◌, ◌++◌, length, OnOk, IsErrOf};
 ghost use Rattle.nt_outside.specs.declared.fault.Refused.TheVariants as refused;
 ghost use Rattle.nt_outside.specs.Faults.{HasCause, RoseOnFailed};
-ghost use Rattle.nt_outside.specs.Disk.{WhereHeld, BecomesSome, nothing_held};
+ghost use Rattle.nt_outside.specs.Held.{WhereHeld, BecomesSome, nothing_held};
 ghost use Rattle.nt_app.specs.Cluster.{cluster_blob};
 ghost use Rattle.nt_app.specs.PlainFile.{plain_file};
 ghost use Rattle.nt_app.specs.Writing.{blank, begun, gathered, IsUnfinished, NeverBegan, Leaves, Keeps, finished, BeginsWithZero};

@@ -1,7 +1,9 @@
 -- What a disk reads as is allowed by its log, after each step.
 use Rattle.std.proofs.Common.{◌≡◌, ◌∙◌, ap, sym, subst, refl, ℕ, zero, suc, ◌+◌, ◌==◌, ◌≤◌, Bool, true, false, ◌&&◌, ◌||◌, List, [], ◌∷◌, ◌++◌, length, take, drop, map, replicate, IsTrue, arith, length-drop, length-take, take-append-drop, drop-drop, append_assoc}
 use Rattle.std.proofs.lemmas.List.{append-nil}
-use Rattle.nt_outside.specs.Log.{Step, Write, FailedWrite, Append, FailedAppend, Sync, Known, Anything, OneOf, put_at, exactly, or_also, torn, after_step, known_from, known_of, allows, all_allowed, Reads}
+use Rattle.std.specs.Prelude.{Option, Some, None}
+use Rattle.nt_outside.specs.Log.{Step, Write, FailedWrite, Append, FailedAppend, Reserve, Settle, Sync, put_at}
+use Rattle.nt_outside.specs.Reads.{Known, Anything, OneOf, exactly, or_also, unknown, torn, after_step, known_from, known_of, allows, all_allowed, Reads}
 
 and_both : (a b : Bool) → a ≡ true → b ≡ true → (a && b) ≡ true
 and_both true b p q = q
@@ -131,3 +133,20 @@ reads-failed_write log log' image bytes at reads inside log-is =
 
 pub reads-sync : (log log' : List Step) (image : List ℕ) → Reads log image → log' ≡ log ++ Sync ∷ [] → Reads log' image
 reads-sync log log' image reads log-is = reads-step log log' Sync image image log-is reads refl
+
+pub reads-reserve : (log log' : List Step) (image image' more : List ℕ) (start len : ℕ) → Reads log image → log' ≡ log ++ Reserve start len ∷ [] → length more ≡ len → image' ≡ image ++ more → Reads log' image'
+reads-reserve log log' image image' more start len reads log-is whole image-is =
+    reads-step log log' (Reserve start len) (image ++ more) image' log-is
+    (allowed-append (known_of log) image (unknown len) more reads (subst (λ (n : ℕ). IsTrue (all_allowed (replicate n Anything) more)) whole (allowed-anything more))) (sym image-is)
+
+pub reads-settle : (log log' : List Step) (image image' bytes : List ℕ) (start len : ℕ) → Reads log image → log' ≡ log ++ Settle start len (Some bytes) ∷ [] → image' ≡ put_at image start bytes → Reads log' image'
+reads-settle log log' image image' bytes start len reads log-is image-is =
+    reads-step log log' (Settle start len (Some bytes)) (put_at image start bytes) image' log-is (allowed-put_at (known_of log) image start (map exactly bytes) bytes reads (allowed-exactly bytes)) (sym image-is)
+
+pub reads-unfilled : (log log' : List Step) (image : List ℕ) (start len : ℕ) → Reads log image → start + len ≤ length image → log' ≡ log ++ Settle start len None ∷ [] → Reads log' image
+reads-unfilled log log' image start len reads inside log-is =
+    let old = take len (drop start image) in
+    let whole : length old ≡ len = omega (arith, length-take len (drop start image), length-drop start image) in
+    reads-step log log' (Settle start len None) (put_at image start old) image log-is
+    (allowed-put_at (known_of log) image start (unknown len) old reads (subst (λ (n : ℕ). IsTrue (all_allowed (replicate n Anything) old)) whole (allowed-anything old)))
+    (put_at_same image start len inside)

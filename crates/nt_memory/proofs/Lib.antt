@@ -3,3 +3,4 @@ pub mod Steps
 pub mod Allowed
 pub mod Holding
 pub mod Newest
+pub mod Ranges

@@ -1,9 +1,12 @@
 -- A disk in memory.
-use Rattle.std.specs.Prelude.{◌≡◌, ◌-◌, min, [], length, Some, vec_len, vec_capacity, refl}
+use Rattle.std.specs.Prelude.{◌≡◌, ℕ, ◌-◌, min, List, [], length, Some, Result, vec_len, vec_capacity, refl}
 use Rattle.std.proofs.Common.{subst}
-use Rattle.nt_outside.specs.Log.{Reads}
-use Rattle.nt_outside.specs.Disk.{Held, DiskState, nothing_held}
+use Rattle.nt_outside.specs.declared.fault.Failed.{Failed}
+use Rattle.nt_outside.specs.Reads.{Reads}
+use Rattle.nt_outside.specs.Held.{Held, nothing_held}
+use Rattle.nt_outside.specs.Disk.{DiskState}
 use Rattle.nt_memory.specs.Logged.{steps_of, spare_rows, spare_bytes}
+use Rattle.nt_memory.specs.Tally.{FailsWhereListed}
 use Rattle.nt_memory.specs.declared.tally.Tally.{Tally}
 use Rattle.nt_memory.specs.declared.disk.MemDisk.{MemDisk}
 
@@ -11,12 +14,12 @@ use Rattle.nt_memory.specs.declared.disk.MemDisk.{MemDisk}
 abbrev pub held_of : MemDisk → Held
 held_of d = record { log = steps_of d.log; image = d.image.items }
 
--- what it holds, its faults, and for how much there is room
+-- what it holds, its ranges, its faults, and for how much there is room
 abbrev pub state_of : MemDisk → DiskState
 state_of d = record {
   held = Some (held_of d);
   end = length d.image.items;
-  out = [];
+  out = d.out.items;
   faults = d.tally.faults;
   spare_steps = spare_rows d.log;
   spare_bytes = min (vec_capacity d.image - vec_len d.image) (spare_bytes d.log);
@@ -25,6 +28,15 @@ state_of d = record {
 -- its calls
 abbrev pub tally_of : MemDisk → Tally
 tally_of d = d.tally
+
+-- for each pen that is still to be made, the numbers of its calls that are to fail; pens beyond these never fail
+abbrev pub pens_of : MemDisk → List (List ℕ)
+pens_of d = d.pens.items
+
+-- the call failed exactly where its number is listed, and made no pen
+pub record FailsAsListed {T : Type 0} (old new : MemDisk) (result : Result T Failed) : Type 0 where
+  pub tally : FailsWhereListed (tally_of old) (tally_of new) result
+  pub pens : pens_of new ≡ pens_of old
 
 -- nothing was written to it
 pub record IsEmpty (d : DiskState) : Type 0 where

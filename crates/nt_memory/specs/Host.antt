@@ -7,29 +7,16 @@ use Rattle.std.specs.declared.alloc.AllocError.{AllocError}
 use Rattle.nt_outside.specs.declared.fault.Failed.{Failed}
 use Rattle.nt_outside.specs.declared.stream.Stream.{Stream}
 use Rattle.nt_outside.specs.World as world
-use Rattle.nt_outside.specs.World.{World, HostState, Asked, Stored}
+use Rattle.nt_outside.specs.World.{World, HostState, asked_of}
 use Rattle.nt_memory.specs.declared.plan.Object.{Object}
 use Rattle.nt_memory.specs.declared.plan.Object.TheVariants as object
 use Rattle.nt_memory.specs.declared.plan.Plan.{Plan}
 use Rattle.nt_memory.specs.declared.tally.Tally.{Tally}
-use Rattle.nt_memory.specs.declared.host.Kind.{Kind}
-use Rattle.nt_memory.specs.declared.host.Kind.TheVariants.{Text, File, Out}
-use Rattle.nt_memory.specs.declared.host.Ask.{Ask}
 use Rattle.nt_memory.specs.declared.host.MemHost.{MemHost}
 use Rattle.nt_memory.specs.Named.{files_of}
-use Rattle.nt_memory.specs.Planned.{is_same, numbers_for}
+use Rattle.nt_memory.specs.Planned.{is_same, numbers_for, pen_lists, pens_with}
 use Rattle.nt_memory.specs.Streams.{Room, room_of, room_on}
 use Rattle.nt_memory.specs.Tally.{new_tally, one_more, IsListed}
-
--- what was asked for under a name
-abbrev pub asked_as : Kind → List ℕ → Asked
-asked_as Text name = world.Text name
-asked_as File name = world.File name
-asked_as Out name = world.Out name
-
--- what was asked for
-abbrev pub asked_of : Ask → Asked
-asked_of a = asked_as a.kind (string_bytes a.name)
 
 -- its files, its streams, the name of the disk that is out, and those of all disks
 abbrev pub world_of : MemHost → World
@@ -41,13 +28,14 @@ world_of h = record {
   created = map string_bytes h.created.items;
 }
 
--- what it holds, what it was asked for, and its faults
+-- what it holds, what it was asked for, its faults, and how many objects are out
 abbrev pub state_of : MemHost → HostState
 state_of h = record {
   world = Some (world_of h);
   asked = map asked_of h.asked.items;
   faults = h.tally.faults;
   err_faults = h.err_faults;
+  opened = h.opened;
 }
 
 -- its own calls
@@ -67,6 +55,10 @@ abbrev pub listed_of : MemHost → Object → List ℕ
 listed_of h object.Host = h.tally.listed
 listed_of h o = numbers_for o h.plan.planned.items
 
+-- for each pen of a disk, the numbers of its calls that are to fail
+abbrev pub listed_of_pens : MemHost → List (List ℕ)
+listed_of_pens h = pen_lists h.plan.pens h.plan.planned.items
+
 -- one more text was opened; the count stands still at the last number of its type
 abbrev pub opens_text : Plan → Plan
 opens_text p = record p { texts = min (p.texts + 1) (2 ^ 32 - 1) }
@@ -84,10 +76,12 @@ pub record IsFresh (h : MemHost) : Type 0 where
   pub created : (world_of h).created ≡ []
   pub asked : (state_of h).asked ≡ []
   pub err_faults : (state_of h).err_faults ≡ 0
+  pub opened : (state_of h).opened ≡ 0
   pub tally : tally_of h ≡ new_tally []
   pub planned : (plan_of h).planned.items ≡ []
   pub texts : (plan_of h).texts ≡ 0
   pub opened_files : (plan_of h).files ≡ 0
+  pub pens : (plan_of h).pens ≡ 0
 
 -- these bytes stand under a name, and no disk wrote them
 abbrev pub sets_file : List ℕ → List ℕ → World → World
@@ -99,6 +93,7 @@ pub record SetsFile (name bytes : List ℕ) (old new : MemHost) (result : Result
   pub err : OnErr result (world_of new ≡ world_of old)
   pub asked : (state_of new).asked ≡ (state_of old).asked
   pub err_faults : (state_of new).err_faults ≡ (state_of old).err_faults
+  pub opened : (state_of new).opened ≡ (state_of old).opened
   pub tally : tally_of new ≡ tally_of old
   pub plan : plan_of new ≡ plan_of old
 
@@ -110,6 +105,7 @@ pub record Plans (object : Object) (call : ℕ) (old new : MemHost) (result : Re
   pub made : (tally_of new).made ≡ (tally_of old).made
   pub texts : (plan_of new).texts ≡ (plan_of old).texts
   pub opened_files : (plan_of new).files ≡ (plan_of old).files
+  pub pens : OnOk result ((plan_of new).pens ≡ pens_with object (plan_of old).pens)
   pub room : room_of_host new ≡ room_of_host old
 
 -- a print failed exactly where its number is listed or the room for the piece was wanting, and was counted, its failure on its stream

@@ -3,6 +3,9 @@ pub mod Text
 pub mod File
 pub mod Rows
 pub mod Logged
+pub mod Grown
+pub mod Ext
+pub mod Pen
 pub mod Disk
 pub mod Planned
 pub mod Named

@@ -1,5 +1,6 @@
 -- The log of a disk in memory.
-use Rattle.std.specs.Prelude.{ℕ, ◌-◌, List, vec_len, vec_capacity}
+use Rattle.std.specs.Prelude.{◌≡◌, ℕ, ◌+◌, ◌-◌, ◌≤◌, List, vec_len, vec_capacity, Result, OnOk}
+use Rattle.std.specs.declared.alloc.AllocError.{AllocError}
 use Rattle.nt_outside.specs.Log.{Step}
 use Rattle.nt_memory.specs.Rows.{steps}
 use Rattle.nt_memory.specs.declared.log.Log.{Log}
@@ -8,10 +9,31 @@ use Rattle.nt_memory.specs.declared.log.Log.{Log}
 abbrev pub steps_of : Log → List Step
 steps_of log = steps log.rows.items log.bytes.items
 
--- for how many more steps there is room
+-- for how many more steps there is room, beside those that will settle ranges
 abbrev pub spare_rows : Log → ℕ
-spare_rows log = vec_capacity log.rows - vec_len log.rows
+spare_rows log = vec_capacity log.rows - (vec_len log.rows + log.owed)
 
--- for how many more bytes of steps there is room
+-- for how many more bytes of steps there is room, beside those of ranges
 abbrev pub spare_bytes : Log → ℕ
-spare_bytes log = vec_capacity log.bytes - vec_len log.bytes
+spare_bytes log = vec_capacity log.bytes - (vec_len log.bytes + log.owed_bytes)
+
+-- there is room for so many steps and bytes
+pub record HasRoom (rows bytes : ℕ) (log : Log) (result : Result Unit AllocError) : Type 0 where
+  pub for_rows : OnOk result (rows ≤ spare_rows log)
+  pub for_bytes : OnOk result (bytes ≤ spare_bytes log)
+
+-- no room was used
+pub record KeepsRoom (old new : Log) : Type 0 where
+  pub rows : spare_rows old ≤ spare_rows new
+  pub bytes : spare_bytes old ≤ spare_bytes new
+
+-- the room of at most one step with so many bytes was used
+pub record UsesRoom (more : ℕ) (old new : Log) : Type 0 where
+  pub rows : spare_rows old ≤ spare_rows new + 1
+  pub bytes : spare_bytes old ≤ spare_bytes new + more
+
+-- the steps stay, and for as many of ranges there is room
+pub record IsSameLog (old new : Log) : Type 0 where
+  pub steps : steps_of new ≡ steps_of old
+  pub owed : new.owed ≡ old.owed
+  pub owed_bytes : new.owed_bytes ≡ old.owed_bytes

@@ -1,35 +1,49 @@
 //! A disk in memory.
 
-ghost use Rattle.std.specs.Prelude.{◌≡◌, ◌+◌, ◌^◌, ◌≤◌, length, vec_len, vec_capacity, All};
-ghost use Rattle.nt_outside.specs.Log.{Reads, put_at};
+ghost use Rattle.std.specs.Prelude.{◌≡◌, ◌+◌, ◌^◌, ◌≤◌, [], length, drop, slice_index_or, vec_len, All, Contains, sum_by, if◌then◌else◌, is_ok, IfOk};
+ghost use Rattle.nt_outside.specs.Reads.{Reads};
+ghost use Rattle.nt_outside.specs.declared.range.Range.{Range};
 ghost use Rattle.nt_memory.specs.Logged.{steps_of};
 
+use crate::bytes::{add_reserved, add_zeros, grow_room, put_over};
 use crate::calls::Calls;
-use crate::log::{Log, Row, add_reserved};
+use crate::log::{Log, Row};
+use crate::range::{MemExt, MemPen};
 use crate::tally::Tally;
-use nt_outside::{Disk, Failed};
+use nt_outside::{Disk, Failed, Pen, Range, Refused, take_off};
 use std::alloc::{AllocError, Global};
 
-/// A disk whose steps and bytes are told.
+/// A disk whose steps and bytes are told. It has the memory to settle each range that is out.
 #[derive(Drop)]
 pub struct MemDisk {
+    alloc: Global,
     image: Vec<u8>,
     log: Log,
+    out: Vec<Range>,
+    pens: Vec<Calls>,
     tally: Tally,
     ghost reads: { Reads (steps_of log) image.items },
+    ghost inside: { All (λ (r : Range). r.start + r.len ≤ vec_len image) out.items },
+    ghost rows_owed: { sum_by (λ (r : Range). 1) out.items ≤ log.owed },
+    ghost bytes_owed: { sum_by (λ (r : Range). r.len) out.items ≤ log.owed_bytes },
 }
 
 impl MemDisk {
     ghost use Rattle.nt_memory.specs.Tally.{new_tally};
-    ghost use Rattle.nt_memory.specs.Disk.{IsEmpty, held_of, state_of, tally_of};
+    ghost use Rattle.nt_memory.specs.Disk.{IsEmpty, held_of, state_of, tally_of, pens_of};
 
-    pub fn new(alloc: Global, fails: Calls) -> Self
+    /// An empty disk, whose calls fail where `fails` lists their numbers; those of its k-th pen where the k-th of `pens` does.
+    pub fn new(alloc: Global, fails: Calls, pens: Vec<Calls>) -> Self
         ensures empty { IsEmpty (state_of result) }
         ensures tally { tally_of result ≡ new_tally fails }
+        ensures pens { pens_of result ≡ pens.items }
     {
         MemDisk {
+            alloc,
             image: Vec::new(alloc),
             log: Log::new(alloc),
+            out: Vec::new(alloc),
+            pens,
             tally: Tally::new(fails),
         }
     }
@@ -42,12 +56,33 @@ impl MemDisk {
     {
         (self.image, self.log, self.tally.faults)
     }
+
+    /// The calls of the next pen that are to fail.
+    fn next_calls(&mut self) -> Calls
+        ensures calls { result ≡ slice_index_or (pens_of self.old) 0 [] }
+        ensures pens { pens_of self.new ≡ drop 1 (pens_of self.old) }
+        ensures state { state_of self.new ≡ state_of self.old }
+        ensures tally { tally_of self.new ≡ tally_of self.old }
+    {
+        if self.pens.is_empty() {
+            Calls::from_vec(Vec::new(self.alloc))
+        } else {
+            self.pens.remove(0)
+        }
+    }
 }
 
 impl Disk for MemDisk {
-    ghost use Rattle.nt_memory.specs.Tally.{FailsWhereListed};
-    ghost use Rattle.nt_memory.specs.Disk.{state_of, tally_of, told_of};
-    ghost use Rattle.nt_outside.specs.Disk.{HasSpare, IsApart, TakesRoom, Appends, Writes, Syncs};
+    type Ext = MemExt;
+
+    type Pen = MemPen;
+
+    ghost use Rattle.nt_memory.specs.Tally.{new_tally, takes_in, FailsWhereListedOr};
+    ghost use Rattle.nt_memory.specs.Disk.{state_of, tally_of, pens_of, told_of, FailsAsListed};
+    ghost use Rattle.nt_memory.specs.Ext as mem_ext;
+    ghost use Rattle.nt_memory.specs.Pen as mem_pen;
+    ghost use Rattle.nt_outside.specs.Range.{IsApart};
+    ghost use Rattle.nt_outside.specs.Disk.{HasSpare, TakesRoom, Appends, Writes, Syncs, MakesPen, TakesPen, Reserves, IsNewExt, Settles};
 
     ghost state = { state_of };
 
@@ -61,19 +96,89 @@ impl Disk for MemDisk {
         self.tally.faults
     }
 
+    fn pen(&mut self) -> Result<MemPen, Refused>
+        ensures makes { MakesPen (state_of self.old) (state_of self.new) result }
+        ensures new { IfOk result (λ p. (mem_pen.state_of p).faults ≡ 0) }
+        ensures exact { FailsWhereListedOr ⊥ (tally_of self.old) (tally_of self.new) result }
+        ensures calls { IfOk result (λ p. mem_pen.tally_of p ≡ new_tally (slice_index_or (pens_of self.old) 0 [])) }
+        ensures pens { pens_of self.new ≡ (if is_ok result then drop 1 (pens_of self.old) else pens_of self.old) }
+    {
+        if self.tally.count_call() {
+            return Err(Refused::Failed);
+        }
+        let fails = self.next_calls();
+        Ok(MemPen::new(fails))
+    }
+
+    fn put_back(&mut self, pen: MemPen)
+        ensures back { TakesPen (mem_pen.state_of pen).faults (state_of self.old) (state_of self.new) }
+        ensures exact { tally_of self.new ≡ takes_in (mem_pen.state_of pen).faults (tally_of self.old) }
+        ensures pens { pens_of self.new ≡ pens_of self.old }
+    {
+        self.tally.take_in(pen.faults());
+    }
+
     fn room(&mut self, steps: u32, bytes: u64) -> Result<(), AllocError>
         ensures room { TakesRoom steps bytes (state_of self.old) (state_of self.new) result }
         ensures tally { tally_of self.new ≡ tally_of self.old }
+        ensures pens { pens_of self.new ≡ pens_of self.old }
     {
         self.log.room(steps as usize, bytes as usize)?;
         self.image.reserve(bytes as usize)
+    }
+
+    fn reserve(&mut self, len: u64) -> Result<MemExt, Refused>
+        requires { (state_of self.old).end + len ≤ 2 ^ 63 }
+        ensures reserves { Reserves len (state_of self.old) (state_of self.new) result }
+        ensures new { IfOk result (λ e. IsNewExt len (state_of self.old) (mem_ext.state_of e)) }
+        ensures exact { FailsWhereListedOr ⊥ (tally_of self.old) (tally_of self.new) result }
+        ensures pens { pens_of self.new ≡ pens_of self.old }
+    {
+        let start = self.image.len() as u64;
+        let bytes = Vec::with_capacity(self.alloc, len as usize)?;
+        self.out.reserve(1)?;
+        grow_room(&mut self.image, len as usize)?;
+        self.log.range_room(len as usize)?;
+        if self.tally.count_call() {
+            return Err(Refused::Failed);
+        }
+        self.log.push_reserve(start, len);
+        self.out.push_reserved(Range { start, len });
+        add_zeros(&mut self.image, len as usize);
+        Ok(MemExt {
+            range: Range { start, len },
+            filled: false,
+            bytes,
+        })
+    }
+
+    fn settle(&mut self, ext: MemExt)
+        requires { Contains (state_of self.old).out (mem_ext.state_of ext).range }
+        ensures settles { Settles (mem_ext.state_of ext) (state_of self.old) (state_of self.new) }
+        ensures tally { tally_of self.new ≡ tally_of self.old }
+        ensures pens { pens_of self.new ≡ pens_of self.old }
+    {
+        let MemExt {
+            range,
+            filled,
+            bytes,
+        } = ext;
+        let len = range.len as usize;
+        let row = Row::Settle {
+            start: range.start,
+            len,
+            known: filled,
+        };
+        self.log.push_settle(row, &bytes, len);
+        put_over(&mut self.image, range.start as usize, &bytes);
+        take_off(&mut self.out, range);
     }
 
     fn append(&mut self, bytes: &[u8]) -> Result<(), Failed>
         requires sum { (state_of self.old).end + length bytes.now ≤ 2 ^ 63 }
         requires spare { HasSpare (state_of self.old) (length bytes.now) }
         ensures appends { Appends bytes.now (state_of self.old) (state_of self.new) result }
-        ensures exact { FailsWhereListed (tally_of self.old) (tally_of self.new) result }
+        ensures exact { FailsAsListed self.old self.new result }
     {
         if self.tally.count_call() {
             self.log.push(Row::FailedAppend, &[]);
@@ -89,7 +194,7 @@ impl Disk for MemDisk {
         requires outside { All (IsApart at (length bytes.now)) (state_of self.old).out }
         requires spare { HasSpare (state_of self.old) (length bytes.now) }
         ensures writes { Writes at bytes.now (state_of self.old) (state_of self.new) result }
-        ensures exact { FailsWhereListed (tally_of self.old) (tally_of self.new) result }
+        ensures exact { FailsAsListed self.old self.new result }
     {
         let len = bytes.len();
         if self.tally.count_call() {
@@ -104,7 +209,7 @@ impl Disk for MemDisk {
     fn sync(&mut self) -> Result<(), Failed>
         requires { HasSpare (state_of self.old) 0 }
         ensures syncs { Syncs (state_of self.old) (state_of self.new) result }
-        ensures exact { FailsWhereListed (tally_of self.old) (tally_of self.new) result }
+        ensures exact { FailsAsListed self.old self.new result }
     {
         if self.tally.count_call() {
             return Err(Failed);
@@ -112,14 +217,4 @@ impl Disk for MemDisk {
         self.log.push(Row::Sync, &[]);
         Ok(())
     }
-}
-
-/// Puts bytes over those at a place.
-fn put_over(list: &mut Vec<u8>, at: usize, bytes: &[u8])
-    requires { at + length bytes.now ≤ vec_len list.old }
-    ensures items { list.new.items ≡ put_at list.old.items at bytes.now }
-    ensures len { vec_len list.new ≡ vec_len list.old }
-    ensures capacity { vec_capacity list.new ≡ vec_capacity list.old }
-{
-    list[at..at + bytes.len()].copy_from_slice(bytes);
 }

@@ -10,22 +10,8 @@ use crate::named::{NamedFile, newest};
 use crate::plan::{Object, Plan, Planned};
 use crate::streams::Streams;
 use crate::tally::Tally;
+use nt_outside::Ask;
 use std::alloc::{AllocError, Global};
-
-/// What a host was asked for.
-#[derive(Clone, Copy, Debug, PartialEq, Eq)]
-pub enum Kind {
-    Text,
-    File,
-    Out,
-}
-
-/// What a host was asked for, and the name.
-#[derive(Drop)]
-pub struct Ask {
-    pub kind: Kind,
-    pub name: String,
-}
 
 /// A host whose files and streams are told. Of files of one name the last counts.
 #[derive(Drop)]
@@ -39,6 +25,7 @@ pub struct MemHost {
     plan: Plan,
     tally: Tally,
     err_faults: u64,
+    opened: u64,
     ghost room: { is_some creating ≡ true → vec_len files < vec_capacity files },
 }
 
@@ -63,6 +50,7 @@ impl MemHost {
             plan: Plan::new(alloc),
             tally: Tally::new(Calls::from_vec(Vec::new(alloc))),
             err_faults: 0,
+            opened: 0,
         }
     }
 
@@ -83,7 +71,7 @@ impl MemHost {
         Ok(())
     }
 
-    /// Lets a call of an object fail: of the host, or of objects that are opened from then on.
+    /// Lets a call of an object fail: of the host, or of objects that are opened from then on. Of pens, those below 2^32 - 1 count.
     pub fn fail(&mut self, object: Object, call: u64) -> Result<(), AllocError>
         ensures { Plans object call self.old self.new result }
     {
@@ -91,6 +79,9 @@ impl MemHost {
             return self.tally.listed.add(call);
         }
         self.plan.planned.push(Planned { object, call })?;
+        if let Object::Pen(pen) = object {
+            self.plan.pens = self.plan.pens.max(pen.saturating_add(1));
+        }
         Ok(())
     }
 

@@ -1,8 +1,9 @@
 //! The log of a disk.
 
-ghost use Rattle.std.specs.Prelude.{◌≡◌, ◌+◌, ◌≤◌, ◌<◌, ◌++◌, ◌∷◌, [], length, vec_len, vec_capacity};
+ghost use Rattle.std.specs.Prelude.{◌≡◌, ◌+◌, ◌≤◌, ◌++◌, ◌∷◌, [], length, vec_len, vec_capacity};
 ghost use Rattle.nt_memory.specs.Rows.{bytes_of, total_bytes, step};
 
+use crate::bytes::add_reserved;
 use std::alloc::{AllocError, Global};
 
 /// A step of a disk, by its place and length. The bytes of all steps lie elsewhere, one after the other.
@@ -12,6 +13,8 @@ pub enum Row {
     FailedWrite { at: u64, len: usize },
     Append { len: usize },
     FailedAppend,
+    Reserve { start: u64, len: u64 },
+    Settle { start: u64, len: usize, known: bool },
     Sync,
 }
 
@@ -20,12 +23,17 @@ pub enum Row {
 pub struct Log {
     pub rows: Vec<Row>,
     pub bytes: Vec<u8>,
+    /// For how many steps that settle a range, and for how many bytes in them, there is room besides.
+    pub owed: usize,
+    pub owed_bytes: usize,
     ghost whole: { total_bytes rows.items ≡ length bytes.items },
+    ghost row_room: { vec_len rows + owed ≤ vec_capacity rows },
+    ghost byte_room: { vec_len bytes + owed_bytes ≤ vec_capacity bytes },
 }
 
 impl Log {
-    ghost use Rattle.nt_memory.specs.Logged.{steps_of, spare_rows, spare_bytes};
-    ghost use Rattle.nt_outside.specs.Log.{Step};
+    ghost use Rattle.nt_memory.specs.Logged.{steps_of, spare_rows, spare_bytes, HasRoom, KeepsRoom, UsesRoom, IsSameLog};
+    ghost use Rattle.nt_outside.specs.Log.{Step, Reserve};
     ghost use Rattle.std.specs.Prelude.{OnOk};
 
     pub fn new(alloc: Global) -> Self
@@ -34,15 +42,40 @@ impl Log {
         Log {
             rows: Vec::new(alloc),
             bytes: Vec::new(alloc),
+            owed: 0,
+            owed_bytes: 0,
         }
     }
 
     /// Takes the memory for so many steps, with so many bytes together.
     pub fn room(&mut self, rows: usize, bytes: usize) -> Result<(), AllocError>
-        ensures rows { OnOk result (rows ≤ spare_rows self.new) }
-        ensures bytes { OnOk result (bytes ≤ spare_bytes self.new) }
-        ensures steps { steps_of self.new ≡ steps_of self.old }
+        ensures room { HasRoom rows bytes self.new result }
+        ensures kept { KeepsRoom self.old self.new }
+        ensures same { IsSameLog self.old self.new }
     {
+        let Some(rows) = self.owed.checked_add(rows) else {
+            return Err(AllocError);
+        };
+        let Some(bytes) = self.owed_bytes.checked_add(bytes) else {
+            return Err(AllocError);
+        };
+        self.rows.reserve(rows)?;
+        self.bytes.reserve(bytes)
+    }
+
+    /// Takes the memory that a range of so many bytes needs, beside all that is there.
+    pub fn range_room(&mut self, bytes: usize) -> Result<(), AllocError>
+        ensures rows { OnOk result (spare_rows self.old + 2 ≤ spare_rows self.new) }
+        ensures bytes { OnOk result (spare_bytes self.old + bytes ≤ spare_bytes self.new) }
+        ensures kept { KeepsRoom self.old self.new }
+        ensures same { IsSameLog self.old self.new }
+    {
+        let Some(rows) = (self.rows.capacity() - self.rows.len()).checked_add(2) else {
+            return Err(AllocError);
+        };
+        let Some(bytes) = (self.bytes.capacity() - self.bytes.len()).checked_add(bytes) else {
+            return Err(AllocError);
+        };
         self.rows.reserve(rows)?;
         self.bytes.reserve(bytes)
     }
@@ -53,23 +86,43 @@ impl Log {
         requires row_room { 1 ≤ spare_rows self.old }
         requires byte_room { length bytes.now ≤ spare_bytes self.old }
         ensures steps { steps_of self.new ≡ steps_of self.old ++ step row bytes.now ∷ [] }
-        ensures rows { spare_rows self.old ≤ spare_rows self.new + 1 }
-        ensures bytes { spare_bytes self.old ≤ spare_bytes self.new + length bytes.now }
+        ensures spent { UsesRoom (length bytes.now) self.old self.new }
+        ensures owed { self.new.owed ≡ self.old.owed }
+        ensures owed_bytes { self.new.owed_bytes ≡ self.old.owed_bytes }
     {
         add_reserved(&mut self.bytes, bytes);
         self.rows.push_reserved(row);
     }
-}
 
-/// Adds bytes for which there is room.
-pub fn add_reserved(list: &mut Vec<u8>, bytes: &[u8])
-    requires { vec_len list.old + length bytes.now ≤ vec_capacity list.old }
-    ensures items { list.new.items ≡ list.old.items ++ bytes.now }
-    ensures len { vec_len list.new ≡ vec_len list.old + length bytes.now }
-    ensures capacity { vec_capacity list.old ≤ vec_capacity list.new }
-{
-    match list.extend_from_slice(bytes) {
-        Ok(()) => {}
-        Err(_) => unreachable!(),
+    /// Adds the step that reserves a range, and keeps room for the one that settles it.
+    pub fn push_reserve(&mut self, start: u64, len: u64)
+        requires rows { 2 ≤ spare_rows self.old }
+        requires bytes { len ≤ spare_bytes self.old }
+        ensures steps { steps_of self.new ≡ steps_of self.old ++ Reserve start len ∷ [] }
+        ensures rows { spare_rows self.old ≤ spare_rows self.new + 2 }
+        ensures bytes { spare_bytes self.old ≤ spare_bytes self.new + len }
+        ensures owed { self.new.owed ≡ self.old.owed + 1 }
+        ensures owed_bytes { self.new.owed_bytes ≡ self.old.owed_bytes + len }
+    {
+        self.push(Row::Reserve { start, len }, &[]);
+        self.owed += 1;
+        self.owed_bytes += len as usize;
+    }
+
+    /// Adds the step that settles a range, for which there is room besides.
+    pub fn push_settle(&mut self, row: Row, bytes: &[u8], len: usize)
+        requires len { bytes_of row ≡ length bytes.now }
+        requires row_room { 1 ≤ self.old.owed }
+        requires most { length bytes.now ≤ len }
+        requires byte_room { len ≤ self.old.owed_bytes }
+        ensures steps { steps_of self.new ≡ steps_of self.old ++ step row bytes.now ∷ [] }
+        ensures kept { KeepsRoom self.old self.new }
+        ensures owed { self.new.owed + 1 ≡ self.old.owed }
+        ensures owed_bytes { self.new.owed_bytes + len ≡ self.old.owed_bytes }
+    {
+        self.owed -= 1;
+        self.owed_bytes -= len;
+        add_reserved(&mut self.bytes, bytes);
+        self.rows.push_reserved(row);
     }
 }

@@ -5,13 +5,15 @@ ghost use Rattle.nt_memory.specs.Planned.{numbers_for};
 
 use std::alloc::{AllocError, Global};
 
-/// An object of a host: the host, a text or a file that it opened, numbered from 0 in the order of opening, or all its disks.
+/// An object of a host: the host, a text or a file that it opened, numbered from 0 in the order of opening, all its disks, or
+/// the pen of each disk that has this number, from 0 in the order of making.
 #[derive(Clone, Copy, Debug, PartialEq, Eq)]
 pub enum Object {
     Host,
     Text(u32),
     File(u32),
     Disk,
+    Pen(u32),
 }
 
 impl Object {
@@ -22,8 +24,9 @@ impl Object {
     {
         match (self, other) {
             (Object::Host, Object::Host) | (Object::Disk, Object::Disk) => true,
-            (Object::Text(one), Object::Text(two)) | (Object::File(one), Object::File(two)) => one
-                == two,
+            (Object::Text(one), Object::Text(two))
+            | (Object::File(one), Object::File(two))
+            | (Object::Pen(one), Object::Pen(two)) => one == two,
             _ => false,
         }
     }
@@ -51,12 +54,14 @@ pub fn numbers_for(
         .collect(alloc)
 }
 
-/// The calls that are to fail of objects that are still to be opened, and how many texts and files were opened.
+/// The calls that are to fail of objects that are still to be opened, how many texts and files were opened, and below which
+/// number all pens stand whose calls are to fail.
 #[derive(Drop)]
 pub struct Plan {
     pub planned: Vec<Planned>,
     pub texts: u32,
     pub files: u32,
+    pub pens: u32,
 }
 
 impl Plan {
@@ -64,11 +69,13 @@ impl Plan {
         ensures planned { result.planned.items ≡ [] }
         ensures texts { result.texts ≡ 0 }
         ensures files { result.files ≡ 0 }
+        ensures pens { result.pens ≡ 0 }
     {
         Plan {
             planned: Vec::new(alloc),
             texts: 0,
             files: 0,
+            pens: 0,
         }
     }
 }

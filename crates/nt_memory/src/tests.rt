@@ -2,7 +2,9 @@
 
 use super::*;
 use nt_bytes::Bytes;
-use nt_outside::{Disk, Failed, Host, ReadAt, Refused, Source, Stream, print_all, read_front};
+use nt_outside::{
+    Disk, Ext, Failed, Host, Pen, ReadAt, Refused, Source, Stream, print_all, read_front,
+};
 use std::alloc::{AllocError, Global};
 use std::test::Fail;
 
@@ -13,12 +15,12 @@ fn failing(alloc: Global, numbers: &[u64]) -> Result<Calls, AllocError> {
 #[test]
 fn a_text_is_read_in_pieces(rt: HostRuntime) -> Result<(), Fail> {
     let alloc = rt.alloc();
-    let text = [7; 1200];
-    // three pieces and the end are four reads
+    let text = vec![in alloc; 7u8; 150_000]?;
+    // two whole pieces, a shorter one and the end are four reads
     for (number, fails) in [(1, true), (2, true), (4, true), (5, false)] {
         let bytes = Bytes::from_vec(text.to_vec(alloc)?);
         let mut source = MemSource::new(bytes, failing(alloc, &[number])?);
-        match read_front(alloc, &mut source, 2000) {
+        match read_front(alloc, &mut source, 200_000) {
             Ok(front) => assert!(rt;
                 !fails && front.as_slice() == text.as_slice(),
                 "at {number}"
@@ -89,7 +91,7 @@ fn a_failed_write_leaves_what_was_there(rt: HostRuntime) -> Result<(), Fail> {
 #[test]
 fn a_failed_sync_is_a_fault(rt: HostRuntime) -> Result<(), Fail> {
     let alloc = rt.alloc();
-    let mut disk = MemDisk::new(alloc, failing(alloc, &[1])?);
+    let mut disk = MemDisk::new(alloc, failing(alloc, &[1])?, Vec::new(alloc));
     disk.room(2, 0)?;
     assert_eq!(rt; disk.sync(), Err(Failed));
     assert_eq!(rt; disk.sync(), Ok(()));
@@ -166,11 +168,16 @@ fn crosses<T: Send>(value: T) -> T {
     value
 }
 
+fn extents_cross(ext: MemExt) -> MemExt {
+    crosses(ext)
+}
+
 #[test]
 fn each_object_crosses_to_another_thread(rt: HostRuntime) -> Result<(), Fail> {
     let alloc = rt.alloc();
     let _host = crosses(MemHost::new(alloc));
-    let _disk = crosses(MemDisk::new(alloc, failing(alloc, &[])?));
+    let mut disk = crosses(MemDisk::new(alloc, failing(alloc, &[])?, Vec::new(alloc)));
+    let _pen = crosses(disk.pen()?);
     let _text = crosses(MemSource::new(Bytes::from_vec(Vec::new(alloc)), failing(alloc, &[])?));
     let _file = crosses(MemFile::new(Bytes::from_vec(Vec::new(alloc)), failing(alloc, &[])?));
     Ok(())

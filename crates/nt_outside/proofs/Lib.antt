@@ -1,1 +1,4 @@
+pub mod Crashes
+pub mod Known
 pub mod Printing
+pub mod Ranges

@@ -1,75 +1,24 @@
--- A file that is written: what it has done and holds, and what each call does to that.
-use Rattle.std.specs.Prelude.{◌≡◌, ◌⊎◌, ℕ, ◌+◌, ◌≤◌, List, [], ◌∷◌, ◌++◌, length, Option, Some, Result, OnOk, OnErr}
+-- A file that is written: what each call does to it.
+use Rattle.std.specs.Prelude.{◌≡◌, ℕ, ◌+◌, ◌≤◌, false, true, List, [], ◌∷◌, ◌++◌, length, Option, None, Result, OnOk, OnErr}
 use Rattle.std.specs.declared.alloc.AllocError.{AllocError}
 use Rattle.nt_outside.specs.declared.fault.Failed.{Failed}
-use Rattle.nt_outside.specs.Faults.{HasCause}
-use Rattle.nt_outside.specs.Log.{Step, Write, FailedWrite, Append, FailedAppend, Sync, put_at}
-
--- the steps so far, and the bytes that stand there
-pub record Held : Type 0 where
-  pub log : List Step
-  pub image : List ℕ
-
-abbrev pub nothing_held : Held
-nothing_held = record { log = []; image = [] }
-
--- a range of the file
-pub record Range : Type 0 where
-  pub start : ℕ
-  pub len : ℕ
+use Rattle.nt_outside.specs.declared.fault.Refused.{Refused}
+use Rattle.nt_outside.specs.Faults.{HasCause, RoseOnFailed, TakesIn}
+use Rattle.nt_outside.specs.Range.{Range, ExtState, without}
+use Rattle.nt_outside.specs.Held.{Held, IsTornAppend, IsTornWrite, IsReserved, IsSettled, appended, written, synced, Becomes, BecomesSome, WhereHeld}
 
 pub record DiskState : Type 0 where
   -- what the disk holds, where it tells it
   pub held : Option Held
   -- its length
   pub end : ℕ
-  -- the ranges that somebody else writes
+  -- the ranges that are reserved and not settled
   pub out : List Range
-  -- how often a call has failed
+  -- how often a call has failed, its own or one of a pen that came back
   pub faults : ℕ
   -- for how many calls, and for how many bytes in them, there is memory
   pub spare_steps : ℕ
   pub spare_bytes : ℕ
-
--- a place and so many bytes lie outside a range
-abbrev pub IsApart : ℕ → ℕ → Range → Type 0
-IsApart at len range = (at + len ≤ range.start) ⊎ (range.start + range.len ≤ at)
-
-abbrev pub appended : List ℕ → Held → Held
-appended bytes h = record { log = h.log ++ Append bytes ∷ []; image = h.image ++ bytes }
-
-abbrev pub written : ℕ → List ℕ → Held → Held
-written at bytes h = record { log = h.log ++ Write at bytes ∷ []; image = put_at h.image at bytes }
-
-abbrev pub synced : Held → Held
-synced h = record { log = h.log ++ Sync ∷ []; image = h.image }
-
--- an append that failed leaves some bytes, at most as many as were asked for
-pub record IsTornAppend (most : ℕ) (old new : Held) : Type 0 where
-  pub junk : List ℕ
-  pub few : length junk ≤ most
-  pub log : new.log ≡ old.log ++ FailedAppend (length junk) ∷ []
-  pub image : new.image ≡ old.image ++ junk
-
--- a write that failed leaves some bytes in its place; of a single byte, the old or the new one
-pub record IsTornWrite (at : ℕ) (bytes : List ℕ) (old new : Held) : Type 0 where
-  pub junk : List ℕ
-  pub same_length : length junk ≡ length bytes
-  pub log : new.log ≡ old.log ++ FailedWrite at bytes ∷ []
-  pub image : new.image ≡ put_at old.image at junk
-  pub single : length bytes ≡ 1 → (new.image ≡ old.image) ⊎ (new.image ≡ put_at old.image at bytes)
-
--- what is held becomes this, where it is told
-abbrev pub Becomes : Option Held → Option Held → (Held → Held) → Type 0
-Becomes old new step = (h : Held) → old ≡ Some h → new ≡ Some (step h)
-
--- what is held becomes something of this kind, where it is told
-abbrev pub BecomesSome : Option Held → Option Held → (Held → Held → Type 0) → Type 0
-BecomesSome old new step = (h : Held) → old ≡ Some h → (h' : Held) × (new ≡ Some h') × step h h'
-
--- a fact of what is held, where it is told
-abbrev pub WhereHeld : Option Held → (Held → Type 0) → Type 0
-WhereHeld held P = (h : Held) → held ≡ Some h → P h
 
 -- there is memory for one more step with so many bytes
 pub record HasSpare (disk : DiskState) (more : ℕ) : Type 0 where
@@ -81,10 +30,22 @@ pub record Spends (old new : DiskState) (more : ℕ) : Type 0 where
   pub steps : old.spare_steps ≤ new.spare_steps + 1
   pub bytes : old.spare_bytes ≤ new.spare_bytes + more
 
+-- a call uses none of the memory taken before
+pub record KeepsSpare (old new : DiskState) : Type 0 where
+  pub steps : old.spare_steps ≤ new.spare_steps
+  pub bytes : old.spare_bytes ≤ new.spare_bytes
+
+-- what the disk holds, its length and its ranges stay
+pub record KeepsPlace (old new : DiskState) : Type 0 where
+  pub held : new.held ≡ old.held
+  pub end : new.end ≡ old.end
+  pub out : new.out ≡ old.out
+
 -- memory was taken for so many steps and bytes, and nothing else changes
 pub record TakesRoom (more_steps more_bytes : ℕ) (old new : DiskState) (result : Result Unit AllocError) : Type 0 where
   pub steps : OnOk result (more_steps ≤ new.spare_steps)
   pub bytes : OnOk result (more_bytes ≤ new.spare_bytes)
+  pub kept : KeepsSpare old new
   pub held : new.held ≡ old.held
   pub end : new.end ≡ old.end
   pub out : new.out ≡ old.out
@@ -118,3 +79,39 @@ pub record Syncs (old new : DiskState) (result : Result Unit Failed) : Type 0 wh
   pub out : new.out ≡ old.out
   pub spare : Spends old new 0
   pub cause : HasCause old.faults new.faults result
+
+-- a pen was made, and nothing else changes
+pub record MakesPen {P : Type 0} (old new : DiskState) (result : Result P Refused) : Type 0 where
+  pub place : KeepsPlace old new
+  pub spare : KeepsSpare old new
+  pub cause : RoseOnFailed old.faults new.faults result
+
+-- a pen came back, and its faults are the disk's from now on
+pub record TakesPen (faults : ℕ) (old new : DiskState) : Type 0 where
+  pub place : KeepsPlace old new
+  pub spare : KeepsSpare old new
+  pub faults_taken : TakesIn old.faults new.faults faults
+
+-- a range was put at the end and is out, or nothing changes
+pub record Reserves {E : Type 0} (len : ℕ) (old new : DiskState) (result : Result E Refused) : Type 0 where
+  pub ok : OnOk result (BecomesSome old.held new.held (IsReserved old.end len))
+  pub end : OnOk result (new.end ≡ old.end + len)
+  pub out : OnOk result (new.out ≡ old.out ++ record { start = old.end; len = len } ∷ [])
+  pub err : OnErr result (KeepsPlace old new)
+  pub spare : KeepsSpare old new
+  pub cause : RoseOnFailed old.faults new.faults result
+
+-- an extent at the end, which has no bytes yet and will tell them where the disk does
+pub record IsNewExt (len : ℕ) (disk : DiskState) (ext : ExtState) : Type 0 where
+  pub range : ext.range ≡ record { start = disk.end; len = len }
+  pub filled : ext.filled ≡ false
+  pub content : ext.content ≡ None
+  pub tells : WhereHeld disk.held (λ h. ext.tells ≡ true)
+
+-- an extent ended, and its range isn't out any more
+pub record Settles (ext : ExtState) (old new : DiskState) : Type 0 where
+  pub held : BecomesSome old.held new.held (IsSettled ext)
+  pub end : new.end ≡ old.end
+  pub out : new.out ≡ without ext.range old.out
+  pub spare : KeepsSpare old new
+  pub faults : new.faults ≡ old.faults

@@ -2,5 +2,10 @@ pub mod Faults
 pub mod Source
 pub mod File
 pub mod Log
+pub mod Reads
+pub mod Crash
+pub mod Range
+pub mod Held
 pub mod Disk
+pub mod Laws
 pub mod World

@@ -1,25 +1,40 @@
 -- What a host holds, what it was asked for, and what each call does to that.
-use Rattle.std.specs.Prelude.{◌≡◌, ◌⊎◌, ℕ, ◌<◌, ◌≤◌, List, [], ◌∷◌, ◌++◌, length, take, Option, Some, None, Result, OnOk, OnErr, IfOk, IsSome, IsErrOf}
+use Rattle.std.specs.Prelude.{◌≡◌, ◌⊎◌, ℕ, ◌+◌, ◌-◌, ◌<◌, ◌≤◌, List, [], ◌∷◌, ◌++◌, length, take, Option, Some, None, Result, OnOk, OnErr, IfOk, IsSome, IsErrOf}
 use Rattle.std.specs.Option.{option_map}
 use Rattle.std.specs.Ordering.{nat_cmp}
 use Rattle.std.specs.Cmp.Lexicographic.{slice_cmp}
 use Rattle.std.specs.FinMap as map
+use Rattle.std.specs.String.{string_bytes}
 use Rattle.nt_outside.specs.declared.fault.Failed.{Failed}
 use Rattle.nt_outside.specs.declared.fault.Refused.{Refused}
 use Rattle.nt_outside.specs.declared.fault.Refused.TheVariants as refused
+use Rattle.nt_outside.specs.declared.asked.Kind.{Kind}
+use Rattle.nt_outside.specs.declared.asked.Kind.TheVariants as kind
+use Rattle.nt_outside.specs.declared.asked.Ask.{Ask}
 use Rattle.nt_outside.specs.declared.stream.Stream.{Stream}
 use Rattle.nt_outside.specs.declared.stream.Stream.TheVariants.{ToOut, ToErr}
 use Rattle.nt_outside.specs.Faults.{HasCause, RoseOnFailed, TakesIn}
 use Rattle.nt_outside.specs.Source.{SourceState}
 use Rattle.nt_outside.specs.File.{FileState}
 use Rattle.nt_outside.specs.Log.{Step}
-use Rattle.nt_outside.specs.Disk.{Held, DiskState, WhereHeld, nothing_held}
+use Rattle.nt_outside.specs.Held.{Held, WhereHeld, nothing_held}
+use Rattle.nt_outside.specs.Disk.{DiskState}
 
 -- what a host was asked for: a text to read once, a file to read at any place, or a disk to write
 pub data Asked : Type 0 where
   Text : List ℕ → Asked
   File : List ℕ → Asked
   Out : List ℕ → Asked
+
+-- an object of this kind and name
+abbrev pub asked_as : Kind → List ℕ → Asked
+asked_as kind.Text name = Text name
+asked_as kind.File name = File name
+asked_as kind.Out name = Out name
+
+-- what a host keeps of that
+abbrev pub asked_of : Ask → Asked
+asked_of a = asked_as a.kind (string_bytes a.name)
 
 -- what stands under a name: its bytes, and the steps of the disk that put them there, if one did
 pub record Stored : Type 0 where
@@ -47,6 +62,8 @@ pub record HostState : Type 0 where
   pub faults : ℕ
   -- how often a print on err has failed
   pub err_faults : ℕ
+  -- how many objects it opened that haven't come back
+  pub opened : ℕ
 
 -- what stands under a name
 abbrev pub stored : World → List ℕ → Option Stored
@@ -78,15 +95,18 @@ pub record Asks {T : Type 0} (object : Asked) (old new : HostState) (result : Re
   pub memory : IsErrOf result refused.Memory → (new.asked ≡ old.asked) ⊎ (new.asked ≡ old.asked ++ object ∷ [])
   pub cause : RoseOnFailed old.faults new.faults result
   pub err_faults : new.err_faults ≡ old.err_faults
+  pub opened : OnOk result (new.opened ≡ old.opened + 1)
+  pub refused : OnErr result (new.opened ≡ old.opened)
 
 -- a text or a file is opened: nothing that the host holds changes
 pub record Opens {T : Type 0} (object : Asked) (old new : HostState) (result : Result T Refused) : Type 0 where
   pub asks : Asks object old new result
   pub world : new.world ≡ old.world
 
--- a disk is made for a name, whose bytes stay until the disk comes back
+-- a disk is made for a name, whose bytes stay until the disk comes back; while one is out, no other is made
 pub record Creates {T : Type 0} (name : List ℕ) (old new : HostState) (result : Result T Refused) : Type 0 where
   pub asks : Asks (Out name) old new result
+  pub alone : OnOk result ((w : World) → old.world ≡ Some w → w.creating ≡ None)
   pub ok : OnOk result (Turns old.world new.world (creates name))
   pub err : OnErr result (new.world ≡ old.world)
 
@@ -113,6 +133,7 @@ pub record TakesBack (faults : ℕ) (old new : HostState) : Type 0 where
   pub asked : new.asked ≡ old.asked
   pub faults_taken : TakesIn old.faults new.faults faults
   pub err_faults : new.err_faults ≡ old.err_faults
+  pub opened : new.opened ≡ old.opened - 1
 
 -- a disk came back: its name has the bytes that stand there, and its steps
 pub record KeepsDisk (disk : DiskState) (old new : HostState) : Type 0 where
@@ -137,6 +158,7 @@ pub record Prints (stream : Stream) (piece : List ℕ) (old new : HostState) (re
   pub asked : new.asked ≡ old.asked
   pub cause : HasCause (counted stream old) (counted stream new) result
   pub other : uncounted stream new ≡ uncounted stream old
+  pub opened : new.opened ≡ old.opened
 
 -- a stream took the front of these bytes
 abbrev pub PrintsFront : Stream → List ℕ → Option World → Option World → Type 0
@@ -150,3 +172,4 @@ pub record PrintsAll (stream : Stream) (bytes : List ℕ) (old new : HostState) 
   pub asked : new.asked ≡ old.asked
   pub cause : HasCause (counted stream old) (counted stream new) result
   pub other : uncounted stream new ≡ uncounted stream old
+  pub opened : new.opened ≡ old.opened

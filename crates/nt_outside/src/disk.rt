@@ -1,27 +1,54 @@
 //! A file that is written.
 
-ghost use Rattle.std.specs.Prelude.{◌≡◌, ◌+◌, ◌^◌, ◌≤◌, length, Some, All};
-ghost use Rattle.nt_outside.specs.Log.{Reads};
-ghost use Rattle.nt_outside.specs.Disk.{Held, DiskState, HasSpare, IsApart, TakesRoom, Appends, Writes, Syncs};
+ghost use Rattle.std.specs.Prelude.{◌≡◌, ◌+◌, ◌^◌, ◌≤◌, length, Some, All, Contains, IfOk};
+ghost use Rattle.nt_outside.specs.Reads.{Reads};
+ghost use Rattle.nt_outside.specs.Range.{IsApart};
+ghost use Rattle.nt_outside.specs.Held.{Held};
+ghost use Rattle.nt_outside.specs.Disk.{DiskState, HasSpare, TakesRoom, Appends, Writes, Syncs, MakesPen, TakesPen, Reserves, IsNewExt, Settles};
 
-use crate::fault::Failed;
+use crate::fault::{Failed, Refused};
+use crate::range::{Ext, Pen};
 use std::alloc::AllocError;
 
 /// A disk, by the steps that it took and the bytes that stand there.
 pub trait Disk {
+    type Ext: Ext;
+
+    type Pen: Pen<Ext = Self::Ext>;
+
     ghost state: { Self → DiskState };
 
     /// Its length in bytes.
     fn end(&self) -> u64
         ensures { result ≡ (state self.now).end };
 
-    /// How often a call has failed.
+    /// How often a call has failed, those of pens that came back among them.
     fn faults(&self) -> u64
         ensures { result ≡ (state self.now).faults };
+
+    /// A new pen, which has failed never.
+    fn pen(&mut self) -> Result<Self::Pen, Refused>
+        ensures makes { MakesPen (state self.old) (state self.new) result }
+        ensures new { IfOk result (λ p. (Self.Pen.state p).faults ≡ 0) };
+
+    /// Takes a pen back, and its faults in.
+    fn put_back(&mut self, pen: Self::Pen)
+        ensures { TakesPen (Self.Pen.state pen).faults (state self.old) (state self.new) };
 
     /// Takes the memory for so many calls of `append`, `write_at` and `sync`, with so many bytes together.
     fn room(&mut self, steps: u32, bytes: u64) -> Result<(), AllocError>
         ensures { TakesRoom steps bytes (state self.old) (state self.new) result };
+
+    /// Puts a range of so many bytes at the end, which its extent alone may write. It takes the memory that `settle` needs.
+    fn reserve(&mut self, len: u64) -> Result<Self::Ext, Refused>
+        requires { (state self.old).end + len ≤ 2 ^ 63 }
+        ensures reserves { Reserves len (state self.old) (state self.new) result }
+        ensures new { IfOk result (λ e. IsNewExt len (state self.old) (Self.Ext.state e)) };
+
+    /// Ends an extent of this disk. Its bytes stand in its range from now on; of one that wasn't filled, unknown ones.
+    fn settle(&mut self, ext: Self::Ext)
+        requires { Contains (state self.old).out (Self.Ext.state ext).range }
+        ensures { Settles (Self.Ext.state ext) (state self.old) (state self.new) };
 
     /// Adds bytes at the end. After `Failed` some unknown ones stand there, at most as many.
     fn append(&mut self, bytes: &[u8]) -> Result<(), Failed>

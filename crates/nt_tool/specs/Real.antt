@@ -1,18 +1,16 @@
 -- What the real objects tell: counts, names that were asked for, and the length of a disk. None tells what a file or a stream holds.
-use Rattle.std.specs.Prelude.{◌≡◌, ℕ, ◌-◌, ◌^◌, List, [], ◌∷◌, ◌++◌, length, map, Some, None, Result, OnOk, OnErr}
-use Rattle.std.specs.String.{string_bytes}
+use Rattle.std.specs.Prelude.{◌≡◌, ℕ, ◌-◌, ◌^◌, Bool, false, List, [], ◌∷◌, ◌++◌, length, map, Some, None, Result, OnOk, OnErr}
 use Rattle.std.specs.declared.alloc.AllocError.{AllocError}
 use Rattle.nt_outside.specs.declared.fault.Refused.{Refused}
 use Rattle.nt_outside.specs.Faults.{RoseOnFailed}
-use Rattle.nt_outside.specs.Log.{Reads}
+use Rattle.nt_outside.specs.declared.range.Range.{Range}
+use Rattle.nt_outside.specs.Reads.{Reads}
+use Rattle.nt_outside.specs.Range.{ExtState, IsSized}
+use Rattle.nt_outside.specs.Held.{Held}
 use Rattle.nt_outside.specs.Source.{SourceState}
 use Rattle.nt_outside.specs.File.{FileState}
-use Rattle.nt_outside.specs.Disk.{Held, DiskState}
-use Rattle.nt_outside.specs.World as world
-use Rattle.nt_outside.specs.World.{HostState, Asked}
-use Rattle.nt_tool.specs.declared.asked.Kind.{Kind}
-use Rattle.nt_tool.specs.declared.asked.Kind.TheVariants.{Text, File, Out}
-use Rattle.nt_tool.specs.declared.asked.Ask.{Ask}
+use Rattle.nt_outside.specs.Disk.{DiskState}
+use Rattle.nt_outside.specs.World.{HostState, Asked, asked_of}
 use Rattle.nt_tool.specs.declared.host.RealHost.{RealHost}
 
 -- a text counts its faults
@@ -23,43 +21,42 @@ text_state faults = record { left = None; faults = faults }
 abbrev pub file_state : ℕ → FileState
 file_state faults = record { bytes = None; faults = faults }
 
--- a disk knows its length and counts its faults; the system has the memory for its writes
-abbrev pub disk_state : ℕ → ℕ → DiskState
-disk_state end faults = record {
+-- an extent knows its range and whether it is filled
+abbrev pub ext_state : Range → Bool → ExtState
+ext_state range filled = record { range = range; filled = filled; content = None; tells = false }
+
+-- it tells nothing of its bytes
+pub unsized : (range : Range) (filled : Bool) (bytes : List ℕ) → (ext_state range filled).content ≡ Some bytes → IsSized (ext_state range filled) bytes
+unsized range filled bytes is = absurd (cc)
+
+-- a disk knows its length and its ranges, and counts its faults; the system has the memory for its writes
+abbrev pub disk_state : ℕ → List Range → ℕ → DiskState
+disk_state end out faults = record {
   held = None;
   end = end;
-  out = [];
+  out = out;
   faults = faults;
   spare_steps = 2 ^ 64 - 1;
   spare_bytes = 2 ^ 64 - 1;
 }
 
 -- it tells nothing of what it holds
-pub untold : (end faults : ℕ) (h : Held) → (disk_state end faults).held ≡ Some h → (end ≡ length h.image) × Reads h.log h.image
-untold end faults h is = cc
+pub untold : (end : ℕ) (out : List Range) (faults : ℕ) (h : Held) → (disk_state end out faults).held ≡ Some h → (end ≡ length h.image) × Reads h.log h.image
+untold end out faults h is = cc
 
--- what was asked for under a name
-abbrev pub asked_as : Kind → List ℕ → Asked
-asked_as Text name = world.Text name
-asked_as File name = world.File name
-asked_as Out name = world.Out name
-
--- what was asked for
-abbrev pub asked_of : Ask → Asked
-asked_of a = asked_as a.kind (string_bytes a.name)
-
--- a host knows what it was asked for and counts its faults, those of prints on err apart
+-- a host knows what it was asked for, and counts what is out and its faults, those of prints on err apart
 abbrev pub state_of : RealHost → HostState
 state_of h = record {
   world = None;
   asked = map asked_of h.asked.items;
   faults = h.faults.count;
   err_faults = h.err_faults.count;
+  opened = h.opened;
 }
 
--- nothing was asked for, and nothing failed
+-- nothing was asked for, nothing is out, and nothing failed
 abbrev pub fresh : HostState
-fresh = record { world = None; asked = []; faults = 0; err_faults = 0 }
+fresh = record { world = None; asked = []; faults = 0; err_faults = 0; opened = 0 }
 
 -- an object was asked for, and nothing else changed; without memory for its name, nothing did
 pub record Notes (object : Asked) (old new : HostState) (result : Result Unit AllocError) : Type 0 where
@@ -68,6 +65,7 @@ pub record Notes (object : Asked) (old new : HostState) (result : Result Unit Al
   pub world : new.world ≡ old.world
   pub faults : new.faults ≡ old.faults
   pub err_faults : new.err_faults ≡ old.err_faults
+  pub opened : new.opened ≡ old.opened
 
 -- an answer was counted where it is a fault, and nothing else changed
 pub record Counts {T : Type 0} (old new : HostState) (result : Result T Refused) : Type 0 where
@@ -75,3 +73,4 @@ pub record Counts {T : Type 0} (old new : HostState) (result : Result T Refused)
   pub world : new.world ≡ old.world
   pub cause : RoseOnFailed old.faults new.faults result
   pub err_faults : new.err_faults ≡ old.err_faults
+  pub opened : new.opened ≡ old.opened

@@ -1,26 +1,37 @@
 //! A file of the system that is written.
 
-ghost use Rattle.std.specs.Prelude.{◌≤◌, length};
 ghost use Rattle.nt_tool.specs.Real.{disk_state, untold};
 
 use crate::faults::Faults;
-use nt_outside::{Disk, Failed};
+use crate::named::Named;
+use crate::positioned::write_from;
+use crate::range::{RealExt, RealPen};
+use nt_outside::{Disk, Failed, Range, Refused, take_off};
 use std::alloc::AllocError;
-use std::fs::OpenFile;
+use std::fs::{File, OpenFile};
+use std::io;
 use std::os::unix::fs::FileExt;
 
-/// A disk that is written to an opened file. The system has the memory that a write takes.
+/// A disk that is written to an opened file, whose pens open the file of its name. The system has the memory that a write takes.
 #[derive(Drop)]
 pub struct RealDisk<F> {
+    pub named: Named,
     pub file: F,
+    /// Whether the file is new, and its folder wasn't synced since.
+    pub is_new: bool,
     pub end: u64,
+    pub out: Vec<Range>,
     pub faults: Faults,
 }
 
 impl<F: FileExt + OpenFile> Disk for RealDisk<F> {
-    ghost state = { λ d. disk_state d.end d.faults.count };
+    type Ext = RealExt;
 
-    ghost told = { λ d h is. untold d.end d.faults.count h is };
+    type Pen = RealPen<File>;
+
+    ghost state = { λ d. disk_state d.end d.out.items d.faults.count };
+
+    ghost told = { λ d h is. untold d.end d.out.items d.faults.count h is };
 
     fn end(&self) -> u64 {
         self.end
@@ -30,8 +41,39 @@ impl<F: FileExt + OpenFile> Disk for RealDisk<F> {
         self.faults.count
     }
 
+    fn pen(&mut self) -> Result<RealPen<File>, Refused> {
+        match self.named.open() {
+            Ok(file) => Ok(RealPen {
+                file,
+                faults: Faults::NONE,
+            }),
+            Err(_) => Err(Refused::from(self.faults.failed())),
+        }
+    }
+
+    fn put_back(&mut self, pen: RealPen<File>) {
+        self.faults.take_in(pen.faults);
+    }
+
     fn room(&mut self, _steps: u32, _bytes: u64) -> Result<(), AllocError> {
         Ok(())
+    }
+
+    fn reserve(&mut self, len: u64) -> Result<RealExt, Refused> {
+        let range = Range {
+            start: self.end,
+            len,
+        };
+        self.out.push(range)?;
+        self.end += len;
+        Ok(RealExt {
+            range,
+            filled: false,
+        })
+    }
+
+    fn settle(&mut self, ext: RealExt) {
+        take_off(&mut self.out, ext.range);
     }
 
     fn append(&mut self, bytes: &[u8]) -> Result<(), Failed> {
@@ -50,24 +92,23 @@ impl<F: FileExt + OpenFile> Disk for RealDisk<F> {
         Ok(())
     }
 
+    /// The first one of a new file also makes sure that its name stays.
     fn sync(&mut self) -> Result<(), Failed> {
-        match self.file.sync_all() {
-            Ok(()) => Ok(()),
+        match sync_all(&self.named, &self.file, self.is_new) {
+            Ok(()) => {
+                self.is_new = false;
+                Ok(())
+            }
             Err(_) => Err(self.faults.failed()),
         }
     }
 }
 
-/// Writes bytes from place `at` of a file, and says how many of them before a failure. A write may take only some of them.
-fn write_from<F: FileExt>(file: &F, at: u64, bytes: &[u8]) -> usize
-    ensures { result ≤ length bytes.now }
-{
-    let mut written = 0;
-    while written < bytes.len() {
-        match file.write_at(&bytes[written..], at.saturating_add(written as u64)) {
-            Ok(count) if count > 0 => written += count,
-            _ => return written,
-        }
+/// Syncs a file, and where it is new its folder.
+fn sync_all<F: OpenFile>(named: &Named, file: &F, is_new: bool) -> io::Result<()> {
+    file.sync_all()?;
+    if is_new {
+        named.sync_folder()?;
     }
-    written
+    Ok(())
 }

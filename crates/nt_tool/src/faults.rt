@@ -23,7 +23,7 @@ impl Faults {
         Failed
     }
 
-    /// Counts the failures of another object too.
+    /// Counts all failures of another object too.
     pub fn take_in(&mut self, other: Faults)
         ensures { TakesIn self.old.count self.new.count other.count }
     {

@@ -3,28 +3,32 @@
 ghost use Rattle.std.specs.Prelude.{◌≡◌, ◌<◌, Ok, IfOk};
 ghost use Rattle.nt_outside.specs.Faults.{HasCause};
 
-use crate::asked::{Ask, Kind};
 use crate::disk::RealDisk;
 use crate::faults::Faults;
 use crate::file::RealFile;
+use crate::named::{FileId, Made, Named, make};
 use crate::text::RealText;
-use nt_outside::{Failed, Host, Refused, Stream};
+use nt_outside::{Ask, Failed, Host, Kind, Refused, Stream};
 use std::alloc::{AllocError, Global};
 use std::fs::File;
 use std::io;
 use std::io::{ErrorKind, Write};
 
-/// The files and streams of the system. It keeps what it was asked for.
+/// The files and streams of the system. It keeps what it was asked for, and which files it opened.
 #[derive(Drop)]
 pub struct RealHost {
     rt: HostRuntime,
     asked: Vec<Ask>,
+    files: Vec<FileId>,
+    opened: u64,
     faults: Faults,
     err_faults: Faults,
 }
 
 impl RealHost {
-    ghost use Rattle.nt_tool.specs.Real.{asked_as, state_of, fresh, Notes, Counts};
+    ghost use Rattle.std.specs.Prelude.{◌+◌, ◌^◌, vec_len, vec_capacity, OnOk};
+    ghost use Rattle.nt_outside.specs.World.{asked_as, Asks, TakesBack};
+    ghost use Rattle.nt_tool.specs.Real.{state_of, fresh, Notes, Counts};
 
     pub fn new(rt: HostRuntime) -> Self
         ensures { state_of result ≡ fresh }
@@ -32,30 +36,67 @@ impl RealHost {
         RealHost {
             rt,
             asked: Vec::new(rt.alloc()),
+            files: Vec::new(rt.alloc()),
+            opened: 0,
             faults: Faults::NONE,
             err_faults: Faults::NONE,
         }
     }
 
-    /// Keeps what was asked for.
+    /// Keeps what was asked for, and takes the memory to keep the file. One object more can be counted as out.
     fn note(&mut self, kind: Kind, name: &str) -> Result<(), AllocError>
-        ensures { Notes (asked_as kind name.now) (state_of self.old) (state_of self.new) result }
+        ensures notes { Notes (asked_as kind name.now) (state_of self.old) (state_of self.new) result }
+        ensures few { OnOk result (self.new.opened + 1 < 2 ^ 64) }
+        ensures place { OnOk result (vec_len self.new.files < vec_capacity self.new.files) }
     {
+        if self.opened == u64::MAX {
+            return Err(AllocError);
+        }
+        self.files.reserve(1)?;
         let name = String::from_str(self.rt.alloc(), name)?;
         self.asked.push(Ask { kind, name })?;
         Ok(())
     }
 
     /// What the system answered, where want of memory is no fault.
-    fn answer(&mut self, opened: io::Result<File>) -> Result<File, Refused>
-        ensures opened { IfOk opened (λ file. result ≡ Ok file) }
+    fn answer<T: Drop>(&mut self, answered: io::Result<T>) -> Result<T, Refused>
+        ensures answered { IfOk answered (λ value. result ≡ Ok value) }
         ensures counts { Counts (state_of self.old) (state_of self.new) result }
+        ensures files { self.new.files ≡ self.old.files }
     {
-        match opened {
-            Ok(file) => Ok(file),
+        match answered {
+            Ok(value) => Ok(value),
             Err(error) if error.kind() == ErrorKind::OutOfMemory => Err(Refused::Memory),
             Err(_) => Err(Refused::from(self.faults.failed())),
         }
+    }
+
+    /// Opens the file of a name to be read.
+    fn open(&mut self, kind: Kind, name: &str) -> Result<File, Refused>
+        ensures asks { Asks (asked_as kind name.now) (state_of self.old) (state_of self.new) result }
+        ensures world { (state_of self.new).world ≡ (state_of self.old).world }
+    {
+        self.note(kind, name)?;
+        let rt = self.rt;
+        let file = self.answer(File::open(&rt, name))?;
+        let id = self.answer(FileId::of_file(&file))?;
+        self.files.push_reserved(id);
+        self.opened += 1;
+        Ok(file)
+    }
+
+    /// Makes the file of a name empty, or new, unless this host opened it before.
+    fn make(&self, name: &str) -> io::Result<Made> {
+        make(&self.rt, name, &self.files)
+    }
+
+    /// Counts an object that came back, and its faults.
+    fn take_back(&mut self, faults: Faults)
+        ensures back { TakesBack faults.count (state_of self.old) (state_of self.new) }
+        ensures world { (state_of self.new).world ≡ (state_of self.old).world }
+    {
+        self.faults.take_in(faults);
+        self.opened = self.opened.saturating_sub(1);
     }
 }
 
@@ -71,9 +112,7 @@ impl Host for RealHost {
     ghost state = { state_of };
 
     fn open_text(&mut self, name: &str) -> Result<RealText<File>, Refused> {
-        self.note(Kind::Text, name)?;
-        let rt = self.rt;
-        let file = self.answer(File::open(&rt, name))?;
+        let file = self.open(Kind::Text, name)?;
         Ok(RealText {
             file,
             faults: Faults::NONE,
@@ -81,13 +120,11 @@ impl Host for RealHost {
     }
 
     fn put_text(&mut self, text: RealText<File>) {
-        self.faults.take_in(text.faults);
+        self.take_back(text.faults);
     }
 
     fn open_file(&mut self, name: &str) -> Result<RealFile<File>, Refused> {
-        self.note(Kind::File, name)?;
-        let rt = self.rt;
-        let file = self.answer(File::open(&rt, name))?;
+        let file = self.open(Kind::File, name)?;
         Ok(RealFile {
             file,
             faults: Faults::NONE,
@@ -95,22 +132,30 @@ impl Host for RealHost {
     }
 
     fn put_file(&mut self, file: RealFile<File>) {
-        self.faults.take_in(file.faults);
+        self.take_back(file.faults);
     }
 
+    /// A file that this host opened before, under whatever name, is refused as a fault, and keeps its bytes.
     fn create(&mut self, name: &str) -> Result<RealDisk<File>, Refused> {
-        self.note(Kind::Out, name)?;
         let rt = self.rt;
-        let file = self.answer(File::create(&rt, name))?;
+        let copy = String::from_str(rt.alloc(), name)?;
+        self.note(Kind::Out, name)?;
+        let made = self.make(name);
+        let made = self.answer(made)?;
+        self.files.push_reserved(made.id);
+        self.opened += 1;
         Ok(RealDisk {
-            file,
+            named: Named { rt, name: copy },
+            file: made.file,
+            is_new: made.is_new,
             end: 0,
+            out: Vec::new(rt.alloc()),
             faults: Faults::NONE,
         })
     }
 
     fn put_disk(&mut self, disk: RealDisk<File>) {
-        self.faults.take_in(disk.faults);
+        self.take_back(disk.faults);
     }
 
     fn print(&mut self, stream: Stream, piece: &[u8]) -> Result<usize, Failed> {

@@ -4,11 +4,13 @@
 ghost use Rattle.std.specs.Prelude.{◌≡◌};
 ghost use Rattle.nt_app.specs.declared.status.Status.TheVariants.{Memory};
 
-mod asked;
 mod disk;
 mod faults;
 mod file;
 mod host;
+mod named;
+mod positioned;
+mod range;
 #[cfg(test)]
 mod tests;
 mod text;

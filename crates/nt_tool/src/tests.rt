@@ -1,24 +1,30 @@
 //! Files that take and give only some bytes at a time, or fail.
 
-ghost use Rattle.std.specs.Prelude.{◌≡◌};
+ghost use Rattle.std.specs.Prelude.{◌≡◌, [], IfOk};
 
 use crate::disk::RealDisk;
 use crate::faults::Faults;
 use crate::file::RealFile;
 use crate::host::RealHost;
+use crate::named::Named;
+use crate::range::{RealExt, RealPen};
 use crate::text::RealText;
-use nt_outside::{Disk, Failed, Host, ReadAt, Refused, Source};
+use nt_outside::{Disk, Ext, Failed, Host, Pen, Range, ReadAt, Refused, Source};
+use std::alloc::AllocError;
 use std::cell::Cell;
-use std::fs::{Metadata, OpenFile};
+use std::fs::{File, Metadata, OpenFile};
 use std::io;
 use std::io::{Error, ErrorKind, Read};
 use std::os::unix::fs::FileExt;
 use std::process::Abort;
+use std::test::Fail;
 
-/// Eight bytes, of which a call takes or gives at most three. After so many calls each fails.
+/// Eight bytes, of which a call takes or gives at most three. The first calls are interrupted by a signal, and after so many
+/// others each fails.
 #[derive(Drop)]
 struct Slow {
     bytes: Cell<[u8; 8]>,
+    interrupted: Cell<u32>,
     calls: Cell<u32>,
 }
 
@@ -26,11 +32,17 @@ impl Slow {
     fn failing_after(calls: u32) -> Self {
         Slow {
             bytes: Cell::new(*b"abcdefgh"),
+            interrupted: Cell::new(0),
             calls: Cell::new(calls),
         }
     }
 
     fn call(&self) -> io::Result<()> {
+        let interrupted = self.interrupted.get();
+        if interrupted > 0 {
+            self.interrupted.set(interrupted - 1);
+            return Err(Error::from(ErrorKind::Interrupted));
+        }
         let left = self.calls.get();
         self.calls.set(left.saturating_sub(1));
         if left == 0 {
@@ -85,14 +97,20 @@ impl OpenFile for Slow {
     }
 }
 
-fn disk(calls: u32) -> RealDisk<Slow>
-    ensures { result.end ≡ 0 }
+/// A disk over such a file, whose name stands in this folder.
+fn new_disk(rt: &HostRuntime, folder: &str, calls: u32) -> Result<RealDisk<Slow>, AllocError>
+    ensures end { IfOk result (λ d. d.end ≡ 0) }
+    ensures out { IfOk result (λ d. d.out.items ≡ []) }
 {
-    RealDisk {
+    let name = format!(in rt.alloc(); "{folder}/out")?;
+    Ok(RealDisk {
+        named: Named { rt: *rt, name },
         file: Slow::failing_after(calls),
+        is_new: true,
         end: 0,
+        out: Vec::new(rt.alloc()),
         faults: Faults::NONE,
-    }
+    })
 }
 
 #[test]
@@ -116,8 +134,10 @@ fn short_reads_go_on_to_the_end(rt: HostRuntime) {
 }
 
 /// An append of five bytes that fails after so many calls, and one of a single byte after it.
-fn append_twice(rt: &impl Abort, calls: u32) -> (u64, [u8; 8]) {
-    let mut disk = disk(calls);
+fn append_twice(rt: &impl Abort, disk: RealDisk<Slow>, calls: u32) -> (u64, [u8; 8])
+    requires { disk.end ≡ 0 }
+{
+    let mut disk = disk;
     assert_eq!(rt; disk.append(b"VWXYZ").is_ok(), calls >= 2, "after {calls}");
     disk.file.calls.set(1);
     assert_eq!(rt; disk.append(b"."), Ok(()), "after {calls}");
@@ -126,24 +146,79 @@ fn append_twice(rt: &impl Abort, calls: u32) -> (u64, [u8; 8]) {
 }
 
 #[test]
-fn a_failed_append_ends_where_its_bytes_end(rt: HostRuntime) {
-    assert_eq!(rt; append_twice(&rt, 0), (1, *b".bcdefgh"));
-    assert_eq!(rt; append_twice(&rt, 1), (4, *b"VWX.efgh"));
-    assert_eq!(rt; append_twice(&rt, 2), (6, *b"VWXYZ.gh"));
+fn a_failed_append_ends_where_its_bytes_end(rt: HostRuntime) -> Result<(), Fail> {
+    assert_eq!(rt;
+        append_twice(&rt, new_disk(&rt, ".", 0)?, 0),
+        (1, *b".bcdefgh")
+    );
+    assert_eq!(rt;
+        append_twice(&rt, new_disk(&rt, ".", 1)?, 1),
+        (4, *b"VWX.efgh")
+    );
+    assert_eq!(rt;
+        append_twice(&rt, new_disk(&rt, ".", 2)?, 2),
+        (6, *b"VWXYZ.gh")
+    );
+    Ok(())
 }
 
 #[test]
-fn a_full_disk_counts_each_failure(rt: HostRuntime) {
-    let mut disk = disk(9);
+fn a_full_disk_counts_each_failure(rt: HostRuntime) -> Result<(), Fail> {
+    let mut disk = new_disk(&rt, ".", 9)?;
     assert_eq!(rt; disk.append(b"abcdefghi"), Err(Failed));
     assert_eq!(rt; (disk.end(), disk.faults()), (8, 1));
-    assert_eq!(rt; disk.write_at(2, b"WXYZ"), Ok(()));
-    assert_eq!(rt; disk.file.bytes.get(), *b"abWXYZgh");
-    assert_eq!(rt; disk.sync(), Ok(()));
+    assert_eq!(rt; disk.file.bytes.get(), *b"abcdefgh");
     disk.file.calls.set(1);
-    assert_eq!(rt; disk.write_at(2, b"0123"), Err(Failed));
+    assert_eq!(rt; disk.sync(), Ok(()));
     assert_eq!(rt; disk.sync(), Err(Failed));
-    assert_eq!(rt; (disk.end(), disk.faults()), (8, 3));
+    assert_eq!(rt; (disk.end(), disk.faults()), (8, 2));
+    Ok(())
+}
+
+#[test]
+fn an_interrupted_append_goes_on(rt: HostRuntime) -> Result<(), Fail> {
+    let mut disk = new_disk(&rt, ".", 2)?;
+    disk.file.interrupted.set(3);
+    assert_eq!(rt; disk.append(b"VWXYZ"), Ok(()));
+    assert_eq!(rt; disk.file.bytes.get(), *b"VWXYZfgh");
+    assert_eq!(rt; (disk.end(), disk.faults()), (5, 0));
+    Ok(())
+}
+
+#[test]
+fn the_folder_of_a_new_file_is_synced_once(rt: HostRuntime) -> Result<(), Fail> {
+    let mut disk = new_disk(&rt, ".", 9)?;
+    assert_eq!(rt; disk.sync(), Ok(()));
+    assert!(rt; !disk.is_new);
+    let mut lost = new_disk(&rt, "no/such/folder", 9)?;
+    assert_eq!(rt; lost.sync(), Err(Failed));
+    assert_eq!(rt; lost.pen().err(), Some(Refused::Failed));
+    lost.is_new = false;
+    assert_eq!(rt; lost.sync(), Ok(()));
+    assert_eq!(rt; lost.faults(), 2);
+    Ok(())
+}
+
+#[test]
+fn a_pen_fills_its_own_file(rt: HostRuntime) {
+    let mut pen = RealPen {
+        file: Slow::failing_after(4),
+        faults: Faults::NONE,
+    };
+    let mut ext = RealExt {
+        range: Range { start: 2, len: 5 },
+        filled: false,
+    };
+    pen.file.interrupted.set(1);
+    assert_eq!(rt; pen.fill(&mut ext, b"VWXYZ"), Ok(()));
+    assert_eq!(rt; (ext.start(), ext.len(), ext.filled()), (2, 5, true));
+    assert_eq!(rt; pen.file.bytes.get(), *b"abVWXYZh");
+    let mut other = RealExt {
+        range: Range { start: 7, len: 2 },
+        filled: false,
+    };
+    assert_eq!(rt; pen.fill(&mut other, b"12"), Err(Failed));
+    assert_eq!(rt; (other.filled(), pen.faults()), (false, 1));
 }
 
 #[test]
@@ -164,4 +239,32 @@ fn a_name_that_is_not_there_is_a_fault(rt: HostRuntime) {
     assert_eq!(rt; host.open_text("no/such").err(), Some(Refused::Failed));
     assert_eq!(rt; host.open_file("no/such").err(), Some(Refused::Failed));
     assert_eq!(rt; host.create("no/such").err(), Some(Refused::Failed));
+}
+
+fn crosses<T: Send>(value: T) -> T {
+    value
+}
+
+fn hosts_cross(host: RealHost) -> RealHost {
+    crosses(host)
+}
+
+fn disks_cross(disk: RealDisk<File>) -> RealDisk<File> {
+    crosses(disk)
+}
+
+fn pens_cross(pen: RealPen<File>) -> RealPen<File> {
+    crosses(pen)
+}
+
+fn extents_cross(ext: RealExt) -> RealExt {
+    crosses(ext)
+}
+
+fn texts_cross(text: RealText<File>) -> RealText<File> {
+    crosses(text)
+}
+
+fn files_cross(file: RealFile<File>) -> RealFile<File> {
+    crosses(file)
 }

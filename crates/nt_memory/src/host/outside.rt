@@ -1,21 +1,21 @@
 //! A host in memory, as the product asks for a host.
 
-ghost use Rattle.std.specs.Prelude.{◌≡◌, ◌<◌, length, if◌then◌else◌, is_ok, IfOk, OnOk, IsNone};
+ghost use Rattle.std.specs.Prelude.{◌≡◌, ◌<◌, length, if◌then◌else◌, is_ok, IfOk, OnOk, IsNone, IsSome};
 
-use super::{Kind, MemHost};
+use super::MemHost;
 use crate::disk::MemDisk;
 use crate::file::MemFile;
 use crate::named::NamedFile;
 use crate::plan::Object;
 use crate::streams::add_unless;
 use crate::text::MemSource;
-use nt_outside::{Failed, Host, Refused, Stream};
+use nt_outside::{Failed, Host, Kind, Refused, Stream};
 
 impl Host for MemHost {
     ghost use Rattle.nt_outside.specs.World.{file, Text as asked_text, File as asked_file, Opens, Creates, IsOpenText, IsOpenFile, IsNewDisk, TakesBack, KeepsDisk, Prints};
     ghost use Rattle.nt_memory.specs.Tally.{new_tally, takes_in, FailsWhereListedOr};
     ghost use Rattle.nt_memory.specs.Streams.{IsRoomy, SpendsRoom, room_on};
-    ghost use Rattle.nt_memory.specs.Host.{state_of, world_of, tally_of, plan_of, room_of_host, listed_of, opens_text, opens_file, PrintsWhereListed};
+    ghost use Rattle.nt_memory.specs.Host.{state_of, world_of, tally_of, plan_of, room_of_host, listed_of, listed_of_pens, opens_text, opens_file, PrintsWhereListed};
     ghost use Rattle.nt_memory.specs.Text as mem_text;
     ghost use Rattle.nt_memory.specs.File as mem_file;
     ghost use Rattle.nt_memory.specs.Disk as mem_disk;
@@ -42,6 +42,7 @@ impl Host for MemHost {
         match self.admit(ask, found) {
             Some(bytes) => {
                 self.plan.texts = self.plan.texts.saturating_add(1);
+                self.opened += 1;
                 Ok(MemSource::new(bytes, fails))
             }
             None => Err(Refused::Failed),
@@ -56,6 +57,7 @@ impl Host for MemHost {
         ensures room { room_of_host self.new ≡ room_of_host self.old }
     {
         self.tally.take_in(text.faults());
+        self.opened = self.opened.saturating_sub(1);
     }
 
     fn open_file(&mut self, name: &str) -> Result<MemFile, Refused>
@@ -72,6 +74,7 @@ impl Host for MemHost {
         match self.admit(ask, found) {
             Some(bytes) => {
                 self.plan.files = self.plan.files.saturating_add(1);
+                self.opened += 1;
                 Ok(MemFile::new(bytes, fails))
             }
             None => Err(Refused::Failed),
@@ -86,13 +89,16 @@ impl Host for MemHost {
         ensures room { room_of_host self.new ≡ room_of_host self.old }
     {
         self.tally.take_in(file.faults());
+        self.opened = self.opened.saturating_sub(1);
     }
 
+    /// While a disk is out, a further one is refused as a fault.
     fn create(&mut self, name: &str) -> Result<MemDisk, Refused>
         ensures creates { Creates name.now (state_of self.old) (state_of self.new) result }
         ensures disk { IfOk result (λ d. IsNewDisk (state_of self.old).world (mem_disk.state_of d)) }
-        ensures exact { FailsWhereListedOr ⊥ (tally_of self.old) (tally_of self.new) result }
+        ensures exact { FailsWhereListedOr (IsSome (world_of self.old).creating) (tally_of self.old) (tally_of self.new) result }
         ensures calls { IfOk result (λ d. mem_disk.tally_of d ≡ new_tally (listed_of self.old Object.Disk)) }
+        ensures pens { IfOk result (λ d. mem_disk.pens_of d ≡ listed_of_pens self.old) }
         ensures plan { plan_of self.new ≡ plan_of self.old }
         ensures room { OnOk result (IsRoomy (room_of_host self.new)) }
     {
@@ -100,13 +106,20 @@ impl Host for MemHost {
         let creating = String::from_str(self.alloc, name)?;
         let created = String::from_str(self.alloc, name)?;
         let fails = self.calls_of(Object::Disk)?;
+        let pens = self.calls_of_pens()?;
         self.files.reserve(1)?;
         self.created.reserve(1)?;
-        match self.admit(ask, Some(creating)) {
+        let found = if self.creating.is_none() {
+            Some(creating)
+        } else {
+            None
+        };
+        match self.admit(ask, found) {
             Some(creating) => {
                 self.created.push_reserved(created);
                 self.creating = Some(creating);
-                Ok(MemDisk::new(self.alloc, fails))
+                self.opened += 1;
+                Ok(MemDisk::new(self.alloc, fails, pens))
             }
             None => Err(Refused::Failed),
         }
@@ -121,6 +134,7 @@ impl Host for MemHost {
     {
         let (bytes, log, faults) = disk.into_parts();
         self.tally.take_in(faults);
+        self.opened = self.opened.saturating_sub(1);
         let Some(name) = self.creating.take() else {
             return;
         };

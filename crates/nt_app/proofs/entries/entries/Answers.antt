@@ -14,6 +14,7 @@ returns-in-Ok g c = record {
   later = omega (arith, c.read_file.ensures.cause.later, c.list.ensures.later);
   failed = λ outside. omega (arith, c.read_file.ensures.cause.later, c.list.ensures.failed outside);
   err_faults = c.list.ensures.err_faults ∙ c.read_file.ensures.err_faults;
+  opened = c.list.ensures.opened ∙ c.read_file.ensures.opened;
 }
 
 pub returns-in-Err : goal.returns-in-Err
@@ -23,4 +24,5 @@ returns-in-Err g c = record {
   later = omega (arith, c.read_file.ensures.cause.later);
   failed = λ outside. c.in-Err.ensures.cause.failed (outside_of_refusal _ c.in-Err.refused _ c.status_of_refusal.ensures outside);
   err_faults = c.read_file.ensures.err_faults;
+  opened = c.read_file.ensures.opened;
 }

@@ -11,6 +11,7 @@ returns-in-Ok-write_out g c = record {
   later = omega (arith, c.check_schema.ensures.cause.later, c.write_out.ensures.cause.later);
   failed = λ outside. absurd (cc);
   err_faults = c.write_out.ensures.err_faults ∙ c.check_schema.ensures.err_faults;
+  opened = c.write_out.ensures.opened ∙ c.check_schema.ensures.opened;
 }
 
 pub returns-in-Err-write_out : goal.returns-in-Err-write_out
@@ -24,6 +25,7 @@ returns-in-Err-write_out g c = record {
       let rose = c.in-Err-write_out.ensures.cause.failed (outside_of _ _ c.in-Err-write_out.stop _ c.status.ensures outside) in
       omega (arith, rose, c.check_schema.ensures.cause.later);
   err_faults = c.write_out.ensures.err_faults ∙ c.check_schema.ensures.err_faults;
+  opened = c.write_out.ensures.opened ∙ c.check_schema.ensures.opened;
 }
 
 pub returns-in-Err : goal.returns-in-Err
@@ -33,4 +35,5 @@ returns-in-Err g c = record {
   later = omega (arith, c.check_schema.ensures.cause.later);
   failed = λ outside. c.in-Err.ensures.cause.failed (outside_of _ _ c.in-Err.stop _ c.status-in-Err.ensures outside);
   err_faults = c.check_schema.ensures.err_faults;
+  opened = c.check_schema.ensures.opened;
 }

@@ -1,5 +1,5 @@
 use Rattle.std.proofs.Common.{◌∙◌, sym, subst, ℕ, List}
-use Rattle.nt_outside.specs.Disk.{nothing_held}
+use Rattle.nt_outside.specs.Held.{nothing_held}
 use Rattle.nt_app.specs.Events.{IsEventText}
 use Rattle.nt_app.proofs.Ends.{file_told}
 use Rattle.nt_app.proofs.write.write_file.Goals as goal

@@ -1,5 +1,5 @@
 use Rattle.std.proofs.Common.{◌∙◌, ap, inl, refl, ℕ, List, ◌++◌, Some}
-use Rattle.nt_outside.specs.Disk.{Held, nothing_held}
+use Rattle.nt_outside.specs.Held.{Held, nothing_held}
 use Rattle.nt_app.specs.Writing.{blank}
 use Rattle.nt_app.proofs.Images.{blank-begins, unfinished_append}
 use Rattle.nt_app.proofs.writing.begin.Goals as goal

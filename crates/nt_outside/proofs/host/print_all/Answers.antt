@@ -17,6 +17,7 @@ returns-in_err-at g c =
       asked = c.print.ensures.asked ∙ c.loop-at.invariant.asked;
       cause = record { later = omega (arith, c.loop-at.invariant.later, failed.cause.later); failed = omega (arith, c.loop-at.invariant.later, failed.cause.failed) };
       other = c.print.ensures.other ∙ c.loop-at.invariant.other;
+      opened = c.print.ensures.opened ∙ c.loop-at.invariant.opened;
     })
 
 pub loop-at-preserved : goal.loop-at-preserved
@@ -26,6 +27,7 @@ loop-at-preserved g c = record {
   asked = c.print.ensures.asked ∙ c.loop-at.invariant.asked;
   later = omega (arith, c.loop-at.invariant.later, c.print.ensures.cause.later);
   other = c.print.ensures.other ∙ c.loop-at.invariant.other;
+  opened = c.print.ensures.opened ∙ c.loop-at.invariant.opened;
 }
 
 pub returns : goal.returns
@@ -38,4 +40,5 @@ returns g c =
       asked = c.loop-at.invariant.asked;
       cause = search rules;
       other = c.loop-at.invariant.other;
+      opened = c.loop-at.invariant.opened;
     }

@@ -10,6 +10,7 @@ pub record Printed (stream : Stream) (before now : HostState) (at : ℕ) (bytes 
   pub asked : now.asked ≡ before.asked
   pub later : counted stream before ≤ counted stream now
   pub other : uncounted stream now ≡ uncounted stream before
+  pub opened : now.opened ≡ before.opened
 
 abbrev pub invariant-loop-at : goal.invariant-loop-at
 invariant-loop-at g l =

@@ -1,0 +1,55 @@
+//! Bytes that are added to a list or put over others in it, in the memory that there is.
+
+ghost use Rattle.std.specs.Prelude.{◌≡◌, ◌+◌, ◌≤◌, ◌++◌, length, vec_len, vec_capacity, OnOk};
+ghost use Rattle.nt_outside.specs.Log.{put_at};
+ghost use Rattle.nt_memory.specs.Grown.{IsGrown};
+
+use std::alloc::AllocError;
+
+/// Adds bytes for which there is room.
+pub fn add_reserved(list: &mut Vec<u8>, bytes: &[u8])
+    requires { vec_len list.old + length bytes.now ≤ vec_capacity list.old }
+    ensures items { list.new.items ≡ list.old.items ++ bytes.now }
+    ensures len { vec_len list.new ≡ vec_len list.old + length bytes.now }
+    ensures capacity { vec_capacity list.old ≤ vec_capacity list.new }
+{
+    match list.extend_from_slice(bytes) {
+        Ok(()) => {}
+        Err(_) => unreachable!(),
+    }
+}
+
+/// Takes the memory of so many more bytes than there is memory for.
+pub fn grow_room(list: &mut Vec<u8>, more: usize) -> Result<(), AllocError>
+    ensures items { list.new.items ≡ list.old.items }
+    ensures len { vec_len list.new ≡ vec_len list.old }
+    ensures capacity { OnOk result (vec_capacity list.old + more ≤ vec_capacity list.new) }
+    ensures least { vec_capacity list.old ≤ vec_capacity list.new }
+{
+    let Some(room) = (list.capacity() - list.len()).checked_add(more) else {
+        return Err(AllocError);
+    };
+    list.reserve(room)
+}
+
+/// Adds zeros for which there is room.
+pub fn add_zeros(list: &mut Vec<u8>, count: usize)
+    requires { vec_len list.old + count ≤ vec_capacity list.old }
+    ensures items { IsGrown count list.old.items list.new.items }
+    ensures len { vec_len list.new ≡ vec_len list.old + count }
+    ensures capacity { vec_capacity list.new ≡ vec_capacity list.old }
+{
+    for _ in 0..count {
+        list.push_reserved(0);
+    }
+}
+
+/// Puts bytes over those at a place.
+pub fn put_over(list: &mut Vec<u8>, at: usize, bytes: &[u8])
+    requires { at + length bytes.now ≤ vec_len list.old }
+    ensures items { list.new.items ≡ put_at list.old.items at bytes.now }
+    ensures len { vec_len list.new ≡ vec_len list.old }
+    ensures capacity { vec_capacity list.new ≡ vec_capacity list.old }
+{
+    list[at..at + bytes.len()].copy_from_slice(bytes);
+}
