@@ -1,6 +1,6 @@
 //! The laws of the container's parts, and of files that are made of them.
 
-ghost use Rattle.nt_container.specs.Laws.{AnchorsAreEmbedded, MiddlesAreFound, BlobsAreFound, PartLengths, BeginIsGated, WordsAreRead, UnfinishedIsFirst, FinishedIsRead, };
+ghost use Rattle.nt_container.specs.Laws.{AnchorsAreEmbedded, MiddlesAreFound, BlobsAreFound, PartLengths, BeginIsGated, WordsAreRead, UnfinishedIsFirst, FinishedIsRead};
 
 /// A file is read as an anchor exactly where it embeds that anchor.
 pub fn anchors_are_embedded()

@@ -10,8 +10,8 @@ ghost use Rattle.nt_event.specs.Limits.{max_line};
 ghost use Rattle.nt_event.specs.Depth.{AreShallow};
 
 use crate::fault::{TextError, TextKind};
-use crate::values::each_member;
 use crate::scan::read_compact;
+use crate::values::each_member;
 use nt_types::{Fields, Trees};
 use serde_json::{Category, Value};
 use std::alloc::{AllocError, Global};
