@@ -1,5 +1,12 @@
 //! The commands of the program over any host: `write` makes an RNTuple file of a schema and of event lines, and `entries` prints
 //! the events of a file again. All that is promised of the program is said of the one call `run`.
+//!
+//! Start at `program.rt`. `words.rt` reads the words, `write.rt` and `entries.rt` are the commands, `writing.rt` the steps of a file
+//! that grows, `status.rt` and `message.rt` the answers and their lines. The folder `format` has the bytes of the file of one field;
+//! it is scaffold, which goes once the container, the page lists and the reader carry the program: don't polish it.
+//!
+//! Proved: all that `docs/PROOFS.md` lists of the program, as clauses of `run`. Tested, over memory in nt_rows: whole files, each
+//! answer with its line, and each call of the outside failing in turn.
 #![tactic(auto)]
 
 mod entries;

@@ -15,6 +15,14 @@
 //! answers elements, tags and texts (`Columns`), a text of 8 bits without a copy (`lent`).
 //!
 //! Only tested: pages against tables that were made outside, and a set handed to another thread.
+//!
+//! Choices that bind nobody else:
+//! - A buffer keeps elements in a vector of their width: bytes for types of 8 bits, single truth values, words of 16, 32 and 64
+//!   bits; a Switch in one of indices and one of tags. Most columns are narrow, and bytes and 64-bit words are coded as they lie.
+//! - Narrow words are coded through a page of 64-bit words that the caller lends and uses again: a page is copied once.
+//! - The text of a column that hasn't 8 bits is the low bytes of its elements, as a copy: the call has an answer for each column,
+//!   and needs no condition on types. A text is lent where the column has 8 bits and keeps its elements.
+//! - A column that isn't in a set has no elements: `len` has an answer for each number.
 #![tactic(auto)]
 
 mod buffer;

@@ -15,6 +15,13 @@
 //! `switches_are_spelled`).
 //!
 //! Only tested: that the definitions are the standard's, by pages that were made outside.
+//!
+//! Choices that bind nobody else:
+//! - A split page is read an element at a time, whose bytes lie apart, with nothing kept between elements. It is written by blocks
+//!   of 32 elements, whose words are made once and then put into all planes: making them anew for each plane took up to 1.7 times
+//!   as long.
+//! - The benchmark compares with one plain loop in C over the elements, in a build that keeps it as it is and in one that
+//!   vectorises it: it is what a C programmer would write.
 #![tactic(auto)]
 
 mod bits;

@@ -1,4 +1,5 @@
-//! The codings of pages as C functions, which the benchmark calls.
+//! The codings of pages as C functions, which the benchmark `bench/encode.sh` calls. Proved: a page is `page_bytes` of the values that
+//! it is given, values are `page_values` of the bytes, for the type of a code.
 #![tactic(auto)]
 
 ghost use Rattle.std.specs.Prelude.{◌≡◌, ◌≢◌, length};

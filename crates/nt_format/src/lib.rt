@@ -10,6 +10,9 @@
 //!
 //! Proved: the contract of each function of `laws`, whose bodies are empty. That the definitions
 //! are the standard's is tested by the crates above, on bytes from outside.
+//!
+//! Choices that bind nobody else: the errors have the messages that `thiserror` derives, and no clause and no line of the program
+//! rests on them; an envelope that is too short is a wrong size, as no size fits it.
 #![tactic(auto)]
 
 mod fault;

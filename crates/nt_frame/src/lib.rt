@@ -15,6 +15,9 @@
 //! each with its size, and a call without memory changes nothing (`FrameOut`: `ok`, `err`).
 //!
 //! Only tested: an envelope whose checksum was made outside.
+//!
+//! A choice that binds nobody else: frames inside frames are written with a mark for each frame that is begun, whose size is filled
+//! in at its end, so that no frame is copied into the one around it.
 #![tactic(auto)]
 
 mod envelope;

@@ -15,6 +15,12 @@
 //! (`pages_lie_where_said`).
 //!
 //! Only tested: that no more memory is taken than that; images against tables made outside.
+//!
+//! Choices that bind nobody else:
+//! - An image is too large where its size is no number of 64 bits, or memory refuses it; both are want of memory. It is reserved
+//!   at once, and its size is computed before.
+//! - Zeros that are kept as their count are written as pages like any others: an image is that of the elements, however they are
+//!   kept.
 #![tactic(auto)]
 
 mod building;

@@ -14,6 +14,19 @@
 //! fault included, reads back what was written whatever follows, and adds only rows in range;
 //! `find` and `shape` are the first field of a name and the shape of an open field. Only tested:
 //! vectors of bytes from outside, and that each allocation may fail.
+//!
+//! Choices that bind nobody else:
+//! - A schema is judged when it is put together, always from all its rows (`Schema::of_rows`), so that its names and shapes belong
+//!   to its rows at every moment; a reader that fails leaves a schema of no rows. Judging visits each field once, with the list of
+//!   those inside it and of its columns, at most 64 levels deep: a hostile description costs no more than its size.
+//! - Names are found in a map in their order (`BTreeMap`); of equal names the first is kept. A hash map such as `indexmap` was
+//!   tried first: without a source of chance its seed is fixed, and a file whose names were chosen to collide would cost the
+//!   square of its size.
+//! - Nothing is reserved for a list that says how many items it has: a count that the bytes don't keep costs nothing.
+//! - A description of more than 2^32 - 1 rows is want of memory: ids have 32 bits, and so many rows don't fit a machine that reads
+//!   them.
+//! - Laws stand in the code that rests on them, as calls of empty functions at the head of `read_description`: its clauses speak
+//!   of spellings, whose laws are contracts of other functions.
 #![tactic(auto)]
 
 mod by_name;

@@ -1,4 +1,18 @@
 //! The program `ntuple`: the commands over the files and streams of the system.
+//!
+//! Start at `main.rt`, which makes the host of `host.rt`, calls `nt_app::run` and ends with the code of its answer; the adapters are a
+//! file each.
+//!
+//! Proved: counts of faults, lists of names, the length of a disk and its ranges, as the traits of nt_outside ask; nothing of what a
+//! file or a stream holds. Only tested: the adapters over files that take or give few bytes, are interrupted or fail; the built
+//! program by `.ci/checks/program.sh`, that OUT is never a file that was read among it.
+//!
+//! Choices that bind nobody else:
+//! - `room` of a real disk takes no memory: the system has what a write takes.
+//! - After a failed append a real disk goes on at the length that it keeps itself, behind the bytes that were written: the
+//!   contract allows any number of unknown bytes up to those that were asked for.
+//! - Where the system has no memory to open a file the answer is `Memory`, and no fault is counted.
+//! - A stream that takes nothing of a piece counts as a fault: else printing might not end.
 #![tactic(auto)]
 
 ghost use Rattle.std.specs.Prelude.{◌≡◌};

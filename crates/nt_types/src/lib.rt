@@ -17,6 +17,11 @@
 //! reading of lines is that (`texts_are_read`).
 //!
 //! Only tested: that the table is the standard's, by values typed from it.
+//!
+//! Choices that bind nobody else:
+//! - A nested type is read with a stack of what is begun, so that no text makes the reader recurse.
+//! - The fields of a schema are counted up to 4097, where the count stands still: one more than the limit is all that is asked.
+//! - Too deep is only a type that is well formed, so the rest of a type below the limit is read without keeping its parts.
 #![tactic(auto)]
 
 mod column_type;

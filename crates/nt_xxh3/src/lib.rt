@@ -14,6 +14,9 @@
 //! (`secret_is_published`). No call takes memory.
 //!
 //! Only tested: that the definition is XXH3, by sums of the reference implementation.
+//!
+//! A choice that binds nobody else: the sum in pieces keeps the last 64 bytes in a window that begins with a stripe of zeros before
+//! the input, so that one equation says at every moment what it keeps.
 #![tactic(auto)]
 
 mod constants;
