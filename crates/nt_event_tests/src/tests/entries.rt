@@ -101,17 +101,19 @@ fn printed(alloc: Global, schema: &str, line: &[u8]) -> Result<Vec<u8>, TextErro
     }
 }
 
+/// Whether a text is this line and its LF.
+fn is_line(text: &[u8], line: &str) -> bool {
+    match text.split_last() {
+        Some((last, front)) => *last == b'\n' && front == line.as_bytes(),
+        None => false,
+    }
+}
+
 #[test]
 fn lines_have_entries(rt: HostRuntime) -> Result<(), Fail> {
     for (schema, line, expected) in READ {
         match printed(rt.alloc(), schema, line.as_bytes()) {
-            Ok(text) => {
-                let text = text.as_slice();
-                assert!(rt;
-                    text.len() == expected.len() + 1 && text.starts_with(expected.as_bytes()),
-                    "{line}"
-                );
-            }
+            Ok(text) => assert!(rt; is_line(text.as_slice(), expected), "{line}"),
             Err(error) => assert!(rt; false, "{line}: {error:?}"),
         }
     }
