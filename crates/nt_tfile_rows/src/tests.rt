@@ -1,6 +1,7 @@
-//! Each fault of a container by its code, place and two values, at files that differ from a sound one in a few bytes.
+//! Each fault of a container by its code, place and two values, at files that differ from a sound
+//! one in a few bytes.
 
-use crate::containers::{ANCHOR, FREE_LIST, FRONT, KEY_LIST, NARROW};
+use crate::containers::{ANCHOR, FREE_LIST, FRONT, KEY_LIST, NARROW_BACK, NARROW_FRONT};
 use nt_bytes::Bytes;
 use nt_container::Anchor;
 use nt_memory::{Calls, MemFile};
@@ -8,7 +9,8 @@ use nt_tfile::{ReadFailure, read_tfile};
 use std::alloc::{AllocError, Global};
 use std::test::Fail;
 
-const SOUND: Anchor = Anchor {
+/// What a sound file is read as.
+pub const SOUND: Anchor = Anchor {
     header: 268,
     header_size: 177,
     header_len: 177,
@@ -61,7 +63,7 @@ fn a_file_that_is_cut_is_no_file(rt: HostRuntime) -> Result<(), Fail> {
 
 /// Bytes that are changed at their places, and the fault's code, place and values.
 const ROWS: [(&[(usize, u8)], (u8, u64, u64, u64)); 18] = [
-    // another epoch
+    // epoch 0, with the checksum that belongs to it
     (
         &[
             (882, 0),
@@ -76,42 +78,42 @@ const ROWS: [(&[(usize, u8)], (u8, u64, u64, u64)); 18] = [
         ],
         (8, 819, 1, 0),
     ),
-    // not root
+    // another last letter of the mark `root`
     (&[(3, 5)], (2, 0, 0, 0)),
-    // another first byte
+    // another first byte than 0 and `r`
     (&[(0, 5)], (2, 0, 0, 0)),
-    // finished not
+    // unfinished
     (&[(0, 0)], (1, 0, 0, 0)),
-    // an end behind the file
+    // fEND behind the file
     (&[(19, 114)], (3, 12, 1138, 1137)),
-    // directory outside
+    // the directory outside of the file
     (&[(37, 9)], (4, 589990, 0, 0)),
-    // list outside
+    // the list of keys outside of the file
     (&[(178, 9)], (5, 953, 0, 0)),
-    // list too short for its key
+    // a list shorter than its own key
     (&[(176, 0), (177, 0), (178, 0), (179, 52)], (5, 953, 0, 0)),
-    // list ends in its key
+    // a list that ends in the anchor's key
     (&[(179, 112)], (5, 1010, 0, 0)),
     // one key more than there are
     (&[(1009, 2)], (5, 1066, 0, 0)),
-    // count of 2^32-1
+    // a count of 2^32-1
     (
         &[(1006, 255), (1007, 255), (1008, 255), (1009, 255)],
         (5, 1066, 0, 0),
     ),
-    // no class
+    // another class
     (&[(1045, 83)], (6, 953, 0, 0)),
     // ObjLen 77
     (&[(1019, 77), (1013, 133)], (7, 819, 78, 77)),
     // compressed
     (&[(1013, 135)], (9, 819, 78, 79)),
-    // compressed negative
+    // Nbytes below KeyLen
     (&[(1013, 16)], (9, 819, 78, 0)),
-    // outside
+    // an anchor outside of the file
     (&[(1028, 9)], (10, 648518346341352243, 0, 0)),
-    // just outside
+    // an anchor that ends behind the file
     (&[(1034, 3), (1035, 236)], (10, 1004, 0, 0)),
-    // checksum
+    // a bent checksum
     (
         &[(952, 214)],
         (7, 819, 8618449676090684374, 8618449676090684375),
@@ -136,9 +138,14 @@ fn each_fault_has_its_place_and_values(rt: HostRuntime) -> Result<(), Fail> {
 #[test]
 fn a_foreign_file_with_places_of_4_bytes_is_read(rt: HostRuntime) -> Result<(), Fail> {
     let alloc = rt.alloc();
-    assert_eq!(rt; answer(alloc, &NARROW, &[])?, Ok(SOUND));
-    assert_eq!(rt; answer(alloc, &NARROW[..62], &[])?, Err((3, 0, 0, 0)));
-    assert_eq!(rt; answer(alloc, &NARROW[..63], &[])?, Err((3, 12, 935, 63)));
+    let mut file = NARROW_FRONT.to_vec(alloc)?;
+    file.resize(771, b'x')?;
+    file.extend_from_slice(&NARROW_BACK)?;
+    assert_eq!(rt; answer(alloc, &file, &[])?, Ok(SOUND));
+    file.truncate(63);
+    assert_eq!(rt; answer(alloc, &file, &[])?, Err((3, 12, 935, 63)));
+    file.truncate(62);
+    assert_eq!(rt; answer(alloc, &file, &[])?, Err((3, 0, 0, 0)));
     Ok(())
 }
 
