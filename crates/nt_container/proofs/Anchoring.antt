@@ -1,19 +1,19 @@
 -- An anchor's object is read as the anchor that its text stands for.
-use Rattle.std.proofs.Common.{◌≡◌, ℕ, ◌+◌, ◌≤◌, true, eqb, List, [], ◌∷◌, ◌++◌, length, Result, Ok, Err, refl, sym, ap, subst, ◌∙◌, append_assoc, arith}
+use Rattle.std.proofs.Common.{◌≡◌, ℕ, ◌+◌, eqb, List, [], ◌∷◌, ◌++◌, length, Ok, refl, sym, ap, subst, ◌∙◌, arith}
 use Rattle.std.proofs.lemmas.Bool.{eqb-true}
 use Rattle.std.proofs.lemmas.List.{length-append, append-nil}
 use Rattle.std.specs.List.{concat}
 use Rattle.std.specs.Int.{w16, w64, to_be_bytes}
 use Rattle.nt_num.specs.Place.{At}
 use Rattle.nt_xxh3.specs.Sum.{xxh3}
-use Rattle.nt_format.specs.Reading.{ReadsAs, standing, IsBytes}
+use Rattle.nt_format.specs.Reading.{standing, IsBytes}
 use Rattle.nt_format.specs.Grammars.{Bytes}
 use Rattle.nt_format.specs.Relations.{Agrees, With, Is, Passes, Stands, IsPart}
 use Rattle.nt_format.proofs.Sum.{xxh3_below}
 use Rattle.nt_format.proofs.Grammars.{plain}
 use Rattle.nt_format.proofs.Relations.{bind, exactly, refused, test, at, whole}
 use Rattle.nt_container.specs.declared.anchor.Anchor.{Anchor}
-use Rattle.nt_container.specs.Anchors.{fields_of, envelopes_at, anchor_in, anchor_from}
+use Rattle.nt_container.specs.Anchors.{fields_of, anchor_in, anchor_from}
 use Rattle.nt_container.specs.Texts.{Word16, Word64, EnvelopesText}
 use Rattle.nt_container.specs.Embeds.{AnchorText}
 use Rattle.nt_container.proofs.Words.{word_16, word_64, plain_bytes}

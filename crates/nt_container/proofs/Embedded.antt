@@ -1,5 +1,5 @@
 -- A file is read as the anchor that it embeds, and no other.
-use Rattle.std.proofs.Common.{◌≡◌, ℕ, ◌+◌, leb, eqb, List, length, Some, Result, Ok, refl, sym, ap, subst, ◌∙◌}
+use Rattle.std.proofs.Common.{◌≡◌, ℕ, ◌+◌, eqb, List, length, Some, refl}
 use Rattle.std.proofs.lemmas.Bool.{eqb-true, eq-eqb}
 use Rattle.nt_num.specs.Place.{At}
 use Rattle.nt_format.specs.Reading.{standing, IsBytes}
@@ -10,7 +10,7 @@ use Rattle.nt_format.proofs.Relations.{bind, test, part, piece_bytes, in_words}
 use Rattle.nt_container.specs.declared.anchor.Anchor.{Anchor}
 use Rattle.nt_container.specs.declared.parts.Key.{Key}
 use Rattle.nt_container.specs.FileHeader.{directory_place}
-use Rattle.nt_container.specs.Anchors.{is_plain, object_of, anchor_from, anchor_of}
+use Rattle.nt_container.specs.Anchors.{is_plain, object_of, anchor_of}
 use Rattle.nt_container.specs.Texts.{DirectoryText}
 use Rattle.nt_container.specs.Embeds.{Lists, AnchorText, Embeds}
 use Rattle.nt_container.proofs.Embedding.{IsHeader, header, directory}

@@ -1,25 +1,19 @@
 -- A file is read as the anchor that it embeds, and no other.
-use Rattle.std.proofs.Common.{◌≡◌, ℕ, zero, suc, ◌+◌, ◌<◌, ◌≤◌, ◌^◌, Bool, true, false, ◌&&◌, ◌||◌, cond, leb, ltb, eqb, List, [], ◌∷◌, ◌++◌, length, take, drop, get_or, codes, Option, Some, None, Result, Ok, Err, refl, sym, ap, subst, ◌∙◌, append_assoc, arith}
-use Rattle.std.proofs.lemmas.Bool.{leb-true, le-leb, eqb-true, eq-eqb, ltb-false, le-ltb}
-use Rattle.std.proofs.lemmas.List.{length-append, length-take, length-drop, take-append-drop, take-take, append-nil}
-use Rattle.std.specs.Int.{w16, w32, w64, to_be_bytes}
+use Rattle.std.proofs.Common.{◌≡◌, ℕ, ◌≤◌, Bool, true, false, ◌&&◌, ◌||◌, leb, ltb, eqb, List, ◌++◌, length, take, drop, get_or, codes, Ok, refl, sym, ap, subst, ◌∙◌, arith}
+use Rattle.std.proofs.lemmas.Bool.{leb-true, le-leb, le-ltb}
+use Rattle.std.proofs.lemmas.List.{length-append, length-take, take-append-drop, take-take}
 use Rattle.std.specs.Str.{bytes_eq}
 use Rattle.std.proofs.lemmas.Slice.Eq.{bytes_eq-Decides}
-use Rattle.nt_num.specs.Place.{At}
-use Rattle.nt_num.specs.Cursor.{big}
-use Rattle.nt_num.specs.declared.fault.ReadError.{ReadError}
-use Rattle.nt_xxh3.specs.Sum.{xxh3}
-use Rattle.nt_format.specs.Reading.{standing, IsBytes}
-use Rattle.nt_format.specs.Pieces.{piece, window}
-use Rattle.nt_format.specs.Demands.{demand, first_in}
-use Rattle.nt_format.specs.Relations.{Agrees, With, Is, Passes, Stands, StandsAt}
-use Rattle.nt_format.proofs.Steps.{IsBytes-drop}
-use Rattle.nt_lists.proofs.Chaining.{guard_ok, guard_passed, bind_ok}
-use Rattle.nt_format.proofs.Relations.{bind, exactly, refused, test, there, part, piece_bytes, at, whole, located, window-bytes, stands_from, stands_to, in_words}
+use Rattle.nt_format.specs.Reading.{IsBytes}
+use Rattle.nt_format.specs.Pieces.{window}
+use Rattle.nt_format.specs.Demands.{demand}
+use Rattle.nt_format.specs.Relations.{Agrees, With, Is, Passes, StandsAt}
+use Rattle.nt_lists.proofs.Chaining.{guard_ok, guard_passed}
+use Rattle.nt_format.proofs.Relations.{bind, exactly, test, located}
 use Rattle.nt_container.specs.declared.parts.FileHeader.{FileHeader}
 use Rattle.nt_num.specs.Codes.{unfinished, not_root, bad_file_header}
 use Rattle.nt_num.specs.Faults.{fault}
-use Rattle.nt_container.specs.FileHeader.{begins_root, gate_of, header_at, header_in, header_of, directory_at, directory_of}
+use Rattle.nt_container.specs.FileHeader.{begins_root, gate_of, header_in, header_of, directory_of}
 use Rattle.nt_container.specs.Texts.{HeaderText, DirectoryText}
 use Rattle.nt_container.proofs.Texts.{header_text, header-short, directory_text, directory-short}
 

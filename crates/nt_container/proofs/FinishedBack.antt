@@ -17,10 +17,10 @@ use Rattle.nt_container.specs.Words.{place_at}
 use Rattle.nt_container.specs.FileHeader.{gate_of, header_at, header_in, header_of, directory_numbers_at, directory_at, directory_place, directory_in, directory_of}
 use Rattle.nt_container.specs.Keys.{anchor_class, key_at, anchor_key_in, anchor_key_of}
 use Rattle.nt_container.specs.Anchors.{is_plain, object_of, anchor_from, anchor_of}
-use Rattle.nt_container.specs.Spelling.{zero_uuid, header_numbers, header_words, header_part, directory_numbers, directory_words, record_names, record_part, file_key, anchor_key, anchor_object, anchor_fields, anchor_part, key_list_part, free_list_part}
+use Rattle.nt_container.specs.Spelling.{zero_uuid, header_numbers, header_words, header_part, directory_numbers, directory_words, record_names, record_part, file_key, anchor_key, anchor_object, anchor_part, key_list_part, free_list_part}
 use Rattle.nt_container.specs.Finished.{anchor_place, keys_place, free_place, end_place, parts_behind, finished_file, IsAnchor}
 use Rattle.nt_format.proofs.Pieces.{piece_at, piece_window, split_at, length-concat, part_from, concat-append}
-use Rattle.nt_format.proofs.Chains.{spread, spread-is, total, of_parts, alone}
+use Rattle.nt_format.proofs.Chains.{spread, total, of_parts, alone}
 use Rattle.nt_container.proofs.Words.{word_16, word_32, wide_place, plain_bytes}
 use Rattle.nt_container.proofs.HeaderBack.{header_reads}
 use Rattle.nt_container.proofs.KeysBack.{key_of, anchor_key_reads, file_key_reads}

@@ -6,7 +6,7 @@ use Rattle.nt_xxh3.specs.Sum.{xxh3}
 use Rattle.nt_container.specs.declared.anchor.Anchor.{Anchor}
 use Rattle.nt_container.specs.Words.{short_tstring}
 use Rattle.nt_container.specs.Keys.{anchor_class}
-use Rattle.nt_container.specs.Spelling.{zero_uuid, header_rest, header_numbers, header_words, header_part, key_header_len, key_sizes, key_names, key_header, file_key, directory_numbers, directory_words, record_names, record_part, blob_key, anchor_key, anchor_fields, anchor_object, anchor_part, last_free, key_list_part, free_list_part}
+use Rattle.nt_container.specs.Spelling.{zero_uuid, header_rest, header_numbers, header_words, header_part, key_header_len, key_sizes, key_names, key_header, file_key, directory_numbers, directory_words, record_names, record_part, blob_key, anchor_key, anchor_fields, anchor_object, anchor_part, last_free, key_list_part, free_piece, free_list_part}
 use Rattle.nt_format.proofs.Pieces.{length-concat}
 use Rattle.nt_container.proofs.AnchorBack.{fields-len}
 
@@ -74,7 +74,11 @@ pub key_list-len : (at anchor_at : ℕ) → length (key_list_part at anchor_at) 
 unfolding key_list_part
 key_list-len at anchor_at = length-concat (file_key 60 at 100 ∷ to_be_bytes w32 1 ∷ anchor_key anchor_at ∷ []) ∙ omega (arith, file_key-len 60 at 100, anchor_key-len anchor_at)
 
+free_piece-len : (first last : ℕ) → length (free_piece first last) ≡ 18
+unfolding free_piece
+free_piece-len first last = refl
+
 pub free_list-len : (at end : ℕ) → length (free_list_part at end) ≡ 71
 unfolding free_list_part
 free_list-len at end =
-    length-concat (file_key 18 at 100 ∷ to_be_bytes w16 1001 ∷ to_be_bytes w64 end ∷ to_be_bytes w64 (last_free end) ∷ []) ∙ omega (arith, file_key-len 18 at 100)
+    omega (arith, length-append (file_key 18 at 100) (free_piece end (last_free end)), file_key-len 18 at 100, free_piece-len end (last_free end))

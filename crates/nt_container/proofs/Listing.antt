@@ -1,7 +1,7 @@
 -- The anchor's key is read from the list of keys that lists it.
-use Rattle.std.proofs.Common.{◌≡◌, ℕ, zero, suc, ◌+◌, ◌≤◌, Bool, true, false, cond, ltb, List, [], ◌∷◌, ◌++◌, length, take, drop, Option, Some, None, Result, Ok, Err, refl, sym, ap, subst, ◌∙◌, arith}
+use Rattle.std.proofs.Common.{◌≡◌, ℕ, zero, suc, ◌+◌, ◌≤◌, Bool, true, false, cond, ltb, List, [], ◌∷◌, length, take, drop, Option, Some, None, Result, Ok, refl, sym, ap, ◌∙◌, arith}
 use Rattle.std.proofs.lemmas.Bool.{le-ltb}
-use Rattle.std.proofs.lemmas.List.{length-append, length-take, length-drop}
+use Rattle.std.proofs.lemmas.List.{length-take, length-drop}
 use Rattle.std.specs.Int.{w32}
 use Rattle.std.specs.Str.{bytes_eq}
 use Rattle.nt_num.specs.Place.{At}
@@ -9,21 +9,20 @@ use Rattle.nt_num.specs.Cursor.{big}
 use Rattle.nt_num.specs.declared.fault.ReadError.{ReadError}
 use Rattle.nt_format.specs.Reading.{standing, IsBytes}
 use Rattle.nt_lists.specs.Chaining.{◌>>=◌, refused_as}
-use Rattle.nt_format.specs.Pieces.{piece}
 use Rattle.nt_format.specs.Demands.{bytes_at}
-use Rattle.nt_format.specs.Grammars.{IsRead, Bytes}
-use Rattle.nt_format.specs.Relations.{Agrees, With, Stands, StandsAt, IsPiece, IsThere}
+use Rattle.nt_format.specs.Grammars.{IsRead}
+use Rattle.nt_format.specs.Relations.{Agrees}
 use Rattle.nt_format.proofs.Steps.{IsBytes-drop}
 use Rattle.nt_lists.proofs.Chaining.{bind_ok, refused_as_ok}
 use Rattle.nt_lists.proofs.Variants.{ok_is}
 use Rattle.nt_format.proofs.Grammars.{plain, seq, gives}
-use Rattle.nt_format.proofs.Relations.{bind, refused, there, part, piece_bytes, at, stands_from, stands_to}
+use Rattle.nt_format.proofs.Relations.{there, part, piece_bytes, at, stands_from, stands_to}
 use Rattle.nt_container.specs.declared.parts.Directory.{Directory}
 use Rattle.nt_container.specs.declared.parts.Key.{Key}
 use Rattle.nt_num.specs.Codes.{bad_key_list}
 use Rattle.nt_num.specs.Faults.{fault}
 use Rattle.nt_container.specs.Keys.{anchor_class, key_at, first_anchor, keys_on, anchor_key_in, anchor_key_of}
-use Rattle.nt_container.specs.Texts.{Word32, KeyText, KeysText}
+use Rattle.nt_container.specs.Texts.{Word32, KeysText}
 use Rattle.nt_container.specs.Embeds.{first_of_class, Lists}
 use Rattle.nt_container.proofs.Texts.{word_32, key}
 

@@ -1,7 +1,7 @@
 -- When a file embeds an anchor, told by places, in the words of ROOT's TFile and TKey layout and of the RNTuple Binary Format
 -- Specification 1.0.0.0, section Anchor Schema. It says nothing of faults: the reading beside it (Anchors) gives this anchor, or the first
 -- fault.
-use Rattle.std.specs.Prelude.{ℕ, ◌≡◌, ◌≤◌, ◌+◌, List, [], ◌∷◌, ◌++◌, length, take, codes, Bool, if◌then◌else◌, Option, Some, None}
+use Rattle.std.specs.Prelude.{ℕ, ◌≡◌, ◌≤◌, ◌+◌, List, [], ◌∷◌, ◌++◌, length, take, codes, if◌then◌else◌, Option, Some, None}
 use Rattle.std.specs.Int.{w16, w64, to_be_bytes}
 use Rattle.std.specs.Str.{bytes_eq}
 use Rattle.nt_xxh3.specs.Sum.{xxh3}

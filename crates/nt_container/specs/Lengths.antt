@@ -61,6 +61,10 @@ anchor_part_len = 134
 abbrev pub key_list_part_len : ℕ
 key_list_part_len = 113
 
+-- a free piece
+abbrev pub free_piece_len : ℕ
+free_piece_len = 18
+
 -- the list of free pieces
 abbrev pub free_list_part_len : ℕ
 free_list_part_len = 71

@@ -107,7 +107,10 @@ key_list_part at anchor_at = concat (file_key 60 at 100 ∷ to_be_bytes w32 1 �
 abbrev pub last_free : ℕ → ℕ
 last_free end = if nat_lt end 2000000000 then 2000000000 else end + 1000000000
 
--- the list of free pieces at a place: its own key, version 1001, and the one piece behind the end
+-- a free piece of version 1001, by its first and its last byte
+unfoldable pub free_piece : ℕ → ℕ → List ℕ
+free_piece first last = concat (to_be_bytes w16 1001 ∷ to_be_bytes w64 first ∷ to_be_bytes w64 last ∷ [])
+
+-- the list of free pieces at a place: its own key, and the one piece behind the end
 unfoldable pub free_list_part : ℕ → ℕ → List ℕ
-free_list_part at end =
-    concat (file_key 18 at 100 ∷ to_be_bytes w16 1001 ∷ to_be_bytes w64 end ∷ to_be_bytes w64 (last_free end) ∷ [])
+free_list_part at end = file_key 18 at 100 ++ free_piece end (last_free end)

@@ -1,6 +1,6 @@
 -- The grammar of the container's parts (ROOT's TFile, TDirectory and TKey; RNTuple Binary Format Specification 1.0.0.0, section Anchor
 -- Schema), with all that they can say: which texts stand for which values.
-use Rattle.std.specs.Prelude.{ℕ, zero, suc, ◌≡◌, ◌<◌, ◌^◌, Bool, List, [], ◌∷◌, length, nat_le, nat_lt, nat_eq, if◌then◌else◌}
+use Rattle.std.specs.Prelude.{ℕ, zero, suc, ◌<◌, ◌^◌, Bool, List, [], ◌∷◌, nat_le, nat_lt, nat_eq, if◌then◌else◌}
 use Rattle.std.specs.Int.{w16, w32, w64, to_be_bytes, to_le_bytes, w8}
 use Rattle.nt_format.specs.Grammars.{Then, Makes, Spelled, Bytes, Choice}
 use Rattle.nt_container.specs.declared.parts.FileHeader.{FileHeader}

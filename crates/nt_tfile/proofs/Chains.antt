@@ -1,5 +1,5 @@
 -- The steps of the anchor's reading, as the calls that make them answer.
-use Rattle.std.proofs.Common.{◌≡◌, ℕ, ◌+◌, List, Result, Ok, Err, refl, ap, subst}
+use Rattle.std.proofs.Common.{◌≡◌, ℕ, List, Result, Ok, Err, refl, ap, subst}
 use Rattle.nt_num.specs.declared.fault.ReadError.{ReadError}
 use Rattle.nt_num.specs.Place.{At}
 use Rattle.nt_lists.specs.Chaining.{◌>>=◌}

@@ -1,5 +1,5 @@
 -- Windows of a file, gathered piece by piece.
-use Rattle.std.proofs.Common.{◌≡◌, ℕ, suc, ◌+◌, ◌-◌, ◌*◌, ◌<◌, ◌≤◌, ◌≢◌, min, true, false, leb, Ok, Err, List, [], ◌++◌, length, take, drop, refl, sym, ap, ◌∙◌, Result, append_assoc, arith, inl, inr}
+use Rattle.std.proofs.Common.{◌≡◌, ℕ, ◌+◌, ◌-◌, ◌*◌, ◌<◌, ◌≤◌, ◌≢◌, min, true, false, leb, Ok, Err, List, ◌++◌, length, take, drop, refl, sym, ap, ◌∙◌, Result, append_assoc, arith, inl, inr}
 use Rattle.std.proofs.lemmas.Bool.{cases_lt, le-leb, lt-leb}
 use Rattle.std.proofs.Math.Seq.{take-append-add}
 use Rattle.std.proofs.lemmas.List.{length-append, length-take, length-drop, take-take, take-append-drop, take_at, take_min, drop-drop, drop-take, take_all}

@@ -1,5 +1,5 @@
 -- How the calls of the reader answer.
-use Rattle.std.specs.Prelude.{ℕ, ◌≡◌, ◌≤◌, ◌+◌, List, length, Option, Some, None, Result, Ok, Err, IsErrOf}
+use Rattle.std.specs.Prelude.{ℕ, ◌≡◌, ◌≤◌, List, length, Some, Result, Ok, Err, IsErrOf}
 use Rattle.nt_num.specs.Place.{At}
 use Rattle.nt_num.specs.declared.cursor.Short.{Short}
 use Rattle.nt_num.specs.declared.fault.ReadError.{ReadError}

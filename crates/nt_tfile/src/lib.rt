@@ -2,9 +2,9 @@
 //! alone: file header, directory, list of keys, the first key of the class `ROOT::RNTuple`, and the
 //! anchor that stands behind it. What the bytes mean is said in `nt_container`.
 //!
-//! The writers put each part but the list of free pieces into a slice of its length, without memory,
-//! exactly as `nt_container` spells it: `begin_bytes`, `header_bytes`, `directory_bytes`, `blob_key`,
-//! `anchor_bytes` and `key_list_bytes`.
+//! The writers put each part into a slice of its length, without memory, exactly as `nt_container`
+//! spells it: `begin_bytes`, `header_bytes`, `directory_bytes`, `blob_key`, `anchor_bytes`,
+//! `key_list_bytes` and `free_bytes`.
 //!
 //! Start with `read_tfile`. Its clause `read` says that the answer is exactly that reading wherever
 //! the file tells its bytes, the fault's code, place and values included; its clause `file` that a
@@ -27,6 +27,6 @@ mod writing_key;
 
 pub use failure::ReadFailure;
 pub use reading::read_tfile;
-pub use writing_anchor::{anchor_bytes, key_list_bytes};
+pub use writing_anchor::{anchor_bytes, free_bytes, key_list_bytes};
 pub use writing_file::{begin_bytes, directory_bytes, header_bytes};
 pub use writing_key::blob_key;

@@ -1,4 +1,4 @@
-use Rattle.std.proofs.Common.{◌≡◌, ◌+◌, vec_len, arith}
+use Rattle.std.proofs.Common.{arith}
 use Rattle.std.proofs.lemmas.Grind.{common_steps}
 use Rattle.nt_tfile.proofs.Windows.{piece_past, piece_missing, piece_there}
 use Rattle.nt_tfile.proofs.reading.read_piece.Goals as goal

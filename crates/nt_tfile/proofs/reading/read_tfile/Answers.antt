@@ -1,4 +1,4 @@
-use Rattle.std.proofs.Common.{rules, ◌≡◌, ◌∙◌}
+use Rattle.std.proofs.Common.{rules, ◌∙◌}
 use Rattle.nt_tfile.proofs.Chains.{directory-fails, key-fails, anchor-done}
 use Rattle.nt_tfile.proofs.reading.read_tfile.Goals as goal
 

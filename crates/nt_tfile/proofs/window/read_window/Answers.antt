@@ -1,4 +1,4 @@
-use Rattle.std.proofs.Common.{◌≡◌, ℕ, ◌+◌, ◌-◌, ◌*◌, ◌^◌, List, ◌++◌, take, drop, min, ap, ◌∙◌, arith}
+use Rattle.std.proofs.Common.{ℕ, ◌+◌, ◌*◌, ◌^◌, ◌++◌, take, drop, ap, ◌∙◌, arith}
 use Rattle.nt_tfile.proofs.Windows.{next_piece, all_pieces}
 use Rattle.nt_tfile.proofs.window.read_window.Goals as goal
 
