@@ -4,3 +4,4 @@ pub mod Allowed
 pub mod Holding
 pub mod Newest
 pub mod Ranges
+pub mod Out

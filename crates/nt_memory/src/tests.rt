@@ -100,6 +100,68 @@ fn a_failed_sync_is_a_fault(rt: HostRuntime) -> Result<(), Fail> {
 }
 
 #[test]
+fn ranges_are_settled_in_any_order(rt: HostRuntime) -> Result<(), Fail> {
+    let alloc = rt.alloc();
+    let mut disk = MemDisk::new(alloc, failing(alloc, &[])?, Vec::new(alloc));
+    disk.room(2, 12)?;
+    assert_eq!(rt; disk.append(b"0123456789"), Ok(()));
+    let mut pen = disk.pen()?;
+    let mut first = disk.reserve(4)?;
+    let mut second = disk.reserve(3)?;
+    assert_eq!(rt; (first.start(), second.start()), (10, 14));
+    assert_eq!(rt; disk.append(b"\xaa\xbb"), Ok(()));
+    assert_eq!(rt; disk.end(), 19);
+    assert_eq!(rt; pen.fill(&mut second, &[1, 2, 3]), Ok(()));
+    disk.settle(second);
+    assert_eq!(rt; pen.fill(&mut first, &[5, 6, 7, 8]), Ok(()));
+    disk.settle(first);
+    disk.put_back(pen);
+    let (image, _, faults) = disk.into_parts();
+    assert_eq!(rt;
+        image.as_slice(),
+        b"0123456789\x05\x06\x07\x08\x01\x02\x03\xaa\xbb".as_slice()
+    );
+    assert_eq!(rt; faults, 0);
+    Ok(())
+}
+
+#[test]
+fn a_pen_fails_by_its_number(rt: HostRuntime) -> Result<(), Fail> {
+    let alloc = rt.alloc();
+    let mut host = MemHost::new(alloc);
+    host.fail(Object::Pen(1), 1)?;
+    let mut disk = host.create("out")?;
+    let mut first = disk.pen()?;
+    let mut second = disk.pen()?;
+    let mut whole = disk.reserve(2)?;
+    let mut torn = disk.reserve(2)?;
+    assert_eq!(rt; first.fill(&mut whole, b"ab"), Ok(()));
+    assert_eq!(rt; second.fill(&mut torn, b"cd"), Err(Failed));
+    assert_eq!(rt; (torn.filled(), second.faults()), (false, 1));
+    disk.put_back(second);
+    assert_eq!(rt; disk.faults(), 1);
+    disk.settle(torn);
+    disk.settle(whole);
+    disk.put_back(first);
+    host.put_disk(disk);
+    assert!(rt; host.file("out") == Some(b"ab\0\0".as_slice()));
+    Ok(())
+}
+
+#[test]
+fn a_range_of_no_bytes_stands_in_nobodys_way(rt: HostRuntime) -> Result<(), Fail> {
+    let alloc = rt.alloc();
+    let mut disk = MemDisk::new(alloc, failing(alloc, &[])?, Vec::new(alloc));
+    let one = disk.reserve(0)?;
+    let other = disk.reserve(0)?;
+    assert_eq!(rt; (one.start(), other.start()), (0, 0));
+    disk.settle(other);
+    disk.settle(one);
+    assert_eq!(rt; disk.end(), 0);
+    Ok(())
+}
+
+#[test]
 fn a_disk_replaces_the_older_file(rt: HostRuntime) -> Result<(), Fail> {
     let mut host = MemHost::new(rt.alloc());
     host.add("out", b"oldest")?;
