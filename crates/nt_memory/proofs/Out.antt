@@ -1,5 +1,5 @@
 -- A range that is out stays out when the one behind it is taken off.
-use Rattle.std.proofs.Common.{◌≡◌, ◌∙◌, ap, sym, refl, subst, ℕ, zero, suc, Bool, true, false, List, [], ◌∷◌, ◌++◌, length, arith}
+use Rattle.std.proofs.Common.{◌≡◌, ◌∙◌, ap, sym, refl, subst, suc, Bool, true, false, List, [], ◌∷◌, ◌++◌, arith}
 use Rattle.std.specs.Prelude.{Contains}
 use Rattle.nt_outside.specs.declared.range.Range.{Range}
 use Rattle.nt_outside.specs.Range.{is_same_range, without}
