@@ -9,7 +9,7 @@ use Rattle.std.proofs.lemmas.Fmt.{decimal-digits_value}
 use Rattle.std.specs.List.{slice_range}
 use Rattle.std.specs.Char.{digit_value, is_ascii_digit}
 use Rattle.std.specs.Str.Parse.{AllDigits, digits_value_after, digits_value}
-use Rattle.nt_event.specs.Spells.{Spells}
+use Rattle.nt_event.specs.Standing.{StandsFrom}
 
 pub range-next : (xs : List ℕ) (at i : ℕ) → at ≤ i → i < length xs → slice_range xs at (i + 1) ≡ slice_range xs at i ++ get_or xs i 0 ∷ []
 range-next xs at i le h =
@@ -43,7 +43,7 @@ digit-range c h =
     (low, high, digit_value_digit c (low, high))
 
 -- digits as they are printed
-pub printed : (xs : List ℕ) (at i : ℕ) → at < i → i ≤ length xs → i ≤ at + 19 → AllDigits 10 (slice_range xs at i) → (get_or xs at 0 ≡ 48 → i ≤ at + 1) → Spells (decimal (digits_value 10 (slice_range xs at i))) xs at i
+pub printed : (xs : List ℕ) (at i : ℕ) → at < i → i ≤ length xs → i ≤ at + 19 → AllDigits 10 (slice_range xs at i) → (get_or xs at 0 ≡ 48 → i ≤ at + 1) → StandsFrom (decimal (digits_value 10 (slice_range xs at i))) xs at i
 printed xs at i some high few digits first =
     let ds = slice_range xs at i in
     let len = range-length xs at i (omega arith) high in

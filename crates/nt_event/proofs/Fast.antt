@@ -19,7 +19,7 @@ use Rattle.nt_event.proofs.ReadBack.{read-line_of}
 use Rattle.nt_event.proofs.TreeBack.{parts_read-data}
 use Rattle.nt_types.specs.TreeData.{trees_of}
 use Rattle.nt_types.specs.Kinds.{Part, parts_of}
-use Rattle.nt_event.specs.Spells.{EachGood, kinds_in}
+use Rattle.nt_event.specs.Standing.{EachGood, kinds_in}
 use Rattle.nt_event.specs.Entry.{entry_of, or_misfit, parts_len}
 use Rattle.nt_types.specs.Spelling.{deepest_kind, deepest_part}
 use Rattle.nt_types.specs.Spelling as spelling

@@ -22,7 +22,7 @@ use Rattle.nt_types.specs.Views as views
 use Rattle.nt_types.specs.declared.shape.Shape.{Shape}
 use Rattle.nt_types.specs.declared.shape.Member.{Member}
 use Rattle.nt_types.proofs.ShapeViews.{member_view-of}
-use Rattle.nt_event.specs.Entry.{before, entry_of, data_entry, json_entry, items_entry, or_misfit, parts_len}
+use Rattle.nt_event.specs.Entry.{trees_then, entry_of, data_entry, json_entry, items_entry, or_misfit, parts_len}
 use Rattle.nt_event.specs.declared.fault.TextKind.TheVariants.{TooLong, NotJson, NotArray, Count}
 use Rattle.std.specs.Str.{IsUtf8, is_utf8}
 use Rattle.std.specs.Prelude.{Ok, Err, String}
@@ -38,39 +38,39 @@ short n bits small le = lt-ltb n (2 ^ bits) (omega (arith, small, pow_mono le))
 
 -- ---- entries
 
-before-push : (vs : List trees.TreeData) (v : trees.TreeData) (r : TreesData) → before vs (tree v r) ≡ before (vs ++ v ∷ []) r
-before-push [] v r = refl
-before-push (w ∷ vs) v r = ap (tree w) (before-push vs v r)
+then-push : (vs : List trees.TreeData) (v : trees.TreeData) (r : TreesData) → trees_then vs (tree v r) ≡ trees_then (vs ++ v ∷ []) r
+then-push [] v r = refl
+then-push (w ∷ vs) v r = ap (tree w) (then-push vs v r)
 
-pub before-map : (vs : List trees.TreeData) (v : trees.TreeData) (r : Option TreesData) → option_map (before vs) (option_map (tree v) r) ≡ option_map (before (vs ++ v ∷ [])) r
-before-map vs v None = refl
-before-map vs v (Some r) = ap (λ (x : TreesData). Some x) (before-push vs v r)
+pub then-map : (vs : List trees.TreeData) (v : trees.TreeData) (r : Option TreesData) → option_map (trees_then vs) (option_map (tree v) r) ≡ option_map (trees_then (vs ++ v ∷ [])) r
+then-map vs v None = refl
+then-map vs v (Some r) = ap (λ (x : TreesData). Some x) (then-push vs v r)
 
-pub before-all : (vs : List trees.TreeData) → before vs no_trees ≡ trees_of vs
-before-all [] = refl
-before-all (v ∷ vs) = ap (tree v) (before-all vs)
+pub then-all : (vs : List trees.TreeData) → trees_then vs no_trees ≡ trees_of vs
+then-all [] = refl
+then-all (v ∷ vs) = ap (tree v) (then-all vs)
 
-pub all-step : (f : Data → Option trees.TreeData) (whole : Option TreesData) (vs : List trees.TreeData) (v : trees.TreeData) (xs : List Value) (i : ℕ) (x : Value) → i < length xs → x ≡ get_or xs i x → whole ≡ option_map (before vs) (all_read f (items_view (drop i xs))) → Some v ≡ f (view x) → whole ≡ option_map (before (vs ++ v ∷ [])) (all_read f (items_view (drop (i + 1) xs)))
+pub all-step : (f : Data → Option trees.TreeData) (whole : Option TreesData) (vs : List trees.TreeData) (v : trees.TreeData) (xs : List Value) (i : ℕ) (x : Value) → i < length xs → x ≡ get_or xs i x → whole ≡ option_map (trees_then vs) (all_read f (items_view (drop i xs))) → Some v ≡ f (view x) → whole ≡ option_map (trees_then (vs ++ v ∷ [])) (all_read f (items_view (drop (i + 1) xs)))
 all-step f whole vs v xs i x lt is so at =
-    so ∙ ap (λ (l : List Value). option_map (before vs) (all_read f (items_view l))) (drop_more xs i x lt ∙ ap (λ (y : Value). y ∷ drop (i + 1) xs) (sym is))
-    ∙ ap (λ o. option_map (before vs) (option_and_then (λ u. option_map (tree u) (all_read f (items_view (drop (i + 1) xs)))) o)) (sym at)
-    ∙ before-map vs v (all_read f (items_view (drop (i + 1) xs)))
+    so ∙ ap (λ (l : List Value). option_map (trees_then vs) (all_read f (items_view l))) (drop_more xs i x lt ∙ ap (λ (y : Value). y ∷ drop (i + 1) xs) (sym is))
+    ∙ ap (λ o. option_map (trees_then vs) (option_and_then (λ u. option_map (tree u) (all_read f (items_view (drop (i + 1) xs)))) o)) (sym at)
+    ∙ then-map vs v (all_read f (items_view (drop (i + 1) xs)))
 
-pub each-step : (whole : Option TreesData) (vs : List trees.TreeData) (v : trees.TreeData) (ks : List Shape) (xs : List Value) (i : ℕ) (k : Shape) (x : Value) → i < length ks → i < length xs → k ≡ get_or ks i k → x ≡ get_or xs i x → whole ≡ option_map (before vs) (lines.kinds_read (kinds_of (map views.shape_view (drop i ks))) (items_view (drop i xs))) → Some v ≡ tree_read (views.shape_view k) (view x) → whole ≡ option_map (before (vs ++ v ∷ [])) (lines.kinds_read (kinds_of (map views.shape_view (drop (i + 1) ks))) (items_view (drop (i + 1) xs)))
+pub each-step : (whole : Option TreesData) (vs : List trees.TreeData) (v : trees.TreeData) (ks : List Shape) (xs : List Value) (i : ℕ) (k : Shape) (x : Value) → i < length ks → i < length xs → k ≡ get_or ks i k → x ≡ get_or xs i x → whole ≡ option_map (trees_then vs) (lines.kinds_read (kinds_of (map views.shape_view (drop i ks))) (items_view (drop i xs))) → Some v ≡ tree_read (views.shape_view k) (view x) → whole ≡ option_map (trees_then (vs ++ v ∷ [])) (lines.kinds_read (kinds_of (map views.shape_view (drop (i + 1) ks))) (items_view (drop (i + 1) xs)))
 each-step whole vs v ks xs i k x ltk ltx isk isx so at =
     let rest = lines.kinds_read (kinds_of (map views.shape_view (drop (i + 1) ks))) (items_view (drop (i + 1) xs)) in
-    so ∙ ap (λ (l : List Value). option_map (before vs) (lines.kinds_read (kinds_of (map views.shape_view (drop i ks))) (items_view l))) (drop_more xs i x ltx ∙ ap (λ (y : Value). y ∷ drop (i + 1) xs) (sym isx))
-    ∙ ap (λ (l : List Shape). option_map (before vs) (lines.kinds_read (kinds_of (map views.shape_view l)) (items_view (x ∷ drop (i + 1) xs)))) (drop_more ks i k ltk ∙ ap (λ (j : Shape). j ∷ drop (i + 1) ks) (sym isk))
-    ∙ ap (λ o. option_map (before vs) (option_and_then (λ u. option_map (tree u) rest) o)) (sym at)
-    ∙ before-map vs v rest
+    so ∙ ap (λ (l : List Value). option_map (trees_then vs) (lines.kinds_read (kinds_of (map views.shape_view (drop i ks))) (items_view l))) (drop_more xs i x ltx ∙ ap (λ (y : Value). y ∷ drop (i + 1) xs) (sym isx))
+    ∙ ap (λ (l : List Shape). option_map (trees_then vs) (lines.kinds_read (kinds_of (map views.shape_view l)) (items_view (x ∷ drop (i + 1) xs)))) (drop_more ks i k ltk ∙ ap (λ (j : Shape). j ∷ drop (i + 1) ks) (sym isk))
+    ∙ ap (λ o. option_map (trees_then vs) (option_and_then (λ u. option_map (tree u) rest) o)) (sym at)
+    ∙ then-map vs v rest
 
-pub member-step : (whole : Option TreesData) (vs : List trees.TreeData) (v : trees.TreeData) (ms : List Member) (xs : List Value) (i : ℕ) (m : Member) (x : Value) → i < length ms → i < length xs → m ≡ get_or ms i m → x ≡ get_or xs i x → whole ≡ option_map (before vs) (lines.parts_read (parts_of (map views.member_view (drop i ms))) (items_view (drop i xs))) → Some v ≡ tree_read (views.shape_view m.of) (view x) → whole ≡ option_map (before (vs ++ v ∷ [])) (lines.parts_read (parts_of (map views.member_view (drop (i + 1) ms))) (items_view (drop (i + 1) xs)))
+pub member-step : (whole : Option TreesData) (vs : List trees.TreeData) (v : trees.TreeData) (ms : List Member) (xs : List Value) (i : ℕ) (m : Member) (x : Value) → i < length ms → i < length xs → m ≡ get_or ms i m → x ≡ get_or xs i x → whole ≡ option_map (trees_then vs) (lines.parts_read (parts_of (map views.member_view (drop i ms))) (items_view (drop i xs))) → Some v ≡ tree_read (views.shape_view m.of) (view x) → whole ≡ option_map (trees_then (vs ++ v ∷ [])) (lines.parts_read (parts_of (map views.member_view (drop (i + 1) ms))) (items_view (drop (i + 1) xs)))
 member-step whole vs v ms xs i m x ltm ltx ism isx so at =
     let rest = lines.parts_read (parts_of (map views.member_view (drop (i + 1) ms))) (items_view (drop (i + 1) xs)) in
-    so ∙ ap (λ (l : List Value). option_map (before vs) (lines.parts_read (parts_of (map views.member_view (drop i ms))) (items_view l))) (drop_more xs i x ltx ∙ ap (λ (y : Value). y ∷ drop (i + 1) xs) (sym isx))
-    ∙ ap (λ (l : List Member). option_map (before vs) (lines.parts_read (parts_of (map views.member_view l)) (items_view (x ∷ drop (i + 1) xs)))) (drop_more ms i m ltm ∙ ap (λ (j : Member). j ∷ drop (i + 1) ms) (sym ism))
-    ∙ ap (λ o. option_map (before vs) (option_and_then (λ u. option_map (tree u) rest) o)) (ap (λ k. tree_read k (view x)) (member_view-of m) ∙ sym at)
-    ∙ before-map vs v rest
+    so ∙ ap (λ (l : List Value). option_map (trees_then vs) (lines.parts_read (parts_of (map views.member_view (drop i ms))) (items_view l))) (drop_more xs i x ltx ∙ ap (λ (y : Value). y ∷ drop (i + 1) xs) (sym isx))
+    ∙ ap (λ (l : List Member). option_map (trees_then vs) (lines.parts_read (parts_of (map views.member_view l)) (items_view (x ∷ drop (i + 1) xs)))) (drop_more ms i m ltm ∙ ap (λ (j : Member). j ∷ drop (i + 1) ms) (sym ism))
+    ∙ ap (λ o. option_map (trees_then vs) (option_and_then (λ u. option_map (tree u) rest) o)) (ap (λ k. tree_read k (view x)) (member_view-of m) ∙ sym at)
+    ∙ then-map vs v rest
 
 none-next : (o : Option trees.TreeData) → option_and_then (λ v. option_map (tree v) None) o ≡ None
 none-next None = refl

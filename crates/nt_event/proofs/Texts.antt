@@ -12,10 +12,10 @@ use Rattle.nt_event.specs.Json.{data_of, datas_of, text_data, hex_data, AllInRan
 use Rattle.nt_types.specs.TreeData.{trees_of}
 use Rattle.nt_types.specs.Kinds.{kinds_of}
 use Rattle.nt_event.specs.Plain.{AllPlain}
-use Rattle.nt_event.specs.Spells.{Spells, MaySpell, Good, Reads, AllGood, EachGood, kinds_in, open_text}
+use Rattle.nt_event.specs.Standing.{StandsFrom, MayStandFrom, Good, ReadsValue, AllGood, EachGood, kinds_in, open_text}
 use Rattle.nt_event.proofs.Plain.{plain-escape, plain-utf8, plain-bytes}
 
-pub spelled : (p q t : List ℕ) (a b c : ℕ) → Spells p t a b → Spells q t b c → Spells (p ++ q) t a c
+pub spelled : (p q t : List ℕ) (a b c : ℕ) → StandsFrom p t a b → StandsFrom q t b c → StandsFrom (p ++ q) t a c
 spelled p q t a b c h k = record {
   part_is = h.part_is ∙ ap (λ l. p ++ l) k.part_is ∙ sym (append_assoc p q (drop c t));
   within = k.within;
@@ -40,7 +40,7 @@ open_text-more [] w = append-nil (compact_text (data_of w))
 open_text-more (v ∷ vs) w = open_text-push false v vs w
 
 -- one more value behind a comma, or the first
-pub spelled-item : (t : List ℕ) (at i next end : ℕ) (vs : List TreeData) (w : TreeData) → drop at t ≡ open_text false vs ++ drop i t → MaySpell (comma_if (are_some vs)) t i next → Spells (compact_text (data_of w)) t next end
+pub spelled-item : (t : List ℕ) (at i next end : ℕ) (vs : List TreeData) (w : TreeData) → drop at t ≡ open_text false vs ++ drop i t → MayStandFrom (comma_if (are_some vs)) t i next → StandsFrom (compact_text (data_of w)) t next end
     → drop at t ≡ open_text false (vs ++ w ∷ []) ++ drop end t
 spelled-item t at i next end vs w so comma it =
     let c = comma_if (are_some vs) in
@@ -48,7 +48,7 @@ spelled-item t at i next end vs w so comma it =
     so ∙ ap (λ l. open_text false vs ++ l) (comma.part_is ∙ ap (λ l. c ++ l) it.part_is ∙ sym (append_assoc c tw (drop end t)))
     ∙ sym (append_assoc (open_text false vs) (c ++ tw) (drop end t)) ∙ ap (λ l. l ++ drop end t) (sym (open_text-more vs w))
 
-pub spelled-end : (t : List ℕ) (at i end : ℕ) (vs : List TreeData) → at ≤ i → drop at t ≡ open_text false vs ++ drop i t → Spells (93 ∷ []) t i end → Spells (items_text false (datas_of (trees_of vs))) t at end
+pub spelled-end : (t : List ℕ) (at i end : ℕ) (vs : List TreeData) → at ≤ i → drop at t ≡ open_text false vs ++ drop i t → StandsFrom (93 ∷ []) t i end → StandsFrom (items_text false (datas_of (trees_of vs))) t at end
 spelled-end t at i end vs past so close = record {
   part_is = so ∙ ap (λ l. open_text false vs ++ l) close.part_is ∙ sym (append_assoc (open_text false vs) (93 ∷ []) (drop end t)) ∙ ap (λ l. l ++ drop end t) (sym (items_text-opens false vs));
   within = close.within;
@@ -107,22 +107,22 @@ one-fits (j ∷ ks) (suc i) k v lt h = one-fits ks i k v (omega arith) h
 
 -- ---- the cases
 
-pub reads-list : (k : Kind) (vs : List TreeData) (t : List ℕ) (at first end : ℕ) → Spells (91 ∷ []) t at first → Spells (items_text false (datas_of (trees_of vs))) t first end → AllGood k vs → Reads (kinds.list k) (items (trees_of vs)) t at end
+pub reads-list : (k : Kind) (vs : List TreeData) (t : List ℕ) (at first end : ℕ) → StandsFrom (91 ∷ []) t at first → StandsFrom (items_text false (datas_of (trees_of vs))) t first end → AllGood k vs → ReadsValue (kinds.list k) (items (trees_of vs)) t at end
 reads-list k vs t at first end opens rest good = record { spells = spelled (91 ∷ []) (items_text false (datas_of (trees_of vs))) t at first end opens rest; good = list-good k vs good }
 
-pub reads-tuple : (ks : List Kind) (vs : List TreeData) (t : List ℕ) (at first end : ℕ) → Spells (91 ∷ []) t at first → Spells (items_text false (datas_of (trees_of vs))) t first end → EachGood ks vs → Reads (kinds.tuple (kinds_of ks)) (parts (trees_of vs)) t at end
+pub reads-tuple : (ks : List Kind) (vs : List TreeData) (t : List ℕ) (at first end : ℕ) → StandsFrom (91 ∷ []) t at first → StandsFrom (items_text false (datas_of (trees_of vs))) t first end → EachGood ks vs → ReadsValue (kinds.tuple (kinds_of ks)) (parts (trees_of vs)) t at end
 reads-tuple ks vs t at first end opens rest good = record { spells = spelled (91 ∷ []) (items_text false (datas_of (trees_of vs))) t at first end opens rest; good = tuple-good ks vs good }
 
-pub reads-record : (ps : List Part) (vs : List TreeData) (t : List ℕ) (at first end : ℕ) → Spells (91 ∷ []) t at first → Spells (items_text false (datas_of (trees_of vs))) t first end → EachGood (kinds_in ps) vs → Reads (kinds.fields (parts_of ps)) (parts (trees_of vs)) t at end
+pub reads-record : (ps : List Part) (vs : List TreeData) (t : List ℕ) (at first end : ℕ) → StandsFrom (91 ∷ []) t at first → StandsFrom (items_text false (datas_of (trees_of vs))) t first end → EachGood (kinds_in ps) vs → ReadsValue (kinds.fields (parts_of ps)) (parts (trees_of vs)) t at end
 reads-record ps vs t at first end opens rest good = record { spells = spelled (91 ∷ []) (items_text false (datas_of (trees_of vs))) t at first end opens rest; good = record-good ps vs good }
 
 plain-text : (s : List ℕ) → AllPlain s → 34 ∷ (s ++ 34 ∷ []) ≡ compact_text (text_data s)
 plain-text s h = ap (λ l. 34 ∷ (l ++ 34 ∷ [])) (sym (plain-escape s h)) ∙ ap (λ b. compact_text (if b then string s else hex_data s)) (sym (plain-utf8 s h))
 
-pub reads-text : (s : List ℕ) (t : List ℕ) (at end : ℕ) → AllPlain s → Spells (34 ∷ (s ++ 34 ∷ [])) t at end → Reads kinds.text (text s) t at end
-reads-text s t at end h so = record { spells = subst (λ l. Spells l t at end) (plain-text s h) so; good = record { fit = refl; range = plain-bytes s h } }
+pub reads-text : (s : List ℕ) (t : List ℕ) (at end : ℕ) → AllPlain s → StandsFrom (34 ∷ (s ++ 34 ∷ [])) t at end → ReadsValue kinds.text (text s) t at end
+reads-text s t at end h so = record { spells = subst (λ l. StandsFrom l t at end) (plain-text s h) so; good = record { fit = refl; range = plain-bytes s h } }
 
-pub reads-pick : (ks : List Kind) (tag i : ℕ) (k : Kind) (v : TreeData) (t : List ℕ) (at first dot next last end : ℕ) → tag ≡ suc i → i < length ks → k ≡ get_or ks i k → tag < 2 ^ 32 → Spells (91 ∷ []) t at first → Spells (decimal tag) t first dot → Spells (44 ∷ []) t dot next → Reads k v t next last → Spells (93 ∷ []) t last end → Reads (kinds.choice (kinds_of ks)) (pick tag v) t at end
+pub reads-pick : (ks : List Kind) (tag i : ℕ) (k : Kind) (v : TreeData) (t : List ℕ) (at first dot next last end : ℕ) → tag ≡ suc i → i < length ks → k ≡ get_or ks i k → tag < 2 ^ 32 → StandsFrom (91 ∷ []) t at first → StandsFrom (decimal tag) t first dot → StandsFrom (44 ∷ []) t dot next → ReadsValue k v t next last → StandsFrom (93 ∷ []) t last end → ReadsValue (kinds.choice (kinds_of ks)) (pick tag v) t at end
 reads-pick ks tag i k v t at first dot next last end is lt the small opens num comma of close =
     let w = compact_text (data_of v) in
     let whole = spelled (91 ∷ []) _ t at first end opens (spelled (decimal tag) _ t first dot end num (spelled (44 ∷ []) _ t dot next end comma (spelled w (93 ∷ []) t next last end of.spells close))) in
@@ -131,13 +131,13 @@ reads-pick ks tag i k v t at first dot next last end is lt the small opens num c
       good = record { fit = ap (λ n. fits_one (kinds_of ks) n v) is ∙ one-fits ks i k v lt (ap (λ j. fits j v) (sym the) ∙ of.good.fit); range = (small, of.good.range) };
     }
 
-pub string-spelled : (t : List ℕ) (at first last end : ℕ) (s : List ℕ) → Spells (34 ∷ []) t at first → first ≤ last → last ≤ length t → Spells (34 ∷ []) t last end → s ≡ slice_range t first last → Spells (34 ∷ (s ++ 34 ∷ [])) t at end
+pub string-spelled : (t : List ℕ) (at first last end : ℕ) (s : List ℕ) → StandsFrom (34 ∷ []) t at first → first ≤ last → last ≤ length t → StandsFrom (34 ∷ []) t last end → s ≡ slice_range t first last → StandsFrom (34 ∷ (s ++ 34 ∷ [])) t at end
 string-spelled t at first last end s opens low high close is = record {
   part_is = opens.part_is ∙ ap (λ l. 34 ∷ l) (drop_split t first last low ∙ ap (λ l. l ++ drop last t) (sym is) ∙ ap (λ l. s ++ l) close.part_is ∙ sym (append_assoc s (34 ∷ []) (drop end t)));
   within = close.within;
   some = omega (arith, opens.some, low, close.some);
 }
 
-pub comma-some : (vs : List TreeData) (t : List ℕ) (i n : ℕ) → 0 < length vs → Spells (44 ∷ []) t i n → MaySpell (comma_if (are_some vs)) t i n
+pub comma-some : (vs : List TreeData) (t : List ℕ) (i n : ℕ) → 0 < length vs → StandsFrom (44 ∷ []) t i n → MayStandFrom (comma_if (are_some vs)) t i n
 comma-some [] t i n some h = absurd (omega arith)
 comma-some (v ∷ vs) t i n some h = record { part_is = h.part_is; within = h.within; past = omega (arith, h.some) }

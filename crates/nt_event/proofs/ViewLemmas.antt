@@ -14,7 +14,7 @@ use Rattle.nt_types.specs.declared.shape.Shapes.{Shapes}
 use Rattle.nt_types.specs.declared.shape.Member.{Member}
 use Rattle.nt_types.specs.declared.shape.Members.{Members}
 use Rattle.nt_types.proofs.ShapeViews.{member_view-of}
-use Rattle.nt_event.specs.Spells.{kinds_in}
+use Rattle.nt_event.specs.Standing.{kinds_in}
 use Rattle.nt_event.proofs.Texts.{are_some}
 
 pub some_views : (ts : List Tree) → are_some (map tree_view ts) ≡ not (nat_eq (length ts) 0)

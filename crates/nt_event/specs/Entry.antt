@@ -46,9 +46,9 @@ abbrev pub entry_of : Parts → List ℕ → Result TreesData TextKind
 entry_of F bytes = if nat_lt max_line (length bytes) then Err TooLong else (if is_utf8 bytes then json_entry F (read bytes) else Err NotJson)
 
 -- these trees, and then those
-abbrev pub before : List TreeData → TreesData → TreesData
-before [] rest = rest
-before (v ∷ vs) rest = tree v (before vs rest)
+abbrev pub trees_then : List TreeData → TreesData → TreesData
+trees_then [] rest = rest
+trees_then (v ∷ vs) rest = tree v (trees_then vs rest)
 
 -- what a refusal says of the line; want of memory says nothing
 abbrev pub IsFaultOf : Result TreesData TextKind → TextError → Type 0

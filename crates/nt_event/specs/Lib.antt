@@ -2,7 +2,7 @@ pub mod Limits
 pub mod Json
 pub mod Line
 pub mod Plain
-pub mod Spells
+pub mod Standing
 pub mod Depth
 pub mod Entry
 pub mod Lines

@@ -2,7 +2,7 @@
 use Rattle.std.specs.Prelude.{⊤, ◌≡◌, ℕ, ◌+◌, ◌<◌, ◌≤◌, Bool, true, false, List, [], ◌∷◌, ◌++◌, length, Option, Result, Ok, Err}
 use Rattle.std.specs.Io.KnownBytes.{Consumes}
 use Rattle.nt_event.specs.Limits.{max_line}
-use Rattle.nt_event.specs.Lines.{LinesState, HasNoLf, BeginsWith}
+use Rattle.nt_event.specs.Lines.{LinesState, HasNoLf, LeftBegins}
 use Rattle.nt_event.specs.declared.lines.LineError.{LineError}
 use Rattle.nt_event.specs.declared.lines.LineError.TheVariants.{Fault, TooLong, Memory}
 
@@ -17,7 +17,7 @@ pub record TakesMore (old new : LinesState) (before after end : List ℕ) : Type
 -- with these bytes before, the next ones are more than a line may have
 pub record IsTooMany (left : Option (List ℕ)) (before : List ℕ) : Type 0 where
   pub front : List ℕ
-  pub begins : BeginsWith left front
+  pub begins : LeftBegins left front
   pub one_line : HasNoLf front
   pub many : max_line < length before + length front
 

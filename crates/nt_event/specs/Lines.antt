@@ -24,29 +24,29 @@ abbrev pub lines_state : {S : Type 0} → SourceState → LineReader S → Lines
 lines_state s r = record { left = prepend_known (slice_range r.piece.items r.at r.end) s.left; number = r.number; faults = s.faults }
 
 -- no line was given
-abbrev pub first_state : SourceState → LinesState
-first_state s = record { left = s.left; number = 0; faults = s.faults }
+abbrev pub before_first_line : SourceState → LinesState
+before_first_line s = record { left = s.left; number = 0; faults = s.faults }
 
 -- no byte is an LF
 abbrev pub HasNoLf : List ℕ → Type 0
 HasNoLf bytes = (k : ℕ) → k < length bytes → slice_index bytes k ≢ 10
 
 -- what is left begins with these bytes
-pub record BeginsWith (left : Option (List ℕ)) (front : List ℕ) : Type 0 where
+pub record LeftBegins (left : Option (List ℕ)) (front : List ℕ) : Type 0 where
   pub rest : Option (List ℕ)
   pub taken : Consumes left rest front
 
 -- what is left begins with a line that has more bytes than a line may have
 pub record BeginsTooLong (left : Option (List ℕ)) : Type 0 where
   pub front : List ℕ
-  pub begins : BeginsWith left front
+  pub begins : LeftBegins left front
   pub one_line : HasNoLf front
   pub many : max_line < length front
 
 -- something is left
 pub record HasMore (left : Option (List ℕ)) : Type 0 where
   pub front : List ℕ
-  pub begins : BeginsWith left front
+  pub begins : LeftBegins left front
   pub some : 0 < length front
 
 -- the line and its LF are taken, or all that is left, where that is something and has no LF

@@ -4,11 +4,11 @@ ghost use Rattle.std.specs.Prelude.{◌∷◌, [], ◌≤◌, length, true, fals
 ghost use Rattle.serde_json.specs.Written.{compact_text, comma_if};
 ghost use Rattle.nt_types.specs.TreeData.{flag};
 ghost use Rattle.nt_event.specs.Json.{data_of};
-ghost use Rattle.nt_event.specs.Spells.{Spells, MaySpell};
+ghost use Rattle.nt_event.specs.Standing.{StandsFrom, MayStandFrom};
 
 /// Passes a byte.
 pub(crate) fn after(text: &[u8], at: usize, byte: u8) -> Option<usize>
-    ensures { IfSome result (λ end. Spells (byte ∷ []) text.now at end) }
+    ensures { IfSome result (λ end. StandsFrom (byte ∷ []) text.now at end) }
 {
     if at < text.len() && text[at] == byte {
         Some(at + 1)
@@ -20,7 +20,7 @@ pub(crate) fn after(text: &[u8], at: usize, byte: u8) -> Option<usize>
 /// Passes a comma, where something stands before.
 pub(crate) fn comma(text: &[u8], at: usize, later: bool) -> Option<usize>
     requires { at ≤ length text.now }
-    ensures { IfSome result (λ end. MaySpell (comma_if later) text.now at end) }
+    ensures { IfSome result (λ end. MayStandFrom (comma_if later) text.now at end) }
 {
     if later {
         after(text, at, b',')
@@ -31,7 +31,7 @@ pub(crate) fn comma(text: &[u8], at: usize, later: bool) -> Option<usize>
 
 /// Passes `null`.
 pub(crate) fn null(text: &[u8], at: usize) -> Option<usize>
-    ensures { IfSome result (λ end. Spells (110 ∷ 117 ∷ 108 ∷ 108 ∷ []) text.now at end) }
+    ensures { IfSome result (λ end. StandsFrom (110 ∷ 117 ∷ 108 ∷ 108 ∷ []) text.now at end) }
 {
     let second = after(text, at, b'n')?;
     let third = after(text, second, b'u')?;
@@ -41,7 +41,7 @@ pub(crate) fn null(text: &[u8], at: usize) -> Option<usize>
 
 /// Passes `true`.
 fn yes(text: &[u8], at: usize) -> Option<usize>
-    ensures { IfSome result (λ end. Spells (116 ∷ 114 ∷ 117 ∷ 101 ∷ []) text.now at end) }
+    ensures { IfSome result (λ end. StandsFrom (116 ∷ 114 ∷ 117 ∷ 101 ∷ []) text.now at end) }
 {
     let second = after(text, at, b't')?;
     let third = after(text, second, b'r')?;
@@ -51,7 +51,7 @@ fn yes(text: &[u8], at: usize) -> Option<usize>
 
 /// Passes `false`.
 fn no(text: &[u8], at: usize) -> Option<usize>
-    ensures { IfSome result (λ end. Spells (102 ∷ 97 ∷ 108 ∷ 115 ∷ 101 ∷ []) text.now at end) }
+    ensures { IfSome result (λ end. StandsFrom (102 ∷ 97 ∷ 108 ∷ 115 ∷ 101 ∷ []) text.now at end) }
 {
     let second = after(text, at, b'f')?;
     let third = after(text, second, b'a')?;
@@ -62,7 +62,7 @@ fn no(text: &[u8], at: usize) -> Option<usize>
 
 /// Passes `true` or `false`.
 pub(crate) fn truth(text: &[u8], at: usize) -> Option<(bool, usize)>
-    ensures { IfSome result (λ r. Spells (compact_text (data_of (flag r.0))) text.now at r.1) }
+    ensures { IfSome result (λ r. StandsFrom (compact_text (data_of (flag r.0))) text.now at r.1) }
 {
     if let Some(end) = yes(text, at) {
         return Some((true, end));

@@ -5,7 +5,7 @@ ghost use Rattle.serde_json.specs.Written.{compact_text};
 ghost use Rattle.nt_types.specs.TreeData.{num};
 ghost use Rattle.nt_types.specs.Fits.{is_int};
 ghost use Rattle.nt_event.specs.Json.{data_of, InWord};
-ghost use Rattle.nt_event.specs.Spells.{Spells};
+ghost use Rattle.nt_event.specs.Standing.{StandsFrom};
 
 use crate::compact::after;
 
@@ -20,7 +20,7 @@ fn has_no_zeros(text: &[u8], at: usize, end: usize) -> bool
 /// A number of at most 19 digits, as it is printed.
 pub(crate) fn number(text: &[u8], at: usize) -> Option<(u64, usize)>
     requires { at ≤ length text.now }
-    ensures { IfSome result (λ r. Spells (decimal r.0) text.now at r.1) }
+    ensures { IfSome result (λ r. StandsFrom (decimal r.0) text.now at r.1) }
 {
     let mut n: u64 = 0;
     let mut i = at;
@@ -55,7 +55,7 @@ fn most(bits: u8, signed: bool) -> Option<u64>
 /// An integer of a width, as it is printed.
 pub(crate) fn integer(text: &[u8], at: usize, bits: u8, signed: bool) -> Option<(i128, usize)>
     requires { at ≤ length text.now }
-    ensures spells { IfSome result (λ r. Spells (compact_text (data_of (num r.0))) text.now at r.1) }
+    ensures spells { IfSome result (λ r. StandsFrom (compact_text (data_of (num r.0))) text.now at r.1) }
     ensures fits { IfSome result (λ r. is_int bits signed r.0 ≡ true) }
     ensures range { IfSome result (λ r. InWord r.0) }
 {

@@ -78,12 +78,12 @@ fn empty_piece(alloc: Global) -> Result<Vec<u8>, AllocError>
 }
 
 impl<S: Source> LineReader<S> {
-    ghost use Rattle.nt_event.specs.Lines.{lines_state, first_state, GivesLine};
+    ghost use Rattle.nt_event.specs.Lines.{lines_state, before_first_line, GivesLine};
     ghost use Rattle.nt_event.specs.LineParts.{TakesPart};
 
     /// Before the first line. Without memory the source comes back.
     pub fn new(alloc: Global, source: S) -> Result<LineReader<S>, (S, AllocError)>
-        ensures ok { IfOk result (λ r. lines_state (S.state r.source) r ≡ first_state (S.state source)) }
+        ensures ok { IfOk result (λ r. lines_state (S.state r.source) r ≡ before_first_line (S.state source)) }
         ensures err { IfErr result (λ e. e.0 ≡ source) }
     {
         match empty_piece(alloc) {

@@ -2,7 +2,7 @@
 
 ghost use Rattle.std.specs.Prelude.{◌∷◌, [], ◌++◌, ◌≤◌, length, IfOk, IfSome, IsTrue};
 ghost use Rattle.std.specs.List.{slice_range};
-ghost use Rattle.nt_event.specs.Spells.{Spells};
+ghost use Rattle.nt_event.specs.Standing.{StandsFrom};
 ghost use Rattle.nt_event.specs.Plain.{AllPlain, Plain};
 
 use crate::compact::after;
@@ -35,7 +35,7 @@ pub(crate) fn string(
     at: usize,
 ) -> Result<Option<(Vec<u8>, usize)>, AllocError>
     requires { at ≤ length text.now }
-    ensures spells { IfOk result (λ found. IfSome found (λ r. Spells (34 ∷ (r.0.items ++ 34 ∷ [])) text.now at r.1)) }
+    ensures spells { IfOk result (λ found. IfSome found (λ r. StandsFrom (34 ∷ (r.0.items ++ 34 ∷ [])) text.now at r.1)) }
     ensures plain { IfOk result (λ found. IfSome found (λ r. AllPlain r.0.items)) }
 {
     let Some(first) = after(text, at, b'"') else {

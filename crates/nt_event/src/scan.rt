@@ -7,7 +7,7 @@ ghost use Rattle.nt_types.specs.Views.{shape_view, member_view, members_view};
 ghost use Rattle.nt_types.specs.TreeData.{trees_of};
 ghost use Rattle.nt_types.specs.TreeViews.{tree_view, trees_view};
 ghost use Rattle.nt_event.specs.Json.{line_of, datas_of};
-ghost use Rattle.nt_event.specs.Spells.{Spells, Reads, AllGood, EachGood, kinds_in};
+ghost use Rattle.nt_event.specs.Standing.{StandsFrom, ReadsValue, AllGood, EachGood, kinds_in};
 
 use crate::compact::{after, comma, null, truth};
 use crate::integers::{integer, number};
@@ -24,7 +24,7 @@ fn value(
     at: usize,
 ) -> Result<Option<(Tree, usize)>, AllocError>
     requires { at ≤ length text.now }
-    ensures { IfOk result (λ found. IfSome found (λ r. Reads (shape_view shape.now) (tree_view r.0) text.now at r.1)) }
+    ensures { IfOk result (λ found. IfSome found (λ r. ReadsValue (shape_view shape.now) (tree_view r.0) text.now at r.1)) }
 {
     match shape {
         Shape::Bool => match truth(text, at) {
@@ -88,7 +88,7 @@ fn items(
     at: usize,
 ) -> Result<Option<(Vec<Tree>, usize)>, AllocError>
     requires { at ≤ length text.now }
-    ensures spells { IfOk result (λ found. IfSome found (λ r. Spells (items_text false (datas_of (trees_of (map tree_view r.0.items)))) text.now at r.1)) }
+    ensures spells { IfOk result (λ found. IfSome found (λ r. StandsFrom (items_text false (datas_of (trees_of (map tree_view r.0.items)))) text.now at r.1)) }
     ensures good { IfOk result (λ found. IfSome found (λ r. AllGood (shape_view of.now) (map tree_view r.0.items))) }
 {
     let mut list = Vec::new(alloc);
@@ -121,7 +121,7 @@ fn each(
     at: usize,
 ) -> Result<Option<(Vec<Tree>, usize)>, AllocError>
     requires { at ≤ length text.now }
-    ensures spells { IfOk result (λ found. IfSome found (λ r. Spells (items_text false (datas_of (trees_of (map tree_view r.0.items)))) text.now at r.1)) }
+    ensures spells { IfOk result (λ found. IfSome found (λ r. StandsFrom (items_text false (datas_of (trees_of (map tree_view r.0.items)))) text.now at r.1)) }
     ensures good { IfOk result (λ found. IfSome found (λ r. EachGood (map shape_view shapes.now) (map tree_view r.0.items))) }
 {
     let mut list = Vec::new(alloc);
@@ -151,7 +151,7 @@ fn each_member(
     at: usize,
 ) -> Result<Option<(Vec<Tree>, usize)>, AllocError>
     requires { at ≤ length text.now }
-    ensures spells { IfOk result (λ found. IfSome found (λ r. Spells (items_text false (datas_of (trees_of (map tree_view r.0.items)))) text.now at r.1)) }
+    ensures spells { IfOk result (λ found. IfSome found (λ r. StandsFrom (items_text false (datas_of (trees_of (map tree_view r.0.items)))) text.now at r.1)) }
     ensures good { IfOk result (λ found. IfSome found (λ r. EachGood (kinds_in (map member_view members.now)) (map tree_view r.0.items))) }
 {
     let mut list = Vec::new(alloc);
@@ -181,7 +181,7 @@ fn picked(
     at: usize,
 ) -> Result<Option<(Tree, usize)>, AllocError>
     requires { at ≤ length text.now }
-    ensures { IfOk result (λ found. IfSome found (λ r. Reads (choice (kinds_of (map shape_view shapes.now))) (tree_view r.0) text.now at r.1)) }
+    ensures { IfOk result (λ found. IfSome found (λ r. ReadsValue (choice (kinds_of (map shape_view shapes.now))) (tree_view r.0) text.now at r.1)) }
 {
     let Some(first) = after(text, at, b'[') else {
         return Ok(None);

@@ -4,7 +4,7 @@ use Rattle.nt_types.specs.Views.{members_view}
 use Rattle.nt_types.specs.TreeViews.{trees_view}
 use Rattle.nt_types.specs.TreeData.{trees_of}
 use Rattle.nt_event.specs.Json.{line_of}
-use Rattle.nt_event.specs.Spells.{EachGood, kinds_in}
+use Rattle.nt_event.specs.Standing.{EachGood, kinds_in}
 use Rattle.nt_event.proofs.Fast.{compact_entry}
 use Rattle.nt_event.proofs.entry.read_line.Goals as goal
 

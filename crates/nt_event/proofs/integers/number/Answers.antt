@@ -1,7 +1,7 @@
 use Rattle.std.proofs.Common.{◌≡◌, ◌+◌, ◌*◌, get_or, arith, sym, ap, ◌∙◌, subst}
 use Rattle.std.specs.List.{slice_range}
 use Rattle.std.specs.Str.Parse.{AllDigits, digits_value}
-use Rattle.nt_event.specs.Spells.{Spells}
+use Rattle.nt_event.specs.Standing.{StandsFrom}
 use Rattle.std.specs.Prelude.{decimal}
 use Rattle.nt_event.proofs.Digits.{range-next, range-length, value-next, digits-next, value-short, digit-range, printed}
 use Rattle.nt_event.proofs.integers.number.Goals as goal
@@ -37,4 +37,4 @@ loop-i-preserved c =
 pub returns-then-has_no_zeros : goal.returns-then-has_no_zeros
 returns-then-has_no_zeros c =
     let v = c.loop-i.invariant in
-    subst (λ n. Spells (decimal n) c.args.text.now c.args.at c.loop-i.i) (sym v.value) (printed c.args.text.now c.args.at c.loop-i.i c.if-i-at.true v.high v.few v.digits (c.has_no_zeros.ensures c.if-has_no_zeros.true))
+    subst (λ n. StandsFrom (decimal n) c.args.text.now c.args.at c.loop-i.i) (sym v.value) (printed c.args.text.now c.args.at c.loop-i.i c.if-i-at.true v.high v.few v.digits (c.has_no_zeros.ensures c.if-has_no_zeros.true))

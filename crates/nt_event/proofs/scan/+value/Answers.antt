@@ -10,7 +10,7 @@ use Rattle.nt_types.specs.Kinds.{kinds_of, parts_of}
 use Rattle.nt_types.specs.TreeViews.{tree_view}
 use Rattle.nt_types.specs.TreeData.{trees_of}
 use Rattle.nt_types.specs.TreeData as forms
-use Rattle.nt_event.specs.Spells.{Spells, MaySpell, Reads, AllGood, EachGood, kinds_in, open_text}
+use Rattle.nt_event.specs.Standing.{StandsFrom, MayStandFrom, ReadsValue, AllGood, EachGood, kinds_in, open_text}
 use Rattle.nt_event.proofs.Texts.{are_some, spelled-item, spelled-end, comma-some, all-next, each-next, reads-list, reads-record, reads-tuple, reads-text, reads-pick}
 use Rattle.nt_event.specs.Plain.{AllPlain}
 use Rattle.nt_types.specs.Kinds as kinds
@@ -27,8 +27,8 @@ items-loop-next-preserved t c =
     let v = c.loop-next.invariant in
     let comma = c.in-Some-after.ensures in
     let text = c.args.text.now in
-    let item : Reads (shape_view c.args.of.now) (tree_view c.in-Some-3.item) text c.in-Some-after.next c.in-Some-3.end =
-    subst (λ o. IfSome o (λ r. Reads (shape_view c.args.of.now) (tree_view r.0) text c.in-Some-after.next r.1)) c.in-Some-3.is c.in_ok-item.ensures in
+    let item : ReadsValue (shape_view c.args.of.now) (tree_view c.in-Some-3.item) text c.in-Some-after.next c.in-Some-3.end =
+    subst (λ o. IfSome o (λ r. ReadsValue (shape_view c.args.of.now) (tree_view r.0) text c.in-Some-after.next r.1)) c.in-Some-3.is c.in_ok-item.ensures in
     let more = c.in_ok-push-2.ensures.items in
     let views = ap (map tree_view) more ∙ map-append tree_view c.loop-next.list.items (c.in-Some-3.item ∷ []) in
     let olds = map tree_view c.loop-next.list.items in
@@ -52,15 +52,15 @@ each-loop-shape-preserved t c =
     let v = c.loop-shape.invariant in
     let text = c.args.text.now in
     let shape = c.shape-item.result in
-    let item : Reads (shape_view shape) (tree_view c.in-Some-2.tree) text c.in-Some.next c.in-Some-2.end =
-    subst (λ o. IfSome o (λ r. Reads (shape_view shape) (tree_view r.0) text c.in-Some.next r.1)) c.in-Some-2.is c.in_ok-tree.ensures in
+    let item : ReadsValue (shape_view shape) (tree_view c.in-Some-2.tree) text c.in-Some.next c.in-Some-2.end =
+    subst (λ o. IfSome o (λ r. ReadsValue (shape_view shape) (tree_view r.0) text c.in-Some.next r.1)) c.in-Some-2.is c.in_ok-tree.ensures in
     let xs = c.loop-shape.list.items in
     let olds = map tree_view xs in
     let more = c.in_ok-push.ensures.items in
     let views = ap (map tree_view) more ∙ map-append tree_view xs (c.in-Some-2.tree ∷ []) in
     let same : length xs ≡ vec_len c.loop-shape.list = search rules in
     let stands : not c.is_empty.result ≡ are_some olds = ap not (c.is_empty.ensures ∙ ap (λ n. n == 0) (sym same)) ∙ sym (some_views xs) in
-    let comma : MaySpell (comma_if (are_some olds)) text c.loop-shape.i c.in-Some.next = subst (λ b. MaySpell (comma_if b) text c.loop-shape.i c.in-Some.next) stands c.in-Some.ensures in
+    let comma : MayStandFrom (comma_if (are_some olds)) text c.loop-shape.i c.in-Some.next = subst (λ b. MayStandFrom (comma_if b) text c.loop-shape.i c.in-Some.next) stands c.in-Some.ensures in
     record {
       within = item.spells.within;
       past = omega (arith, v.past, comma.past, item.spells.some);
@@ -80,15 +80,15 @@ each_member-loop-member-preserved t c =
     let v = c.loop-member.invariant in
     let text = c.args.text.now in
     let member = c.member-item.result in
-    let item : Reads (shape_view member.of) (tree_view c.in-Some-2.tree) text c.in-Some.next c.in-Some-2.end =
-    subst (λ o. IfSome o (λ r. Reads (shape_view member.of) (tree_view r.0) text c.in-Some.next r.1)) c.in-Some-2.is c.in_ok-tree.ensures in
+    let item : ReadsValue (shape_view member.of) (tree_view c.in-Some-2.tree) text c.in-Some.next c.in-Some-2.end =
+    subst (λ o. IfSome o (λ r. ReadsValue (shape_view member.of) (tree_view r.0) text c.in-Some.next r.1)) c.in-Some-2.is c.in_ok-tree.ensures in
     let xs = c.loop-member.list.items in
     let olds = map tree_view xs in
     let more = c.in_ok-push.ensures.items in
     let views = ap (map tree_view) more ∙ map-append tree_view xs (c.in-Some-2.tree ∷ []) in
     let same : length xs ≡ vec_len c.loop-member.list = search rules in
     let stands : not c.is_empty.result ≡ are_some olds = ap not (c.is_empty.ensures ∙ ap (λ n. n == 0) (sym same)) ∙ sym (some_views xs) in
-    let comma : MaySpell (comma_if (are_some olds)) text c.loop-member.i c.in-Some.next = subst (λ b. MaySpell (comma_if b) text c.loop-member.i c.in-Some.next) stands c.in-Some.ensures in
+    let comma : MayStandFrom (comma_if (are_some olds)) text c.loop-member.i c.in-Some.next = subst (λ b. MayStandFrom (comma_if b) text c.loop-member.i c.in-Some.next) stands c.in-Some.ensures in
     record {
       within = item.spells.within;
       past = omega (arith, v.past, comma.past, item.spells.some);
@@ -115,11 +115,11 @@ value-returns-in-Some-2 t c =
     let line = c.args.text.now in
     let b = c.in-Some-2.bytes in
     let s = c.from_vec.result in
-    let so = subst (λ o. IfSome o (λ r. Spells (34 ∷ (r.0.items ++ 34 ∷ [])) line c.args.at r.1)) c.in-Some-2.is e.spells in
+    let so = subst (λ o. IfSome o (λ r. StandsFrom (34 ∷ (r.0.items ++ 34 ∷ [])) line c.args.at r.1)) c.in-Some-2.is e.spells in
     let plain = subst (λ o. IfSome o (λ r. AllPlain r.0.items)) c.in-Some-2.is e.plain in
-    subst (λ k. Reads (shape_view k) (tree_view (trees.Text s)) line c.args.at c.in-Some-2.end) (sym c.in-Text.is)
-    (subst (λ k. Reads k (tree_view (trees.Text s)) line c.args.at c.in-Some-2.end) (sym view-shape_Text)
-    (subst (λ v. Reads kinds.text v line c.args.at c.in-Some-2.end) (sym (view-Text s ∙ ap (λ (l : List ℕ). forms.text l) c.from_vec.ensures)) (reads-text b.items line c.args.at c.in-Some-2.end plain so)))
+    subst (λ k. ReadsValue (shape_view k) (tree_view (trees.Text s)) line c.args.at c.in-Some-2.end) (sym c.in-Text.is)
+    (subst (λ k. ReadsValue k (tree_view (trees.Text s)) line c.args.at c.in-Some-2.end) (sym view-shape_Text)
+    (subst (λ v. ReadsValue kinds.text v line c.args.at c.in-Some-2.end) (sym (view-Text s ∙ ap (λ (l : List ℕ). forms.text l) c.from_vec.ensures)) (reads-text b.items line c.args.at c.in-Some-2.end plain so)))
 
 pub value-returns-in-Some-3 : goal.value-returns-in-Some-3
 value-returns-in-Some-3 t c =
@@ -127,11 +127,11 @@ value-returns-in-Some-3 t c =
     let text = c.args.text.now in
     let vs = c.in-Some-3.list in
     let k = c.in-List.of in
-    let so = subst (λ o. IfSome o (λ r. Spells (items_text false (datas_of (trees_of (map tree_view r.0.items)))) text c.in-Some-after.first r.1)) c.in-Some-3.is e.spells in
+    let so = subst (λ o. IfSome o (λ r. StandsFrom (items_text false (datas_of (trees_of (map tree_view r.0.items)))) text c.in-Some-after.first r.1)) c.in-Some-3.is e.spells in
     let good : AllGood (shape_view k.value) (map tree_view vs.items) = search (rules, e.good, c.in-Some-3.is, c.deref.ensures) in
-    subst (λ j. Reads (shape_view j) (tree_view (trees.Items (record { list = vs }))) text c.args.at c.in-Some-3.end) (sym c.in-List.is)
-    (subst (λ j. Reads j (tree_view (trees.Items (record { list = vs }))) text c.args.at c.in-Some-3.end) (sym (view-List k))
-    (subst (λ v. Reads (kinds.list (shape_view k.value)) v text c.args.at c.in-Some-3.end) (sym (view-Items vs)) (reads-list (shape_view k.value) (map tree_view vs.items) text c.args.at c.in-Some-after.first c.in-Some-3.end c.in-Some-after.ensures so good)))
+    subst (λ j. ReadsValue (shape_view j) (tree_view (trees.Items (record { list = vs }))) text c.args.at c.in-Some-3.end) (sym c.in-List.is)
+    (subst (λ j. ReadsValue j (tree_view (trees.Items (record { list = vs }))) text c.args.at c.in-Some-3.end) (sym (view-List k))
+    (subst (λ v. ReadsValue (kinds.list (shape_view k.value)) v text c.args.at c.in-Some-3.end) (sym (view-Items vs)) (reads-list (shape_view k.value) (map tree_view vs.items) text c.args.at c.in-Some-after.first c.in-Some-3.end c.in-Some-after.ensures so good)))
 
 pub value-returns-in-Some-4 : goal.value-returns-in-Some-4
 value-returns-in-Some-4 t c =
@@ -140,11 +140,11 @@ value-returns-in-Some-4 t c =
     let vs = c.in-Some-4.list in
     let ms = c.in-Rec.members in
     let first = c.in-Some-after-2.first in
-    let so = subst (λ o. IfSome o (λ r. Spells (items_text false (datas_of (trees_of (map tree_view r.0.items)))) text first r.1)) c.in-Some-4.is e.spells in
+    let so = subst (λ o. IfSome o (λ r. StandsFrom (items_text false (datas_of (trees_of (map tree_view r.0.items)))) text first r.1)) c.in-Some-4.is e.spells in
     let good : EachGood (kinds_in (members_view ms)) (map tree_view vs.items) = search (rules, shape_lemmas, e.good, c.in-Some-4.is, c.deref-in-Rec.ensures.value) in
-    subst (λ j. Reads (shape_view j) (tree_view (trees.Parts (record { list = vs }))) text c.args.at c.in-Some-4.end) (sym c.in-Rec.is)
-    (subst (λ j. Reads j (tree_view (trees.Parts (record { list = vs }))) text c.args.at c.in-Some-4.end) (sym (view-Rec ms))
-    (subst (λ v. Reads (kinds.fields (parts_of (members_view ms))) v text c.args.at c.in-Some-4.end) (sym (view-Parts vs)) (reads-record (members_view ms) (map tree_view vs.items) text c.args.at first c.in-Some-4.end c.in-Some-after-2.ensures so good)))
+    subst (λ j. ReadsValue (shape_view j) (tree_view (trees.Parts (record { list = vs }))) text c.args.at c.in-Some-4.end) (sym c.in-Rec.is)
+    (subst (λ j. ReadsValue j (tree_view (trees.Parts (record { list = vs }))) text c.args.at c.in-Some-4.end) (sym (view-Rec ms))
+    (subst (λ v. ReadsValue (kinds.fields (parts_of (members_view ms))) v text c.args.at c.in-Some-4.end) (sym (view-Parts vs)) (reads-record (members_view ms) (map tree_view vs.items) text c.args.at first c.in-Some-4.end c.in-Some-after-2.ensures so good)))
 
 pub value-returns-in-Some-5 : goal.value-returns-in-Some-5
 value-returns-in-Some-5 t c =
@@ -153,24 +153,24 @@ value-returns-in-Some-5 t c =
     let vs = c.in-Some-5.list in
     let ks = c.in-Tuple.shapes in
     let first = c.in-Some-after-3.first in
-    let so = subst (λ o. IfSome o (λ r. Spells (items_text false (datas_of (trees_of (map tree_view r.0.items)))) text first r.1)) c.in-Some-5.is e.spells in
+    let so = subst (λ o. IfSome o (λ r. StandsFrom (items_text false (datas_of (trees_of (map tree_view r.0.items)))) text first r.1)) c.in-Some-5.is e.spells in
     let good : EachGood (map shape_view ks.list.items) (map tree_view vs.items) = search (rules, e.good, c.in-Some-5.is, c.deref-in-Tuple.ensures.value) in
-    subst (λ j. Reads (shape_view j) (tree_view (trees.Parts (record { list = vs }))) text c.args.at c.in-Some-5.end) (sym c.in-Tuple.is)
-    (subst (λ j. Reads j (tree_view (trees.Parts (record { list = vs }))) text c.args.at c.in-Some-5.end) (sym (view-Tuple ks))
-    (subst (λ v. Reads (kinds.tuple (kinds_of (map shape_view ks.list.items))) v text c.args.at c.in-Some-5.end) (sym (view-Parts vs)) (reads-tuple (map shape_view ks.list.items) (map tree_view vs.items) text c.args.at first c.in-Some-5.end c.in-Some-after-3.ensures so good)))
+    subst (λ j. ReadsValue (shape_view j) (tree_view (trees.Parts (record { list = vs }))) text c.args.at c.in-Some-5.end) (sym c.in-Tuple.is)
+    (subst (λ j. ReadsValue j (tree_view (trees.Parts (record { list = vs }))) text c.args.at c.in-Some-5.end) (sym (view-Tuple ks))
+    (subst (λ v. ReadsValue (kinds.tuple (kinds_of (map shape_view ks.list.items))) v text c.args.at c.in-Some-5.end) (sym (view-Parts vs)) (reads-tuple (map shape_view ks.list.items) (map tree_view vs.items) text c.args.at first c.in-Some-5.end c.in-Some-after-3.ensures so good)))
 
 pub picked-returns : goal.picked-returns
 picked-returns t c =
     let text = c.args.text.now in
     let of = c.index-shapes-tag.result in
-    let num : Spells (decimal c.in-Some-number.tag) text c.in-Some.first c.in-Some-number.i = subst (λ o. IfSome o (λ r. Spells (decimal r.0) text c.in-Some.first r.1)) c.in-Some-number.is c.number.ensures in
-    let value : Reads (shape_view of) (tree_view c.in-Some-2.tree) text c.in-Some-after.next c.in-Some-2.last = subst (λ o. IfSome o (λ r. Reads (shape_view of) (tree_view r.0) text c.in-Some-after.next r.1)) c.in-Some-2.is c.in_ok-tree.ensures in
+    let num : StandsFrom (decimal c.in-Some-number.tag) text c.in-Some.first c.in-Some-number.i = subst (λ o. IfSome o (λ r. StandsFrom (decimal r.0) text c.in-Some.first r.1)) c.in-Some-number.is c.number.ensures in
+    let value : ReadsValue (shape_view of) (tree_view c.in-Some-2.tree) text c.in-Some-after.next c.in-Some-2.last = subst (λ o. IfSome o (λ r. ReadsValue (shape_view of) (tree_view r.0) text c.in-Some-after.next r.1)) c.in-Some-2.is c.in_ok-tree.ensures in
     let tag = c.in-Some-number.tag in
     let i = tag - 1 in
     let small : tag < 2 ^ 32 = omega (arith, c.if-tag.false) in
     let some = c.if-tag-eq0.false in
     let lt : i < length c.args.shapes.now = omega (arith, some, c.if-tag-shapes.false) in
     let nth : of ≡ get_or c.args.shapes.now i of = c.index-shapes-tag.is in
-    subst (λ v. Reads (kinds.choice (kinds_of (map shape_view c.args.shapes.now))) v text c.args.at c.in-Some-after-2.end) (sym (view-Pick tag c.in_ok-new.field-0 ∙ ap (λ (u : Tree). pick tag (tree_view u)) c.in_ok-new.ensures.ok))
+    subst (λ v. ReadsValue (kinds.choice (kinds_of (map shape_view c.args.shapes.now))) v text c.args.at c.in-Some-after-2.end) (sym (view-Pick tag c.in_ok-new.field-0 ∙ ap (λ (u : Tree). pick tag (tree_view u)) c.in_ok-new.ensures.ok))
     (reads-pick (map shape_view c.args.shapes.now) tag i (shape_view of) (tree_view c.in-Some-2.tree) text c.args.at c.in-Some.first c.in-Some-number.i c.in-Some-after.next c.in-Some-2.last c.in-Some-after-2.end
     (omega (arith, some)) (omega (arith, lt, length-map c.args.shapes.now shape_view)) (nth-shape c.args.shapes.now i of lt nth) small c.in-Some.ensures num c.in-Some-after.ensures value c.in-Some-after-2.ensures)

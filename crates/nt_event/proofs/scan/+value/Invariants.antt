@@ -1,7 +1,7 @@
 use Rattle.std.proofs.Common.{◌≡◌, ◌≤◌, ◌<◌, ◌++◌, false, length, map, drop, take, ◌-◌}
 use Rattle.nt_types.specs.Views.{shape_view, member_view}
 use Rattle.nt_types.specs.TreeViews.{tree_view}
-use Rattle.nt_event.specs.Spells.{open_text, AllGood, EachGood, kinds_in}
+use Rattle.nt_event.specs.Standing.{open_text, AllGood, EachGood, kinds_in}
 use Rattle.nt_event.proofs.scan.+value.Given as goal
 
 abbrev pub invariant-items-loop-next : goal.invariant-items-loop-next

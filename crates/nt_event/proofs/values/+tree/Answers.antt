@@ -9,13 +9,13 @@ use Rattle.nt_types.specs.Views.{shape_view, member_view, members_view}
 use Rattle.nt_types.specs.Kinds.{kinds_of, parts_of}
 use Rattle.nt_types.specs.TreeViews.{tree_view}
 use Rattle.nt_types.specs.TreeData.{trees_of}
-use Rattle.nt_event.specs.Entry.{before}
+use Rattle.nt_event.specs.Entry.{trees_then}
 use Rattle.nt_types.specs.declared.tree.Tree.{Tree}
 use Rattle.nt_event.proofs.ViewLemmas.{view-Items, view-Parts, view-List, view-Rec, view-Tuple, nth-shape}
 use Rattle.nt_types.proofs.TreeViews.{view-Pick}
 use Rattle.nt_types.specs.declared.shape.Shape.{the_lemmas as shape_lemmas}
 use Rattle.nt_types.specs.declared.shape.Member.{Member}
-use Rattle.nt_event.proofs.Steps.{picked_is, picked_none, list-tree, record-tree, tuple-tree, all-step, each-step, before-all, lengths-differ, members-differ, member-step, no-pick, one-zero, one-beyond, one-nth}
+use Rattle.nt_event.proofs.Steps.{picked_is, picked_none, list-tree, record-tree, tuple-tree, all-step, each-step, then-all, lengths-differ, members-differ, member-step, no-pick, one-zero, one-beyond, one-nth}
 use Rattle.nt_event.proofs.values.+tree.Goals as goal
 
 pub each-returns-then-shapes-values : goal.each-returns-then-shapes-values
@@ -37,7 +37,7 @@ each-loop-i-preserved t c =
     let lt = c.loop-i-test.true in
     record {
       left = each-step _ (map tree_view olds) (tree_view c.in-Some.tree) c.args.shapes.now c.args.values.now c.loop-i.i k x (omega (arith, lt)) (omega (arith, lt, c.if-shapes-values.false)) c.index-shapes-i.is c.index-values-i.is c.loop-i.invariant.left at
-          ∙ ap (λ l. option_map (before l) (lines.kinds_read (kinds_of (map shape_view (drop (c.loop-i.i + 1) c.args.shapes.now))) (items_view (drop (c.loop-i.i + 1) c.args.values.now)))) (sym views);
+          ∙ ap (λ l. option_map (trees_then l) (lines.kinds_read (kinds_of (map shape_view (drop (c.loop-i.i + 1) c.args.shapes.now))) (items_view (drop (c.loop-i.i + 1) c.args.values.now)))) (sym views);
     }
 
 pub each-returns : goal.each-returns
@@ -46,9 +46,9 @@ each-returns t c =
     let olds = map tree_view c.loop-i.trees.items in
     let done = c.loop-i-test.false in
     sym (c.loop-i.invariant.left
-    ∙ ap (λ l. option_map (before olds) (lines.kinds_read (kinds_of (map shape_view l)) (items_view (drop i c.args.values.now)))) (drop_all i c.args.shapes.now (omega (arith, done)))
-    ∙ ap (λ l. option_map (before olds) (lines.kinds_read kinds.no_kinds (items_view l))) (drop_all i c.args.values.now (omega (arith, done, c.if-shapes-values.false)))
-    ∙ ap (λ (l : TreesData). Some l) (before-all olds))
+    ∙ ap (λ l. option_map (trees_then olds) (lines.kinds_read (kinds_of (map shape_view l)) (items_view (drop i c.args.values.now)))) (drop_all i c.args.shapes.now (omega (arith, done)))
+    ∙ ap (λ l. option_map (trees_then olds) (lines.kinds_read kinds.no_kinds (items_view l))) (drop_all i c.args.values.now (omega (arith, done, c.if-shapes-values.false)))
+    ∙ ap (λ (l : TreesData). Some l) (then-all olds))
 
 pub each_member-loop-i-preserved : goal.each_member-loop-i-preserved
 each_member-loop-i-preserved t c =
@@ -63,7 +63,7 @@ each_member-loop-i-preserved t c =
     let lt = c.loop-i-test.true in
     record {
       left = member-step _ (map tree_view olds) (tree_view c.in-Some.tree) c.args.members.now c.args.values.now c.loop-i.i k x (omega (arith, lt)) (omega (arith, lt, c.if-members-values.false)) c.index-members-i.is c.index-values-i.is c.loop-i.invariant.left at
-          ∙ ap (λ l. option_map (before l) (lines.parts_read (parts_of (map member_view (drop (c.loop-i.i + 1) c.args.members.now))) (items_view (drop (c.loop-i.i + 1) c.args.values.now)))) (sym views);
+          ∙ ap (λ l. option_map (trees_then l) (lines.parts_read (parts_of (map member_view (drop (c.loop-i.i + 1) c.args.members.now))) (items_view (drop (c.loop-i.i + 1) c.args.values.now)))) (sym views);
     }
 
 pub each_member-returns : goal.each_member-returns
@@ -72,9 +72,9 @@ each_member-returns t c =
     let olds = map tree_view c.loop-i.trees.items in
     let done = c.loop-i-test.false in
     sym (c.loop-i.invariant.left
-    ∙ ap (λ l. option_map (before olds) (lines.parts_read (parts_of (map member_view l)) (items_view (drop i c.args.values.now)))) (drop_all i c.args.members.now (omega (arith, done)))
-    ∙ ap (λ l. option_map (before olds) (lines.parts_read kinds.no_parts (items_view l))) (drop_all i c.args.values.now (omega (arith, done, c.if-members-values.false)))
-    ∙ ap (λ (l : TreesData). Some l) (before-all olds))
+    ∙ ap (λ l. option_map (trees_then olds) (lines.parts_read (parts_of (map member_view l)) (items_view (drop i c.args.values.now)))) (drop_all i c.args.members.now (omega (arith, done)))
+    ∙ ap (λ l. option_map (trees_then olds) (lines.parts_read kinds.no_parts (items_view l))) (drop_all i c.args.values.now (omega (arith, done, c.if-members-values.false)))
+    ∙ ap (λ (l : TreesData). Some l) (then-all olds))
 
 pub list-loop-value-preserved : goal.list-loop-value-preserved
 list-loop-value-preserved t c =
@@ -85,15 +85,15 @@ list-loop-value-preserved t c =
     let at : Some (tree_view c.in-Some.tree) ≡ f (view x) = subst (λ o. option_map tree_view o ≡ f (view x)) c.in-Some.is c.in_ok-tree.ensures in
     record {
       left = all-step f _ (map tree_view olds) (tree_view c.in-Some.tree) c.args.values.now c.loop-value.value-index x c.loop-value-test.true c.value-item.is c.loop-value.invariant.left at
-          ∙ ap (λ l. option_map (before l) (all_read f (items_view (drop (c.loop-value.value-index + 1) c.args.values.now)))) (sym views);
+          ∙ ap (λ l. option_map (trees_then l) (all_read f (items_view (drop (c.loop-value.value-index + 1) c.args.values.now)))) (sym views);
     }
 
 pub list-returns : goal.list-returns
 list-returns t c =
     let olds = map tree_view c.loop-value.trees.items in
     sym (c.loop-value.invariant.left
-    ∙ ap (λ l. option_map (before olds) (all_read (tree_read (shape_view c.args.of.now)) (items_view l))) (drop_all c.loop-value.value-index c.args.values.now (omega (arith, c.loop-value-test.false)))
-    ∙ ap (λ (l : TreesData). Some l) (before-all olds))
+    ∙ ap (λ l. option_map (trees_then olds) (all_read (tree_read (shape_view c.args.of.now)) (items_view l))) (drop_all c.loop-value.value-index c.args.values.now (omega (arith, c.loop-value-test.false)))
+    ∙ ap (λ (l : TreesData). Some l) (then-all olds))
 
 pub picked-returns-then-values-ne2 : goal.picked-returns-then-values-ne2
 picked-returns-then-values-ne2 t c =

@@ -7,13 +7,13 @@ use Rattle.nt_types.specs.Fits.{fits}
 use Rattle.nt_event.specs.Json.{data_of, InRange}
 
 -- from one place to another stands this
-pub record Spells (part text : List ℕ) (at end : ℕ) : Type 0 where
+pub record StandsFrom (part text : List ℕ) (at end : ℕ) : Type 0 where
   pub part_is : drop at text ≡ part ++ drop end text
   pub within : end ≤ length text
   pub some : at < end
 
 -- the same, and it may be nothing
-pub record MaySpell (part text : List ℕ) (at end : ℕ) : Type 0 where
+pub record MayStandFrom (part text : List ℕ) (at end : ℕ) : Type 0 where
   pub part_is : drop at text ≡ part ++ drop end text
   pub within : end ≤ length text
   pub past : at ≤ end
@@ -24,8 +24,8 @@ pub record Good (k : Kind) (v : TreeData) : Type 0 where
   pub range : InRange v
 
 -- the value, in its compact form
-pub record Reads (k : Kind) (v : TreeData) (text : List ℕ) (at end : ℕ) : Type 0 where
-  pub spells : Spells (compact_text (data_of v)) text at end
+pub record ReadsValue (k : Kind) (v : TreeData) (text : List ℕ) (at end : ℕ) : Type 0 where
+  pub spells : StandsFrom (compact_text (data_of v)) text at end
   pub good : Good k v
 
 -- a list of one kind
