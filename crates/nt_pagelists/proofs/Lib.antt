@@ -1,0 +1,6 @@
+pub mod Parts
+pub mod PagesBack
+pub mod ColumnsBack
+pub mod ClustersBack
+pub mod GroupsBack
+pub mod FootersBack

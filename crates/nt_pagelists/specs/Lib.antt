@@ -1,0 +1,9 @@
+pub mod Columns
+pub mod Pages
+pub mod Clusters
+pub mod PageLists
+pub mod ClusterGroups
+pub mod Footers
+pub mod Writing
+pub mod FooterWriting
+pub mod ReadingBack
