@@ -1,2 +1,5 @@
 pub mod Plan
 pub mod PlanViews
+pub mod Place
+pub mod Needs
+pub mod Types
