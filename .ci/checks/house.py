@@ -16,10 +16,7 @@ LAYERS = ["definitions", "codecs", "data", "plans", "threads", "whole files", "p
 
 # Names that several crates may define: those of a type's own model, and those that are still to be told apart.
 SHARED = set("state_of".split())
-STILL_SHARED = set(
-    """Adds BeginsWith HasRoom Holds IsAt IsSettled IsThere Knows Lists Reads Spells Stands Writes appended before begun code_of
-    columns_of counted fields_of finished first_state found header_of names_at put_at settled word_at written""".split()
-)
+STILL_SHARED = set("Adds columns_of".split())
 
 # The file of one field in nt_app, which goes once the program stands on the container, the page lists and the reader.
 SCAFFOLD = {

@@ -1,13 +1,13 @@
 -- Images of a file whose first byte is 0 until all the rest stays.
 use Rattle.std.proofs.Common.{◌≡◌, ◌⊎◌, ◌∙◌, inl, inr, ap, sym, subst, refl, ℕ, ◌+◌, List, [], ◌∷◌, ◌++◌, length, drop, suc, arith, append_assoc}
 use Rattle.std.proofs.Math.Seq.{drop-append_seam}
-use Rattle.nt_outside.specs.Log.{put_at}
+use Rattle.nt_lists.specs.Places.{put_at}
 use Rattle.nt_outside.specs.Held.{Held, IsTornWrite}
 use Rattle.std.specs.Prelude.{replicate}
 use Rattle.nt_app.specs.Header.{header_blob}
 use Rattle.nt_app.specs.Cluster.{cluster_blob}
 use Rattle.nt_app.specs.PlainFile.{front, tail, parts, plain_file}
-use Rattle.nt_app.specs.Writing.{IsUnfinished, BeginsWithZero, blank, begun, gathered, finished}
+use Rattle.nt_app.specs.Writing.{IsUnfinished, BeginsWithZero, blank, file_begun, gathered, finished}
 
 -- bytes behind the first one, or written over those behind it, leave it
 pub unfinished_behind : (image tail over new : List ℕ) → BeginsWithZero image → new ≡ put_at (image ++ tail) 1 over → IsUnfinished new
@@ -35,18 +35,18 @@ unfolding blank
 blank-begins image is = (replicate 225 0, is)
 
 -- so does a file that is begun
-pub begun-begins : (image : List ℕ) → image ≡ begun → BeginsWithZero image
+pub begun-begins : (image : List ℕ) → image ≡ file_begun → BeginsWithZero image
 begun-begins image is =
     let first = blank-begins blank refl in
     (first.0 ++ header_blob, is ∙ ap (λ (l : List ℕ). l ++ header_blob) first.1)
 
-pub unfinished_begun : (image : List ℕ) → image ≡ begun → IsUnfinished image
+pub unfinished_begun : (image : List ℕ) → image ≡ file_begun → IsUnfinished image
 unfinished_begun image is = let first = begun-begins image is in subst IsUnfinished (sym first.1) refl
 
 -- and one that has its cluster
 pub gathered-begins : (numbers image : List ℕ) → image ≡ gathered numbers → BeginsWithZero image
 gathered-begins numbers image is =
-    let first = begun-begins begun refl in
+    let first = begun-begins file_begun refl in
     (first.0 ++ cluster_blob numbers, is ∙ ap (λ (l : List ℕ). l ++ cluster_blob numbers) first.1)
 
 pub unfinished_gathered : (numbers image : List ℕ) → image ≡ gathered numbers → IsUnfinished image

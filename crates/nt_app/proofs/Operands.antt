@@ -10,7 +10,7 @@ use Rattle.clap.specs.declared.builder.command.Command.{Command}
 use Rattle.clap.specs.declared.parser.matches.ArgMatches.{ArgMatches}
 use Rattle.clap.proofs.CallerLemmas.{required_in_chain}
 use Rattle.nt_app.specs.CommandLine.{operand, bare}
-use Rattle.nt_app.specs.Commands.{IsOperand, IsBare, IsThere, IsCommandOf}
+use Rattle.nt_app.specs.Commands.{IsOperand, IsBare, HasMatch, IsCommandOf}
 
 -- a name that clap gives to none of its own flags
 abbrev pub IsOwn : List ℕ → Type 0
@@ -46,10 +46,10 @@ fit_one a f (suc k) d lt = absurd (omega arith)
 distinct_one : (a : Arg) → HasDistinctIds (a ∷ [])
 distinct_one a j k d e lt lt' same = omega arith
 
-there_by : (m : ArgMatches) (id id' : List ℕ) → id ≡ id' → is_some (first_value (found_of m) id) ≡ true → IsThere m id'
-there_by m id id' is some = subst (IsThere m) is some
+there_by : (m : ArgMatches) (id id' : List ℕ) → id ≡ id' → is_some (first_value (found_of m) id) ≡ true → HasMatch m id'
+there_by m id id' is some = subst (HasMatch m) is some
 
-one_there : (m : ArgMatches) (id : List ℕ) → IsThere m id → All (IsThere m) (id ∷ [])
+one_there : (m : ArgMatches) (id : List ℕ) → HasMatch m id → All (HasMatch m) (id ∷ [])
 one_there m id there zero d lt = there
 one_there m id there (suc k) d lt = absurd (omega arith)
 
@@ -94,7 +94,7 @@ fit_three x y z f g h (suc zero) d lt = g
 fit_three x y z f g h (suc (suc zero)) d lt = h
 fit_three x y z f g h (suc (suc (suc n))) d lt = absurd (omega arith)
 
-three_there : (m : ArgMatches) (i j k : List ℕ) → IsThere m i → IsThere m j → IsThere m k → All (IsThere m) (i ∷ j ∷ k ∷ [])
+three_there : (m : ArgMatches) (i j k : List ℕ) → HasMatch m i → HasMatch m j → HasMatch m k → All (HasMatch m) (i ∷ j ∷ k ∷ [])
 three_there m i j k a b c zero d lt = a
 three_there m i j k a b c (suc zero) d lt = b
 three_there m i j k a b c (suc (suc zero)) d lt = c

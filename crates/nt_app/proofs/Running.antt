@@ -8,7 +8,7 @@ use Rattle.nt_outside.specs.World.{World, Asked, Text, File, Out, HostState, fil
 use Rattle.nt_app.specs.CommandLine.{IsWrite, IsEntries}
 use Rattle.nt_app.specs.Directory.{file_header_rest}
 use Rattle.nt_app.specs.PlainFile.{front, parts, plain_file, IsPlainFile}
-use Rattle.nt_types.specs.Kinds.{Part}
+use Rattle.nt_types.specs.ShapeData.{MemberData}
 use Rattle.nt_types.specs.declared.fault.SchemaFault.{SchemaFault}
 use Rattle.nt_app.specs.declared.status.TextFault.{TextFault}
 use Rattle.nt_app.specs.declared.status.TextFault.TheVariants.{NotYet, Schema}
@@ -17,36 +17,36 @@ use Rattle.nt_app.specs.Events.{IsEventText}
 use Rattle.nt_app.specs.Stops.{IsThereWith, IsNoInputBy}
 use Rattle.nt_app.specs.Statuses.{message_of}
 use Rattle.nt_app.specs.Writing.{IsUnfinished}
-use Rattle.nt_app.specs.Writes.{WriteTold, AsksAsDone, Writes}
-use Rattle.nt_app.specs.Entries.{IsNoPlainFile, FirstFault, EntriesTold, Lists}
+use Rattle.nt_app.specs.Writes.{WriteTold, AsksAsDone, WritesFile}
+use Rattle.nt_app.specs.Entries.{IsNoPlainFile, FirstFault, EntriesTold, ListsFile}
 use Rattle.nt_app.proofs.Spoken.{write_is_not_entries}
 use Rattle.nt_app.specs.Runs.{Reports, RefusesWords, RunsWrite, RunsEntries}
 use Rattle.nt_app.specs.declared.status.Status.{Status}
 use Rattle.nt_app.specs.declared.status.Status.TheVariants as status
 
-ok_is : (x y : List Part) → ◌≡◌ {A = Result (List Part) SchemaFault} (Ok x) (Ok y) → x ≡ y
+ok_is : (x y : List MemberData) → ◌≡◌ {A = Result (List MemberData) SchemaFault} (Ok x) (Ok y) → x ≡ y
 ok_is x y e = cc
 
 some_is : (x y : List ℕ) → Some x ≡ Some y → x ≡ y
 some_is x y e = cc
 
 -- words that are `write` with some names are so with no others
-pub same_write : (words : List (List ℕ)) (o s i o' s' i' : List ℕ) (old new : HostState) (answer : Status) → IsWrite words o s i → IsWrite words o' s' i' → Writes o s i old new answer → Writes o' s' i' old new answer
+pub same_write : (words : List (List ℕ)) (o s i o' s' i' : List ℕ) (old new : HostState) (answer : Status) → IsWrite words o s i → IsWrite words o' s' i' → WritesFile o s i old new answer → WritesFile o' s' i' old new answer
 same_write words o s i o' s' i' old new answer one other writes =
     let out-is : o ≡ o' = some_is o o' (sym one.names.out_is ∙ other.names.out_is) in
     let schema-is : s ≡ s' = some_is s s' (sym one.names.schema_is ∙ other.names.schema_is) in
     let input-is : i ≡ i' = some_is i i' (sym one.names.input_is ∙ other.names.input_is) in
-    subst (λ (l : List ℕ). Writes l s' i' old new answer) out-is (subst (λ (l : List ℕ). Writes o l i' old new answer) schema-is (subst (λ (l : List ℕ). Writes o s l old new answer) input-is writes))
+    subst (λ (l : List ℕ). WritesFile l s' i' old new answer) out-is (subst (λ (l : List ℕ). WritesFile o l i' old new answer) schema-is (subst (λ (l : List ℕ). WritesFile o s l old new answer) input-is writes))
 
-pub same_entries : (words : List (List ℕ)) (n n' : List ℕ) (old new : HostState) (answer : Status) → IsEntries words n → IsEntries words n' → Lists n old new answer → Lists n' old new answer
+pub same_entries : (words : List (List ℕ)) (n n' : List ℕ) (old new : HostState) (answer : Status) → IsEntries words n → IsEntries words n' → ListsFile n old new answer → ListsFile n' old new answer
 same_entries words n n' old new answer one other lists =
-    subst (λ (l : List ℕ). Lists l old new answer) (some_is n n' (sym one.file_is ∙ other.file_is)) lists
+    subst (λ (l : List ℕ). ListsFile l old new answer) (some_is n n' (sym one.file_is ∙ other.file_is)) lists
 
 pub not_both : (words : List (List ℕ)) (o s i n : List ℕ) → IsWrite words o s i → IsEntries words n → ⊥
 not_both words o s i n one other = write_is_not_entries (some_is (codes "write") (codes "entries") (sym one.begins ∙ other.begins))
 
 -- want of memory for the words leaves all as it was
-pub memory_writes : (o s i : List ℕ) (state : HostState) → Writes o s i state state status.Memory
+pub memory_writes : (o s i : List ℕ) (state : HostState) → WritesFile o s i state state status.Memory
 memory_writes o s i state = record {
   told = λ w is. (w, is, refl, λ other differs. refl, (inl (refl, refl), (0, sym (append-nil w.out))));
   asked = (0, sym (append-nil state.asked));
@@ -56,7 +56,7 @@ memory_writes o s i state = record {
   opened = refl;
 }
 
-pub memory_lists : (n : List ℕ) (state : HostState) → Lists n state state status.Memory
+pub memory_lists : (n : List ℕ) (state : HostState) → ListsFile n state state status.Memory
 memory_lists n state = record {
   told = λ w is. (w, is, refl, (refl, refl), refl);
   asked = (0, sym (append-nil state.asked));
@@ -67,10 +67,10 @@ memory_lists n state = record {
 }
 
 -- a command that is one never says that the words are none
-pub write_is_command : (o s i : List ℕ) (old new : HostState) (answer : Status) → Writes o s i old new answer → answer ≡ status.Usage → ⊥
+pub write_is_command : (o s i : List ℕ) (old new : HostState) (answer : Status) → WritesFile o s i old new answer → answer ≡ status.Usage → ⊥
 write_is_command o s i old new answer writes is = subst (AsksAsDone (Text s ∷ Text i ∷ Out o ∷ []) old.asked new.asked) is writes.asked
 
-pub entries_is_command : (n : List ℕ) (old new : HostState) (answer : Status) → Lists n old new answer → answer ≡ status.Usage → ⊥
+pub entries_is_command : (n : List ℕ) (old new : HostState) (answer : Status) → ListsFile n old new answer → answer ≡ status.Usage → ⊥
 entries_is_command n old new answer lists is = subst (AsksAsDone (File n ∷ []) old.asked new.asked) is lists.asked
 
 either_after : (old mid new : HostState) (n : ℕ) (message : List ℕ) → mid.err_faults ≡ old.err_faults → (length message ≤ n) ⊎ Rose mid.err_faults new.err_faults → (length message ≤ n) ⊎ Rose old.err_faults new.err_faults
@@ -166,7 +166,7 @@ entries_refused n w v (status.Text input line kind) told none served = absurd to
 entries_refused n w v status.Memory told none served = inr refl
 
 -- `write`, and then its message
-pub run_write : (o s i : List ℕ) (old mid new : HostState) (answer : Status) → Writes o s i old mid answer → Reports (message_of answer) mid new → RunsWrite o s i old new answer
+pub run_write : (o s i : List ℕ) (old mid new : HostState) (answer : Status) → WritesFile o s i old mid answer → Reports (message_of answer) mid new → RunsWrite o s i old new answer
 run_write o s i old mid new answer writes reports = record {
   told = λ w is.
       let done = writes.told w is in
@@ -189,7 +189,7 @@ run_write o s i old mid new answer writes reports = record {
 }
 
 -- `entries`, and then its message
-pub run_entries : (n : List ℕ) (old mid new : HostState) (answer : Status) → Lists n old mid answer → Reports (message_of answer) mid new → RunsEntries n old new answer
+pub run_entries : (n : List ℕ) (old mid new : HostState) (answer : Status) → ListsFile n old mid answer → Reports (message_of answer) mid new → RunsEntries n old new answer
 run_entries n old mid new answer lists reports = record {
   told = λ w is.
       let done = lists.told w is in

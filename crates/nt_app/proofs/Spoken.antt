@@ -7,8 +7,8 @@ use Rattle.std.specs.declared.alloc.Global.{Global}
 use Rattle.clap.specs.Words.{App, rows_of, found_of, first_of, first_value, matches_of, is_simple, is_simple_and_free}
 use Rattle.clap.specs.declared.parser.matches.ArgMatches.{ArgMatches}
 use Rattle.clap.proofs.WalkLemmas.{first_value-rows}
-use Rattle.nt_app.specs.CommandLine.{texts, write_app, entries_app, Begins, IsTaken, found, NamesOfWrite, IsNoCommand, Clashes, IsWrong}
-use Rattle.nt_app.specs.Commands.{Reads}
+use Rattle.nt_app.specs.CommandLine.{texts, write_app, entries_app, Begins, IsTaken, word_found, NamesOfWrite, IsNoCommand, Clashes, IsWrong}
+use Rattle.nt_app.specs.Commands.{ReadsWords}
 
 and_first : (a b : Bool) → (a && b) ≡ true → a ≡ true
 and_first true b p = refl
@@ -22,17 +22,17 @@ pub held : (P : ArgMatches → Type 0) (o : Option ArgMatches) (m : ArgMatches) 
 held P o m is has = subst (λ (x : Option ArgMatches). IfSome x P) is has
 
 -- the reading of matches that were found
-pub reads_of : (app app' : App) (words : List (List ℕ)) (o : Option ArgMatches) (m : ArgMatches) → app ≡ app' → o ≡ Some m → Reads app words o → IsTaken app' words × (rows_of (found_of m) ≡ matches_of app' words)
+pub reads_of : (app app' : App) (words : List (List ℕ)) (o : Option ArgMatches) (m : ArgMatches) → app ≡ app' → o ≡ Some m → ReadsWords app words o → IsTaken app' words × (rows_of (found_of m) ≡ matches_of app' words)
 reads_of app app' words o m same is reads =
-    subst (λ (a : App). Reads a words (Some m)) same (subst (Reads app words) is reads)
+    subst (λ (a : App). ReadsWords a words (Some m)) same (subst (ReadsWords app words) is reads)
 
 -- the reading of a refusal
-pub refused_of : (app app' : App) (words : List (List ℕ)) (o : Option ArgMatches) → app ≡ app' → o ≡ None → Reads app words o → IsTaken app' words → ⊥
+pub refused_of : (app app' : App) (words : List (List ℕ)) (o : Option ArgMatches) → app ≡ app' → o ≡ None → ReadsWords app words o → IsTaken app' words → ⊥
 refused_of app app' words o same is reads =
-    subst (λ (a : App). Reads a words None) same (subst (Reads app words) is reads)
+    subst (λ (a : App). ReadsWords a words None) same (subst (ReadsWords app words) is reads)
 
 -- the value under a name is what clap finds
-pub found_by : (app : App) (words : List (List ℕ)) (m : ArgMatches) (id value : List ℕ) → rows_of (found_of m) ≡ matches_of app words → first_value (found_of m) id ≡ Some value → found app words id ≡ Some value
+pub found_by : (app : App) (words : List (List ℕ)) (m : ArgMatches) (id value : List ℕ) → rows_of (found_of m) ≡ matches_of app words → first_value (found_of m) id ≡ Some value → word_found app words id ≡ Some value
 found_by app words m id value rows is =
     sym (first_value-rows (found_of m) id ∙ ap (first_of id) rows) ∙ is
 

@@ -36,14 +36,14 @@ abbrev pub IsTaken : App → List (List ℕ) → Type 0
 IsTaken app words = fault_of app words ≡ []
 
 -- what clap finds under a name of the command
-abbrev pub found : App → List (List ℕ) → List ℕ → Option (List ℕ)
-found app words id = first_of id (matches_of app words)
+abbrev pub word_found : App → List (List ℕ) → List ℕ → Option (List ℕ)
+word_found app words id = first_of id (matches_of app words)
 
 -- `write OUT SCHEMA IN`, as clap reads it
 pub record NamesOfWrite (words : List (List ℕ)) (out schema input : List ℕ) : Type 0 where
-  pub out_is : found write_app words (codes "OUT") ≡ Some out
-  pub schema_is : found write_app words (codes "SCHEMA") ≡ Some schema
-  pub input_is : found write_app words (codes "IN") ≡ Some input
+  pub out_is : word_found write_app words (codes "OUT") ≡ Some out
+  pub schema_is : word_found write_app words (codes "SCHEMA") ≡ Some schema
+  pub input_is : word_found write_app words (codes "IN") ≡ Some input
 
 -- and OUT is another name than the two that are read
 pub record IsWrite (words : List (List ℕ)) (out schema input : List ℕ) : Type 0 where
@@ -57,7 +57,7 @@ pub record IsWrite (words : List (List ℕ)) (out schema input : List ℕ) : Typ
 pub record IsEntries (words : List (List ℕ)) (file : List ℕ) : Type 0 where
   pub begins : Begins words (codes "entries")
   pub taken : IsTaken entries_app words
-  pub file_is : found entries_app words (codes "FILE") ≡ Some file
+  pub file_is : word_found entries_app words (codes "FILE") ≡ Some file
 
 -- no command has these words
 pub record IsNoCommand (words : List (List ℕ)) : Type 0 where

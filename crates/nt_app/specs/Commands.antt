@@ -33,15 +33,15 @@ pub record IsBare (name : List ℕ) (c : ClapCommand) : Type 0 where
   pub negates : (fields_of c).subcommand_negates_reqs ≡ false
 
 -- something stands under this name
-abbrev pub IsThere : ArgMatches → List ℕ → Type 0
-IsThere m id = is_some (first_value (found_of m) id) ≡ true
+abbrev pub HasMatch : ArgMatches → List ℕ → Type 0
+HasMatch m id = is_some (first_value (found_of m) id) ≡ true
 
 -- the command of an application, of which each parse finds something under each of these names
 pub record IsCommandOf (app : App) (ids : List (List ℕ)) (c : ClapCommand) : Type 0 where
   pub app_is : app_of c ≡ app
-  pub there : (m : ArgMatches) → IsParsedFrom c m → All (IsThere m) ids
+  pub there : (m : ArgMatches) → IsParsedFrom c m → All (HasMatch m) ids
 
 -- clap takes the words, and these are its matches; or it doesn't
-abbrev pub Reads : App → List (List ℕ) → Option ArgMatches → Type 0
-Reads app words None = IsTaken app words → ⊥
-Reads app words (Some m) = IsTaken app words × (rows_of (found_of m) ≡ matches_of app words)
+abbrev pub ReadsWords : App → List (List ℕ) → Option ArgMatches → Type 0
+ReadsWords app words None = IsTaken app words → ⊥
+ReadsWords app words (Some m) = IsTaken app words × (rows_of (found_of m) ≡ matches_of app words)

@@ -72,7 +72,7 @@ ListTold start w world (status.Text input line kind) = ⊥
 ListTold start w world status.Memory = world ≡ Some w
 
 -- the command before its message is printed
-pub record Lists (name : List ℕ) (old new : HostState) (answer : Status) : Type 0 where
+pub record ListsFile (name : List ℕ) (old new : HostState) (answer : Status) : Type 0 where
   -- where the host tells what it holds
   pub told : (w : World) → old.world ≡ Some w → (w' : World) × (new.world ≡ Some w') × (w'.err ≡ w.err) × KeepsFiles w w' × EntriesTold name w w' answer
   pub asked : AsksAsDone (File name ∷ []) old.asked new.asked answer

@@ -9,13 +9,13 @@ use Rattle.nt_app.specs.declared.status.TextFault.TheVariants.{NotYet, Schema}
 use Rattle.nt_types.specs.declared.fault.SchemaKind.{SchemaKind}
 use Rattle.nt_types.specs.declared.fault.SchemaKind.TheVariants.{TooLong, BadName, Repeated, BadType, TooDeep, TooMany, Empty}
 
-abbrev pub code_of : Status → ℕ
-code_of status.Done = 0
-code_of status.Usage = 2
-code_of (status.File fault) = 3
-code_of status.Outside = 4
-code_of (status.Text input line kind) = 6
-code_of status.Memory = 7
+abbrev pub status_code : Status → ℕ
+status_code status.Done = 0
+status_code status.Usage = 2
+status_code (status.File fault) = 3
+status_code status.Outside = 4
+status_code (status.Text input line kind) = 6
+status_code status.Memory = 7
 
 -- the name of a schema text's fault
 abbrev pub schema_fault_name : SchemaKind → List ℕ

@@ -139,7 +139,7 @@ AsksAsDone objects old new (status.Text input line kind) = AsksFirst objects old
 AsksAsDone objects old new status.Memory = AsksFirst objects old new
 
 -- the command before its message is printed
-pub record Writes (out schema input : List ℕ) (old new : HostState) (answer : Status) : Type 0 where
+pub record WritesFile (out schema input : List ℕ) (old new : HostState) (answer : Status) : Type 0 where
   -- where the host tells what it holds
   pub told : (w : World) → old.world ≡ Some w → (w' : World) × (new.world ≡ Some w') × (w'.err ≡ w.err) × OthersStay out w w' × WriteTold out schema input w w' answer
   pub asked : AsksAsDone (Text schema ∷ Text input ∷ Out out ∷ []) old.asked new.asked answer

@@ -1,6 +1,7 @@
 -- A file as it grows on a disk. Its first byte is 0 until all the rest stays.
 use Rattle.std.specs.Prelude.{◌≡◌, ◌⊎◌, ℕ, List, [], ◌∷◌, ◌++◌, replicate, Option, Some}
-use Rattle.nt_outside.specs.Log.{FailedAppend, put_at}
+use Rattle.nt_lists.specs.Places.{put_at}
+use Rattle.nt_outside.specs.Log.{FailedAppend}
 use Rattle.nt_outside.specs.Held.{Held}
 use Rattle.nt_app.specs.declared.stop.Stop.{Stop}
 use Rattle.nt_app.specs.declared.stop.Stop.TheVariants as stop
@@ -12,12 +13,12 @@ unfoldable pub blank : List ℕ
 blank = replicate 226 0
 
 -- a file that is begun: that room, and the header
-abbrev pub begun : List ℕ
-begun = blank ++ header_blob
+abbrev pub file_begun : List ℕ
+file_begun = blank ++ header_blob
 
 -- and its one cluster
 abbrev pub gathered : List ℕ → List ℕ
-gathered numbers = begun ++ cluster_blob numbers
+gathered numbers = file_begun ++ cluster_blob numbers
 
 -- a file that can't pass for a finished one: it has no byte, or its first byte is 0
 abbrev pub IsUnfinished : List ℕ → Type 0

@@ -10,7 +10,7 @@ ghost use Rattle.nt_app.specs.Events.{event_lines};
 ghost use Rattle.nt_app.specs.Writing.{IsUnfinished};
 ghost use Rattle.nt_app.specs.Stops.{AsksFirst, IsThereWith};
 ghost use Rattle.nt_app.specs.declared.status.Status.TheVariants as status;
-ghost use Rattle.nt_app.specs.Entries.{IsNotRoot, Judges, fault_at_start, status_of_refusal, ListTold, Lists};
+ghost use Rattle.nt_app.specs.Entries.{IsNotRoot, Judges, fault_at_start, status_of_refusal, ListTold, ListsFile};
 
 use crate::format::read_plain;
 use crate::status::Status;
@@ -171,7 +171,7 @@ fn list<H: Host>(alloc: Global, host: &mut H, start: &[u8]) -> Status
 
 /// The whole command.
 pub fn entries<H: Host>(alloc: Global, host: &mut H, name: &str) -> Status
-    ensures { Lists name.now (H.state host.old) (H.state host.new) result }
+    ensures { ListsFile name.now (H.state host.old) (H.state host.new) result }
 {
     match read_file(alloc, host, name) {
         Ok(start) => list(alloc, host, &start),

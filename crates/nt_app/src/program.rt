@@ -4,8 +4,8 @@ ghost use Rattle.std.specs.Prelude.{◌≡◌, ◌⊎◌, List, ℕ};
 ghost use Rattle.nt_app.specs.declared.status.Status.TheVariants as status;
 ghost use Rattle.nt_app.specs.CommandLine.{texts, IsWrite, IsEntries, IsNoCommand, IsWrong};
 ghost use Rattle.nt_app.specs.Statuses.{message_of};
-ghost use Rattle.nt_app.specs.Writes.{Writes};
-ghost use Rattle.nt_app.specs.Entries.{Lists};
+ghost use Rattle.nt_app.specs.Writes.{WritesFile};
+ghost use Rattle.nt_app.specs.Entries.{ListsFile};
 ghost use Rattle.nt_app.specs.Runs.{Reports, RefusesWords, RunsWrite, RunsEntries};
 
 use crate::entries::entries;
@@ -26,8 +26,8 @@ fn report<H: Host>(host: &mut H, status: &Status)
 
 /// Does what the words say, and answers how that ended.
 fn obey<H: Host, G: Gate>(alloc: Global, words: &[String], host: &mut H, gate: &G) -> Status
-    ensures write { (out schema input : List ℕ) → IsWrite (texts words.now) out schema input → Writes out schema input (H.state host.old) (H.state host.new) result }
-    ensures entries { (name : List ℕ) → IsEntries (texts words.now) name → Lists name (H.state host.old) (H.state host.new) result }
+    ensures write { (out schema input : List ℕ) → IsWrite (texts words.now) out schema input → WritesFile out schema input (H.state host.old) (H.state host.new) result }
+    ensures entries { (name : List ℕ) → IsEntries (texts words.now) name → ListsFile name (H.state host.old) (H.state host.new) result }
     ensures usage { IsNoCommand (texts words.now) → ((result ≡ status.Usage) ⊎ (result ≡ status.Memory)) × (H.state host.new ≡ H.state host.old) }
     ensures usage_only { result ≡ status.Usage → IsWrong (texts words.now) }
 {

@@ -35,11 +35,11 @@ pub enum Status {
 }
 
 impl Status {
-    ghost use Rattle.nt_app.specs.Statuses.{code_of};
+    ghost use Rattle.nt_app.specs.Statuses.{status_code};
 
     /// The exit status of the process.
     pub fn code(&self) -> u8
-        ensures { result ≡ code_of self.now }
+        ensures { result ≡ status_code self.now }
     {
         match self {
             Status::Done => 0,

@@ -3,7 +3,7 @@
 ghost use Rattle.std.specs.Prelude.{◌≡◌, true, ℕ, List, ◌∷◌, [], Some, codes, IfOk, IfSome};
 ghost use Rattle.clap.specs.Words.{app_of, is_simple_and_free, first_value, found_of, IsParsedFrom};
 ghost use Rattle.nt_app.specs.CommandLine.{texts, write_app, entries_app, Begins, IsNoCommand, IsWrong};
-ghost use Rattle.nt_app.specs.Commands.{Says, IsOperand, IsBare, IsThere, IsCommandOf, Reads};
+ghost use Rattle.nt_app.specs.Commands.{Says, IsOperand, IsBare, HasMatch, IsCommandOf, ReadsWords};
 
 use clap::error::ErrorKind;
 use clap::{Arg, ArgAction, ArgMatches};
@@ -60,7 +60,7 @@ fn matches_of<'a>(
     words: &'a [String],
 ) -> Result<Option<ArgMatches<'a>>, AllocError>
     requires simple { is_simple_and_free (app_of command) ≡ true }
-    ensures reads { IfOk result (Reads (app_of command.entry) (texts words.entry.now)) }
+    ensures reads { IfOk result (ReadsWords (app_of command.entry) (texts words.entry.now)) }
     ensures parsed { IfOk result (λ found. IfSome found (IsParsedFrom command.entry)) }
 {
     match command.try_get_matches_from(words) {
@@ -77,7 +77,7 @@ fn matches_of<'a>(
 
 /// What was found under a name.
 fn name_in<'a>(matches: &ArgMatches<'a>, id: &str) -> &'a str
-    requires { IsThere matches.now id.now }
+    requires { HasMatch matches.now id.now }
     ensures { first_value (found_of matches.now) id.now ≡ Some result.now }
 {
     match matches.get_str(id) {

@@ -7,8 +7,8 @@ ghost use Rattle.nt_outside.specs.Held.{Held, WhereHeld, nothing_held};
 ghost use Rattle.nt_outside.specs.World.{World, Text as asked_text, Out as asked_out};
 ghost use Rattle.nt_app.specs.declared.stop.Stop.TheVariants as stop;
 ghost use Rattle.nt_app.specs.Stops.{TellsEvents, AsksFor, StopsWithCause};
-ghost use Rattle.nt_app.specs.Writing.{begun, Leaves, LeftBy};
-ghost use Rattle.nt_app.specs.Writes.{NumbersTold, FileTold, OthersStay, OutTold, Writes};
+ghost use Rattle.nt_app.specs.Writing.{file_begun, Leaves, LeftBy};
+ghost use Rattle.nt_app.specs.Writes.{NumbersTold, FileTold, OthersStay, OutTold, WritesFile};
 
 use crate::status::Status;
 use crate::stop::Stop;
@@ -25,7 +25,7 @@ fn begin_and_read<D: Disk, S: Source>(
 ) -> Result<Vec<u64>, Stop>
     requires empty { WhereHeld (D.state disk.old).held (λ h. h ≡ nothing_held) }
     requires end { (D.state disk.old).end ≡ 0 }
-    ensures begun { OnOk result (Leaves (D.state disk.old).held (D.state disk.new).held (λ h. h.image ≡ begun)) }
+    ensures begun { OnOk result (Leaves (D.state disk.old).held (D.state disk.new).held (λ h. h.image ≡ file_begun)) }
     ensures left { IfErr result (λ e. Leaves (D.state disk.old).held (D.state disk.new).held (LeftBy e)) }
     ensures end { OnOk result ((D.state disk.new).end ≡ 445) }
     ensures out { (D.state disk.new).out ≡ (D.state disk.old).out }
@@ -52,7 +52,7 @@ fn write_numbers<H: Host, G: Gate>(
     requires few { length numbers.now ≤ 30 }
     requires end { (H.Out.state disk.old).end ≡ 445 }
     requires out { (H.Out.state disk.old).out ≡ [] }
-    ensures told { (w : World) (h : Held) → (H.state host.old).world ≡ Some w → (H.Out.state disk.old).held ≡ Some h → h.image ≡ begun → NumbersTold numbers.now w (H.state host.new).world (H.Out.state disk.new).held result }
+    ensures told { (w : World) (h : Held) → (H.state host.old).world ≡ Some w → (H.Out.state disk.old).held ≡ Some h → h.image ≡ file_begun → NumbersTold numbers.now w (H.state host.new).world (H.Out.state disk.new).held result }
     ensures asked { (H.state host.new).asked ≡ (H.state host.old).asked }
     ensures disk_later { (H.Out.state disk.old).faults ≤ (H.Out.state disk.new).faults }
     ensures later { (H.state host.old).faults ≤ (H.state host.new).faults }
@@ -133,7 +133,7 @@ pub fn write<H: Host, G: Gate>(
     input: &str,
     gate: &G,
 ) -> Status
-    ensures { Writes out.now schema.now input.now (H.state host.old) (H.state host.new) result }
+    ensures { WritesFile out.now schema.now input.now (H.state host.old) (H.state host.new) result }
 {
     match check_schema(alloc, host, schema) {
         Ok(()) => match write_out(alloc, host, out, input, gate) {

@@ -6,7 +6,7 @@ ghost use Rattle.nt_outside.specs.Faults.{HasCause, RoseOnFailed};
 ghost use Rattle.nt_outside.specs.Held.{WhereHeld, BecomesSome, nothing_held};
 ghost use Rattle.nt_app.specs.Cluster.{cluster_blob};
 ghost use Rattle.nt_app.specs.PlainFile.{plain_file};
-ghost use Rattle.nt_app.specs.Writing.{blank, begun, gathered, IsUnfinished, NeverBegan, Leaves, Keeps, finished, BeginsWithZero};
+ghost use Rattle.nt_app.specs.Writing.{blank, file_begun, gathered, IsUnfinished, NeverBegan, Leaves, Keeps, finished, BeginsWithZero};
 
 use crate::format::{cluster_blob, front, header_blob, tail};
 use nt_outside::{Disk, Failed, Gate, Point, Refused};
@@ -24,7 +24,7 @@ fn blank() -> [u8; 226]
 pub fn begin<D: Disk>(alloc: Global, disk: &mut D) -> Result<(), Refused>
     requires empty { WhereHeld (D.state disk.old).held (λ h. h ≡ nothing_held) }
     requires end { (D.state disk.old).end ≡ 0 }
-    ensures begun { OnOk result (Leaves (D.state disk.old).held (D.state disk.new).held (λ h. h.image ≡ begun)) }
+    ensures begun { OnOk result (Leaves (D.state disk.old).held (D.state disk.new).held (λ h. h.image ≡ file_begun)) }
     ensures left { Leaves (D.state disk.old).held (D.state disk.new).held (λ h. IsUnfinished h.image ⊎ NeverBegan h) }
     ensures memory { IsErrOf result refused.Memory → Leaves (D.state disk.old).held (D.state disk.new).held (λ h. IsUnfinished h.image) }
     ensures end { OnOk result ((D.state disk.new).end ≡ 445) }
@@ -48,8 +48,8 @@ pub fn append_cluster<D: Disk, G: Gate>(
 ) -> Result<(), Refused>
     requires few { length numbers.now ≤ 30 }
     requires end { (D.state disk.old).end ≡ 445 }
-    ensures gathered { OnOk result (Keeps (D.state disk.old).held (D.state disk.new).held (λ b. b ≡ begun) (λ b. b ≡ gathered numbers.now)) }
-    ensures left { Keeps (D.state disk.old).held (D.state disk.new).held (λ b. b ≡ begun) IsUnfinished }
+    ensures gathered { OnOk result (Keeps (D.state disk.old).held (D.state disk.new).held (λ b. b ≡ file_begun) (λ b. b ≡ gathered numbers.now)) }
+    ensures left { Keeps (D.state disk.old).held (D.state disk.new).held (λ b. b ≡ file_begun) IsUnfinished }
     ensures end { OnOk result ((D.state disk.new).end ≡ 495 + 8 * length numbers.now) }
     ensures out { (D.state disk.new).out ≡ (D.state disk.old).out }
     ensures cause { RoseOnFailed (D.state disk.old).faults (D.state disk.new).faults result }

@@ -9,7 +9,7 @@ use Rattle.nt_format.proofs.Steps.{part_again}
 use Rattle.nt_format.proofs.Sum.{xxh3_below}
 use Rattle.nt_container.specs.declared.anchor.Anchor.{Anchor}
 use Rattle.nt_format.specs.Demands.{bytes_at}
-use Rattle.nt_container.specs.Anchors.{fields_of, envelopes_at, anchor_in, anchor_from}
+use Rattle.nt_container.specs.Anchors.{covered_fields, envelopes_at, anchor_in, anchor_from}
 use Rattle.nt_container.specs.Spelling.{envelopes, anchor_fields, anchor_object}
 use Rattle.nt_container.specs.Finished.{IsAnchor}
 use Rattle.nt_format.proofs.Chains.{spread, total, of_parts}
@@ -54,8 +54,8 @@ anchor_reads at place a is =
     (word_16 1 (omega arith)) (plain_bytes 6 (to_be_bytes w16 0 ++ (to_be_bytes w16 0 ++ to_be_bytes w16 0)) refl) (envelopes_read a is)
 
 pub fields-chain : (at place sum : ℕ) (a b c : List ℕ) → ReadsAs (bytes_at 6) a a → length b ≡ 64 → ReadsAs (big w64) c sum → sum ≡ xxh3 b
-    → fields_of at (standing place (concat (a ∷ b ∷ c ∷ []))) ≡ Ok (standing (place + length a) b)
-unfolding fields_of
+    → covered_fields at (standing place (concat (a ∷ b ∷ c ∷ []))) ≡ Ok (standing (place + length a) b)
+unfolding covered_fields
 fields-chain at place sum a b c p len q same =
     let test : eqb sum (xxh3 b) ≡ true = eq-eqb _ _ same in
     rw (
@@ -69,7 +69,7 @@ pub fields-len : (a : Anchor) → length (anchor_fields a) ≡ 64
 unfolding anchor_fields envelopes
 fields-len a = refl
 
-pub fields_read : (at place : ℕ) (a : Anchor) → fields_of at (standing place (anchor_object a)) ≡ Ok (standing (place + 6) (anchor_fields a))
+pub fields_read : (at place : ℕ) (a : Anchor) → covered_fields at (standing place (anchor_object a)) ≡ Ok (standing (place + 6) (anchor_fields a))
 unfolding anchor_object
 fields_read at place a =
     fields-chain at place (xxh3 (anchor_fields a)) (to_be_bytes w32 0x40000042 ++ to_be_bytes w16 2) (anchor_fields a) (to_be_bytes w64 (xxh3 (anchor_fields a)))

@@ -13,7 +13,7 @@ use Rattle.nt_format.proofs.Sum.{xxh3_below}
 use Rattle.nt_format.proofs.Grammars.{plain}
 use Rattle.nt_format.proofs.Relations.{bind, exactly, refused, test, at, whole}
 use Rattle.nt_container.specs.declared.anchor.Anchor.{Anchor}
-use Rattle.nt_container.specs.Anchors.{fields_of, anchor_in, anchor_from}
+use Rattle.nt_container.specs.Anchors.{covered_fields, anchor_in, anchor_from}
 use Rattle.nt_container.specs.Texts.{Word16, Word64, EnvelopesText}
 use Rattle.nt_container.specs.Embeds.{AnchorText}
 use Rattle.nt_container.proofs.Words.{word_16, word_64, plain_bytes}
@@ -30,8 +30,8 @@ IsIn fields =
     With (Stands Word16 fields) λ epoch. With (Passes (eqb epoch.0 1)) λ first. With (Stands (Bytes 6) epoch.1) λ versions.
     With (Stands EnvelopesText versions.1) λ envelopes. Is envelopes.0
 
-fields : (place : ℕ) (here : At) → IsBytes here.left → Agrees (fields_of place here) (AreFields here)
-unfolding fields_of AreFields
+fields : (place : ℕ) (here : At) → IsBytes here.left → Agrees (covered_fields place here) (AreFields here)
+unfolding covered_fields AreFields
 fields place here bytes =
     bind _ (refused _ (at (plain 6) here bytes)) λ head h. bind _ (refused _ (whole 64 head.1 h.takes.bytes)) λ f is.
     bind _ (refused _ (at texts.word_64 f.1 is.takes.bytes)) λ kept k. bind _ (test _ _) λ u same. exactly _
@@ -100,8 +100,8 @@ unfolding anchor_from
 text_read place text a t =
     let parts : text ≡ concat (t.head ∷ t.fields ∷ to_be_bytes w64 (xxh3 t.fields) ∷ []) =
     t.parts ∙ ap (λ (l : List ℕ). t.head ++ (t.fields ++ l)) (sym (append-nil (to_be_bytes w64 (xxh3 t.fields)))) in
-    let fields_read : fields_of place (standing 0 text) ≡ Ok (standing (0 + length t.head) t.fields) =
-    ap (λ (l : List ℕ). fields_of place (standing 0 l)) parts
+    let fields_read : covered_fields place (standing 0 text) ≡ Ok (standing (0 + length t.head) t.fields) =
+    ap (λ (l : List ℕ). covered_fields place (standing 0 l)) parts
     ∙ fields-chain place 0 (xxh3 t.fields) t.head t.fields (to_be_bytes w64 (xxh3 t.fields)) (plain_bytes 6 t.head t.head_size) t.size (word_64 (xxh3 t.fields) (xxh3_below t.fields)) refl in
     let anchor_read : anchor_in place (standing (0 + length t.head) t.fields) ≡ Ok a =
     ap (λ (l : List ℕ). anchor_in place (standing (0 + length t.head) l)) t.inside

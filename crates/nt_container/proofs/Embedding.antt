@@ -13,7 +13,7 @@ use Rattle.nt_format.proofs.Relations.{bind, exactly, test, located}
 use Rattle.nt_container.specs.declared.parts.FileHeader.{FileHeader}
 use Rattle.nt_num.specs.Codes.{unfinished, not_root, bad_file_header}
 use Rattle.nt_num.specs.Faults.{fault}
-use Rattle.nt_container.specs.FileHeader.{begins_root, gate_of, header_in, header_of, directory_of}
+use Rattle.nt_container.specs.FileHeader.{begins_root, gate_of, header_in, file_header_of, directory_of}
 use Rattle.nt_container.specs.Texts.{HeaderText, DirectoryText}
 use Rattle.nt_container.proofs.Texts.{header_text, header-short, directory_text, directory-short}
 
@@ -64,7 +64,7 @@ pub record IsHeader (file : List ℕ) (header : FileHeader) : Type 0 where
 HeaderSteps : List ℕ → FileHeader → Type 0
 HeaderSteps file = With (IsOpen (window 75 file 0)) λ u. With (StandsAt HeaderText file 0) λ h. With (Passes (leb h.end (length file))) λ v. Is h
 
-header_steps : (file : List ℕ) → IsBytes file → Agrees (header_of file) (HeaderSteps file)
+header_steps : (file : List ℕ) → IsBytes file → Agrees (file_header_of file) (HeaderSteps file)
 unfolding header_in HeaderSteps
 header_steps file bytes = bind _ (gate (window 75 file 0)) λ u o. bind _ (located _ header_text 75 header-short file 0 bytes) λ h is. bind _ (test _ _) λ v p. exactly h
 
@@ -94,7 +94,7 @@ header_words file header w =
       ends = subst (λ (h : FileHeader). h.end ≤ length file) (sym same) (leb-true _ _ w.second.second.first);
     }
 
-header_reads : (file : List ℕ) (header : FileHeader) → IsBytes file → IsHeader file header → header_of file ≡ Ok header
+header_reads : (file : List ℕ) (header : FileHeader) → IsBytes file → IsHeader file header → file_header_of file ≡ Ok header
 unfolding header_in
 header_reads file header bytes h =
     let root : window 75 file 0 ≡ codes "root" ++ drop 4 (window 75 file 0) =
@@ -104,7 +104,7 @@ header_reads file header bytes h =
     let test_is : leb header.end (length file) ≡ true = le-leb _ _ h.ends in
     rw (open-is, read, test_is) refl
 
-pub header : (file : List ℕ) → IsBytes file → Agrees (header_of file) (IsHeader file)
+pub header : (file : List ℕ) → IsBytes file → Agrees (file_header_of file) (IsHeader file)
 header file bytes = record { reads = λ h is. header_reads file h bytes is; finds = λ h e. header_words file h ((header_steps file bytes).finds h e) }
 
 pub directory : (file : List ℕ) (place : ℕ) → IsBytes file → Agrees (directory_of file place) (StandsAt DirectoryText file place)

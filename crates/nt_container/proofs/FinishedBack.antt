@@ -14,7 +14,7 @@ use Rattle.nt_container.specs.declared.parts.Key.{Key}
 use Rattle.nt_format.specs.Pieces.{piece, window}
 use Rattle.nt_format.specs.Demands.{bytes_at}
 use Rattle.nt_container.specs.Words.{place_at}
-use Rattle.nt_container.specs.FileHeader.{gate_of, header_at, header_in, header_of, directory_numbers_at, directory_at, directory_place, directory_in, directory_of}
+use Rattle.nt_container.specs.FileHeader.{gate_of, header_at, header_in, file_header_of, directory_numbers_at, directory_at, directory_place, directory_in, directory_of}
 use Rattle.nt_container.specs.Keys.{anchor_class, key_at, anchor_key_in, anchor_key_of}
 use Rattle.nt_container.specs.Anchors.{is_plain, object_of, anchor_from, anchor_of}
 use Rattle.nt_container.specs.Spelling.{zero_uuid, header_numbers, header_words, header_part, directory_numbers, directory_words, record_names, record_part, file_key, anchor_key, anchor_object, anchor_part, key_list_part, free_list_part}
@@ -44,7 +44,7 @@ header_inside end free size small smaller inside =
     rw (gate_is end free, alone header_at (header_words end free) (record { begin = 100; end = end; name_len = 66 }) (header_reads end free small smaller) 0, test) refl
 
 pub header_is : (file : List ℕ) (end free : ℕ) (rest : List ℕ) → file ≡ header_words end free ++ rest → end < 2 ^ 64 → free < 2 ^ 64 → end ≤ length file
-    → header_of file ≡ Ok (record { begin = 100; end = end; name_len = 66 })
+    → file_header_of file ≡ Ok (record { begin = 100; end = end; name_len = 66 })
 header_is file end free rest whole small smaller inside =
     let front : window 75 file 0 ≡ header_words end free = ap (λ (l : List ℕ). take 75 l) whole ∙ take_at (header_words end free) rest 75 (header_words-len end free) in
     ap (λ (l : List ℕ). header_in l (length file)) front ∙ header_inside end free (length file) small smaller inside
@@ -106,7 +106,7 @@ pub object_is : (file object : List ℕ) (at : ℕ) → piece file (at + 56) 78 
 unfolding object_of is_plain
 object_is file object at e = rw e refl
 
-anchor-steps : (file : List ℕ) (header : FileHeader) (directory : Directory) (key : Key) (object : At) (a : Anchor) → header_of file ≡ Ok header
+anchor-steps : (file : List ℕ) (header : FileHeader) (directory : Directory) (key : Key) (object : At) (a : Anchor) → file_header_of file ≡ Ok header
     → directory_of file (directory_place header) ≡ Ok directory → anchor_key_of file directory ≡ Ok key → object_of file key ≡ Ok object
     → anchor_from key.place object ≡ Ok a → anchor_of file ≡ Ok a
 unfolding anchor_of

@@ -7,7 +7,7 @@ use Rattle.nt_num.specs.Cursor.{big}
 use Rattle.nt_container.specs.declared.parts.Key.{Key}
 use Rattle.nt_container.specs.declared.parts.Sizes.{Sizes}
 use Rattle.nt_container.specs.Words.{place_at, tstring_at, short_tstring}
-use Rattle.nt_container.specs.Keys.{anchor_class, sizes_at, names_at, key_at}
+use Rattle.nt_container.specs.Keys.{anchor_class, sizes_at, key_names_at, key_at}
 use Rattle.nt_container.specs.Spelling.{key_header_len, key_sizes, key_names, key_header, file_key, anchor_key}
 use Rattle.nt_format.proofs.Chains.{spread, total, of_parts}
 use Rattle.nt_container.proofs.Words.{word_16, word_32, wide_place, short_text}
@@ -37,10 +37,10 @@ sizes_read header_len object_len short fits =
 
 names-chain : (a b c d e : List ℕ) (place directory : ℕ) (class name title : List ℕ) → ReadsAs (place_at true) a place → ReadsAs (place_at true) b directory
     → ReadsAs tstring_at c class → ReadsAs tstring_at d name → ReadsAs tstring_at e title
-    → ReadsAs (names_at true) (concat (a ∷ b ∷ c ∷ d ∷ e ∷ [])) (place, class)
-unfolding names_at
+    → ReadsAs (key_names_at true) (concat (a ∷ b ∷ c ∷ d ∷ e ∷ [])) (place, class)
+unfolding key_names_at
 names-chain a b c d e at directory class name title p q r s t =
-    of_parts (names_at true) (a ∷ b ∷ c ∷ d ∷ e ∷ []) (at, class) λ place rest.
+    of_parts (key_names_at true) (a ∷ b ∷ c ∷ d ∷ e ∷ []) (at, class) λ place rest.
     rw (
       p place (spread (b ∷ c ∷ d ∷ e ∷ []) rest),
       q (total place (a ∷ [])) (spread (c ∷ d ∷ e ∷ []) rest),
@@ -50,13 +50,13 @@ names-chain a b c d e at directory class name title p q r s t =
     ) refl
 
 names_read : (at directory : ℕ) (class name : List ℕ) → at < 2 ^ 64 → directory < 2 ^ 64 → length class < 255 → length name < 255
-    → ReadsAs (names_at true) (key_names at directory class name) (at, class)
+    → ReadsAs (key_names_at true) (key_names at directory class name) (at, class)
 unfolding key_names
 names_read at directory class name small smaller short shorter =
     names-chain (to_be_bytes w64 at) (to_be_bytes w64 directory) (short_tstring class) (short_tstring name) (short_tstring []) at directory class name []
     (wide_place at small) (wide_place directory smaller) (short_text class short) (short_text name shorter) (short_text [] (omega arith))
 
-key-chain : (a b : List ℕ) (sizes : Sizes) (place : ℕ) (class : List ℕ) → ReadsAs sizes_at a sizes → ltb 1000 sizes.version ≡ true → ReadsAs (names_at true) b (place, class)
+key-chain : (a b : List ℕ) (sizes : Sizes) (place : ℕ) (class : List ℕ) → ReadsAs sizes_at a sizes → ltb 1000 sizes.version ≡ true → ReadsAs (key_names_at true) b (place, class)
     → ReadsAs key_at (concat (a ∷ b ∷ [])) (record { len = sizes.len; object_len = sizes.object_len; header_len = sizes.header_len; place = place }, class)
 unfolding key_at
 key-chain a b sizes at class p wide q =

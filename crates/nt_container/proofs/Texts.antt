@@ -5,7 +5,7 @@ use Rattle.nt_num.specs.Cursor.{little, big}
 use Rattle.nt_format.proofs.Numbers.{IsCode, number_spells, big_16, big_32, big_64}
 use Rattle.nt_container.specs.Words.{place_at, tstring_at}
 use Rattle.nt_container.specs.FileHeader.{version_at, header_numbers_at, header_at, directory_numbers_at, directory_at}
-use Rattle.nt_container.specs.Keys.{sizes_at, names_at, key_at}
+use Rattle.nt_container.specs.Keys.{sizes_at, key_names_at, key_at}
 use Rattle.nt_container.specs.Anchors.{envelopes_at}
 use Rattle.nt_format.specs.Grammars.{IsRead}
 use Rattle.nt_container.specs.Texts.{Byte, TString, Word16, Word32, Word64, Place, HeaderNumbers, HeaderText, DirectoryNumbers, DirectoryText, SizesText, NamesText, KeyText, EnvelopesText}
@@ -71,8 +71,8 @@ pub directory_text : IsRead directory_at DirectoryText
 unfolding directory_at
 directory_text = seq _ word_16 λ version. directory_numbers (ltb 1000 version)
 
-pub names : (wide : Bool) → IsRead (names_at wide) (NamesText wide)
-unfolding names_at
+pub names : (wide : Bool) → IsRead (key_names_at wide) (NamesText wide)
+unfolding key_names_at
 names wide = seq _ (place wide) λ at. seq _ (place wide) λ parent. seq _ tstring λ class. seq _ tstring λ name. seq _ tstring λ title. gives _
 
 pub key : IsRead key_at KeyText

@@ -13,7 +13,7 @@ use Rattle.nt_container.specs.declared.anchor.Anchor.{Anchor}
 use Rattle.nt_container.specs.declared.parts.Key.{Key}
 use Rattle.nt_num.specs.Codes.{bad_anchor, bad_epoch, compressed, out_of_file}
 use Rattle.nt_num.specs.Faults.{fault, with_values}
-use Rattle.nt_container.specs.FileHeader.{header_of, directory_place, directory_of}
+use Rattle.nt_container.specs.FileHeader.{file_header_of, directory_place, directory_of}
 use Rattle.nt_container.specs.Keys.{anchor_key_of}
 
 -- the bytes of an anchor's object
@@ -37,8 +37,8 @@ object_of file key = do
   piece_or (fault out_of_file key.place) file (key.place + key.header_len) object_size
 
 -- the bytes that the checksum covers, behind byte count and class version, which are ignored (own profile)
-unfoldable pub fields_of : ℕ → At → Result At ReadError
-fields_of place object = do
+unfoldable pub covered_fields : ℕ → At → Result At ReadError
+covered_fields place object = do
   head ← refused_as (fault bad_anchor place) (bytes_at 6 object)
   fields ← refused_as (fault bad_anchor place) (part_of fields_size head.1)
   kept ← refused_as (fault bad_anchor place) (big w64 fields.1)
@@ -68,13 +68,13 @@ anchor_in place fields = do
 -- the anchor in the object of a key that stands at a place
 unfoldable pub anchor_from : ℕ → At → Result Anchor ReadError
 anchor_from place object = do
-  fields ← fields_of place object
+  fields ← covered_fields place object
   anchor_in place fields
 
 -- the anchor of a file
 unfoldable pub anchor_of : List ℕ → Result Anchor ReadError
 anchor_of file = do
-  header ← header_of file
+  header ← file_header_of file
   directory ← directory_of file (directory_place header)
   key ← anchor_key_of file directory
   object ← object_of file key

@@ -69,8 +69,8 @@ header_in head size = do
   Ok header
 
 -- the header of a file
-abbrev pub header_of : List ℕ → Result FileHeader ReadError
-header_of file = header_in (window most_of_header file 0) (length file)
+abbrev pub file_header_of : List ℕ → Result FileHeader ReadError
+file_header_of file = header_in (window most_of_header file 0) (length file)
 
 -- two times, fNbytesKeys, fNbytesName, fSeekDir, fSeekParent and fSeekKeys
 unfoldable pub directory_numbers_at : Bool → At → Result (Directory × At) ℕ

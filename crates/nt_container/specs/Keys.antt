@@ -31,8 +31,8 @@ sizes_at here = do
   Ok (record { len = len.0; version = version.0; object_len = object_len.0; header_len = header_len.0 }, cycle.1)
 
 -- SeekKey, SeekPdir, class, name and title: the place and the class
-unfoldable pub names_at : Bool → At → Result ((ℕ × List ℕ) × At) ℕ
-names_at wide here = do
+unfoldable pub key_names_at : Bool → At → Result ((ℕ × List ℕ) × At) ℕ
+key_names_at wide here = do
   place ← place_at wide here
   directory ← place_at wide place.1
   class ← tstring_at directory.1
@@ -44,7 +44,7 @@ names_at wide here = do
 unfoldable pub key_at : At → Result ((Key × List ℕ) × At) ℕ
 key_at here = do
   sizes ← sizes_at here
-  names ← names_at (nat_lt 1000 sizes.0.version) sizes.1
+  names ← key_names_at (nat_lt 1000 sizes.0.version) sizes.1
   Ok ((record { len = sizes.0.len; object_len = sizes.0.object_len; header_len = sizes.0.header_len; place = names.0.0 }, names.0.1), names.1)
 
 -- the first key of an anchor, once there is one

@@ -9,8 +9,8 @@ use Rattle.serde_json.specs.Data.{string, array}
 use Rattle.serde_json.specs.Events.{items_len}
 use Rattle.serde_json.specs.Read.{read}
 use Rattle.serde_json.specs.Written.{outline, items_outline}
-use Rattle.nt_types.specs.Kinds.{Kind, Kinds, Parts, no_kinds, kind, no_parts, part}
-use Rattle.nt_types.specs.Kinds as kinds
+use Rattle.nt_types.specs.ShapeData.{ShapeData, ShapesData, MembersData, no_kinds, kind, no_parts, part}
+use Rattle.nt_types.specs.ShapeData as kinds
 use Rattle.nt_types.specs.TreeData.{TreeData, TreesData, flag, num, text, items, parts, pick, nothing, no_trees, tree}
 use Rattle.nt_types.specs.Fits.{fits, all_trees, fit_parts, fit_kinds, fits_one}
 use Rattle.nt_event.specs.Json.{data_of, datas_of, hex_data, line_of, AllInRange}
@@ -18,7 +18,7 @@ use Rattle.nt_event.specs.Line as lines
 use Rattle.nt_event.proofs.ReadBack.{read-line_of}
 use Rattle.nt_event.proofs.TreeBack.{parts_read-data}
 use Rattle.nt_types.specs.TreeData.{trees_of}
-use Rattle.nt_types.specs.Kinds.{Part, parts_of}
+use Rattle.nt_types.specs.ShapeData.{MemberData, parts_of}
 use Rattle.nt_event.specs.Standing.{EachGood, kinds_in}
 use Rattle.nt_event.specs.Entry.{entry_of, or_misfit, parts_len}
 use Rattle.nt_types.specs.Spelling.{deepest_kind, deepest_part}
@@ -31,12 +31,12 @@ text_deep : (b : Bool) (s : List ℕ) → depth (outline (if b then string s els
 text_deep true s = omega arith
 text_deep false s = omega arith
 
-all_deep : (k : Kind) (vs : TreesData) → ((v : TreeData) → fits k v ≡ true → depth (outline (data_of v)) ≤ spelling.depth k) → all_trees (fits k) vs ≡ true → items_depth (items_outline (datas_of vs)) ≤ spelling.depth k
+all_deep : (k : ShapeData) (vs : TreesData) → ((v : TreeData) → fits k v ≡ true → depth (outline (data_of v)) ≤ spelling.depth k) → all_trees (fits k) vs ≡ true → items_depth (items_outline (datas_of vs)) ≤ spelling.depth k
 all_deep k no_trees each h = omega arith
 all_deep k (tree v vs) each h = let p = and_parts (fits k v) (all_trees (fits k) vs) h in max-le (each v p.0) (all_deep k vs each p.1)
 
 mutual
-  deep : (k : Kind) (v : TreeData) → fits k v ≡ true → depth (outline (data_of v)) ≤ spelling.depth k
+  deep : (k : ShapeData) (v : TreeData) → fits k v ≡ true → depth (outline (data_of v)) ≤ spelling.depth k
   deep kinds.bool (flag b) h = omega arith
   deep kinds.char (num z) h = omega arith
   deep kinds.byte (num z) h = omega arith
@@ -52,7 +52,7 @@ mutual
       let m = max-le zero_first (max-le d zero_first) in omega (arith, m)
   deep _ _ h = absurd (false≢true h)
 
-  deep_parts : (ps : Parts) (vs : TreesData) → fit_parts ps vs ≡ true → items_depth (items_outline (datas_of vs)) ≤ deepest_part ps
+  deep_parts : (ps : MembersData) (vs : TreesData) → fit_parts ps vs ≡ true → items_depth (items_outline (datas_of vs)) ≤ deepest_part ps
   deep_parts no_parts no_trees h = omega arith
   deep_parts no_parts (tree v vs) h = absurd (false≢true h)
   deep_parts (part n k ps) no_trees h = absurd (false≢true h)
@@ -64,7 +64,7 @@ mutual
       let r = le-max_right (spelling.depth k) (deepest_part ps) in
       max-le (omega (arith, a, l)) (omega (arith, b, r))
 
-  deep_kinds : (ks : Kinds) (vs : TreesData) → fit_kinds ks vs ≡ true → items_depth (items_outline (datas_of vs)) ≤ deepest_kind ks
+  deep_kinds : (ks : ShapesData) (vs : TreesData) → fit_kinds ks vs ≡ true → items_depth (items_outline (datas_of vs)) ≤ deepest_kind ks
   deep_kinds no_kinds no_trees h = omega arith
   deep_kinds no_kinds (tree v vs) h = absurd (false≢true h)
   deep_kinds (kind k ks) no_trees h = absurd (false≢true h)
@@ -76,19 +76,19 @@ mutual
       let r = le-max_right (spelling.depth k) (deepest_kind ks) in
       max-le (omega (arith, a, l)) (omega (arith, b, r))
 
-  deep_one : (ks : Kinds) (tag : ℕ) (v : TreeData) → fits_one ks tag v ≡ true → depth (outline (data_of v)) ≤ deepest_kind ks
+  deep_one : (ks : ShapesData) (tag : ℕ) (v : TreeData) → fits_one ks tag v ≡ true → depth (outline (data_of v)) ≤ deepest_kind ks
   deep_one no_kinds tag v h = absurd (false≢true h)
   deep_one (kind k ks) zero v h = absurd (false≢true h)
   deep_one (kind k ks) (suc zero) v h = let a = deep k v h in let l = le-max_left (spelling.depth k) (deepest_kind ks) in omega (arith, a, l)
   deep_one (kind k ks) (suc (suc n)) v h = let a = deep_one ks (suc n) v h in let r = le-max_right (spelling.depth k) (deepest_kind ks) in omega (arith, a, r)
 
-counts : (ps : List Part) (vs : List TreeData) → fit_parts (parts_of ps) (trees_of vs) ≡ true → items_len (datas_of (trees_of vs)) ≡ parts_len (parts_of ps)
+counts : (ps : List MemberData) (vs : List TreeData) → fit_parts (parts_of ps) (trees_of vs) ≡ true → items_len (datas_of (trees_of vs)) ≡ parts_len (parts_of ps)
 counts [] [] h = refl
 counts (p ∷ ps) (v ∷ vs) h = ap suc (counts ps vs (and_parts (fits p.of v) (fit_parts (parts_of ps) (trees_of vs)) h).1)
 counts [] (v ∷ vs) h = absurd (false≢true h)
 counts (p ∷ ps) [] h = absurd (false≢true h)
 
-pub fit_entry : (ps : List Part) (vs : List TreeData) (line : List ℕ) → length line ≤ 2 ^ 24 → IsUtf8 line → fit_parts (parts_of ps) (trees_of vs) ≡ true → AllInRange (trees_of vs) → deepest_part (parts_of ps) ≤ 126 → line ≡ line_of (trees_of vs) → entry_of (parts_of ps) line ≡ Ok (trees_of vs)
+pub fit_entry : (ps : List MemberData) (vs : List TreeData) (line : List ℕ) → length line ≤ 2 ^ 24 → IsUtf8 line → fit_parts (parts_of ps) (trees_of vs) ≡ true → AllInRange (trees_of vs) → deepest_part (parts_of ps) ≤ 126 → line ≡ line_of (trees_of vs) → entry_of (parts_of ps) line ≡ Ok (trees_of vs)
 fit_entry ps vs line few utf8 fit range shallow is =
     let F = parts_of ps in
     let ds = datas_of (trees_of vs) in
@@ -97,5 +97,5 @@ fit_entry ps vs line few utf8 fit range shallow is =
     ∙ ap (λ b. if b then or_misfit (lines.parts_read F ds) else Err Count) (eq-eqb (items_len ds) (parts_len F) (counts ps vs fit))
     ∙ ap or_misfit (parts_read-data F (trees_of vs) fit range)
 
-pub compact_entry : (ps : List Part) (vs : List TreeData) (line : List ℕ) → length line ≤ 2 ^ 24 → IsUtf8 line → EachGood (kinds_in ps) vs → deepest_part (parts_of ps) ≤ 126 → line ≡ line_of (trees_of vs) → entry_of (parts_of ps) line ≡ Ok (trees_of vs)
+pub compact_entry : (ps : List MemberData) (vs : List TreeData) (line : List ℕ) → length line ≤ 2 ^ 24 → IsUtf8 line → EachGood (kinds_in ps) vs → deepest_part (parts_of ps) ≤ 126 → line ≡ line_of (trees_of vs) → entry_of (parts_of ps) line ≡ Ok (trees_of vs)
 compact_entry ps vs line few utf8 good shallow is = fit_entry ps vs line few utf8 (parts-fit ps vs good) (each-range (kinds_in ps) vs good) shallow is

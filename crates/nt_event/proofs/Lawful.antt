@@ -14,8 +14,8 @@ use Rattle.hex.specs.Hex.{encode_lower, lower_digits}
 use Rattle.json.proofs.Printed.Utf8.{are_ascii, IsUtf8-are_ascii, IsUtf8-quoted, IsUtf8-boolean}
 use Rattle.serde_json.specs.Data.{string}
 use Rattle.serde_json.specs.Written.{compact_text, items_text, number_text, comma_if}
-use Rattle.nt_types.specs.Kinds.{Kind, Kinds, Parts, Part, no_kinds, kind, no_parts, part, kinds_list, parts_of}
-use Rattle.nt_types.specs.Kinds as kinds
+use Rattle.nt_types.specs.ShapeData.{ShapeData, ShapesData, MembersData, MemberData, no_kinds, kind, no_parts, part, kinds_list, parts_of}
+use Rattle.nt_types.specs.ShapeData as kinds
 use Rattle.nt_types.specs.Spelling.{IsType, AreKinds, AreMoreKinds, AreParts, AreMoreParts, is_width}
 use Rattle.nt_types.specs.Rules.{AreFields}
 use Rattle.nt_types.specs.TreeData.{TreeData, TreesData, flag, num, text, items, parts, pick, nothing, no_trees, tree, trees_of}
@@ -37,26 +37,26 @@ int_range bits false (negsuc n) w h = absurd (false≢true h)
 int_range bits true (pos n) w h = let less : bits - 1 ≤ 64 = omega arith in omega (arith, ltb-true n (2 ^ (bits - 1)) h, pow_mono less)
 int_range bits true (negsuc n) w h = let less : bits - 1 ≤ 63 = omega arith in omega (arith, ltb-true n (2 ^ (bits - 1)) h, pow_mono less)
 
-more_kinds : (ks : Kinds) (within : Bool) → AreKinds within ks → AreMoreKinds within ks
+more_kinds : (ks : ShapesData) (within : Bool) → AreKinds within ks → AreMoreKinds within ks
 more_kinds no_kinds within h = absurd h
 more_kinds (kind k ks) within h = h
 
-more_parts : (ps : Parts) → AreParts ps → AreMoreParts ps
+more_parts : (ps : MembersData) → AreParts ps → AreMoreParts ps
 more_parts no_parts h = absurd h
 more_parts (part n k ps) h = h
 
-one_tag : (ks : Kinds) (tag : ℕ) (v : TreeData) → fits_one ks tag v ≡ true → tag ≤ length (kinds_list ks)
+one_tag : (ks : ShapesData) (tag : ℕ) (v : TreeData) → fits_one ks tag v ≡ true → tag ≤ length (kinds_list ks)
 one_tag no_kinds tag v h = absurd (false≢true h)
 one_tag (kind k ks) zero v h = absurd (false≢true h)
 one_tag (kind k ks) (suc zero) v h = omega arith
 one_tag (kind k ks) (suc (suc n)) v h = let e = one_tag ks (suc n) v h in omega (arith, e)
 
-all_range : (k : Kind) (vs : TreesData) → ((v : TreeData) → fits k v ≡ true → HasBytes v → InRange v) → all_trees (fits k) vs ≡ true → AllHaveBytes vs → AllInRange vs
+all_range : (k : ShapeData) (vs : TreesData) → ((v : TreeData) → fits k v ≡ true → HasBytes v → InRange v) → all_trees (fits k) vs ≡ true → AllHaveBytes vs → AllInRange vs
 all_range k no_trees each h b = tt
 all_range k (tree v vs) each h b = let p = and_parts (fits k v) (all_trees (fits k) vs) h in (each v p.0 b.0, all_range k vs each p.1 b.1)
 
 mutual
-  range : (k : Kind) (within : Bool) (v : TreeData) → IsType within k → fits k v ≡ true → HasBytes v → InRange v
+  range : (k : ShapeData) (within : Bool) (v : TreeData) → IsType within k → fits k v ≡ true → HasBytes v → InRange v
   range kinds.bool within (flag b) t h y = tt
   range kinds.char within (num z) t h y = int_range 8 false z (omega arith) h
   range kinds.byte within (num z) t h y = int_range 8 false z (omega arith) h
@@ -70,19 +70,19 @@ mutual
       let few = one_tag ks tag v h in (omega (arith, few, t.0), one_range ks true tag v (more_kinds ks true t.1) h y)
   range _ within _ t h y = absurd (false≢true h)
 
-  parts_range : (ps : Parts) (vs : TreesData) → AreMoreParts ps → fit_parts ps vs ≡ true → AllHaveBytes vs → AllInRange vs
+  parts_range : (ps : MembersData) (vs : TreesData) → AreMoreParts ps → fit_parts ps vs ≡ true → AllHaveBytes vs → AllInRange vs
   parts_range no_parts no_trees t h y = tt
   parts_range no_parts (tree v vs) t h y = absurd (false≢true h)
   parts_range (part n k ps) no_trees t h y = absurd (false≢true h)
   parts_range (part n k ps) (tree v vs) t h y = let p = and_parts (fits k v) (fit_parts ps vs) h in (range k false v t.1 p.0 y.0, parts_range ps vs t.2 p.1 y.1)
 
-  kinds_range : (ks : Kinds) (within : Bool) (vs : TreesData) → AreMoreKinds within ks → fit_kinds ks vs ≡ true → AllHaveBytes vs → AllInRange vs
+  kinds_range : (ks : ShapesData) (within : Bool) (vs : TreesData) → AreMoreKinds within ks → fit_kinds ks vs ≡ true → AllHaveBytes vs → AllInRange vs
   kinds_range no_kinds within no_trees t h y = tt
   kinds_range no_kinds within (tree v vs) t h y = absurd (false≢true h)
   kinds_range (kind k ks) within no_trees t h y = absurd (false≢true h)
   kinds_range (kind k ks) within (tree v vs) t h y = let p = and_parts (fits k v) (fit_kinds ks vs) h in (range k within v t.0 p.0 y.0, kinds_range ks within vs t.1 p.1 y.1)
 
-  one_range : (ks : Kinds) (within : Bool) (tag : ℕ) (v : TreeData) → AreMoreKinds within ks → fits_one ks tag v ≡ true → HasBytes v → InRange v
+  one_range : (ks : ShapesData) (within : Bool) (tag : ℕ) (v : TreeData) → AreMoreKinds within ks → fits_one ks tag v ≡ true → HasBytes v → InRange v
   one_range no_kinds within tag v t h y = absurd (false≢true h)
   one_range (kind k ks) within zero v t h y = absurd (false≢true h)
   one_range (kind k ks) within (suc zero) v t h y = range k within v t.0 h y
@@ -132,7 +132,7 @@ mutual
   all_utf8 later no_trees h = IsUtf8-are_ascii _ refl
   all_utf8 later (tree v vs) h = IsUtf8-append (comma_if later) _ (comma_utf8 later) (IsUtf8-append (compact_text (data_of v)) _ (utf8 v h.0) (all_utf8 true vs h.1))
 
-pub line_is_read_back : (ps : List Part) (ts : List TreeData) → AreFields ps → fit_parts (parts_of ps) (trees_of ts) ≡ true → AllHaveBytes (trees_of ts) → length (line_of (trees_of ts)) ≤ max_line → entry_of (parts_of ps) (line_of (trees_of ts)) ≡ Ok (trees_of ts)
+pub line_is_read_back : (ps : List MemberData) (ts : List TreeData) → AreFields ps → fit_parts (parts_of ps) (trees_of ts) ≡ true → AllHaveBytes (trees_of ts) → length (line_of (trees_of ts)) ≤ max_line → entry_of (parts_of ps) (line_of (trees_of ts)) ≡ Ok (trees_of ts)
 line_is_read_back ps ts rules fit bytes few =
     let inside = parts_range (parts_of ps) (trees_of ts) rules.rules fit bytes in
     fit_entry ps ts (line_of (trees_of ts)) few (ascii_then 91 _ (omega arith) (all_utf8 false (trees_of ts) inside)) fit inside (omega (arith, rules.shallow)) refl

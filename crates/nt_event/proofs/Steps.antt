@@ -10,14 +10,14 @@ use Rattle.serde_json.specs.Find.{as_object, as_array, as_str, get, get_member}
 use Rattle.serde_json.specs.Events.{members_len, items_len}
 use Rattle.serde_json.specs.View.{view, items_view, members_view}
 use Rattle.serde_json.specs.declared.value.Value.{Value}
-use Rattle.nt_types.specs.Kinds.{Kind}
-use Rattle.nt_types.specs.Kinds as kinds
+use Rattle.nt_types.specs.ShapeData.{ShapeData}
+use Rattle.nt_types.specs.ShapeData as kinds
 use Rattle.nt_types.specs.TreeData as trees
 use Rattle.nt_types.specs.TreeData.{TreesData, tree, no_trees, pick}
 use Rattle.nt_event.specs.Line.{tree_read, all_read, next_read, none_read, ok_of, one_read, pick_read, tag_read, text_read, hex_read}
 use Rattle.nt_event.specs.Line as lines
 use Rattle.nt_types.specs.TreeData.{trees_of}
-use Rattle.nt_types.specs.Kinds.{kinds_of, parts_of}
+use Rattle.nt_types.specs.ShapeData.{kinds_of, parts_of}
 use Rattle.nt_types.specs.Views as views
 use Rattle.nt_types.specs.declared.shape.Shape.{Shape}
 use Rattle.nt_types.specs.declared.shape.Member.{Member}
@@ -76,13 +76,13 @@ none-next : (o : Option trees.TreeData) → option_and_then (λ v. option_map (t
 none-next None = refl
 none-next (Some v) = refl
 
-pub lengths-differ : (ks : List Kind) (xs : List Value) → (length ks ≡ length xs → ⊥) → lines.kinds_read (kinds_of ks) (items_view xs) ≡ None
+pub lengths-differ : (ks : List ShapeData) (xs : List Value) → (length ks ≡ length xs → ⊥) → lines.kinds_read (kinds_of ks) (items_view xs) ≡ None
 lengths-differ [] [] h = absurd (h refl)
 lengths-differ [] (x ∷ xs) h = refl
 lengths-differ (k ∷ ks) [] h = refl
 lengths-differ (k ∷ ks) (x ∷ xs) h = ap (λ r. option_and_then (λ v. option_map (tree v) r) (tree_read k (view x))) (lengths-differ ks xs (λ e. h (ap suc e))) ∙ none-next (tree_read k (view x))
 
-pub members-differ : (ps : List kinds.Part) (xs : List Value) → (length ps ≡ length xs → ⊥) → lines.parts_read (parts_of ps) (items_view xs) ≡ None
+pub members-differ : (ps : List kinds.MemberData) (xs : List Value) → (length ps ≡ length xs → ⊥) → lines.parts_read (parts_of ps) (items_view xs) ≡ None
 members-differ [] [] h = absurd (h refl)
 members-differ [] (x ∷ xs) h = refl
 members-differ (p ∷ ps) [] h = refl
@@ -100,19 +100,19 @@ two-pick f (a ∷ []) x y h e g = absurd (omega (arith, h))
 two-pick f (a ∷ b ∷ []) x y h e g = ap (λ (t : Value). option_and_then (λ tag. option_map (pick tag) (f tag (view b))) (tag_read (view t))) (sym e) ∙ ap (λ (t : Value). option_and_then (λ tag. option_map (pick tag) (f tag (view t))) (tag_read (view x))) (sym g)
 two-pick f (a ∷ b ∷ c ∷ xs) x y h e g = absurd (omega (arith, h))
 
-pub one-zero : (ks : List Kind) (d : Data) → one_read (kinds_of ks) 0 d ≡ None
+pub one-zero : (ks : List ShapeData) (d : Data) → one_read (kinds_of ks) 0 d ≡ None
 one-zero [] d = refl
 one-zero (k ∷ ks) d = refl
 
-pub one-beyond : (ks : List Kind) (tag : ℕ) (d : Data) → length ks < tag → one_read (kinds_of ks) tag d ≡ None
+pub one-beyond : (ks : List ShapeData) (tag : ℕ) (d : Data) → length ks < tag → one_read (kinds_of ks) tag d ≡ None
 one-beyond [] tag d h = refl
 one-beyond (k ∷ ks) zero d h = refl
 one-beyond (k ∷ ks) (suc zero) d h = absurd (omega (arith, h))
 one-beyond (k ∷ ks) (suc (suc n)) d h = one-beyond ks (suc n) d (omega (arith, h))
 
-pub one-nth : (ks : List Kind) (i : ℕ) (k : Kind) (d : Data) → i < length ks → k ≡ get_or ks i k → one_read (kinds_of ks) (suc i) d ≡ tree_read k d
+pub one-nth : (ks : List ShapeData) (i : ℕ) (k : ShapeData) (d : Data) → i < length ks → k ≡ get_or ks i k → one_read (kinds_of ks) (suc i) d ≡ tree_read k d
 one-nth [] i k d lt is = absurd (omega arith)
-one-nth (j ∷ ks) zero k d lt is = ap (λ (u : Kind). tree_read u d) (sym is)
+one-nth (j ∷ ks) zero k d lt is = ap (λ (u : ShapeData). tree_read u d) (sym is)
 one-nth (j ∷ ks) (suc i) k d lt is = one-nth ks i k d (omega arith) is
 
 -- ---- texts
@@ -130,13 +130,13 @@ high_bits n bits = go (cases_lt n (2 ^ bits))
 
 -- ---- lines
 
-pub data_is : (F : kinds.Parts) (bytes : List ℕ) (d : Data) → length bytes ≤ 2 ^ 24 → IsUtf8 bytes → read bytes ≡ Some d → entry_of F bytes ≡ data_entry F d
+pub data_is : (F : kinds.MembersData) (bytes : List ℕ) (d : Data) → length bytes ≤ 2 ^ 24 → IsUtf8 bytes → read bytes ≡ Some d → entry_of F bytes ≡ data_entry F d
 data_is F bytes d few utf8 is =
     ap (λ b. if b then Err TooLong else (if is_utf8 bytes then json_entry F (read bytes) else Err NotJson)) (le-ltb (2 ^ 24) (length bytes) few)
     ∙ ap (λ b. if b then json_entry F (read bytes) else Err NotJson) (is_utf8-from_IsUtf8 bytes utf8)
     ∙ ap (json_entry F) is
 
-pub no_data : (F : kinds.Parts) (bytes : List ℕ) → length bytes ≤ 2 ^ 24 → (IsUtf8 bytes → read bytes ≡ None) → entry_of F bytes ≡ Err NotJson
+pub no_data : (F : kinds.MembersData) (bytes : List ℕ) → length bytes ≤ 2 ^ 24 → (IsUtf8 bytes → read bytes ≡ None) → entry_of F bytes ≡ Err NotJson
 no_data F bytes few none =
     ap (λ b. if b then Err TooLong else (if is_utf8 bytes then json_entry F (read bytes) else Err NotJson)) (le-ltb (2 ^ 24) (length bytes) few)
     ∙ go (is_utf8 bytes) refl
@@ -145,7 +145,7 @@ no_data F bytes few none =
     go true e = ap (json_entry F) (none (IsUtf8-from_is_utf8 bytes e))
     go false e = refl
 
-pub no_array : (F : kinds.Parts) (d : Data) → None ≡ as_array d → data_entry F d ≡ Err NotArray
+pub no_array : (F : kinds.MembersData) (d : Data) → None ≡ as_array d → data_entry F d ≡ Err NotArray
 no_array F (array ds) h = search (rules, h)
 no_array F null h = refl
 no_array F (boolean b) h = refl
@@ -153,7 +153,7 @@ no_array F (number n) h = refl
 no_array F (string s) h = refl
 no_array F (object ms) h = refl
 
-pub an_array : (F : kinds.Parts) (d : Data) (ds : Items) → Some ds ≡ as_array d → data_entry F d ≡ items_entry F ds
+pub an_array : (F : kinds.MembersData) (d : Data) (ds : Items) → Some ds ≡ as_array d → data_entry F d ≡ items_entry F ds
 an_array F (array es) ds h = search (rules, h)
 an_array F null ds h = search (rules, h)
 an_array F (boolean b) ds h = search (rules, h)
@@ -165,34 +165,34 @@ count_items : (xs : List Value) → items_len (items_view xs) ≡ length xs
 count_items [] = refl
 count_items (x ∷ xs) = ap suc (count_items xs)
 
-count_parts : (ps : List kinds.Part) → parts_len (parts_of ps) ≡ length ps
+count_parts : (ps : List kinds.MemberData) → parts_len (parts_of ps) ≡ length ps
 count_parts [] = refl
 count_parts (p ∷ ps) = ap suc (count_parts ps)
 
-pub other_count : (ps : List kinds.Part) (xs : List Value) → (length xs ≡ length ps → ⊥) → items_entry (parts_of ps) (items_view xs) ≡ Err Count
+pub other_count : (ps : List kinds.MemberData) (xs : List Value) → (length xs ≡ length ps → ⊥) → items_entry (parts_of ps) (items_view xs) ≡ Err Count
 other_count ps xs h = ap (λ b. if b then or_misfit (lines.parts_read (parts_of ps) (items_view xs)) else Err Count) (ne_eqb (items_len (items_view xs)) (parts_len (parts_of ps)) (λ e. h (sym (count_items xs) ∙ e ∙ count_parts ps)))
 
-pub same_count : (ps : List kinds.Part) (xs : List Value) → length xs ≡ length ps → items_entry (parts_of ps) (items_view xs) ≡ or_misfit (lines.parts_read (parts_of ps) (items_view xs))
+pub same_count : (ps : List kinds.MemberData) (xs : List Value) → length xs ≡ length ps → items_entry (parts_of ps) (items_view xs) ≡ or_misfit (lines.parts_read (parts_of ps) (items_view xs))
 same_count ps xs h = ap (λ b. if b then or_misfit (lines.parts_read (parts_of ps) (items_view xs)) else Err Count) (eq-eqb (items_len (items_view xs)) (parts_len (parts_of ps)) (count_items xs ∙ h ∙ sym (count_parts ps)))
 
 -- ---- choices and lists
 
-pub picked_is : (ks : List Kind) (xs : List Value) (x y : Value) (tag : ℕ) → length xs ≡ 2 → x ≡ get_or xs 0 x → y ≡ get_or xs 1 y → Some tag ≡ tag_read (view x) → pick_read (one_read (kinds_of ks)) (items_view xs) ≡ option_map (pick tag) (one_read (kinds_of ks) tag (view y))
+pub picked_is : (ks : List ShapeData) (xs : List Value) (x y : Value) (tag : ℕ) → length xs ≡ 2 → x ≡ get_or xs 0 x → y ≡ get_or xs 1 y → Some tag ≡ tag_read (view x) → pick_read (one_read (kinds_of ks)) (items_view xs) ≡ option_map (pick tag) (one_read (kinds_of ks) tag (view y))
 picked_is ks xs x y tag two e g h = two-pick (one_read (kinds_of ks)) xs x y two e g ∙ ap (λ o. option_and_then (λ n. option_map (pick n) (one_read (kinds_of ks) n (view y))) o) (sym h)
 
-pub picked_none : (ks : List Kind) (xs : List Value) (x : Value) (tag : ℕ) → length xs ≡ 2 → x ≡ get_or xs 0 x → Some tag ≡ tag_read (view x) → ((d : Data) → one_read (kinds_of ks) tag d ≡ None) → pick_read (one_read (kinds_of ks)) (items_view xs) ≡ None
+pub picked_none : (ks : List ShapeData) (xs : List Value) (x : Value) (tag : ℕ) → length xs ≡ 2 → x ≡ get_or xs 0 x → Some tag ≡ tag_read (view x) → ((d : Data) → one_read (kinds_of ks) tag d ≡ None) → pick_read (one_read (kinds_of ks)) (items_view xs) ≡ None
 picked_none ks [] x tag two e h none = absurd (omega (arith, two))
 picked_none ks (a ∷ []) x tag two e h none = absurd (omega (arith, two))
 picked_none ks (a ∷ b ∷ []) x tag two e h none = picked_is ks (a ∷ b ∷ []) x b tag refl e refl h ∙ ap (option_map (pick tag)) (none (view b))
 picked_none ks (a ∷ b ∷ c ∷ xs) x tag two e h none = absurd (omega (arith, two))
 
-pub list-tree : (k : Kind) (d : Data) (ds : Items) (vs : TreesData) → Some ds ≡ as_array d → Some vs ≡ all_read (tree_read k) ds → Some (trees.items vs) ≡ tree_read (kinds.list k) d
+pub list-tree : (k : ShapeData) (d : Data) (ds : Items) (vs : TreesData) → Some ds ≡ as_array d → Some vs ≡ all_read (tree_read k) ds → Some (trees.items vs) ≡ tree_read (kinds.list k) d
 list-tree k d ds vs h g = ap (option_map trees.items) g ∙ ap (λ o. option_and_then (λ es. option_map trees.items (all_read (tree_read k) es)) o) h
 
-pub record-tree : (ps : kinds.Parts) (d : Data) (ds : Items) (vs : TreesData) → Some ds ≡ as_array d → Some vs ≡ lines.parts_read ps ds → Some (trees.parts vs) ≡ tree_read (kinds.fields ps) d
+pub record-tree : (ps : kinds.MembersData) (d : Data) (ds : Items) (vs : TreesData) → Some ds ≡ as_array d → Some vs ≡ lines.parts_read ps ds → Some (trees.parts vs) ≡ tree_read (kinds.fields ps) d
 record-tree ps d ds vs h g = ap (option_map trees.parts) g ∙ ap (λ o. option_and_then (λ es. option_map trees.parts (lines.parts_read ps es)) o) h
 
-pub tuple-tree : (ks : kinds.Kinds) (d : Data) (ds : Items) (vs : TreesData) → Some ds ≡ as_array d → Some vs ≡ lines.kinds_read ks ds → Some (trees.parts vs) ≡ tree_read (kinds.tuple ks) d
+pub tuple-tree : (ks : kinds.ShapesData) (d : Data) (ds : Items) (vs : TreesData) → Some ds ≡ as_array d → Some vs ≡ lines.kinds_read ks ds → Some (trees.parts vs) ≡ tree_read (kinds.tuple ks) d
 tuple-tree ks d ds vs h g = ap (option_map trees.parts) g ∙ ap (λ o. option_and_then (λ es. option_map trees.parts (lines.kinds_read ks es)) o) h
 
 count_members : (ms : List (String Global × Value)) → members_len (members_view ms) ≡ length ms

@@ -5,8 +5,8 @@ use Rattle.std.specs.Str.{is_utf8}
 use Rattle.hex.specs.Hex.{IsBytes}
 use Rattle.hex.proofs.HexLemmas.{decode_of-encode_lower}
 use Rattle.serde_json.specs.Data.{Data, string}
-use Rattle.nt_types.specs.Kinds.{Kind, Kinds, Parts, no_kinds, kind, no_parts, part}
-use Rattle.nt_types.specs.Kinds as kinds
+use Rattle.nt_types.specs.ShapeData.{ShapeData, ShapesData, MembersData, no_kinds, kind, no_parts, part}
+use Rattle.nt_types.specs.ShapeData as kinds
 use Rattle.nt_types.specs.TreeData.{TreeData, TreesData, flag, num, text, items, parts, pick, nothing, no_trees, tree}
 use Rattle.nt_types.specs.Fits.{is_int, all_trees, fits, fit_parts, fit_kinds, fits_one}
 use Rattle.nt_event.specs.Line.{ok_of, text_read, int_read, tag_of, all_read, tree_read, parts_read, kinds_read, one_read}
@@ -31,7 +31,7 @@ all_back f g no_trees each h b = refl
 all_back f g (tree v vs) each h b = let p = and_parts (g v) (all_trees g vs) h in rw (each v p.0 b.0, all_back f g vs each p.1 b.1) refl
 
 mutual
-  pub tree_read-data : (k : Kind) (v : TreeData) → fits k v ≡ true → InRange v → tree_read k (data_of v) ≡ Some v
+  pub tree_read-data : (k : ShapeData) (v : TreeData) → fits k v ≡ true → InRange v → tree_read k (data_of v) ≡ Some v
   tree_read-data kinds.bool (flag b) h y = refl
   tree_read-data kinds.char (num z) h y = int_back (is_int 8 false) z h
   tree_read-data kinds.byte (num z) h y = int_back (is_int 8 false) z h
@@ -45,19 +45,19 @@ mutual
       ap (option_and_then (λ n. option_map (pick n) (one_read ks n (data_of v)))) (tag_back tag y.0) ∙ ap (option_map (pick tag)) (one_read-data ks tag v h y.1)
   tree_read-data _ _ h y = absurd (false≢true h)
 
-  pub parts_read-data : (ps : Parts) (vs : TreesData) → fit_parts ps vs ≡ true → AllInRange vs → parts_read ps (datas_of vs) ≡ Some vs
+  pub parts_read-data : (ps : MembersData) (vs : TreesData) → fit_parts ps vs ≡ true → AllInRange vs → parts_read ps (datas_of vs) ≡ Some vs
   parts_read-data no_parts no_trees h y = refl
   parts_read-data no_parts (tree v vs) h y = absurd (false≢true h)
   parts_read-data (part n k ps) no_trees h y = absurd (false≢true h)
   parts_read-data (part n k ps) (tree v vs) h y = let p = and_parts (fits k v) (fit_parts ps vs) h in rw (tree_read-data k v p.0 y.0, parts_read-data ps vs p.1 y.1) refl
 
-  pub kinds_read-data : (ks : Kinds) (vs : TreesData) → fit_kinds ks vs ≡ true → AllInRange vs → kinds_read ks (datas_of vs) ≡ Some vs
+  pub kinds_read-data : (ks : ShapesData) (vs : TreesData) → fit_kinds ks vs ≡ true → AllInRange vs → kinds_read ks (datas_of vs) ≡ Some vs
   kinds_read-data no_kinds no_trees h y = refl
   kinds_read-data no_kinds (tree v vs) h y = absurd (false≢true h)
   kinds_read-data (kind k ks) no_trees h y = absurd (false≢true h)
   kinds_read-data (kind k ks) (tree v vs) h y = let p = and_parts (fits k v) (fit_kinds ks vs) h in rw (tree_read-data k v p.0 y.0, kinds_read-data ks vs p.1 y.1) refl
 
-  one_read-data : (ks : Kinds) (tag : ℕ) (v : TreeData) → fits_one ks tag v ≡ true → InRange v → one_read ks tag (data_of v) ≡ Some v
+  one_read-data : (ks : ShapesData) (tag : ℕ) (v : TreeData) → fits_one ks tag v ≡ true → InRange v → one_read ks tag (data_of v) ≡ Some v
   one_read-data no_kinds tag v h y = absurd (false≢true h)
   one_read-data (kind k ks) zero v h y = absurd (false≢true h)
   one_read-data (kind k ks) (suc zero) v h y = tree_read-data k v h y

@@ -3,8 +3,8 @@ use Rattle.std.proofs.Common.{rules, Vec, Box, Global, ◌≡◌, ℕ, List, map
 use Rattle.std.proofs.lemmas.Bool.{ne_eqb}
 use Rattle.nt_types.specs.TreeData.{trees_of, items, parts}
 use Rattle.nt_types.specs.TreeViews.{tree_view}
-use Rattle.nt_types.specs.Kinds.{kinds_of, parts_of}
-use Rattle.nt_types.specs.Kinds as kinds
+use Rattle.nt_types.specs.ShapeData.{kinds_of, parts_of}
+use Rattle.nt_types.specs.ShapeData as kinds
 use Rattle.nt_types.specs.Views.{shape_view, member_view, members_view}
 use Rattle.nt_types.specs.declared.tree.Tree.{Tree, the_lemmas as tree_lemmas}
 use Rattle.nt_types.specs.declared.tree.Tree as trees

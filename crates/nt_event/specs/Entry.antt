@@ -4,7 +4,7 @@ use Rattle.std.specs.Str.{is_utf8}
 use Rattle.serde_json.specs.Data.{Data, null, boolean, number, string, array, object, Items}
 use Rattle.serde_json.specs.Events.{items_len}
 use Rattle.serde_json.specs.Read.{read}
-use Rattle.nt_types.specs.Kinds.{Parts, no_parts, part}
+use Rattle.nt_types.specs.ShapeData.{MembersData, no_parts, part}
 use Rattle.nt_types.specs.TreeData.{TreeData, TreesData, tree}
 use Rattle.nt_event.specs.Limits.{max_line}
 use Rattle.nt_event.specs.Line.{parts_read}
@@ -14,7 +14,7 @@ use Rattle.nt_event.specs.declared.fault.TextKind.{TextKind}
 use Rattle.nt_event.specs.declared.fault.TextKind.TheVariants.{TooLong, NotJson, NotArray, Count, Misfit}
 
 -- how many there are
-abbrev pub parts_len : Parts → ℕ
+abbrev pub parts_len : MembersData → ℕ
 parts_len no_parts = 0
 parts_len (part n k ps) = suc (parts_len ps)
 
@@ -24,11 +24,11 @@ or_misfit (Some ts) = Ok ts
 or_misfit None = Err Misfit
 
 -- the entry that items are
-abbrev pub items_entry : Parts → Items → Result TreesData TextKind
+abbrev pub items_entry : MembersData → Items → Result TreesData TextKind
 items_entry F ds = if items_len ds == parts_len F then or_misfit (parts_read F ds) else Err Count
 
 -- the entry that data is
-abbrev pub data_entry : Parts → Data → Result TreesData TextKind
+abbrev pub data_entry : MembersData → Data → Result TreesData TextKind
 data_entry F null = Err NotArray
 data_entry F (boolean b) = Err NotArray
 data_entry F (number n) = Err NotArray
@@ -37,12 +37,12 @@ data_entry F (array ds) = items_entry F ds
 data_entry F (object ms) = Err NotArray
 
 -- the entry that the reading of a text is
-abbrev pub json_entry : Parts → Option Data → Result TreesData TextKind
+abbrev pub json_entry : MembersData → Option Data → Result TreesData TextKind
 json_entry F None = Err NotJson
 json_entry F (Some d) = data_entry F d
 
 -- the entry that a line is, or the first thing that is wrong
-abbrev pub entry_of : Parts → List ℕ → Result TreesData TextKind
+abbrev pub entry_of : MembersData → List ℕ → Result TreesData TextKind
 entry_of F bytes = if nat_lt max_line (length bytes) then Err TooLong else (if is_utf8 bytes then json_entry F (read bytes) else Err NotJson)
 
 -- these trees, and then those

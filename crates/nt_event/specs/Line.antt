@@ -4,8 +4,8 @@ use Rattle.hex.specs.Hex.{decode_of}
 use Rattle.serde_json.specs.Data.{Data, null, string, array, object, Items, no_items, item, Members}
 use Rattle.serde_json.specs.Find.{get_member, as_bool, as_number, as_str, as_array, as_integer, as_u64}
 use Rattle.serde_json.specs.Events.{members_len}
-use Rattle.nt_types.specs.Kinds.{Kind, Kinds, Parts, no_kinds, kind, no_parts, part}
-use Rattle.nt_types.specs.Kinds as kinds
+use Rattle.nt_types.specs.ShapeData.{ShapeData, ShapesData, MembersData, no_kinds, kind, no_parts, part}
+use Rattle.nt_types.specs.ShapeData as kinds
 use Rattle.nt_types.specs.TreeData.{TreeData, TreesData, flag, num, text, items, parts, pick, nothing, no_trees, tree}
 use Rattle.nt_types.specs.Fits.{is_int}
 
@@ -75,7 +75,7 @@ array_read f g d = option_and_then (λ ds. option_map g (f ds)) (as_array d)
 
 -- the tree that a value is, for a shape; of several kinds, one value for each; of alternatives, the one of the tag, from 1
 abbrev mutual
-  pub tree_read : Kind → Data → Option TreeData
+  pub tree_read : ShapeData → Data → Option TreeData
   tree_read kinds.bool d = option_map flag (as_bool d)
   tree_read kinds.char d = int_read (is_int 8 false) d
   tree_read kinds.byte d = int_read (is_int 8 false) d
@@ -86,15 +86,15 @@ abbrev mutual
   tree_read (kinds.tuple ks) d = array_read (kinds_read ks) parts d
   tree_read (kinds.choice ks) d = choice_read (one_read ks) d
 
-  pub parts_read : Parts → Items → Option TreesData
+  pub parts_read : MembersData → Items → Option TreesData
   parts_read no_parts ds = none_read ds
   parts_read (part n k ps) ds = next_read (tree_read k) (parts_read ps) ds
 
-  pub kinds_read : Kinds → Items → Option TreesData
+  pub kinds_read : ShapesData → Items → Option TreesData
   kinds_read no_kinds ds = none_read ds
   kinds_read (kind k ks) ds = next_read (tree_read k) (kinds_read ks) ds
 
-  pub one_read : Kinds → ℕ → Data → Option TreeData
+  pub one_read : ShapesData → ℕ → Data → Option TreeData
   one_read no_kinds tag d = None
   one_read (kind k ks) zero d = None
   one_read (kind k ks) (suc zero) d = tree_read k d

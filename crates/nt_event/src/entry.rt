@@ -1,7 +1,7 @@
 //! The entry of a line.
 
 ghost use Rattle.std.specs.Prelude.{◌≡◌, ◌≤◌, length, IfOk, IfErr, Ok};
-ghost use Rattle.nt_types.specs.Kinds.{parts_of};
+ghost use Rattle.nt_types.specs.ShapeData.{parts_of};
 ghost use Rattle.nt_types.specs.Views.{members_view};
 ghost use Rattle.nt_types.specs.TreeData.{trees_of};
 ghost use Rattle.nt_types.specs.TreeViews.{trees_view};

@@ -1,7 +1,7 @@
 //! The law of lines.
 
 ghost use Rattle.std.specs.Prelude.{◌≡◌, ◌≤◌, List, length, true, Ok};
-ghost use Rattle.nt_types.specs.Kinds.{Part, parts_of};
+ghost use Rattle.nt_types.specs.ShapeData.{MemberData, parts_of};
 ghost use Rattle.nt_types.specs.Rules.{AreFields};
 ghost use Rattle.nt_types.specs.TreeData.{TreeData, trees_of};
 ghost use Rattle.nt_types.specs.Fits.{fit_parts};
@@ -11,5 +11,5 @@ ghost use Rattle.nt_event.specs.Limits.{max_line};
 
 /// The line of an entry, its LF taken off, is that entry: for the fields of a schema text, and a line that is not too long.
 pub fn lines_are_read_back()
-    ensures { (ps : List Part) (ts : List TreeData) → AreFields ps → fit_parts (parts_of ps) (trees_of ts) ≡ true → AllHaveBytes (trees_of ts) → length (line_of (trees_of ts)) ≤ max_line → entry_of (parts_of ps) (line_of (trees_of ts)) ≡ Ok (trees_of ts) }
+    ensures { (ps : List MemberData) (ts : List TreeData) → AreFields ps → fit_parts (parts_of ps) (trees_of ts) ≡ true → AllHaveBytes (trees_of ts) → length (line_of (trees_of ts)) ≤ max_line → entry_of (parts_of ps) (line_of (trees_of ts)) ≡ Ok (trees_of ts) }
 {}

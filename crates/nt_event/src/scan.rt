@@ -2,7 +2,7 @@
 
 ghost use Rattle.std.specs.Prelude.{◌≡◌, ◌≤◌, length, map, false, IfOk, IfSome};
 ghost use Rattle.serde_json.specs.Written.{items_text};
-ghost use Rattle.nt_types.specs.Kinds.{choice, kinds_of};
+ghost use Rattle.nt_types.specs.ShapeData.{choice, kinds_of};
 ghost use Rattle.nt_types.specs.Views.{shape_view, member_view, members_view};
 ghost use Rattle.nt_types.specs.TreeData.{trees_of};
 ghost use Rattle.nt_types.specs.TreeViews.{tree_view, trees_view};

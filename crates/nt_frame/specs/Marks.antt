@@ -9,10 +9,10 @@ head_len None = 8
 head_len (Some count) = 12
 
 -- what the marks say of the bytes; the mark of the frame that was begun last comes first
-abbrev pub written : List Mark → List ℕ → Written
-written [] out = record { inside = out; frames = [] }
-written (m ∷ marks) out =
-    record { inside = drop (m.at + head_len m.count) out; frames = record { count = m.count; before = (written marks (take m.at out)).inside } ∷ (written marks (take m.at out)).frames }
+abbrev pub marked : List Mark → List ℕ → Written
+marked [] out = record { inside = out; frames = [] }
+marked (m ∷ marks) out =
+    record { inside = drop (m.at + head_len m.count) out; frames = record { count = m.count; before = (marked marks (take m.at out)).inside } ∷ (marked marks (take m.at out)).frames }
 
 -- each frame begins behind the head of the one that it is in
 abbrev pub AreMarks : List Mark → ℕ → Type 0

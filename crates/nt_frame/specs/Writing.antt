@@ -13,12 +13,12 @@ pub record Written : Type 0 where
   pub frames : List Begun
 
 -- these bytes are written behind the others
-abbrev pub appended : List ℕ → Written → Written
-appended bytes w = record { inside = w.inside ++ bytes; frames = w.frames }
+abbrev pub bytes_added : List ℕ → Written → Written
+bytes_added bytes w = record { inside = w.inside ++ bytes; frames = w.frames }
 
 -- a frame is begun, with nothing in it
-abbrev pub begun : Option ℕ → Written → Written
-begun count w = record { inside = []; frames = record { count = count; before = w.inside } ∷ w.frames }
+abbrev pub frame_begun : Option ℕ → Written → Written
+frame_begun count w = record { inside = []; frames = record { count = count; before = w.inside } ∷ w.frames }
 
 -- a record frame, or a list frame of so many items
 abbrev pub frame : Option ℕ → List ℕ → List ℕ
@@ -31,5 +31,5 @@ finished_in [] inside = record { inside = inside; frames = [] }
 finished_in (f ∷ frames) inside = record { inside = f.before ++ frame f.count inside; frames = frames }
 
 -- the same, of all that is written
-abbrev pub finished : Written → Written
-finished w = finished_in w.frames w.inside
+abbrev pub frame_finished : Written → Written
+frame_finished w = finished_in w.frames w.inside

@@ -3,7 +3,7 @@
 ghost use Rattle.std.specs.Prelude.{◌≡◌, ◌<◌, ◌^◌, [], length, Some, None, OnOk, OnErr};
 ghost use Rattle.std.specs.Int.{w16, w32, w64, to_le_bytes, to_be_bytes};
 ghost use Rattle.nt_format.specs.Strings.{string};
-ghost use Rattle.nt_frame.specs.Writing.{appended, begun, finished};
+ghost use Rattle.nt_frame.specs.Writing.{bytes_added, frame_begun, frame_finished};
 
 use crate::parts::{put_head, put_text};
 use std::alloc::AllocError;
@@ -32,9 +32,9 @@ impl Model for FrameOut {
 
     ghost Value = { Written };
 
-    ghost use Rattle.nt_frame.specs.Marks.{written, AreMarks};
+    ghost use Rattle.nt_frame.specs.Marks.{marked, AreMarks};
 
-    ghost view = { λ w. written (reverse w.marks.items) w.out.items };
+    ghost view = { λ w. marked (reverse w.marks.items) w.out.items };
 
     ghost invariant = { λ w. AreMarks (reverse w.marks.items) (length w.out.items) };
 }
@@ -52,7 +52,7 @@ impl FrameOut {
 
     /// Begins a record frame.
     pub fn begin_record(&mut self) -> Result<(), AllocError>
-        ensures ok { OnOk result (self.new ≡ begun None self.old) }
+        ensures ok { OnOk result (self.new ≡ frame_begun None self.old) }
         ensures err { OnErr result (self.new ≡ self.old) }
     {
         self.begin(None, &[0; 8])
@@ -60,7 +60,7 @@ impl FrameOut {
 
     /// Begins a list frame of so many items.
     pub fn begin_list(&mut self, count: u32) -> Result<(), AllocError>
-        ensures ok { OnOk result (self.new ≡ begun (Some count) self.old) }
+        ensures ok { OnOk result (self.new ≡ frame_begun (Some count) self.old) }
         ensures err { OnErr result (self.new ≡ self.old) }
     {
         self.begin(Some(count), &[0; 12])
@@ -69,7 +69,7 @@ impl FrameOut {
     // Begins a frame, with room for its head.
     fn begin(&mut self, count: Option<u32>, head: &[u8]) -> Result<(), AllocError>
         requires { length head.now ≡ head_len count }
-        ensures ok { OnOk result (self.new ≡ begun count self.old) }
+        ensures ok { OnOk result (self.new ≡ frame_begun count self.old) }
         ensures err { OnErr result (self.new ≡ self.old) }
     {
         let at = self.out.len();
@@ -82,7 +82,7 @@ impl FrameOut {
     /// Finishes the frame that was begun last: fills in its size.
     pub fn finish(&mut self)
         requires { 0 < length self.old.frames }
-        ensures { self.new ≡ finished self.old }
+        ensures { self.new ≡ frame_finished self.old }
     {
         if let Some(mark) = self.marks.pop() {
             put_head(&mut self.out, mark);
@@ -102,7 +102,7 @@ impl FrameOut {
     #[tactic(auto, using(crate::proofs::Marks::appends))]
     pub fn text(&mut self, bytes: &[u8]) -> Result<(), AllocError>
         requires { length bytes.now < 2 ^ 32 }
-        ensures ok { OnOk result (self.new ≡ appended (string bytes.now) self.old) }
+        ensures ok { OnOk result (self.new ≡ bytes_added (string bytes.now) self.old) }
         ensures err { OnErr result (self.new ≡ self.old) }
     {
         put_text(&mut self.out, bytes)?;
@@ -112,7 +112,7 @@ impl FrameOut {
     // Writes these bytes.
     #[tactic(auto, using(crate::proofs::Marks::appends))]
     fn put(&mut self, bytes: &[u8]) -> Result<(), AllocError>
-        ensures ok { OnOk result (self.new ≡ appended bytes.now self.old) }
+        ensures ok { OnOk result (self.new ≡ bytes_added bytes.now self.old) }
         ensures err { OnErr result (self.new ≡ self.old) }
     {
         self.out.extend_from_slice(bytes)?;
@@ -121,7 +121,7 @@ impl FrameOut {
 
     /// Writes a number, the lowest byte first.
     pub fn put_u16le(&mut self, v: u16) -> Result<(), AllocError>
-        ensures ok { OnOk result (self.new ≡ appended (to_le_bytes w16 v) self.old) }
+        ensures ok { OnOk result (self.new ≡ bytes_added (to_le_bytes w16 v) self.old) }
         ensures err { OnErr result (self.new ≡ self.old) }
     {
         self.put(&v.to_le_bytes())
@@ -129,7 +129,7 @@ impl FrameOut {
 
     /// Writes a number, the lowest byte first.
     pub fn put_u32le(&mut self, v: u32) -> Result<(), AllocError>
-        ensures ok { OnOk result (self.new ≡ appended (to_le_bytes w32 v) self.old) }
+        ensures ok { OnOk result (self.new ≡ bytes_added (to_le_bytes w32 v) self.old) }
         ensures err { OnErr result (self.new ≡ self.old) }
     {
         self.put(&v.to_le_bytes())
@@ -137,7 +137,7 @@ impl FrameOut {
 
     /// Writes a number, the lowest byte first.
     pub fn put_u64le(&mut self, v: u64) -> Result<(), AllocError>
-        ensures ok { OnOk result (self.new ≡ appended (to_le_bytes w64 v) self.old) }
+        ensures ok { OnOk result (self.new ≡ bytes_added (to_le_bytes w64 v) self.old) }
         ensures err { OnErr result (self.new ≡ self.old) }
     {
         self.put(&v.to_le_bytes())
@@ -145,7 +145,7 @@ impl FrameOut {
 
     /// Writes a number, the highest byte first.
     pub fn put_u16be(&mut self, v: u16) -> Result<(), AllocError>
-        ensures ok { OnOk result (self.new ≡ appended (to_be_bytes w16 v) self.old) }
+        ensures ok { OnOk result (self.new ≡ bytes_added (to_be_bytes w16 v) self.old) }
         ensures err { OnErr result (self.new ≡ self.old) }
     {
         self.put(&v.to_be_bytes())
@@ -153,7 +153,7 @@ impl FrameOut {
 
     /// Writes a number, the highest byte first.
     pub fn put_u32be(&mut self, v: u32) -> Result<(), AllocError>
-        ensures ok { OnOk result (self.new ≡ appended (to_be_bytes w32 v) self.old) }
+        ensures ok { OnOk result (self.new ≡ bytes_added (to_be_bytes w32 v) self.old) }
         ensures err { OnErr result (self.new ≡ self.old) }
     {
         self.put(&v.to_be_bytes())
@@ -161,7 +161,7 @@ impl FrameOut {
 
     /// Writes a number, the highest byte first.
     pub fn put_u64be(&mut self, v: u64) -> Result<(), AllocError>
-        ensures ok { OnOk result (self.new ≡ appended (to_be_bytes w64 v) self.old) }
+        ensures ok { OnOk result (self.new ≡ bytes_added (to_be_bytes w64 v) self.old) }
         ensures err { OnErr result (self.new ≡ self.old) }
     {
         self.put(&v.to_be_bytes())

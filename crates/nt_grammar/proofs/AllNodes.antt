@@ -4,7 +4,7 @@ use Rattle.std.proofs.lemmas.Bool.Decides.{nat_tests}
 use Rattle.std.proofs.lemmas.Fmt.{length-decimal-le}
 use Rattle.std.specs.List.{list_all}
 use Rattle.std.specs.Fmt.{decimal}
-use Rattle.nt_types.specs.Kinds.{Kind, Kinds, Parts, Part, bool, char, byte, int, text, list, fields, tuple, choice, no_kinds, kind, no_parts, part, parts_of}
+use Rattle.nt_types.specs.ShapeData.{ShapeData, ShapesData, MembersData, MemberData, bool, char, byte, int, text, list, fields, tuple, choice, no_kinds, kind, no_parts, part, parts_of}
 use Rattle.nt_types.specs.Words.{is_name}
 use Rattle.nt_types.specs.Spelling.{IsType, AreKinds, AreMoreKinds, AreParts, AreMoreParts}
 use Rattle.nt_types.specs.Schema.{field_count, parts_count, kinds_count}
@@ -51,15 +51,15 @@ place_name-length : (i : ℕ) → i < 4096 → length (place_name i) ≤ 255
 place_name-length i h = let digits : length (decimal i) ≤ 4 = length-decimal-le 4 i (omega arith) (omega arith) (omega arith) in omega arith
 
 -- each field counts itself
-pub field_count-some : (k : Kind) → 0 < field_count k
+pub field_count-some : (k : ShapeData) → 0 < field_count k
 field_count-some k = omega (arith, weight-inside 0 k)
 
-members-fields : (id : ℕ) (ps : Parts) → AreMoreParts ps → parts_count ps ≤ 4096 → AllNodes IsField (members_in id ps)
+members-fields : (id : ℕ) (ps : MembersData) → AreMoreParts ps → parts_count ps ≤ 4096 → AllNodes IsField (members_in id ps)
 members-fields id no_parts t h = tt
 members-fields id (part n k ps) t h =
     (record { named = name-length n t.0; within = false; typed = t.1; few = omega arith }, members-fields id ps t.2 (omega arith))
 
-parts-fields : (within : Bool) (id i : ℕ) (ks : Kinds) → AreMoreKinds within ks → i + kinds_count ks ≤ 4096
+parts-fields : (within : Bool) (id i : ℕ) (ks : ShapesData) → AreMoreKinds within ks → i + kinds_count ks ≤ 4096
     → AllNodes IsField (places_in id i ks)
 parts-fields within id i no_kinds t h = tt
 parts-fields within id i (kind k ks) t h =
@@ -69,15 +69,15 @@ parts-fields within id i (kind k ks) t h =
           (i + 1) ks t.1 (omega arith),
     )
 
-more_parts : (ps : Parts) → AreParts ps → AreMoreParts ps
+more_parts : (ps : MembersData) → AreParts ps → AreMoreParts ps
 more_parts no_parts t = absurd t
 more_parts (part n k ps) t = t
 
-more_kinds : (within : Bool) (ks : Kinds) → AreKinds within ks → AreMoreKinds within ks
+more_kinds : (within : Bool) (ks : ShapesData) → AreKinds within ks → AreMoreKinds within ks
 more_kinds within no_kinds t = absurd t
 more_kinds within (kind k ks) t = t
 
-inside-fields : (within : Bool) (id : ℕ) (k : Kind) → IsType within k → field_count k ≤ 4096 → AllNodes IsField (inside id k)
+inside-fields : (within : Bool) (id : ℕ) (k : ShapeData) → IsType within k → field_count k ≤ 4096 → AllNodes IsField (inside id k)
 inside-fields within id bool t h = tt
 inside-fields within id char t h = tt
 inside-fields within id byte t h = tt
@@ -92,17 +92,17 @@ inside-fields within id (fields ps) t h = members-fields id ps (more_parts ps t.
 inside-fields within id (tuple ks) t h = parts-fields within id 0 ks (more_kinds within ks t) (omega arith)
 inside-fields within id (choice ks) t h = parts-fields true id 0 ks (more_kinds true ks t.1) (omega arith)
 
-top-fields : (id : ℕ) (ps : List Part) → AreMoreParts (parts_of ps) → parts_count (parts_of ps) ≤ 4096 → AllNodes IsField (at_top id ps)
+top-fields : (id : ℕ) (ps : List MemberData) → AreMoreParts (parts_of ps) → parts_count (parts_of ps) ≤ 4096 → AllNodes IsField (at_top id ps)
 top-fields id [] t h = tt
 top-fields id (p ∷ ps) t h =
     (record { named = name-length p.name t.0; within = false; typed = t.1; few = omega arith }, top-fields (id + 1) ps t.2 (omega arith))
 
 -- all fields keep the rules, where those at the top level do
-pub all-fields : (ps : List Part) (nodes : List NodeData) → AreFields ps → AreNodes ps nodes → AllNodes IsField nodes
+pub all-fields : (ps : List MemberData) (nodes : List NodeData) → AreFields ps → AreNodes ps nodes → AllNodes IsField nodes
 all-fields ps nodes a e =
     AllNodes-inside IsField (λ id n f. inside-fields f.within id n.of f.typed f.few) 0 (at_top 0 ps) nodes e (top-fields 0 ps a.rules a.few)
 
-type_name-length : (k : Kind) → field_count k ≤ 4096 → length (type_name k) < 2 ^ 32
+type_name-length : (k : ShapeData) → field_count k ≤ 4096 → length (type_name k) < 2 ^ 32
 type_name-length k h = cases (holds_record k)
   where
     cases : (b : Bool) → length (if b then [] else cpp_name k) < 2 ^ 32
@@ -120,5 +120,5 @@ rows-short [] a = refl
 rows-short (n ∷ ns) a = rw (field-short n a.0, rows-short ns a.1) refl
 
 -- the names of fields that keep the rules are short
-pub described_short : (ps : List Part) (plain : Bool) (t : Table) → AreFields ps → Rows ps plain t → list_all is_short t.fields ≡ true
+pub described_short : (ps : List MemberData) (plain : Bool) (t : Table) → AreFields ps → Rows ps plain t → list_all is_short t.fields ≡ true
 described_short ps plain t a r = rw r.field_rows (rows-short r.nodes (all-fields ps r.nodes a r.order))

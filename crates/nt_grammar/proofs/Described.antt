@@ -4,7 +4,7 @@ use Rattle.std.proofs.lemmas.Bool.Decides.{nat_tests}
 use Rattle.std.proofs.lemmas.List.Elements.{filter-append}
 use Rattle.std.proofs.lemmas.Option.{slice_get-map}
 use Rattle.std.specs.Prelude.{option_map}
-use Rattle.nt_types.specs.Kinds.{Kind, Kinds, Parts, Part, bool, char, byte, int, text, list, fields, tuple, choice, no_kinds, kind, no_parts, part, kinds_of, parts_of}
+use Rattle.nt_types.specs.ShapeData.{ShapeData, ShapesData, MembersData, MemberData, bool, char, byte, int, text, list, fields, tuple, choice, no_kinds, kind, no_parts, part, kinds_of, parts_of}
 use Rattle.nt_types.specs.Spelling.{IsType, is_width, depth, deepest_kind, deepest_part}
 use Rattle.nt_types.specs.Schema.{part_under}
 use Rattle.nt_types.specs.Rules.{AreFields}
@@ -64,10 +64,10 @@ columns-is plain i nodes n is = rw zero-add at (columns-from plain 0 i nodes n i
 -- the parts of a field
 
 -- what a field is read as
-abbrev read_part : NodeData → Part
+abbrev read_part : NodeData → MemberData
 read_part n = part_under n.name (as_read n.of)
 
-opened : (f : ℕ → Option Part) (from : ℕ) (ns : List NodeData)
+opened : (f : ℕ → Option MemberData) (from : ℕ) (ns : List NodeData)
     → ((k : ℕ) (c : NodeData) → slice_get ns k ≡ Some c → f (from + k) ≡ Some (read_part c))
     → all_some (map f (count_up from (length ns))) ≡ Some (map read_part ns)
 opened f from [] h = refl
@@ -77,17 +77,17 @@ opened f from (n ∷ ns) h =
     opened f (from + 1) ns (λ k c e. let next : (from + 1) + k ≡ from + suc k = omega arith in rw next (h (suc k) c e)) in
     rw (first, later) refl
 
-members-read : (id : ℕ) (ps : Parts) → parts_of (map read_part (members_in id ps)) ≡ parts_as_read ps
+members-read : (id : ℕ) (ps : MembersData) → parts_of (map read_part (members_in id ps)) ≡ parts_as_read ps
 members-read id no_parts = refl
-members-read id (part n k ps) = ap (λ (z : Parts). part n (as_read k) z) (members-read id ps)
+members-read id (part n k ps) = ap (λ (z : MembersData). part n (as_read k) z) (members-read id ps)
 
-places-read : (id i : ℕ) (ks : Kinds) → parts_of (map read_part (places_in id i ks)) ≡ places_as_read i ks
+places-read : (id i : ℕ) (ks : ShapesData) → parts_of (map read_part (places_in id i ks)) ≡ places_as_read i ks
 places-read id i no_kinds = refl
-places-read id i (kind k ks) = ap (λ (z : Parts). part (place_name i) (as_read k) z) (places-read id (i + 1) ks)
+places-read id i (kind k ks) = ap (λ (z : MembersData). part (place_name i) (as_read k) z) (places-read id (i + 1) ks)
 
-kinds-read : (id i : ℕ) (ks : Kinds) → kinds_of (map (λ (q : Part). q.of) (map read_part (places_in id i ks))) ≡ kinds_as_read ks
+kinds-read : (id i : ℕ) (ks : ShapesData) → kinds_of (map (λ (q : MemberData). q.of) (map read_part (places_in id i ks))) ≡ kinds_as_read ks
 kinds-read id i no_kinds = refl
-kinds-read id i (kind k ks) = ap (λ (z : Kinds). kind (as_read k) z) (kinds-read id (i + 1) ks)
+kinds-read id i (kind k ks) = ap (λ (z : ShapesData). kind (as_read k) z) (kinds-read id (i + 1) ks)
 
 -- an integer, in either writing
 abbrev IsLeaf : Bool → Bool → ℕ → ℕ → Bool → Type 0
@@ -147,11 +147,11 @@ width_cases bits e = grind (arith, nat_tests)
 -- fields of each kind
 
 abbrev IsOpen : Bool → Bool → ℕ → ℕ → NodeData → Type 0
-IsOpen up plain i from n = (inner : Bool → Option (List Part)) → ((b : Bool) → inner b ≡ Some (map read_part (inside i n.of)))
+IsOpen up plain i from n = (inner : Bool → Option (List MemberData)) → ((b : Bool) → inner b ≡ Some (map read_part (inside i n.of)))
     → shape_by_role up (field_row n) (map (column_row i) (column_types plain n.of)) (count_up from (length (inside i n.of))) inner
     ≡ Some (as_read n.of)
 
-shape-open : (up plain : Bool) (i from parent : ℕ) (name : List ℕ) (within : Bool) (k : Kind) → IsType within k
+shape-open : (up plain : Bool) (i from parent : ℕ) (name : List ℕ) (within : Bool) (k : ShapeData) → IsType within k
     → IsOpen up plain i from (record { parent = parent; name = name; of = k })
 shape-open true plain i from parent name within bool t inner h = refl
 shape-open false plain i from parent name within bool t inner h = refl
@@ -170,19 +170,19 @@ shape-open false true i from parent name within (list k) t inner h = rw (h false
 shape-open false false i from parent name within (list k) t inner h = rw (h false) refl
 shape-open up plain i from parent name within (fields no_parts) t inner h = absurd t.2
 shape-open up plain i from parent name within (fields (part n k ps)) t inner h =
-    rw (h up) (ap (λ (z : Parts). Some (fields (part n (as_read k) z))) (members-read i ps))
+    rw (h up) (ap (λ (z : MembersData). Some (fields (part n (as_read k) z))) (members-read i ps))
 shape-open up plain i from parent name within (tuple no_kinds) t inner h = absurd t
 shape-open up plain i from parent name within (tuple (kind k ks)) t inner h =
-    rw (h up) (ap (λ (z : Parts). Some (fields (part (place_name 0) (as_read k) z))) (places-read i 1 ks))
+    rw (h up) (ap (λ (z : MembersData). Some (fields (part (place_name 0) (as_read k) z))) (places-read i 1 ks))
 shape-open up plain i from parent name within (choice no_kinds) t inner h = absurd t.1
 shape-open true plain i from parent name within (choice (kind k ks)) t inner h =
-    rw (h false) (ap (λ (z : Kinds). Some (choice (kind (as_read k) z))) (kinds-read i 1 ks))
+    rw (h false) (ap (λ (z : ShapesData). Some (choice (kind (as_read k) z))) (kinds-read i 1 ks))
 shape-open false plain i from parent name within (choice (kind k ks)) t inner h =
-    rw (h false) (ap (λ (z : Kinds). Some (choice (kind (as_read k) z))) (kinds-read i 1 ks))
+    rw (h false) (ap (λ (z : ShapesData). Some (choice (kind (as_read k) z))) (kinds-read i 1 ks))
 
 -- how deep the fields inside of one are
 
-depth-some : (k : Kind) → 0 < depth k
+depth-some : (k : ShapeData) → 0 < depth k
 depth-some bool = omega arith
 depth-some char = omega arith
 depth-some byte = omega arith
@@ -199,17 +199,17 @@ Shallow most n = depth n.of ≤ most
 max-parts : (a b n : ℕ) → max a b ≤ n → (a ≤ n) × (b ≤ n)
 max-parts a b n h = (grind (arith, nat_tests), grind (arith, nat_tests))
 
-members-shallow : (id most : ℕ) (ps : Parts) → deepest_part ps ≤ most → AllNodes (Shallow most) (members_in id ps)
+members-shallow : (id most : ℕ) (ps : MembersData) → deepest_part ps ≤ most → AllNodes (Shallow most) (members_in id ps)
 members-shallow id most no_parts h = tt
 members-shallow id most (part n k ps) h = let both = max-parts (depth k) (deepest_part ps) most h in
     (both.0, members-shallow id most ps both.1)
 
-places-shallow : (id i most : ℕ) (ks : Kinds) → deepest_kind ks ≤ most → AllNodes (Shallow most) (places_in id i ks)
+places-shallow : (id i most : ℕ) (ks : ShapesData) → deepest_kind ks ≤ most → AllNodes (Shallow most) (places_in id i ks)
 places-shallow id i most no_kinds h = tt
 places-shallow id i most (kind k ks) h = let both = max-parts (depth k) (deepest_kind ks) most h in
     (both.0, places-shallow id (i + 1) most ks both.1)
 
-inside-shallow : (id most : ℕ) (k : Kind) → depth k ≤ suc most → AllNodes (Shallow most) (inside id k)
+inside-shallow : (id most : ℕ) (k : ShapeData) → depth k ≤ suc most → AllNodes (Shallow most) (inside id k)
 inside-shallow id most bool h = tt
 inside-shallow id most char h = tt
 inside-shallow id most byte h = tt
@@ -238,7 +238,7 @@ slice_get-behind (m ∷ a) b k = let next : suc (length a) + k ≡ suc (length a
     ap (slice_get (m ∷ (a ++ b))) next ∙ slice_get-behind a b k
 
 -- a child of a field
-child : (ps : List Part) (nodes : List NodeData) (i : ℕ) (n : NodeData) (k : ℕ) (c : NodeData) → AreNodes ps nodes
+child : (ps : List MemberData) (nodes : List NodeData) (i : ℕ) (n : NodeData) (k : ℕ) (c : NodeData) → AreNodes ps nodes
     → slice_get nodes i ≡ Some n → slice_get (inside i n.of) k ≡ Some c
     → slice_get nodes (length (before ps nodes i) + k) ≡ Some c
 child ps nodes i n k c e is in_it =
@@ -247,7 +247,7 @@ child ps nodes i n k c e is in_it =
     ∙ slice_get-front (inside i n.of) (all_inside (i + 1) (drop (i + 1) nodes)) k c in_it)
 
 -- all described fields are open, at any depth
-field-open : (ps : List Part) (plain : Bool) (nodes : List NodeData) → AreNodes ps nodes → AllNodes IsField nodes
+field-open : (ps : List MemberData) (plain : Bool) (nodes : List NodeData) → AreNodes ps nodes → AllNodes IsField nodes
     → (d : ℕ) (up : Bool) (i : ℕ) (n : NodeData) → slice_get nodes i ≡ Some n → depth n.of ≤ d
     → open_field d (map field_row nodes) (column_rows plain 0 nodes) up i ≡ Some (read_part n)
 unfolding open_field
@@ -272,20 +272,20 @@ field-open ps plain nodes e a (suc d) up i n is h =
 
 -- fields at the top level
 
-top-get : (from : ℕ) (ps : List Part) (k : ℕ) (p : Part) → slice_get ps k ≡ Some p
+top-get : (from : ℕ) (ps : List MemberData) (k : ℕ) (p : MemberData) → slice_get ps k ≡ Some p
     → slice_get (at_top from ps) k ≡ Some (record { parent = from + k; name = p.name; of = p.of })
 top-get from [] k p is = cc
 top-get from (q ∷ ps) zero p is = let same : q ≡ p = cc in rw (add-zero, same) refl
 top-get from (q ∷ ps) (suc k) p is = let next : (from + 1) + k ≡ from + suc k = omega arith in rw next at (top-get (from + 1) ps k p is)
 
-top-shallow : (ps : List Part) (k : ℕ) (p : Part) → deepest_part (parts_of ps) ≤ 32 → slice_get ps k ≡ Some p → depth p.of ≤ 32
+top-shallow : (ps : List MemberData) (k : ℕ) (p : MemberData) → deepest_part (parts_of ps) ≤ 32 → slice_get ps k ≡ Some p → depth p.of ≤ 32
 top-shallow [] k p h is = cc
 top-shallow (q ∷ ps) zero p h is = let same : q ≡ p = cc in let both = max-parts (depth q.of) (deepest_part (parts_of ps)) 32 h in
     rw (← same) both.0
 top-shallow (q ∷ ps) (suc k) p h is = top-shallow ps k p (max-parts (depth q.of) (deepest_part (parts_of ps)) 32 h).1 is
 
 -- described fields have the shapes that they were described from, with tuples read as records
-pub described-open : (ps : List Part) (plain : Bool) (t : Table) → AreFields ps → Rows ps plain t → (id : ℕ) (p : Part)
+pub described-open : (ps : List MemberData) (plain : Bool) (t : Table) → AreFields ps → Rows ps plain t → (id : ℕ) (p : MemberData)
     → slice_get ps id ≡ Some p → open_shape t id ≡ Some (as_read p.of)
 described-open ps plain t a r id p is =
     let n : NodeData = record { parent = 0 + id; name = p.name; of = p.of } in

@@ -5,7 +5,7 @@ use Rattle.std.proofs.lemmas.List.{length-map, length-take-le, length-drop, take
 use Rattle.std.proofs.lemmas.Option.{slice_get_within, get_or_from_slice_get}
 use Rattle.std.proofs.Math.Seq.{drop-cons}
 use Rattle.std.specs.Prelude.{◌&&◌, not}
-use Rattle.nt_types.specs.Kinds.{Kind, Kinds, Parts, Part, bool, char, byte, int, text, list, fields, tuple, choice, no_kinds, kind, no_parts, part}
+use Rattle.nt_types.specs.ShapeData.{ShapeData, ShapesData, MembersData, MemberData, bool, char, byte, int, text, list, fields, tuple, choice, no_kinds, kind, no_parts, part}
 use Rattle.nt_grammar.specs.Rows.{NodeData, AreNodes, inside, members_in, places_in, all_inside, at_top, field_row}
 use Rattle.nt_grammar.specs.Listing.{weight}
 use Rattle.nt_grammar.specs.Open.{ids_inside}
@@ -24,15 +24,15 @@ weaken : (P Q : NodeData → Type 0) → ((n : NodeData) → P n → Q n) → (n
 weaken P Q f [] a = tt
 weaken P Q f (n ∷ ns) a = (f n a.0, weaken P Q f ns a.1)
 
-members-parents : (id : ℕ) (ps : Parts) → AllNodes (Within id (id + 1)) (members_in id ps)
+members-parents : (id : ℕ) (ps : MembersData) → AllNodes (Within id (id + 1)) (members_in id ps)
 members-parents id no_parts = tt
 members-parents id (part n k ps) = (record { above = omega arith; below = omega arith }, members-parents id ps)
 
-parts-parents : (id i : ℕ) (ks : Kinds) → AllNodes (Within id (id + 1)) (places_in id i ks)
+parts-parents : (id i : ℕ) (ks : ShapesData) → AllNodes (Within id (id + 1)) (places_in id i ks)
 parts-parents id i no_kinds = tt
 parts-parents id i (kind k ks) = (record { above = omega arith; below = omega arith }, parts-parents id (i + 1) ks)
 
-inside-parents : (id : ℕ) (k : Kind) → AllNodes (Within id (id + 1)) (inside id k)
+inside-parents : (id : ℕ) (k : ShapeData) → AllNodes (Within id (id + 1)) (inside id k)
 inside-parents id bool = tt
 inside-parents id char = tt
 inside-parents id byte = tt
@@ -82,7 +82,7 @@ itself true = refl
 itself false = refl
 
 -- a field at the top level lies in no field
-top-inside : (p id : ℕ) (ps : List Part) → ids_inside p id (map field_row (at_top id ps)) ≡ []
+top-inside : (p id : ℕ) (ps : List MemberData) → ids_inside p id (map field_row (at_top id ps)) ≡ []
 top-inside p id [] = refl
 top-inside p id (q ∷ ps) = rw (itself (id == p)) (top-inside p (id + 1) ps)
 
@@ -123,7 +123,7 @@ drop-drop (suc j) k (n ∷ ns) =
     drop-drop j k ns ∙ ap (λ (i : ℕ). drop i (n ∷ ns)) (sym next)
 
 -- the fields before those inside of one
-abbrev pub before : List Part → List NodeData → ℕ → List NodeData
+abbrev pub before : List MemberData → List NodeData → ℕ → List NodeData
 before ps nodes i = at_top 0 ps ++ all_inside 0 (take i nodes)
 
 all_inside-cut : (nodes : List NodeData) (i : ℕ) → i ≤ length nodes
@@ -134,13 +134,13 @@ all_inside-cut nodes i h =
     ∙ (all_inside-append 0 (take i nodes) (drop i nodes)
     ∙ ap (λ (j : ℕ). all_inside 0 (take i nodes) ++ all_inside j (drop i nodes)) (zero-add (length (take i nodes)) ∙ len))
 
-cut : (ps : List Part) (nodes : List NodeData) (i : ℕ) → AreNodes ps nodes → i ≤ length nodes
+cut : (ps : List MemberData) (nodes : List NodeData) (i : ℕ) → AreNodes ps nodes → i ≤ length nodes
     → nodes ≡ before ps nodes i ++ all_inside i (drop i nodes)
 cut ps nodes i e h = e ∙ (ap (λ (z : List NodeData). at_top 0 ps ++ z) (all_inside-cut nodes i h)
     ∙ sym (append_assoc (at_top 0 ps) (all_inside 0 (take i nodes)) (all_inside i (drop i nodes))))
 
 -- the fields inside of one stand behind it
-not_before : (ps : List Part) (nodes : List NodeData) (i : ℕ) → AreNodes ps nodes → i < length nodes → length (before ps nodes i) ≤ i → ⊥
+not_before : (ps : List MemberData) (nodes : List NodeData) (i : ℕ) → AreNodes ps nodes → i < length nodes → length (before ps nodes i) ≤ i → ⊥
 not_before ps nodes i e h k =
     let s : ℕ = length (before ps nodes i) in
     let rest : drop s nodes ≡ all_inside i (drop i nodes) = ap (drop s) (cut ps nodes i e (omega arith))
@@ -153,7 +153,7 @@ not_before ps nodes i e h k =
     let some : length (drop i nodes) ≡ length nodes - i = length-drop i nodes in
     omega arith
 
-pub start-behind : (ps : List Part) (nodes : List NodeData) (i : ℕ) → AreNodes ps nodes → i < length nodes → i < length (before ps nodes i)
+pub start-behind : (ps : List MemberData) (nodes : List NodeData) (i : ℕ) → AreNodes ps nodes → i < length nodes → i < length (before ps nodes i)
 start-behind ps nodes i e h = cases (nat_le (length (before ps nodes i)) i) refl
   where
     cases : (b : Bool) → nat_le (length (before ps nodes i)) i ≡ b → i < length (before ps nodes i)
@@ -168,7 +168,7 @@ node-drop nodes i n is =
     ∙ ap (λ (j : ℕ). n ∷ drop j nodes) (sym (add-one i)))
 
 -- all fields: those before, those inside of one, and those behind
-pub cut-inside : (ps : List Part) (nodes : List NodeData) (i : ℕ) (n : NodeData) → AreNodes ps nodes → slice_get nodes i ≡ Some n
+pub cut-inside : (ps : List MemberData) (nodes : List NodeData) (i : ℕ) (n : NodeData) → AreNodes ps nodes → slice_get nodes i ≡ Some n
     → nodes ≡ before ps nodes i ++ (inside i n.of ++ all_inside (i + 1) (drop (i + 1) nodes))
 cut-inside ps nodes i n e is =
     let here : i < length nodes = slice_get_within nodes i n is in
@@ -184,7 +184,7 @@ two p from a b =
     ap (ids_inside p from) (map-rows a b) ∙ (ids_inside-append p from (map field_row a) (map field_row b)
     ∙ ap (λ (j : ℕ). ids_inside p from (map field_row a) ++ ids_inside p (from + j) (map field_row b)) (length-map a field_row))
 
-before-inside : (ps : List Part) (nodes : List NodeData) (i : ℕ) → i ≤ length nodes
+before-inside : (ps : List MemberData) (nodes : List NodeData) (i : ℕ) → i ≤ length nodes
     → ids_inside i 0 (map field_row (before ps nodes i)) ≡ []
 before-inside ps nodes i h =
     let len : 0 + length (take i nodes) ≡ i = zero-add (length (take i nodes)) ∙ length-take-le i nodes h in
@@ -194,7 +194,7 @@ before-inside ps nodes i h =
     ∙ rw (top-inside i 0 ps, below-inside i (0 + length (at_top 0 ps)) 0 (all_inside 0 (take i nodes)) parents) refl
 
 -- the ids of the fields inside of one go up from where they begin
-pub ids_inside-is : (ps : List Part) (nodes : List NodeData) (i : ℕ) (n : NodeData) → AreNodes ps nodes → slice_get nodes i ≡ Some n
+pub ids_inside-is : (ps : List MemberData) (nodes : List NodeData) (i : ℕ) (n : NodeData) → AreNodes ps nodes → slice_get nodes i ≡ Some n
     → ids_inside i 0 (map field_row nodes) ≡ count_up (length (before ps nodes i)) (length (inside i n.of))
 ids_inside-is ps nodes i n e is =
     let here : i < length nodes = slice_get_within nodes i n is in

@@ -1,7 +1,7 @@
 -- How long type names are.
 use Rattle.std.proofs.Common.{ℕ, Bool, true, false, ◌≡◌, ◌≤◌, ◌+◌, ◌*◌, List, ◌++◌, length, codes, ◌==◌, if◌then◌else◌, arith}
 use Rattle.std.proofs.lemmas.List.{length-append}
-use Rattle.nt_types.specs.Kinds.{Kind, Kinds, bool, char, byte, int, text, list, fields, tuple, choice, no_kinds, kind}
+use Rattle.nt_types.specs.ShapeData.{ShapeData, ShapesData, bool, char, byte, int, text, list, fields, tuple, choice, no_kinds, kind}
 use Rattle.nt_types.specs.Schema.{field_count, kinds_count}
 use Rattle.nt_grammar.specs.Types.{cpp_name, cpp_names, int_name, template}
 
@@ -25,7 +25,7 @@ template-length head a = grind (arith, length-append head (a ++ codes ">"), leng
 
 -- a type name has at most 15 bytes for each field, with a comma before it
 mutual
-  pub cpp_name-length : (k : Kind) → length (cpp_name k) + 1 ≤ 15 * field_count k
+  pub cpp_name-length : (k : ShapeData) → length (cpp_name k) + 1 ≤ 15 * field_count k
   cpp_name-length bool = omega arith
   cpp_name-length char = omega arith
   cpp_name-length byte = omega arith
@@ -36,7 +36,7 @@ mutual
   cpp_name-length (tuple ks) = omega (arith, cpp_names-length true ks, template-length (codes "std::tuple<") (cpp_names true ks))
   cpp_name-length (choice ks) = omega (arith, cpp_names-length true ks, template-length (codes "std::variant<") (cpp_names true ks))
 
-  pub cpp_names-length : (first : Bool) (ks : Kinds) → length (cpp_names first ks) ≤ 15 * kinds_count ks
+  pub cpp_names-length : (first : Bool) (ks : ShapesData) → length (cpp_names first ks) ≤ 15 * kinds_count ks
   cpp_names-length first no_kinds = omega arith
   cpp_names-length true (kind k ks) = omega
       (arith, cpp_name-length k, cpp_names-length false ks, length-append (cpp_name k) (cpp_names false ks))

@@ -4,7 +4,7 @@ use Rattle.std.proofs.lemmas.Grind.{common_steps}
 use Rattle.std.proofs.lemmas.List.{take-append-le, drop-append-le, length-take-le, append-nil, length-append, take_all, length-drop}
 use Rattle.std.proofs.Math.Seq.{drop-cons, take-suc}
 use Rattle.std.proofs.Math.ListN.{get_or}
-use Rattle.nt_types.specs.Kinds.{Kind, Kinds, Parts, Part, bool, char, byte, int, text, list, fields, tuple, choice, no_kinds, kind, no_parts, part, parts_of}
+use Rattle.nt_types.specs.ShapeData.{ShapeData, ShapesData, MembersData, MemberData, bool, char, byte, int, text, list, fields, tuple, choice, no_kinds, kind, no_parts, part, parts_of}
 use Rattle.nt_types.specs.Schema.{field_count, parts_count, kinds_count}
 use Rattle.nt_grammar.specs.Rows.{NodeData, AreNodes, inside, members_in, places_in, all_inside, at_top, field_row, column_rows, Rows}
 use Rattle.nt_grammar.specs.Table.{Table, table_of}
@@ -16,15 +16,15 @@ pub weight-append : (a b : List NodeData) → weight (a ++ b) ≡ weight a + wei
 weight-append [] b = omega arith
 weight-append (n ∷ a) b = let ih : weight (a ++ b) ≡ weight a + weight b = weight-append a b in omega arith
 
-weight-members_in : (id : ℕ) (ps : Parts) → weight (members_in id ps) ≡ parts_count ps
+weight-members_in : (id : ℕ) (ps : MembersData) → weight (members_in id ps) ≡ parts_count ps
 weight-members_in id no_parts = refl
 weight-members_in id (part n k ps) = ap (λ (w : ℕ). field_count k + w) (weight-members_in id ps)
 
-weight-places_in : (id i : ℕ) (ks : Kinds) → weight (places_in id i ks) ≡ kinds_count ks
+weight-places_in : (id i : ℕ) (ks : ShapesData) → weight (places_in id i ks) ≡ kinds_count ks
 weight-places_in id i no_kinds = refl
 weight-places_in id i (kind k ks) = ap (λ (w : ℕ). field_count k + w) (weight-places_in id (i + 1) ks)
 
-pub weight-inside : (id : ℕ) (k : Kind) → weight (inside id k) + 1 ≡ field_count k
+pub weight-inside : (id : ℕ) (k : ShapeData) → weight (inside id k) + 1 ≡ field_count k
 weight-inside id bool = refl
 weight-inside id char = refl
 weight-inside id byte = refl
@@ -35,7 +35,7 @@ weight-inside id (fields ps) = ap (λ (w : ℕ). w + 1) (weight-members_in id ps
 weight-inside id (tuple ks) = ap (λ (w : ℕ). w + 1) (weight-places_in id 0 ks)
 weight-inside id (choice ks) = ap (λ (w : ℕ). w + 1) (weight-places_in id 0 ks)
 
-pub weight-at_top : (id : ℕ) (ps : List Part) → weight (at_top id ps) ≡ parts_count (parts_of ps)
+pub weight-at_top : (id : ℕ) (ps : List MemberData) → weight (at_top id ps) ≡ parts_count (parts_of ps)
 weight-at_top id [] = refl
 weight-at_top id (p ∷ ps) = ap (λ (w : ℕ). field_count p.of + w) (weight-at_top (id + 1) ps)
 
@@ -64,7 +64,7 @@ order-next top old new before after next n k a e o =
     ∙ ap (λ (z : List NodeData). top ++ z) (sym (ap (all_inside 0) a ∙ all_inside-one before next n k))))
 
 -- the next field gets those inside it
-pub AreListed-next : (ps : List Part) (old new : List NodeData) (next : ℕ) (n : NodeData) → next < length old → n ≡ get_or old next n
+pub AreListed-next : (ps : List MemberData) (old new : List NodeData) (next : ℕ) (n : NodeData) → next < length old → n ≡ get_or old next n
     → new ≡ old ++ inside next n.of → AreListed ps next old → AreListed ps (next + 1) new
 AreListed-next ps old new next n h is e l = record {
   order = order-next (at_top 0 ps) old new (take next old) (take (next + 1) new) next n (length-take-le next old l.within) before e l.order;
@@ -100,7 +100,7 @@ AreListed-next ps old new next n h is e l = record {
     within = rw e (rw length-append (omega arith))
 
 -- the fields at the top level alone
-pub AreListed-first : (ps : List Part) (nodes : List NodeData) → nodes ≡ at_top 0 ps → AreListed ps 0 nodes
+pub AreListed-first : (ps : List MemberData) (nodes : List NodeData) → nodes ≡ at_top 0 ps → AreListed ps 0 nodes
 AreListed-first ps nodes e = record {
   order = e ∙ sym (append-nil (at_top 0 ps));
   count = zero-add (weight nodes) ∙ (ap weight e ∙ weight-at_top 0 ps);
@@ -108,15 +108,15 @@ AreListed-first ps nodes e = record {
 }
 
 -- where none is left, these are all fields
-pub AreListed-all : (ps : List Part) (nodes : List NodeData) (next : ℕ) → length nodes ≤ next → AreListed ps next nodes → AreNodes ps nodes
+pub AreListed-all : (ps : List MemberData) (nodes : List NodeData) (next : ℕ) → length nodes ≤ next → AreListed ps next nodes → AreNodes ps nodes
 AreListed-all ps nodes next h l = l.order ∙ ap (λ (z : List NodeData). at_top 0 ps ++ all_inside 0 z) (take_all next nodes h)
 
 -- there are no more than the parts count
-pub AreListed-few : (ps : List Part) (nodes : List NodeData) (next : ℕ) → AreListed ps next nodes → next ≤ parts_count (parts_of ps)
+pub AreListed-few : (ps : List MemberData) (nodes : List NodeData) (next : ℕ) → AreListed ps next nodes → next ≤ parts_count (parts_of ps)
 AreListed-few ps nodes next l = let all : next + weight (drop next nodes) ≡ parts_count (parts_of ps) = l.count in omega arith
 
 -- the next field is counted
-pub AreListed-here : (ps : List Part) (nodes : List NodeData) (next : ℕ) → next < length nodes → AreListed ps next nodes
+pub AreListed-here : (ps : List MemberData) (nodes : List NodeData) (next : ℕ) → next < length nodes → AreListed ps next nodes
     → next < parts_count (parts_of ps)
 AreListed-here ps nodes next h l =
     let all : next + weight (drop next nodes) ≡ parts_count (parts_of ps) = l.count in
@@ -168,7 +168,7 @@ one_list id (q ∷ front) (m ∷ ms) (n ∷ ns) e f =
     (regrouped id front q n ns g.0 g.1) in
     ap (λ (x : NodeData). x ∷ ms) (d.0 ∙ sym g.0) ∙ ap (λ (xs : List NodeData). n ∷ xs) rest
 
-pub AreNodes-one : (ps : List Part) (ms ns : List NodeData) → AreNodes ps ms → AreNodes ps ns → ms ≡ ns
+pub AreNodes-one : (ps : List MemberData) (ms ns : List NodeData) → AreNodes ps ms → AreNodes ps ns → ms ≡ ns
 AreNodes-one ps ms ns e f = one_list 0 (at_top 0 ps) ms ns e f
 
 same_tables : (s t : Table) → s.fields ≡ t.fields → s.columns ≡ t.columns → s.header_fields ≡ t.header_fields
@@ -180,7 +180,7 @@ same_tables s t p q h k =
     ∙ ap (λ (n : ℕ). table_of t.fields t.columns t.header_fields n) k))
 
 -- fields have one table of rows
-pub Rows-one : (ps : List Part) (plain : Bool) (s t : Table) → Rows ps plain s → Rows ps plain t → s ≡ t
+pub Rows-one : (ps : List MemberData) (plain : Bool) (s t : Table) → Rows ps plain s → Rows ps plain t → s ≡ t
 Rows-one ps plain s t a b =
     let e : a.nodes ≡ b.nodes = AreNodes-one ps a.nodes b.nodes a.order b.order in
     let f : s.fields ≡ t.fields = a.field_rows ∙ (ap (map field_row) e ∙ sym b.field_rows) in

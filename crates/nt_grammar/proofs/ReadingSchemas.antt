@@ -3,7 +3,7 @@ use Rattle.std.proofs.Common.{◌≡◌, ℕ, suc, ◌+◌, ◌<◌, ◌≤◌, 
 use Rattle.std.specs.List.{AllByRecursion}
 use Rattle.std.proofs.lemmas.Bool.Decides.{nat_tests}
 use Rattle.std.proofs.lemmas.List.{take_all, length-map}
-use Rattle.nt_types.specs.Kinds.{Kind, Kinds, Parts, Part, bool, char, byte, int, text, list, fields, tuple, choice, no_kinds, kind, no_parts, part, parts_of}
+use Rattle.nt_types.specs.ShapeData.{ShapeData, ShapesData, MembersData, MemberData, bool, char, byte, int, text, list, fields, tuple, choice, no_kinds, kind, no_parts, part, parts_of}
 use Rattle.nt_types.specs.Schema.{parts_count}
 use Rattle.nt_types.specs.Rules.{AreFields}
 use Rattle.nt_types.specs.ColumnTable.{code_of, bits_of}
@@ -31,17 +31,17 @@ unfolding ArePlaced
 placed-append id [] b p q = q id (omega arith)
 placed-append id (n ∷ a) b p q = (p.0, placed-append (id + 1) a b p.1 (λ j le. q j (omega arith)))
 
-placed-members : (id j : ℕ) (ps : Parts) → id ≤ j → ArePlaced j (members_in id ps)
+placed-members : (id j : ℕ) (ps : MembersData) → id ≤ j → ArePlaced j (members_in id ps)
 unfolding ArePlaced
 placed-members id j no_parts le = tt
 placed-members id j (part n k ps) le = (le, placed-members id (j + 1) ps (omega arith))
 
-placed-parts : (id i j : ℕ) (ks : Kinds) → id ≤ j → ArePlaced j (places_in id i ks)
+placed-parts : (id i j : ℕ) (ks : ShapesData) → id ≤ j → ArePlaced j (places_in id i ks)
 unfolding ArePlaced
 placed-parts id i j no_kinds le = tt
 placed-parts id i j (kind k ks) le = (le, placed-parts id (i + 1) (j + 1) ks (omega arith))
 
-placed-inside : (id j : ℕ) (k : Kind) → id ≤ j → ArePlaced j (inside id k)
+placed-inside : (id j : ℕ) (k : ShapeData) → id ≤ j → ArePlaced j (inside id k)
 unfolding ArePlaced
 placed-inside id j bool le = tt
 placed-inside id j char le = tt
@@ -53,7 +53,7 @@ placed-inside id j (fields ps) le = placed-members id j ps le
 placed-inside id j (tuple ks) le = placed-parts id 0 j ks le
 placed-inside id j (choice ks) le = placed-parts id 0 j ks le
 
-placed-top : (id : ℕ) (ps : List Part) → ArePlaced id (at_top id ps)
+placed-top : (id : ℕ) (ps : List MemberData) → ArePlaced id (at_top id ps)
 unfolding ArePlaced
 placed-top id [] = tt
 placed-top id (p ∷ ps) = (omega arith, placed-top (id + 1) ps)
@@ -71,12 +71,12 @@ placed-listed id (q ∷ front) (m ∷ ms) e a =
     )
 
 -- there are as many fields as the parts count
-count-listed : (ps : List Part) (nodes : List NodeData) → AreNodes ps nodes → length nodes ≡ parts_count (parts_of ps)
+count-listed : (ps : List MemberData) (nodes : List NodeData) → AreNodes ps nodes → length nodes ≡ parts_count (parts_of ps)
 count-listed ps nodes e =
     let all : weight nodes ≡ weight (at_top 0 ps ++ all_inside 0 nodes) = ap weight e in
     omega (arith, all, weight-append (at_top 0 ps) (all_inside 0 nodes), weight-at_top 0 ps, weight-all_inside 0 nodes)
 
-role-fits : (k : Kind) → role_of k < 2 ^ 16
+role-fits : (k : ShapeData) → role_of k < 2 ^ 16
 role-fits bool = omega arith
 role-fits k = omega arith
 
@@ -127,7 +127,7 @@ columns-in_range plain n id (m ∷ ms) le few =
     each-append n (map (column_row id) (column_types plain m.of)) (column_rows plain (id + 1) ms)
     (types-in_range n id (column_types plain m.of) (omega arith) few) (columns-in_range plain n (id + 1) ms (omega arith) few)
 
-pub Rows-described : (ps : List Part) (plain : Bool) (t : Table) → AreFields ps → Rows ps plain t → IsDescribed t
+pub Rows-described : (ps : List MemberData) (plain : Bool) (t : Table) → AreFields ps → Rows ps plain t → IsDescribed t
 Rows-described ps plain t a r =
     let count : length r.nodes ≡ parts_count (parts_of ps) = count-listed ps r.nodes r.order in
     let few : length r.nodes ≤ 4096 = omega (arith, a.few) in

@@ -1,7 +1,7 @@
 -- The columns that the values of a field are stored in
 -- (RNTuple Binary Format Specification 1.0.0.0, sections Column Description and Mapping of C++ Types to Fields and Columns).
 use Rattle.std.specs.Prelude.{ℕ, Bool, List, [], ◌∷◌, ◌==◌, if◌then◌else◌}
-use Rattle.nt_types.specs.Kinds.{Kind, bool, char, byte, int, text, list, fields, tuple, choice}
+use Rattle.nt_types.specs.ShapeData.{ShapeData, bool, char, byte, int, text, list, fields, tuple, choice}
 use Rattle.nt_types.specs.declared.column_type.ColumnType.{ColumnType}
 use Rattle.nt_types.specs.declared.column_type.ColumnType.TheVariants.{Bit, Byte, Char, Int8, UInt8, Int16, UInt16, Int32, UInt32, Int64, UInt64, Index64, Switch, SplitInt16, SplitUInt16, SplitInt32, SplitUInt32, SplitInt64, SplitUInt64, SplitIndex64}
 
@@ -18,7 +18,7 @@ abbrev pub index_type : Bool → ColumnType
 index_type plain = if plain then Index64 else SplitIndex64
 
 -- the columns of a field, in order; a text has its ends before its bytes
-abbrev pub column_types : Bool → Kind → List ColumnType
+abbrev pub column_types : Bool → ShapeData → List ColumnType
 column_types plain bool = Bit ∷ []
 column_types plain char = Char ∷ []
 column_types plain byte = Byte ∷ []

@@ -5,7 +5,7 @@
 use Rattle.std.specs.Prelude.{ℕ, zero, suc, ◌+◌, Bool, true, false, List, [], ◌∷◌, ◌++◌, map, filter, find, Option, Some, None, option_map, option_and_then, slice_get, nat_le, nat_lt, ◌==◌, ◌&&◌, ◌||◌, not, codes, if◌then◌else◌}
 use Rattle.std.specs.List.{list_any}
 use Rattle.std.specs.Str.{bytes_eq}
-use Rattle.nt_types.specs.Kinds.{Kind, Part, bool, char, byte, int, text, list, fields, choice, kinds_of, parts_of}
+use Rattle.nt_types.specs.ShapeData.{ShapeData, MemberData, bool, char, byte, int, text, list, fields, choice, kinds_of, parts_of}
 use Rattle.nt_types.specs.Schema.{part_under}
 use Rattle.nt_types.specs.ColumnTable.{code_of, bits_of}
 use Rattle.nt_types.specs.declared.column_type.ColumnType.{ColumnType}
@@ -55,46 +55,46 @@ text_columns principal (c ∷ []) = false
 text_columns principal (c ∷ d ∷ e ∷ cs) = false
 
 -- integers of each width
-abbrev pub integers : List Kind
+abbrev pub integers : List ShapeData
 integers = int 8 true ∷ int 8 false ∷ int 16 true ∷ int 16 false ∷ int 32 true ∷ int 32 false ∷ int 64 true ∷ int 64 false ∷ []
 
 -- the leaves that have one column
-abbrev pub leaves : List Kind
+abbrev pub leaves : List ShapeData
 leaves = bool ∷ char ∷ byte ∷ integers
 
 -- a leaf is of its own type, plain or split
-abbrev pub leaf_types : Kind → List ColumnType
+abbrev pub leaf_types : ShapeData → List ColumnType
 leaf_types k = column_types true k ++ column_types false k
 
 -- a leaf, where its column fits
-abbrev pub leaf_with : Bool → List ColumnRow → Kind → Option Kind
+abbrev pub leaf_with : Bool → List ColumnRow → ShapeData → Option ShapeData
 leaf_with principal cs k = if one_column principal (leaf_types k) cs then Some k else None
 
 -- one of these leaves, by its type name
-abbrev pub named_leaf : List Kind → Bool → List ℕ → List ColumnRow → Option Kind
+abbrev pub named_leaf : List ShapeData → Bool → List ℕ → List ColumnRow → Option ShapeData
 named_leaf kinds principal name cs = option_and_then (leaf_with principal cs) (find (λ k. bytes_eq name (cpp_name k)) kinds)
 
 -- a leaf, by its type name
-abbrev pub leaf_shape : Bool → List ℕ → List ColumnRow → Option Kind
+abbrev pub leaf_shape : Bool → List ℕ → List ColumnRow → Option ShapeData
 leaf_shape principal name cs =
     if bytes_eq name (codes "std::string") then (if text_columns principal cs then Some text else None)
     else named_leaf leaves principal name cs
 
 -- a collection has one field inside; an optional is one too
-abbrev pub list_shape : List Part → Option Kind
+abbrev pub list_shape : List MemberData → Option ShapeData
 list_shape (p ∷ []) = Some (list p.of)
 list_shape [] = None
 list_shape (p ∷ q ∷ ps) = None
 
 -- a record has one field inside at least; a tuple is one too
-abbrev pub record_shape : List Part → Option Kind
+abbrev pub record_shape : List MemberData → Option ShapeData
 record_shape [] = None
 record_shape (p ∷ ps) = Some (fields (parts_of (p ∷ ps)))
 
 -- a choice has one field inside at least
-abbrev pub choice_shape : List Part → Option Kind
+abbrev pub choice_shape : List MemberData → Option ShapeData
 choice_shape [] = None
-choice_shape (p ∷ ps) = Some (choice (kinds_of (map (λ (q : Part). q.of) (p ∷ ps))))
+choice_shape (p ∷ ps) = Some (choice (kinds_of (map (λ (q : MemberData). q.of) (p ∷ ps))))
 
 -- no flags, but of a record the one that it has its type's checksum
 abbrev pub flags_fit : FieldRow → Bool
@@ -106,7 +106,7 @@ is_leaf [] = true
 is_leaf (j ∷ js) = false
 
 -- the shape of a field, by its role, its columns and the fields inside; principal is what only records surround
-abbrev pub shape_by_role : Bool → FieldRow → List ColumnRow → List ℕ → (Bool → Option (List Part)) → Option Kind
+abbrev pub shape_by_role : Bool → FieldRow → List ColumnRow → List ℕ → (Bool → Option (List MemberData)) → Option ShapeData
 shape_by_role principal r cs js inside =
     if r.role == leaf_role then (if is_leaf js then leaf_shape principal r.type_name cs else None)
     else if r.role == collection_role then (if one_column principal index_types cs then option_and_then list_shape (inside false) else None)
@@ -122,26 +122,26 @@ all_some (None ∷ os) = None
 all_some (Some x ∷ os) = option_map (λ xs. x ∷ xs) (all_some os)
 
 -- the name and the shape of the field of a row, where those below are open
-abbrev pub field_of_row : List FieldRow → List ColumnRow → (Bool → ℕ → Option Part) → Bool → ℕ → FieldRow → Option Part
+abbrev pub field_of_row : List FieldRow → List ColumnRow → (Bool → ℕ → Option MemberData) → Bool → ℕ → FieldRow → Option MemberData
 field_of_row fs cs below principal id r =
     if flags_fit r then option_map (part_under r.name)
     (shape_by_role principal r (columns_of_field id cs) (ids_inside id 0 fs)
     (λ up. all_some (map (below up) (ids_inside id 0 fs)))) else None
 
 -- the name and the shape of a field of at most so much depth
-unfoldable pub open_field : ℕ → List FieldRow → List ColumnRow → Bool → ℕ → Option Part
+unfoldable pub open_field : ℕ → List FieldRow → List ColumnRow → Bool → ℕ → Option MemberData
 open_field zero fs cs principal id = None
 open_field (suc depth) fs cs principal id = option_and_then (field_of_row fs cs (open_field depth fs cs) principal id) (slice_get fs id)
 
 -- the shape of a field at the top level, of at most so many levels
-abbrev pub top_shape : List FieldRow → List ColumnRow → ℕ → FieldRow → Option Kind
-top_shape fs cs id r = if r.parent == id then option_map (λ (p : Part). p.of) (open_field most_levels fs cs true id) else None
+abbrev pub top_shape : List FieldRow → List ColumnRow → ℕ → FieldRow → Option ShapeData
+top_shape fs cs id r = if r.parent == id then option_map (λ (p : MemberData). p.of) (open_field most_levels fs cs true id) else None
 
 -- the shape of a field, where it is at the top level and open
-abbrev pub open_shape : Table → ℕ → Option Kind
+abbrev pub open_shape : Table → ℕ → Option ShapeData
 open_shape t id = option_and_then (top_shape t.fields t.columns id) (slice_get t.fields id)
 
 -- the shapes of all fields, of which these go on from this id
-abbrev pub open_shapes : List FieldRow → List ColumnRow → ℕ → List FieldRow → List (Option Kind)
+abbrev pub open_shapes : List FieldRow → List ColumnRow → ℕ → List FieldRow → List (Option ShapeData)
 open_shapes fs cs id [] = []
 open_shapes fs cs id (r ∷ rs) = top_shape fs cs id r ∷ open_shapes fs cs (id + 1) rs

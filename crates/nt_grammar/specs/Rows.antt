@@ -2,7 +2,7 @@
 -- (RNTuple Binary Format Specification 1.0.0.0, sections Field Description and Column Description).
 use Rattle.std.specs.Prelude.{ℕ, ◌≡◌, ◌+◌, Bool, List, [], ◌∷◌, ◌++◌, map, length}
 use Rattle.std.specs.Fmt.{decimal}
-use Rattle.nt_types.specs.Kinds.{Kind, Kinds, Parts, Part, bool, char, byte, int, text, list, fields, tuple, choice, no_kinds, kind, no_parts, part}
+use Rattle.nt_types.specs.ShapeData.{ShapeData, ShapesData, MembersData, MemberData, bool, char, byte, int, text, list, fields, tuple, choice, no_kinds, kind, no_parts, part}
 use Rattle.nt_types.specs.ColumnTable.{code_of, bits_of}
 use Rattle.nt_types.specs.declared.column_type.ColumnType.{ColumnType}
 use Rattle.nt_grammar.specs.declared.rows.FieldRow.{FieldRow}
@@ -15,24 +15,24 @@ use Rattle.nt_grammar.specs.Columns.{column_types}
 pub record NodeData : Type 0 where
   pub parent : ℕ
   pub name : List ℕ
-  pub of : Kind
+  pub of : ShapeData
 
 -- a field that has no name of its own is named by its place
 abbrev pub place_name : ℕ → List ℕ
 place_name i = 95 ∷ decimal i
 
 -- the members of a record
-abbrev pub members_in : ℕ → Parts → List NodeData
+abbrev pub members_in : ℕ → MembersData → List NodeData
 members_in id no_parts = []
 members_in id (part n k ps) = record { parent = id; name = n; of = k } ∷ members_in id ps
 
 -- fields that are named by their places, from this one on
-abbrev pub places_in : ℕ → ℕ → Kinds → List NodeData
+abbrev pub places_in : ℕ → ℕ → ShapesData → List NodeData
 places_in id i no_kinds = []
 places_in id i (kind k ks) = record { parent = id; name = place_name i; of = k } ∷ places_in id (i + 1) ks
 
 -- the fields directly inside a field of this id and shape, in order
-abbrev pub inside : ℕ → Kind → List NodeData
+abbrev pub inside : ℕ → ShapeData → List NodeData
 inside id bool = []
 inside id char = []
 inside id byte = []
@@ -49,12 +49,12 @@ all_inside id [] = []
 all_inside id (n ∷ ns) = inside id n.of ++ all_inside (id + 1) ns
 
 -- fields at the top level, which are their own parents
-abbrev pub at_top : ℕ → List Part → List NodeData
+abbrev pub at_top : ℕ → List MemberData → List NodeData
 at_top id [] = []
 at_top id (p ∷ ps) = record { parent = id; name = p.name; of = p.of } ∷ at_top (id + 1) ps
 
 -- all fields: those at the top level, and behind them those inside each field, by its id
-abbrev pub AreNodes : List Part → List NodeData → Type 0
+abbrev pub AreNodes : List MemberData → List NodeData → Type 0
 AreNodes ps nodes = nodes ≡ at_top 0 ps ++ all_inside 0 nodes
 
 -- the row of a field
@@ -71,7 +71,7 @@ column_rows plain id [] = []
 column_rows plain id (n ∷ ns) = map (column_row id) (column_types plain n.of) ++ column_rows plain (id + 1) ns
 
 -- the rows describe these fields, and all of them stand in the header
-pub record Rows (ps : List Part) (plain : Bool) (t : Table) : Type 0 where
+pub record Rows (ps : List MemberData) (plain : Bool) (t : Table) : Type 0 where
   pub nodes : List NodeData
   pub order : AreNodes ps nodes
   pub field_rows : t.fields ≡ map field_row nodes

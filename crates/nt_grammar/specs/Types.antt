@@ -2,11 +2,11 @@
 -- (RNTuple Binary Format Specification 1.0.0.0, sections Field Description and Mapping of C++ Types to Fields and Columns).
 use Rattle.std.specs.Prelude.{ℕ, Bool, true, false, List, [], ◌++◌, ◌==◌, ◌||◌, codes, if◌then◌else◌}
 use Rattle.nt_grammar.specs.Codes.{leaf_role, collection_role, record_role, variant_role}
-use Rattle.nt_types.specs.Kinds.{Kind, Kinds, bool, char, byte, int, text, list, fields, tuple, choice, no_kinds, kind}
+use Rattle.nt_types.specs.ShapeData.{ShapeData, ShapesData, bool, char, byte, int, text, list, fields, tuple, choice, no_kinds, kind}
 
 -- whether values of the shape hold a record with named members, at any depth
 abbrev mutual
-  pub holds_record : Kind → Bool
+  pub holds_record : ShapeData → Bool
   holds_record bool = false
   holds_record char = false
   holds_record byte = false
@@ -18,7 +18,7 @@ abbrev mutual
   holds_record (choice ks) = any_holds_record ks
 
   -- whether one of them does
-  pub any_holds_record : Kinds → Bool
+  pub any_holds_record : ShapesData → Bool
   any_holds_record no_kinds = false
   any_holds_record (kind k ks) = holds_record k || any_holds_record ks
 
@@ -34,7 +34,7 @@ template head arguments = head ++ (arguments ++ codes ">")
 
 -- the C++ type of values that hold no record; a type that isn't the first has a comma before it
 abbrev mutual
-  pub cpp_name : Kind → List ℕ
+  pub cpp_name : ShapeData → List ℕ
   cpp_name bool = codes "bool"
   cpp_name char = codes "char"
   cpp_name byte = codes "std::byte"
@@ -46,16 +46,16 @@ abbrev mutual
   cpp_name (choice ks) = template (codes "std::variant<") (cpp_names true ks)
 
   -- the types, with commas between them
-  pub cpp_names : Bool → Kinds → List ℕ
+  pub cpp_names : Bool → ShapesData → List ℕ
   cpp_names first no_kinds = []
   cpp_names first (kind k ks) = (if first then [] else codes ",") ++ (cpp_name k ++ cpp_names false ks)
 
 -- the type name of a field: a record has no C++ type of its own, and nor has what holds one
-abbrev pub type_name : Kind → List ℕ
+abbrev pub type_name : ShapeData → List ℕ
 type_name k = if holds_record k then [] else cpp_name k
 
 -- the structural role of a field
-abbrev pub role_of : Kind → ℕ
+abbrev pub role_of : ShapeData → ℕ
 role_of bool = leaf_role
 role_of char = leaf_role
 role_of byte = leaf_role

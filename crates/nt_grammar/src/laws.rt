@@ -1,7 +1,7 @@
 //! The laws of descriptions.
 
 ghost use Rattle.std.specs.Prelude.{◌≡◌, ℕ, Bool, List, Some, slice_get};
-ghost use Rattle.nt_types.specs.Kinds.{Part};
+ghost use Rattle.nt_types.specs.ShapeData.{MemberData};
 ghost use Rattle.nt_grammar.specs.Table.{Table};
 ghost use Rattle.nt_types.specs.Rules.{AreFields};
 ghost use Rattle.nt_grammar.specs.Rows.{Rows};
@@ -10,14 +10,14 @@ ghost use Rattle.nt_grammar.specs.AsRead.{as_read};
 
 /// Fields are described by one table of rows at most.
 pub fn descriptions_are_one()
-    ensures { (fields : List Part) (plain : Bool) (one other : Table) → Rows fields plain one
+    ensures { (fields : List MemberData) (plain : Bool) (one other : Table) → Rows fields plain one
         → Rows fields plain other → one ≡ other }
 {}
 
 /// Described fields are open, and have the shapes that they were described from, with tuples read
 /// as records.
 pub fn described_fields_are_open()
-    ensures { (fields : List Part) (plain : Bool) (table : Table) → AreFields fields
-        → Rows fields plain table → (id : ℕ) (field : Part) → slice_get fields id ≡ Some field
+    ensures { (fields : List MemberData) (plain : Bool) (table : Table) → AreFields fields
+        → Rows fields plain table → (id : ℕ) (field : MemberData) → slice_get fields id ≡ Some field
         → open_shape table id ≡ Some (as_read field.of) }
 {}

@@ -4,7 +4,7 @@ ghost use Rattle.std.specs.Prelude.{◌≡◌, ℕ, Bool, ◌+◌, ◌<◌, ◌^
 ghost use Rattle.std.specs.List.{AllByRecursion};
 ghost use Rattle.nt_format.specs.Reading.{standing, IsBytes};
 ghost use Rattle.nt_num.specs.Place.{At};
-ghost use Rattle.nt_types.specs.Kinds.{Part as FieldPart};
+ghost use Rattle.nt_types.specs.ShapeData.{MemberData};
 ghost use Rattle.nt_types.specs.Rules.{AreFields};
 ghost use Rattle.nt_grammar.specs.Rows.{Rows};
 ghost use Rattle.nt_grammar.specs.declared.rows.FieldRow.{FieldRow};
@@ -52,6 +52,6 @@ pub fn rows_read_are_described()
 /// Fields that keep their rules are described by rows in range, so what is written of them is read
 /// back.
 pub fn schemas_are_described()
-    ensures { (fields : List FieldPart) (plain : Bool) (t : Table) → AreFields fields
+    ensures { (fields : List MemberData) (plain : Bool) (t : Table) → AreFields fields
         → Rows fields plain t → IsDescribed t }
 {}

@@ -12,7 +12,7 @@ use Rattle.nt_machine.specs.declared.entry.EntryKind.TheVariants as entry
 use Rattle.nt_machine.specs.History.{Fate, Settled, Spoiled, Cluster, handed_back, after_kind, after_entry, is_out}
 use Rattle.nt_machine.specs.Legal.{end_after, IsOut, IsKindAllowed, IsLegalAfter, IsLegal}
 use Rattle.nt_machine.specs.Spans.{Span}
-use Rattle.nt_machine.specs.Told.{span_of, settle_at, disk_steps_of, log_after, log_of, IsApartFrom, IsFrom, Stands}
+use Rattle.nt_machine.specs.Told.{span_of, settle_at, disk_steps_of, log_after, log_of, IsApartFrom, IsFrom, StaysSettled}
 use Rattle.nt_machine.proofs.Histories.{AllByRecursion-append, IsBack, handed_back-back}
 use Rattle.nt_machine.proofs.Legality.{IsNumbered, IsNumbered-after_entry, IsNumbered-at, handed_back-here}
 use Rattle.nt_machine.proofs.Telling.{IsPlaced, end_after-cons, placed_kind}
@@ -106,24 +106,24 @@ module _ {M : Type 0} where
         (later_apart (after_entry cs e) es n c ok.1 (IsState-after_entry cs e.context e.kind ok.0 h) (stays cs e.context e.kind n c at back) back)
 
     settle_stands : (cs : List (Cluster M)) (i n : ℕ) (bytes : Option (List ℕ)) (state : Fate) (history : List (Entry M)) → is_out state ≡ false → IsState cs → (is : IsOut cs i n)
-        → IsLegalAfter place (map (handed_back i n state) cs) history → IsState (map (handed_back i n state) cs) → Stands (log_after (map (handed_back i n state) cs) history)
-        → Stands (settle_at (slice_get cs n) bytes ++ log_after (map (handed_back i n state) cs) history)
+        → IsLegalAfter place (map (handed_back i n state) cs) history → IsState (map (handed_back i n state) cs) → StaysSettled (log_after (map (handed_back i n state) cs) history)
+        → StaysSettled (settle_at (slice_get cs n) bytes ++ log_after (map (handed_back i n state) cs) history)
     settle_stands cs i n bytes state history back h is ok next rest =
         let c : Cluster M = record is.cluster { state = state } in
         let number : is.cluster.number ≡ n = IsNumbered-at 0 cs n is.cluster h.numbered is.at ∙ omega arith in
         let at : slice_get (map (handed_back i n state) cs) n ≡ Some c =
         slice_get-map (handed_back i n state) cs n ∙ (ap (option_map (handed_back i n state)) is.at ∙ ap Some (handed_back-here i n state is.cluster is.own number is.out)) in
-        subst (λ (o : Option (Cluster M)). Stands (settle_at o bytes ++ log_after (map (handed_back i n state) cs) history)) (sym is.at)
+        subst (λ (o : Option (Cluster M)). StaysSettled (settle_at o bytes ++ log_after (map (handed_back i n state) cs) history)) (sym is.at)
         (later_apart (map (handed_back i n state) cs) history n c ok next at back, rest)
 
     kind_stands : (cs : List (Cluster M)) (i : ℕ) (k : EntryKind M) (history : List (Entry M)) → IsKindAllowed place cs i k → IsState cs → IsLegalAfter place (after_kind cs i k) history
-        → IsState (after_kind cs i k) → Stands (log_after (after_kind cs i k) history) → Stands (disk_steps_of cs k ++ log_after (after_kind cs i k) history)
+        → IsState (after_kind cs i k) → StaysSettled (log_after (after_kind cs i k) history) → StaysSettled (disk_steps_of cs k ++ log_after (after_kind cs i k) history)
     kind_stands cs i (entry.Committed n start len meta) history ok h legal next rest = rest
     kind_stands cs i (entry.Settled n bytes) history ok h legal next rest = settle_stands cs i n bytes (Settled bytes) history refl h ok.0 legal next rest
     kind_stands cs i (entry.Spoiled n faults) history ok h legal next rest = settle_stands cs i n None (Spoiled faults) history refl h ok legal next rest
     kind_stands cs i (entry.Faulted faults) history ok h legal next rest = rest
 
-    stands_after : (cs : List (Cluster M)) (history : List (Entry M)) → IsLegalAfter place cs history → IsState cs → Stands (log_after cs history)
+    stands_after : (cs : List (Cluster M)) (history : List (Entry M)) → IsLegalAfter place cs history → IsState cs → StaysSettled (log_after cs history)
     stands_after cs [] ok h = tt
     stands_after cs (e ∷ es) ok h =
         let next = IsState-after_entry cs e.context e.kind ok.0 h in
@@ -145,7 +145,7 @@ module _ {M : Type 0} where
         AllByRecursion-append (λ step. place ≤ (span_of step).start) (disk_steps_of cs e.kind) (log_after (after_entry cs e) es) (kind_from cs e.context e.kind ok.0 h)
         (from_after (after_entry cs e) es ok.1 (IsState-after_entry cs e.context e.kind ok.0 h))
 
-    pub stands : (history : List (Entry M)) → IsLegal place history → Stands (log_of history)
+    pub stands : (history : List (Entry M)) → IsLegal place history → StaysSettled (log_of history)
     stands history ok = stands_after [] history ok (record { numbered = tt; placed = tt })
 
     pub starts : (history : List (Entry M)) → IsLegal place history → IsFrom place (log_of history)

@@ -11,7 +11,7 @@ ghost use Rattle.nt_machine.specs.History.{Settled, Spoiled, Cluster, WrittenChu
 ghost use Rattle.nt_machine.specs.Legal.{IsLegal, IsAllowed, IsOut, spans_of, end_after};
 ghost use Rattle.nt_machine.specs.Machine.{ContextStep, IsRun, IsInOrder, IsNamedDeal, AreTrue, state_after, contexts_of, range_spans, chunk_names};
 ghost use Rattle.nt_machine.specs.Spans.{IsDisjoint};
-ghost use Rattle.nt_machine.specs.Told.{Cells, IsFrom, Stands, after_disk_step, log_of, cluster_cells};
+ghost use Rattle.nt_machine.specs.Told.{Cells, IsFrom, StaysSettled, after_disk_step, log_of, cluster_cells};
 ghost use Rattle.nt_machine.specs.Untold.{untold, settles, settled_count, with_bytes};
 
 /// Which bytes and metadata at a place are the blob of a chunk.
@@ -124,7 +124,7 @@ pub fn what_is_settled_stands<M>()
     ensures from { (place : ℕ) (history : List (Entry M))
         → IsLegal place history → IsFrom place (log_of history) }
     ensures stands { (place : ℕ) (history : List (Entry M))
-        → IsLegal place history → Stands (log_of history) }
+        → IsLegal place history → StaysSettled (log_of history) }
 {}
 
 /// An own entry with faults shows as a count that rose.

@@ -2,7 +2,8 @@
 use Rattle.std.proofs.Common.{◌≡◌, ◌∙◌, ap, sym, subst, refl, ℕ, zero, suc, ◌+◌, ◌==◌, ◌≤◌, Bool, true, false, ◌&&◌, ◌||◌, List, [], ◌∷◌, ◌++◌, length, take, drop, map, replicate, IsTrue, arith, length-drop, length-take, take-append-drop, drop-drop, append_assoc}
 use Rattle.std.proofs.lemmas.List.{append-nil}
 use Rattle.std.specs.Prelude.{Option, Some, None}
-use Rattle.nt_outside.specs.Log.{Step, Write, FailedWrite, Append, FailedAppend, Reserve, Settle, Sync, put_at}
+use Rattle.nt_lists.specs.Places.{put_at}
+use Rattle.nt_outside.specs.Log.{Step, Write, FailedWrite, Append, FailedAppend, Reserve, Settle, Sync}
 use Rattle.nt_outside.specs.Reads.{Known, Anything, OneOf, exactly, or_also, unknown, torn, after_step, known_from, known_of, allows, all_allowed, Reads}
 
 and_both : (a b : Bool) → a ≡ true → b ≡ true → (a && b) ≡ true

@@ -5,12 +5,13 @@ use Rattle.std.specs.List.{AllByRecursion, remove}
 use Rattle.std.proofs.lemmas.List.Sums.{sum_by-cons}
 use Rattle.std.proofs.lemmas.List.{take-append-drop, append-nil}
 use Rattle.std.proofs.lemmas.List.Elements.{All-append, All-from_recursion}
-use Rattle.nt_outside.specs.Log.{Step, Reserve, Settle, put_at}
+use Rattle.nt_lists.specs.Places.{put_at}
+use Rattle.nt_outside.specs.Log.{Step, Reserve, Settle}
 use Rattle.nt_outside.specs.Reads.{Reads}
 use Rattle.nt_outside.specs.declared.range.Range.{Range}
 use Rattle.nt_outside.specs.Range.{is_same_range, without}
 use Rattle.nt_outside.proofs.Ranges.{same_is, is_same, without_here, without_next}
-use Rattle.nt_outside.specs.Held.{Held, BecomesSome, IsSettled, IsReserved}
+use Rattle.nt_outside.specs.Held.{Held, BecomesSome, IsRangeSettled, IsReserved}
 use Rattle.nt_memory.specs.Grown.{IsGrown}
 use Rattle.nt_memory.specs.Ext.{content_of, extent}
 use Rattle.nt_memory.proofs.Allowed.{reads-settle, reads-unfilled, put_at_same}
@@ -67,7 +68,7 @@ some_is x y e = cc
 
 settled_by : (filled : Bool) (log log' : List Step) (image image' bytes : List ℕ) (start len : ℕ) → (filled ≡ true → length bytes ≡ len) → (filled ≡ false → bytes ≡ []) → start + len ≤ length image
     → log' ≡ log ++ Settle start len (content_of filled bytes) ∷ [] → image' ≡ put_at image start bytes
-    → IsSettled (extent (record { start = start; len = len }) filled bytes) (record { log = log; image = image }) (record { log = log'; image = image' })
+    → IsRangeSettled (extent (record { start = start; len = len }) filled bytes) (record { log = log; image = image }) (record { log = log'; image = image' })
 settled_by true log log' image image' bytes start len whole empty inside log-is image-is = record {
   bytes = bytes;
   whole = whole refl;
@@ -85,11 +86,11 @@ settled_by false log log' image image' bytes start len whole empty inside log-is
 
 pub settle_holds : (filled : Bool) (log log' : List Step) (image image' bytes : List ℕ) (start len : ℕ) → (filled ≡ true → length bytes ≡ len) → (filled ≡ false → bytes ≡ []) → start + len ≤ length image
     → log' ≡ log ++ Settle start len (content_of filled bytes) ∷ [] → image' ≡ put_at image start bytes
-    → BecomesSome (Some (record { log = log; image = image })) (Some (record { log = log'; image = image' })) (IsSettled (extent (record { start = start; len = len }) filled bytes))
+    → BecomesSome (Some (record { log = log; image = image })) (Some (record { log = log'; image = image' })) (IsRangeSettled (extent (record { start = start; len = len }) filled bytes))
 settle_holds filled log log' image image' bytes start len whole empty inside log-is image-is = λ h is. (
   record { log = log'; image = image' },
   refl,
-  subst (λ (k : Held). IsSettled (extent (record { start = start; len = len }) filled bytes) k (record { log = log'; image = image' })) (some_is (record { log = log; image = image }) h is)
+  subst (λ (k : Held). IsRangeSettled (extent (record { start = start; len = len }) filled bytes) k (record { log = log'; image = image' })) (some_is (record { log = log; image = image }) h is)
       (settled_by filled log log' image image' bytes start len whole empty inside log-is image-is),
 )
 

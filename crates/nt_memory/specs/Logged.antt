@@ -18,7 +18,7 @@ abbrev pub spare_bytes : Log → ℕ
 spare_bytes log = vec_capacity log.bytes - (vec_len log.bytes + log.owed_bytes)
 
 -- there is room for so many steps and bytes
-pub record HasRoom (rows bytes : ℕ) (log : Log) (result : Result Unit AllocError) : Type 0 where
+pub record MakesRoom (rows bytes : ℕ) (log : Log) (result : Result Unit AllocError) : Type 0 where
   pub for_rows : OnOk result (rows ≤ spare_rows log)
   pub for_bytes : OnOk result (bytes ≤ spare_bytes log)
 

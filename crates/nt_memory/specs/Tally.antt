@@ -18,8 +18,8 @@ abbrev pub IsListed : Tally → Type 0
 IsListed t = Contains t.listed (one_more t.made)
 
 -- a call was made
-abbrev pub counted : Tally → Tally
-counted t = record t { made = one_more t.made }
+abbrev pub call_counted : Tally → Tally
+call_counted t = record t { made = one_more t.made }
 
 -- a fault was counted
 abbrev pub faulted : Tally → Tally
@@ -36,7 +36,7 @@ takes_in faults t = record t { faults = min (t.faults + faults) (2 ^ 64 - 1) }
 -- the call failed exactly where its number is listed, and was counted
 pub record FailsWhereListed {T : Type 0} (old new : Tally) (result : Result T Failed) : Type 0 where
   pub listed : IsErr result ↔ IsListed old
-  pub ok : OnOk result (new ≡ counted old)
+  pub ok : OnOk result (new ≡ call_counted old)
   pub err : OnErr result (new ≡ failed old)
 
 -- the call was counted, and, apart from want of memory, failed exactly where its number is listed or what it needs is missing; one that ran out of memory counts for nothing
@@ -44,6 +44,6 @@ pub record FailsWhereListedOr {T : Type 0} (Missing : Type 0) (old new : Tally) 
   pub listed : IsListed old → IsErr result
   pub missing : Missing → IsErr result
   pub cause : IsErrOf result refused.Failed → IsListed old ⊎ Missing
-  pub ok : OnOk result (new ≡ counted old)
+  pub ok : OnOk result (new ≡ call_counted old)
   pub outside : IsErrOf result refused.Failed → new ≡ failed old
   pub memory : IsErrOf result refused.Memory → new ≡ old

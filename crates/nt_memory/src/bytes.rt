@@ -1,7 +1,7 @@
 //! Bytes that are added to a list or put over others in it, in the memory that there is.
 
 ghost use Rattle.std.specs.Prelude.{◌≡◌, ◌+◌, ◌≤◌, ◌++◌, length, vec_len, vec_capacity, OnOk};
-ghost use Rattle.nt_outside.specs.Log.{put_at};
+ghost use Rattle.nt_lists.specs.Places.{put_at};
 ghost use Rattle.nt_memory.specs.Grown.{IsGrown};
 
 use std::alloc::AllocError;

@@ -32,7 +32,7 @@ pub struct Log {
 }
 
 impl Log {
-    ghost use Rattle.nt_memory.specs.Logged.{steps_of, spare_rows, spare_bytes, HasRoom, KeepsRoom, UsesRoom, IsSameLog};
+    ghost use Rattle.nt_memory.specs.Logged.{steps_of, spare_rows, spare_bytes, MakesRoom, KeepsRoom, UsesRoom, IsSameLog};
     ghost use Rattle.nt_outside.specs.Log.{Step, Reserve};
     ghost use Rattle.std.specs.Prelude.{OnOk};
 
@@ -49,7 +49,7 @@ impl Log {
 
     /// Takes the memory for so many steps, with so many bytes together.
     pub fn room(&mut self, rows: usize, bytes: usize) -> Result<(), AllocError>
-        ensures room { HasRoom rows bytes self.new result }
+        ensures room { MakesRoom rows bytes self.new result }
         ensures kept { KeepsRoom self.old self.new }
         ensures same { IsSameLog self.old self.new }
     {

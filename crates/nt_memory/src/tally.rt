@@ -15,7 +15,7 @@ pub struct Tally {
 
 impl Tally {
     ghost use Rattle.nt_outside.specs.Faults.{Rose, TakesIn};
-    ghost use Rattle.nt_memory.specs.Tally.{IsListed, new_tally, counted, faulted, failed, takes_in};
+    ghost use Rattle.nt_memory.specs.Tally.{IsListed, new_tally, call_counted, faulted, failed, takes_in};
 
     pub fn new(listed: Calls) -> Self
         ensures { result ≡ new_tally listed }
@@ -30,7 +30,7 @@ impl Tally {
     /// Counts a call, and says whether its number is listed.
     pub fn begin_call(&mut self) -> bool
         ensures listed { IsTrue result ↔ IsListed self.old }
-        ensures counted { self.new ≡ counted self.old }
+        ensures counted { self.new ≡ call_counted self.old }
         ensures faults { self.new.faults ≡ self.old.faults }
     {
         self.made = self.made.saturating_add(1);
@@ -48,7 +48,7 @@ impl Tally {
     /// Counts a call, and a fault where its number is listed.
     pub fn count_call(&mut self) -> bool
         ensures listed { IsTrue result ↔ IsListed self.old }
-        ensures counted { OnFalse result (self.new ≡ counted self.old) }
+        ensures counted { OnFalse result (self.new ≡ call_counted self.old) }
         ensures failed { OnTrue result (self.new ≡ failed self.old) }
         ensures later { self.old.faults ≤ self.new.faults }
         ensures rose { OnTrue result (Rose self.old.faults self.new.faults) }

@@ -2,7 +2,8 @@
 use Rattle.std.proofs.Common.{◌≡◌, ◌∙◌, ap, sym, subst, refl, ℕ, zero, suc, ◌+◌, ◌≤◌, ◌&&◌, Bool, true, false, List, [], ◌∷◌, ◌++◌, length, take, drop, arith, length-append, length-take, length-drop}
 use Rattle.std.specs.Prelude.{IsTrue, min}
 use Rattle.std.proofs.lemmas.List.{take_all, length-replicate}
-use Rattle.nt_outside.specs.Log.{Step, Write, FailedWrite, Append, FailedAppend, Reserve, Settle, Sync, put_at}
+use Rattle.nt_lists.specs.Places.{put_at}
+use Rattle.nt_outside.specs.Log.{Step, Write, FailedWrite, Append, FailedAppend, Reserve, Settle, Sync}
 use Rattle.nt_outside.specs.Reads.{Known, Anything, unknown, torn, allows, after_step, known_from, known_of, all_allowed, Reads}
 use Rattle.nt_outside.specs.Crash.{Crash, no_crash, shaken, crash_after, crash_from, crash_of, MayLeave}
 use Rattle.nt_outside.specs.Laws.{Reaches, Lengthens, Overwrites, Settling, over}

@@ -5,7 +5,7 @@ use Rattle.nt_outside.specs.declared.fault.Failed.{Failed}
 use Rattle.nt_outside.specs.declared.fault.Refused.{Refused}
 use Rattle.nt_outside.specs.Faults.{HasCause, RoseOnFailed, TakesIn}
 use Rattle.nt_outside.specs.Range.{Range, ExtState, without}
-use Rattle.nt_outside.specs.Held.{Held, IsTornAppend, IsTornWrite, IsReserved, IsSettled, appended, written, synced, Becomes, BecomesSome, WhereHeld}
+use Rattle.nt_outside.specs.Held.{Held, IsTornAppend, IsTornWrite, IsReserved, IsRangeSettled, appended, written, synced, Becomes, BecomesSome, WhereHeld}
 
 pub record DiskState : Type 0 where
   -- what the disk holds, where it tells it
@@ -110,7 +110,7 @@ pub record IsNewExt (len : ℕ) (disk : DiskState) (ext : ExtState) : Type 0 whe
 
 -- an extent ended, and its range isn't out any more
 pub record Settles (ext : ExtState) (old new : DiskState) : Type 0 where
-  pub held : BecomesSome old.held new.held (IsSettled ext)
+  pub held : BecomesSome old.held new.held (IsRangeSettled ext)
   pub end : new.end ≡ old.end
   pub out : new.out ≡ without ext.range old.out
   pub spare : KeepsSpare old new

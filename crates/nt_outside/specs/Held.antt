@@ -1,6 +1,7 @@
 -- What a disk holds, and what each step does to that, where it is told.
 use Rattle.std.specs.Prelude.{◌≡◌, ◌⊎◌, ℕ, ◌≤◌, List, [], ◌∷◌, ◌++◌, length, Option, Some}
-use Rattle.nt_outside.specs.Log.{Step, Write, FailedWrite, Append, FailedAppend, Reserve, Settle, Sync, put_at}
+use Rattle.nt_lists.specs.Places.{put_at}
+use Rattle.nt_outside.specs.Log.{Step, Write, FailedWrite, Append, FailedAppend, Reserve, Settle, Sync}
 use Rattle.nt_outside.specs.Range.{ExtState}
 
 -- the steps so far, and the bytes that stand there
@@ -43,7 +44,7 @@ pub record IsReserved (start len : ℕ) (old new : Held) : Type 0 where
   pub image : new.image ≡ old.image ++ junk
 
 -- the range has its extent's bytes, or some unknown ones
-pub record IsSettled (ext : ExtState) (old new : Held) : Type 0 where
+pub record IsRangeSettled (ext : ExtState) (old new : Held) : Type 0 where
   pub bytes : List ℕ
   pub whole : length bytes ≡ ext.range.len
   pub given : (content : List ℕ) → ext.content ≡ Some content → bytes ≡ content

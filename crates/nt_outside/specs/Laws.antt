@@ -1,6 +1,7 @@
 -- What a crash leaves after one more step of a log.
 use Rattle.std.specs.Prelude.{ℕ, ◌+◌, ◌≤◌, List, [], ◌∷◌, ◌++◌, length, take, drop, map, Option}
-use Rattle.nt_outside.specs.Log.{Step, Write, FailedWrite, Append, FailedAppend, Reserve, Settle, put_at}
+use Rattle.nt_lists.specs.Places.{put_at}
+use Rattle.nt_outside.specs.Log.{Step, Write, FailedWrite, Append, FailedAppend, Reserve, Settle}
 use Rattle.nt_outside.specs.Reads.{Known, or_also, unknown}
 use Rattle.nt_outside.specs.Crash.{Crash, crash_of, MayLeave}
 

@@ -1,5 +1,5 @@
 -- What a disk was asked to do, step by step.
-use Rattle.std.specs.Prelude.{ℕ, ◌+◌, List, ◌++◌, length, take, drop, Option}
+use Rattle.std.specs.Prelude.{ℕ, List, Option}
 
 -- a step: a write that failed keeps what it was asked to write, and an append that failed how many unknown bytes it left; a range is reserved by its start and length, and settled with its bytes where they are known; a sync that failed is no step
 pub data Step : Type 0 where
@@ -10,7 +10,3 @@ pub data Step : Type 0 where
   Reserve : ℕ → ℕ → Step
   Settle : ℕ → ℕ → Option (List ℕ) → Step
   Sync : Step
-
--- these items over those at a place
-abbrev pub put_at : {A : Type 0} → List A → ℕ → List A → List A
-put_at old at items = take at old ++ items ++ drop (at + length items) old

@@ -1,7 +1,8 @@
 -- What a log reads as: each byte is that of the last step that covers it.
 use Rattle.std.specs.Prelude.{◌≡◌, ℕ, ◌==◌, List, [], ◌∷◌, ◌++◌, length, take, drop, map, replicate, Option, Some, None, Bool, true, false, ◌&&◌, IsTrue}
 use Rattle.std.specs.List.{list_any}
-use Rattle.nt_outside.specs.Log.{Step, Write, FailedWrite, Append, FailedAppend, Reserve, Settle, Sync, put_at}
+use Rattle.nt_lists.specs.Places.{put_at}
+use Rattle.nt_outside.specs.Log.{Step, Write, FailedWrite, Append, FailedAppend, Reserve, Settle, Sync}
 
 -- what a log tells of one byte: nothing, or that it is one of these
 pub data Known : Type 0 where

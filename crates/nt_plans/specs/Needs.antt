@@ -1,6 +1,6 @@
 -- How many elements a column has in a cluster, by its place in a plan.
 use Rattle.std.specs.Prelude.{ℕ, suc, ◌+◌, Bool, true, false, List, [], ◌∷◌, Option, Some, None, ◌==◌, if◌then◌else◌}
-use Rattle.nt_types.specs.Kinds.{Kind}
+use Rattle.nt_types.specs.ShapeData.{ShapeData}
 use Rattle.nt_grammar.specs.declared.rows.FieldRow.{FieldRow}
 use Rattle.nt_grammar.specs.declared.rows.ColumnRow.{ColumnRow}
 use Rattle.nt_grammar.specs.Table.{Table}
@@ -55,7 +55,7 @@ is_entries (Some (under k tag)) = false
 is_entries None = false
 
 -- the field at the top level that a column is of, of those that have a shape, which go on from this id
-abbrev pub top_from : List FieldRow → List ColumnRow → ℕ → List (Option Kind) → ℕ → Option ℕ
+abbrev pub top_from : List FieldRow → List ColumnRow → ℕ → List (Option ShapeData) → ℕ → Option ℕ
 top_from fs cs id [] k = None
 top_from fs cs id (None ∷ shapes) k = top_from fs cs (id + 1) shapes k
 top_from fs cs id (Some s ∷ shapes) k = if has (place fs cs s id) k then Some id else top_from fs cs (id + 1) shapes k

@@ -1,6 +1,6 @@
 -- The plans of open fields, by the rows of a schema.
 use Rattle.std.specs.Prelude.{ℕ, ◌+◌, false, List, [], ◌∷◌, ◌++◌, drop, get_or, Option, Some, None, option_map, ◌==◌, if◌then◌else◌}
-use Rattle.nt_types.specs.Kinds.{Kind, Kinds, Parts, bool, char, byte, int, text, list, fields, tuple, choice, no_kinds, kind, no_parts, part}
+use Rattle.nt_types.specs.ShapeData.{ShapeData, ShapesData, MembersData, bool, char, byte, int, text, list, fields, tuple, choice, no_kinds, kind, no_parts, part}
 use Rattle.nt_grammar.specs.declared.rows.FieldRow.{FieldRow}
 use Rattle.nt_grammar.specs.declared.rows.ColumnRow.{ColumnRow}
 use Rattle.nt_grammar.specs.Table.{Table}
@@ -23,7 +23,7 @@ second_column cs field = get_or (column_ids field 0 cs) 1 0
 
 -- a shape with the columns of this field, and of the fields inside it, each for its part of the shape
 abbrev mutual
-  pub place : List FieldRow → List ColumnRow → Kind → ℕ → PlanData
+  pub place : List FieldRow → List ColumnRow → ShapeData → ℕ → PlanData
   place fs cs bool id = plans.bool (first_column cs id)
   place fs cs char id = number (first_column cs id) 8 false
   place fs cs byte id = number (first_column cs id) 8 false
@@ -35,12 +35,12 @@ abbrev mutual
   place fs cs (choice ks) id = plans.choice (first_column cs id) (place_each fs cs ks (ids_inside id 0 fs))
 
   -- members, each at one of these fields
-  pub place_members : List FieldRow → List ColumnRow → Parts → List ℕ → PlansData
+  pub place_members : List FieldRow → List ColumnRow → MembersData → List ℕ → PlansData
   place_members fs cs no_parts ids = no_plans
   place_members fs cs (part n k ps) ids = plan (place fs cs k (get_or ids 0 0)) (place_members fs cs ps (drop 1 ids))
 
   -- shapes, each at one of these fields
-  pub place_each : List FieldRow → List ColumnRow → Kinds → List ℕ → PlansData
+  pub place_each : List FieldRow → List ColumnRow → ShapesData → List ℕ → PlansData
   place_each fs cs no_kinds ids = no_plans
   place_each fs cs (kind k ks) ids = plan (place fs cs k (get_or ids 0 0)) (place_each fs cs ks (drop 1 ids))
 
@@ -49,7 +49,7 @@ abbrev pub open_plan : Table → ℕ → Option PlanData
 open_plan t id = option_map (λ k. place t.fields t.columns k id) (open_shape t id)
 
 -- the plans of the fields that have a shape, of fields that go on from this id
-abbrev pub place_from : List FieldRow → List ColumnRow → ℕ → List (Option Kind) → PlansData
+abbrev pub place_from : List FieldRow → List ColumnRow → ℕ → List (Option ShapeData) → PlansData
 place_from fs cs id [] = no_plans
 place_from fs cs id (None ∷ shapes) = place_from fs cs (id + 1) shapes
 place_from fs cs id (Some k ∷ shapes) = plan (place fs cs k id) (place_from fs cs (id + 1) shapes)

@@ -5,7 +5,7 @@ use Rattle.nt_grammar.specs.declared.rows.FieldRow.{FieldRow}
 use Rattle.nt_grammar.specs.declared.rows.ColumnRow.{ColumnRow}
 use Rattle.nt_grammar.specs.Writing.{field_record, field_records, column_record, column_records}
 use Rattle.std.proofs.Common.{ℕ, suc, ◌+◌, ◌<◌, length, drop, add-one, ◌≡◌, List, [], ◌∷◌, ◌++◌, None, Some, ◌∙◌, sym, ap, append_assoc, Bool, true, take, ◌&&◌, arith}
-use Rattle.nt_frame.specs.Writing.{Written, Begun, appended, begun, finished}
+use Rattle.nt_frame.specs.Writing.{Written, Begun, bytes_added, frame_begun, frame_finished}
 use Rattle.nt_format.specs.Frames.{record_frame, list_frame}
 use Rattle.std.specs.List.{list_all}
 use Rattle.std.proofs.lemmas.List.{take-append-drop}
@@ -14,61 +14,61 @@ use Rattle.std.proofs.lemmas.List.Folds.{list_all-append}
 written : List Begun → List ℕ → Written
 written frames inside = record { inside = inside; frames = frames }
 
-two : (a b : List ℕ) (w : Written) → appended b (appended a w) ≡ appended (a ++ b) w
+two : (a b : List ℕ) (w : Written) → bytes_added b (bytes_added a w) ≡ bytes_added (a ++ b) w
 unfolding written
 two a b w = ap (written w.frames) (append_assoc w.inside a b)
 
-pub four : (a b c d : List ℕ) (v w x y z : Written) → w ≡ appended a v → x ≡ appended b w → y ≡ appended c x → z ≡ appended d y
-    → z ≡ appended (a ++ (b ++ (c ++ d))) v
+pub four : (a b c d : List ℕ) (v w x y z : Written) → w ≡ bytes_added a v → x ≡ bytes_added b w → y ≡ bytes_added c x → z ≡ bytes_added d y
+    → z ≡ bytes_added (a ++ (b ++ (c ++ d))) v
 four a b c d v w x y z e f g h =
-    h ∙ (ap (appended d) g ∙ (two c d x ∙ (ap (appended (c ++ d)) f
-    ∙ (two b (c ++ d) w ∙ (ap (appended (b ++ (c ++ d))) e ∙ two a (b ++ (c ++ d)) v)))))
+    h ∙ (ap (bytes_added d) g ∙ (two c d x ∙ (ap (bytes_added (c ++ d)) f
+    ∙ (two b (c ++ d) w ∙ (ap (bytes_added (b ++ (c ++ d))) e ∙ two a (b ++ (c ++ d)) v)))))
 
-pub five : (a b c d e : List ℕ) (u v w x y z : Written) → v ≡ appended a u → w ≡ appended b v → x ≡ appended c w → y ≡ appended d x
-    → z ≡ appended e y
-    → z ≡ appended (a ++ (b ++ (c ++ (d ++ e)))) u
+pub five : (a b c d e : List ℕ) (u v w x y z : Written) → v ≡ bytes_added a u → w ≡ bytes_added b v → x ≡ bytes_added c w → y ≡ bytes_added d x
+    → z ≡ bytes_added e y
+    → z ≡ bytes_added (a ++ (b ++ (c ++ (d ++ e)))) u
 five a b c d e u v w x y z f g h i j =
-    four b c d e v w x y z g h i j ∙ (ap (appended (b ++ (c ++ (d ++ e)))) f ∙ two a (b ++ (c ++ (d ++ e))) u)
+    four b c d e v w x y z g h i j ∙ (ap (bytes_added (b ++ (c ++ (d ++ e)))) f ∙ two a (b ++ (c ++ (d ++ e))) u)
 
 -- a record frame is begun, gets two pieces, and is finished
-pub record_of : (a b : List ℕ) (v w x y z : Written) → w ≡ begun None v → x ≡ appended a w → y ≡ appended b x → z ≡ finished y
-    → z ≡ appended (record_frame (a ++ b)) v
+pub record_of : (a b : List ℕ) (v w x y z : Written) → w ≡ frame_begun None v → x ≡ bytes_added a w → y ≡ bytes_added b x → z ≡ frame_finished y
+    → z ≡ bytes_added (record_frame (a ++ b)) v
 record_of a b v w x y z e f g h =
-    h ∙ ap finished (g ∙ (ap (appended b) f ∙ (two a b w ∙ ap (appended (a ++ b)) e)))
+    h ∙ ap frame_finished (g ∙ (ap (bytes_added b) f ∙ (two a b w ∙ ap (bytes_added (a ++ b)) e)))
 
-one_more : (part rest all : List ℕ) (w x v : Written) → x ≡ appended part w → appended (part ++ rest) w ≡ appended all v
-    → appended rest x ≡ appended all v
-one_more part rest all w x v e f = ap (appended rest) e ∙ (two part rest w ∙ f)
+one_more : (part rest all : List ℕ) (w x v : Written) → x ≡ bytes_added part w → bytes_added (part ++ rest) w ≡ bytes_added all v
+    → bytes_added rest x ≡ bytes_added all v
+one_more part rest all w x v e f = ap (bytes_added rest) e ∙ (two part rest w ∙ f)
 
 -- the record of the next field is written
 pub fields-next : (rows : List FieldRow) (i : ℕ) (r : FieldRow) (w x v : Written) → i < length rows → r ≡ get_or rows i r
-    → x ≡ appended (field_record r) w
-    → appended (field_records (drop i rows)) w ≡ appended (field_records rows) v
-    → appended (field_records (drop (i + 1) rows)) x ≡ appended (field_records rows) v
+    → x ≡ bytes_added (field_record r) w
+    → bytes_added (field_records (drop i rows)) w ≡ bytes_added (field_records rows) v
+    → bytes_added (field_records (drop (i + 1) rows)) x ≡ bytes_added (field_records rows) v
 fields-next rows i r w x v h is e f =
     let left : drop i rows ≡ r ∷ drop (i + 1) rows = drop-cons rows i r h
     ∙ (ap (λ (z : FieldRow). z ∷ drop (suc i) rows) (sym is) ∙ ap (λ (k : ℕ). r ∷ drop k rows) (sym (add-one i))) in
     one_more (field_record r) (field_records (drop (i + 1) rows)) (field_records rows) w x v e
-    (ap (λ (z : List FieldRow). appended (field_records z) w) (sym left) ∙ f)
+    (ap (λ (z : List FieldRow). bytes_added (field_records z) w) (sym left) ∙ f)
 
 -- the record of the next column is written
 pub columns-next : (rows : List ColumnRow) (i : ℕ) (r : ColumnRow) (w x v : Written) → i < length rows
-    → x ≡ appended (column_record (get_or rows i r)) w
-    → appended (column_records (drop i rows)) w ≡ appended (column_records rows) v
-    → appended (column_records (drop (i + 1) rows)) x ≡ appended (column_records rows) v
+    → x ≡ bytes_added (column_record (get_or rows i r)) w
+    → bytes_added (column_records (drop i rows)) w ≡ bytes_added (column_records rows) v
+    → bytes_added (column_records (drop (i + 1) rows)) x ≡ bytes_added (column_records rows) v
 columns-next rows i r w x v h e f =
     let left : drop i rows ≡ get_or rows i r ∷ drop (i + 1) rows = drop-cons rows i r h
     ∙ ap (λ (k : ℕ). get_or rows i r ∷ drop k rows) (sym (add-one i)) in
     one_more (column_record (get_or rows i r)) (column_records (drop (i + 1) rows)) (column_records rows) w x v e
-    (ap (λ (z : List ColumnRow). appended (column_records z) w) (sym left) ∙ f)
+    (ap (λ (z : List ColumnRow). bytes_added (column_records z) w) (sym left) ∙ f)
 
 -- a list frame is begun, gets its items, and is finished
-pub list_of : (n : ℕ) (a : List ℕ) (v w x y : Written) → w ≡ begun (Some n) v → x ≡ appended a w → y ≡ finished x
-    → y ≡ appended (list_frame n a) v
-list_of n a v w x y e f g = g ∙ ap finished (f ∙ ap (appended a) e)
+pub list_of : (n : ℕ) (a : List ℕ) (v w x y : Written) → w ≡ frame_begun (Some n) v → x ≡ bytes_added a w → y ≡ frame_finished x
+    → y ≡ bytes_added (list_frame n a) v
+list_of n a v w x y e f g = g ∙ ap frame_finished (f ∙ ap (bytes_added a) e)
 
-pub empty_list : (v w x : Written) → w ≡ begun (Some 0) v → x ≡ finished w → x ≡ appended (list_frame 0 []) v
-empty_list v w x e f = f ∙ ap finished e
+pub empty_list : (v w x : Written) → w ≡ frame_begun (Some 0) v → x ≡ frame_finished w → x ≡ bytes_added (list_frame 0 []) v
+empty_list v w x e f = f ∙ ap frame_finished e
 
 both : (a b : Bool) → (a && b) ≡ true → (a ≡ true) × (b ≡ true)
 both a b h = grind (arith, h)

@@ -2,7 +2,7 @@
 use Rattle.std.proofs.Common.{ℕ, zero, suc, ◌≡◌, ◌+◌, List, [], ◌∷◌, map, Option, None, Some, slice_get, refl, sym, ap, ◌∙◌, add-zero, zero-add, arith, Bool, ◌<◌, ◌≤◌, ◌-◌, length}
 use Rattle.std.proofs.lemmas.Option.{slice_get-map, slice_get_past, slice_get_read}
 use Rattle.std.specs.Prelude.{option_map, option_and_then}
-use Rattle.nt_types.specs.Kinds.{Kind}
+use Rattle.nt_types.specs.ShapeData.{ShapeData}
 use Rattle.nt_grammar.specs.declared.rows.FieldRow.{FieldRow}
 use Rattle.nt_grammar.specs.declared.rows.ColumnRow.{ColumnRow}
 use Rattle.nt_grammar.specs.Open.{top_shape, open_shapes, field_of_row, open_field}
@@ -16,23 +16,23 @@ slice_get-open_shapes fs cs from (r ∷ rs) (suc k) =
     let next : (from + 1) + k ≡ from + suc k = omega arith in
     rw next at (slice_get-open_shapes fs cs (from + 1) rs k)
 
-joined : (o : Option FieldRow) (f : FieldRow → Option Kind)
-    → option_and_then (λ (k : Option Kind). k) (option_map f o) ≡ option_and_then f o
+joined : (o : Option FieldRow) (f : FieldRow → Option ShapeData)
+    → option_and_then (λ (k : Option ShapeData). k) (option_map f o) ≡ option_and_then f o
 joined None f = refl
 joined (Some r) f = refl
 
 -- what is kept of a field
-pub kept_shape : {S : Type 0} (view : S → Kind) (shapes : List (Option S)) (fs : List FieldRow) (cs : List ColumnRow) (id : ℕ)
+pub kept_shape : {S : Type 0} (view : S → ShapeData) (shapes : List (Option S)) (fs : List FieldRow) (cs : List ColumnRow) (id : ℕ)
     → map (option_map view) shapes ≡ open_shapes fs cs 0 fs
     → option_and_then (option_map view) (slice_get shapes id) ≡ option_and_then (top_shape fs cs id) (slice_get fs id)
 kept_shape view shapes fs cs id e =
     sym (kept_joined (slice_get shapes id))
-    ∙ (ap (λ (o : Option (Option Kind)). option_and_then (λ (k : Option Kind). k) o)
+    ∙ (ap (λ (o : Option (Option ShapeData)). option_and_then (λ (k : Option ShapeData). k) o)
     (sym (slice_get-map (option_map view) shapes id)
-    ∙ (ap (λ (l : List (Option Kind)). slice_get l id) e ∙ rw zero-add at (slice_get-open_shapes fs cs 0 fs id)))
+    ∙ (ap (λ (l : List (Option ShapeData)). slice_get l id) e ∙ rw zero-add at (slice_get-open_shapes fs cs 0 fs id)))
     ∙ joined (slice_get fs id) (top_shape fs cs id))
   where
-    kept_joined : (o : Option (Option _)) → option_and_then (λ (k : Option Kind). k) (option_map (option_map view) o)
+    kept_joined : (o : Option (Option _)) → option_and_then (λ (k : Option ShapeData). k) (option_map (option_map view) o)
         ≡ option_and_then (option_map view) o
     kept_joined None = refl
     kept_joined (Some x) = refl

@@ -2,7 +2,7 @@
 use Rattle.std.specs.Prelude.{true, ◌≡◌, ◌<◌, ◌≤◌, ◌^◌, List, length, Option}
 use Rattle.std.specs.List.{list_all}
 use Rattle.nt_grammar.specs.Table.{Table, is_short}
-use Rattle.nt_types.specs.Kinds.{Kind}
+use Rattle.nt_types.specs.ShapeData.{ShapeData}
 use Rattle.nt_schema.specs.ByName.{Names, HasNames}
 use Rattle.nt_grammar.specs.Open.{open_shapes}
 
@@ -15,7 +15,7 @@ pub record IsTable (t : Table) : Type 0 where
   pub short : list_all is_short t.fields ≡ true
 
 -- a table, with the first field of each name, and the shape of each field, where it is at the top level and open
-pub record IsKept (t : Table) (names : Names) (shapes_kept : List (Option Kind)) : Type 0 where
+pub record IsKept (t : Table) (names : Names) (shapes_kept : List (Option ShapeData)) : Type 0 where
   pub rows : IsTable t
   pub by_name : HasNames names t.fields
   pub shapes : shapes_kept ≡ open_shapes t.fields t.columns 0 t.fields

@@ -2,7 +2,7 @@
 
 ghost use Rattle.std.specs.Prelude.{◌≤◌, IfOk, vec_len};
 ghost use Rattle.nt_types.specs.Views.{members_view};
-ghost use Rattle.nt_types.specs.Kinds.{parts_of};
+ghost use Rattle.nt_types.specs.ShapeData.{parts_of};
 ghost use Rattle.nt_types.specs.Schema.{parts_count};
 ghost use Rattle.nt_types.specs.Rules.{AreFields};
 ghost use Rattle.nt_grammar.specs.Table.{in_header};

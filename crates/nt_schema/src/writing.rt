@@ -3,7 +3,7 @@
 ghost use Rattle.std.specs.Prelude.{◌≡◌, ◌<◌, ◌^◌, true, [], length, OnOk};
 ghost use Rattle.std.specs.List.{list_all};
 ghost use Rattle.nt_format.specs.Frames.{list_frame};
-ghost use Rattle.nt_frame.specs.Writing.{appended};
+ghost use Rattle.nt_frame.specs.Writing.{bytes_added};
 ghost use Rattle.nt_grammar.specs.Table.{is_short};
 ghost use Rattle.nt_grammar.specs.Writing.{field_numbers, field_texts, field_record, column_numbers, first_element, column_record, field_records, column_records, description, fields_of, columns_of};
 
@@ -16,7 +16,7 @@ use std::alloc::AllocError;
 const DEFERRED: u16 = 1;
 
 fn put_field_numbers(out: &mut FrameOut, row: &FieldRow) -> Result<(), AllocError>
-    ensures { OnOk result (out.new ≡ appended (field_numbers row.now) out.old) }
+    ensures { OnOk result (out.new ≡ bytes_added (field_numbers row.now) out.old) }
 {
     out.put_u32le(0)?;
     out.put_u32le(0)?;
@@ -29,7 +29,7 @@ fn put_field_numbers(out: &mut FrameOut, row: &FieldRow) -> Result<(), AllocErro
 #[tactic(auto, using(crate::proofs::Appended::four))]
 fn put_field_texts(out: &mut FrameOut, row: &FieldRow) -> Result<(), AllocError>
     requires { is_short row.now ≡ true }
-    ensures { OnOk result (out.new ≡ appended (field_texts row.now) out.old) }
+    ensures { OnOk result (out.new ≡ bytes_added (field_texts row.now) out.old) }
 {
     out.text(row.name.as_slice())?;
     out.text(row.type_name.as_slice())?;
@@ -41,7 +41,7 @@ fn put_field_texts(out: &mut FrameOut, row: &FieldRow) -> Result<(), AllocError>
 #[tactic(auto, using(crate::proofs::Appended::record_of))]
 fn put_field(out: &mut FrameOut, row: &FieldRow) -> Result<(), AllocError>
     requires { is_short row.now ≡ true }
-    ensures { OnOk result (out.new ≡ appended (field_record row.now) out.old) }
+    ensures { OnOk result (out.new ≡ bytes_added (field_record row.now) out.old) }
 {
     out.begin_record()?;
     put_field_numbers(out, row)?;
@@ -51,7 +51,7 @@ fn put_field(out: &mut FrameOut, row: &FieldRow) -> Result<(), AllocError>
 }
 
 fn put_column_numbers(out: &mut FrameOut, row: &ColumnRow) -> Result<(), AllocError>
-    ensures { OnOk result (out.new ≡ appended (column_numbers row.now) out.old) }
+    ensures { OnOk result (out.new ≡ bytes_added (column_numbers row.now) out.old) }
 {
     out.put_u16le(row.code)?;
     out.put_u16le(row.bits)?;
@@ -62,7 +62,7 @@ fn put_column_numbers(out: &mut FrameOut, row: &ColumnRow) -> Result<(), AllocEr
 }
 
 fn put_first(out: &mut FrameOut, row: &ColumnRow) -> Result<(), AllocError>
-    ensures { OnOk result (out.new ≡ appended (first_element row.now) out.old) }
+    ensures { OnOk result (out.new ≡ bytes_added (first_element row.now) out.old) }
 {
     if row.flags % 2 == DEFERRED {
         out.put_u64le(row.first)?;
@@ -72,7 +72,7 @@ fn put_first(out: &mut FrameOut, row: &ColumnRow) -> Result<(), AllocError>
 
 #[tactic(auto, using(crate::proofs::Appended::record_of))]
 fn put_column(out: &mut FrameOut, row: &ColumnRow) -> Result<(), AllocError>
-    ensures { OnOk result (out.new ≡ appended (column_record row.now) out.old) }
+    ensures { OnOk result (out.new ≡ bytes_added (column_record row.now) out.old) }
 {
     out.begin_record()?;
     put_column_numbers(out, row)?;
@@ -83,7 +83,7 @@ fn put_column(out: &mut FrameOut, row: &ColumnRow) -> Result<(), AllocError>
 
 fn put_fields(out: &mut FrameOut, rows: &[FieldRow]) -> Result<(), AllocError>
     requires { list_all is_short rows.now ≡ true }
-    ensures { OnOk result (out.new ≡ appended (field_records rows.now) out.old) }
+    ensures { OnOk result (out.new ≡ bytes_added (field_records rows.now) out.old) }
 {
     for row in rows {
         put_field(out, row)?;
@@ -92,7 +92,7 @@ fn put_fields(out: &mut FrameOut, rows: &[FieldRow]) -> Result<(), AllocError>
 }
 
 fn put_columns(out: &mut FrameOut, rows: &[ColumnRow]) -> Result<(), AllocError>
-    ensures { OnOk result (out.new ≡ appended (column_records rows.now) out.old) }
+    ensures { OnOk result (out.new ≡ bytes_added (column_records rows.now) out.old) }
 {
     for row in rows {
         put_column(out, row)?;
@@ -104,7 +104,7 @@ fn put_columns(out: &mut FrameOut, rows: &[ColumnRow]) -> Result<(), AllocError>
 fn put_field_list(out: &mut FrameOut, rows: &[FieldRow]) -> Result<(), AllocError>
     requires short { list_all is_short rows.now ≡ true }
     requires few { length rows.now < 2 ^ 32 }
-    ensures { OnOk result (out.new ≡ appended
+    ensures { OnOk result (out.new ≡ bytes_added
         (list_frame (length rows.now) (field_records rows.now)) out.old) }
 {
     out.begin_list(rows.len() as u32)?;
@@ -116,7 +116,7 @@ fn put_field_list(out: &mut FrameOut, rows: &[FieldRow]) -> Result<(), AllocErro
 #[tactic(auto, using(crate::proofs::Appended::list_of))]
 fn put_column_list(out: &mut FrameOut, rows: &[ColumnRow]) -> Result<(), AllocError>
     requires { length rows.now < 2 ^ 32 }
-    ensures { OnOk result (out.new ≡ appended
+    ensures { OnOk result (out.new ≡ bytes_added
         (list_frame (length rows.now) (column_records rows.now)) out.old) }
 {
     out.begin_list(rows.len() as u32)?;
@@ -127,7 +127,7 @@ fn put_column_list(out: &mut FrameOut, rows: &[ColumnRow]) -> Result<(), AllocEr
 
 #[tactic(auto, using(crate::proofs::Appended::empty_list))]
 fn put_empty_list(out: &mut FrameOut) -> Result<(), AllocError>
-    ensures { OnOk result (out.new ≡ appended (list_frame 0 []) out.old) }
+    ensures { OnOk result (out.new ≡ bytes_added (list_frame 0 []) out.old) }
 {
     out.begin_list(0)?;
     out.finish();
@@ -143,7 +143,7 @@ fn put_lists(
     requires short { list_all is_short fields.now ≡ true }
     requires few_fields { length fields.now < 2 ^ 32 }
     requires few_columns { length columns.now < 2 ^ 32 }
-    ensures { OnOk result (out.new ≡ appended (description fields.now columns.now) out.old) }
+    ensures { OnOk result (out.new ≡ bytes_added (description fields.now columns.now) out.old) }
 {
     put_field_list(out, fields)?;
     put_column_list(out, columns)?;
@@ -155,7 +155,7 @@ fn put_lists(
 /// Writes the description of a part of a schema.
 #[tactic(auto, using(crate::proofs::Appended::list_all_split))]
 pub fn write_description(schema: &Schema, part: Part, out: &mut FrameOut) -> Result<(), AllocError>
-    ensures { OnOk result (out.new ≡ appended
+    ensures { OnOk result (out.new ≡ bytes_added
         (description (fields_of part schema.now) (columns_of part schema.now)) out.old) }
 {
     let (fields, more_fields) = schema.fields.split_at(schema.header_fields as usize);

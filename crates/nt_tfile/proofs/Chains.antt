@@ -10,7 +10,7 @@ use Rattle.nt_container.specs.declared.anchor.Anchor.{Anchor}
 use Rattle.nt_container.specs.declared.parts.FileHeader.{FileHeader}
 use Rattle.nt_container.specs.declared.parts.Directory.{Directory}
 use Rattle.nt_container.specs.declared.parts.Key.{Key}
-use Rattle.nt_container.specs.FileHeader.{header_of, directory_place, directory_of}
+use Rattle.nt_container.specs.FileHeader.{file_header_of, directory_place, directory_of}
 use Rattle.nt_container.specs.Keys.{anchor_key_of}
 use Rattle.nt_container.specs.Anchors.{object_of, anchor_from, anchor_of}
 use Rattle.nt_tfile.specs.declared.failure.ReadFailure.{ReadFailure}
@@ -29,7 +29,7 @@ after_key d told = anchor_key_of told d >>= λ key. object_of told key >>= λ ob
 after_header : FileHeader → List ℕ → Result Anchor ReadError
 after_header h told = directory_of told (directory_place h) >>= λ d. after_key d told
 
-header_done : (told : List ℕ) (h : FileHeader) → header_of told ≡ Ok h → anchor_of told ≡ after_header h told
+header_done : (told : List ℕ) (h : FileHeader) → file_header_of told ≡ Ok h → anchor_of told ≡ after_header h told
 unfolding anchor_of after_header after_key
 header_done told h e = rw e refl
 
@@ -41,21 +41,21 @@ key_done : (told : List ℕ) (d : Directory) (k : Key) → anchor_key_of told d 
 unfolding after_key
 key_done told d k e = rw e refl
 
-pub header-fails : (told : List ℕ) (e : ReadFailure) → IsReadOrFails {V = FileHeader} (λ h. h) (Err e) (header_of told) → IsReadOrFails {V = Anchor} (λ a. a) (Err e) (anchor_of told)
+pub header-fails : (told : List ℕ) (e : ReadFailure) → IsReadOrFails {V = FileHeader} (λ h. h) (Err e) (file_header_of told) → IsReadOrFails {V = Anchor} (λ a. a) (Err e) (anchor_of told)
 unfolding anchor_of
-header-fails told e h = fails (λ h. h) (λ a. a) e (header_of told) _ h
+header-fails told e h = fails (λ h. h) (λ a. a) e (file_header_of told) _ h
 
-pub directory-fails : (told : List ℕ) (e : ReadFailure) (h : FileHeader) → header_of told ≡ Ok h → IsReadOrFails {V = Directory} (λ d. d) (Err e) (directory_of told (directory_place h))
+pub directory-fails : (told : List ℕ) (e : ReadFailure) (h : FileHeader) → file_header_of told ≡ Ok h → IsReadOrFails {V = Directory} (λ d. d) (Err e) (directory_of told (directory_place h))
     → IsReadOrFails {V = Anchor} (λ a. a) (Err e) (anchor_of told)
 unfolding after_header
 directory-fails told e h one f = rw (header_done told h one) (fails (λ d. d) (λ a. a) e (directory_of told (directory_place h)) _ f)
 
-pub key-fails : (told : List ℕ) (e : ReadFailure) (h : FileHeader) (d : Directory) → header_of told ≡ Ok h → directory_of told (directory_place h) ≡ Ok d
+pub key-fails : (told : List ℕ) (e : ReadFailure) (h : FileHeader) (d : Directory) → file_header_of told ≡ Ok h → directory_of told (directory_place h) ≡ Ok d
     → IsReadOrFails {V = Key} (λ k. k) (Err e) (anchor_key_of told d) → IsReadOrFails {V = Anchor} (λ a. a) (Err e) (anchor_of told)
 unfolding after_key
 key-fails told e h d one two f = rw (header_done told h one, directory_done told h d two) (fails (λ k. k) (λ a. a) e (anchor_key_of told d) _ f)
 
-pub anchor-done : (told : List ℕ) (r : Result Anchor ReadFailure) (h : FileHeader) (d : Directory) (k : Key) → header_of told ≡ Ok h → directory_of told (directory_place h) ≡ Ok d → anchor_key_of told d ≡ Ok k
+pub anchor-done : (told : List ℕ) (r : Result Anchor ReadFailure) (h : FileHeader) (d : Directory) (k : Key) → file_header_of told ≡ Ok h → directory_of told (directory_place h) ≡ Ok d → anchor_key_of told d ≡ Ok k
     → IsReadOrFails (λ a. a) r (anchor_at k told) → IsReadOrFails (λ a. a) r (anchor_of told)
 anchor-done told r h d k one two three f = rw (header_done told h one, directory_done told h d two, key_done told d k three) f
 

@@ -11,7 +11,7 @@ use Rattle.nt_container.specs.declared.parts.Directory.{Directory}
 use Rattle.nt_container.specs.declared.parts.Key.{Key}
 use Rattle.nt_num.specs.Codes.{bad_key_list, out_of_file}
 use Rattle.nt_num.specs.Faults.{fault}
-use Rattle.nt_container.specs.FileHeader.{header_in, header_of, directory_in, directory_of}
+use Rattle.nt_container.specs.FileHeader.{header_in, file_header_of, directory_in, directory_of}
 use Rattle.nt_container.specs.Keys.{anchor_key_in, anchor_key_of}
 use Rattle.nt_container.specs.Anchors.{is_plain, object_of, anchor_from}
 use Rattle.nt_tfile.specs.Calls.{anchor_at}
@@ -96,7 +96,7 @@ piece_there fault told bytes at len size sized inside is =
     let test : leb (at + len) (length told) ≡ true = le-leb _ _ (omega (arith, sized, inside)) in
     rw (test, is) refl
 
-pub header-read : (told head : List ℕ) (size : ℕ) (r : Result FileHeader ReadError) → size ≡ length told → head ≡ window 75 told 0 → header_in head size ≡ r → header_of told ≡ r
+pub header-read : (told head : List ℕ) (size : ℕ) (r : Result FileHeader ReadError) → size ≡ length told → head ≡ window 75 told 0 → header_in head size ≡ r → file_header_of told ≡ r
 header-read told head size r sized is read = ap (λ (l : List ℕ). header_in l (length told)) (sym is) ∙ ap (header_in head) (sym sized) ∙ read
 
 pub directory-read : (told bytes : List ℕ) (at place : ℕ) (r : Result Directory ReadError) → at ≡ place → bytes ≡ window 42 told at → directory_in at bytes ≡ r → directory_of told place ≡ r

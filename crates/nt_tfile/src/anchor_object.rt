@@ -2,7 +2,7 @@
 
 ghost use Rattle.std.specs.Prelude.{◌≡◌};
 ghost use Rattle.nt_format.specs.Reading.{standing};
-ghost use Rattle.nt_container.specs.Anchors.{is_plain, fields_of, envelopes_at, anchor_in, anchor_from};
+ghost use Rattle.nt_container.specs.Anchors.{is_plain, covered_fields, envelopes_at, anchor_in, anchor_from};
 ghost use Rattle.nt_tfile.specs.Calls.{ReadsOn, IsReadAs};
 
 use crate::faults::{BAD_ANCHOR, BAD_EPOCH, COMPRESSED, fault, fault_with};
@@ -56,9 +56,9 @@ fn read_envelopes(cur: &mut Cur) -> Result<Anchor, Short>
 }
 
 /// The bytes that the checksum covers.
-#[tactic(auto, unfolding(nt_container::specs::Anchors::fields_of))]
+#[tactic(auto, unfolding(nt_container::specs::Anchors::covered_fields))]
 fn fields_of<'a>(place: u64, object: &mut Cur<'a>) -> Result<Cur<'a>, ReadError>
-    ensures { IsReadAs (λ c. c) result (fields_of place object.old) }
+    ensures { IsReadAs (λ c. c) result (covered_fields place object.old) }
 {
     let Ok(_head) = object.bytes(6) else {
         return Err(fault(BAD_ANCHOR, place));

@@ -1,7 +1,7 @@
 //! Keys' headers.
 
 ghost use Rattle.std.specs.Prelude.{◌≡◌, ◌+◌, length};
-ghost use Rattle.nt_container.specs.Keys.{sizes_at, names_at, key_at};
+ghost use Rattle.nt_container.specs.Keys.{sizes_at, key_names_at, key_at};
 ghost use Rattle.nt_tfile.specs.Calls.{ReadsOn};
 
 use crate::words::{read_place, read_tstring};
@@ -32,9 +32,9 @@ pub fn read_sizes(cur: &mut Cur) -> Result<Sizes, Short>
 }
 
 /// SeekKey, SeekPdir, class, name and title: the place and the class.
-#[tactic(auto, unfolding(nt_container::specs::Keys::names_at))]
+#[tactic(auto, unfolding(nt_container::specs::Keys::key_names_at))]
 pub fn read_names<'a>(cur: &mut Cur<'a>, wide: bool) -> Result<(u64, &'a [u8]), Short>
-    ensures told { ReadsOn (λ p. (p.0, p.1.now)) result cur.new (names_at wide cur.old) }
+    ensures told { ReadsOn (λ p. (p.0, p.1.now)) result cur.new (key_names_at wide cur.old) }
     ensures end { cur.new.place + length cur.new.left ≡ cur.old.place + length cur.old.left }
 {
     let place = read_place(cur, wide)?;

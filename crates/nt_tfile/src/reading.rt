@@ -3,7 +3,7 @@
 ghost use Rattle.std.specs.Prelude.{◌≡◌, ◌+◌, ◌<◌, ◌^◌, ◌≤◌, vec_len, IfOk};
 ghost use Rattle.nt_format.specs.Reading.{standing};
 ghost use Rattle.nt_format.specs.Pieces.{piece_or};
-ghost use Rattle.nt_container.specs.FileHeader.{header_of, directory_place, directory_of};
+ghost use Rattle.nt_container.specs.FileHeader.{file_header_of, directory_place, directory_of};
 ghost use Rattle.nt_container.specs.Keys.{anchor_key_of};
 ghost use Rattle.nt_container.specs.Anchors.{anchor_of};
 ghost use Rattle.nt_tfile.specs.Calls.{Serves, HasSize, ReadsFile, anchor_at};
@@ -30,7 +30,7 @@ const MOST_OF_DIRECTORY: u32 = 42;
 fn read_header<F: ReadAt>(alloc: Global, file: &mut F, size: u64) -> Result<FileHeader, ReadFailure>
     requires { HasSize (F.state file.old) size }
     ensures file { Serves (F.state file.old) (F.state file.new) result }
-    ensures read { ReadsFile (λ h. h) header_of (F.state file.old) result }
+    ensures read { ReadsFile (λ h. h) file_header_of (F.state file.old) result }
 {
     let head = read_window(alloc, file, size, 0, MOST_OF_HEADER)?;
     Ok(header_in(&head, size)?)

@@ -6,13 +6,13 @@ use Rattle.std.specs.List.{list_all, prefix_len}
 use Rattle.nt_lists.proofs.Bools.{and_true}
 use Rattle.nt_lists.proofs.Fronts.{take_front, drop_front}
 use Rattle.nt_lists.proofs.Variants.{some_is, err_is}
-use Rattle.nt_types.specs.Kinds.{Kind, Part, parts_of}
+use Rattle.nt_types.specs.ShapeData.{ShapeData, MemberData, parts_of}
 use Rattle.nt_types.specs.Names.{has_name}
 use Rattle.nt_types.specs.Words.{is_word_byte, is_blank, is_name}
 use Rattle.nt_types.specs.Reading.{read_kind}
 use Rattle.nt_types.specs.Spelling.{spell, depth}
 use Rattle.nt_types.specs.Lines.{split_line, type_text, within_depth, type_of, under_name, member_at, member_of}
-use Rattle.nt_types.specs.LineSpelling.{IsLine, IsMember, SpellsMember, BeginsWith, HasFault}
+use Rattle.nt_types.specs.LineSpelling.{IsLine, IsMember, SpellsMember, BeginsWithName, HasFault}
 use Rattle.nt_types.specs.Schema.{field_count, parts_count, within_count, field_split, field_of, part_under}
 use Rattle.nt_types.specs.TextSpelling.{HaveName, IsNew, HasFieldFault}
 use Rattle.nt_types.specs.declared.fault.SchemaKind.{SchemaKind}
@@ -24,7 +24,7 @@ use Rattle.nt_types.proofs.MemberText.{spell_core, member_of-sound}
 
 -- the name and the text of a line
 
-begins-split : (line name : List ℕ) → BeginsWith line name → (t : List ℕ) × (split_line line ≡ Some (name, t))
+begins-split : (line name : List ℕ) → BeginsWithName line name → (t : List ℕ) × (split_line line ≡ Some (name, t))
 begins-split line name b =
     let stops : prefix_len is_word_byte (name ++ b.blank ∷ b.rest) ≡ length name =
     prefix_stops is_word_byte name b.blank b.rest (name_bytes name b.is_name) (blank_ends_word b.blank b.is_blank) in (
@@ -33,14 +33,14 @@ begins-split line name b =
           (at_is (is_name name) (is_blank b.blank) name _ _ b.is_name b.is_blank refl),
     )
 
-split-begins : (line name t : List ℕ) → split_line line ≡ Some (name, t) → BeginsWith line name
+split-begins : (line name t : List ℕ) → split_line line ≡ Some (name, t) → BeginsWithName line name
 split-begins line name t e = cases l.blanks l.some_blank l.all_blank l.whole
   where
     l : IsLine line name t
     l = split_line-sound line name t e
 
     cases : (blanks : List ℕ) → 0 < length blanks → list_all is_blank blanks ≡ true → line ≡ name ++ (blanks ++ (t ++ l.spaces))
-        → BeginsWith line name
+        → BeginsWithName line name
     cases [] some all whole = absurd (omega arith)
     cases (b ∷ bs) some all whole =
         record {
@@ -53,40 +53,40 @@ split-begins line name t e = cases l.blanks l.some_blank l.all_blank l.whole
         }
 
 -- a line that begins with a name and a blank begins with no other
-name-same : (line name other t : List ℕ) → split_line line ≡ Some (name, t) → BeginsWith line other → other ≡ name
+name-same : (line name other t : List ℕ) → split_line line ≡ Some (name, t) → BeginsWithName line other → other ≡ name
 name-same line name other t e b =
     let s = begins-split line other b in
     ap (λ (x : List ℕ × List ℕ). x.0) (some_is (other, s.0) (name, t) (sym s.1 ∙ e))
 
-spells-split : (line : List ℕ) (p : Part) → SpellsMember line p → split_line line ≡ Some (p.name, spell p.of)
+spells-split : (line : List ℕ) (p : MemberData) → SpellsMember line p → split_line line ≡ Some (p.name, spell p.of)
 spells-split line p m = split_line-is line p.name (spell p.of) m.line_is (spell_core p.of m.rules)
 
-split-spells : (line name t : List ℕ) (k : Kind) → split_line line ≡ Some (name, t) → read_kind t ≡ Some k → SpellsMember line (part_under name k)
+split-spells : (line name t : List ℕ) (k : ShapeData) → split_line line ≡ Some (name, t) → read_kind t ≡ Some k → SpellsMember line (part_under name k)
 split-spells line name t k e read =
     let sound = read_kind-sound t k read in
     record { line_is = subst (IsLine line name) (sym sound.0) (split_line-sound line name t e); rules = sound.1 }
 
-spells-begins : (line : List ℕ) (p : Part) → SpellsMember line p → BeginsWith line p.name
+spells-begins : (line : List ℕ) (p : MemberData) → SpellsMember line p → BeginsWithName line p.name
 spells-begins line p m = split-begins line p.name (spell p.of) (spells-split line p m)
 
 -- the text of a type
 
-spells-type : (line name t : List ℕ) (p : Part) → split_line line ≡ Some (name, t) → SpellsMember line p → read_kind t ≡ Some p.of
+spells-type : (line name t : List ℕ) (p : MemberData) → split_line line ≡ Some (name, t) → SpellsMember line p → read_kind t ≡ Some p.of
 spells-type line name t p e m =
     let same : spell p.of ≡ t =
     ap (λ (x : List ℕ × List ℕ). x.1) (some_is (p.name, spell p.of) (name, t) (sym (spells-split line p m) ∙ e)) in
     rw (← same) (read_kind-spell p.of m.rules)
 
-type_of-deep : (t : List ℕ) (k : Kind) → read_kind t ≡ Some k → 32 < depth k → type_of t ≡ Err TooDeep
+type_of-deep : (t : List ℕ) (k : ShapeData) → read_kind t ≡ Some k → 32 < depth k → type_of t ≡ Err TooDeep
 type_of-deep t k read deep = let far : nat_le (depth k) 32 ≡ false = grind (arith, nat_tests) in rw (read, far) refl
 
-type_of-shallow : (t : List ℕ) (k : Kind) → read_kind t ≡ Some k → depth k ≤ 32 → type_of t ≡ Ok k
+type_of-shallow : (t : List ℕ) (k : ShapeData) → read_kind t ≡ Some k → depth k ≤ 32 → type_of t ≡ Ok k
 type_of-shallow t k read shallow = let near : nat_le (depth k) 32 ≡ true = grind (arith, nat_tests) in rw (read, near) refl
 
-type_of-bad : (line name t : List ℕ) → split_line line ≡ Some (name, t) → ((p : Part) → SpellsMember line p → ⊥) → type_of t ≡ Err BadType
+type_of-bad : (line name t : List ℕ) → split_line line ≡ Some (name, t) → ((p : MemberData) → SpellsMember line p → ⊥) → type_of t ≡ Err BadType
 type_of-bad line name t e none = cases (read_kind t) refl
   where
-    cases : (r : Option Kind) → read_kind t ≡ r → within_depth r ≡ Err BadType
+    cases : (r : Option ShapeData) → read_kind t ≡ r → within_depth r ≡ Err BadType
     cases None read = refl
     cases (Some k) read = absurd (none (part_under name k) (split-spells line name t k e read))
 
@@ -95,17 +95,17 @@ type_of-fault : (line name t : List ℕ) (k : SchemaKind) → split_line line �
     → ((k ≡ BadType) × HasFault line BadType) ⊎ ((k ≡ TooDeep) × HasFault line TooDeep)
 type_of-fault line name t k e is = cases (read_kind t) refl is
   where
-    deep : (j : Kind) (c : Bool) → read_kind t ≡ Some j → nat_le (depth j) 32 ≡ c → (if c then Ok j else Err TooDeep) ≡ Err k
+    deep : (j : ShapeData) (c : Bool) → read_kind t ≡ Some j → nat_le (depth j) 32 ≡ c → (if c then Ok j else Err TooDeep) ≡ Err k
         → ((k ≡ BadType) × HasFault line BadType) ⊎ ((k ≡ TooDeep) × HasFault line TooDeep)
     deep j true read at f = cc
     deep j false read at f =
-        inr (sym (err_is {A = Kind} TooDeep k f), (part_under name j, split-spells line name t j e read, grind (arith, nat_tests, at)))
+        inr (sym (err_is {A = ShapeData} TooDeep k f), (part_under name j, split-spells line name t j e read, grind (arith, nat_tests, at)))
 
-    cases : (r : Option Kind) → read_kind t ≡ r → within_depth r ≡ Err k
+    cases : (r : Option ShapeData) → read_kind t ≡ r → within_depth r ≡ Err k
         → ((k ≡ BadType) × HasFault line BadType) ⊎ ((k ≡ TooDeep) × HasFault line TooDeep)
     cases None read f =
         inl (
-          sym (err_is {A = Kind} BadType k f),
+          sym (err_is {A = ShapeData} BadType k f),
           (name, split-begins line name t e, λ p m. let some : read_kind t ≡ Some p.of = spells-type line name t p e m in cc),
         )
     cases (Some j) read f = deep j (nat_le (depth j) 32) read refl f
@@ -127,18 +127,18 @@ no-split line e name b = let s = begins-split line name b in let some : split_li
 pub member_of-fault : (line : List ℕ) (k : SchemaKind) → member_of line ≡ Err k → HasFault line k
 member_of-fault line k e = cases (split_line line) refl e
   where
-    typed : (name t : List ℕ) (r : Result Kind SchemaKind) → split_line line ≡ Some (name, t) → type_of t ≡ r → under_name name r ≡ Err k
+    typed : (name t : List ℕ) (r : Result ShapeData SchemaKind) → split_line line ≡ Some (name, t) → type_of t ≡ r → under_name name r ≡ Err k
         → HasFault line k
     typed name t (Ok j) split is f = cc
     typed name t (Err j) split is f =
-        let same : j ≡ k = err_is {A = Part} j k f in
+        let same : j ≡ k = err_is {A = MemberData} j k f in
         elim (type_of-fault line name t j split is) [
           | inl x ↦ subst (HasFault line) (sym x.0 ∙ same) x.1
           | inr x ↦ subst (HasFault line) (sym x.0 ∙ same) x.1
         ]
 
     cases : (r : Option (List ℕ × List ℕ)) → split_line line ≡ r → member_at r ≡ Err k → HasFault line k
-    cases None split f = subst (HasFault line) (err_is {A = Part} BadName k f) (no-split line split)
+    cases None split f = subst (HasFault line) (err_is {A = MemberData} BadName k f) (no-split line split)
     cases (Some x) split f = typed x.0 x.1 (type_of x.1) split refl f
 
 pub member_of-refused : (line : List ℕ) (k : SchemaKind) → HasFault line k → member_of line ≡ Err k
@@ -155,8 +155,8 @@ member_of-refused line Empty f = absurd f
 
 -- a further field on a line, beside the names and the count of those before it
 
-module _ (fields : List Part) (seen : List (List ℕ)) (before : ℕ) (line : List ℕ)
-    (names : (n : List ℕ) → has_name seen n ≡ has_name (map (λ (p : Part). p.name) fields) n)
+module _ (fields : List MemberData) (seen : List (List ℕ)) (before : ℕ) (line : List ℕ)
+    (names : (n : List ℕ) → has_name seen n ≡ has_name (map (λ (p : MemberData). p.name) fields) n)
     (count : before ≡ parts_count (parts_of fields)) where
   has-not : (name : List ℕ) → (HaveName fields name → ⊥) → has_name seen name ≡ false
   has-not name none = cases (has_name seen name) refl
@@ -174,21 +174,21 @@ module _ (fields : List Part) (seen : List (List ℕ)) (before : ℕ) (line : Li
   pub field_of-fault : (k : SchemaKind) → field_of seen before line ≡ Err k → HasFieldFault fields line k
   field_of-fault k e = cases (split_line line) refl e
     where
-      many : (name t : List ℕ) (j : Kind) (c : Bool) → split_line line ≡ Some (name, t) → IsNew fields line → type_of t ≡ Ok j
+      many : (name t : List ℕ) (j : ShapeData) (c : Bool) → split_line line ≡ Some (name, t) → IsNew fields line → type_of t ≡ Ok j
           → nat_le (before + field_count j) 4096 ≡ c
           → (if c then Ok (part_under name j) else Err TooMany) ≡ Err k → HasFieldFault fields line k
       many name t j true split new is at f = cc
       many name t j false split new is at f =
           let m : IsMember line (part_under name j) = member_of-sound line (part_under name j) (rw (split, is) refl) in
-          subst (HasFieldFault fields line) (err_is {A = Part} TooMany k f)
+          subst (HasFieldFault fields line) (err_is {A = MemberData} TooMany k f)
           (new, (part_under name j, m, rw (← count) (grind (arith, nat_tests, at))))
 
-      typed : (name t : List ℕ) (r : Result Kind SchemaKind) → split_line line ≡ Some (name, t) → IsNew fields line → type_of t ≡ r
+      typed : (name t : List ℕ) (r : Result ShapeData SchemaKind) → split_line line ≡ Some (name, t) → IsNew fields line → type_of t ≡ r
           → within_count before name r ≡ Err k
           → HasFieldFault fields line k
       typed name t (Ok j) split new is f = many name t j (nat_le (before + field_count j) 4096) split new is refl f
       typed name t (Err j) split new is f =
-          let same : j ≡ k = err_is {A = Part} j k f in
+          let same : j ≡ k = err_is {A = MemberData} j k f in
           elim (type_of-fault line name t j split is) [
             | inl x ↦ subst (HasFieldFault fields line) (sym x.0 ∙ same) (new, x.1)
             | inr x ↦ subst (HasFieldFault fields line) (sym x.0 ∙ same) (new, x.1)
@@ -198,11 +198,11 @@ module _ (fields : List Part) (seen : List (List ℕ)) (before : ℕ) (line : Li
           → (if c then Err Repeated else within_count before name (type_of t)) ≡ Err k
           → HasFieldFault fields line k
       named name t true split at f =
-          subst (HasFieldFault fields line) (err_is {A = Part} Repeated k f) (name, split-begins line name t split, sym (names name) ∙ at)
+          subst (HasFieldFault fields line) (err_is {A = MemberData} Repeated k f) (name, split-begins line name t split, sym (names name) ∙ at)
       named name t false split at f = typed name t (type_of t) split (is-new name t split at) refl f
 
       cases : (r : Option (List ℕ × List ℕ)) → split_line line ≡ r → field_split seen before r ≡ Err k → HasFieldFault fields line k
-      cases None split f = subst (HasFieldFault fields line) (err_is {A = Part} BadName k f) (no-split line split)
+      cases None split f = subst (HasFieldFault fields line) (err_is {A = MemberData} BadName k f) (no-split line split)
       cases (Some x) split f = named x.0 x.1 (has_name seen x.0) split refl f
 
   pub field_of-refused : (k : SchemaKind) → HasFieldFault fields line k → field_of seen before line ≡ Err k
@@ -232,7 +232,7 @@ module _ (fields : List Part) (seen : List (List ℕ)) (before : ℕ) (line : Li
   field_of-refused TooLong f = absurd f
   field_of-refused Empty f = absurd f
 
-  pub field_of-spelled : (p : Part) → SpellsMember line p → has_name seen p.name ≡ false → depth p.of ≤ 32 → before + field_count p.of ≤ 4096
+  pub field_of-spelled : (p : MemberData) → SpellsMember line p → has_name seen p.name ≡ false → depth p.of ≤ 32 → before + field_count p.of ≤ 4096
       → field_of seen before line ≡ Ok p
   field_of-spelled p m new shallow few =
       let below : nat_le (before + field_count p.of) 4096 ≡ true = grind (arith, nat_tests) in

@@ -3,13 +3,13 @@ use Rattle.std.proofs.Common.{ℕ, List, [], ◌∷◌, ◌++◌, ◌≡◌, ref
 use Rattle.std.specs.Prelude.{is_some, option_map, option_and_then, not, nat_le, ◌==◌, ◌&&◌, ◌||◌, codes}
 use Rattle.std.specs.Str.{bytes_eq}
 use Rattle.std.proofs.lemmas.List.{map-append, length-map}
-use Rattle.nt_types.specs.Kinds.{Kind, Part, bool, list, fields, tuple, choice, kinds_of, parts_of}
+use Rattle.nt_types.specs.ShapeData.{ShapeData, MemberData, bool, list, fields, tuple, choice, kinds_of, parts_of}
 use Rattle.nt_types.specs.Words.{is_word_byte, is_name, leaf}
 use Rattle.nt_types.specs.Names.{are_new, names_differ}
-use Rattle.nt_types.specs.Reading.{OpenData, in_list, at_name, in_member, in_tuple, in_choice, goes, ends, ReadingData, kind_kept, put, part_placed, place_on, within_after, started, opened, begin, named_on, named, settled, delimited, ended_on, read, read_kind, start}
+use Rattle.nt_types.specs.Reading.{OpenData, in_list, at_name, in_member, in_tuple, in_choice, goes, ends, ReadingData, kind_kept, put, part_placed, place_on, within_after, started, opened, begin, named_on, named, ended_here, delimited, ended_on, read, read_kind, start}
 
 -- a member, a construct and a state without what isn't kept
-abbrev forget_part : Part → Part
+abbrev forget_part : MemberData → MemberData
 forget_part p = record { name = p.name; of = bool }
 
 abbrev forget_construct : OpenData → OpenData
@@ -22,7 +22,7 @@ forget_construct (in_choice w ks) = in_choice w (map (λ _. bool) ks)
 abbrev forget : ReadingData → ReadingData
 forget s = record { stack = map forget_construct s.stack; within = s.within; done = option_map (λ _. bool) s.done }
 
-are_new-forget : (seen : List (List ℕ)) (ps : List Part) → are_new seen (map forget_part ps) ≡ are_new seen ps
+are_new-forget : (seen : List (List ℕ)) (ps : List MemberData) → are_new seen (map forget_part ps) ≡ are_new seen ps
 are_new-forget seen [] = refl
 are_new-forget seen (p ∷ ps) = rw (are_new-forget (p.name ∷ seen) ps) refl
 
@@ -49,7 +49,7 @@ begin_none s w b =
     begin_cases s (b == 123) (bytes_eq w (codes "rec") && not s.within) (bytes_eq w (codes "vec")) (bytes_eq w (codes "tuple"))
     (bytes_eq w (codes "var"))
 
-begin-forget : (stack : List OpenData) (within : Bool) (done : Option Kind) (w : List ℕ) (b : ℕ)
+begin-forget : (stack : List OpenData) (within : Bool) (done : Option ShapeData) (w : List ℕ) (b : ℕ)
     → begin (forget (record { stack = stack; within = within; done = done })) w b ≡ option_map forget
     (begin (record { stack = stack; within = within; done = done }) w b)
 begin-forget stack within None w b = begin_none (record { stack = stack; within = within; done = None }) w b
@@ -57,7 +57,7 @@ begin-forget stack within (Some k) w b = refl
 
 -- a member is named
 
-named_cases : (within : Bool) (ps : List Part) (os : List OpenData) (w : List ℕ) (c : Bool)
+named_cases : (within : Bool) (ps : List MemberData) (os : List OpenData) (w : List ℕ) (c : Bool)
     → cond c (Some (record { stack = in_member (map forget_part ps) w ∷ map forget_construct os; within = within; done = None })) None
     ≡ option_map forget (cond c (Some (record { stack = in_member ps w ∷ os; within = within; done = None })) None)
 named_cases within ps os w true = refl
@@ -72,7 +72,7 @@ named_on-forget within (in_member ps n ∷ os) w = refl
 named_on-forget within (in_tuple ks ∷ os) w = refl
 named_on-forget within (in_choice c ks ∷ os) w = refl
 
-named-forget : (stack : List OpenData) (within : Bool) (done : Option Kind) (w : List ℕ)
+named-forget : (stack : List OpenData) (within : Bool) (done : Option ShapeData) (w : List ℕ)
     → named (forget (record { stack = stack; within = within; done = done })) w ≡ option_map forget
     (named (record { stack = stack; within = within; done = done }) w)
 named-forget stack within None w = named_on-forget within stack w
@@ -80,24 +80,24 @@ named-forget stack within (Some k) w = refl
 
 -- a part ends
 
-leaf_cases : (o : Option Kind) → option_map (kind_kept false) o ≡ option_map (λ _. bool) (option_map (kind_kept true) o)
+leaf_cases : (o : Option ShapeData) → option_map (kind_kept false) o ≡ option_map (λ _. bool) (option_map (kind_kept true) o)
 leaf_cases None = refl
 leaf_cases (Some k) = refl
 
-settled-forget : (done : Option Kind) (w : List ℕ)
-    → settled false (option_map (λ _. bool) done) w ≡ option_map (λ _. bool) (settled true done w)
+settled-forget : (done : Option ShapeData) (w : List ℕ)
+    → ended_here false (option_map (λ _. bool) done) w ≡ option_map (λ _. bool) (ended_here true done w)
 settled-forget None w = leaf_cases (leaf w)
 settled-forget (Some k) [] = refl
 settled-forget (Some k) (b ∷ w) = refl
 
 module _ (within : Bool) (os : List OpenData) where
-  list_cases : (k : Kind) (c : Bool)
+  list_cases : (k : ShapeData) (c : Bool)
       → option_map (part_placed false within in_list (map forget_construct os)) (cond c (Some (ends (list bool))) None)
       ≡ option_map forget (option_map (part_placed true within in_list os) (cond c (Some (ends (list k))) None))
   list_cases k true = refl
   list_cases k false = refl
 
-  fields_cases : (o : OpenData) (ps : List Part) (c d : Bool) → within_after (forget_construct o) within ≡ within_after o within →
+  fields_cases : (o : OpenData) (ps : List MemberData) (c d : Bool) → within_after (forget_construct o) within ≡ within_after o within →
       option_map (part_placed false within (forget_construct o) (map forget_construct os))
       (cond c (Some (goes (at_name (map forget_part ps)))) (cond d (Some (ends (fields (parts_of (map forget_part ps))))) None))
       ≡ option_map forget
@@ -106,7 +106,7 @@ module _ (within : Bool) (os : List OpenData) where
   fields_cases o ps false true e = rw e refl
   fields_cases o ps false false e = refl
 
-  tuple_cases : (ls ks : List Kind) (c d : Bool) →
+  tuple_cases : (ls ks : List ShapeData) (c d : Bool) →
       option_map (part_placed false within (in_tuple (map (λ _. bool) ls)) (map forget_construct os))
       (cond c (Some (goes (in_tuple (map (λ _. bool) ks)))) (cond d (Some (ends (tuple (kinds_of (map (λ _. bool) ks))))) None))
       ≡ option_map forget
@@ -116,7 +116,7 @@ module _ (within : Bool) (os : List OpenData) where
   tuple_cases ls ks false true = refl
   tuple_cases ls ks false false = refl
 
-  choice_cases : (w : Bool) (ls ks : List Kind) (c d : Bool) →
+  choice_cases : (w : Bool) (ls ks : List ShapeData) (c d : Bool) →
       option_map (part_placed false within (in_choice w (map (λ _. bool) ls)) (map forget_construct os))
       (cond c (Some (goes (in_choice w (map (λ _. bool) ks)))) (cond d (Some (ends (choice (kinds_of (map (λ _. bool) ks))))) None))
       ≡ option_map forget
@@ -126,7 +126,7 @@ module _ (within : Bool) (os : List OpenData) where
   choice_cases w ls ks false true = refl
   choice_cases w ls ks false false = refl
 
-  put-forget : (o : OpenData) (k : Kind) (b : ℕ) →
+  put-forget : (o : OpenData) (k : ShapeData) (b : ℕ) →
       option_map (part_placed false within (forget_construct o) (map forget_construct os))
       (put (forget_construct o) bool b) ≡ option_map forget
       (option_map (part_placed true within o os) (put o k b))
@@ -146,12 +146,12 @@ module _ (within : Bool) (os : List OpenData) where
       rw (together, length-map (ks ++ k ∷ []) (λ _. bool))
       (choice_cases w ks (ks ++ k ∷ []) (b == 44) ((b == 62) && nat_le (length (ks ++ k ∷ [])) 100))
 
-place_on-forget : (within : Bool) (stack : List OpenData) (k : Kind) (b : ℕ)
+place_on-forget : (within : Bool) (stack : List OpenData) (k : ShapeData) (b : ℕ)
     → place_on false within (map forget_construct stack) bool b ≡ option_map forget (place_on true within stack k b)
 place_on-forget within [] k b = refl
 place_on-forget within (o ∷ os) k b = put-forget within os o k b
 
-placed_cases : (stack : List OpenData) (within : Bool) (o : Option Kind) (b : ℕ)
+placed_cases : (stack : List OpenData) (within : Bool) (o : Option ShapeData) (b : ℕ)
     → option_and_then (λ k. place_on false within (map forget_construct stack) k b) (option_map (λ _. bool) o) ≡ option_map forget
     (option_and_then (λ k. place_on true within stack k b) o)
 placed_cases stack within None b = refl
@@ -170,11 +170,11 @@ delimited-forget : (s : ReadingData) (w : List ℕ) (b : ℕ) → delimited fals
 delimited-forget s w b = delimited_cases _ _ _ _ _ _ ((b == 60) || (b == 123)) (b == 58)
     (begin-forget s.stack s.within s.done w b) (named-forget s.stack s.within s.done w)
     (ap (option_and_then (λ k. place_on false s.within (map forget_construct s.stack) k b)) (settled-forget s.done w)
-    ∙ placed_cases s.stack s.within (settled true s.done w) b)
+    ∙ placed_cases s.stack s.within (ended_here true s.done w) b)
 
 -- all bytes
 
-ended_cases : (stack : List OpenData) (o : Option Kind)
+ended_cases : (stack : List OpenData) (o : Option ShapeData)
     → is_some (option_and_then (ended_on (map forget_construct stack)) (option_map (λ _. bool) o)) ≡ is_some
     (option_and_then (ended_on stack) o)
 ended_cases stack None = refl
@@ -186,13 +186,13 @@ after : (bs : List ℕ) (o : Option ReadingData) → ((t : ReadingData) → is_s
 after bs None h = refl
 after bs (Some t) h = h t
 
-byte_cases : (c : Bool) (x1 x2 y1 y2 : Option Kind) → is_some x1 ≡ is_some x2 → is_some y1 ≡ is_some y2
+byte_cases : (c : Bool) (x1 x2 y1 y2 : Option ShapeData) → is_some x1 ≡ is_some x2 → is_some y1 ≡ is_some y2
     → is_some (cond c x1 y1) ≡ is_some (cond c x2 y2)
 byte_cases true x1 x2 y1 y2 x y = x
 byte_cases false x1 x2 y1 y2 x y = y
 
 read-forget : (s : ReadingData) (w bs : List ℕ) → is_some (read false (forget s) w bs) ≡ is_some (read true s w bs)
-read-forget s w [] = rw (settled-forget s.done w) (ended_cases s.stack (settled true s.done w))
+read-forget s w [] = rw (settled-forget s.done w) (ended_cases s.stack (ended_here true s.done w))
 read-forget s w (b ∷ bs) = byte_cases (is_word_byte b) _ _ _ _ (read-forget s (w ++ b ∷ []) bs)
     (ap (λ (o : Option ReadingData). is_some (option_and_then (λ t. read false t [] bs) o)) (delimited-forget s w b)
     ∙ after bs (delimited true s w b) (λ t. read-forget t [] bs))
@@ -202,12 +202,12 @@ pub is_some-read : (bytes : List ℕ) → is_some (read false start [] bytes) �
 is_some-read bytes = read-forget start [] bytes
 
 -- in words of the answer
-pub read_some : (bytes : List ℕ) (k : Kind) → read false start [] bytes ≡ Some k → is_some (read_kind bytes) ≡ true
+pub read_some : (bytes : List ℕ) (k : ShapeData) → read false start [] bytes ≡ Some k → is_some (read_kind bytes) ≡ true
 read_some bytes k e = sym (is_some-read bytes) ∙ ap is_some e
 
 pub read_none : (bytes : List ℕ) → read false start [] bytes ≡ None → read_kind bytes ≡ None
 read_none bytes e = none (read_kind bytes) (sym (is_some-read bytes) ∙ ap is_some e)
   where
-    none : (o : Option Kind) → is_some o ≡ false → o ≡ None
+    none : (o : Option ShapeData) → is_some o ≡ false → o ≡ None
     none None e = refl
     none (Some k) e = cc

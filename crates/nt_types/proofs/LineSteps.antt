@@ -2,7 +2,7 @@
 use Rattle.std.proofs.Common.{ℕ, List, [], ◌∷◌, ◌++◌, ◌≡◌, ◌+◌, ◌≤◌, refl, true, false, Ok, Bor, min, arith}
 use Rattle.std.proofs.lemmas.List.{map-append}
 use Rattle.std.specs.BTreeSet.{Updates}
-use Rattle.nt_types.specs.Kinds.{Kind}
+use Rattle.nt_types.specs.ShapeData.{ShapeData}
 use Rattle.nt_types.specs.Views.{member_view}
 use Rattle.nt_types.specs.Seen.{slices_cmp}
 use Rattle.nt_types.specs.Lines.{is_blank_line}
@@ -19,7 +19,7 @@ pub skipped : (p : Progress) (s : schema.ProgressData) (line : List ℕ) → is_
 skipped p s line e f = (next_line s, rw e refl, record { seen = f.seen; count = f.count; parts = f.parts })
 
 -- a line that has a field
-pub taken : (before after : Progress) (s : schema.ProgressData) (line : List ℕ) (name : Bor (List ℕ)) (k : Kind) (m : Member)
+pub taken : (before after : Progress) (s : schema.ProgressData) (line : List ℕ) (name : Bor (List ℕ)) (k : ShapeData) (m : Member)
     → is_blank_line line ≡ false → Follows before s
     → field_of s.seen before.count line ≡ Ok (part_under name.now k) → before.count + field_count k ≤ 4096
     → member_view m ≡ part_under name.now k

@@ -2,7 +2,7 @@
 use Rattle.std.proofs.Common.{ℕ, List, [], ◌∷◌, ◌++◌, ◌≡◌, ◌+◌, ◌<◌, ◌≤◌, ◌^◌, refl, sym, ◌∙◌, subst, Bool, true, false, Ok, Err, length, append_assoc, append-nil, if◌then◌else◌, arith}
 use Rattle.std.specs.Prelude.{◌⊎◌}
 use Rattle.nt_lists.specs.Chaining.{◌>>=◌}
-use Rattle.nt_types.specs.Kinds.{Part}
+use Rattle.nt_types.specs.ShapeData.{MemberData}
 use Rattle.nt_types.specs.Lines.{is_blank_line}
 use Rattle.nt_types.specs.Schema.{ProgressData, field_of, take_line, take_lines, next_line, with_field, at_line}
 use Rattle.nt_types.specs.TextSpelling.{full_lines, SpellEach}
@@ -21,7 +21,7 @@ full-field l ls e = rw e refl
 pub blank-next : (s : ProgressData) (l : List ℕ) → is_blank_line l ≡ true → take_line s l ≡ Ok (next_line s)
 blank-next s l e = rw e refl
 
-pub field-next : (s : ProgressData) (l : List ℕ) (p : Part) → is_blank_line l ≡ false → field_of s.seen s.count l ≡ Ok p
+pub field-next : (s : ProgressData) (l : List ℕ) (p : MemberData) → is_blank_line l ≡ false → field_of s.seen s.count l ≡ Ok p
     → take_line s l ≡ Ok (with_field s p)
 field-next s l p e is = rw (e, is) refl
 
@@ -29,12 +29,12 @@ pub field-stops : (s : ProgressData) (l : List ℕ) (k : SchemaKind) → is_blan
     → take_line s l ≡ Err (at_line s.line k)
 field-stops s l k e is = rw (e, is) refl
 
-pub one-more : (ps qs : List Part) (p : Part) → (ps ++ p ∷ []) ++ qs ≡ ps ++ p ∷ qs
+pub one-more : (ps qs : List MemberData) (p : MemberData) → (ps ++ p ∷ []) ++ qs ≡ ps ++ p ∷ qs
 one-more ps qs p = append_assoc ps (p ∷ []) qs
 
 -- lines that spell fields are read, and then those behind them
 
-pub record Advance (s : ProgressData) (ls rest : List (List ℕ)) (ps : List Part) : Type 0 where
+pub record Advance (s : ProgressData) (ls rest : List (List ℕ)) (ps : List MemberData) : Type 0 where
   pub after : ProgressData
   pub keeps : Keeps after
   pub parts : after.parts ≡ s.parts ++ ps
@@ -43,9 +43,9 @@ pub record Advance (s : ProgressData) (ls rest : List (List ℕ)) (ps : List Par
 
 abbrev pub Ahead : List (List ℕ) → List (List ℕ) → Type 0
 Ahead ls rest =
-    (s : ProgressData) (ps : List Part) → Keeps s → SpellEach (full_lines ls) ps → KeepRules (s.parts ++ ps) → Advance s ls rest ps
+    (s : ProgressData) (ps : List MemberData) → Keeps s → SpellEach (full_lines ls) ps → KeepRules (s.parts ++ ps) → Advance s ls rest ps
 
-advance-blank : (l : List ℕ) (ls rest : List (List ℕ)) (s : ProgressData) (ps : List Part) → is_blank_line l ≡ true → Keeps s
+advance-blank : (l : List ℕ) (ls rest : List (List ℕ)) (s : ProgressData) (ps : List MemberData) → is_blank_line l ≡ true → Keeps s
     → Advance (next_line s) ls rest ps → Advance s (l ∷ ls) rest ps
 advance-blank l ls rest s ps e k a =
     record {
@@ -56,7 +56,7 @@ advance-blank l ls rest s ps e k a =
       read = rw (blank-next s l e) a.read;
     }
 
-advance-field : (l : List ℕ) (ls rest : List (List ℕ)) (s : ProgressData) (p : Part) (ps : List Part) → is_blank_line l ≡ false
+advance-field : (l : List ℕ) (ls rest : List (List ℕ)) (s : ProgressData) (p : MemberData) (ps : List MemberData) → is_blank_line l ≡ false
     → field_of s.seen s.count l ≡ Ok p
     → Advance (with_field s p) ls rest ps → Advance s (l ∷ ls) rest (p ∷ ps)
 advance-field l ls rest s p ps e is a =
@@ -74,7 +74,7 @@ keeps-next s k = record { count = k.count; seen = k.seen; fields = k.fields }
 advance-step : (l : List ℕ) (ls rest : List (List ℕ)) → Ahead ls rest → Ahead (l ∷ ls) rest
 advance-step l ls rest ahead s ps k spelled rules = by_line (is_blank_line l) refl
   where
-    by_part : (qs : List Part) → is_blank_line l ≡ false → SpellEach (l ∷ full_lines ls) qs → KeepRules (s.parts ++ qs)
+    by_part : (qs : List MemberData) → is_blank_line l ≡ false → SpellEach (l ∷ full_lines ls) qs → KeepRules (s.parts ++ qs)
         → Advance s (l ∷ ls) rest qs
     by_part [] e each all = absurd each
     by_part (p ∷ qs) e each all =

@@ -2,7 +2,7 @@
 use Rattle.std.proofs.Common.{ℕ, List, [], ◌∷◌, ◌++◌, ◌≡◌, ◌+◌, ◌<◌, ◌≤◌, ◌^◌, refl, sym, ◌∙◌, ap, subst, Bool, true, false, Result, Ok, Err, length, append-nil, inl, inr, if◌then◌else◌, arith}
 use Rattle.std.specs.Prelude.{◌⊎◌}
 use Rattle.nt_lists.specs.Chaining.{◌>>=◌}
-use Rattle.nt_types.specs.Kinds.{Part}
+use Rattle.nt_types.specs.ShapeData.{MemberData}
 use Rattle.nt_types.specs.Lines.{is_blank_line}
 use Rattle.nt_types.specs.LineSpelling.{SpellsMember}
 use Rattle.nt_types.specs.Schema.{ProgressData, field_of, take_lines, next_line, with_field, all_fields, at_line}
@@ -16,8 +16,8 @@ use Rattle.nt_types.proofs.LinesAhead.{full-blank, full-field, blank-next, field
 
 -- the lines that were read, up to the end or the first fault
 
-pub record Ends (s : ProgressData) (ls : List (List ℕ)) (qs : List Part) : Type 0 where
-  pub more : List Part
+pub record Ends (s : ProgressData) (ls : List (List ℕ)) (qs : List MemberData) : Type 0 where
+  pub more : List MemberData
   pub fields : qs ≡ s.parts ++ more
   pub spelled : SpellEach (full_lines ls) more
   pub rules : KeepRules qs
@@ -27,7 +27,7 @@ pub record Stops (s : ProgressData) (ls : List (List ℕ)) (f : SchemaFault) : T
   pub before : List (List ℕ)
   pub line : List ℕ
   pub after : List (List ℕ)
-  pub more : List Part
+  pub more : List MemberData
   pub whole : ls ≡ before ++ line ∷ after
   pub place : f.line ≡ s.line + length before
   pub full : is_blank_line line ≡ false
@@ -40,16 +40,16 @@ pub record Lacks (s : ProgressData) (ls : List (List ℕ)) (f : SchemaFault) : T
   pub none : s.parts ≡ []
   pub blank : full_lines ls ≡ []
 
-abbrev pub Traces : ProgressData → List (List ℕ) → Result (List Part) SchemaFault → Type 0
+abbrev pub Traces : ProgressData → List (List ℕ) → Result (List MemberData) SchemaFault → Type 0
 Traces s ls (Ok qs) = Ends s ls qs
 Traces s ls (Err f) = Stops s ls f ⊎ Lacks s ls f
 
-trace-end : (s : ProgressData) (ps : List Part) → s.parts ≡ ps → Keeps s → Traces s [] (all_fields ps)
+trace-end : (s : ProgressData) (ps : List MemberData) → s.parts ≡ ps → Keeps s → Traces s [] (all_fields ps)
 trace-end s [] e k = inr (record { fault = refl; none = e; blank = refl })
 trace-end s (p ∷ ps) e k =
     record { more = []; fields = sym e ∙ sym (append-nil s.parts); spelled = tt; rules = subst KeepRules e k.fields; some = omega arith }
 
-trace-blank : (s : ProgressData) (l : List ℕ) (ls : List (List ℕ)) (r : Result (List Part) SchemaFault) → is_blank_line l ≡ true
+trace-blank : (s : ProgressData) (l : List ℕ) (ls : List (List ℕ)) (r : Result (List MemberData) SchemaFault) → is_blank_line l ≡ true
     → Traces (next_line s) ls r → Traces s (l ∷ ls) r
 trace-blank s l ls (Ok qs) e t =
     record {
@@ -76,7 +76,7 @@ trace-blank s l ls (Err f) e (inl t) =
     })
 trace-blank s l ls (Err f) e (inr t) = inr (record { fault = t.fault; none = t.none; blank = full-blank l ls e ∙ t.blank })
 
-trace-field : (s : ProgressData) (l : List ℕ) (ls : List (List ℕ)) (p : Part) (r : Result (List Part) SchemaFault) → is_blank_line l ≡ false
+trace-field : (s : ProgressData) (l : List ℕ) (ls : List (List ℕ)) (p : MemberData) (r : Result (List MemberData) SchemaFault) → is_blank_line l ≡ false
     → SpellsMember l p
     → Traces (with_field s p) ls r → Traces s (l ∷ ls) r
 trace-field s l ls p (Ok qs) e m t =
@@ -99,11 +99,11 @@ trace-field s l ls p (Err f) e m (inl t) =
       full = t.full;
       spelled = subst (λ (z : List (List ℕ)). SpellEach z (p ∷ t.more)) (sym (full-field l t.before e)) (m, t.spelled);
       rules = subst KeepRules (one-more s.parts t.more p) t.rules;
-      fault = subst (λ (z : List Part). HasFieldFault z t.line f.kind) (one-more s.parts t.more p) t.fault;
+      fault = subst (λ (z : List MemberData). HasFieldFault z t.line f.kind) (one-more s.parts t.more p) t.fault;
     })
 trace-field s l ls p (Err f) e m (inr t) = absurd (not-empty s.parts t.none)
   where
-    not-empty : (ps : List Part) → ps ++ p ∷ [] ≡ [] → ⊥
+    not-empty : (ps : List MemberData) → ps ++ p ∷ [] ≡ [] → ⊥
     not-empty [] h = cc
     not-empty (q ∷ ps) h = cc
 
@@ -127,7 +127,7 @@ pub trace : (ls : List (List ℕ)) (s : ProgressData) → Keeps s → Traces s l
 trace [] s k = trace-end s s.parts refl k
 trace (l ∷ ls) s k = by_line (is_blank_line l) refl (trace ls)
   where
-    by_field : (r : Result Part SchemaKind) → is_blank_line l ≡ false → field_of s.seen s.count l ≡ r
+    by_field : (r : Result MemberData SchemaKind) → is_blank_line l ≡ false → field_of s.seen s.count l ≡ r
         → ((t : ProgressData) → Keeps t → Traces t ls (take_lines t ls)) → Traces s (l ∷ ls) (take_lines s (l ∷ ls))
     by_field (Ok p) e is later =
         let t = field_of-is s.seen s.count l p is in

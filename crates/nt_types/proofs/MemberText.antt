@@ -2,7 +2,7 @@
 use Rattle.std.proofs.Common.{ℕ, List, [], ◌∷◌, ◌++◌, ◌≡◌, ◌≤◌, refl, sym, subst, inl, inr, Bool, true, false, cond, Option, Some, None, Result, Ok, Err, arith}
 use Rattle.std.proofs.lemmas.Bool.Decides.{nat_tests}
 use Rattle.std.specs.Prelude.{◌⊎◌, nat_le, codes, IfOk}
-use Rattle.nt_types.specs.Kinds.{Kind, Part, bool, char, byte, int, text, list, fields, tuple, choice}
+use Rattle.nt_types.specs.ShapeData.{ShapeData, MemberData, bool, char, byte, int, text, list, fields, tuple, choice}
 use Rattle.nt_types.specs.Reading.{read_kind}
 use Rattle.nt_types.specs.Spelling.{spell, spell_kinds, spell_parts, depth, IsType}
 use Rattle.nt_types.specs.Lines.{split_line, within_depth, under_name, member_at, member_of}
@@ -52,7 +52,7 @@ int_core bits signed (inr (inl e)) = subst (λ (n : ℕ). IsCore (spell (int n s
 int_core bits signed (inr (inr (inl e))) = subst (λ (n : ℕ). IsCore (spell (int n signed))) (sym e) (int_core_32 signed)
 int_core bits signed (inr (inr (inr e))) = subst (λ (n : ℕ). IsCore (spell (int n signed))) (sym e) (int_core_64 signed)
 
-pub spell_core : (k : Kind) → IsType false k → IsCore (spell k)
+pub spell_core : (k : ShapeData) → IsType false k → IsCore (spell k)
 spell_core bool t =
     record {
       first = 98;
@@ -153,7 +153,7 @@ spell_core (choice ks) t =
 
 -- what is spelled so is read
 
-member_of-is : (line : List ℕ) (p : Part) → IsMember line p → member_of line ≡ Ok p
+member_of-is : (line : List ℕ) (p : MemberData) → IsMember line p → member_of line ≡ Ok p
 member_of-is line p m =
     let split : split_line line ≡ Some (p.name, spell p.of) = split_line-is line p.name (spell p.of) m.line_is (spell_core p.of m.rules) in
     let read : read_kind (spell p.of) ≡ Some p.of = read_kind-spell p.of m.rules in
@@ -161,18 +161,18 @@ member_of-is line p m =
     let few : nat_le (depth p.of) 32 ≡ true = grind (arith, nat_tests) in
     rw (split, read, few) refl
 
-pub member_text-is : (line : List ℕ) (p : Part) → IsMember line p → member_text line ≡ Ok p
+pub member_text-is : (line : List ℕ) (p : MemberData) → IsMember line p → member_text line ≡ Ok p
 member_text-is line p m = rw (member_of-is line p m) refl
 
 -- what is read is spelled so
 
-ok_part : (p q : Part) → ◌≡◌ {A = Result Part SchemaKind} (Ok p) (Ok q) → p ≡ q
+ok_part : (p q : MemberData) → ◌≡◌ {A = Result MemberData SchemaKind} (Ok p) (Ok q) → p ≡ q
 ok_part p q e = cc
 
 few : (n : ℕ) → nat_le n 32 ≡ true → n ≤ 32
 few n e = grind (arith, nat_tests)
 
-depth_cases : (line name t : List ℕ) (k : Kind) (p : Part) (c : Bool) → IsLine line name t → read_kind t ≡ Some k → nat_le (depth k) 32 ≡ c
+depth_cases : (line name t : List ℕ) (k : ShapeData) (p : MemberData) (c : Bool) → IsLine line name t → read_kind t ≡ Some k → nat_le (depth k) 32 ≡ c
     → under_name name (cond c (Ok k) (Err TooDeep)) ≡ Ok p → IsMember line p
 depth_cases line name t k p true l read shallow e =
     let sound = read_kind-sound t k read in
@@ -180,21 +180,21 @@ depth_cases line name t k p true l read shallow e =
     (record { line_is = subst (IsLine line name) (sym sound.0) l; rules = sound.1; shallow = few (depth k) shallow })
 depth_cases line name t k p false l read shallow e = cc
 
-read_cases : (line name t : List ℕ) (r : Option Kind) (p : Part) → IsLine line name t → read_kind t ≡ r
+read_cases : (line name t : List ℕ) (r : Option ShapeData) (p : MemberData) → IsLine line name t → read_kind t ≡ r
     → under_name name (within_depth r) ≡ Ok p → IsMember line p
 read_cases line name t None p l read e = cc
 read_cases line name t (Some k) p l read e = depth_cases line name t k p (nat_le (depth k) 32) l read refl e
 
-split_cases : (line : List ℕ) (r : Option (List ℕ × List ℕ)) (p : Part) → split_line line ≡ r → member_at r ≡ Ok p → IsMember line p
+split_cases : (line : List ℕ) (r : Option (List ℕ × List ℕ)) (p : MemberData) → split_line line ≡ r → member_at r ≡ Ok p → IsMember line p
 split_cases line None p split e = cc
 split_cases line (Some x) p split e = read_cases line x.0 x.1 (read_kind x.1) p (split_line-sound line x.0 x.1 split) refl e
 
-pub member_of-sound : (line : List ℕ) (p : Part) → member_of line ≡ Ok p → IsMember line p
+pub member_of-sound : (line : List ℕ) (p : MemberData) → member_of line ≡ Ok p → IsMember line p
 member_of-sound line p e = split_cases line (split_line line) p refl e
 
-pub member_text-sound : (line : List ℕ) (p : Part) → member_text line ≡ Ok p → IsMember line p
+pub member_text-sound : (line : List ℕ) (p : MemberData) → member_text line ≡ Ok p → IsMember line p
 member_text-sound line p e = member_of-sound line p (ok (member_of line) e)
   where
-    ok : (r : Result Part SchemaKind) → at_result 0 r ≡ Ok p → r ≡ Ok p
+    ok : (r : Result MemberData SchemaKind) → at_result 0 r ≡ Ok p → r ≡ Ok p
     ok (Ok q) e = cc
     ok (Err k) e = cc

@@ -4,7 +4,7 @@ use Rattle.std.specs.Prelude.{◌&&◌, not}
 use Rattle.std.proofs.lemmas.Grind.{common_steps}
 use Rattle.std.specs.BTreeSet.{BTreeSet, contains, Updates}
 use Rattle.nt_types.specs.Names.{has_name, are_new}
-use Rattle.nt_types.specs.Seen.{Knows, slices_cmp}
+use Rattle.nt_types.specs.Seen.{KnowsNames, slices_cmp}
 use Rattle.nt_types.specs.Views.{member_view}
 use Rattle.nt_types.specs.declared.shape.Member.{Member}
 use Rattle.nt_types.proofs.Seen.{Knows-insert}
@@ -23,10 +23,10 @@ negated false b e t = cc
 -- one member further, where its name is new
 pub new_member : (set after : BTreeSet (Bor (List ℕ))) (seen : List (List ℕ)) (members : List Member) (i : ℕ) (m : Member)
     (name : Bor (List ℕ)) (added all : Bool)
-    → Knows set seen → are_new seen (map member_view (drop i members)) ≡ all
+    → KnowsNames set seen → are_new seen (map member_view (drop i members)) ≡ all
     → i < length members → m ≡ get_or members i m → name.now ≡ m.name
     → added ≡ not (contains slices_cmp set name) → added ≡ true → Updates slices_cmp set after name true
-    → (x : List (List ℕ)) × Knows after x × (are_new x (map member_view (drop (i + 1) members)) ≡ all)
+    → (x : List (List ℕ)) × KnowsNames after x × (are_new x (map member_view (drop (i + 1) members)) ≡ all)
 new_member set after seen members i m name added all k e h is named0 a t u =
     let named : name.now ≡ (member_view m).name = named0 ∙ sym (member_view-name m) in
     let fresh : has_name seen name.now ≡ false = sym (k name) ∙ negated added (contains slices_cmp set name) a t in
@@ -44,7 +44,7 @@ last_member seen members i all h e = let none : drop i members ≡ [] = grind (a
 
 pub old_member : (set : BTreeSet (Bor (List ℕ))) (seen : List (List ℕ)) (members : List Member) (i : ℕ) (m : Member) (name : Bor (List ℕ))
     (added all : Bool)
-    → Knows set seen → are_new seen (map member_view (drop i members)) ≡ all
+    → KnowsNames set seen → are_new seen (map member_view (drop i members)) ≡ all
     → i < length members → m ≡ get_or members i m → name.now ≡ m.name
     → added ≡ not (contains slices_cmp set name) → added ≡ false
     → false ≡ all

@@ -4,7 +4,7 @@ use Rattle.std.proofs.lemmas.Bool.Decides.{nat_tests}
 use Rattle.std.specs.Prelude.{◌==◌, ◌||◌, ◌&&◌}
 use Rattle.std.specs.List.{list_all}
 use Rattle.nt_lists.proofs.Bools.{and_true}
-use Rattle.nt_types.specs.Kinds.{Kind, Kinds, Parts, bool, char, byte, int, text, list, fields, tuple, choice, no_kinds, kind, no_parts, part}
+use Rattle.nt_types.specs.ShapeData.{ShapeData, ShapesData, MembersData, bool, char, byte, int, text, list, fields, tuple, choice, no_kinds, kind, no_parts, part}
 use Rattle.nt_types.specs.Words.{is_word_byte}
 use Rattle.nt_types.specs.Lines.{most_open}
 use Rattle.nt_types.specs.Spelling.{spell, spell_kinds, spell_more_kinds, spell_parts, spell_more_parts, depth, deepest_kind, deepest_part, IsType, AreKinds, AreMoreKinds, AreParts, AreMoreParts}
@@ -12,7 +12,7 @@ use Rattle.nt_types.proofs.Spelled.{name_bytes, int_text}
 
 -- how many constructs are open at the deepest place
 abbrev mutual
-  height : Kind → ℕ
+  height : ShapeData → ℕ
   height bool = 0
   height char = 0
   height byte = 0
@@ -23,11 +23,11 @@ abbrev mutual
   height (tuple ks) = kinds_height ks + 1
   height (choice ks) = kinds_height ks + 1
 
-  kinds_height : Kinds → ℕ
+  kinds_height : ShapesData → ℕ
   kinds_height no_kinds = 0
   kinds_height (kind k ks) = max (height k) (kinds_height ks)
 
-  parts_height : Parts → ℕ
+  parts_height : MembersData → ℕ
   parts_height no_parts = 0
   parts_height (part n k ps) = max (height k) (parts_height ps)
 
@@ -60,7 +60,7 @@ joined : (now most a b : ℕ) (rest : List ℕ)
 joined now most a b rest = let e : max (max most (now + a)) (now + b) ≡ max most (now + max a b) = omega arith in rw e refl
 
 mutual
-  nest : (k : Kind) (within : Bool) (now most : ℕ) (rest : List ℕ) → IsType within k → now ≤ most
+  nest : (k : ShapeData) (within : Bool) (now most : ℕ) (rest : List ℕ) → IsType within k → now ≤ most
       → most_open now most (spell k ++ rest) ≡ most_open now (max most (now + height k)) rest
   nest bool within now most rest t h = leaf_most now most rest h
   nest char within now most rest t h = leaf_most now most rest h
@@ -81,7 +81,7 @@ mutual
       rw (append_assoc (spell_kinds ks) (62 ∷ []) rest)
       (nest_kinds ks true (now + 1) (max most (now + 1)) (62 ∷ rest) t.1 (omega arith) ∙ closed now most (kinds_height ks) rest)
 
-  nest_kinds : (ks : Kinds) (within : Bool) (now most : ℕ) (rest : List ℕ) → AreKinds within ks → now ≤ most
+  nest_kinds : (ks : ShapesData) (within : Bool) (now most : ℕ) (rest : List ℕ) → AreKinds within ks → now ≤ most
       → most_open now most (spell_kinds ks ++ rest) ≡ most_open now (max most (now + kinds_height ks)) rest
   nest_kinds no_kinds within now most rest t h = absurd t
   nest_kinds (kind k ks) within now most rest t h =
@@ -90,7 +90,7 @@ mutual
       ∙ nest_more_kinds ks within now (max most (now + height k)) rest t.1 (omega arith)
       ∙ joined now most (height k) (kinds_height ks) rest)
 
-  nest_more_kinds : (ks : Kinds) (within : Bool) (now most : ℕ) (rest : List ℕ) → AreMoreKinds within ks → now ≤ most
+  nest_more_kinds : (ks : ShapesData) (within : Bool) (now most : ℕ) (rest : List ℕ) → AreMoreKinds within ks → now ≤ most
       → most_open now most (spell_more_kinds ks ++ rest) ≡ most_open now (max most (now + kinds_height ks)) rest
   nest_more_kinds no_kinds within now most rest t h = leaf_most now most rest h
   nest_more_kinds (kind k ks) within now most rest t h =
@@ -99,7 +99,7 @@ mutual
       ∙ nest_more_kinds ks within now (max most (now + height k)) rest t.1 (omega arith)
       ∙ joined now most (height k) (kinds_height ks) rest)
 
-  nest_parts : (ps : Parts) (now most : ℕ) (rest : List ℕ) → AreParts ps → now ≤ most
+  nest_parts : (ps : MembersData) (now most : ℕ) (rest : List ℕ) → AreParts ps → now ≤ most
       → most_open now most (spell_parts ps ++ rest) ≡ most_open now (max most (now + parts_height ps)) rest
   nest_parts no_parts now most rest t h = absurd t
   nest_parts (part n k ps) now most rest t h =
@@ -108,7 +108,7 @@ mutual
       ∙ nest k false now most (spell_more_parts ps ++ rest) t.1 h
       ∙ nest_more_parts ps now (max most (now + height k)) rest t.2 (omega arith) ∙ joined now most (height k) (parts_height ps) rest)
 
-  nest_more_parts : (ps : Parts) (now most : ℕ) (rest : List ℕ) → AreMoreParts ps → now ≤ most
+  nest_more_parts : (ps : MembersData) (now most : ℕ) (rest : List ℕ) → AreMoreParts ps → now ≤ most
       → most_open now most (spell_more_parts ps ++ rest) ≡ most_open now (max most (now + parts_height ps)) rest
   nest_more_parts no_parts now most rest t h = leaf_most now most rest h
   nest_more_parts (part n k ps) now most rest t h =
@@ -120,7 +120,7 @@ mutual
 -- the depth is one more than the height
 
 mutual
-  depth-height : (k : Kind) (within : Bool) → IsType within k → depth k ≡ height k + 1
+  depth-height : (k : ShapeData) (within : Bool) → IsType within k → depth k ≡ height k + 1
   depth-height bool within t = refl
   depth-height char within t = refl
   depth-height byte within t = refl
@@ -131,14 +131,14 @@ mutual
   depth-height (tuple ks) within t = ap (λ n. n + 1) (deepest_kind-height ks within t)
   depth-height (choice ks) within t = ap (λ n. n + 1) (deepest_kind-height ks true t.1)
 
-  deepest_kind-height : (ks : Kinds) (within : Bool) → AreKinds within ks → deepest_kind ks ≡ kinds_height ks + 1
+  deepest_kind-height : (ks : ShapesData) (within : Bool) → AreKinds within ks → deepest_kind ks ≡ kinds_height ks + 1
   deepest_kind-height no_kinds within t = absurd t
   deepest_kind-height (kind k ks) within t =
       let a : depth k ≡ height k + 1 = depth-height k within t.0 in
       let b : max (height k + 1) (deepest_kind ks) ≡ max (height k) (kinds_height ks) + 1 = more_kind-height ks within (height k) t.1 in
       rw a b
 
-  more_kind-height : (ks : Kinds) (within : Bool) (h : ℕ) → AreMoreKinds within ks
+  more_kind-height : (ks : ShapesData) (within : Bool) (h : ℕ) → AreMoreKinds within ks
       → max (h + 1) (deepest_kind ks) ≡ max h (kinds_height ks) + 1
   more_kind-height no_kinds within h t = omega arith
   more_kind-height (kind k ks) within h t =
@@ -146,14 +146,14 @@ mutual
       let b : max (height k + 1) (deepest_kind ks) ≡ max (height k) (kinds_height ks) + 1 = more_kind-height ks within (height k) t.1 in
       omega (arith, a, b)
 
-  deepest_part-height : (ps : Parts) → AreParts ps → deepest_part ps ≡ parts_height ps + 1
+  deepest_part-height : (ps : MembersData) → AreParts ps → deepest_part ps ≡ parts_height ps + 1
   deepest_part-height no_parts t = absurd t
   deepest_part-height (part n k ps) t =
       let a : depth k ≡ height k + 1 = depth-height k false t.1 in
       let b : max (height k + 1) (deepest_part ps) ≡ max (height k) (parts_height ps) + 1 = more_part-height ps (height k) t.2 in
       rw a b
 
-  more_part-height : (ps : Parts) (h : ℕ) → AreMoreParts ps → max (h + 1) (deepest_part ps) ≡ max h (parts_height ps) + 1
+  more_part-height : (ps : MembersData) (h : ℕ) → AreMoreParts ps → max (h + 1) (deepest_part ps) ≡ max h (parts_height ps) + 1
   more_part-height no_parts h t = omega arith
   more_part-height (part n k ps) h t =
       let a : depth k ≡ height k + 1 = depth-height k false t.1 in
@@ -161,7 +161,7 @@ mutual
       omega (arith, a, b)
 
 -- the depth of a type is one more than the most constructs that are open in its text
-pub most_open-spell : (k : Kind) → IsType false k → most_open 0 0 (spell k) + 1 ≡ depth k
+pub most_open-spell : (k : ShapeData) → IsType false k → most_open 0 0 (spell k) + 1 ≡ depth k
 most_open-spell k t =
     let most : most_open 0 0 (spell k) ≡ max 0 (0 + height k) = ap (most_open 0 0) (sym (append-nil (spell k)))
     ∙ nest k false 0 0 [] t (omega arith) in

@@ -2,7 +2,7 @@
 use Rattle.std.proofs.Common.{ℕ, List, [], ◌∷◌, ◌++◌, ◌≡◌, ◌+◌, ◌-◌, ◌<◌, ◌≤◌, refl, Bool, true, false, Some, None, Ok, length, get_or, take, drop, drop-cons, add-one, arith}
 use Rattle.std.proofs.Common.{length-drop}
 use Rattle.std.proofs.lemmas.List.{take_more, get_or-drop}
-use Rattle.nt_types.specs.Kinds.{Kind}
+use Rattle.nt_types.specs.ShapeData.{ShapeData}
 use Rattle.nt_types.specs.Words.{is_word_byte}
 use Rattle.nt_lists.specs.Answering.{Refuses}
 use Rattle.nt_types.specs.FaultViews.{type_fault, or_malformed}
@@ -25,7 +25,7 @@ drop_next : (text : List ℕ) (i : ℕ) → i < length text → drop i text ≡ 
 drop_next text i lt = rw (add-one, drop-cons text i 0) refl
 
 -- a byte of a word
-pub read_word : (keep : Bool) (s : ReadingData) (text : List ℕ) (from i : ℕ) (all : Option Kind) → from ≤ i → i < length text
+pub read_word : (keep : Bool) (s : ReadingData) (text : List ℕ) (from i : ℕ) (all : Option ShapeData) → from ≤ i → i < length text
     → is_word_byte (get_or text i 0) ≡ true
     → read keep s (take (i - from) (drop from text)) (drop i text) ≡ all
     → read keep s (take (i + 1 - from) (drop from text)) (drop (i + 1) text) ≡ all
@@ -33,7 +33,7 @@ read_word keep s text from i all order lt word e =
     rw (range_more text from i order lt) (rw (drop_next text i lt, word) at e)
 
 -- a byte of no word
-pub read_delimiter : (keep : Bool) (s t : ReadingData) (text : List ℕ) (from i : ℕ) (all : Option Kind) → i < length text
+pub read_delimiter : (keep : Bool) (s t : ReadingData) (text : List ℕ) (from i : ℕ) (all : Option ShapeData) → i < length text
     → is_word_byte (get_or text i 0) ≡ false
     → or_malformed (delimited keep s (take (i - from) (drop from text)) (get_or text i 0)) ≡ Ok t
     → read keep s (take (i - from) (drop from text)) (drop i text) ≡ all
@@ -45,7 +45,7 @@ read_delimiter keep s t text from i all lt word step e =
     rw none (rw (drop_next text i lt, word, next) at e)
 
 -- a byte of no word, at which the reading stops
-pub read_refused : (e : TypeError) (keep : Bool) (s : ReadingData) (text : List ℕ) (from i : ℕ) (all : Option Kind) → i < length text
+pub read_refused : (e : TypeError) (keep : Bool) (s : ReadingData) (text : List ℕ) (from i : ℕ) (all : Option ShapeData) → i < length text
     → is_word_byte (get_or text i 0) ≡ false
     → Refuses (type_fault e) (or_malformed (delimited keep s (take (i - from) (drop from text)) (get_or text i 0)))
     → read keep s (take (i - from) (drop from text)) (drop i text) ≡ all

@@ -5,10 +5,10 @@ use Rattle.std.specs.BTreeSet.{BTreeSet, Updates, IsEmpty}
 use Rattle.std.specs.Str.{bytes_eq}
 use Rattle.std.proofs.lemmas.Map.Text.{is_eq-slice_cmp}
 use Rattle.nt_types.specs.Names.{has_name}
-use Rattle.nt_types.specs.Seen.{Knows, slices_cmp}
+use Rattle.nt_types.specs.Seen.{KnowsNames, slices_cmp}
 
 -- an empty set holds no name
-pub Knows-empty : (s : BTreeSet (Bor (List ℕ))) → IsEmpty s → Knows s []
+pub Knows-empty : (s : BTreeSet (Bor (List ℕ))) → IsEmpty s → KnowsNames s []
 Knows-empty s e q = rw e refl
 
 cond_or : (b x : Bool) → cond b true x ≡ (b || x)
@@ -16,6 +16,6 @@ cond_or true x = refl
 cond_or false x = refl
 
 -- a set holds what was put in beside what it held
-pub Knows-insert : (s n : BTreeSet (Bor (List ℕ))) (names : List (List ℕ)) (key : Bor (List ℕ)) → Knows s names
-    → Updates slices_cmp s n key true → Knows n (key.now ∷ names)
+pub Knows-insert : (s n : BTreeSet (Bor (List ℕ))) (names : List (List ℕ)) (key : Bor (List ℕ)) → KnowsNames s names
+    → Updates slices_cmp s n key true → KnowsNames n (key.now ∷ names)
 Knows-insert s n names key k u q = u.0 q ∙ rw (is_eq-slice_cmp key.now q.now, k q) (cond_or (bytes_eq key.now q.now) (has_name names q.now))

@@ -6,19 +6,19 @@ use Rattle.std.specs.Str.{bytes_eq}
 use Rattle.std.specs.Prelude.{option_and_then, option_map, nat_le, ◌==◌, ◌&&◌, ◌||◌, not, codes}
 use Rattle.nt_lists.proofs.Bools.{and_true}
 use Rattle.nt_lists.proofs.Variants.{some_is}
-use Rattle.nt_types.specs.Kinds.{Kind, Part, bool, char, byte, int, text, list, fields, tuple, choice, kinds_of, parts_of, kinds_list, parts_list}
+use Rattle.nt_types.specs.ShapeData.{ShapeData, MemberData, bool, char, byte, int, text, list, fields, tuple, choice, kinds_of, parts_of, kinds_list, parts_list}
 use Rattle.nt_types.specs.Words.{is_word_byte, is_name, leaf, number, int_of}
 use Rattle.nt_types.specs.Names.{names_differ}
-use Rattle.nt_types.specs.Reading.{OpenData, in_list, at_name, in_member, in_tuple, in_choice, PlacedData, goes, ends, ReadingData, start, kind_kept, put, within_after, within_inside, part_placed, place_on, place, started, opened, begin, named, settled, delimited, ended_on, read, read_kind}
+use Rattle.nt_types.specs.Reading.{OpenData, in_list, at_name, in_member, in_tuple, in_choice, PlacedData, goes, ends, ReadingData, start, kind_kept, put, within_after, within_inside, part_placed, place_on, place, started, opened, begin, named, ended_here, delimited, ended_on, read, read_kind}
 use Rattle.nt_types.specs.Spelling.{spell, spell_kinds, spell_more_kinds, spell_parts, spell_more_parts, IsType, AreKinds, AreMoreKinds, AreParts, AreMoreParts}
 
 -- the text of what is read
 
-abbrev ended_kinds : List Kind → List ℕ
+abbrev ended_kinds : List ShapeData → List ℕ
 ended_kinds [] = []
 ended_kinds (k ∷ ks) = spell k ++ 44 ∷ ended_kinds ks
 
-abbrev ended_parts : List Part → List ℕ
+abbrev ended_parts : List MemberData → List ℕ
 ended_parts [] = []
 ended_parts (p ∷ ps) = p.name ++ 58 ∷ (spell p.of ++ 44 ∷ ended_parts ps)
 
@@ -33,17 +33,17 @@ abbrev stack_text : List OpenData → List ℕ
 stack_text [] = []
 stack_text (o ∷ os) = stack_text os ++ construct_text o
 
-abbrev done_text : Option Kind → List ℕ
+abbrev done_text : Option ShapeData → List ℕ
 done_text None = []
 done_text (Some k) = spell k
 
 -- the rules, of what is read
 
-abbrev GoodKinds : Bool → List Kind → Type 0
+abbrev GoodKinds : Bool → List ShapeData → Type 0
 GoodKinds within [] = Unit {0}
 GoodKinds within (k ∷ ks) = IsType within k × GoodKinds within ks
 
-abbrev GoodParts : List Part → Type 0
+abbrev GoodParts : List MemberData → Type 0
 GoodParts [] = Unit {0}
 GoodParts (p ∷ ps) = (is_name p.name ≡ true) × IsType false p.of × GoodParts ps
 
@@ -59,70 +59,70 @@ abbrev GoodStack : List OpenData → Bool → Type 0
 GoodStack [] within = within ≡ false
 GoodStack (o ∷ os) within = (out : Bool) × GoodConstruct o out within × GoodStack os out
 
-abbrev GoodDone : Bool → Option Kind → Type 0
+abbrev GoodDone : Bool → Option ShapeData → Type 0
 GoodDone within None = Unit {0}
 GoodDone within (Some k) = IsType within k
 
 -- lists with one more at the end
 
-more_kinds : (ks : List Kind) (k : Kind) → spell_more_kinds (kinds_of (ks ++ k ∷ [])) ≡ 44 ∷ spell_kinds (kinds_of (ks ++ k ∷ []))
+more_kinds : (ks : List ShapeData) (k : ShapeData) → spell_more_kinds (kinds_of (ks ++ k ∷ [])) ≡ 44 ∷ spell_kinds (kinds_of (ks ++ k ∷ []))
 more_kinds [] k = refl
 more_kinds (j ∷ ks) k = refl
 
-kinds_text : (ks : List Kind) (k : Kind) → spell_kinds (kinds_of (ks ++ k ∷ [])) ≡ ended_kinds ks ++ spell k
+kinds_text : (ks : List ShapeData) (k : ShapeData) → spell_kinds (kinds_of (ks ++ k ∷ [])) ≡ ended_kinds ks ++ spell k
 kinds_text [] k = append-nil (spell k)
 kinds_text (j ∷ ks) k = rw (more_kinds ks k, kinds_text ks k) (sym (append_assoc (spell j) (44 ∷ ended_kinds ks) (spell k)))
 
-ended_kinds-snoc : (ks : List Kind) (k : Kind) → ended_kinds (ks ++ k ∷ []) ≡ ended_kinds ks ++ (spell k ++ 44 ∷ [])
+ended_kinds-snoc : (ks : List ShapeData) (k : ShapeData) → ended_kinds (ks ++ k ∷ []) ≡ ended_kinds ks ++ (spell k ++ 44 ∷ [])
 ended_kinds-snoc [] k = refl
 ended_kinds-snoc (j ∷ ks) k = rw (ended_kinds-snoc ks k) (sym (append_assoc (spell j) (44 ∷ ended_kinds ks) (spell k ++ 44 ∷ [])))
 
-more_parts : (ps : List Part) (p : Part) → spell_more_parts (parts_of (ps ++ p ∷ [])) ≡ 44 ∷ spell_parts (parts_of (ps ++ p ∷ []))
+more_parts : (ps : List MemberData) (p : MemberData) → spell_more_parts (parts_of (ps ++ p ∷ [])) ≡ 44 ∷ spell_parts (parts_of (ps ++ p ∷ []))
 more_parts [] p = refl
 more_parts (q ∷ ps) p = refl
 
-parts_text : (ps : List Part) (p : Part) → spell_parts (parts_of (ps ++ p ∷ [])) ≡ ended_parts ps ++ (p.name ++ 58 ∷ spell p.of)
+parts_text : (ps : List MemberData) (p : MemberData) → spell_parts (parts_of (ps ++ p ∷ [])) ≡ ended_parts ps ++ (p.name ++ 58 ∷ spell p.of)
 parts_text [] p = rw (append-nil (spell p.of)) refl
 parts_text (q ∷ ps) p = rw (more_parts ps p, parts_text ps p) (simp append_assoc)
 
-ended_parts-snoc : (ps : List Part) (p : Part) → ended_parts (ps ++ p ∷ []) ≡ ended_parts ps ++ (p.name ++ 58 ∷ (spell p.of ++ 44 ∷ []))
+ended_parts-snoc : (ps : List MemberData) (p : MemberData) → ended_parts (ps ++ p ∷ []) ≡ ended_parts ps ++ (p.name ++ 58 ∷ (spell p.of ++ 44 ∷ []))
 ended_parts-snoc [] p = refl
 ended_parts-snoc (q ∷ ps) p = rw (ended_parts-snoc ps p) (simp append_assoc)
 
-GoodKinds-snoc : (within : Bool) (ks : List Kind) (k : Kind) → GoodKinds within ks → IsType within k → GoodKinds within (ks ++ k ∷ [])
+GoodKinds-snoc : (within : Bool) (ks : List ShapeData) (k : ShapeData) → GoodKinds within ks → IsType within k → GoodKinds within (ks ++ k ∷ [])
 GoodKinds-snoc within [] k g t = (t, tt)
 GoodKinds-snoc within (j ∷ ks) k g t = (g.0, GoodKinds-snoc within ks k g.1 t)
 
-AreMoreKinds-snoc : (within : Bool) (ks : List Kind) (k : Kind) → GoodKinds within ks → IsType within k
+AreMoreKinds-snoc : (within : Bool) (ks : List ShapeData) (k : ShapeData) → GoodKinds within ks → IsType within k
     → AreMoreKinds within (kinds_of (ks ++ k ∷ []))
 AreMoreKinds-snoc within [] k g t = (t, tt)
 AreMoreKinds-snoc within (j ∷ ks) k g t = (g.0, AreMoreKinds-snoc within ks k g.1 t)
 
-AreKinds-snoc : (within : Bool) (ks : List Kind) (k : Kind) → GoodKinds within ks → IsType within k
+AreKinds-snoc : (within : Bool) (ks : List ShapeData) (k : ShapeData) → GoodKinds within ks → IsType within k
     → AreKinds within (kinds_of (ks ++ k ∷ []))
 AreKinds-snoc within [] k g t = (t, tt)
 AreKinds-snoc within (j ∷ ks) k g t = (g.0, AreMoreKinds-snoc within ks k g.1 t)
 
-GoodParts-snoc : (ps : List Part) (p : Part) → GoodParts ps → is_name p.name ≡ true → IsType false p.of → GoodParts (ps ++ p ∷ [])
+GoodParts-snoc : (ps : List MemberData) (p : MemberData) → GoodParts ps → is_name p.name ≡ true → IsType false p.of → GoodParts (ps ++ p ∷ [])
 GoodParts-snoc [] p g n t = (n, t, tt)
 GoodParts-snoc (q ∷ ps) p g n t = (g.0, g.1, GoodParts-snoc ps p g.2 n t)
 
-AreMoreParts-snoc : (ps : List Part) (p : Part) → GoodParts ps → is_name p.name ≡ true → IsType false p.of
+AreMoreParts-snoc : (ps : List MemberData) (p : MemberData) → GoodParts ps → is_name p.name ≡ true → IsType false p.of
     → AreMoreParts (parts_of (ps ++ p ∷ []))
 AreMoreParts-snoc [] p g n t = (n, t, tt)
 AreMoreParts-snoc (q ∷ ps) p g n t = (g.0, g.1, AreMoreParts-snoc ps p g.2 n t)
 
-AreParts-snoc : (ps : List Part) (p : Part) → GoodParts ps → is_name p.name ≡ true → IsType false p.of → AreParts (parts_of (ps ++ p ∷ []))
+AreParts-snoc : (ps : List MemberData) (p : MemberData) → GoodParts ps → is_name p.name ≡ true → IsType false p.of → AreParts (parts_of (ps ++ p ∷ []))
 AreParts-snoc [] p g n t = (n, t, tt)
 AreParts-snoc (q ∷ ps) p g n t = (g.0, g.1, AreMoreParts-snoc ps p g.2 n t)
 
-list_of-kinds : (ks : List Kind) → kinds_list (kinds_of ks) ≡ ks
+list_of-kinds : (ks : List ShapeData) → kinds_list (kinds_of ks) ≡ ks
 list_of-kinds [] = refl
-list_of-kinds (k ∷ ks) = ap (λ (l : List Kind). k ∷ l) (list_of-kinds ks)
+list_of-kinds (k ∷ ks) = ap (λ (l : List ShapeData). k ∷ l) (list_of-kinds ks)
 
-list_of-parts : (ps : List Part) → parts_list (parts_of ps) ≡ ps
+list_of-parts : (ps : List MemberData) → parts_list (parts_of ps) ≡ ps
 list_of-parts [] = refl
-list_of-parts (p ∷ ps) = ap (λ (l : List Part). p ∷ l) (list_of-parts ps)
+list_of-parts (p ∷ ps) = ap (λ (l : List MemberData). p ∷ l) (list_of-parts ps)
 
 -- a part in a construct
 
@@ -135,19 +135,19 @@ GoodPlaced out within (goes o) = GoodConstruct o out within
 GoodPlaced out within (ends k) = IsType out k
 
 -- what a part and the byte after it make of a construct
-abbrev IsPut : Bool → Bool → OpenData → Kind → ℕ → PlacedData → Type 0
+abbrev IsPut : Bool → Bool → OpenData → ShapeData → ℕ → PlacedData → Type 0
 IsPut out within o k b p = (placed_text p ≡ construct_text o ++ (spell k ++ b ∷ [])) × GoodPlaced out within p
 
 byte_is : (b n : ℕ) → (b == n) ≡ true → b ≡ n
 byte_is b n e = grind (arith, nat_tests)
 
-list_put : (out within : Bool) (k : Kind) (b : ℕ) (p : PlacedData) (c : Bool) → (c ≡ true → b ≡ 62) → out ≡ within → IsType within k
+list_put : (out within : Bool) (k : ShapeData) (b : ℕ) (p : PlacedData) (c : Bool) → (c ≡ true → b ≡ 62) → out ≡ within → IsType within k
     → cond c (Some (ends (list k))) None ≡ Some p → IsPut out within in_list k b p
 list_put out within k b p true at same t e =
     subst (IsPut out within in_list k b) (some_is _ _ e) (rw (at refl) refl, subst (λ (v : Bool). IsType v k) (sym same) t)
 list_put out within k b p false at same t e = cc
 
-tuple_put : (out within : Bool) (ks : List Kind) (k : Kind) (b : ℕ) (p : PlacedData) (c d : Bool) → (c ≡ true → b ≡ 44)
+tuple_put : (out within : Bool) (ks : List ShapeData) (k : ShapeData) (b : ℕ) (p : PlacedData) (c d : Bool) → (c ≡ true → b ≡ 44)
     → (d ≡ true → b ≡ 62)
     → out ≡ within → GoodKinds within ks → IsType within k
     → cond c (Some (goes (in_tuple (ks ++ k ∷ [])))) (cond d (Some (ends (tuple (kinds_of (ks ++ k ∷ []))))) None) ≡ Some p
@@ -162,7 +162,7 @@ tuple_put out within ks k b p false true comma angle same g t e =
     )
 tuple_put out within ks k b p false false comma angle same g t e = cc
 
-choice_put : (out within w : Bool) (ks : List Kind) (k : Kind) (b : ℕ) (p : PlacedData) (c d : Bool) → (c ≡ true → b ≡ 44)
+choice_put : (out within w : Bool) (ks : List ShapeData) (k : ShapeData) (b : ℕ) (p : PlacedData) (c d : Bool) → (c ≡ true → b ≡ 44)
     → (d ≡ true → (b ≡ 62) × (length (ks ++ k ∷ []) ≤ 100)) → GoodConstruct (in_choice w ks) out within → IsType within k
     → cond c (Some (goes (in_choice w (ks ++ k ∷ [])))) (cond d (Some (ends (choice (kinds_of (ks ++ k ∷ []))))) None) ≡ Some p
     → IsPut out within (in_choice w ks) k b p
@@ -186,14 +186,14 @@ regroup a n s = append_assoc a (n ++ 58 ∷ s) (125 ∷ [])
 regroup_comma : (a n s : List ℕ) → a ++ (n ++ 58 ∷ s) ≡ (a ++ (n ++ 58 ∷ [])) ++ s
 regroup_comma a n s = ap (λ (l : List ℕ). a ++ l) (sym (append_assoc n (58 ∷ []) s)) ∙ sym (append_assoc a (n ++ 58 ∷ []) s)
 
-fields_put : (out within : Bool) (ps : List Part) (n : List ℕ) (k : Kind) (b : ℕ) (p : PlacedData) (c d : Bool) → (c ≡ true → b ≡ 44)
+fields_put : (out within : Bool) (ps : List MemberData) (n : List ℕ) (k : ShapeData) (b : ℕ) (p : PlacedData) (c d : Bool) → (c ≡ true → b ≡ 44)
     → (d ≡ true → (b ≡ 125) × (names_differ (ps ++ record { name = n; of = k } ∷ []) ≡ true)) → GoodConstruct (in_member ps n) out within
     → IsType within k
     → cond c (Some (goes (at_name (ps ++ record { name = n; of = k } ∷ []))))
     (cond d (Some (ends (fields (parts_of (ps ++ record { name = n; of = k } ∷ []))))) None) ≡ Some p → IsPut out within
     (in_member ps n) k b p
 fields_put out within ps n k b p true d comma brace g t e =
-    let q : Part = record { name = n; of = k } in
+    let q : MemberData = record { name = n; of = k } in
     let inner : IsType false k = subst (λ (v : Bool). IsType v k) g.1 t in
     subst (IsPut out within (in_member ps n) k b) (some_is _ _ e) (
       rw (comma refl, ended_parts-snoc ps q)
@@ -201,7 +201,7 @@ fields_put out within ps n k b p true d comma brace g t e =
       (g.0, g.1, GoodParts-snoc ps q g.2 g.3 inner),
     )
 fields_put out within ps n k b p false true comma brace g t e =
-    let q : Part = record { name = n; of = k } in
+    let q : MemberData = record { name = n; of = k } in
     let inner : IsType false k = subst (λ (v : Bool). IsType v k) g.1 t in
     subst (IsPut out within (in_member ps n) k b) (some_is _ _ e) (
       rw ((brace refl).0, parts_text ps q)
@@ -213,7 +213,7 @@ fields_put out within ps n k b p false false comma brace g t e = cc
 few : (n : ℕ) → nat_le n 100 ≡ true → n ≤ 100
 few n e = grind (arith, nat_tests)
 
-put_sound : (out within : Bool) (o : OpenData) (k : Kind) (b : ℕ) (p : PlacedData) → GoodConstruct o out within → IsType within k
+put_sound : (out within : Bool) (o : OpenData) (k : ShapeData) (b : ℕ) (p : PlacedData) → GoodConstruct o out within → IsType within k
     → put o k b ≡ Some p → IsPut out within o k b p
 put_sound out within in_list k b p g t e = list_put out within k b p (b == 62) (byte_is b 62) g t e
 put_sound out within (at_name ps) k b p g t e = cc
@@ -246,7 +246,7 @@ out_is (in_member ps n) out within g = sym g.0
 out_is (in_tuple ks) out within g = sym g.0
 out_is (in_choice w ks) out within g = sym g.0
 
-placed_reads : (within out : Bool) (o : OpenData) (os : List OpenData) (k : Kind) (b : ℕ) (p : PlacedData) → GoodConstruct o out within
+placed_reads : (within out : Bool) (o : OpenData) (os : List OpenData) (k : ShapeData) (b : ℕ) (p : PlacedData) → GoodConstruct o out within
     → GoodStack os out → IsPut out within o k b p
     → Reads (stack_text (o ∷ os) ++ (spell k ++ b ∷ [])) (part_placed true within o os p)
 placed_reads within out o os k b (goes q) g below is = (rw is.0 (simp append_assoc), ((out, is.1, below), tt))
@@ -255,7 +255,7 @@ placed_reads within out o os k b (ends q) g below is = (
   (subst (GoodStack os) (sym (out_is o out within g)) below, subst (λ (v : Bool). IsType v q) (sym (out_is o out within g)) is.1),
 )
 
-place_reads : (within : Bool) (stack : List OpenData) (k : Kind) (b : ℕ) (t : ReadingData) → GoodStack stack within → IsType within k
+place_reads : (within : Bool) (stack : List OpenData) (k : ShapeData) (b : ℕ) (t : ReadingData) → GoodStack stack within → IsType within k
     → place_on true within stack k b ≡ Some t
     → Reads (stack_text stack ++ (spell k ++ b ∷ [])) t
 place_reads within [] k b t g i e = cc
@@ -273,10 +273,10 @@ place_reads within (o ∷ os) k b t g i e = placed_case (put o k b) refl e
 word_is : (w v : List ℕ) → bytes_eq w v ≡ true → w ≡ v
 word_is w v e = (bytes_eq-Decides w v).0 e
 
-abbrev IsSpelled : List ℕ → Kind → Type 0
+abbrev IsSpelled : List ℕ → ShapeData → Type 0
 IsSpelled w k = (spell k ≡ w) × ((within : Bool) → IsType within k)
 
-width_sound : (w : List ℕ) (signed : Bool) (k : Kind) → int_of w signed ≡ Some k → IsSpelled ((cond signed 105 117) ∷ w) k
+width_sound : (w : List ℕ) (signed : Bool) (k : ShapeData) → int_of w signed ≡ Some k → IsSpelled ((cond signed 105 117) ∷ w) k
 width_sound w signed k e =
     cases (bytes_eq w (codes "8")) (bytes_eq w (codes "16")) (bytes_eq w (codes "32")) (bytes_eq w (codes "64")) (word_is w (codes "8"))
     (word_is w (codes "16")) (word_is w (codes "32")) (word_is w (codes "64")) e
@@ -292,7 +292,7 @@ width_sound w signed k e =
         subst (IsSpelled ((cond signed 105 117) ∷ w)) (some_is _ _ e) (rw (hd refl) refl, λ v. refl)
     cases false false false false ha hb hc hd e = cc
 
-number_sound : (w : List ℕ) (k : Kind) → number w ≡ Some k → IsSpelled w k
+number_sound : (w : List ℕ) (k : ShapeData) → number w ≡ Some k → IsSpelled w k
 number_sound [] k e = cc
 number_sound (b ∷ w) k e = cases (b == 105) (b == 117) (byte_is b 105) (byte_is b 117) e
   where
@@ -302,7 +302,7 @@ number_sound (b ∷ w) k e = cases (b == 105) (b == 117) (byte_is b 105) (byte_i
     cases false true hc hd e = rw (hd refl) (width_sound w false k e)
     cases false false hc hd e = cc
 
-leaf_sound : (w : List ℕ) (k : Kind) → leaf w ≡ Some k → IsSpelled w k
+leaf_sound : (w : List ℕ) (k : ShapeData) → leaf w ≡ Some k → IsSpelled w k
 leaf_sound w k e =
     cases (bytes_eq w (codes "bool")) (bytes_eq w (codes "char")) (bytes_eq w (codes "byte")) (bytes_eq w (codes "string"))
     (word_is w (codes "bool")) (word_is w (codes "char")) (word_is w (codes "byte")) (word_is w (codes "string")) e
@@ -317,15 +317,15 @@ leaf_sound w k e =
     cases false false false false ha hb hc hd e = number_sound w k e
 
 -- a part that ends: the text since the construct round it, and the rules
-settled_sound : (within : Bool) (done : Option Kind) (w : List ℕ) (k : Kind) → GoodDone within done → settled true done w ≡ Some k
+settled_sound : (within : Bool) (done : Option ShapeData) (w : List ℕ) (k : ShapeData) → GoodDone within done → ended_here true done w ≡ Some k
     → (spell k ≡ done_text done ++ w) × IsType within k
 settled_sound within None w k g e = leaf_case (leaf w) refl e
   where
-    leaf_case : (r : Option Kind) → leaf w ≡ r → option_map (kind_kept true) r ≡ Some k → (spell k ≡ w) × IsType within k
+    leaf_case : (r : Option ShapeData) → leaf w ≡ r → option_map (kind_kept true) r ≡ Some k → (spell k ≡ w) × IsType within k
     leaf_case None is e = cc
     leaf_case (Some j) is e = let found = leaf_sound w k (is ∙ e) in (found.0, found.1 within)
 settled_sound within (Some j) [] k g e =
-    subst (λ (v : Kind). (spell v ≡ spell j ++ []) × IsType within v) (some_is _ _ e) (sym (append-nil (spell j)), g)
+    subst (λ (v : ShapeData). (spell v ≡ spell j ++ []) × IsType within v) (some_is _ _ e) (sym (append-nil (spell j)), g)
 settled_sound within (Some j) (b ∷ w) k g e = cc
 
 -- a construct begins
@@ -358,7 +358,7 @@ started_sound within w b o which e =
         subst (IsStarted v w b) (some_is _ _ e) (rw (ha refl, hf refl) refl, (refl, refl, tt))
     cases false r v false false false hb ha hr hc hd hf e = cc
 
-begin_reads : (stack : List OpenData) (within : Bool) (done : Option Kind) (w : List ℕ) (b : ℕ) (t : ReadingData)
+begin_reads : (stack : List OpenData) (within : Bool) (done : Option ShapeData) (w : List ℕ) (b : ℕ) (t : ReadingData)
     → ((b == 60) || (b == 123)) ≡ true
     → GoodStack stack within → begin (record { stack = stack; within = within; done = done }) w b ≡ Some t
     → Reads ((stack_text stack ++ done_text done) ++ (w ++ b ∷ [])) t
@@ -380,7 +380,7 @@ begin_reads stack within None w b t which g e = cases (started within w b) refl 
 behind : (a q u : List ℕ) → (a ++ (q ++ u)) ++ [] ≡ ((a ++ q) ++ []) ++ u
 behind a q u = rw (append-nil (a ++ (q ++ u)), append-nil (a ++ q)) (sym (append_assoc a q u))
 
-named_reads : (stack : List OpenData) (within : Bool) (done : Option Kind) (w : List ℕ) (t : ReadingData)
+named_reads : (stack : List OpenData) (within : Bool) (done : Option ShapeData) (w : List ℕ) (t : ReadingData)
     → GoodStack stack within → named (record { stack = stack; within = within; done = done }) w ≡ Some t
     → Reads ((stack_text stack ++ done_text done) ++ (w ++ 58 ∷ [])) t
 named_reads stack within (Some k) w t g e = cc
@@ -403,7 +403,7 @@ delimited_reads : (s : ReadingData) (w : List ℕ) (b : ℕ) (t : ReadingData) �
     → Reads (state_text s ++ (w ++ b ∷ [])) t
 delimited_reads s w b t g e = cases ((b == 60) || (b == 123)) (b == 58) refl (byte_is b 58) e
   where
-    part_case : (r : Option Kind) → settled true s.done w ≡ r → option_and_then (λ k. place_on true s.within s.stack k b) r ≡ Some t
+    part_case : (r : Option ShapeData) → ended_here true s.done w ≡ r → option_and_then (λ k. place_on true s.within s.stack k b) r ≡ Some t
         → Reads (state_text s ++ (w ++ b ∷ [])) t
     part_case None is e = cc
     part_case (Some k) is e =
@@ -415,22 +415,22 @@ delimited_reads s w b t g e = cases ((b == 60) || (b == 123)) (b == 58) refl (by
         subst (λ (l : List ℕ). Reads l t) same (place_reads s.within s.stack k b t g.0 found.1 e)
 
     cases : (c d : Bool) → ((b == 60) || (b == 123)) ≡ c → (d ≡ true → b ≡ 58)
-        → cond c (begin s w b) (cond d (named s w) (option_and_then (λ k. place true s k b) (settled true s.done w))) ≡ Some t
+        → cond c (begin s w b) (cond d (named s w) (option_and_then (λ k. place true s k b) (ended_here true s.done w))) ≡ Some t
         → Reads (state_text s ++ (w ++ b ∷ [])) t
     cases true d is colon e = begin_reads s.stack s.within s.done w b t is g.0 e
     cases false true is colon e = rw (colon refl) (named_reads s.stack s.within s.done w t g.0 e)
-    cases false false is colon e = part_case (settled true s.done w) refl e
+    cases false false is colon e = part_case (ended_here true s.done w) refl e
 
 -- a text that is read whole
-abbrev IsRead : List ℕ → Kind → Type 0
+abbrev IsRead : List ℕ → ShapeData → Type 0
 IsRead bytes k = (spell k ≡ bytes) × IsType false k
 
-ended_read : (stack : List OpenData) (within : Bool) (done : Option Kind) (w : List ℕ) (k : Kind) → GoodStack stack within
+ended_read : (stack : List OpenData) (within : Bool) (done : Option ShapeData) (w : List ℕ) (k : ShapeData) → GoodStack stack within
     → GoodDone within done
-    → option_and_then (ended_on stack) (settled true done w) ≡ Some k → IsRead ((stack_text stack ++ done_text done) ++ w) k
-ended_read stack within done w k g d e = cases stack (settled true done w) g refl e
+    → option_and_then (ended_on stack) (ended_here true done w) ≡ Some k → IsRead ((stack_text stack ++ done_text done) ++ w) k
+ended_read stack within done w k g d e = cases stack (ended_here true done w) g refl e
   where
-    cases : (os : List OpenData) (r : Option Kind) → GoodStack os within → settled true done w ≡ r
+    cases : (os : List OpenData) (r : Option ShapeData) → GoodStack os within → ended_here true done w ≡ r
         → option_and_then (ended_on os) r ≡ Some k → IsRead ((stack_text os ++ done_text done) ++ w) k
     cases os None g is e = cc
     cases [] (Some j) g is e =
@@ -438,7 +438,7 @@ ended_read stack within done w k g d e = cases stack (settled true done w) g ref
         (found.0, subst (λ (v : Bool). IsType v k) g found.1)
     cases (o ∷ os) (Some j) g is e = cc
 
-read_sound : (s : ReadingData) (w bs : List ℕ) (k : Kind) → IsGood s → read true s w bs ≡ Some k → IsRead (state_text s ++ (w ++ bs)) k
+read_sound : (s : ReadingData) (w bs : List ℕ) (k : ShapeData) → IsGood s → read true s w bs ≡ Some k → IsRead (state_text s ++ (w ++ bs)) k
 read_sound s w [] k g e =
     subst (λ (l : List ℕ). IsRead (state_text s ++ l) k) (sym (append-nil w)) (ended_read s.stack s.within s.done w k g.0 g.1 e)
 read_sound s w (b ∷ bs) k g e =
@@ -461,5 +461,5 @@ read_sound s w (b ∷ bs) k g e =
     byte_case false (Some t) is word delimiter e = let r = delimited_reads s w b t g is in after t r (delimiter t r.1 e)
 
 -- what is read is spelled so, and is a type
-pub read_kind-sound : (bytes : List ℕ) (k : Kind) → read_kind bytes ≡ Some k → (spell k ≡ bytes) × IsType false k
+pub read_kind-sound : (bytes : List ℕ) (k : ShapeData) → read_kind bytes ≡ Some k → (spell k ≡ bytes) × IsType false k
 read_kind-sound bytes k e = read_sound start [] bytes k (refl, tt) e

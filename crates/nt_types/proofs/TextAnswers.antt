@@ -3,7 +3,7 @@ use Rattle.std.proofs.Common.{ℕ, List, ◌≡◌, refl, subst, Result, Ok, Err
 use Rattle.std.specs.Prelude.{IfOk}
 use Rattle.nt_lists.specs.Answering.{Answers}
 use Rattle.nt_lists.proofs.Variants.{err_is}
-use Rattle.nt_types.specs.Kinds.{Part}
+use Rattle.nt_types.specs.ShapeData.{MemberData}
 use Rattle.nt_types.specs.Views.{member_view, members_view}
 use Rattle.nt_types.specs.FaultViews.{schema_fault}
 use Rattle.nt_types.specs.Lines.{member_of}
@@ -27,10 +27,10 @@ use Rattle.nt_types.proofs.TextFaults.{schema_text-told, schema_text-is, schema_
 member_text-fault : (line : List ℕ) (f : SchemaFault) → member_text line ≡ Err f → (f.line ≡ 0) × HasFault line f.kind
 member_text-fault line f e = cases (member_of line) refl e
   where
-    cases : (r : Result Part SchemaKind) → member_of line ≡ r → at_result 0 r ≡ Err f → (f.line ≡ 0) × HasFault line f.kind
+    cases : (r : Result MemberData SchemaKind) → member_of line ≡ r → at_result 0 r ≡ Err f → (f.line ≡ 0) × HasFault line f.kind
     cases (Ok p) is e = cc
     cases (Err k) is e =
-        let same : at_line 0 k ≡ f = err_is {A = Part} (at_line 0 k) f e in
+        let same : at_line 0 k ≡ f = err_is {A = MemberData} (at_line 0 k) f e in
         subst (λ (g : SchemaFault). (g.line ≡ 0) × HasFault line g.kind) same (refl, member_of-fault line k is)
 
 pub line-told : (r : Result Member SchemaError) (line : List ℕ) → Answers member_view schema_fault r (member_text line) → TellsLine line r
@@ -38,7 +38,7 @@ line-told (Ok m) line g = member_text-sound line (member_view m) g
 line-told (Err (Fault f)) line g = member_text-fault line f g
 line-told (Err Memory) line g = tt
 
-pub line-only : (r : Result Member SchemaError) (line : List ℕ) (p : Part) → IsMember line p
+pub line-only : (r : Result Member SchemaError) (line : List ℕ) (p : MemberData) → IsMember line p
     → Answers member_view schema_fault r (member_text line)
     → Answers member_view schema_fault r (Ok p)
 line-only r line p m g = subst (Answers member_view schema_fault r) (member_text-is line p m) g
@@ -56,7 +56,7 @@ text-told (Ok m) text g = schema_text-told text (members_view m) g
 text-told (Err (Fault f)) text g = schema_text-fault text f g
 text-told (Err Memory) text g = tt
 
-pub text-only : (r : Result Members SchemaError) (text : List ℕ) (fields : List Part) → IsSchema text fields
+pub text-only : (r : Result Members SchemaError) (text : List ℕ) (fields : List MemberData) → IsSchema text fields
     → Answers members_view schema_fault r (schema_text text)
     → Answers members_view schema_fault r (Ok fields)
 text-only r text fields s g = subst (Answers members_view schema_fault r) (schema_text-is text fields s) g

@@ -4,7 +4,7 @@ use Rattle.std.proofs.lemmas.Bool.Decides.{nat_tests}
 use Rattle.std.specs.Prelude.{◌⊎◌}
 use Rattle.nt_lists.specs.Chaining.{◌>>=◌}
 use Rattle.nt_lists.proofs.Variants.{err_is, chosen_not}
-use Rattle.nt_types.specs.Kinds.{Part}
+use Rattle.nt_types.specs.ShapeData.{MemberData}
 use Rattle.nt_types.specs.Rules.{AreFields}
 use Rattle.nt_types.specs.Schema.{field_of, take_line, take_lines, all_fields, at_line, first_line, schema_text}
 use Rattle.nt_types.specs.TextSpelling.{lines_of, full_lines, SpellEach, IsSchema, HasFieldFault, IsFirstFault, IsRefused}
@@ -23,15 +23,15 @@ too_long : (text : List ℕ) (b : Bool) → nat_lt (2 ^ 20) (length text) ≡ b
 too_long text b e = rw e refl
 
 -- the rules of the fields before a fault, of which there may be none
-some_or_none : (ps : List Part) → KeepRules ps → (ps ≡ []) ⊎ AreFields ps
+some_or_none : (ps : List MemberData) → KeepRules ps → (ps ≡ []) ⊎ AreFields ps
 some_or_none [] k = inl refl
 some_or_none (p ∷ ps) k = inr (AreFields-some (p ∷ ps) (omega arith) k)
 
-rules_before : (ps : List Part) → (ps ≡ []) ⊎ AreFields ps → KeepRules ps
+rules_before : (ps : List MemberData) → (ps ≡ []) ⊎ AreFields ps → KeepRules ps
 rules_before ps (inl e) = subst KeepRules (sym e) Keeps-first.fields
 rules_before ps (inr f) = AreFields-rules ps f
 
-pub schema_text-told : (text : List ℕ) (fields : List Part) → schema_text text ≡ Ok fields → IsSchema text fields
+pub schema_text-told : (text : List ℕ) (fields : List MemberData) → schema_text text ≡ Ok fields → IsSchema text fields
 schema_text-told text fields h =
     let q : (nat_lt (2 ^ 20) (length text) ≡ false) × (take_lines first_line (lines_of text) ≡ Ok fields) =
     chosen_not (nat_lt (2 ^ 20) (length text)) (take_lines first_line (lines_of text)) fields (at_line 0 TooLong) h in
@@ -43,7 +43,7 @@ schema_text-told text fields h =
       rules = AreFields-some fields t.some t.rules;
     }
 
-pub schema_text-is : (text : List ℕ) (fields : List Part) → IsSchema text fields → schema_text text ≡ Ok fields
+pub schema_text-is : (text : List ℕ) (fields : List MemberData) → IsSchema text fields → schema_text text ≡ Ok fields
 schema_text-is text fields s =
     let short : length text ≤ 2 ^ 20 = s.short in
     let below : nat_lt (2 ^ 20) (length text) ≡ false = grind (arith, nat_tests) in
@@ -51,7 +51,7 @@ schema_text-is text fields s =
     too_long text false below
     ∙ (ap (take_lines first_line) (sym (append-nil (lines_of text))) ∙ (a.read ∙ (ap all_fields a.parts ∙ all fields s.rules.some)))
   where
-    all : (ps : List Part) → 0 < length ps → all_fields ps ≡ Ok ps
+    all : (ps : List MemberData) → 0 < length ps → all_fields ps ≡ Ok ps
     all [] some = absurd (omega arith)
     all (p ∷ ps) some = refl
 
@@ -91,13 +91,13 @@ schema_text-fault text f h = by_length (nat_lt (2 ^ 20) (length text)) refl
 
     by_length : (b : Bool) → nat_lt (2 ^ 20) (length text) ≡ b → Refused text f
     by_length true at =
-        subst (Refused text) (err_is {A = List Part} (at_line 0 TooLong) f (sym (too_long text true at) ∙ h))
+        subst (Refused text) (err_is {A = List MemberData} (at_line 0 TooLong) f (sym (too_long text true at) ∙ h))
         (refl, grind (arith, nat_tests))
     by_length false at =
         by_trace (grind (arith, nat_tests))
         (subst (Traces first_line (lines_of text)) (sym (too_long text false at) ∙ h) (trace (lines_of text) first_line Keeps-first))
 
-abbrev faulty : ℕ → SchemaKind → Result (List Part) SchemaFault
+abbrev faulty : ℕ → SchemaKind → Result (List MemberData) SchemaFault
 faulty n k = Err (at_line n k)
 
 first_fault-is : (text : List ℕ) (n : ℕ) (k : SchemaKind) → length text ≤ 2 ^ 20 → IsFirstFault (lines_of text) n k
@@ -105,7 +105,7 @@ first_fault-is : (text : List ℕ) (n : ℕ) (k : SchemaKind) → length text �
 first_fault-is text n k short f =
     let below : nat_lt (2 ^ 20) (length text) ≡ false = grind (arith, nat_tests) in
     let a = advance f.before (f.line ∷ f.after) first_line f.fields Keeps-first f.spelled (rules_before f.fields f.rules) in
-    let fault : HasFieldFault a.after.parts f.line k = subst (λ (z : List Part). HasFieldFault z f.line k) (sym a.parts) f.fault in
+    let fault : HasFieldFault a.after.parts f.line k = subst (λ (z : List MemberData). HasFieldFault z f.line k) (sym a.parts) f.fault in
     let is : field_of a.after.seen a.after.count f.line ≡ Err k =
     field_of-refused a.after.parts a.after.seen a.after.count f.line (λ m. Keeps-names a.after m a.keeps) a.keeps.count k fault in
     let stops : take_line a.after f.line ≡ Err (at_line a.after.line k) = field-stops a.after f.line k f.full is in

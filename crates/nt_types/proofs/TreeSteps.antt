@@ -6,7 +6,7 @@ use Rattle.std.proofs.lemmas.Bool.{lt-ltb, le-ltb, le-leb, ne_eqb, cases_lt}
 use Rattle.std.proofs.lemmas.Nat.{pow_pos, le-div}
 use Rattle.std.proofs.Math.Pow.{pow_mono}
 use Rattle.std.proofs.Math.Nat.{div-eq_of_lt}
-use Rattle.nt_types.specs.Kinds.{Kind, Part, kinds_of, parts_of}
+use Rattle.nt_types.specs.ShapeData.{ShapeData, MemberData, kinds_of, parts_of}
 use Rattle.nt_types.specs.Views.{shape_view, member_view}
 use Rattle.nt_types.specs.TreeViews.{tree_view}
 use Rattle.nt_types.specs.declared.shape.Member.{Member}
@@ -22,31 +22,31 @@ and_false : (b : Bool) → false ≡ (b && false)
 and_false true = refl
 and_false false = refl
 
-pub kinds_unequal : (ks : List Kind) (ts : List TreeData) → length ks ≢ length ts → false ≡ fit_kinds (kinds_of ks) (trees_of ts)
+pub kinds_unequal : (ks : List ShapeData) (ts : List TreeData) → length ks ≢ length ts → false ≡ fit_kinds (kinds_of ks) (trees_of ts)
 kinds_unequal [] [] n = absurd (n refl)
 kinds_unequal [] (t ∷ ts) n = refl
 kinds_unequal (k ∷ ks) [] n = refl
 kinds_unequal (k ∷ ks) (t ∷ ts) n = rw (← kinds_unequal ks ts (λ e. n (ap suc e))) (and_false (fits k t))
 
-pub parts_unequal : (ps : List Part) (ts : List TreeData) → length ps ≢ length ts → false ≡ fit_parts (parts_of ps) (trees_of ts)
+pub parts_unequal : (ps : List MemberData) (ts : List TreeData) → length ps ≢ length ts → false ≡ fit_parts (parts_of ps) (trees_of ts)
 parts_unequal [] [] n = absurd (n refl)
 parts_unequal [] (t ∷ ts) n = refl
 parts_unequal (p ∷ ps) [] n = refl
 parts_unequal (p ∷ ps) (t ∷ ts) n = rw (← parts_unequal ps ts (λ e. n (ap suc e))) (and_false (fits p.of t))
 
-pub one-zero : (ks : List Kind) (t : TreeData) → false ≡ fits_one (kinds_of ks) 0 t
+pub one-zero : (ks : List ShapeData) (t : TreeData) → false ≡ fits_one (kinds_of ks) 0 t
 one-zero [] t = refl
 one-zero (k ∷ ks) t = refl
 
-pub one-beyond : (ks : List Kind) (tag : ℕ) (t : TreeData) → length ks < tag → false ≡ fits_one (kinds_of ks) tag t
+pub one-beyond : (ks : List ShapeData) (tag : ℕ) (t : TreeData) → length ks < tag → false ≡ fits_one (kinds_of ks) tag t
 one-beyond [] tag t h = refl
 one-beyond (k ∷ ks) zero t h = refl
 one-beyond (k ∷ ks) (suc zero) t h = absurd (omega (arith, h))
 one-beyond (k ∷ ks) (suc (suc n)) t h = one-beyond ks (suc n) t (omega (arith, h))
 
-pub one-nth : (ks : List Kind) (i : ℕ) (k : Kind) (t : TreeData) → i < length ks → k ≡ get_or ks i k → fits_one (kinds_of ks) (suc i) t ≡ fits k t
+pub one-nth : (ks : List ShapeData) (i : ℕ) (k : ShapeData) (t : TreeData) → i < length ks → k ≡ get_or ks i k → fits_one (kinds_of ks) (suc i) t ≡ fits k t
 one-nth [] i k t lt is = absurd (omega arith)
-one-nth (j ∷ ks) zero k t lt is = ap (λ (u : Kind). fits u t) (sym is)
+one-nth (j ∷ ks) zero k t lt is = ap (λ (u : ShapeData). fits u t) (sym is)
 one-nth (j ∷ ks) (suc i) k t lt is = one-nth ks i k t (omega arith) is
 
 pub short : (n bits : ℕ) → n < 2 ^ 128 → 128 ≤ bits → nat_lt n (2 ^ bits) ≡ true
@@ -72,4 +72,4 @@ pub member_step : (ms : List Member) (ts : List Tree) (i : ℕ) (m : Member) (t 
 member_step ms ts i m t b mlt tlt mis tis same =
     ap (λ (l : List Member). rest_fits l (drop i ts)) (drop_more ms i m mlt ∙ ap (λ (x : Member). x ∷ drop (i + 1) ms) (sym mis))
     ∙ ap (λ (l : List Tree). rest_fits (m ∷ drop (i + 1) ms) l) (drop_more ts i t tlt ∙ ap (λ (x : Tree). x ∷ drop (i + 1) ts) (sym tis))
-    ∙ ap (λ (c : Bool). c && rest_fits (drop (i + 1) ms) (drop (i + 1) ts)) (ap (λ (k : Kind). fits k (tree_view t)) (member_view-of m) ∙ sym same)
+    ∙ ap (λ (c : Bool). c && rest_fits (drop (i + 1) ms) (drop (i + 1) ts)) (ap (λ (k : ShapeData). fits k (tree_view t)) (member_view-of m) ∙ sym same)

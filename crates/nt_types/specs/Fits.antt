@@ -1,7 +1,7 @@
 -- Which trees have a shape.
 use Rattle.std.specs.Prelude.{ℕ, zero, suc, ◌^◌, ◌-◌, ◌&&◌, nat_lt, ℤ, pos, negsuc, Bool, true, false}
-use Rattle.nt_types.specs.Kinds.{Kind, Kinds, Parts, no_kinds, kind, no_parts, part}
-use Rattle.nt_types.specs.Kinds as kinds
+use Rattle.nt_types.specs.ShapeData.{ShapeData, ShapesData, MembersData, no_kinds, kind, no_parts, part}
+use Rattle.nt_types.specs.ShapeData as kinds
 use Rattle.nt_types.specs.TreeData.{TreeData, TreesData, flag, num, text, items, parts, pick, nothing, no_trees, tree}
 
 -- whether an integer is in the range of a width
@@ -59,7 +59,7 @@ are_no_trees (tree t ts) = false
 
 -- whether a tree has a shape; of several kinds, one tree for each; of alternatives, the one of the tag, from 1
 abbrev mutual
-  pub fits : Kind → TreeData → Bool
+  pub fits : ShapeData → TreeData → Bool
   fits kinds.bool t = fits_flag t
   fits kinds.char t = fits_number (is_int 8 false) t
   fits kinds.byte t = fits_number (is_int 8 false) t
@@ -70,15 +70,15 @@ abbrev mutual
   fits (kinds.tuple ks) t = fits_parts (fit_kinds ks) t
   fits (kinds.choice ks) t = fits_pick (fits_one ks) t
 
-  pub fit_parts : Parts → TreesData → Bool
+  pub fit_parts : MembersData → TreesData → Bool
   fit_parts no_parts ts = are_no_trees ts
   fit_parts (part n k ps) ts = fits_next (fits k) (fit_parts ps) ts
 
-  pub fit_kinds : Kinds → TreesData → Bool
+  pub fit_kinds : ShapesData → TreesData → Bool
   fit_kinds no_kinds ts = are_no_trees ts
   fit_kinds (kind k ks) ts = fits_next (fits k) (fit_kinds ks) ts
 
-  pub fits_one : Kinds → ℕ → TreeData → Bool
+  pub fits_one : ShapesData → ℕ → TreeData → Bool
   fits_one no_kinds tag t = false
   fits_one (kind k ks) zero t = false
   fits_one (kind k ks) (suc zero) t = fits k t

@@ -1,6 +1,6 @@
 pub mod ColumnTable
 pub mod Limits
-pub mod Kinds
+pub mod ShapeData
 pub mod Views
 pub mod Words
 pub mod Names

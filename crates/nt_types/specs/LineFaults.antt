@@ -11,5 +11,5 @@ at (lines.Kind k) n = errors.Fault (record { line = n; kind = k })
 at lines.Memory n = errors.Memory
 
 -- an error is that of this line
-abbrev pub IsAt : SchemaError → LineError → ℕ → Type 0
-IsAt error inner n = error ≡ at inner n
+abbrev pub IsOnLine : SchemaError → LineError → ℕ → Type 0
+IsOnLine error inner n = error ≡ at inner n

@@ -1,7 +1,7 @@
 -- One line of a schema text: a name, blanks, a type, and spaces behind it.
 use Rattle.std.specs.Prelude.{ℕ, Bool, false, List, [], ◌∷◌, ◌-◌, ◌+◌, length, take, drop, max, reverse, Option, Some, None, Result, Ok, Err, nat_le, ◌==◌, ◌&&◌, ◌||◌, if◌then◌else◌}
 use Rattle.std.specs.List.{prefix_len, list_all}
-use Rattle.nt_types.specs.Kinds.{Kind, Part}
+use Rattle.nt_types.specs.ShapeData.{ShapeData, MemberData}
 use Rattle.nt_types.specs.Words.{is_word_byte, is_blank, is_space, is_name}
 use Rattle.nt_types.specs.Reading.{read_kind}
 use Rattle.nt_types.specs.Limits.{max_depth}
@@ -17,12 +17,12 @@ most_open now most (b ∷ bs) = if (b == 60) || (b == 123) then most_open (now +
     else most_open now most bs
 
 -- a kind that is at most 32 deep, or what is wrong
-abbrev pub within_depth : Option Kind → Result Kind SchemaKind
+abbrev pub within_depth : Option ShapeData → Result ShapeData SchemaKind
 within_depth None = Err BadType
 within_depth (Some k) = if nat_le (depth k) max_depth then Ok k else Err TooDeep
 
 -- the kind that a text spells, at most 32 deep
-abbrev pub type_of : List ℕ → Result Kind SchemaKind
+abbrev pub type_of : List ℕ → Result ShapeData SchemaKind
 type_of text = within_depth (read_kind text)
 
 -- nothing but spaces, tabs and a CR
@@ -51,15 +51,15 @@ abbrev pub split_line : List ℕ → Option (List ℕ × List ℕ)
 split_line line = let n = prefix_len is_word_byte line in split_at (take n line) (drop n line)
 
 -- a kind under a name, or what is wrong
-abbrev pub under_name : List ℕ → Result Kind SchemaKind → Result Part SchemaKind
+abbrev pub under_name : List ℕ → Result ShapeData SchemaKind → Result MemberData SchemaKind
 under_name name (Ok k) = Ok (record { name = name; of = k })
 under_name name (Err e) = Err e
 
 -- the member of a name and the text of its type
-abbrev pub member_at : Option (List ℕ × List ℕ) → Result Part SchemaKind
+abbrev pub member_at : Option (List ℕ × List ℕ) → Result MemberData SchemaKind
 member_at None = Err BadName
 member_at (Some x) = under_name x.0 (type_of x.1)
 
 -- the member that a line spells
-abbrev pub member_of : List ℕ → Result Part SchemaKind
+abbrev pub member_of : List ℕ → Result MemberData SchemaKind
 member_of line = member_at (split_line line)

@@ -1,7 +1,7 @@
 -- What is read of a schema text, as its definition has it.
 use Rattle.std.specs.Prelude.{ℕ, ◌≡◌, map, Result, Ok, Err}
 use Rattle.nt_types.specs.Views.{member_view}
-use Rattle.nt_types.specs.Seen.{Knows}
+use Rattle.nt_types.specs.Seen.{KnowsNames}
 use Rattle.nt_types.specs.Schema as schema
 use Rattle.nt_types.specs.Schema.{at_line}
 use Rattle.nt_types.specs.declared.fault.SchemaFault.{SchemaFault}
@@ -11,7 +11,7 @@ use Rattle.nt_types.specs.declared.progress.Progress.{Progress}
 
 -- the names, the count and the members are these
 pub record Follows (p : Progress) (s : schema.ProgressData) : Type 0 where
-  pub seen : Knows p.seen s.seen
+  pub seen : KnowsNames p.seen s.seen
   pub count : p.count ≡ s.count
   pub parts : map member_view p.members.items ≡ s.parts
 

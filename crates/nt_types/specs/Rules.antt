@@ -1,13 +1,13 @@
 -- The rules of the fields of an event.
 use Rattle.std.specs.Prelude.{true, ◌≡◌, ◌<◌, ◌≤◌, List, length}
-use Rattle.nt_types.specs.Kinds.{Part, parts_of}
+use Rattle.nt_types.specs.ShapeData.{MemberData, parts_of}
 use Rattle.nt_types.specs.Names.{names_differ}
 use Rattle.nt_types.specs.Limits.{max_depth, max_fields}
 use Rattle.nt_types.specs.Spelling.{AreMoreParts, deepest_part}
 use Rattle.nt_types.specs.Schema.{parts_count}
 
 -- there is a field, no name stands twice, names and types keep their rules at every depth, no type nests too deep, and there are not too many
-pub record AreFields (ps : List Part) : Type 0 where
+pub record AreFields (ps : List MemberData) : Type 0 where
   pub some : 0 < length ps
   pub differ : names_differ ps ≡ true
   pub rules : AreMoreParts (parts_of ps)

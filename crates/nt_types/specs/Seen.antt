@@ -12,5 +12,5 @@ abbrev pub slices_cmp : Bor (List ℕ) → Bor (List ℕ) → Ordering
 slices_cmp a b = slice_cmp nat_cmp a.now b.now
 
 -- the set holds these names
-abbrev pub Knows : BTreeSet (Bor (List ℕ)) → List (List ℕ) → Type 0
-Knows set names = (q : Bor (List ℕ)) → contains slices_cmp set q ≡ has_name names q.now
+abbrev pub KnowsNames : BTreeSet (Bor (List ℕ)) → List (List ℕ) → Type 0
+KnowsNames set names = (q : Bor (List ℕ)) → contains slices_cmp set q ≡ has_name names q.now

@@ -1,6 +1,6 @@
 -- How types are spelled.
 use Rattle.std.specs.Prelude.{ℕ, Bool, true, false, ◌≡◌, ◌≤◌, ◌+◌, List, [], ◌∷◌, ◌++◌, length, max, ◌==◌, ◌||◌, codes, if◌then◌else◌}
-use Rattle.nt_types.specs.Kinds.{Kind, Kinds, Parts, bool, char, byte, int, text, list, fields, tuple, choice, no_kinds, kind, no_parts, part, kinds_list, parts_list}
+use Rattle.nt_types.specs.ShapeData.{ShapeData, ShapesData, MembersData, bool, char, byte, int, text, list, fields, tuple, choice, no_kinds, kind, no_parts, part, kinds_list, parts_list}
 use Rattle.nt_types.specs.Words.{is_name}
 use Rattle.nt_types.specs.Names.{names_differ}
 use Rattle.nt_types.specs.Limits.{max_alternatives}
@@ -11,7 +11,7 @@ digits bits = if bits == 8 then codes "8" else if bits == 16 then codes "16" els
 
 -- the text of a type; parts have a comma between them, and a member its name and a colon before it
 abbrev mutual
-  pub spell : Kind → List ℕ
+  pub spell : ShapeData → List ℕ
   spell bool = codes "bool"
   spell char = codes "char"
   spell byte = codes "byte"
@@ -22,19 +22,19 @@ abbrev mutual
   spell (tuple ks) = codes "tuple<" ++ (spell_kinds ks ++ codes ">")
   spell (choice ks) = codes "var<" ++ (spell_kinds ks ++ codes ">")
 
-  pub spell_kinds : Kinds → List ℕ
+  pub spell_kinds : ShapesData → List ℕ
   spell_kinds no_kinds = []
   spell_kinds (kind k ks) = spell k ++ spell_more_kinds ks
 
-  pub spell_more_kinds : Kinds → List ℕ
+  pub spell_more_kinds : ShapesData → List ℕ
   spell_more_kinds no_kinds = []
   spell_more_kinds (kind k ks) = 44 ∷ (spell k ++ spell_more_kinds ks)
 
-  pub spell_parts : Parts → List ℕ
+  pub spell_parts : MembersData → List ℕ
   spell_parts no_parts = []
   spell_parts (part n k ps) = n ++ 58 ∷ (spell k ++ spell_more_parts ps)
 
-  pub spell_more_parts : Parts → List ℕ
+  pub spell_more_parts : MembersData → List ℕ
   spell_more_parts no_parts = []
   spell_more_parts (part n k ps) = 44 ∷ (n ++ 58 ∷ (spell k ++ spell_more_parts ps))
 
@@ -45,7 +45,7 @@ is_width bits = (bits == 8) || (bits == 16) || (bits == 32) || (bits == 64)
 -- The rules of types, of those that lie in a choice and of others: integers have one of four widths, what has parts
 -- has one at least, the names of a record differ, a choice has at most 100 alternatives, and no record lies in it.
 abbrev mutual
-  pub IsType : Bool → Kind → Type 0
+  pub IsType : Bool → ShapeData → Type 0
   IsType within bool = Unit {0}
   IsType within char = Unit {0}
   IsType within byte = Unit {0}
@@ -57,26 +57,26 @@ abbrev mutual
   IsType within (choice ks) = (length (kinds_list ks) ≤ max_alternatives) × AreKinds true ks
 
   -- one kind at least
-  pub AreKinds : Bool → Kinds → Type 0
+  pub AreKinds : Bool → ShapesData → Type 0
   AreKinds within no_kinds = ⊥
   AreKinds within (kind k ks) = IsType within k × AreMoreKinds within ks
 
-  pub AreMoreKinds : Bool → Kinds → Type 0
+  pub AreMoreKinds : Bool → ShapesData → Type 0
   AreMoreKinds within no_kinds = Unit {0}
   AreMoreKinds within (kind k ks) = IsType within k × AreMoreKinds within ks
 
   -- one member at least
-  pub AreParts : Parts → Type 0
+  pub AreParts : MembersData → Type 0
   AreParts no_parts = ⊥
   AreParts (part n k ps) = (is_name n ≡ true) × IsType false k × AreMoreParts ps
 
-  pub AreMoreParts : Parts → Type 0
+  pub AreMoreParts : MembersData → Type 0
   AreMoreParts no_parts = Unit {0}
   AreMoreParts (part n k ps) = (is_name n ≡ true) × IsType false k × AreMoreParts ps
 
 -- how deep a kind nests: a leaf has depth 1, and what has parts one more than the deepest of them
 abbrev mutual
-  pub depth : Kind → ℕ
+  pub depth : ShapeData → ℕ
   depth bool = 1
   depth char = 1
   depth byte = 1
@@ -87,10 +87,10 @@ abbrev mutual
   depth (tuple ks) = deepest_kind ks + 1
   depth (choice ks) = deepest_kind ks + 1
 
-  pub deepest_kind : Kinds → ℕ
+  pub deepest_kind : ShapesData → ℕ
   deepest_kind no_kinds = 0
   deepest_kind (kind k ks) = max (depth k) (deepest_kind ks)
 
-  pub deepest_part : Parts → ℕ
+  pub deepest_part : MembersData → ℕ
   deepest_part no_parts = 0
   deepest_part (part n k ps) = max (depth k) (deepest_part ps)

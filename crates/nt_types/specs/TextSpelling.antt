@@ -1,11 +1,11 @@
 -- How a schema text spells fields, and what is wrong with a text that spells none: its first fault.
 use Rattle.std.specs.Prelude.{ℕ, true, false, not, ◌≡◌, ◌<◌, ◌≤◌, ◌+◌, ◌==◌, ◌⊎◌, List, [], ◌∷◌, ◌++◌, length, map}
 use Rattle.std.specs.List.{slice_split, filter}
-use Rattle.nt_types.specs.Kinds.{Part, parts_of}
+use Rattle.nt_types.specs.ShapeData.{MemberData, parts_of}
 use Rattle.nt_types.specs.Names.{has_name}
 use Rattle.nt_types.specs.Limits.{max_text, max_fields}
 use Rattle.nt_types.specs.Lines.{is_blank_line}
-use Rattle.nt_types.specs.LineSpelling.{SpellsMember, IsMember, BeginsWith, HasFault}
+use Rattle.nt_types.specs.LineSpelling.{SpellsMember, IsMember, BeginsWithName, HasFault}
 use Rattle.nt_types.specs.Schema.{field_count, parts_count}
 use Rattle.nt_types.specs.Rules.{AreFields}
 use Rattle.nt_types.specs.declared.fault.SchemaFault.{SchemaFault}
@@ -21,34 +21,34 @@ abbrev pub full_lines : List (List ℕ) → List (List ℕ)
 full_lines lines = filter (λ l. not (is_blank_line l)) lines
 
 -- as many lines as members, and each spells its one
-abbrev pub SpellEach : List (List ℕ) → List Part → Type 0
+abbrev pub SpellEach : List (List ℕ) → List MemberData → Type 0
 SpellEach [] [] = Unit {0}
 SpellEach [] (p ∷ ps) = ⊥
 SpellEach (l ∷ ls) [] = ⊥
 SpellEach (l ∷ ls) (p ∷ ps) = SpellsMember l p × SpellEach ls ps
 
 -- the text is short, its lines that aren't blank spell these fields one by one, and they keep the rules
-pub record IsSchema (text : List ℕ) (fields : List Part) : Type 0 where
+pub record IsSchema (text : List ℕ) (fields : List MemberData) : Type 0 where
   pub short : length text ≤ max_text
   pub lines : SpellEach (full_lines (lines_of text)) fields
   pub rules : AreFields fields
 
 -- one of the fields has this name
-abbrev pub HaveName : List Part → List ℕ → Type 0
-HaveName fields name = has_name (map (λ (p : Part). p.name) fields) name ≡ true
+abbrev pub HaveName : List MemberData → List ℕ → Type 0
+HaveName fields name = has_name (map (λ (p : MemberData). p.name) fields) name ≡ true
 
 -- no field has the name that the line begins with
-abbrev pub IsNew : List Part → List ℕ → Type 0
-IsNew fields line = (name : List ℕ) → BeginsWith line name → HaveName fields name → ⊥
+abbrev pub IsNew : List MemberData → List ℕ → Type 0
+IsNew fields line = (name : List ℕ) → BeginsWithName line name → HaveName fields name → ⊥
 
 -- this is wrong with the line of a further field, behind these
-abbrev pub HasFieldFault : List Part → List ℕ → SchemaKind → Type 0
+abbrev pub HasFieldFault : List MemberData → List ℕ → SchemaKind → Type 0
 HasFieldFault fields line BadName = HasFault line BadName
-HasFieldFault fields line Repeated = (name : List ℕ) × BeginsWith line name × HaveName fields name
+HasFieldFault fields line Repeated = (name : List ℕ) × BeginsWithName line name × HaveName fields name
 HasFieldFault fields line BadType = IsNew fields line × HasFault line BadType
 HasFieldFault fields line TooDeep = IsNew fields line × HasFault line TooDeep
 HasFieldFault fields line TooMany =
-    IsNew fields line × ((p : Part) × IsMember line p × (max_fields < parts_count (parts_of fields) + field_count p.of))
+    IsNew fields line × ((p : MemberData) × IsMember line p × (max_fields < parts_count (parts_of fields) + field_count p.of))
 HasFieldFault fields line TooLong = ⊥
 HasFieldFault fields line Empty = ⊥
 
@@ -57,7 +57,7 @@ pub record IsFirstFault (lines : List (List ℕ)) (number : ℕ) (kind : SchemaK
   pub before : List (List ℕ)
   pub line : List ℕ
   pub after : List (List ℕ)
-  pub fields : List Part
+  pub fields : List MemberData
   pub whole : lines ≡ before ++ line ∷ after
   pub place : number ≡ length before + 1
   pub full : is_blank_line line ≡ false

@@ -1,6 +1,6 @@
 -- What shapes stand for.
 use Rattle.std.specs.Prelude.{List}
-use Rattle.nt_types.specs.Kinds.{Kind, Part, bool, char, byte, int, text, list, fields, tuple, choice, kinds_of, parts_of}
+use Rattle.nt_types.specs.ShapeData.{ShapeData, MemberData, bool, char, byte, int, text, list, fields, tuple, choice, kinds_of, parts_of}
 use Rattle.nt_types.specs.declared.shape.Shape.{Shape, fold-Shape}
 use Rattle.nt_types.specs.declared.shape.Shape.TheOpen.{Shape-F, Shapes-F, Member-F, Members-F}
 use Rattle.nt_types.specs.declared.shape.Shapes.{Shapes, fold-Shapes}
@@ -8,7 +8,7 @@ use Rattle.nt_types.specs.declared.shape.Member.{Member, fold-Member}
 use Rattle.nt_types.specs.declared.shape.Members.{Members, fold-Members}
 
 -- one level, with what lies inside already seen
-abbrev pub shape_step : Shape-F Kind Part (List Part) (List Kind) → Kind
+abbrev pub shape_step : Shape-F ShapeData MemberData (List MemberData) (List ShapeData) → ShapeData
 shape_step Shape-F.Bool = bool
 shape_step Shape-F.Char = char
 shape_step Shape-F.Byte = byte
@@ -20,29 +20,29 @@ shape_step (Shape-F.Tuple shapes) = tuple (kinds_of shapes)
 shape_step (Shape-F.Choice shapes) = choice (kinds_of shapes)
 
 -- several at one level
-abbrev pub shapes_step : Shapes-F Kind Part (List Part) (List Kind) → List Kind
+abbrev pub shapes_step : Shapes-F ShapeData MemberData (List MemberData) (List ShapeData) → List ShapeData
 shapes_step s = s.list.items
 
 -- a member, whose inside is already seen
-abbrev pub member_step : Member-F Kind Part (List Part) (List Kind) → Part
+abbrev pub member_step : Member-F ShapeData MemberData (List MemberData) (List ShapeData) → MemberData
 member_step m = record { name = m.name; of = m.of }
 
 -- several members
-abbrev pub members_step : Members-F Kind Part (List Part) (List Kind) → List Part
+abbrev pub members_step : Members-F ShapeData MemberData (List MemberData) (List ShapeData) → List MemberData
 members_step m = m.list.items
 
 -- the kind of values that a shape describes
-abbrev pub shape_view : Shape → Kind
-shape_view = fold-Shape Kind Part (List Part) (List Kind) shape_step member_step members_step shapes_step
+abbrev pub shape_view : Shape → ShapeData
+shape_view = fold-Shape ShapeData MemberData (List MemberData) (List ShapeData) shape_step member_step members_step shapes_step
 
 -- the kinds of several shapes
-abbrev pub shapes_view : Shapes → List Kind
-shapes_view = fold-Shapes Kind Part (List Part) (List Kind) shape_step member_step members_step shapes_step
+abbrev pub shapes_view : Shapes → List ShapeData
+shapes_view = fold-Shapes ShapeData MemberData (List MemberData) (List ShapeData) shape_step member_step members_step shapes_step
 
 -- the name and the kind of a member
-abbrev pub member_view : Member → Part
-member_view = fold-Member Kind Part (List Part) (List Kind) shape_step member_step members_step shapes_step
+abbrev pub member_view : Member → MemberData
+member_view = fold-Member ShapeData MemberData (List MemberData) (List ShapeData) shape_step member_step members_step shapes_step
 
 -- the names and kinds of several members
-abbrev pub members_view : Members → List Part
-members_view = fold-Members Kind Part (List Part) (List Kind) shape_step member_step members_step shapes_step
+abbrev pub members_view : Members → List MemberData
+members_view = fold-Members ShapeData MemberData (List MemberData) (List ShapeData) shape_step member_step members_step shapes_step

@@ -3,7 +3,7 @@ use Rattle.std.specs.Prelude.{ℕ, Bool, true, false, List, [], ◌∷◌, lengt
 use Rattle.std.specs.List.{list_all}
 use Rattle.std.specs.Str.{bytes_eq}
 use Rattle.nt_types.specs.Limits.{max_name}
-use Rattle.nt_types.specs.Kinds.{Kind, bool, char, byte, int, text}
+use Rattle.nt_types.specs.ShapeData.{ShapeData, bool, char, byte, int, text}
 
 -- an ASCII digit
 abbrev pub is_digit : ℕ → Bool
@@ -35,16 +35,16 @@ width w = if bytes_eq w (codes "8") then Some 8
     else None
 
 -- an integer of the width that these digits stand for
-abbrev pub int_of : List ℕ → Bool → Option Kind
+abbrev pub int_of : List ℕ → Bool → Option ShapeData
 int_of w signed = option_map (λ bits. int bits signed) (width w)
 
 -- `i` and a width, or `u` and a width
-abbrev pub number : List ℕ → Option Kind
+abbrev pub number : List ℕ → Option ShapeData
 number [] = None
 number (b ∷ bs) = if b == 105 then int_of bs true else if b == 117 then int_of bs false else None
 
 -- the types that have no parts
-abbrev pub leaf : List ℕ → Option Kind
+abbrev pub leaf : List ℕ → Option ShapeData
 leaf w = if bytes_eq w (codes "bool") then Some bool
     else if bytes_eq w (codes "char") then Some char
     else if bytes_eq w (codes "byte") then Some byte

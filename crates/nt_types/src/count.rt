@@ -2,7 +2,7 @@
 
 ghost use Rattle.std.specs.Prelude.{◌≡◌, ◌≤◌, ◌+◌, min, map};
 ghost use Rattle.nt_types.specs.Views.{shape_view, member_view};
-ghost use Rattle.nt_types.specs.Kinds.{kinds_of, parts_of};
+ghost use Rattle.nt_types.specs.ShapeData.{kinds_of, parts_of};
 ghost use Rattle.nt_types.specs.Limits.{too_many};
 ghost use Rattle.nt_types.specs.Schema.{field_count, kinds_count, parts_count};
 

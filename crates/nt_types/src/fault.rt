@@ -74,11 +74,11 @@ pub(crate) enum LineError {
 }
 
 impl LineError {
-    ghost use Rattle.nt_types.specs.LineFaults.{IsAt};
+    ghost use Rattle.nt_types.specs.LineFaults.{IsOnLine};
 
     /// The same, at a line of a text.
     pub(crate) fn at(self, line: u64) -> SchemaError
-        ensures { IsAt result self line }
+        ensures { IsOnLine result self line }
     {
         match self {
             LineError::Kind(kind) => SchemaError::Fault(SchemaFault { line, kind }),

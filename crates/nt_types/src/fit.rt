@@ -1,7 +1,7 @@
 //! Whether a value has a shape.
 
 ghost use Rattle.std.specs.Prelude.{◌≡◌, ◌^◌, nat_lt, map};
-ghost use Rattle.nt_types.specs.Kinds.{kinds_of, parts_of};
+ghost use Rattle.nt_types.specs.ShapeData.{kinds_of, parts_of};
 ghost use Rattle.nt_types.specs.Views.{shape_view, member_view};
 ghost use Rattle.nt_types.specs.TreeData.{trees_of};
 ghost use Rattle.nt_types.specs.TreeViews.{tree_view};

@@ -1,14 +1,14 @@
 //! Column types, the shapes of fields, and the schema text that names them.
 //!
-//! Other crates cite the definitions of `specs/`; touch `ColumnTable`, `Kinds`, `Spelling` and
+//! Other crates cite the definitions of `specs/`; touch `ColumnTable`, `ShapeData`, `Spelling` and
 //! `Rules` only with the standard or the rules of schema texts at hand. `Reading`, `Lines` and
 //! `Schema` are the reader step by step, and stand under private functions.
 //!
 //! Where to start: `specs/TextSpelling` (what a text spells, and its first fault) and
 //! `schema.rt`; `specs/ColumnTable` and `column_type.rt`.
 //!
-//! Words: a *shape* is what the values of a field look like, and a `Kind` in contracts; a *part*
-//! is a shape under a name; a *leaf* has no parts; a *construct* is one that is open while it is
+//! Words: a *shape* is what the values of a field look like, with the twin `ShapeData` in
+//! contracts; a *member* is a shape under a name (`MemberData`); a *leaf* has no parts; a *construct* is one that is open while it is
 //! read; a *fault* is what is wrong with a text, and never want of memory.
 //!
 //! Proved: code and bits of each type (`ColumnType::code`, `bits`), the type of a code (`of_code`:

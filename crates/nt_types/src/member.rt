@@ -3,7 +3,7 @@
 ghost use Rattle.std.specs.Prelude.{◌≡◌, IfOk, Ok, Err};
 ghost use Rattle.nt_types.specs.Views.{shape_view, member_view};
 ghost use Rattle.nt_types.specs.Lines.{member_of, under_name};
-ghost use Rattle.nt_types.specs.Kinds.{Part};
+ghost use Rattle.nt_types.specs.ShapeData.{MemberData};
 ghost use Rattle.nt_types.specs.Schema.{member_text, at_line};
 ghost use Rattle.nt_types.specs.LineSpelling.{IsMember, HasFault};
 ghost use Rattle.nt_types.specs.TextAnswers.{TellsLine};
@@ -42,7 +42,7 @@ pub fn parse_member(alloc: Global, line: &[u8]) -> Result<Member, SchemaError>
     // The member that the line spells, or what is wrong with the line.
     ensures told { TellsLine line.now result }
     // A member that the line spells is read, unless memory runs out.
-    ensures only { (p : Part) → IsMember line.now p
+    ensures only { (p : MemberData) → IsMember line.now p
         → Answers member_view schema_fault result (Ok p) }
     // What is wrong is answered, unless memory runs out; TooDeep of each type that nests too deep.
     ensures each { (kind : SchemaKind) → HasFault line.now kind

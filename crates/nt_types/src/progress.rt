@@ -2,9 +2,9 @@
 
 ghost use Rattle.std.specs.Prelude.{◌≡◌, ◌≤◌, ◌+◌, ℕ, List, IfOk};
 ghost use Rattle.nt_types.specs.Views.{shape_view};
-ghost use Rattle.nt_types.specs.Kinds.{Part};
+ghost use Rattle.nt_types.specs.ShapeData.{MemberData};
 ghost use Rattle.nt_types.specs.Limits.{max_fields};
-ghost use Rattle.nt_types.specs.Seen.{Knows};
+ghost use Rattle.nt_types.specs.Seen.{KnowsNames};
 ghost use Rattle.nt_types.specs.Schema.{field_of, field_count, part_under};
 ghost use Rattle.nt_lists.specs.Answering.{Answers};
 ghost use Rattle.nt_types.specs.FaultViews.{line_fault};
@@ -38,7 +38,7 @@ fn field_of<'a>(
 ) -> Result<(&'a [u8], Shape), LineError>
     requires { before ≤ max_fields }
     ensures few { IfOk result (λ x. before + field_count (shape_view x.1) ≤ max_fields) }
-    ensures field { (names : List (List ℕ)) → Knows seen.now names
+    ensures field { (names : List (List ℕ)) → KnowsNames seen.now names
         → Answers (λ x. part_under x.0.now (shape_view x.1)) line_fault result
         (field_of names before line.now) }
 {

@@ -2,7 +2,7 @@
 
 ghost use Rattle.std.specs.Prelude.{◌≡◌, [], ◌∷◌, None, option_map, OnOk, MatchOption};
 ghost use Rattle.nt_types.specs.Views.{shape_view};
-ghost use Rattle.nt_types.specs.Reading.{place, begin, named, settled, delimited, text_ended, start, kind_kept};
+ghost use Rattle.nt_types.specs.Reading.{place, begin, named, ended_here, delimited, text_ended, start, kind_kept};
 ghost use Rattle.nt_lists.specs.Answering.{Answers};
 ghost use Rattle.nt_types.specs.ConstructViews.{open_view, stack_view};
 ghost use Rattle.nt_types.specs.FaultViews.{type_fault, or_malformed};
@@ -22,7 +22,7 @@ fn kind_kept(keep: bool, shape: Shape) -> Shape
 
 /// The part that ends here: one that has ended already, or a leaf.
 fn settled(keep: bool, done: Option<Shape>, word: &[u8]) -> Option<Shape>
-    ensures { option_map shape_view result ≡ settled keep (option_map shape_view done) word.now }
+    ensures { option_map shape_view result ≡ ended_here keep (option_map shape_view done) word.now }
 {
     match done {
         None => match leaf(word) {

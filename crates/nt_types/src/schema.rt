@@ -4,7 +4,7 @@ ghost use Rattle.std.specs.Prelude.{◌≡◌, ◌≤◌, ◌^◌, ◌==◌, ◌
 ghost use Rattle.std.specs.List.{position_or_len, slice_split};
 ghost use Rattle.nt_types.specs.Views.{members_view};
 ghost use Rattle.nt_types.specs.Schema.{schema_text, take_lines, first_line, at_line};
-ghost use Rattle.nt_types.specs.Kinds.{Part};
+ghost use Rattle.nt_types.specs.ShapeData.{MemberData};
 ghost use Rattle.nt_types.specs.Limits.{max_text};
 ghost use Rattle.nt_types.specs.Rules.{AreFields};
 ghost use Rattle.nt_types.specs.TextSpelling.{IsSchema, IsRefused};
@@ -77,7 +77,7 @@ pub fn parse_schema(alloc: Global, text: &[u8]) -> Result<Fields, SchemaError>
     // The fields that the text spells, or its first fault.
     ensures told { TellsText text.now result }
     // Fields that the text spells are read, unless memory runs out.
-    ensures only { (fields : List Part) → IsSchema text.now fields
+    ensures only { (fields : List MemberData) → IsSchema text.now fields
         → Answers members_view schema_fault result (Ok fields) }
     // The first fault is answered, unless memory runs out.
     ensures each { (fault : SchemaFault) → IsRefused text.now fault.line fault.kind

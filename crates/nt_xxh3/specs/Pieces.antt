@@ -15,8 +15,8 @@ abbrev pub Splits : Sum → List ℕ → Type 0
 Splits s m = IsSplit s.lanes.words s.lanes.taken s.window m
 
 -- the sum was given these bytes; once it took stripes there are more than 240, and one at least was not taken
-unfoldable pub Holds : Sum → List ℕ → Type 0
-Holds s m = Splits s m × (0 < s.lanes.taken → 240 < length m) × (0 < s.lanes.taken → 64 < length s.window)
+unfoldable pub WasGiven : Sum → List ℕ → Type 0
+WasGiven s m = Splits s m × (0 < s.lanes.taken → 240 < length m) × (0 < s.lanes.taken → 64 < length s.window)
 
 -- how many bytes the sum was given
 unfoldable pub total_of : Sum → ℕ

@@ -20,13 +20,13 @@ pub struct Sum {
 
 impl Sum {
     ghost use Rattle.nt_xxh3.specs.Sum.{xxh3};
-    ghost use Rattle.nt_xxh3.specs.Pieces.{Holds, Splits, total_of};
+    ghost use Rattle.nt_xxh3.specs.Pieces.{WasGiven, Splits, total_of};
 
     /// The sum of no bytes yet.
-    #[tactic(auto, unfolding(crate::specs::Pieces::Holds, crate::specs::Pieces::total_of))]
+    #[tactic(auto, unfolding(crate::specs::Pieces::WasGiven, crate::specs::Pieces::total_of))]
     pub fn new() -> Sum
         ensures total { total_of result ≡ 0 }
-        ensures holds { Holds result [] }
+        ensures holds { WasGiven result [] }
     {
         Sum {
             lanes: Lanes::new(),
@@ -35,11 +35,11 @@ impl Sum {
     }
 
     /// Adds a piece to the bytes given so far.
-    #[tactic(auto, unfolding(crate::specs::Pieces::Holds, crate::specs::Pieces::total_of))]
+    #[tactic(auto, unfolding(crate::specs::Pieces::WasGiven, crate::specs::Pieces::total_of))]
     pub fn update(&mut self, piece: &[u8])
         requires { total_of self.old + length piece.now < 2 ^ 63 }
         ensures total { total_of self.new ≡ total_of self.old + length piece.now }
-        ensures holds { (m : List ℕ) → Holds self.old m → Holds self.new (m ++ piece.now) }
+        ensures holds { (m : List ℕ) → WasGiven self.old m → WasGiven self.new (m ++ piece.now) }
     {
         if piece.len() <= self.window.room() {
             self.window.extend(piece);
@@ -80,9 +80,9 @@ impl Sum {
     }
 
     /// The sum of all bytes given so far. More may follow.
-    #[tactic(auto, unfolding(crate::specs::Pieces::Holds, crate::specs::Pieces::total_of))]
+    #[tactic(auto, unfolding(crate::specs::Pieces::WasGiven, crate::specs::Pieces::total_of))]
     pub fn finish(&self) -> u64
-        ensures { (m : List ℕ) → Holds self.now m → result ≡ xxh3 m }
+        ensures { (m : List ℕ) → WasGiven self.now m → result ≡ xxh3 m }
     {
         let window = self.window.as_slice();
         let rest = &window[STRIPE..];

@@ -13,7 +13,7 @@ impl MemHost {
     ghost use Rattle.nt_outside.specs.Faults.{Rose};
     ghost use Rattle.nt_outside.specs.World.{file, asked_as, asked_of};
     ghost use Rattle.nt_memory.specs.Planned.{numbers_for};
-    ghost use Rattle.nt_memory.specs.Tally.{IsListed, counted, failed};
+    ghost use Rattle.nt_memory.specs.Tally.{IsListed, call_counted, failed};
     ghost use Rattle.nt_memory.specs.Streams.{IsRoomy};
     ghost use Rattle.nt_memory.specs.Host.{state_of, world_of, tally_of, plan_of, listed_of_pens, room_of_host};
 
@@ -72,7 +72,7 @@ impl MemHost {
         ensures some { IfSome result (λ x. found ≡ Some x) }
         ensures listed { IsListed (tally_of self.old) → IsNone result }
         ensures cause { IfNone result (IsListed (tally_of self.old) ⊎ IsNone found) }
-        ensures counted { OnSome result (tally_of self.new ≡ counted (tally_of self.old)) }
+        ensures counted { OnSome result (tally_of self.new ≡ call_counted (tally_of self.old)) }
         ensures failed { IfNone result (tally_of self.new ≡ failed (tally_of self.old)) }
         ensures later { (state_of self.old).faults ≤ (state_of self.new).faults }
         ensures rose { IfNone result (Rose (state_of self.old).faults (state_of self.new).faults) }

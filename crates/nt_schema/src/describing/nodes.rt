@@ -2,7 +2,7 @@
 
 ghost use Rattle.std.specs.Prelude.{◌≡◌, ◌<◌, ◌≤◌, ◌+◌, ◌^◌, ◌++◌, length, map, List, OnOk, IfOk, vec_len};
 ghost use Rattle.nt_types.specs.Views.{shape_view, member_view, members_view};
-ghost use Rattle.nt_types.specs.Kinds.{Part, kinds_of, parts_of};
+ghost use Rattle.nt_types.specs.ShapeData.{MemberData, kinds_of, parts_of};
 ghost use Rattle.nt_types.specs.Schema.{parts_count};
 ghost use Rattle.nt_grammar.specs.Rows.{AreNodes, members_in, places_in, inside, at_top};
 ghost use Rattle.nt_schema.specs.Describing.{node_view};
@@ -95,7 +95,7 @@ fn push_top<'a>(nodes: &mut Vec<Node<'a>>, fields: &'a [Member]) -> Result<(), A
 fn expand(nodes: &mut Vec<Node<'_>>, next: usize) -> Result<(), AllocError>
     requires here { next < length nodes.old.items }
     requires few { next < 2 ^ 32 }
-    ensures { (ps : List Part) → AreListed ps next (map node_view nodes.old.items)
+    ensures { (ps : List MemberData) → AreListed ps next (map node_view nodes.old.items)
         → OnOk result (AreListed ps (next + 1) (map node_view nodes.new.items)) }
 {
     let node = nodes[next];

@@ -2,7 +2,7 @@
 
 ghost use Rattle.std.specs.Prelude.{◌≡◌, ◌++◌, true, map, codes, OnOk, IfOk};
 ghost use Rattle.nt_types.specs.Views.{shape_view, shapes_view};
-ghost use Rattle.nt_types.specs.Kinds.{kinds_of};
+ghost use Rattle.nt_types.specs.ShapeData.{kinds_of};
 ghost use Rattle.nt_grammar.specs.Types.{holds_record, any_holds_record, int_name, template, cpp_name, cpp_names, type_name, role_of};
 
 use nt_types::{Bytes, Shape, Shapes};

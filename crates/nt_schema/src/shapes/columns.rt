@@ -5,7 +5,7 @@ ghost use Rattle.std.specs.List.{list_any};
 ghost use Rattle.std.specs.Str.{bytes_eq};
 ghost use Rattle.nt_types.specs.Views.{shape_view};
 ghost use Rattle.nt_types.specs.ColumnTable.{code_of, bits_of};
-ghost use Rattle.nt_types.specs.Kinds.{int};
+ghost use Rattle.nt_types.specs.ShapeData.{int};
 ghost use Rattle.nt_types.specs.declared.column_type.ColumnType.TheVariants.{Switch};
 ghost use Rattle.nt_grammar.specs.Open.{column_fits, one_column, text_columns, index_types, leaf_with, leaf_types, leaf_shape, named_leaf, integers};
 

@@ -1,7 +1,7 @@
 use Rattle.std.proofs.Common.{rules, ◌≡◌, Some, None, List, length, arith, sym, ap, ◌∙◌, map}
 use Rattle.std.proofs.lemmas.List.{length-map}
 use Rattle.serde_json.specs.View.{view, items_view}
-use Rattle.nt_types.specs.Kinds.{Part, parts_of}
+use Rattle.nt_types.specs.ShapeData.{MemberData, parts_of}
 use Rattle.nt_types.specs.Views.{member_view, members_view}
 use Rattle.nt_types.specs.TreeViews.{tree_view}
 use Rattle.nt_types.specs.TreeData.{TreeData, trees_of}
@@ -28,7 +28,7 @@ returns-then-len-members-clause-err c =
     let F = parts_of ps in
     let ok = c.in-Ok.ensures.ok in
     let xs = c.in-Some.values.now.items in
-    let seen : length c.as_slice-members.result.now ≡ length ps = sym (length-map c.as_slice-members.result.now member_view) ∙ ap (λ (l : List Part). length l) c.as_slice-members.ensures in
+    let seen : length c.as_slice-members.result.now ≡ length ps = sym (length-map c.as_slice-members.result.now member_view) ∙ ap (λ (l : List MemberData). length l) c.as_slice-members.ensures in
     data_is F c.args.line.now (view c.in-Ok.value) c.requires ok.0 ok.1 ∙ an_array F (view c.in-Ok.value) (items_view xs) c.in-Some.ensures
     ∙ other_count ps xs (λ e. omega (arith, e, c.len.ensures, c.if-len-members.true, seen))
 
@@ -38,11 +38,11 @@ returns-in-Ok-Some-clause-ok c =
     let F = parts_of ps in
     let ok = c.in-Ok.ensures.ok in
     let xs = c.in-Some.values.now.items in
-    let seen : length c.as_slice-members.result.now ≡ length ps = sym (length-map c.as_slice-members.result.now member_view) ∙ ap (λ (l : List Part). length l) c.as_slice-members.ensures in
+    let seen : length c.as_slice-members.result.now ≡ length ps = sym (length-map c.as_slice-members.result.now member_view) ∙ ap (λ (l : List MemberData). length l) c.as_slice-members.ensures in
     let all : Some (trees_of (map tree_view c.in-Ok-Some.list.items)) ≡ lines.parts_read (parts_of (map member_view c.as_slice-members.result.now)) (items_view xs) = search (rules, c.in-Ok-Some.ensures, c.in-Ok-Some.field-0-is, c.deref.ensures.value) in
     data_is F c.args.line.now (view c.in-Ok.value) c.requires ok.0 ok.1 ∙ an_array F (view c.in-Ok.value) (items_view xs) c.in-Some.ensures
     ∙ same_count ps xs (omega (arith, c.len.ensures, c.if-len-members.false, seen))
-    ∙ ap or_misfit (sym (ap (λ (l : List TreeData). Some (trees_of l)) c.from_vec.ensures ∙ all ∙ ap (λ (l : List Part). lines.parts_read (parts_of l) (items_view xs)) c.as_slice-members.ensures))
+    ∙ ap or_misfit (sym (ap (λ (l : List TreeData). Some (trees_of l)) c.from_vec.ensures ∙ all ∙ ap (λ (l : List MemberData). lines.parts_read (parts_of l) (items_view xs)) c.as_slice-members.ensures))
 
 pub returns-in-Ok-None-clause-err : goal.returns-in-Ok-None-clause-err
 returns-in-Ok-None-clause-err c =
@@ -50,8 +50,8 @@ returns-in-Ok-None-clause-err c =
     let F = parts_of ps in
     let ok = c.in-Ok.ensures.ok in
     let xs = c.in-Some.values.now.items in
-    let seen : length c.as_slice-members.result.now ≡ length ps = sym (length-map c.as_slice-members.result.now member_view) ∙ ap (λ (l : List Part). length l) c.as_slice-members.ensures in
+    let seen : length c.as_slice-members.result.now ≡ length ps = sym (length-map c.as_slice-members.result.now member_view) ∙ ap (λ (l : List MemberData). length l) c.as_slice-members.ensures in
     let all : None ≡ lines.parts_read (parts_of (map member_view c.as_slice-members.result.now)) (items_view xs) = search (rules, c.in-Ok-None.ensures, c.in-Ok-None.field-0-is, c.deref.ensures.value) in
     data_is F c.args.line.now (view c.in-Ok.value) c.requires ok.0 ok.1 ∙ an_array F (view c.in-Ok.value) (items_view xs) c.in-Some.ensures
     ∙ same_count ps xs (omega (arith, c.len.ensures, c.if-len-members.false, seen))
-    ∙ ap or_misfit (sym (all ∙ ap (λ (l : List Part). lines.parts_read (parts_of l) (items_view xs)) c.as_slice-members.ensures))
+    ∙ ap or_misfit (sym (all ∙ ap (λ (l : List MemberData). lines.parts_read (parts_of l) (items_view xs)) c.as_slice-members.ensures))

@@ -1,19 +1,19 @@
 use Rattle.std.proofs.Common.{rules, ◌≡◌, ◌<◌, ◌∷◌, [], ◌++◌, ◌+◌, ◌-◌, ◌^◌, ◌==◌, ℕ, List, length, map, drop, take, get_or, false, not, sym, ap, ◌∙◌, arith, subst, length-append, IfSome, decimal}
 use Rattle.std.proofs.lemmas.List.{map-append, length-map, take_all}
 use Rattle.std.specs.Vec.{vec_len}
-use Rattle.nt_types.specs.Kinds.{Kind}
+use Rattle.nt_types.specs.ShapeData.{ShapeData}
 use Rattle.nt_types.specs.TreeData.{TreeData}
 use Rattle.serde_json.specs.Written.{items_text, comma_if}
 use Rattle.nt_event.specs.Json.{datas_of}
 use Rattle.nt_types.specs.Views.{shape_view, member_view, members_view}
-use Rattle.nt_types.specs.Kinds.{kinds_of, parts_of}
+use Rattle.nt_types.specs.ShapeData.{kinds_of, parts_of}
 use Rattle.nt_types.specs.TreeViews.{tree_view}
 use Rattle.nt_types.specs.TreeData.{trees_of}
 use Rattle.nt_types.specs.TreeData as forms
 use Rattle.nt_event.specs.Standing.{StandsFrom, MayStandFrom, ReadsValue, AllGood, EachGood, kinds_in, open_text}
 use Rattle.nt_event.proofs.Texts.{are_some, spelled-item, spelled-end, comma-some, all-next, each-next, reads-list, reads-record, reads-tuple, reads-text, reads-pick}
 use Rattle.nt_event.specs.Plain.{AllPlain}
-use Rattle.nt_types.specs.Kinds as kinds
+use Rattle.nt_types.specs.ShapeData as kinds
 use Rattle.nt_types.specs.TreeData.{pick}
 use Rattle.nt_types.specs.declared.shape.Shape.{the_lemmas as shape_lemmas}
 use Rattle.nt_types.specs.declared.tree.Tree.{Tree}

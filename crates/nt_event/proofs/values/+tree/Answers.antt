@@ -2,11 +2,11 @@ use Rattle.std.proofs.Common.{rules, ◌≡◌, ◌<◌, ◌∷◌, [], ◌+◌,
 use Rattle.std.proofs.lemmas.List.{map-append, length-map, drop_all}
 use Rattle.serde_json.specs.View.{view, items_view}
 use Rattle.nt_types.specs.TreeData.{TreeData, TreesData, pick}
-use Rattle.nt_types.specs.Kinds as kinds
+use Rattle.nt_types.specs.ShapeData as kinds
 use Rattle.nt_event.specs.Line.{tree_read, all_read, pick_read, one_read}
 use Rattle.nt_event.specs.Line as lines
 use Rattle.nt_types.specs.Views.{shape_view, member_view, members_view}
-use Rattle.nt_types.specs.Kinds.{kinds_of, parts_of}
+use Rattle.nt_types.specs.ShapeData.{kinds_of, parts_of}
 use Rattle.nt_types.specs.TreeViews.{tree_view}
 use Rattle.nt_types.specs.TreeData.{trees_of}
 use Rattle.nt_event.specs.Entry.{trees_then}

@@ -3,7 +3,7 @@ use Rattle.serde_json.specs.View.{items_view}
 use Rattle.nt_event.specs.Line.{all_read, tree_read}
 use Rattle.nt_event.specs.Line as lines
 use Rattle.nt_types.specs.Views.{shape_view, member_view}
-use Rattle.nt_types.specs.Kinds.{kinds_of, parts_of}
+use Rattle.nt_types.specs.ShapeData.{kinds_of, parts_of}
 use Rattle.nt_types.specs.TreeViews.{tree_view}
 use Rattle.nt_event.specs.Entry.{trees_then}
 use Rattle.nt_event.proofs.values.+tree.Given as goal

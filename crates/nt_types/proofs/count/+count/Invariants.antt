@@ -1,6 +1,6 @@
 use Rattle.std.proofs.Common.{◌≡◌, ◌≤◌, ◌+◌, min, map, drop}
 use Rattle.nt_types.specs.Views.{shape_view, member_view}
-use Rattle.nt_types.specs.Kinds.{kinds_of, parts_of}
+use Rattle.nt_types.specs.ShapeData.{kinds_of, parts_of}
 use Rattle.nt_types.specs.Schema.{kinds_count, parts_count}
 use Rattle.nt_types.proofs.count.+count.Given as goal
 

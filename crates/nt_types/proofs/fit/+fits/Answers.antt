@@ -1,6 +1,6 @@
 use Rattle.std.proofs.Common.{rules, ◌≡◌, ◌<◌, ◌+◌, ◌-◌, ℕ, suc, length, map, sym, ap, ◌∙◌, arith}
 use Rattle.std.proofs.lemmas.List.{length-map}
-use Rattle.nt_types.specs.Kinds.{Kind, kinds_of}
+use Rattle.nt_types.specs.ShapeData.{ShapeData, kinds_of}
 use Rattle.nt_types.specs.declared.shape.Member.{Member}
 use Rattle.nt_types.specs.Views.{shape_view, member_view}
 use Rattle.nt_types.specs.TreeViews.{tree_view}

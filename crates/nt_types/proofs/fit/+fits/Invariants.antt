@@ -1,5 +1,5 @@
 use Rattle.std.proofs.Common.{◌≡◌, map, drop}
-use Rattle.nt_types.specs.Kinds.{kinds_of, parts_of}
+use Rattle.nt_types.specs.ShapeData.{kinds_of, parts_of}
 use Rattle.nt_types.specs.Views.{shape_view, member_view}
 use Rattle.nt_types.specs.TreeData.{trees_of}
 use Rattle.nt_types.specs.TreeViews.{tree_view}

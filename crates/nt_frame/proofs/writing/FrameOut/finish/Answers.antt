@@ -1,6 +1,6 @@
 -- The frame of the last mark becomes bytes of the one that it is in.
 use Rattle.std.proofs.Common.{◌∙◌, ap}
-use Rattle.nt_frame.specs.Writing.{finished}
+use Rattle.nt_frame.specs.Writing.{frame_finished}
 use Rattle.nt_frame.proofs.Marks.{finish-step}
 use Rattle.nt_frame.proofs.writing.FrameOut.finish.Goals as goal
 
@@ -11,4 +11,4 @@ invariant_of-self c =
 pub returns-in-Some : goal.returns-in-Some
 returns-in-Some c =
     (finish-step c.self.inside.marks.items c.pop.new.self.items c.in-Some.mark c.self.inside.out.items c.put_head.new.out.items c.in-Some.ensures.items c.put_head.ensures c.self.invariant).1
-    ∙ ap finished c.self.view_is
+    ∙ ap frame_finished c.self.view_is

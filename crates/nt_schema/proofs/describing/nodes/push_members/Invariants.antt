@@ -1,6 +1,6 @@
 use Rattle.std.proofs.Common.{◌≡◌, ◌++◌, map, drop}
 use Rattle.nt_types.specs.Views.{member_view}
-use Rattle.nt_types.specs.Kinds.{parts_of}
+use Rattle.nt_types.specs.ShapeData.{parts_of}
 use Rattle.nt_grammar.specs.Rows.{members_in}
 use Rattle.nt_schema.specs.Describing.{node_view}
 use Rattle.nt_schema.proofs.describing.nodes.push_members.Given as goal

@@ -1,6 +1,6 @@
 use Rattle.std.proofs.Common.{◌≡◌, ◌++◌, map, drop}
 use Rattle.nt_types.specs.Views.{shape_view}
-use Rattle.nt_types.specs.Kinds.{kinds_of}
+use Rattle.nt_types.specs.ShapeData.{kinds_of}
 use Rattle.nt_grammar.specs.Rows.{places_in}
 use Rattle.nt_schema.specs.Describing.{node_view}
 use Rattle.nt_schema.proofs.describing.nodes.push_places.Given as goal

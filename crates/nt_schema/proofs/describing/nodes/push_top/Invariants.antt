@@ -1,6 +1,6 @@
 use Rattle.std.proofs.Common.{◌≡◌, ◌≤◌, ◌+◌, ◌++◌, map, drop, vec_len}
 use Rattle.nt_types.specs.Views.{member_view}
-use Rattle.nt_types.specs.Kinds.{parts_of}
+use Rattle.nt_types.specs.ShapeData.{parts_of}
 use Rattle.nt_types.specs.Schema.{parts_count}
 use Rattle.nt_grammar.specs.Rows.{at_top}
 use Rattle.nt_schema.specs.Describing.{node_view}

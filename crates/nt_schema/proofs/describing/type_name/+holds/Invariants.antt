@@ -1,6 +1,6 @@
 use Rattle.std.proofs.Common.{◌≡◌, map, drop}
 use Rattle.nt_types.specs.Views.{shape_view}
-use Rattle.nt_types.specs.Kinds.{kinds_of}
+use Rattle.nt_types.specs.ShapeData.{kinds_of}
 use Rattle.nt_grammar.specs.Types.{any_holds_record}
 use Rattle.nt_schema.proofs.describing.type_name.+holds.Given as goal
 

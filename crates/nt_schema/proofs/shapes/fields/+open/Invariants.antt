@@ -1,6 +1,6 @@
 use Rattle.std.proofs.Common.{◌≡◌, ◌+◌, ◌*◌, ◌++◌, List, map, drop}
 use Rattle.std.specs.Prelude.{option_map}
-use Rattle.nt_types.specs.Kinds.{Part}
+use Rattle.nt_types.specs.ShapeData.{MemberData}
 use Rattle.nt_types.specs.Views.{member_view}
 use Rattle.nt_grammar.specs.Open.{all_some, open_field}
 use Rattle.nt_schema.proofs.shapes.fields.+open.Given as goal
@@ -8,7 +8,7 @@ use Rattle.nt_schema.proofs.shapes.fields.+open.Given as goal
 abbrev pub invariant-open_fields-loop-id : goal.invariant-open_fields-loop-id
 invariant-open_fields-loop-id l =
     all_some (map (open_field l.depth l.rows.fields.now l.rows.columns.now l.principal) l.ids)
-    ≡ option_map (λ (rest : List Part). map member_view l.parts.items ++ rest)
+    ≡ option_map (λ (rest : List MemberData). map member_view l.parts.items ++ rest)
     (all_some (map (open_field l.depth l.rows.fields.now l.rows.columns.now l.principal) (drop l.id-index l.ids)))
 
 abbrev pub decreases-open_field : goal.decreases-open_field

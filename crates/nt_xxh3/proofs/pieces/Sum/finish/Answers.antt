@@ -1,12 +1,12 @@
 use Rattle.std.proofs.Common.{◌≡◌, ℕ, ◌+◌, ◌-◌, ◌*◌, ◌<◌, length, List, take, drop, refl, sym, ap, ◌∙◌, arith, length-drop}
 use Rattle.std.proofs.lemmas.List.{take_rest}
 use Rattle.nt_xxh3.specs.Sum.{xxh3}
-use Rattle.nt_xxh3.specs.Pieces.{Holds}
+use Rattle.nt_xxh3.specs.Pieces.{WasGiven}
 use Rattle.nt_xxh3.proofs.Kept.{IsKept_none, IsKept_all, xxh3_above_240}
 use Rattle.nt_xxh3.proofs.pieces.Sum.finish.Goals as goal
 
 pub returns-then-self-eq0 : goal.returns-then-self-eq0
-unfolding Holds
+unfolding WasGiven
 returns-then-self-eq0 c = λ m held.
     let seen : List ℕ = c.as_slice-window.result.now in
     let rest_is : take (length seen - 64) (drop 64 seen) ≡ drop 64 c.args.self.now.window =
@@ -14,7 +14,7 @@ returns-then-self-eq0 c = λ m held.
     c.sum.ensures ∙ ap xxh3 (rest_is ∙ IsKept_none _ _ m _ c.if-self-eq0.true held.0)
 
 pub returns : goal.returns
-unfolding Holds
+unfolding WasGiven
 returns c = λ m held.
     let window : List ℕ = c.args.self.now.window in
     let seen : List ℕ = c.as_slice-window.result.now in

@@ -1,11 +1,11 @@
 use Rattle.std.proofs.Common.{◌≡◌, ℕ, ◌++◌, length, List, arith, ap, length-append}
 use Rattle.std.proofs.lemmas.List.{take-append-drop, append_assoc}
-use Rattle.nt_xxh3.specs.Pieces.{Holds, IsSplit}
+use Rattle.nt_xxh3.specs.Pieces.{WasGiven, IsSplit}
 use Rattle.nt_xxh3.proofs.Kept.{IsKept_extend}
 use Rattle.nt_xxh3.proofs.pieces.Sum.update.Goals as goal
 
 pub returns-then-piece-room-clause-holds : goal.returns-then-piece-room-clause-holds
-unfolding Holds
+unfolding WasGiven
 returns-then-piece-room-clause-holds c = λ m held.
     let window : List ℕ = c.args.self.now.window in
     let piece : List ℕ = c.args.piece.now in (
@@ -15,7 +15,7 @@ returns-then-piece-room-clause-holds c = λ m held.
     )
 
 pub returns-clause-holds : goal.returns-clause-holds
-unfolding Holds
+unfolding WasGiven
 returns-clause-holds c = λ m held.
     let window : List ℕ = c.args.self.now.window in
     let piece : List ℕ = c.args.piece.now in
