@@ -1,0 +1,27 @@
+-- Which trees a plan takes: those that fit its shape.
+use Rattle.std.specs.Prelude.{ℕ, zero, suc, Bool, false}
+use Rattle.nt_types.specs.TreeData.{TreeData, TreesData}
+use Rattle.nt_types.specs.Fits.{is_int, all_trees, fits_flag, fits_number, fits_text, fits_items, fits_parts, fits_pick, fits_next, are_no_trees}
+use Rattle.nt_plans.specs.Plan.{PlanData, PlansData, bool, number, text, list, record_of, choice, no_plans, plan}
+
+-- whether a plan takes a tree
+abbrev mutual
+  pub fits_plan : PlanData → TreeData → Bool
+  fits_plan (bool k) t = fits_flag t
+  fits_plan (number k bits signed) t = fits_number (is_int bits signed) t
+  fits_plan (text e c) t = fits_text t
+  fits_plan (list e p) t = fits_items (all_trees (fits_plan p)) t
+  fits_plan (record_of ps) t = fits_parts (fit_plans ps) t
+  fits_plan (choice s ps) t = fits_pick (fits_alternative ps) t
+
+  -- whether they are one tree for each plan, which takes it
+  pub fit_plans : PlansData → TreesData → Bool
+  fit_plans no_plans ts = are_no_trees ts
+  fit_plans (plan p ps) ts = fits_next (fits_plan p) (fit_plans ps) ts
+
+  -- whether the alternative of this tag, from 1, takes a tree
+  pub fits_alternative : PlansData → ℕ → TreeData → Bool
+  fits_alternative no_plans tag t = false
+  fits_alternative (plan p ps) zero t = false
+  fits_alternative (plan p ps) (suc zero) t = fits_plan p t
+  fits_alternative (plan p ps) (suc (suc n)) t = fits_alternative ps (suc n) t

@@ -1,0 +1,6 @@
+pub mod Integers
+pub mod Columns
+pub mod TreeAt
+pub mod Sound
+pub mod Put
+pub mod Fits

@@ -1,0 +1,11 @@
+//! What the columns of a cluster say of the entries in it, in definitions and laws: nothing here
+//! runs.
+//!
+//! Start at `specs/TreeAt` (the tree at an element of a field), then `Sound` (columns that have
+//! what a plan needs) and `Put` (what a tree adds to them). `Columns` has what is read of one
+//! column, `Integers` the integers of elements, `Fits` which trees a plan takes.
+//!
+//! Words: the *part* of an element is what an index column gives it of another column; the *index*
+//! of a choice counts the elements of its alternative; columns are *sound* for so many elements of
+//! a field.
+#![tactic(auto)]
