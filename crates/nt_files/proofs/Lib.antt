@@ -1,0 +1,2 @@
+pub mod EnvelopesBack
+pub mod OutlinesBack

@@ -1,0 +1,21 @@
+-- The payload of a header (RNTuple Binary Format Specification 1.0.0.0, section Header Envelope).
+use Rattle.std.specs.Prelude.{Result, Ok}
+use Rattle.nt_num.specs.Place.{At}
+use Rattle.nt_num.specs.declared.fault.ReadError.{ReadError}
+use Rattle.nt_lists.specs.Chaining.{◌>>=◌}
+use Rattle.nt_format.specs.Reading.{placed}
+use Rattle.nt_format.specs.Strings.{string_at}
+use Rattle.nt_grammar.specs.Table.{Table, no_rows}
+use Rattle.nt_grammar.specs.Reading.{description_at}
+use Rattle.nt_grammar.specs.declared.part.Part.TheVariants.{Header}
+use Rattle.nt_pagelists.specs.Footers.{feature_flags_at}
+
+-- the header whose payload begins here: no feature flag, the names of the ntuple, of what describes it and of what wrote it, and the schema
+unfoldable pub header_at : At → Result Table ReadError
+header_at here = do
+  flags ← feature_flags_at here
+  name ← placed (string_at flags.1)
+  text ← placed (string_at name.1)
+  writer ← placed (string_at text.1)
+  described ← description_at Header no_rows writer.1
+  Ok described.0

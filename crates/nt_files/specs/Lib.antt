@@ -1,0 +1,4 @@
+pub mod Envelopes
+pub mod Headers
+pub mod Outlines
+pub mod Describes
