@@ -16,7 +16,7 @@ LAYERS = ["definitions", "codecs", "data", "plans", "threads", "whole files", "p
 
 # Names that several crates may define: those of a type's own model, and those that are still to be told apart.
 SHARED = set("state_of".split())
-STILL_SHARED = set("Adds columns_of".split())
+STILL_SHARED = set()
 
 # The file of one field in nt_app, which goes once the program stands on the container, the page lists and the reader.
 SCAFFOLD = {

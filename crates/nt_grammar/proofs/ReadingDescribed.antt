@@ -8,7 +8,7 @@ use Rattle.nt_grammar.specs.declared.part.Part.{Part}
 use Rattle.nt_grammar.specs.declared.part.Part.TheVariants.{Header, Extension}
 use Rattle.nt_grammar.specs.Table.{Table}
 use Rattle.nt_grammar.specs.Reading.{extended}
-use Rattle.nt_grammar.specs.ReadingBack.{AreFieldRows, IsColumnRow, IsDescribed, Adds}
+use Rattle.nt_grammar.specs.ReadingBack.{AreFieldRows, IsColumnRow, IsDescribed, AddsRows}
 
 AreFieldRows-append : (id : ℕ) (rs ss : List FieldRow) → AreFieldRows id rs → AreFieldRows (id + length rs) ss → AreFieldRows id (rs ++ ss)
 AreFieldRows-append id [] ss are more =
@@ -86,6 +86,6 @@ extended-described Extension t fields columns ids owners is =
       header_columns = omega (arith, is.header_columns);
     }
 
-pub Adds-described : (part : Part) (t read : Table) → Adds part t read → IsDescribed t → IsDescribed read
-Adds-described part t read adds is =
+pub AddsRows-described : (part : Part) (t read : Table) → AddsRows part t read → IsDescribed t → IsDescribed read
+AddsRows-described part t read adds is =
     subst IsDescribed (sym adds.rows) (extended-described part t adds.fields adds.columns adds.ids adds.owners is)

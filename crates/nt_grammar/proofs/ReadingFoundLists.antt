@@ -17,7 +17,7 @@ use Rattle.nt_lists.proofs.Variants.{ok_is}
 use Rattle.nt_format.proofs.Frames.{list_takes}
 use Rattle.nt_format.proofs.Placed.{placed_ok}
 use Rattle.nt_grammar.proofs.ReadingFound.{field-yields, column-yields}
-use Rattle.nt_grammar.specs.ReadingBack.{AreFieldRows, IsColumnRow, Adds}
+use Rattle.nt_grammar.specs.ReadingBack.{AreFieldRows, IsColumnRow, AddsRows}
 
 -- rows that are added behind others
 fields-found : (n : ℕ) (rows all : List FieldRow) (here : At) → IsBytes here.left → fields_on n rows here ≡ Ok all
@@ -99,7 +99,7 @@ extended-is part t rows fields columns e f = ap (λ (l : List FieldRow). extende
     ∙ ap (λ (l : List ColumnRow). extended part t fields l) f
 
 pub description-found : (part : Part) (t read : Table) (here after : At) → IsBytes here.left
-    → description_at part t here ≡ Ok (read, after) → Adds part t read
+    → description_at part t here ≡ Ok (read, after) → AddsRows part t read
 unfolding description_at
 description-found part t read here after bytes e =
     let rows = bind_ok (rows_at t.fields t.columns here) (λ rows. Ok (extended part t rows.0.0 rows.0.1, rows.1)) (read, after) e in

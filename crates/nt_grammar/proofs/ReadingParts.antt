@@ -8,7 +8,7 @@ use Rattle.nt_grammar.specs.declared.rows.ColumnRow.{ColumnRow}
 use Rattle.nt_grammar.specs.declared.part.Part.{Part}
 use Rattle.nt_grammar.specs.declared.part.Part.TheVariants.{Header, Extension}
 use Rattle.nt_grammar.specs.Table.{Table, table_of, no_rows}
-use Rattle.nt_grammar.specs.Writing.{description, fields_of, columns_of}
+use Rattle.nt_grammar.specs.Writing.{description, part_fields, part_columns}
 use Rattle.nt_grammar.specs.Reading.{description_at}
 use Rattle.nt_grammar.specs.ReadingBack.{AreFieldRows, IsColumnRow, IsDescribed, header_of, before, up_to}
 use Rattle.nt_grammar.proofs.ReadingBack.{description-reads}
@@ -32,9 +32,9 @@ few xs n h = (omega (arith, length-take n xs), omega (arith, length-drop n xs))
 
 pub part-reads : (part : Part) (t : Table) (place : ℕ) (rest : List ℕ) → IsDescribed t → length t.fields < 2 ^ 32
     → length t.columns < 2 ^ 32
-    → length (description (fields_of part t) (columns_of part t)) < 2 ^ 63
-    → description_at part (before part t) (standing place (description (fields_of part t) (columns_of part t) ++ rest))
-    ≡ Ok (up_to part t, standing (place + length (description (fields_of part t) (columns_of part t))) rest)
+    → length (description (part_fields part t) (part_columns part t)) < 2 ^ 63
+    → description_at part (before part t) (standing place (description (part_fields part t) (part_columns part t) ++ rest))
+    ≡ Ok (up_to part t, standing (place + length (description (part_fields part t) (part_columns part t))) rest)
 part-reads Header t place rest is few_fields few_columns fits =
     let count : length (take t.header_fields t.fields) ≡ t.header_fields = length-take-le t.header_fields t.fields is.header_fields in
     let columns : length (take t.header_columns t.columns) ≡ t.header_columns =

@@ -43,7 +43,7 @@ pub record IsDescribed (t : Table) : Type 0 where
   pub header_columns : t.header_columns ≤ length t.columns
 
 -- rows that a description can add behind those of this table
-pub record Adds (part : Part) (t read : Table) : Type 0 where
+pub record AddsRows (part : Part) (t read : Table) : Type 0 where
   pub fields : List FieldRow
   pub columns : List ColumnRow
   pub ids : AreFieldRows (length t.fields) fields

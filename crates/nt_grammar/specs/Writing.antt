@@ -57,11 +57,11 @@ description fields columns =
     (list_frame (length columns) (column_records columns) ++ (list_frame 0 [] ++ list_frame 0 []))
 
 -- the fields of a part
-abbrev pub fields_of : Part → Table → List FieldRow
-fields_of Header t = take t.header_fields t.fields
-fields_of Extension t = drop t.header_fields t.fields
+abbrev pub part_fields : Part → Table → List FieldRow
+part_fields Header t = take t.header_fields t.fields
+part_fields Extension t = drop t.header_fields t.fields
 
 -- the columns of a part
-abbrev pub columns_of : Part → Table → List ColumnRow
-columns_of Header t = take t.header_columns t.columns
-columns_of Extension t = drop t.header_columns t.columns
+abbrev pub part_columns : Part → Table → List ColumnRow
+part_columns Header t = take t.header_columns t.columns
+part_columns Extension t = drop t.header_columns t.columns

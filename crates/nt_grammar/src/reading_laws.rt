@@ -11,9 +11,9 @@ ghost use Rattle.nt_grammar.specs.declared.rows.FieldRow.{FieldRow};
 ghost use Rattle.nt_grammar.specs.declared.rows.ColumnRow.{ColumnRow};
 ghost use Rattle.nt_grammar.specs.declared.part.Part.{Part};
 ghost use Rattle.nt_grammar.specs.Table.{Table};
-ghost use Rattle.nt_grammar.specs.Writing.{description, fields_of, columns_of};
+ghost use Rattle.nt_grammar.specs.Writing.{description, part_fields, part_columns};
 ghost use Rattle.nt_grammar.specs.Reading.{extended, description_at};
-ghost use Rattle.nt_grammar.specs.ReadingBack.{AreFieldRows, IsColumnRow, IsDescribed, Adds, before, up_to};
+ghost use Rattle.nt_grammar.specs.ReadingBack.{AreFieldRows, IsColumnRow, IsDescribed, AddsRows, before, up_to};
 
 /// What is written of rows is read as these rows, behind any others, whatever follows.
 pub fn descriptions_are_read_back()
@@ -31,21 +31,21 @@ pub fn descriptions_are_read_back()
         ) }
     ensures parts { (part : Part) (t : Table) (place : ℕ) (rest : List ℕ)
         → IsDescribed t → length t.fields < 2 ^ 32 → length t.columns < 2 ^ 32
-        → length (description (fields_of part t) (columns_of part t)) < 2 ^ 63
+        → length (description (part_fields part t) (part_columns part t)) < 2 ^ 63
         → description_at part (before part t)
-        (standing place (description (fields_of part t) (columns_of part t) ++ rest))
+        (standing place (description (part_fields part t) (part_columns part t) ++ rest))
         ≡ Ok (
           up_to part t,
           standing (place + length
-              (description (fields_of part t) (columns_of part t))) rest,
+              (description (part_fields part t) (part_columns part t))) rest,
         ) }
 {}
 
 /// What is read are rows in range, behind those that were there.
 pub fn rows_read_are_described()
     ensures adds { (part : Part) (t read : Table) (here after : At)
-        → IsBytes here.left → description_at part t here ≡ Ok (read, after) → Adds part t read }
-    ensures described { (part : Part) (t read : Table) → Adds part t read → IsDescribed t
+        → IsBytes here.left → description_at part t here ≡ Ok (read, after) → AddsRows part t read }
+    ensures described { (part : Part) (t read : Table) → AddsRows part t read → IsDescribed t
         → IsDescribed read }
 {}
 

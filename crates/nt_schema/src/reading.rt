@@ -5,11 +5,11 @@ ghost use Rattle.std.specs.List.{list_all};
 ghost use Rattle.nt_num.specs.Place.{At};
 ghost use Rattle.nt_format.specs.Reading.{standing, IsBytes};
 ghost use Rattle.nt_grammar.specs.Table.{Table, is_short};
-ghost use Rattle.nt_grammar.specs.Writing.{description, fields_of, columns_of};
+ghost use Rattle.nt_grammar.specs.Writing.{description, part_fields, part_columns};
 ghost use Rattle.nt_grammar.specs.Reading.{rows_at, description_at};
 ghost use Rattle.nt_lists.specs.Answering.{Answers};
 ghost use Rattle.nt_schema.specs.Reading.{fault_of};
-ghost use Rattle.nt_grammar.specs.ReadingBack.{IsDescribed, Adds, before, up_to};
+ghost use Rattle.nt_grammar.specs.ReadingBack.{IsDescribed, AddsRows, before, up_to};
 
 mod columns;
 mod fields;
@@ -90,15 +90,15 @@ pub fn read_description(
     ensures written { (t : Table) (rest : List ℕ)
         → IsDescribed t → length t.fields < 2 ^ 32 → length t.columns < 2 ^ 32
         → schema.old ≡ before part t → cur.old.left
-        ≡ description (fields_of part t) (columns_of part t) ++ rest
+        ≡ description (part_fields part t) (part_columns part t) ++ rest
         → Answers {W = Table × At} (λ _. (schema.new, cur.new)) fault_of result
         (Ok (
           up_to part t,
           standing (cur.old.place + length
-              (description (fields_of part t) (columns_of part t))) rest,
+              (description (part_fields part t) (part_columns part t))) rest,
         )) }
     // The rows are in range, so that a table that can be written stays one.
-    ensures adds { OnOk result (Adds part schema.old schema.new) }
+    ensures adds { OnOk result (AddsRows part schema.old schema.new) }
     ensures described { OnOk result (IsDescribed schema.old → IsDescribed schema.new) }
 {
     descriptions_are_read_back();

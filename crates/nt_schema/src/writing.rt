@@ -5,7 +5,7 @@ ghost use Rattle.std.specs.List.{list_all};
 ghost use Rattle.nt_format.specs.Frames.{list_frame};
 ghost use Rattle.nt_frame.specs.Writing.{bytes_added};
 ghost use Rattle.nt_grammar.specs.Table.{is_short};
-ghost use Rattle.nt_grammar.specs.Writing.{field_numbers, field_texts, field_record, column_numbers, first_element, column_record, field_records, column_records, description, fields_of, columns_of};
+ghost use Rattle.nt_grammar.specs.Writing.{field_numbers, field_texts, field_record, column_numbers, first_element, column_record, field_records, column_records, description, part_fields, part_columns};
 
 use crate::schema::Schema;
 use nt_frame::FrameOut;
@@ -156,7 +156,7 @@ fn put_lists(
 #[tactic(auto, using(crate::proofs::Appended::list_all_split))]
 pub fn write_description(schema: &Schema, part: Part, out: &mut FrameOut) -> Result<(), AllocError>
     ensures { OnOk result (out.new ≡ bytes_added
-        (description (fields_of part schema.now) (columns_of part schema.now)) out.old) }
+        (description (part_fields part schema.now) (part_columns part schema.now)) out.old) }
 {
     let (fields, more_fields) = schema.fields.split_at(schema.header_fields as usize);
     let (columns, more_columns) = schema.columns.split_at(schema.header_columns as usize);

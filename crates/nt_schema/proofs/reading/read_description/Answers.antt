@@ -4,7 +4,7 @@ use Rattle.nt_num.specs.Place.{At}
 use Rattle.nt_format.specs.Reading.{standing, IsBytes}
 use Rattle.nt_schema.specs.declared.description_error.DescriptionError.{DescriptionError}
 use Rattle.nt_grammar.specs.Table.{Table}
-use Rattle.nt_grammar.specs.Writing.{description, fields_of, columns_of}
+use Rattle.nt_grammar.specs.Writing.{description, part_fields, part_columns}
 use Rattle.nt_grammar.specs.Reading.{description_at}
 use Rattle.nt_grammar.specs.ReadingBack.{before}
 use Rattle.nt_num.specs.declared.fault.ReadError.{ReadError}
@@ -21,7 +21,7 @@ returns-clause-written c t rest is few_fields few_columns old left =
     let part = c.args.part in
     let cur = c.args.cur.now in
     let bytes = subst (λ (l : List ℕ). length l * 1 < 2 ^ 63) c.rest.ensures c.rest.type_inv.1 in
-    let fits = front-few cur.left (description (fields_of part t) (columns_of part t)) rest bytes left in
+    let fits = front-few cur.left (description (part_fields part t) (part_columns part t)) rest bytes left in
     let law = c.descriptions_are_read_back.ensures.parts part t cur.place rest is few_fields few_columns fits in
     subst (λ (r : Result (Table × At) ReadError). Answers
     (λ _. (c.read_lists.new.schema, c.read_lists.new.cur)) fault_of c.read_lists.result r)
