@@ -26,7 +26,7 @@ mod writing_file;
 mod writing_key;
 
 pub use failure::ReadFailure;
-pub use reading::read_tfile;
+pub use reading::{read_block, read_tfile};
 pub use writing_anchor::{anchor_bytes, free_bytes, key_list_bytes};
 pub use writing_file::{begin_bytes, directory_bytes, header_bytes};
 pub use writing_key::blob_key;

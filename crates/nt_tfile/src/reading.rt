@@ -20,10 +20,10 @@ use nt_outside::ReadAt;
 use std::alloc::Global;
 
 /// The bytes of the longer file header.
-const MOST_OF_HEADER: u32 = 75;
+const MOST_OF_HEADER: u64 = 75;
 
 /// The bytes of the longer directory.
-const MOST_OF_DIRECTORY: u32 = 42;
+const MOST_OF_DIRECTORY: u64 = 42;
 
 /// The header of a file of this size.
 #[tactic(auto, using(crate::proofs::Windows::read_steps))]
@@ -37,6 +37,32 @@ fn read_header<F: ReadAt>(alloc: Global, file: &mut F, size: u64) -> Result<File
 }
 
 /// So many bytes of a file of this size from a place on, where they all lie in it; else this fault.
+///
+/// Memory is taken only for what is read next, whatever length is asked for.
+pub fn read_block<F: ReadAt>(
+    alloc: Global,
+    file: &mut F,
+    size: u64,
+    at: u64,
+    len: u64,
+    outside: ReadError,
+) -> Result<Vec<u8>, ReadFailure>
+    requires { HasSize (F.state file.old) size }
+    ensures file { Serves (F.state file.old) (F.state file.new) result }
+    ensures read { ReadsFile (λ bytes. standing 0 bytes.items) (λ told. piece_or outside told at len) (F.state file.old) result }
+    ensures len { IfOk result (λ bytes. (vec_len bytes ≡ len) × (at + len ≤ size)) }
+{
+    if u128::from(at) + u128::from(len) > u128::from(size) {
+        return Err(ReadFailure::Defect(outside));
+    }
+    let bytes = read_window(alloc, file, size, at, len)?;
+    if bytes.len() as u64 != len {
+        return Err(ReadFailure::Defect(outside));
+    }
+    Ok(bytes)
+}
+
+/// The same of a length of 32 bits.
 fn read_piece<F: ReadAt>(
     alloc: Global,
     file: &mut F,
@@ -50,14 +76,7 @@ fn read_piece<F: ReadAt>(
     ensures read { ReadsFile (λ bytes. standing 0 bytes.items) (λ told. piece_or outside told at len) (F.state file.old) result }
     ensures len { IfOk result (λ bytes. (vec_len bytes ≡ len) × (at + len ≤ size)) }
 {
-    if u128::from(at) + u128::from(len) > u128::from(size) {
-        return Err(ReadFailure::Defect(outside));
-    }
-    let bytes = read_window(alloc, file, size, at, len)?;
-    if bytes.len() != len as usize {
-        return Err(ReadFailure::Defect(outside));
-    }
-    Ok(bytes)
+    read_block(alloc, file, size, at, u64::from(len), outside)
 }
 
 /// The directory of a file of this size, behind the first key's header and the file's name and title.

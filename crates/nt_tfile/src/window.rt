@@ -38,16 +38,16 @@ pub fn read_window<F: ReadAt>(
     file: &mut F,
     size: u64,
     at: u64,
-    most: u32,
+    most: u64,
 ) -> Result<Vec<u8>, Refused>
     requires { HasSize (F.state file.old) size }
     ensures same { (F.state file.new).bytes ≡ (F.state file.old).bytes }
     ensures cause { RoseOnFailed (F.state file.old).faults (F.state file.new).faults result }
     ensures bytes { (told : List ℕ) → (F.state file.old).bytes ≡ Some told → IfOk result (λ bytes. bytes.items ≡ window most told at) }
 {
-    let count = size.saturating_sub(at).min(u64::from(most)) as usize;
+    let count = size.saturating_sub(at).min(most) as usize;
     let mut bytes = Vec::new(alloc);
-    for i in 0..(count + MOST_AT_ONCE - 1) / MOST_AT_ONCE {
+    for i in 0..count.div_ceil(MOST_AT_ONCE) {
         let from = i * MOST_AT_ONCE;
         let step = (count - from).min(MOST_AT_ONCE);
         read_more(file, at + from as u64, step, &mut bytes)?;

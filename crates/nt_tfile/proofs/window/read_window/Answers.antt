@@ -15,4 +15,4 @@ loop-i-preserved g c = record {
 pub returns-clause-bytes : goal.returns-clause-bytes
 returns-clause-bytes g c told is =
     all_pieces told c.loop-i.bytes.items c.args.at c.args.size c.min-count.result c.loop-i.i (2 ^ 20) c.args.most
-    (c.loop-i.invariant.read told is) (omega (arith, c.loop-i-test.false)) (c.requires told is) (omega (arith, c.min-count.ensures, c.saturating_sub.ensures, c.from.ensures))
+    (c.loop-i.invariant.read told is) (omega (arith, c.loop-i-test.false)) (c.requires told is) (omega (arith, c.min-count.ensures, c.saturating_sub.ensures))

@@ -1,7 +1,7 @@
 use Rattle.std.proofs.Common.{arith}
 use Rattle.std.proofs.lemmas.Grind.{common_steps}
 use Rattle.nt_tfile.proofs.Windows.{piece_past, piece_missing, piece_there}
-use Rattle.nt_tfile.proofs.reading.read_piece.Goals as goal
+use Rattle.nt_tfile.proofs.reading.read_block.Goals as goal
 
 pub returns-then-from-clause-read : goal.returns-then-from-clause-read
 returns-then-from-clause-read g c told is =
