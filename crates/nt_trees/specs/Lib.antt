@@ -4,3 +4,4 @@ pub mod TreeAt
 pub mod Sound
 pub mod Put
 pub mod Fits
+pub mod Faults
