@@ -16,7 +16,7 @@ use Rattle.nt_book.specs.declared.state.RangeState.TheVariants as state
 use Rattle.nt_book.specs.declared.row.ClusterRow.{ClusterRow}
 use Rattle.nt_book.specs.Books.{entry_count, elements_before}
 use Rattle.nt_book.specs.Entries.{no_row, row_cluster, clusters_from}
-use Rattle.nt_book.specs.Keeping.{IsRowOf, IsCounted, AreOffsets, with_state, count_out, is_out_state}
+use Rattle.nt_book.specs.Keeping.{IsRowOf, IsCounted, AreFirsts, AreOffsets, with_state, count_out, is_out_state}
 use Rattle.nt_book.specs.Limiting.{limit_error}
 use Rattle.nt_book.specs.Pages.{element_count, listed_elements, stored_size, IsPageOf, IsPaged}
 use Rattle.nt_book.proofs.Rows.{length-with_state, length-clusters_from, clusters_from-append}
@@ -51,8 +51,30 @@ sum-take-with_state f blind rows n s k =
 
 each-with_state : (columns : ℕ) (rows : List ClusterRow) (n : ℕ) (s : RangeState) → AllByRecursion (IsRowOf columns) rows → AllByRecursion (IsRowOf columns) (with_state rows n s)
 each-with_state columns [] n s h = tt
-each-with_state columns (row ∷ rows) zero s h = (record { lists = h.0.lists; paged = h.0.paged }, h.1)
+each-with_state columns (row ∷ rows) zero s h = (record { short = h.0.short; lists = h.0.lists; paged = h.0.paged }, h.1)
 each-with_state columns (row ∷ rows) (suc n) s h = (h.0, each-with_state columns rows n s h.1)
+
+AreFirsts-with_state : (entries : ℕ) (rows : List ClusterRow) (n : ℕ) (s : RangeState) → AreFirsts entries rows → AreFirsts entries (with_state rows n s)
+AreFirsts-with_state entries [] n s h = tt
+AreFirsts-with_state entries (row ∷ rows) zero s h = (h.0, h.1)
+AreFirsts-with_state entries (row ∷ rows) (suc n) s h = (h.0, AreFirsts-with_state (entries + row.meta.entries) rows n s h.1)
+
+-- a row that begins with the entry that all those before it leave
+AreFirsts-append : (m entries : ℕ) (rows : List ClusterRow) (row : ClusterRow) → AreFirsts entries rows → row.first ≡ entries + entry_count (clusters_from m rows)
+    → AreFirsts entries (rows ++ row ∷ [])
+AreFirsts-append m entries [] row h is = (omega (arith, is), tt)
+AreFirsts-append m entries (one ∷ rows) row h is =
+    let sum = sum_by-cons (λ (c : Cluster ClusterMeta). c.meta.entries) (row_cluster m one) (clusters_from (m + 1) rows) in
+    (h.0, AreFirsts-append (m + 1) (entries + one.meta.entries) rows row h.1 (omega (arith, is, sum)))
+
+-- a row begins with the entry that those before it leave
+pub AreFirsts-at : (m entries : ℕ) (rows : List ClusterRow) (k : ℕ) (d : ClusterRow) → k < length rows → AreFirsts entries rows
+    → (slice_index_or rows k d).first ≡ entries + entry_count (take k (clusters_from m rows))
+AreFirsts-at m entries [] k d less h = absurd (omega (arith, less))
+AreFirsts-at m entries (row ∷ rows) zero d less h = omega (arith, h.0)
+AreFirsts-at m entries (row ∷ rows) (suc k) d less h =
+    let sum = sum_by-cons (λ (c : Cluster ClusterMeta). c.meta.entries) (row_cluster m row) (take k (clusters_from (m + 1) rows)) in
+    omega (arith, AreFirsts-at (m + 1) (entries + row.meta.entries) rows k d (omega (arith, less)) h.1, sum)
 
 abbrev out_one : RangeState → ℕ
 out_one s = cond (is_out_state s) 1 0
@@ -86,6 +108,8 @@ IsCounted-with_state begin end entries out limits firsts rows n s less is_row_ou
   bound = h.bound;
   each = each-with_state (length firsts) rows n s h.each;
   low = h.low;
+  columns = h.columns;
+  begun = AreFirsts-with_state 0 rows n s h.begun;
 }
 
 -- a range that is out is counted
@@ -185,10 +209,10 @@ module _ (rows : List ClusterRow) (row : ClusterRow) where
       let more : count_out (rows ++ row ∷ []) ≡ count_out rows + out_one row.state = sum_by_push (λ (r : ClusterRow). out_one r.state) rows row in
       omega arith
 
-  pub IsCounted-append : (begin end entries out : ℕ) (limits : Limits) (firsts : List ℕ) → row.state ≡ state.Out → IsRowOf (length firsts) row
+  pub IsCounted-append : (begin end entries out : ℕ) (limits : Limits) (firsts : List ℕ) → row.state ≡ state.Out → row.first ≡ entries → IsRowOf (length firsts) row
       → end + row.meta.len ≤ limits.file → (length rows ≡ limits.clusters → ⊥)
       → IsCounted begin end entries out limits firsts rows → IsCounted begin (end + row.meta.len) (entries + row.meta.entries) (out + 1) limits firsts (rows ++ row ∷ [])
-  IsCounted-append begin end entries out limits firsts is_row_out is_row within not_all h = record {
+  IsCounted-append begin end entries out limits firsts is_row_out first is_row within not_all h = record {
     ends = omega (arith, h.ends, sum-clusters-append (λ (c : Cluster ClusterMeta). c.len));
     most = omega (arith, limits.file_bound);
     summed = omega (arith, h.summed, sum-clusters-append (λ (c : Cluster ClusterMeta). c.meta.entries));
@@ -197,6 +221,8 @@ module _ (rows : List ClusterRow) (row : ClusterRow) where
     bound = h.bound;
     each = each-append (IsRowOf (length firsts)) rows h.each is_row;
     low = h.low;
+    columns = h.columns;
+    begun = AreFirsts-append 0 0 rows row h.begun (omega (arith, first, h.summed));
   }
 
   AreOffsets-at : (firsts offsets more : List ℕ) → AreOffsets firsts rows offsets → length more ≡ length offsets + length firsts

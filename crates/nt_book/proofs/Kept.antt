@@ -17,7 +17,7 @@ use Rattle.nt_book.specs.declared.state.RangeState.{RangeState}
 use Rattle.nt_book.specs.declared.state.RangeState.TheVariants as state
 use Rattle.nt_book.specs.declared.row.ClusterRow.{ClusterRow}
 use Rattle.nt_book.specs.Entries.{fate_of, row_cluster, clusters_from, entry_of_kind, history_of, committed_by, committed_entry, faulted_entry}
-use Rattle.nt_book.specs.Books.{BookData, book_clusters, book_end, cluster_at, no_cluster, entry_count, elements_before, column_offset}
+use Rattle.nt_book.specs.Books.{BookData, book_clusters, book_end, cluster_at, no_cluster, entry_count, elements_before, column_offset, first_entry}
 use Rattle.nt_book.specs.Limiting.{limit_error}
 use Rattle.nt_book.specs.Keeping.{IsKindOf, IsHistory, with_state}
 use Rattle.nt_book.proofs.Rows.{clusters_from-append, length-clusters_from, clusters_from-at, clusters_from-with_state, slice_get-clusters_from, inside-slice_get, Some-same, Out-fate_of, order-clusters_from, history_of-with_state, history_of-append, history_of-snoc, row-new, length-with_state}
@@ -44,9 +44,9 @@ module _ (begin : ℕ) (rows : List ClusterRow) (events : List Event) (h : IsHis
   AllByRecursion-more [] known = tt
   AllByRecursion-more (e ∷ es) known = (IsKindOf-more e.cluster e.kind known.0, AllByRecursion-more es known.1)
 
-  module _ (meta : ClusterMeta) (start : ℕ) (at : start ≡ end_after begin (clusters_from 0 rows)) where
+  module _ (meta : ClusterMeta) (start first : ℕ) (at : start ≡ end_after begin (clusters_from 0 rows)) where
     abbrev row : ClusterRow
-    row = record { meta = meta; start = start; state = state.Out }
+    row = record { meta = meta; start = start; first = first; state = state.Out }
 
     abbrev event : Event
     event = record { context = meta.context; kind = Committed; cluster = length rows }
@@ -147,6 +147,9 @@ module _ (begin : ℕ) (rows : List ClusterRow) (events : List Event) (h : IsHis
 
     pub entries-book : entry_count (book_clusters book) ≡ entry_count (clusters_from 0 rows)
     entries-book = ap (λ (l : List (Cluster ClusterMeta)). entry_count l) (sym same_clusters)
+
+    pub first-book : (k : ℕ) → first_entry book k ≡ entry_count (take k (clusters_from 0 rows))
+    first-book k = ap (λ (l : List (Cluster ClusterMeta)). entry_count (take k l)) (sym same_clusters)
 
     pub offset-book : (firsts : List ℕ) → book.firsts ≡ firsts → (k column : ℕ)
         → column_offset book k column ≡ slice_index firsts column + elements_before (take k (clusters_from 0 rows)) column

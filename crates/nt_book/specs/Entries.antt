@@ -39,7 +39,7 @@ faulted_entry context faults = record { context = context; kind = entry.Faulted 
 
 -- what stands past the last row
 abbrev pub no_row : ClusterRow
-no_row = record { meta = record { context = 0; entries = 0; len = 0; pages = [] }; start = 0; state = state.Out }
+no_row = record { meta = record { context = 0; entries = 0; len = 0; pages = [] }; start = 0; first = 0; state = state.Out }
 
 -- the cluster of a row
 abbrev pub row_cluster : ℕ → ClusterRow → history.Cluster ClusterMeta

@@ -1,5 +1,5 @@
 -- How a book keeps its history.
-use Rattle.std.specs.Prelude.{◌≡◌, ℕ, ◌+◌, ◌*◌, ◌<◌, ◌≤◌, ◌^◌, Bool, true, false, List, length, take, slice_index, slice_index_or, slice_set}
+use Rattle.std.specs.Prelude.{◌≡◌, ℕ, ◌+◌, ◌*◌, ◌<◌, ◌≤◌, ◌^◌, Bool, true, false, List, [], ◌∷◌, length, take, slice_index, slice_index_or, slice_set}
 use Rattle.std.specs.List.{AllByRecursion, count_by}
 use Rattle.nt_machine.specs.History.{ranges_of}
 use Rattle.nt_machine.specs.Legal.{IsLegal, end_after}
@@ -35,10 +35,16 @@ IsKindOf count n Settled = Unit {0}
 IsKindOf count n (Spoiled faults) = Unit {0}
 IsKindOf count n (Faulted faults) = Unit {0}
 
--- a row has a list of pages for each column, and pages that lie in it
+-- a row has a list of pages for each column, and pages that lie in it; no range is longer than the largest limit
 pub record IsRowOf (columns : ℕ) (row : ClusterRow) : Type 0 where
+  pub short : row.meta.len ≤ 2 ^ 30
   pub lists : length row.meta.pages ≡ columns
   pub paged : IsPaged row.meta
+
+-- each row begins with the entry that those before it leave, the first one with this
+abbrev pub AreFirsts : ℕ → List ClusterRow → Type 0
+AreFirsts entries [] = Unit {0}
+AreFirsts entries (row ∷ rows) = (row.first ≡ entries) × AreFirsts (entries + row.meta.entries) rows
 
 -- the offsets of each column before each cluster and behind the last, by cluster and column
 pub record AreOffsets (firsts : List ℕ) (rows : List ClusterRow) (offsets : List ℕ) : Type 0 where
@@ -63,6 +69,8 @@ pub record IsCounted (begin end entries out : ℕ) (limits : Limits) (firsts : L
   pub bound : limits.clusters < 2 ^ 32
   pub each : AllByRecursion (IsRowOf (length firsts)) rows
   pub low : AllByRecursion (λ first. first ≤ 2 ^ 60) firsts
+  pub columns : length firsts < 2 ^ 32
+  pub begun : AreFirsts 0 rows
 
 -- room for a cluster with its offsets, if one is spare, and for the events of each range that is out
 pub record HasRoom (spare out rows room_rows events room_events offsets room_offsets columns : ℕ) : Type 0 where

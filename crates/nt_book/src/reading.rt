@@ -1,8 +1,8 @@
 //! What a book tells of its clusters.
 
-ghost use Rattle.std.specs.Prelude.{◌≡◌, ◌<◌, length, IfOk};
+ghost use Rattle.std.specs.Prelude.{◌≡◌, ◌<◌, ◌≤◌, ◌^◌, length, IfOk};
 ghost use Rattle.nt_machine.specs.History.{order_of};
-ghost use Rattle.nt_book.specs.Books.{book_clusters, book_end, cluster_at, column_offset, entry_count};
+ghost use Rattle.nt_book.specs.Books.{book_clusters, book_end, cluster_at, column_offset, entry_count, first_entry};
 ghost use Rattle.nt_book.specs.Entries.{fate_of};
 ghost use Rattle.nt_book.specs.Pages.{IsPaged};
 
@@ -45,7 +45,9 @@ impl Book {
         requires { cluster < length (book_clusters self.now) }
         ensures meta { result.now ≡ (cluster_at self.now cluster).meta }
         ensures lists { length result.now.pages ≡ length self.now.firsts }
+        ensures columns { length self.now.firsts < 2 ^ 32 }
         ensures paged { IsPaged result.now }
+        ensures short { result.now.len ≤ 2 ^ 30 }
     {
         &self.rows[cluster as usize].meta
     }
@@ -56,6 +58,14 @@ impl Book {
         ensures { result ≡ (cluster_at self.now cluster).start }
     {
         self.rows[cluster as usize].start
+    }
+
+    /// The first entry of a cluster. It is read and not summed.
+    pub fn first(&self, cluster: u32) -> u64
+        requires { cluster < length (book_clusters self.now) }
+        ensures { result ≡ first_entry self.now cluster }
+    {
+        self.rows[cluster as usize].first
     }
 
     /// What became of the range of a cluster.

@@ -48,6 +48,7 @@ impl Book {
         let row = ClusterRow {
             meta: meta.take(),
             start: self.end,
+            first: self.entries,
             state: RangeState::Out,
         };
         push_offsets(&mut self.offsets, row.meta.pages.as_slice());

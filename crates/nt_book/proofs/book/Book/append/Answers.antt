@@ -75,18 +75,18 @@ invariant_of-self c =
     ∙ (sym (limit-book _ _ _ h c.args.self.now told c.self.inside.limits c.self.inside.end c.args.meta.now.len (ap (λ (b : BookData). b.limits) c.self.view_is) (sym (ap (λ (b : BookData). b.begin) c.self.view_is)) counted.ends)
     ∙ c.requires.limits)) in
     let number : c.len-cluster.result ≡ length c.self.inside.rows.items = omega (arith, c.len-cluster.ensures, c.self.inside.rows.ok) in
-    let row : ClusterRow = record { meta = c.take.result; start = c.self.inside.end; state = state.Out } in
+    let row : ClusterRow = record { meta = c.take.result; start = c.self.inside.end; first = c.self.inside.entries; state = state.Out } in
     let room = c.self.invariant.3 in
     let spare : 1 ≤ c.self.inside.spare = omega (arith, c.requires.spare, ap (λ (b : BookData). b.spare) c.self.view_is) in
     let pages : length c.as_slice.result.now ≡ length c.self.inside.firsts.items = ap length c.as_slice.ensures ∙ lists in (
       subst (λ (rs : List ClusterRow). IsHistory c.self.inside.begin rs c.push_reserved.new.self.items) (sym c.push_reserved-2.ensures.items)
           (subst (λ (es : List Event). IsHistory c.self.inside.begin (c.self.inside.rows.items ++ row ∷ []) es) (sym c.push_reserved.ensures.items)
           (subst (λ (n : ℕ). IsHistory c.self.inside.begin (c.self.inside.rows.items ++ row ∷ []) (c.self.inside.events.items ++ record { context = c.take.result.context; kind = Committed; cluster = n } ∷ [])) (sym number)
-          (IsHistory-committed _ _ _ h c.take.result c.self.inside.end counted.ends))),
+          (IsHistory-committed _ _ _ h c.take.result c.self.inside.end c.self.inside.entries counted.ends))),
       subst (λ (rs : List ClusterRow). IsCounted c.self.inside.begin (c.self.inside.end + c.take.result.len) (c.self.inside.entries + c.take.result.entries) (c.self.inside.out + 1) c.self.inside.limits c.self.inside.firsts.items rs)
           (sym c.push_reserved-2.ensures.items)
-          (IsCounted-append c.self.inside.rows.items row c.self.inside.begin c.self.inside.end c.self.inside.entries c.self.inside.out c.self.inside.limits c.self.inside.firsts.items refl
-          (record { lists = lists; paged = paged }) fits.1 fits.2 counted),
+          (IsCounted-append c.self.inside.rows.items row c.self.inside.begin c.self.inside.end c.self.inside.entries c.self.inside.out c.self.inside.limits c.self.inside.firsts.items refl refl
+          (record { short = omega (arith, fits.0, c.self.inside.limits.range_bound); lists = lists; paged = paged }) fits.1 fits.2 counted),
       subst (λ (rs : List ClusterRow). AreOffsets c.self.inside.firsts.items rs c.push_offsets.new.offsets.items) (sym c.push_reserved-2.ensures.items)
           (AreOffsets-pushed c.self.inside.rows.items row c.self.inside.firsts.items c.self.inside.offsets.items c.push_offsets.new.offsets.items _ _ c.as_slice.ensures (omega (arith, c.self.inside.offsets.ok)) lists
           c.self.invariant.2 (omega (arith, c.push_offsets.ensures.long, c.push_offsets.new.offsets.ok)) c.push_offsets.ensures.kept c.push_offsets.ensures.behind),
@@ -115,7 +115,7 @@ returns-clause-book c =
     let h = c.self.invariant.0 in
     let told = ap (λ (b : BookData). b.history) c.self.view_is in
     let number : c.len-cluster.result ≡ length c.self.inside.rows.items = omega (arith, c.len-cluster.ensures, c.self.inside.rows.ok) in
-    let row : ClusterRow = record { meta = c.take.result; start = c.self.inside.end; state = state.Out } in
+    let row : ClusterRow = record { meta = c.take.result; start = c.self.inside.end; first = c.self.inside.entries; state = state.Out } in
     let counted = c.self.invariant.1 in
     let ends : c.self.inside.end ≡ book_end c.args.self.now = counted.ends ∙ sym (end-book _ _ _ h c.args.self.now told (sym (ap (λ (b : BookData). b.begin) c.self.view_is))) in
     let grown : history_of c.push_reserved-2.new.self.items c.push_reserved.new.self.items
@@ -123,7 +123,7 @@ returns-clause-book c =
     ap (λ (rs : List ClusterRow). history_of rs c.push_reserved.new.self.items) c.push_reserved-2.ensures.items
     ∙ (ap (λ (es : List Event). history_of (c.self.inside.rows.items ++ row ∷ []) es) c.push_reserved.ensures.items
     ∙ (ap (λ (n : ℕ). history_of (c.self.inside.rows.items ++ row ∷ []) (c.self.inside.events.items ++ record { context = c.take.result.context; kind = Committed; cluster = n } ∷ [])) number
-    ∙ (history-committed _ _ _ h c.take.result c.self.inside.end counted.ends
+    ∙ (history-committed _ _ _ h c.take.result c.self.inside.end c.self.inside.entries counted.ends
     ∙ (ap (λ (n : ℕ). history_of c.self.inside.rows.items c.self.inside.events.items ++ committed_entry n c.self.inside.end c.take.result ∷ []) (sym number)
     ∙ (ap (λ (e : ℕ). history_of c.self.inside.rows.items c.self.inside.events.items ++ committed_entry c.len-cluster.result e c.take.result ∷ []) ends
     ∙ ap (λ (m : ClusterMeta). history_of c.self.inside.rows.items c.self.inside.events.items ++ committed_entry c.len-cluster.result (book_end c.args.self.now) m ∷ []) c.take.ensures.taken))))) in

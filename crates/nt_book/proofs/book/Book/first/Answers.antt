@@ -1,0 +1,21 @@
+use Rattle.std.proofs.Common.{◌∙◌, ap, sym, arith, length, ◌<◌}
+use Rattle.nt_book.specs.Books.{BookData}
+use Rattle.nt_book.proofs.Counted.{AreFirsts-at}
+use Rattle.nt_book.proofs.Kept.{length-book, first-book}
+use Rattle.nt_book.proofs.book.Book.first.Goals as goal
+
+pub index-requires : goal.index-requires
+index-requires c =
+    let h = c.self.invariant.0 in
+    omega (arith, c.requires, length-book _ _ _ h c.args.self.now (ap (λ (b : BookData). b.history) c.self.view_is), c.self.inside.rows.ok)
+
+pub returns : goal.returns
+returns c =
+    let h = c.self.invariant.0 in
+    let told = ap (λ (b : BookData). b.history) c.self.view_is in
+    let less : c.args.cluster < length c.self.inside.rows.items = omega (arith, c.requires, length-book _ _ _ h c.args.self.now told) in
+    let begun = c.self.invariant.1.begun in
+    let read = ap (λ row. row.first) c.index.ensures in
+    let there = AreFirsts-at 0 0 c.self.inside.rows.items c.args.cluster c.index.result.now less begun in
+    let told_so = first-book _ _ _ h c.args.self.now told c.args.cluster in
+    omega (arith, read, there, told_so)
