@@ -20,7 +20,8 @@ use Rattle.nt_types.specs.Spelling.{IsType, AreKinds, AreMoreKinds, AreParts, Ar
 use Rattle.nt_types.specs.Rules.{AreFields}
 use Rattle.nt_types.specs.TreeData.{TreeData, TreesData, flag, num, text, items, parts, pick, nothing, no_trees, tree, trees_of}
 use Rattle.nt_types.specs.Fits.{is_int, fits, all_trees, fit_parts, fit_kinds, fits_one}
-use Rattle.nt_event.specs.Json.{data_of, datas_of, num_data, hex_data, line_of, InWord, InRange, AllInRange, HasBytes, AllHaveBytes}
+use Rattle.nt_types.specs.TreeBytes.{HasBytes, AllHaveBytes}
+use Rattle.nt_event.specs.Json.{data_of, datas_of, num_data, hex_data, line_of, InWord, InRange, AllInRange}
 use Rattle.nt_event.specs.Entry.{entry_of}
 use Rattle.nt_event.specs.Limits.{max_line}
 use Rattle.nt_event.proofs.Fast.{fit_entry}

@@ -43,21 +43,6 @@ abbrev pub InWord : ℤ → Type 0
 InWord (pos n) = n < 2 ^ 64
 InWord (negsuc n) = n < 2 ^ 63
 
--- texts of bytes
-abbrev mutual
-  pub HasBytes : TreeData → Type 0
-  HasBytes (flag b) = ⊤
-  HasBytes (num z) = ⊤
-  HasBytes (text s) = IsBytes s
-  HasBytes (items vs) = AllHaveBytes vs
-  HasBytes (parts vs) = AllHaveBytes vs
-  HasBytes (pick tag v) = HasBytes v
-  HasBytes nothing = ⊤
-
-  pub AllHaveBytes : TreesData → Type 0
-  AllHaveBytes no_trees = ⊤
-  AllHaveBytes (tree v vs) = HasBytes v × AllHaveBytes vs
-
 -- numbers of 64 bits, tags of 32, and texts of bytes
 abbrev mutual
   pub InRange : TreeData → Type 0

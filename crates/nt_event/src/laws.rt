@@ -5,7 +5,8 @@ ghost use Rattle.nt_types.specs.ShapeData.{MemberData, parts_of};
 ghost use Rattle.nt_types.specs.Rules.{AreFields};
 ghost use Rattle.nt_types.specs.TreeData.{TreeData, trees_of};
 ghost use Rattle.nt_types.specs.Fits.{fit_parts};
-ghost use Rattle.nt_event.specs.Json.{line_of, AllHaveBytes};
+ghost use Rattle.nt_types.specs.TreeBytes.{AllHaveBytes};
+ghost use Rattle.nt_event.specs.Json.{line_of};
 ghost use Rattle.nt_event.specs.Entry.{entry_of};
 ghost use Rattle.nt_event.specs.Limits.{max_line};
 

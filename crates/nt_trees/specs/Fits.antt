@@ -1,5 +1,6 @@
 -- Which trees a plan takes: those that fit its shape.
-use Rattle.std.specs.Prelude.{ℕ, zero, suc, Bool, false}
+use Rattle.std.specs.Prelude.{ℕ, zero, suc, Bool, false, List, [], ◌∷◌, Option, Some, None}
+use Rattle.nt_types.specs.ShapeData.{ShapeData, ShapesData, no_kinds, kind}
 use Rattle.nt_types.specs.TreeData.{TreeData, TreesData}
 use Rattle.nt_types.specs.Fits.{is_int, all_trees, fits_flag, fits_number, fits_text, fits_items, fits_parts, fits_pick, fits_next, are_no_trees}
 use Rattle.nt_plans.specs.Plan.{PlanData, PlansData, bool, number, text, list, record_of, choice, no_plans, plan}
@@ -25,3 +26,9 @@ abbrev mutual
   fits_alternative (plan p ps) zero t = false
   fits_alternative (plan p ps) (suc zero) t = fits_plan p t
   fits_alternative (plan p ps) (suc (suc n)) t = fits_alternative ps (suc n) t
+
+-- the shapes of the fields that are open, in order
+abbrev pub some_shapes : List (Option ShapeData) → ShapesData
+some_shapes [] = no_kinds
+some_shapes (None ∷ shapes) = some_shapes shapes
+some_shapes (Some k ∷ shapes) = kind k (some_shapes shapes)

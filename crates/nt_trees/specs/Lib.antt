@@ -4,4 +4,5 @@ pub mod TreeAt
 pub mod Sound
 pub mod Put
 pub mod Fits
+pub mod Views
 pub mod Faults

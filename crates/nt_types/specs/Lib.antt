@@ -20,6 +20,7 @@ pub mod FaultViews
 pub mod Rules
 pub mod TreeData
 pub mod TreeViews
+pub mod TreeBytes
 pub mod Fits
 pub mod TextSpelling
 pub mod TextAnswers
