@@ -1,5 +1,6 @@
 -- How many elements a column has in a cluster, by its place in a plan.
 use Rattle.std.specs.Prelude.{ℕ, suc, ◌+◌, Bool, true, false, List, [], ◌∷◌, Option, Some, None, ◌==◌, if◌then◌else◌}
+use Rattle.std.specs.Option.{option_or}
 use Rattle.nt_types.specs.ShapeData.{ShapeData}
 use Rattle.nt_grammar.specs.declared.rows.FieldRow.{FieldRow}
 use Rattle.nt_grammar.specs.declared.rows.ColumnRow.{ColumnRow}
@@ -14,11 +15,6 @@ pub data NeedData : Type 0 where
   inside : ℕ → NeedData
   under : ℕ → ℕ → NeedData
 
--- this, or else that
-abbrev pub or_else : {A : Type 0} → Option A → Option A → Option A
-or_else (Some x) other = Some x
-or_else None other = other
-
 -- what a column needs, if it is this one
 abbrev pub need_at : NeedData → ℕ → ℕ → Option NeedData
 need_at above k j = if j == k then Some above else None
@@ -28,20 +24,20 @@ abbrev mutual
   pub need_in : NeedData → PlanData → ℕ → Option NeedData
   need_in above (bool k) j = need_at above k j
   need_in above (number k bits signed) j = need_at above k j
-  need_in above (text ends bytes) j = or_else (need_at above ends j) (need_at (inside ends) bytes j)
-  need_in above (list ends p) j = or_else (need_at above ends j) (need_in (inside ends) p j)
+  need_in above (text ends bytes) j = option_or (need_at above ends j) (need_at (inside ends) bytes j)
+  need_in above (list ends p) j = option_or (need_at above ends j) (need_in (inside ends) p j)
   need_in above (record_of ps) j = need_in_any above ps j
-  need_in above (choice tags ps) j = or_else (need_at above tags j) (need_under tags 1 ps j)
+  need_in above (choice tags ps) j = option_or (need_at above tags j) (need_under tags 1 ps j)
 
   -- in one of these plans
   pub need_in_any : NeedData → PlansData → ℕ → Option NeedData
   need_in_any above no_plans j = None
-  need_in_any above (plan p ps) j = or_else (need_in above p j) (need_in_any above ps j)
+  need_in_any above (plan p ps) j = option_or (need_in above p j) (need_in_any above ps j)
 
   -- in one of these alternatives, from this tag on
   pub need_under : ℕ → ℕ → PlansData → ℕ → Option NeedData
   need_under tags tag no_plans j = None
-  need_under tags tag (plan p ps) j = or_else (need_in (under tags tag) p j) (need_under tags (suc tag) ps j)
+  need_under tags tag (plan p ps) j = option_or (need_in (under tags tag) p j) (need_under tags (suc tag) ps j)
 
 -- what a column of an open field needs in a cluster
 abbrev pub need_of : Table → ℕ → Option NeedData
