@@ -88,7 +88,8 @@ text-more es a i n order within read =
     between_more (numbers es) a i 0 order count in
     rw (numbers-range es a (i + 1), numbers-range es a i, one, ← read) (map_push (λ (m : ℕ). m % 256) (slice_range (numbers es) a i) n)
 
-bit-lt : (b : Bool) → bit_of b < 2 ^ 1
+-- a truth value is 0 or 1
+pub bit-lt : (b : Bool) → bit_of b < 2 ^ 1
 bit-lt true = omega arith
 bit-lt false = omega arith
 

@@ -26,6 +26,10 @@ page_of-numbers kind es other = refl
 pub not_switch : (kind : ColumnType) (w : ℕ) → w ≡ bits_of kind → w ≢ 96 → kind ≢ Switch
 not_switch kind w is other same = other (is ∙ ap bits_of same)
 
+pub is_switch : (kind : ColumnType) → bits_of kind ≡ 96 → kind ≡ Switch
+is_switch Switch is = refl
+is_switch kind is = absurd (omega arith)
+
 -- the page of a part of elements with these numbers
 page-part : (kind : ColumnType) (es : List Element) (a b : ℕ) (ns page : List ℕ) → kind ≢ Switch → numbers es ≡ ns
     → page ≡ page_bytes kind (slice_range ns a b) → page ≡ page_of kind (slice_range es a b)

@@ -1,10 +1,13 @@
 -- What is seen of the columns of a set.
-use Rattle.std.proofs.Common.{◌≡◌, ℕ, zero, suc, ◌+◌, ◌<◌, List, [], ◌∷◌, ◌++◌, length, map, take, drop, get_or, slice_get, Some, refl, sym, ◌∙◌, ap, arith}
+use Rattle.std.proofs.Common.{◌≡◌, ℕ, zero, suc, ◌+◌, ◌<◌, List, [], ◌∷◌, ◌++◌, length, map, take, drop, get_or, slice_get, Some, refl, sym, ◌∙◌, ap, subst, inl, inr, arith}
+use Rattle.std.proofs.lemmas.Bool.{cases_lt}
 use Rattle.std.proofs.Math.ListN.{set}
-use Rattle.std.proofs.lemmas.List.{map-set, length-map, length-append, take-append-drop, length-take-le, drop_more, get_or_at, set_at, append_assoc, map_more, get_or-map}
+use Rattle.nt_types.specs.declared.column_type.ColumnType.{ColumnType}
+use Rattle.nt_column.specs.Elements.{AreElementsOf}
+use Rattle.std.proofs.lemmas.List.{map-set, length-map, length-append, take-append-drop, length-take-le, drop_more, get_or_at, set_at, append_assoc, map_more, get_or-map, get_or_default}
 use Rattle.std.specs.Option.{option_map}
 use Rattle.std.proofs.lemmas.Option.{slice_get-map}
-use Rattle.nt_column.specs.Column.{Column, Buffer, empty, changed, columns_of, elements_at}
+use Rattle.nt_column.specs.Column.{Column, Buffer, empty, changed, columns_of, elements_at, kind_at, IsInRange}
 
 -- the elements of a column are those of its buffer
 pub elements-at : (bs : List Buffer) (k : ℕ) (b : Buffer) → slice_get bs k ≡ Some b → elements_at (columns_of bs) k ≡ b.column.elements
@@ -65,3 +68,24 @@ pub column-known : (bs : List Buffer) (cs : List Column) (k : ℕ) (b : Buffer) 
 column-known bs cs k b known at =
     ap (λ (xs : List Column). slice_get xs k) (sym known)
     ∙ (slice_get-map (λ (x : Buffer). x.column) bs k ∙ ap (option_map (λ (x : Buffer). x.column)) at)
+
+-- one column more is in its range
+pub in_range-next : (bs : List Buffer) (i : ℕ) (b : Buffer) → ((k : ℕ) (d : Buffer) → k < i → IsInRange (get_or bs k d).column)
+    → i < length bs → b ≡ get_or bs i b → IsInRange b.column
+    → (k : ℕ) (d : Buffer) → k < i + 1 → IsInRange (get_or bs k d).column
+in_range-next bs i b before within read here k d h =
+    elim (cases_lt k i) [
+      | inl low ↦ before k d low
+      | inr high ↦
+          let last : k ≡ i = omega arith in
+          rw (last, get_or_default bs i d b within, ← read) here
+    ]
+
+-- of columns in their ranges, what is seen by id
+pub in_range-at : (bs : List Buffer) → ((k : ℕ) (d : Buffer) → k < length bs → IsInRange (get_or bs k d).column) → (k : ℕ) (t : ColumnType)
+    → kind_at (columns_of bs) k ≡ Some t → AreElementsOf t (elements_at (columns_of bs) k)
+in_range-at [] all k t is = absurd (cc)
+in_range-at (b ∷ bs) all zero t is =
+    let same : b.column.kind ≡ t = cc in
+    subst (λ (x : ColumnType). AreElementsOf x b.column.elements) same (all 0 b (omega arith))
+in_range-at (b ∷ bs) all (suc k) t is = in_range-at bs (λ j d h. all (suc j) d (omega arith)) k t is

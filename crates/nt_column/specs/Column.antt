@@ -1,7 +1,8 @@
 -- Columns, as their buffers hold them.
-use Rattle.std.specs.Prelude.{ℕ, zero, suc, List, [], ◌∷◌, ◌++◌, map, slice_index_or, replicate}
+use Rattle.std.specs.Prelude.{ℕ, zero, suc, List, [], ◌∷◌, ◌++◌, map, slice_index_or, slice_get, replicate, Option}
+use Rattle.std.specs.Option.{option_map}
 use Rattle.nt_types.specs.declared.column_type.ColumnType.{ColumnType}
-use Rattle.nt_column.specs.Elements.{Element, plain}
+use Rattle.nt_column.specs.Elements.{Element, plain, AreElementsOf}
 
 -- a column: its type, its elements, and how many of them are kept as a count of zeros, which is none or all
 pub record Column : Type 0 where
@@ -39,3 +40,11 @@ abbrev pub changed : (Column → Column) → ℕ → List Column → List Column
 changed f k [] = []
 changed f zero (c ∷ cs) = f c ∷ cs
 changed f (suc k) (c ∷ cs) = c ∷ changed f k cs
+
+-- the type of a column; none of a column that isn't there
+abbrev pub kind_at : List Column → ℕ → Option ColumnType
+kind_at cs k = option_map (λ (c : Column). c.kind) (slice_get cs k)
+
+-- each element of a column is one of its type
+abbrev pub IsInRange : Column → Type 0
+IsInRange c = AreElementsOf c.kind c.elements

@@ -5,6 +5,7 @@ use Rattle.nt_column.specs.declared.store.Store.{Store}
 use Rattle.nt_column.specs.declared.store.Store.TheVariants.{Bits, Bytes, Words16, Words32, Words64, Pairs}
 use Rattle.nt_column.specs.Bits.{bit_of}
 use Rattle.nt_column.specs.Elements.{Element, plain}
+use Rattle.nt_column.specs.Widths.{pair_width}
 
 -- the elements
 abbrev pub elements_of : Store → List Element
@@ -14,10 +15,6 @@ elements_of (Words16 v) = map plain v.items
 elements_of (Words32 v) = map plain v.items
 elements_of (Words64 v) = map plain v.items
 elements_of (Pairs p) = p.elements
-
--- the bits of a pair: an index of 64 and a tag of 32
-abbrev pub pair_width : ℕ
-pair_width = 96
 
 -- the bits of an element
 abbrev pub width_of : Store → ℕ

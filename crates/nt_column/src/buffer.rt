@@ -7,7 +7,7 @@ ghost use Rattle.nt_types.specs.ColumnTable.{bits_of};
 ghost use Rattle.nt_encode.specs.Pages.{page_size};
 ghost use Rattle.nt_column.specs.Elements.{plain, numbers, tags, text_of, page_of};
 ghost use Rattle.nt_column.specs.Cow.{cow_items, is_borrowed};
-ghost use Rattle.nt_column.specs.Column.{empty, zeroed, with_more};
+ghost use Rattle.nt_column.specs.Column.{empty, zeroed, with_more, IsInRange};
 ghost use Rattle.nt_lists.specs.Chunks.{chunks};
 
 use crate::cow::CowSlice;
@@ -59,6 +59,13 @@ impl ColumnBuf {
         ensures { result ≡ self.now.column.kind }
     {
         self.kind
+    }
+
+    /// Each element is one of the column's type.
+    pub fn in_range(&self)
+        ensures { IsInRange self.now.column }
+    {
+        self.store.in_range(self.kind);
     }
 
     /// The number of elements.

@@ -1,8 +1,9 @@
 //! Columns that are read.
 
-ghost use Rattle.std.specs.Prelude.{◌≡◌, ◌<◌, ◌≤◌, ℕ, List, length, slice_index, IfOk};
+ghost use Rattle.std.specs.Prelude.{◌≡◌, ◌<◌, ◌≤◌, ℕ, List, length, slice_index, IfOk, Option, Some};
+ghost use Rattle.nt_types.specs.declared.column_type.ColumnType.{ColumnType};
 ghost use Rattle.std.specs.List.{slice_range};
-ghost use Rattle.nt_column.specs.Elements.{Element, numbers, tags, text_of};
+ghost use Rattle.nt_column.specs.Elements.{Element, numbers, tags, text_of, AreElementsOf};
 ghost use Rattle.nt_column.specs.Cow.{cow_items};
 
 use crate::cow::CowSlice;
@@ -11,6 +12,14 @@ use std::alloc::{AllocError, Global};
 /// The elements of columns, by the column's id and the element's place, both from 0.
 pub trait Columns {
     ghost elements: { Self → ℕ → List Element };
+
+    /// The type of a column; none of a column that isn't there.
+    ghost kind: { Self → ℕ → Option ColumnType };
+
+    /// Each element of a column is one of the column's type.
+    fn in_range(&self)
+        ensures { (k : ℕ) (t : ColumnType) → kind self.now k ≡ Some t
+            → AreElementsOf t (elements self.now k) };
 
     /// The number of a column's elements; 0 of a column that isn't there.
     fn len(&self, column: u32) -> u64

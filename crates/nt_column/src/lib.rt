@@ -12,7 +12,8 @@
 //! Proved: a push adds its element and takes no memory (`column`, `spare`); a reserve changes no
 //! element; the page of any part (`encode`, by `page_of`); the number of pages (`page_cut`, by
 //! nt_lists' `chunks`); a page's size (`pages_have_their_size`); a set lends its buffers and
-//! answers elements, tags and texts (`Columns`), a text of 8 bits without a copy (`lent`).
+//! answers elements, tags and texts (`Columns`), a text of 8 bits without a copy (`lent`); each
+//! element is one of its column's type (`in_range`, of a buffer and of `Columns`).
 //!
 //! Only tested: pages against tables that were made outside, and a set handed to another thread.
 //!
@@ -30,6 +31,7 @@ mod columns;
 mod cow;
 mod laws;
 mod pairs;
+mod ranges;
 mod set;
 mod store;
 mod widths;

@@ -3,9 +3,13 @@
 ghost use Rattle.std.specs.Prelude.{◌≡◌, ◌+◌, ◌-◌, ◌*◌, ◌<◌, ◌≤◌, [], ◌∷◌, ◌++◌, length, slice_index, OnOk};
 ghost use Rattle.std.specs.List.{slice_range};
 ghost use Rattle.nt_encode.specs.Switch.{switch_bytes};
-ghost use Rattle.nt_column.specs.Elements.{numbers, tags};
+ghost use Rattle.nt_column.specs.Elements.{numbers, tags, AreElementsOf};
+ghost use Rattle.nt_types.specs.ColumnTable.{bits_of};
+ghost use Rattle.nt_column.specs.Widths.{pair_width};
 
+use crate::ranges::pairs_in_range;
 use nt_encode::encode_switch;
+use nt_types::ColumnType;
 use std::alloc::{AllocError, Global};
 use std::marker::Model;
 
@@ -56,6 +60,14 @@ impl PairList {
         self.indices.reserve(more)?;
         self.tags.reserve(more)?;
         Ok(())
+    }
+
+    /// Each pair is an element of a Switch.
+    pub fn in_range(&self, kind: ColumnType)
+        requires { bits_of kind ≡ pair_width }
+        ensures { AreElementsOf kind self.now.elements }
+    {
+        pairs_in_range(kind, &self.indices, &self.tags);
     }
 
     /// Adds a pair.

@@ -88,10 +88,18 @@ impl Columns for ColumnSet {
     ghost use Rattle.std.specs.List.{slice_range};
     ghost use Rattle.nt_types.specs.ColumnTable.{bits_of};
     ghost use Rattle.nt_column.specs.Elements.{text_of};
-    ghost use Rattle.nt_column.specs.Column.{Buffer, columns_of, elements_at};
+    ghost use Rattle.nt_column.specs.Column.{Buffer, columns_of, elements_at, kind_at};
     ghost use Rattle.nt_column.specs.Cow.{cow_items, is_borrowed};
 
     ghost elements = { λ s k. elements_at (columns_of s) k };
+
+    ghost kind = { λ s k. kind_at (columns_of s) k };
+
+    fn in_range(&self) {
+        for buffer in &self.buffers {
+            buffer.in_range();
+        }
+    }
 
     fn len(&self, column: u32) -> u64 {
         if (column as usize) < self.columns() {

@@ -4,10 +4,12 @@ ghost use Rattle.std.specs.Prelude.{◌≡◌, ◌≢◌, ◌+◌, ◌-◌, ◌<
 ghost use Rattle.std.specs.List.{slice_range};
 ghost use Rattle.nt_types.specs.ColumnTable.{bits_of};
 ghost use Rattle.nt_encode.specs.Pages.{page_size};
-ghost use Rattle.nt_column.specs.Elements.{plain, numbers, tags, page_of};
-ghost use Rattle.nt_column.specs.Store.{elements_of, width_of, spare_of, pair_width};
+ghost use Rattle.nt_column.specs.Elements.{plain, numbers, tags, page_of, AreElementsOf};
+ghost use Rattle.nt_column.specs.Store.{elements_of, width_of, spare_of};
+ghost use Rattle.nt_column.specs.Widths.{pair_width};
 
 use crate::pairs::PairList;
+use crate::ranges::{bits_in_range, bytes_in_range, in_range_16, in_range_32, in_range_64};
 use crate::widths::{encode_16, encode_32, encode_64, encode_bits, encode_bytes};
 use nt_types::ColumnType;
 use std::alloc::{AllocError, Global};
@@ -67,6 +69,21 @@ impl Store {
             Store::Words32(list) => list.reserve(more),
             Store::Words64(list) => list.reserve(more),
             Store::Pairs(pairs) => pairs.reserve(more),
+        }
+    }
+
+    /// Each element is one of a type of this width.
+    pub fn in_range(&self, kind: ColumnType)
+        requires { width_of self.now ≡ bits_of kind }
+        ensures { AreElementsOf kind (elements_of self.now) }
+    {
+        match self {
+            Store::Bits(list) => bits_in_range(kind, list),
+            Store::Bytes(list) => bytes_in_range(kind, list),
+            Store::Words16(list) => in_range_16(kind, list),
+            Store::Words32(list) => in_range_32(kind, list),
+            Store::Words64(list) => in_range_64(kind, list),
+            Store::Pairs(pairs) => pairs.in_range(kind),
         }
     }
 

@@ -9,3 +9,6 @@ pub mod Zigzags
 pub mod BitRounds
 pub mod Rounds
 pub mod Pairs
+pub mod Spelled
+pub mod Values
+pub mod Elements

@@ -7,3 +7,4 @@ pub mod Delta
 pub mod Switch
 pub mod Forms
 pub mod Pages
+pub mod Elements

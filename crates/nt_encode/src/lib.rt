@@ -3,16 +3,18 @@
 //! All of it is on the hot path: the widths of elements are passed as constants to functions that
 //! are inlined, and no call takes memory. Keep both.
 //!
-//! Where to start: `page.rt` and `specs/Pages` (the page of each type), then a file of each for a
+//! Where to start: `page.rt` and `specs/Pages` (the page of each type), `specs/Elements` (a page's
+//! values as elements), then a file of each for a
 //! coding: plain, split, zigzag, delta, bits, switch.
 //!
 //! Words: an *element* is a value as it stands in a page, a *value* a number below two to the
 //! type's bits, signed ones as their two's complement; *width* counts the bytes of an element.
 //!
 //! Proved: `encode` gives the page of its values, with padding 0, and `decode` the values of a
-//! page, by `page_bytes` and `page_values`; the same of pairs (`encode_switch`, `decode_switch`);
-//! the size of a page (`size_of`); what is encoded is decoded again (`pages_are_spelled`,
-//! `switches_are_spelled`).
+//! page, which fit its type, by `page_bytes` and `page_values`; the same of pairs
+//! (`encode_switch`, `decode_switch`); the size of a page (`size_of`); what is encoded is decoded
+//! again (`pages_are_spelled`, `switches_are_spelled`), and of all types alike as elements, by
+//! `page_of` and `page_elements` (`elements_are_spelled`, `elements_are_in_range`).
 //!
 //! Only tested: that the definitions are the standard's, by pages that were made outside.
 //!
@@ -35,6 +37,8 @@ mod split;
 mod switch;
 mod zigzag;
 
-pub use laws::{pages_are_spelled, switches_are_spelled};
+pub use laws::{
+    elements_are_in_range, elements_are_spelled, pages_are_spelled, switches_are_spelled,
+};
 pub use page::{decode, encode, size_of};
 pub use switch::{decode_switch, encode_switch};

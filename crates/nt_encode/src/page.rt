@@ -67,6 +67,16 @@ pub fn encode(kind: ColumnType, values: &[u64], out: &mut [u8])
 pub fn decode(kind: ColumnType, bytes: &[u8], out: &mut [u64])
     requires kind { kind ≢ Switch }
     requires length { length bytes.now ≡ page_size kind (length out.old) }
+    ensures values { out.new ≡ page_values kind (length out.new) bytes.now }
+    ensures fits { AllFit kind out.new }
+{
+    take_values(kind, bytes, out);
+}
+
+/// Reads the values of a page, whose coding is that of the type.
+fn take_values(kind: ColumnType, bytes: &[u8], out: &mut [u64])
+    requires kind { kind ≢ Switch }
+    requires length { length bytes.now ≡ page_size kind (length out.old) }
     ensures { out.new ≡ page_values kind (length out.new) bytes.now }
 {
     match kind {

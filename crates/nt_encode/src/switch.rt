@@ -1,6 +1,9 @@
 //! Pairs of an index and a tag.
 
 ghost use Rattle.std.specs.Prelude.{◌≡◌, ◌*◌, length};
+ghost use Rattle.std.specs.List.{zip};
+ghost use Rattle.nt_types.specs.declared.column_type.ColumnType.TheVariants.{Switch};
+ghost use Rattle.nt_encode.specs.Elements.{AreElementsOf};
 ghost use Rattle.nt_encode.specs.Switch.{switch_indices, switch_tags, switch_bytes};
 
 use crate::number::{number_at, put_number};
@@ -26,6 +29,7 @@ pub fn decode_switch(bytes: &[u8], indices: &mut [u64], tags: &mut [u32])
     requires length { length bytes.now ≡ 12 * length indices.old }
     ensures indices { indices.new ≡ switch_indices (length indices.new) bytes.now }
     ensures tags { tags.new ≡ switch_tags (length tags.new) bytes.now }
+    ensures fits { AreElementsOf Switch (zip indices.new tags.new) }
 {
     for (i, index) in indices.iter_mut().enumerate() {
         *index = number_at(bytes, i * PAIR, 1, 8);
