@@ -1,6 +1,7 @@
 //! A list of bytes.
 
-ghost use Rattle.std.specs.Prelude.{◌≡◌, List, ℕ};
+ghost use Rattle.std.specs.Prelude.{◌≡◌, ◌+◌, ◌≤◌, List, ℕ, length};
+ghost use Rattle.nt_lists.specs.Places.{put_at};
 
 use std::marker::Model;
 
@@ -34,4 +35,20 @@ impl Bytes {
     {
         self.list
     }
+
+    /// Puts bytes over those at a place.
+    pub fn put_over(&mut self, at: usize, bytes: &[u8])
+        requires { at + length bytes.now ≤ length self.old }
+        ensures { self.new ≡ put_at self.old at bytes.now }
+    {
+        put_in(&mut self.list, at, bytes);
+    }
+}
+
+/// Puts bytes over those at a place of a list.
+fn put_in(list: &mut Vec<u8>, at: usize, bytes: &[u8])
+    requires { at + length bytes.now ≤ length list.old.items }
+    ensures { list.new.items ≡ put_at list.old.items at bytes.now }
+{
+    list[at..at + bytes.len()].copy_from_slice(bytes);
 }
