@@ -1,11 +1,11 @@
--- A line in its compact form is the entry that it spells.
+-- The entry of a line that was read the fast way, and of one that was printed.
 use Rattle.std.proofs.Common.{◌≡◌, ℕ, zero, suc, ◌^◌, ◌≤◌, List, [], ◌∷◌, length, Bool, true, false, if◌then◌else◌, refl, ap, ◌∙◌, arith}
-use Rattle.std.specs.Prelude.{Ok, Err}
+use Rattle.std.specs.Prelude.{Ok, Err, Some}
 use Rattle.std.specs.Str.{IsUtf8, is_utf8}
 use Rattle.std.proofs.Math.Nat.{max-le, le-max_left, le-max_right}
 use Rattle.std.proofs.lemmas.Bool.{and_parts, false≢true, eq-eqb}
 use Rattle.json.specs.Tree.{depth, items_depth}
-use Rattle.serde_json.specs.Data.{string, array}
+use Rattle.serde_json.specs.Data.{Data, string, array}
 use Rattle.serde_json.specs.Events.{items_len}
 use Rattle.serde_json.specs.Read.{read}
 use Rattle.serde_json.specs.Written.{outline, items_outline}
@@ -13,18 +13,18 @@ use Rattle.nt_types.specs.ShapeData.{ShapeData, ShapesData, MembersData, no_kind
 use Rattle.nt_types.specs.ShapeData as kinds
 use Rattle.nt_types.specs.TreeData.{TreeData, TreesData, flag, num, text, items, parts, pick, nothing, no_trees, tree}
 use Rattle.nt_types.specs.Fits.{fits, all_trees, fit_parts, fit_kinds, fits_one}
-use Rattle.nt_event.specs.Json.{data_of, datas_of, hex_data, line_of, AllInRange}
+use Rattle.nt_event.specs.Json.{data_of, datas_of, datas_with, text_data, hex_data, line_of, AllInRange}
 use Rattle.nt_event.specs.Line as lines
-use Rattle.nt_event.proofs.ReadBack.{read-line_of}
-use Rattle.nt_event.proofs.TreeBack.{parts_read-data}
+use Rattle.nt_event.proofs.ReadBack.{read-line_of, read-tokens, string_is}
+use Rattle.nt_event.proofs.TreeBack.{GivesText, string_gives, text_gives, parts_read-data}
 use Rattle.nt_types.specs.TreeData.{trees_of}
 use Rattle.nt_types.specs.ShapeData.{MemberData, parts_of}
-use Rattle.nt_event.specs.Standing.{EachGood, kinds_in}
+use Rattle.nt_event.specs.Standing.{IsWritten, kinds_in}
 use Rattle.nt_event.specs.Entry.{entry_of, or_misfit, parts_len}
 use Rattle.nt_types.specs.Spelling.{deepest_kind, deepest_part}
 use Rattle.nt_types.specs.Spelling as spelling
 use Rattle.nt_event.specs.declared.fault.TextKind.TheVariants.{Count}
-use Rattle.nt_event.proofs.Texts.{parts-fit, each-range}
+use Rattle.nt_event.proofs.Texts.{parts-fit, each-range, each-shallow}
 use Rattle.nt_event.proofs.Steps.{data_is}
 
 text_deep : (b : Bool) (s : List ℕ) → depth (outline (if b then string s else hex_data s)) ≤ 1
@@ -82,20 +82,29 @@ mutual
   deep_one (kind k ks) (suc zero) v h = let a = deep k v h in let l = le-max_left (spelling.depth k) (deepest_kind ks) in omega (arith, a, l)
   deep_one (kind k ks) (suc (suc n)) v h = let a = deep_one ks (suc n) v h in let r = le-max_right (spelling.depth k) (deepest_kind ks) in omega (arith, a, r)
 
-counts : (ps : List MemberData) (vs : List TreeData) → fit_parts (parts_of ps) (trees_of vs) ≡ true → items_len (datas_of (trees_of vs)) ≡ parts_len (parts_of ps)
-counts [] [] h = refl
-counts (p ∷ ps) (v ∷ vs) h = ap suc (counts ps vs (and_parts (fits p.of v) (fit_parts (parts_of ps) (trees_of vs)) h).1)
-counts [] (v ∷ vs) h = absurd (false≢true h)
-counts (p ∷ ps) [] h = absurd (false≢true h)
+counts : (f : List ℕ → Data) (ps : List MemberData) (vs : List TreeData) → fit_parts (parts_of ps) (trees_of vs) ≡ true → items_len (datas_with f (trees_of vs)) ≡ parts_len (parts_of ps)
+counts f [] [] h = refl
+counts f (p ∷ ps) (v ∷ vs) h = ap suc (counts f ps vs (and_parts (fits p.of v) (fit_parts (parts_of ps) (trees_of vs)) h).1)
+counts f [] (v ∷ vs) h = absurd (false≢true h)
+counts f (p ∷ ps) [] h = absurd (false≢true h)
 
-pub fit_entry : (ps : List MemberData) (vs : List TreeData) (line : List ℕ) → length line ≤ 2 ^ 24 → IsUtf8 line → fit_parts (parts_of ps) (trees_of vs) ≡ true → AllInRange (trees_of vs) → deepest_part (parts_of ps) ≤ 126 → line ≡ line_of (trees_of vs) → entry_of (parts_of ps) line ≡ Ok (trees_of vs)
-fit_entry ps vs line few utf8 fit range shallow is =
+pub fit_entry : (ps : List MemberData) (vs : List TreeData) (line : List ℕ) → length line ≤ 2 ^ 24 → IsUtf8 line → fit_parts (parts_of ps) (trees_of vs) ≡ true → AllInRange (trees_of vs)
+    → (f : List ℕ → Data) → GivesText f → read line ≡ Some (array (datas_with f (trees_of vs))) → entry_of (parts_of ps) line ≡ Ok (trees_of vs)
+fit_entry ps vs line few utf8 fit range f gives is =
     let F = parts_of ps in
-    let ds = datas_of (trees_of vs) in
-    let d = deep_parts F (trees_of vs) fit in
-    data_is F line (array ds) few utf8 (ap read is ∙ read-line_of (trees_of vs) range (omega (arith, d, shallow)))
-    ∙ ap (λ b. if b then or_misfit (lines.parts_read F ds) else Err Count) (eq-eqb (items_len ds) (parts_len F) (counts ps vs fit))
-    ∙ ap or_misfit (parts_read-data F (trees_of vs) fit range)
+    let ds = datas_with f (trees_of vs) in
+    data_is F line (array ds) few utf8 is
+    ∙ ap (λ b. if b then or_misfit (lines.parts_read F ds) else Err Count) (eq-eqb (items_len ds) (parts_len F) (counts f ps vs fit))
+    ∙ ap or_misfit (parts_read-data f gives F (trees_of vs) fit range)
 
-pub compact_entry : (ps : List MemberData) (vs : List TreeData) (line : List ℕ) → length line ≤ 2 ^ 24 → IsUtf8 line → EachGood (kinds_in ps) vs → deepest_part (parts_of ps) ≤ 126 → line ≡ line_of (trees_of vs) → entry_of (parts_of ps) line ≡ Ok (trees_of vs)
-compact_entry ps vs line few utf8 good shallow is = fit_entry ps vs line few utf8 (parts-fit ps vs good) (each-range (kinds_in ps) vs good) shallow is
+pub compact_entry : (ps : List MemberData) (vs : List TreeData) (line : List ℕ) → length line ≤ 2 ^ 24 → IsUtf8 line → fit_parts (parts_of ps) (trees_of vs) ≡ true → AllInRange (trees_of vs) → deepest_part (parts_of ps) ≤ 126
+    → line ≡ line_of (trees_of vs) → entry_of (parts_of ps) line ≡ Ok (trees_of vs)
+compact_entry ps vs line few utf8 fit range shallow is =
+    let d = deep_parts (parts_of ps) (trees_of vs) fit in
+    fit_entry ps vs line few utf8 fit range text_data text_gives (ap read is ∙ read-line_of (trees_of vs) range (omega (arith, d, shallow)))
+
+pub written_entry : (ps : List MemberData) (vs : List TreeData) (line : List ℕ) → length line ≤ 2 ^ 24 → IsUtf8 line → IsWritten ps vs line → entry_of (parts_of ps) line ≡ Ok (trees_of vs)
+written_entry ps vs line few utf8 h =
+    let range = each-range 126 (kinds_in ps) vs h.good in
+    fit_entry ps vs line few utf8 (parts-fit 126 ps vs h.good) range string string_gives
+    (read-tokens string string_is line (trees_of vs) range (omega (arith, each-shallow 126 (kinds_in ps) vs h.good)) h.told)

@@ -24,7 +24,7 @@ use Rattle.nt_types.specs.TreeBytes.{HasBytes, AllHaveBytes}
 use Rattle.nt_event.specs.Json.{data_of, datas_of, num_data, hex_data, line_of, InWord, InRange, AllInRange}
 use Rattle.nt_event.specs.Entry.{entry_of}
 use Rattle.nt_event.specs.Limits.{max_line}
-use Rattle.nt_event.proofs.Fast.{fit_entry}
+use Rattle.nt_event.proofs.Fast.{compact_entry}
 use Rattle.hex.proofs.HexLemmas.{IsAscii-encode_with}
 
 -- ---- numbers of a width are numbers of a word
@@ -136,4 +136,4 @@ mutual
 pub line_is_read_back : (ps : List MemberData) (ts : List TreeData) → AreFields ps → fit_parts (parts_of ps) (trees_of ts) ≡ true → AllHaveBytes (trees_of ts) → length (line_of (trees_of ts)) ≤ max_line → entry_of (parts_of ps) (line_of (trees_of ts)) ≡ Ok (trees_of ts)
 line_is_read_back ps ts rules fit bytes few =
     let inside = parts_range (parts_of ps) (trees_of ts) rules.rules fit bytes in
-    fit_entry ps ts (line_of (trees_of ts)) few (ascii_then 91 _ (omega arith) (all_utf8 false (trees_of ts) inside)) fit inside (omega (arith, rules.shallow)) refl
+    compact_entry ps ts (line_of (trees_of ts)) few (ascii_then 91 _ (omega arith) (all_utf8 false (trees_of ts) inside)) fit inside (omega (arith, rules.shallow)) refl

@@ -2,6 +2,8 @@ pub mod ReadBack
 pub mod TreeBack
 pub mod Digits
 pub mod Plain
+pub mod Lexing
+pub mod InStrings
 pub mod Texts
 pub mod ViewLemmas
 pub mod Steps

@@ -1,143 +1,234 @@
--- Values that are read one after the other.
-use Rattle.std.proofs.Common.{arith, ◌≡◌, ℕ, zero, suc, ◌^◌, ◌≤◌, ◌<◌, List, [], ◌∷◌, ◌++◌, length, drop, get_or, Bool, true, false, refl, sym, ap, ◌∙◌, subst, append_assoc, append-nil, if◌then◌else◌, decimal}
-use Rattle.serde_json.specs.Data.{string}
-use Rattle.serde_json.specs.Written.{compact_text, comma_if, items_text}
-use Rattle.std.specs.List.{slice_range}
-use Rattle.std.proofs.lemmas.List.Folds.{drop_split}
+-- Values that stand one after the other.
+use Rattle.std.proofs.Common.{arith, ◌≡◌, ℕ, zero, suc, ◌+◌, ◌^◌, ◌≤◌, ◌<◌, List, [], ◌∷◌, ◌++◌, length, drop, get_or, Bool, true, false, refl, sym, ap, ◌∙◌, append_assoc, append-nil, decimal, ℤ}
+use Rattle.std.proofs.Math.Nat.{max-le}
+use Rattle.std.proofs.lemmas.List.{drop_all}
+use Rattle.json.specs.Token.{Token, begin_array, end_array}
+use Rattle.json.specs.Lex.{lex, between, fresh, after_value, after_comma, begins_colon, punctuate, tokens}
+use Rattle.json.specs.Json as json
+use Rattle.json.specs.Word.{ends_word}
+use Rattle.json.specs.Tree.{json_tokens, items_tokens, items_depth}
+use Rattle.json.proofs.Printed.Decimals.{IsNumber-decimal}
 use Rattle.nt_types.specs.ShapeData.{ShapeData, ShapesData, MemberData, parts_of, no_kinds, kind}
 use Rattle.nt_types.specs.ShapeData as kinds
-use Rattle.nt_types.specs.TreeData.{TreeData, text, items, parts, pick}
-use Rattle.nt_types.specs.Fits.{fits, fit_kinds, fit_parts, fits_one, all_trees}
-use Rattle.nt_event.specs.Json.{data_of, datas_of, text_data, hex_data, AllInRange}
+use Rattle.nt_types.specs.TreeData.{TreeData, flag, num, text, items, parts, pick, nothing}
+use Rattle.nt_types.specs.Fits.{fits, fit_kinds, fit_parts, fits_one, all_trees, is_int}
+use Rattle.hex.specs.Hex.{IsBytes}
+use Rattle.serde_json.specs.Written.{compact_text, number_text}
+use Rattle.nt_event.specs.Json.{data_of, num_data, InWord, AllInRange}
 use Rattle.nt_types.specs.TreeData.{trees_of}
 use Rattle.nt_types.specs.ShapeData.{kinds_of}
-use Rattle.nt_event.specs.Plain.{AllPlain}
-use Rattle.nt_event.specs.Standing.{StandsFrom, MayStandFrom, Good, ReadsValue, AllGood, EachGood, kinds_in, open_text}
-use Rattle.nt_event.proofs.Plain.{plain-escape, plain-utf8, plain-bytes}
+use Rattle.nt_event.specs.Standing.{StandsFrom, tokens_from, EndsValue, ValueStands, ItemsStand, CommaStands, MayStand, BlanksStand, json_of, jsons_of, Good, ReadsValue, AllGood, EachGood, kinds_in}
+use Rattle.nt_event.proofs.Lexing.{opens, closes-fresh, closes-value, ends-at, number-stands, true-stands, false-stands, null-stands}
+use Rattle.nt_event.proofs.ReadBack.{number_is}
 
-pub spelled : (p q t : List ℕ) (a b c : ℕ) → StandsFrom p t a b → StandsFrom q t b c → StandsFrom (p ++ q) t a c
-spelled p q t a b c h k = record {
-  part_is = h.part_is ∙ ap (λ l. p ++ l) k.part_is ∙ sym (append_assoc p q (drop c t));
-  within = k.within;
-  some = omega (arith, h.some, k.some);
-}
+-- ---- items without their brackets
+
+-- the tokens of values one after the other
+abbrev pub open_tokens : List TreeData → List Token
+open_tokens [] = []
+open_tokens (v ∷ vs) = json_tokens (json_of v) ++ open_tokens vs
+
+-- behind an opening bracket, from one place to another stand these values
+abbrev pub OpenStands : List TreeData → List ℕ → ℕ → ℕ → Type 0
+OpenStands [] t at end = end ≡ at
+OpenStands (v ∷ vs) t at end = EndsValue (drop end t) → tokens_from fresh (drop at t) ≡ open_tokens (v ∷ vs) ++ tokens_from after_value (drop end t)
 
 -- whether something stands before
 abbrev pub are_some : List TreeData → Bool
 are_some [] = false
 are_some (v ∷ vs) = true
 
-pub open_text-push : (later : Bool) (v : TreeData) (vs : List TreeData) (w : TreeData) → open_text later ((v ∷ vs) ++ w ∷ []) ≡ open_text later (v ∷ vs) ++ 44 ∷ compact_text (data_of w)
-open_text-push later v [] w = simp (append_assoc, append-nil) refl
-open_text-push later v (u ∷ vs) w = ap (λ l. comma_if later ++ (compact_text (data_of v) ++ l)) (open_text-push true u vs w) ∙ simp append_assoc refl
+open_tokens-push : (vs : List TreeData) (w : TreeData) (ts : List Token) → open_tokens (vs ++ w ∷ []) ++ ts ≡ open_tokens vs ++ (json_tokens (json_of w) ++ ts)
+open_tokens-push [] w ts = ap (λ l. l ++ ts) (append-nil (json_tokens (json_of w)))
+open_tokens-push (v ∷ vs) w ts =
+    let j = json_tokens (json_of v) in
+    append_assoc j (open_tokens (vs ++ w ∷ [])) ts ∙ ap (λ l. j ++ l) (open_tokens-push vs w ts) ∙ sym (append_assoc j (open_tokens vs) _)
 
-pub items_text-opens : (later : Bool) (vs : List TreeData) → items_text later (datas_of (trees_of vs)) ≡ open_text later vs ++ 93 ∷ []
-items_text-opens later [] = refl
-items_text-opens later (v ∷ vs) = ap (λ l. comma_if later ++ (compact_text (data_of v) ++ l)) (items_text-opens true vs) ∙ simp append_assoc refl
-
-open_text-more : (vs : List TreeData) (w : TreeData) → open_text false (vs ++ w ∷ []) ≡ open_text false vs ++ (comma_if (are_some vs) ++ compact_text (data_of w))
-open_text-more [] w = append-nil (compact_text (data_of w))
-open_text-more (v ∷ vs) w = open_text-push false v vs w
+items_tokens-open : (vs : List TreeData) (ts : List Token) → items_tokens (jsons_of (trees_of vs)) ++ ts ≡ open_tokens vs ++ end_array ∷ ts
+items_tokens-open [] ts = refl
+items_tokens-open (v ∷ vs) ts =
+    let j = json_tokens (json_of v) in
+    append_assoc j (items_tokens (jsons_of (trees_of vs))) ts ∙ ap (λ l. j ++ l) (items_tokens-open vs ts) ∙ sym (append_assoc j (open_tokens vs) _)
 
 -- one more value behind a comma, or the first
-pub spelled-item : (t : List ℕ) (at i next end : ℕ) (vs : List TreeData) (w : TreeData) → drop at t ≡ open_text false vs ++ drop i t → MayStandFrom (comma_if (are_some vs)) t i next → StandsFrom (compact_text (data_of w)) t next end
-    → drop at t ≡ open_text false (vs ++ w ∷ []) ++ drop end t
-spelled-item t at i next end vs w so comma it =
-    let c = comma_if (are_some vs) in
-    let tw = compact_text (data_of w) in
-    so ∙ ap (λ l. open_text false vs ++ l) (comma.part_is ∙ ap (λ l. c ++ l) it.part_is ∙ sym (append_assoc c tw (drop end t)))
-    ∙ sym (append_assoc (open_text false vs) (c ++ tw) (drop end t)) ∙ ap (λ l. l ++ drop end t) (sym (open_text-more vs w))
+pub open-next : (t : List ℕ) (at i next end : ℕ) (vs : List TreeData) (w : TreeData) → OpenStands vs t at i → MayStand (are_some vs) t i next → ValueStands (json_of w) t next end
+    → OpenStands (vs ++ w ∷ []) t at end
+open-next t at i next end [] w so comma it =
+    λ e. ap (λ n. tokens_from fresh (drop n t)) (sym (comma ∙ so)) ∙ it.told fresh refl e ∙ ap (λ l. l ++ tokens_from after_value (drop end t)) (sym (append-nil (json_tokens (json_of w))))
+open-next t at i next end (v ∷ vs) w so comma it =
+    λ e. so comma.ends ∙ ap (λ l. open_tokens (v ∷ vs) ++ l) (comma.told ∙ it.told after_comma refl e) ∙ sym (open_tokens-push (v ∷ vs) w (tokens_from after_value (drop end t)))
 
-pub spelled-end : (t : List ℕ) (at i end : ℕ) (vs : List TreeData) → at ≤ i → drop at t ≡ open_text false vs ++ drop i t → StandsFrom (93 ∷ []) t i end → StandsFrom (items_text false (datas_of (trees_of vs))) t at end
-spelled-end t at i end vs past so close = record {
-  part_is = so ∙ ap (λ l. open_text false vs ++ l) close.part_is ∙ sym (append_assoc (open_text false vs) (93 ∷ []) (drop end t)) ∙ ap (λ l. l ++ drop end t) (sym (items_text-opens false vs));
+pub open-end : (t : List ℕ) (at i end : ℕ) (vs : List TreeData) → at ≤ i → OpenStands vs t at i → StandsFrom (93 ∷ []) t i end → ItemsStand (jsons_of (trees_of vs)) t at end
+open-end t at i end [] past so close = record {
+  told = ap (λ n. tokens_from fresh (drop n t)) (sym so) ∙ ap (tokens_from fresh) close.part_is ∙ closes-fresh (drop end t);
+  within = close.within;
+  some = omega (arith, close.some, past);
+}
+open-end t at i end (v ∷ vs) past so close = record {
+  told = so (ends-at t i end close) ∙ ap (λ l. open_tokens (v ∷ vs) ++ l) (ap (tokens_from after_value) close.part_is ∙ closes-value (drop end t))
+      ∙ sym (items_tokens-open (v ∷ vs) (tokens_from after_value (drop end t)));
   within = close.within;
   some = omega (arith, close.some, past);
 }
 
-pub all-next : (k : ShapeData) (vs : List TreeData) (w : TreeData) → AllGood k vs → Good k w → AllGood k (vs ++ w ∷ [])
-all-next k [] w h g = (g, tt)
-all-next k (v ∷ vs) w h g = (h.0, all-next k vs w h.1 g)
+array-stands : (js : json.Items) (t : List ℕ) (at first end : ℕ) → StandsFrom (91 ∷ []) t at first → ItemsStand js t first end → ValueStands (json.array js) t at end
+array-stands js t at first end begin rest = record {
+  told = λ p b e. ap (tokens_from p) begin.part_is ∙ opens p (drop first t) b ∙ ap (λ l. begin_array ∷ l) rest.told;
+  within = rest.within;
+  some = omega (arith, begin.some, rest.some);
+}
 
-pub each-next : (ks : List ShapeData) (k : ShapeData) (vs : List TreeData) (w : TreeData) → EachGood ks vs → Good k w → EachGood (ks ++ k ∷ []) (vs ++ w ∷ [])
-each-next [] k [] w h g = (g, tt)
-each-next (j ∷ ks) k (v ∷ vs) w h g = (h.0, each-next ks k vs w h.1 g)
-each-next [] k (v ∷ vs) w h g = absurd h
-each-next (j ∷ ks) k [] w h g = absurd h
+-- ---- values of a list, and of several kinds
 
-all-fit : (k : ShapeData) (vs : List TreeData) → AllGood k vs → all_trees (fits k) (trees_of vs) ≡ true
-all-fit k [] h = refl
-all-fit k (v ∷ vs) h = rw (h.0.fit, all-fit k vs h.1) refl
+pub all-next : (n : ℕ) (k : ShapeData) (vs : List TreeData) (w : TreeData) → AllGood n k vs → Good n k w → AllGood n k (vs ++ w ∷ [])
+all-next n k [] w h g = (g, tt)
+all-next n k (v ∷ vs) w h g = (h.0, all-next n k vs w h.1 g)
 
-all-range : (k : ShapeData) (vs : List TreeData) → AllGood k vs → AllInRange (trees_of vs)
-all-range k [] h = tt
-all-range k (v ∷ vs) h = (h.0.range, all-range k vs h.1)
+pub each-next : (n : ℕ) (ks : List ShapeData) (k : ShapeData) (vs : List TreeData) (w : TreeData) → EachGood n ks vs → Good n k w → EachGood n (ks ++ k ∷ []) (vs ++ w ∷ [])
+each-next n [] k [] w h g = (g, tt)
+each-next n (j ∷ ks) k (v ∷ vs) w h g = (h.0, each-next n ks k vs w h.1 g)
+each-next n [] k (v ∷ vs) w h g = absurd h
+each-next n (j ∷ ks) k [] w h g = absurd h
 
-pub list-good : (k : ShapeData) (vs : List TreeData) → AllGood k vs → Good (kinds.list k) (items (trees_of vs))
-list-good k vs h = record { fit = all-fit k vs h; range = all-range k vs h }
+all-fit : (n : ℕ) (k : ShapeData) (vs : List TreeData) → AllGood n k vs → all_trees (fits k) (trees_of vs) ≡ true
+all-fit n k [] h = refl
+all-fit n k (v ∷ vs) h = rw (h.0.fit, all-fit n k vs h.1) refl
 
-pub each-fit : (ks : List ShapeData) (vs : List TreeData) → EachGood ks vs → fit_kinds (kinds_of ks) (trees_of vs) ≡ true
-each-fit [] [] h = refl
-each-fit (k ∷ ks) (v ∷ vs) h = rw (h.0.fit, each-fit ks vs h.1) refl
-each-fit [] (v ∷ vs) h = absurd h
-each-fit (k ∷ ks) [] h = absurd h
+all-range : (n : ℕ) (k : ShapeData) (vs : List TreeData) → AllGood n k vs → AllInRange (trees_of vs)
+all-range n k [] h = tt
+all-range n k (v ∷ vs) h = (h.0.range, all-range n k vs h.1)
 
-pub each-range : (ks : List ShapeData) (vs : List TreeData) → EachGood ks vs → AllInRange (trees_of vs)
-each-range [] [] h = tt
-each-range (k ∷ ks) (v ∷ vs) h = (h.0.range, each-range ks vs h.1)
-each-range [] (v ∷ vs) h = absurd h
-each-range (k ∷ ks) [] h = absurd h
+all-shallow : (n : ℕ) (k : ShapeData) (vs : List TreeData) → AllGood n k vs → items_depth (jsons_of (trees_of vs)) ≤ n
+all-shallow n k [] h = omega arith
+all-shallow n k (v ∷ vs) h = max-le h.0.shallow (all-shallow n k vs h.1)
 
-pub tuple-good : (ks : List ShapeData) (vs : List TreeData) → EachGood ks vs → Good (kinds.tuple (kinds_of ks)) (parts (trees_of vs))
-tuple-good ks vs h = record { fit = each-fit ks vs h; range = each-range ks vs h }
+pub each-fit : (n : ℕ) (ks : List ShapeData) (vs : List TreeData) → EachGood n ks vs → fit_kinds (kinds_of ks) (trees_of vs) ≡ true
+each-fit n [] [] h = refl
+each-fit n (k ∷ ks) (v ∷ vs) h = rw (h.0.fit, each-fit n ks vs h.1) refl
+each-fit n [] (v ∷ vs) h = absurd h
+each-fit n (k ∷ ks) [] h = absurd h
 
-pub parts-fit : (ps : List MemberData) (vs : List TreeData) → EachGood (kinds_in ps) vs → fit_parts (parts_of ps) (trees_of vs) ≡ true
-parts-fit [] [] h = refl
-parts-fit (p ∷ ps) (v ∷ vs) h = rw (h.0.fit, parts-fit ps vs h.1) refl
-parts-fit [] (v ∷ vs) h = absurd h
-parts-fit (p ∷ ps) [] h = absurd h
+pub each-range : (n : ℕ) (ks : List ShapeData) (vs : List TreeData) → EachGood n ks vs → AllInRange (trees_of vs)
+each-range n [] [] h = tt
+each-range n (k ∷ ks) (v ∷ vs) h = (h.0.range, each-range n ks vs h.1)
+each-range n [] (v ∷ vs) h = absurd h
+each-range n (k ∷ ks) [] h = absurd h
 
-pub record-good : (ps : List MemberData) (vs : List TreeData) → EachGood (kinds_in ps) vs → Good (kinds.fields (parts_of ps)) (parts (trees_of vs))
-record-good ps vs h = record { fit = parts-fit ps vs h; range = each-range (kinds_in ps) vs h }
+pub each-shallow : (n : ℕ) (ks : List ShapeData) (vs : List TreeData) → EachGood n ks vs → items_depth (jsons_of (trees_of vs)) ≤ n
+each-shallow n [] [] h = omega arith
+each-shallow n (k ∷ ks) (v ∷ vs) h = max-le h.0.shallow (each-shallow n ks vs h.1)
+each-shallow n [] (v ∷ vs) h = absurd h
+each-shallow n (k ∷ ks) [] h = absurd h
 
-pub one-fits : (ks : List ShapeData) (i : ℕ) (k : ShapeData) (v : TreeData) → i < length ks → fits (get_or ks i k) v ≡ true → fits_one (kinds_of ks) (suc i) v ≡ true
+pub parts-fit : (n : ℕ) (ps : List MemberData) (vs : List TreeData) → EachGood n (kinds_in ps) vs → fit_parts (parts_of ps) (trees_of vs) ≡ true
+parts-fit n [] [] h = refl
+parts-fit n (p ∷ ps) (v ∷ vs) h = rw (h.0.fit, parts-fit n ps vs h.1) refl
+parts-fit n [] (v ∷ vs) h = absurd h
+parts-fit n (p ∷ ps) [] h = absurd h
+
+one-fits : (ks : List ShapeData) (i : ℕ) (k : ShapeData) (v : TreeData) → i < length ks → fits (get_or ks i k) v ≡ true → fits_one (kinds_of ks) (suc i) v ≡ true
 one-fits [] i k v lt h = absurd (omega arith)
 one-fits (j ∷ ks) zero k v lt h = h
 one-fits (j ∷ ks) (suc i) k v lt h = one-fits ks i k v (omega arith) h
 
 -- ---- the cases
 
-pub reads-list : (k : ShapeData) (vs : List TreeData) (t : List ℕ) (at first end : ℕ) → StandsFrom (91 ∷ []) t at first → StandsFrom (items_text false (datas_of (trees_of vs))) t first end → AllGood k vs → ReadsValue (kinds.list k) (items (trees_of vs)) t at end
-reads-list k vs t at first end opens rest good = record { spells = spelled (91 ∷ []) (items_text false (datas_of (trees_of vs))) t at first end opens rest; good = list-good k vs good }
+pub reads-flag : (b : Bool) (n : ℕ) (t : List ℕ) (at end : ℕ) → StandsFrom (compact_text (data_of (flag b))) t at end → ReadsValue n kinds.bool (flag b) t at end
+reads-flag true n t at end h = record { stands = true-stands t at end h; good = record { fit = refl; range = tt; shallow = omega arith } }
+reads-flag false n t at end h = record { stands = false-stands t at end h; good = record { fit = refl; range = tt; shallow = omega arith } }
 
-pub reads-tuple : (ks : List ShapeData) (vs : List TreeData) (t : List ℕ) (at first end : ℕ) → StandsFrom (91 ∷ []) t at first → StandsFrom (items_text false (datas_of (trees_of vs))) t first end → EachGood ks vs → ReadsValue (kinds.tuple (kinds_of ks)) (parts (trees_of vs)) t at end
-reads-tuple ks vs t at first end opens rest good = record { spells = spelled (91 ∷ []) (items_text false (datas_of (trees_of vs))) t at first end opens rest; good = tuple-good ks vs good }
+num-stands : (z : ℤ) (t : List ℕ) (at end : ℕ) → InWord z → StandsFrom (number_text (num_data z)) t at end → ValueStands (json_of (num z)) t at end
+num-stands z t at end w h = number-stands (number_text (num_data z)) t at end (number_is z w) h
 
-pub reads-record : (ps : List MemberData) (vs : List TreeData) (t : List ℕ) (at first end : ℕ) → StandsFrom (91 ∷ []) t at first → StandsFrom (items_text false (datas_of (trees_of vs))) t first end → EachGood (kinds_in ps) vs → ReadsValue (kinds.fields (parts_of ps)) (parts (trees_of vs)) t at end
-reads-record ps vs t at first end opens rest good = record { spells = spelled (91 ∷ []) (items_text false (datas_of (trees_of vs))) t at first end opens rest; good = record-good ps vs good }
+pub reads-int : (bits : ℕ) (signed : Bool) (z : ℤ) (n : ℕ) (t : List ℕ) (at end : ℕ) → is_int bits signed z ≡ true → InWord z → StandsFrom (compact_text (data_of (num z))) t at end
+    → ReadsValue n (kinds.int bits signed) (num z) t at end
+reads-int bits signed z n t at end f w h = record { stands = num-stands z t at end w h; good = record { fit = f; range = w; shallow = omega arith } }
 
-plain-text : (s : List ℕ) → AllPlain s → 34 ∷ (s ++ 34 ∷ []) ≡ compact_text (text_data s)
-plain-text s h = ap (λ l. 34 ∷ (l ++ 34 ∷ [])) (sym (plain-escape s h)) ∙ ap (λ b. compact_text (if b then string s else hex_data s)) (sym (plain-utf8 s h))
+pub reads-char : (z : ℤ) (n : ℕ) (t : List ℕ) (at end : ℕ) → is_int 8 false z ≡ true → InWord z → StandsFrom (compact_text (data_of (num z))) t at end → ReadsValue n kinds.char (num z) t at end
+reads-char z n t at end f w h = record { stands = num-stands z t at end w h; good = record { fit = f; range = w; shallow = omega arith } }
 
-pub reads-text : (s : List ℕ) (t : List ℕ) (at end : ℕ) → AllPlain s → StandsFrom (34 ∷ (s ++ 34 ∷ [])) t at end → ReadsValue kinds.text (text s) t at end
-reads-text s t at end h so = record { spells = subst (λ l. StandsFrom l t at end) (plain-text s h) so; good = record { fit = refl; range = plain-bytes s h } }
+pub reads-byte : (z : ℤ) (n : ℕ) (t : List ℕ) (at end : ℕ) → is_int 8 false z ≡ true → InWord z → StandsFrom (compact_text (data_of (num z))) t at end → ReadsValue n kinds.byte (num z) t at end
+reads-byte z n t at end f w h = record { stands = num-stands z t at end w h; good = record { fit = f; range = w; shallow = omega arith } }
 
-pub reads-pick : (ks : List ShapeData) (tag i : ℕ) (k : ShapeData) (v : TreeData) (t : List ℕ) (at first dot next last end : ℕ) → tag ≡ suc i → i < length ks → k ≡ get_or ks i k → tag < 2 ^ 32 → StandsFrom (91 ∷ []) t at first → StandsFrom (decimal tag) t first dot → StandsFrom (44 ∷ []) t dot next → ReadsValue k v t next last → StandsFrom (93 ∷ []) t last end → ReadsValue (kinds.choice (kinds_of ks)) (pick tag v) t at end
-reads-pick ks tag i k v t at first dot next last end is lt the small opens num comma of close =
-    let w = compact_text (data_of v) in
-    let whole = spelled (91 ∷ []) _ t at first end opens (spelled (decimal tag) _ t first dot end num (spelled (44 ∷ []) _ t dot next end comma (spelled w (93 ∷ []) t next last end of.spells close))) in
-    record {
-      spells = whole;
-      good = record { fit = ap (λ n. fits_one (kinds_of ks) n v) is ∙ one-fits ks i k v lt (ap (λ j. fits j v) (sym the) ∙ of.good.fit); range = (small, of.good.range) };
-    }
+pub reads-text : (s : List ℕ) (n : ℕ) (t : List ℕ) (at end : ℕ) → IsBytes s → ValueStands (json.string s) t at end → ReadsValue n kinds.text (text s) t at end
+reads-text s n t at end b h = record { stands = h; good = record { fit = refl; range = b; shallow = omega arith } }
 
-pub string-spelled : (t : List ℕ) (at first last end : ℕ) (s : List ℕ) → StandsFrom (34 ∷ []) t at first → first ≤ last → last ≤ length t → StandsFrom (34 ∷ []) t last end → s ≡ slice_range t first last → StandsFrom (34 ∷ (s ++ 34 ∷ [])) t at end
-string-spelled t at first last end s opens low high close is = record {
-  part_is = opens.part_is ∙ ap (λ l. 34 ∷ l) (drop_split t first last low ∙ ap (λ l. l ++ drop last t) (sym is) ∙ ap (λ l. s ++ l) close.part_is ∙ sym (append_assoc s (34 ∷ []) (drop end t)));
-  within = close.within;
-  some = omega (arith, opens.some, low, close.some);
+pub reads-null : (n : ℕ) (ks : ShapesData) (t : List ℕ) (at end : ℕ) → StandsFrom (110 ∷ 117 ∷ 108 ∷ 108 ∷ []) t at end → ReadsValue n (kinds.choice ks) nothing t at end
+reads-null n ks t at end h = record { stands = null-stands t at end h; good = record { fit = refl; range = tt; shallow = omega arith } }
+
+pub reads-list : (n : ℕ) (k : ShapeData) (vs : List TreeData) (t : List ℕ) (at first end : ℕ) → StandsFrom (91 ∷ []) t at first → ItemsStand (jsons_of (trees_of vs)) t first end → AllGood n k vs
+    → ReadsValue (n + 1) (kinds.list k) (items (trees_of vs)) t at end
+reads-list n k vs t at first end begin rest good = record {
+  stands = array-stands (jsons_of (trees_of vs)) t at first end begin rest;
+  good = record { fit = all-fit n k vs good; range = all-range n k vs good; shallow = omega (arith, all-shallow n k vs good) };
 }
 
-pub comma-some : (vs : List TreeData) (t : List ℕ) (i n : ℕ) → 0 < length vs → StandsFrom (44 ∷ []) t i n → MayStandFrom (comma_if (are_some vs)) t i n
+pub reads-tuple : (n : ℕ) (ks : List ShapeData) (vs : List TreeData) (t : List ℕ) (at first end : ℕ) → StandsFrom (91 ∷ []) t at first → ItemsStand (jsons_of (trees_of vs)) t first end → EachGood n ks vs
+    → ReadsValue (n + 1) (kinds.tuple (kinds_of ks)) (parts (trees_of vs)) t at end
+reads-tuple n ks vs t at first end begin rest good = record {
+  stands = array-stands (jsons_of (trees_of vs)) t at first end begin rest;
+  good = record { fit = each-fit n ks vs good; range = each-range n ks vs good; shallow = omega (arith, each-shallow n ks vs good) };
+}
+
+pub reads-record : (n : ℕ) (ps : List MemberData) (vs : List TreeData) (t : List ℕ) (at first end : ℕ) → StandsFrom (91 ∷ []) t at first → ItemsStand (jsons_of (trees_of vs)) t first end
+    → EachGood n (kinds_in ps) vs → ReadsValue (n + 1) (kinds.fields (parts_of ps)) (parts (trees_of vs)) t at end
+reads-record n ps vs t at first end begin rest good = record {
+  stands = array-stands (jsons_of (trees_of vs)) t at first end begin rest;
+  good = record { fit = parts-fit n ps vs good; range = each-range n (kinds_in ps) vs good; shallow = omega (arith, each-shallow n (kinds_in ps) vs good) };
+}
+
+pick-items : (tag : ℕ) (v : TreeData) (t : List ℕ) (first dot next last end : ℕ) → tag < 2 ^ 64 → StandsFrom (decimal tag) t first dot → CommaStands t dot next → ValueStands (json_of v) t next last
+    → StandsFrom (93 ∷ []) t last end → ItemsStand (json.item (json.number (decimal tag)) (json.item (json_of v) json.no_items)) t first end
+pick-items tag v t first dot next last end small number comma of close =
+    let j = json_tokens (json_of v) in
+    let n = number-stands (decimal tag) t first dot (IsNumber-decimal tag small) number in
+    let rest = tokens_from after_value (drop end t) in
+    record {
+      told = n.told fresh refl comma.ends ∙ ap (λ l. json_tokens (json.number (decimal tag)) ++ l)
+          (comma.told ∙ of.told after_comma refl (ends-at t last end close) ∙ ap (λ l. j ++ l) (ap (tokens_from after_value) close.part_is ∙ closes-value (drop end t)) ∙ sym (append_assoc j (end_array ∷ []) rest));
+      within = close.within;
+      some = omega (arith, n.some, comma.some, of.some, close.some);
+    }
+
+pub reads-pick : (n : ℕ) (ks : List ShapeData) (tag i : ℕ) (k : ShapeData) (v : TreeData) (t : List ℕ) (at first dot next last end : ℕ) → tag ≡ suc i → i < length ks → k ≡ get_or ks i k → tag < 2 ^ 32
+    → StandsFrom (91 ∷ []) t at first → StandsFrom (decimal tag) t first dot → CommaStands t dot next → ReadsValue n k v t next last → StandsFrom (93 ∷ []) t last end
+    → ReadsValue (n + 1) (kinds.choice (kinds_of ks)) (pick tag v) t at end
+reads-pick n ks tag i k v t at first dot next last end is lt the small begin number comma of close = record {
+  stands = array-stands _ t at first end begin (pick-items tag v t first dot next last end (omega (arith, small)) number comma of.stands close);
+  good = record {
+    fit = ap (λ m. fits_one (kinds_of ks) m v) is ∙ one-fits ks i k v lt (ap (λ j. fits j v) (sym the) ∙ of.good.fit);
+    range = (small, of.good.range);
+    shallow = grind (arith, of.good.shallow);
+  };
+}
+
+pub comma-some : (vs : List TreeData) (t : List ℕ) (i n : ℕ) → 0 < length vs → CommaStands t i n → MayStand (are_some vs) t i n
 comma-some [] t i n some h = absurd (omega arith)
-comma-some (v ∷ vs) t i n some h = record { part_is = h.part_is; within = h.within; past = omega (arith, h.some) }
+comma-some (v ∷ vs) t i n some h = h
+
+nothing-left : tokens_from after_value [] ≡ []
+unfolding lex punctuate
+nothing-left = refl
+
+nothing-ends : EndsValue []
+unfolding lex
+nothing-ends = record { word = refl; value = refl }
+
+-- the tokens of a line whose array ends before blanks
+pub line-tokens : (js : json.Items) (t : List ℕ) (first last : ℕ) → StandsFrom (91 ∷ []) t 0 first → ItemsStand js t first last → BlanksStand t last (length t) → tokens t ≡ json_tokens (json.array js)
+line-tokens js t first last begin rest blanks =
+    let all : drop (length t) t ≡ [] = drop_all (length t) t (omega arith) in
+    let told : lex between (drop last t) ≡ lex between [] = blanks.told ∙ ap (lex between) all in
+    let ends : EndsValue (drop last t) = record {
+      word = blanks.word (ap ends_word all ∙ nothing-ends.word);
+      value = ap begins_colon told ∙ nothing-ends.value;
+    } in
+    (array-stands js t 0 first last begin rest).told fresh refl ends ∙ ap (λ l. json_tokens (json.array js) ++ l) (ap (punctuate after_value) told ∙ nothing-left)
+    ∙ append-nil (json_tokens (json.array js))
+
+pub deeper : (n m : ℕ) (k : ShapeData) (v : TreeData) (t : List ℕ) (at end : ℕ) → n ≤ m → ReadsValue n k v t at end → ReadsValue m k v t at end
+deeper n m k v t at end le h = record { stands = h.stands; good = record { fit = h.good.fit; range = h.good.range; shallow = omega (arith, le, h.good.shallow) } }
+
+pub may-past : (b : Bool) (t : List ℕ) (i n : ℕ) → MayStand b t i n → i ≤ n
+may-past true t i n h = omega (arith, h.some)
+may-past false t i n h = omega (arith, h)

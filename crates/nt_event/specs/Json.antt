@@ -19,20 +19,28 @@ hex_data s = object (member (codes "hex") (string (encode_lower s)) no_members)
 abbrev pub text_data : List ℕ → Data
 text_data s = if is_utf8 s then string s else hex_data s
 
--- the JSON that a tree is
+-- the JSON that a tree is, by what its texts are
 abbrev mutual
-  pub data_of : TreeData → Data
-  data_of (flag b) = boolean b
-  data_of (num z) = number (num_data z)
-  data_of (text s) = text_data s
-  data_of (items vs) = array (datas_of vs)
-  data_of (parts vs) = array (datas_of vs)
-  data_of (pick tag v) = array (item (number (unsigned tag)) (item (data_of v) no_items))
-  data_of nothing = null
+  pub data_with : (List ℕ → Data) → TreeData → Data
+  data_with f (flag b) = boolean b
+  data_with f (num z) = number (num_data z)
+  data_with f (text s) = f s
+  data_with f (items vs) = array (datas_with f vs)
+  data_with f (parts vs) = array (datas_with f vs)
+  data_with f (pick tag v) = array (item (number (unsigned tag)) (item (data_with f v) no_items))
+  data_with f nothing = null
 
-  pub datas_of : TreesData → Items
-  datas_of no_trees = no_items
-  datas_of (tree v vs) = item (data_of v) (datas_of vs)
+  pub datas_with : (List ℕ → Data) → TreesData → Items
+  datas_with f no_trees = no_items
+  datas_with f (tree v vs) = item (data_with f v) (datas_with f vs)
+
+-- the JSON that a tree is
+abbrev pub data_of : TreeData → Data
+data_of v = data_with text_data v
+
+-- the JSON that each of the trees is
+abbrev pub datas_of : TreesData → Items
+datas_of vs = datas_with text_data vs
 
 -- an entry's line, without its end
 abbrev pub line_of : TreesData → List ℕ

@@ -3,7 +3,6 @@ pub mod Json
 pub mod Line
 pub mod Plain
 pub mod Standing
-pub mod Depth
 pub mod Entry
 pub mod Lines
 pub mod LineParts

@@ -7,10 +7,9 @@ ghost use Rattle.nt_types.specs.TreeData.{trees_of};
 ghost use Rattle.nt_types.specs.TreeViews.{trees_view};
 ghost use Rattle.nt_event.specs.Entry.{entry_of, IsFaultOf};
 ghost use Rattle.nt_event.specs.Limits.{max_line};
-ghost use Rattle.nt_event.specs.Depth.{AreShallow};
 
 use crate::fault::{TextError, TextKind};
-use crate::scan::read_compact;
+use crate::scan::read_written;
 use crate::values::each_member;
 use nt_types::{Fields, Trees};
 use serde_json::{Category, Value};
@@ -45,9 +44,9 @@ fn read_value(alloc: Global, line: &[u8], fields: &Fields) -> Result<Trees, Text
 
 /// Reads the entry of a line, whose LF is taken off: a JSON array with one value for each field, at most 2^24 bytes.
 ///
-/// A line in the compact form of [`crate::write_line`] is read without a JSON value in between.
+/// A line as [`crate::write_line`] puts it, or with blanks behind its commas and at its end, is read without a JSON value in
+/// between; so are texts with escapes and beyond ASCII.
 pub fn read_line(alloc: Global, bytes: &[u8], fields: &Fields) -> Result<Trees, TextError>
-    requires { AreShallow (members_view fields.now) }
     ensures ok { IfOk result (λ ts. entry_of (parts_of (members_view fields.now)) bytes.now ≡ Ok (trees_of (trees_view ts))) }
     ensures err { IfErr result (λ e. IsFaultOf (entry_of (parts_of (members_view fields.now)) bytes.now) e) }
 {
@@ -55,7 +54,7 @@ pub fn read_line(alloc: Global, bytes: &[u8], fields: &Fields) -> Result<Trees, 
         return Err(TextError::Kind(TextKind::TooLong));
     }
     if let Ok(_text) = simdutf8::compat::from_utf8(bytes) {
-        match read_compact(alloc, bytes, fields) {
+        match read_written(alloc, bytes, fields) {
             Ok(Some(trees)) => return Ok(trees),
             Ok(None) => {}
             Err(AllocError) => return Err(TextError::Memory),

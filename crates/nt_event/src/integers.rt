@@ -7,7 +7,7 @@ ghost use Rattle.nt_types.specs.Fits.{is_int};
 ghost use Rattle.nt_event.specs.Json.{data_of, InWord};
 ghost use Rattle.nt_event.specs.Standing.{StandsFrom};
 
-use crate::compact::after;
+use crate::marks::after;
 
 /// No zero stands before other digits.
 fn has_no_zeros(text: &[u8], at: usize, end: usize) -> bool

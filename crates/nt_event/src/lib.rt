@@ -10,13 +10,14 @@
 #![tactic(auto)]
 
 mod blanks;
-mod compact;
 mod entry;
+mod escapes;
 mod fault;
 mod integers;
 mod laws;
 mod leaf;
 mod lines;
+mod marks;
 mod printing;
 mod quoted;
 mod scan;

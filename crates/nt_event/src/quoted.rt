@@ -1,17 +1,26 @@
-//! Strings of bytes that stand for themselves.
+//! Strings as they stand in JSON.
 
-ghost use Rattle.std.specs.Prelude.{◌∷◌, [], ◌++◌, ◌≤◌, length, IfOk, IfSome, IsTrue};
+ghost use Rattle.std.specs.Prelude.{◌≡◌, ◌++◌, ◌≤◌, length, IfOk, IfSome, IsTrue, OnOk};
 ghost use Rattle.std.specs.List.{slice_range};
-ghost use Rattle.nt_event.specs.Standing.{StandsFrom};
-ghost use Rattle.nt_event.specs.Plain.{AllPlain, Plain};
+ghost use Rattle.std.specs.Char.{encode_utf8};
+ghost use Rattle.hex.specs.Hex.{IsBytes};
+ghost use Rattle.json.specs.Json as json;
+ghost use Rattle.nt_event.specs.Plain.{AllPlain, Plain, EndsString};
+ghost use Rattle.nt_event.specs.Standing.{ValueStands};
 
-use crate::compact::after;
+use crate::escapes::escape;
+use crate::marks::after;
 use std::alloc::{AllocError, Global};
+
+/// Each item of a slice of bytes is one.
+fn are_bytes(bytes: &[u8])
+    ensures { IsBytes bytes.now }
+{}
 
 fn is_plain(byte: u8) -> bool
     ensures { IsTrue result → Plain byte }
 {
-    byte >= 32 && byte < 128 && byte != b'"' && byte != b'\\'
+    byte >= 32 && byte != b'"' && byte != b'\\'
 }
 
 /// The end of bytes that stand for themselves.
@@ -28,22 +37,71 @@ fn plain_end(text: &[u8], at: usize) -> usize
     i
 }
 
-/// A string of bytes that stand for themselves.
+/// Appends the bytes of a character.
+fn put_char(c: char, bytes: &mut Vec<u8>) -> Result<(), AllocError>
+    ensures { OnOk result (bytes.new.items ≡ bytes.old.items ++ encode_utf8 c) }
+{
+    let mut buffer = [0; 4];
+    bytes.extend_from_slice(c.encode_utf8(&mut buffer).as_bytes())
+}
+
+/// The inside of a string that has escapes, and the place behind its closing quote.
+fn escaped(alloc: Global, text: &[u8], at: usize) -> Result<Option<(Vec<u8>, usize)>, AllocError>
+    requires { at ≤ length text.now }
+    ensures { IfOk result (λ found. IfSome found (λ r. EndsString r.0.items text.now at r.1)) }
+{
+    let mut bytes = Vec::new(alloc);
+    let mut i = at;
+    while i < text.len() {
+        let stop = plain_end(text, i);
+        bytes.extend_from_slice(&text[i..stop])?;
+        if let Some(end) = after(text, stop, b'"') {
+            return Ok(Some((bytes, end)));
+        }
+        let Some(next) = after(text, stop, b'\\') else {
+            return Ok(None);
+        };
+        let Some((c, end)) = escape(text, next) else {
+            return Ok(None);
+        };
+        put_char(c, &mut bytes)?;
+        i = end;
+    }
+    Ok(None)
+}
+
+/// The inside of a string, and the place behind its closing quote.
+pub(crate) fn inside(
+    alloc: Global,
+    text: &[u8],
+    at: usize,
+) -> Result<Option<(Vec<u8>, usize)>, AllocError>
+    requires { at ≤ length text.now }
+    ensures { IfOk result (λ found. IfSome found (λ r. EndsString r.0.items text.now at r.1)) }
+{
+    let last = plain_end(text, at);
+    match after(text, last, b'"') {
+        Some(end) => Ok(Some((Vec::from_slice(alloc, &text[at..last])?, end))),
+        None => escaped(alloc, text, at),
+    }
+}
+
+/// A string.
 pub(crate) fn string(
     alloc: Global,
     text: &[u8],
     at: usize,
 ) -> Result<Option<(Vec<u8>, usize)>, AllocError>
     requires { at ≤ length text.now }
-    ensures spells { IfOk result (λ found. IfSome found (λ r. StandsFrom (34 ∷ (r.0.items ++ 34 ∷ [])) text.now at r.1)) }
-    ensures plain { IfOk result (λ found. IfSome found (λ r. AllPlain r.0.items)) }
+    ensures stands { IfOk result (λ found. IfSome found (λ r. ValueStands (json.string r.0.items) text.now at r.1)) }
+    ensures bytes { IfOk result (λ found. IfSome found (λ r. IsBytes r.0.items)) }
 {
     let Some(first) = after(text, at, b'"') else {
         return Ok(None);
     };
-    let last = plain_end(text, first);
-    match after(text, last, b'"') {
-        Some(end) => Ok(Some((Vec::from_slice(alloc, &text[first..last])?, end))),
-        None => Ok(None),
-    }
+    let Some((bytes, end)) = inside(alloc, text, first)? else {
+        return Ok(None);
+    };
+    are_bytes(bytes.as_slice());
+    Ok(Some((bytes, end)))
 }

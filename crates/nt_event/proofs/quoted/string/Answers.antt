@@ -1,8 +1,11 @@
-use Rattle.nt_event.proofs.Texts.{string-spelled}
+use Rattle.std.proofs.Common.{IfSome, subst}
+use Rattle.nt_event.specs.Plain.{EndsString}
+use Rattle.nt_event.proofs.Lexing.{string-stands}
 use Rattle.nt_event.proofs.quoted.string.Goals as goal
 
-pub returns-in_ok-from_slice-in-Some-after-clause-spells :
-    goal.returns-in_ok-from_slice-in-Some-after-clause-spells
-returns-in_ok-from_slice-in-Some-after-clause-spells c =
-    let p = c.plain_end-last.ensures in
-    string-spelled c.args.text.now c.args.at c.in-Some.first c.plain_end-last.result c.in-Some-after.end _ c.in-Some.ensures p.low p.high c.in-Some-after.ensures c.in_ok-from_slice-in-Some-after.ensures.items
+pub returns-clause-stands : goal.returns-clause-stands
+returns-clause-stands c =
+    let t = c.args.text.now in
+    let first = c.in-Some.first in
+    let h = subst (λ o. IfSome o (λ r. EndsString r.0.items t first r.1)) c.in-Some-2.is c.in_ok-bytes.ensures in
+    string-stands c.in-Some-2.bytes.items t c.args.at first c.in-Some-2.end c.in-Some.ensures h.read h.lexed h.past h.within

@@ -1,10 +1,10 @@
-//! The marks and words of a line in its compact form.
+//! The marks, blanks and words of a line.
 
-ghost use Rattle.std.specs.Prelude.{◌∷◌, [], ◌≤◌, length, true, false, IfSome};
-ghost use Rattle.serde_json.specs.Written.{compact_text, comma_if};
+ghost use Rattle.std.specs.Prelude.{◌≡◌, ◌⊎◌, ◌∷◌, [], ◌≤◌, length, true, false, IfSome, IsTrue};
+ghost use Rattle.serde_json.specs.Written.{compact_text};
 ghost use Rattle.nt_types.specs.TreeData.{flag};
 ghost use Rattle.nt_event.specs.Json.{data_of};
-ghost use Rattle.nt_event.specs.Standing.{StandsFrom, MayStandFrom};
+ghost use Rattle.nt_event.specs.Standing.{StandsFrom, BlanksStand, CommaStands, MayStand};
 
 /// Passes a byte.
 pub(crate) fn after(text: &[u8], at: usize, byte: u8) -> Option<usize>
@@ -17,16 +17,37 @@ pub(crate) fn after(text: &[u8], at: usize, byte: u8) -> Option<usize>
     }
 }
 
-/// Passes a comma, where something stands before.
-pub(crate) fn comma(text: &[u8], at: usize, later: bool) -> Option<usize>
-    requires { at ≤ length text.now }
-    ensures { IfSome result (λ end. MayStandFrom (comma_if later) text.now at end) }
+fn is_blank(byte: u8) -> bool
+    ensures { IsTrue result → (byte ≡ 32) ⊎ ((byte ≡ 9) ⊎ (byte ≡ 13)) }
 {
-    if later {
-        after(text, at, b',')
-    } else {
-        Some(at)
+    byte == b' ' || byte == b'\t' || byte == b'\r'
+}
+
+/// Passes blanks.
+pub(crate) fn after_blanks(text: &[u8], at: usize) -> usize
+    requires { at ≤ length text.now }
+    ensures { BlanksStand text.now at result }
+{
+    let mut i = at;
+    while i < text.len() && is_blank(text[i]) {
+        i += 1;
     }
+    i
+}
+
+/// Passes a comma and the blanks behind it.
+pub(crate) fn comma(text: &[u8], at: usize) -> Option<usize>
+    ensures { IfSome result (λ end. CommaStands text.now at end) }
+{
+    let next = after(text, at, b',')?;
+    Some(after_blanks(text, next))
+}
+
+/// Passes a comma and the blanks behind it, where something stands before.
+pub(crate) fn comma_if(text: &[u8], at: usize, later: bool) -> Option<usize>
+    ensures { IfSome result (λ end. MayStand later text.now at end) }
+{
+    if later { comma(text, at) } else { Some(at) }
 }
 
 /// Passes `null`.
