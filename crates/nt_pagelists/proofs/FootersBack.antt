@@ -21,7 +21,7 @@ use Rattle.nt_pagelists.proofs.Parts.{sum-reads, front-below, back-below}
 use Rattle.nt_grammar.specs.Table.{table_of}
 use Rattle.nt_grammar.specs.declared.rows.FieldRow.{FieldRow}
 use Rattle.nt_grammar.specs.declared.rows.ColumnRow.{ColumnRow}
-use Rattle.nt_grammar.specs.Writing.{description, fields_of, columns_of}
+use Rattle.nt_grammar.specs.Writing.{description, part_fields, part_columns}
 use Rattle.nt_grammar.specs.ReadingBack.{IsDescribed, header_of, before, up_to}
 use Rattle.nt_grammar.proofs.ReadingParts.{part-reads}
 use Rattle.nt_pagelists.proofs.GroupsBack.{group-list-reads}
@@ -83,22 +83,22 @@ no_extension t fields columns =
     ∙ ap (λ (l : List ColumnRow). table_of t.fields l t.header_fields t.header_columns) (all_taken t.header_columns t.columns columns))
 
 some_rows : (t : Table) → IsDescribed t → length t.fields < 2 ^ 32 → length t.columns < 2 ^ 32
-    → length (description (fields_of Extension t) (columns_of Extension t)) < 2 ^ 63
-    → IsExtension (before Extension t) t (description (fields_of Extension t) (columns_of Extension t))
+    → length (description (part_fields Extension t) (part_columns Extension t)) < 2 ^ 63
+    → IsExtension (before Extension t) t (description (part_fields Extension t) (part_columns Extension t))
 unfolding IsExtension
 some_rows t is fields columns short =
-    let inside = description (fields_of Extension t) (columns_of Extension t) in
+    let inside = description (part_fields Extension t) (part_columns Extension t) in
     inr (omega arith, λ place. (standing (place + length inside) [], ap (λ (l : List ℕ). description_at Extension (before Extension t) (standing place l)) (sym (append-nil inside)) ∙ part-reads Extension t place [] is fields columns short))
 
-no_rows_there : (t : Table) → length (fields_of Extension t) ≡ 0 → length (columns_of Extension t) ≡ 0 → IsExtension (before Extension t) t []
+no_rows_there : (t : Table) → length (part_fields Extension t) ≡ 0 → length (part_columns Extension t) ≡ 0 → IsExtension (before Extension t) t []
 unfolding IsExtension
 no_rows_there t fields columns = inl (refl, no_extension t fields columns)
 
 -- the bytes of an extension are its rows, or none
-extension-by : (t : Table) (no_field no_column : Bool) → (no_field ≡ true → length (fields_of Extension t) ≡ 0) → (no_column ≡ true → length (columns_of Extension t) ≡ 0)
+extension-by : (t : Table) (no_field no_column : Bool) → (no_field ≡ true → length (part_fields Extension t) ≡ 0) → (no_column ≡ true → length (part_columns Extension t) ≡ 0)
     → IsDescribed t → length t.fields < 2 ^ 32 → length t.columns < 2 ^ 32
-    → length (cond (no_field && no_column) [] (description (fields_of Extension t) (columns_of Extension t))) < 2 ^ 63
-    → IsExtension (before Extension t) t (cond (no_field && no_column) [] (description (fields_of Extension t) (columns_of Extension t)))
+    → length (cond (no_field && no_column) [] (description (part_fields Extension t) (part_columns Extension t))) < 2 ^ 63
+    → IsExtension (before Extension t) t (cond (no_field && no_column) [] (description (part_fields Extension t) (part_columns Extension t)))
 extension-by t true true f c is fields columns short = no_rows_there t (f refl) (c refl)
 extension-by t true false f c is fields columns short = some_rows t is fields columns short
 extension-by t false other f c is fields columns short = some_rows t is fields columns short
@@ -106,7 +106,7 @@ extension-by t false other f c is fields columns short = some_rows t is fields c
 extension-is : (t : Table) → IsDescribed t → length t.fields < 2 ^ 32 → length t.columns < 2 ^ 32 → length (extension_text t) < 2 ^ 63
     → IsExtension (before Extension t) t (extension_text t)
 unfolding extension_text
-extension-is t = extension-by t (eqb (length (fields_of Extension t)) 0) (eqb (length (columns_of Extension t)) 0) (eqb-true _ _) (eqb-true _ _)
+extension-is t = extension-by t (eqb (length (part_fields Extension t)) 0) (eqb (length (part_columns Extension t)) 0) (eqb-true _ _) (eqb-true _ _)
 
 extension-short : (sum : ℕ) (inside : List ℕ) (gs : List Group) → length (footer_with sum inside gs) < 2 ^ 63 → length inside < 2 ^ 63
 extension-short sum inside gs short =

@@ -4,7 +4,7 @@ use Rattle.std.specs.Int.{w32, w64, to_le_bytes}
 use Rattle.nt_format.specs.Frames.{record_frame, list_frame}
 use Rattle.nt_format.specs.Locators.{link}
 use Rattle.nt_grammar.specs.Table.{Table}
-use Rattle.nt_grammar.specs.Writing.{description, fields_of, columns_of}
+use Rattle.nt_grammar.specs.Writing.{description, part_fields, part_columns}
 use Rattle.nt_grammar.specs.declared.part.Part.TheVariants.{Extension}
 use Rattle.nt_pagelists.specs.declared.group.Group.{Group}
 
@@ -19,8 +19,8 @@ group_texts gs = flat_map group_text gs
 -- what is in the frame of the extension: the rows that don't stand in the header, or nothing where there are none
 unfoldable pub extension_text : Table → List ℕ
 extension_text t =
-    if (length (fields_of Extension t) == 0) && (length (columns_of Extension t) == 0) then []
-    else description (fields_of Extension t) (columns_of Extension t)
+    if (length (part_fields Extension t) == 0) && (length (part_columns Extension t) == 0) then []
+    else description (part_fields Extension t) (part_columns Extension t)
 
 -- a footer: no flags, the checksum of the header, the frame of the extension, and the groups
 unfoldable pub footer_text : ℕ → Table → List Group → List ℕ

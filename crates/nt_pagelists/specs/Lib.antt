@@ -7,3 +7,4 @@ pub mod Footers
 pub mod Writing
 pub mod FooterWriting
 pub mod ReadingBack
+pub mod Books
