@@ -51,7 +51,7 @@ sum-take-with_state f blind rows n s k =
 
 each-with_state : (columns : ℕ) (rows : List ClusterRow) (n : ℕ) (s : RangeState) → AllByRecursion (IsRowOf columns) rows → AllByRecursion (IsRowOf columns) (with_state rows n s)
 each-with_state columns [] n s h = tt
-each-with_state columns (row ∷ rows) zero s h = (record { short = h.0.short; lists = h.0.lists; paged = h.0.paged }, h.1)
+each-with_state columns (row ∷ rows) zero s h = (record { short = h.0.short; low = h.0.low; lists = h.0.lists; paged = h.0.paged }, h.1)
 each-with_state columns (row ∷ rows) (suc n) s h = (h.0, each-with_state columns rows n s h.1)
 
 AreFirsts-with_state : (entries : ℕ) (rows : List ClusterRow) (n : ℕ) (s : RangeState) → AreFirsts entries rows → AreFirsts entries (with_state rows n s)

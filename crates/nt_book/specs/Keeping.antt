@@ -35,9 +35,10 @@ IsKindOf count n Settled = Unit {0}
 IsKindOf count n (Spoiled faults) = Unit {0}
 IsKindOf count n (Faulted faults) = Unit {0}
 
--- a row has a list of pages for each column, and pages that lie in it; no range is longer than the largest limit
+-- a row has a list of pages for each column, and pages that lie in it; the largest limits hold
 pub record IsRowOf (columns : ℕ) (row : ClusterRow) : Type 0 where
   pub short : row.meta.len ≤ 2 ^ 30
+  pub low : row.start + row.meta.len ≤ 2 ^ 56
   pub lists : length row.meta.pages ≡ columns
   pub paged : IsPaged row.meta
 

@@ -1,8 +1,9 @@
 //! What a book tells of its clusters.
 
-ghost use Rattle.std.specs.Prelude.{◌≡◌, ◌<◌, ◌≤◌, ◌^◌, length, IfOk};
+ghost use Rattle.std.specs.Prelude.{◌≡◌, ◌<◌, length, IfOk};
 ghost use Rattle.nt_machine.specs.History.{order_of};
 ghost use Rattle.nt_book.specs.Books.{book_clusters, book_end, cluster_at, column_offset, entry_count, first_entry};
+ghost use Rattle.nt_book.specs.Kept.{IsKept};
 ghost use Rattle.nt_book.specs.Entries.{fate_of};
 ghost use Rattle.nt_book.specs.Pages.{IsPaged};
 
@@ -12,6 +13,13 @@ use crate::state::RangeState;
 use std::alloc::{AllocError, Global};
 
 impl Book {
+    /// What holds of each book: its history is legal, and its clusters keep the limits.
+    pub fn keeps(&self)
+        ensures { IsKept self.now }
+    {
+        let _begin = self.begin; // a look at the book, so that its invariant is known here
+    }
+
     /// The contexts of the clusters, in the order of their commits.
     pub fn order(&self, alloc: Global) -> Result<Vec<u32>, AllocError>
         ensures { IfOk result (λ order. order.items ≡ order_of (book_clusters self.now)) }
@@ -45,9 +53,7 @@ impl Book {
         requires { cluster < length (book_clusters self.now) }
         ensures meta { result.now ≡ (cluster_at self.now cluster).meta }
         ensures lists { length result.now.pages ≡ length self.now.firsts }
-        ensures columns { length self.now.firsts < 2 ^ 32 }
         ensures paged { IsPaged result.now }
-        ensures short { result.now.len ≤ 2 ^ 30 }
     {
         &self.rows[cluster as usize].meta
     }

@@ -86,7 +86,7 @@ invariant_of-self c =
       subst (λ (rs : List ClusterRow). IsCounted c.self.inside.begin (c.self.inside.end + c.take.result.len) (c.self.inside.entries + c.take.result.entries) (c.self.inside.out + 1) c.self.inside.limits c.self.inside.firsts.items rs)
           (sym c.push_reserved-2.ensures.items)
           (IsCounted-append c.self.inside.rows.items row c.self.inside.begin c.self.inside.end c.self.inside.entries c.self.inside.out c.self.inside.limits c.self.inside.firsts.items refl refl
-          (record { short = omega (arith, fits.0, c.self.inside.limits.range_bound); lists = lists; paged = paged }) fits.1 fits.2 counted),
+          (record { short = omega (arith, fits.0, c.self.inside.limits.range_bound); low = omega (arith, fits.1, c.self.inside.limits.file_bound); lists = lists; paged = paged }) fits.1 fits.2 counted),
       subst (λ (rs : List ClusterRow). AreOffsets c.self.inside.firsts.items rs c.push_offsets.new.offsets.items) (sym c.push_reserved-2.ensures.items)
           (AreOffsets-pushed c.self.inside.rows.items row c.self.inside.firsts.items c.self.inside.offsets.items c.push_offsets.new.offsets.items _ _ c.as_slice.ensures (omega (arith, c.self.inside.offsets.ok)) lists
           c.self.invariant.2 (omega (arith, c.push_offsets.ensures.long, c.push_offsets.new.offsets.ok)) c.push_offsets.ensures.kept c.push_offsets.ensures.behind),

@@ -36,17 +36,3 @@ returns-clause-paged c =
     let counted = c.self.invariant.1 in
     let row = each-at (IsRowOf (length c.self.inside.firsts.items)) c.self.inside.rows.items c.args.cluster c.index.result.now counted.each less in
     subst (λ (r : ClusterRow). IsPaged r.meta) (sym c.index.ensures) row.paged
-
-pub returns-clause-columns : goal.returns-clause-columns
-returns-clause-columns c =
-    let counted = c.self.invariant.1 in
-    omega (arith, counted.columns, ap (λ (b : BookData). length b.firsts) c.self.view_is)
-
-pub returns-clause-short : goal.returns-clause-short
-returns-clause-short c =
-    let h = c.self.invariant.0 in
-    let told = ap (λ (b : BookData). b.history) c.self.view_is in
-    let less : c.args.cluster < length c.self.inside.rows.items = omega (arith, c.requires, length-book _ _ _ h c.args.self.now told) in
-    let counted = c.self.invariant.1 in
-    let row = each-at (IsRowOf (length c.self.inside.firsts.items)) c.self.inside.rows.items c.args.cluster c.index.result.now counted.each less in
-    omega (arith, row.short, ap (λ (r : ClusterRow). r.meta.len) c.index.ensures)
