@@ -9,7 +9,7 @@ use Rattle.nt_outside.specs.declared.stream.Stream.TheVariants.{ToOut}
 use Rattle.nt_outside.specs.Log.{Step}
 use Rattle.nt_outside.specs.Held.{Held}
 use Rattle.nt_outside.specs.World.{World, Files, Stored, file, creates, keeps_disk, prints}
-use Rattle.nt_app.specs.PlainFile.{plain_file}
+use Rattle.nt_onefield.specs.PlainFile.{plain_file}
 use Rattle.nt_app.specs.declared.stop.Stop.{Stop}
 use Rattle.nt_app.specs.declared.stop.Stop.TheVariants as stop
 use Rattle.nt_app.specs.Events.{IsEventText}

@@ -4,9 +4,9 @@ use Rattle.std.proofs.Math.Seq.{drop-append_seam}
 use Rattle.nt_lists.specs.Places.{put_at}
 use Rattle.nt_outside.specs.Held.{Held, IsTornWrite}
 use Rattle.std.specs.Prelude.{replicate}
-use Rattle.nt_app.specs.Header.{header_blob}
-use Rattle.nt_app.specs.Cluster.{cluster_blob}
-use Rattle.nt_app.specs.PlainFile.{front, tail, parts, plain_file}
+use Rattle.nt_onefield.specs.Header.{header_blob}
+use Rattle.nt_onefield.specs.Cluster.{cluster_blob}
+use Rattle.nt_onefield.specs.PlainFile.{front, tail, parts, plain_file}
 use Rattle.nt_app.specs.Writing.{IsUnfinished, BeginsWithZero, blank, file_begun, gathered, finished}
 
 -- bytes behind the first one, or written over those behind it, leave it

@@ -7,14 +7,14 @@ use Rattle.nt_outside.specs.declared.fault.Refused.{Refused}
 use Rattle.nt_outside.specs.declared.fault.Refused.TheVariants as refused
 use Rattle.nt_outside.specs.Source.{IsFrontOf}
 use Rattle.nt_outside.specs.World.{World, Asked, file}
-use Rattle.nt_app.specs.PlainFile.{IsPlainFile}
+use Rattle.nt_onefield.specs.PlainFile.{IsPlainFile}
 use Rattle.nt_app.specs.Writing.{IsUnfinished}
 use Rattle.nt_app.specs.Stops.{IsThereWith, AsksFirst}
 use Rattle.nt_app.specs.Entries.{IsNotRoot, FirstFault, status_of_refusal, ListTold, EntriesTold}
 use Rattle.nt_app.specs.Writes.{KeepsFiles, AsksAsDone}
 use Rattle.nt_app.specs.declared.status.Status.{Status}
 use Rattle.nt_app.specs.declared.status.Status.TheVariants as status
-use Rattle.nt_app.proofs.Inverse.{size-IsPlainFile}
+use Rattle.nt_onefield.proofs.Inverse.{size-IsPlainFile}
 use Rattle.nt_app.proofs.Fronts.{whole_front}
 
 -- a file that is there

@@ -6,8 +6,8 @@ use Rattle.nt_num.specs.declared.fault.ReadError.{ReadError}
 use Rattle.nt_outside.specs.Faults.{Rose}
 use Rattle.nt_outside.specs.World.{World, Asked, Text, File, Out, HostState, file}
 use Rattle.nt_app.specs.CommandLine.{IsWrite, IsEntries}
-use Rattle.nt_app.specs.Directory.{file_header_rest}
-use Rattle.nt_app.specs.PlainFile.{front, parts, plain_file, IsPlainFile}
+use Rattle.nt_onefield.specs.Directory.{file_header_rest}
+use Rattle.nt_onefield.specs.PlainFile.{front, parts, plain_file, IsPlainFile}
 use Rattle.nt_types.specs.ShapeData.{MemberData}
 use Rattle.nt_types.specs.declared.fault.SchemaFault.{SchemaFault}
 use Rattle.nt_app.specs.declared.status.TextFault.{TextFault}

@@ -6,7 +6,7 @@ use Rattle.nt_outside.specs.declared.fault.Refused.TheVariants as refused
 use Rattle.nt_outside.specs.declared.stream.Stream.TheVariants.{ToOut}
 use Rattle.nt_outside.specs.Faults.{Rose}
 use Rattle.nt_outside.specs.World.{World, File, HostState, file, prints}
-use Rattle.nt_app.specs.PlainFile.{IsPlainFile}
+use Rattle.nt_onefield.specs.PlainFile.{IsPlainFile}
 use Rattle.nt_app.specs.Events.{event_lines}
 use Rattle.nt_app.specs.Writing.{IsUnfinished}
 use Rattle.nt_app.specs.Stops.{IsThereWith}

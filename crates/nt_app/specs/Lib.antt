@@ -1,16 +1,3 @@
-pub mod Container
-pub mod Frames
-pub mod Envelopes
-pub mod Header
-pub mod Cluster
-pub mod PageList
-pub mod Footer
-pub mod Directory
-pub mod PlainFile
-pub mod Words
-pub mod Reading
-pub mod Pointers
-pub mod Laws
 pub mod Events
 pub mod Statuses
 pub mod CommandLine

@@ -4,7 +4,7 @@ use Rattle.nt_num.specs.declared.fault.ReadError.{ReadError}
 use Rattle.nt_outside.specs.declared.stream.Stream.TheVariants.{ToErr}
 use Rattle.nt_outside.specs.Faults.{Rose}
 use Rattle.nt_outside.specs.World.{World, Text, File, Out, HostState, file, prints}
-use Rattle.nt_app.specs.PlainFile.{IsPlainFile}
+use Rattle.nt_onefield.specs.PlainFile.{IsPlainFile}
 use Rattle.nt_app.specs.Schemas.{IsSchemaText}
 use Rattle.nt_app.specs.Events.{IsEventText}
 use Rattle.nt_app.specs.Stops.{IsThereWith}

@@ -5,7 +5,7 @@ use Rattle.nt_outside.specs.Faults.{Rose}
 use Rattle.nt_outside.specs.Log.{FailedAppend}
 use Rattle.nt_outside.specs.Held.{Held}
 use Rattle.nt_outside.specs.World.{World, Stored, Asked, Text, Out, HostState, stored, file, prints}
-use Rattle.nt_app.specs.PlainFile.{plain_file}
+use Rattle.nt_onefield.specs.PlainFile.{plain_file}
 use Rattle.nt_app.specs.Schemas.{IsSchemaText, IsNoSchemaBy}
 use Rattle.nt_app.specs.Events.{IsEventText}
 use Rattle.nt_app.specs.Writing.{IsUnfinished, NeverBegan}

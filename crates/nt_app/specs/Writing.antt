@@ -5,8 +5,8 @@ use Rattle.nt_outside.specs.Log.{FailedAppend}
 use Rattle.nt_outside.specs.Held.{Held}
 use Rattle.nt_app.specs.declared.stop.Stop.{Stop}
 use Rattle.nt_app.specs.declared.stop.Stop.TheVariants as stop
-use Rattle.nt_app.specs.Header.{header_blob}
-use Rattle.nt_app.specs.Cluster.{cluster_blob}
+use Rattle.nt_onefield.specs.Header.{header_blob}
+use Rattle.nt_onefield.specs.Cluster.{cluster_blob}
 
 -- room for file header and directory record
 unfoldable pub blank : List ℕ

@@ -12,11 +12,11 @@ ghost use Rattle.nt_app.specs.Stops.{AsksFirst, IsThereWith};
 ghost use Rattle.nt_app.specs.declared.status.Status.TheVariants as status;
 ghost use Rattle.nt_app.specs.Entries.{IsNotRoot, Judges, fault_at_start, status_of_refusal, ListTold, ListsFile};
 
-use crate::format::read_plain;
 use crate::status::Status;
 use crate::verdict::Verdict;
 use itoa::Buffer;
 use nt_num::ReadError;
+use nt_onefield::read_plain;
 use nt_outside::{Host, ReadAt, Refused, Stream, print_all};
 use std::alloc::{AllocError, Global};
 

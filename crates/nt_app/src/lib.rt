@@ -2,8 +2,7 @@
 //! the events of a file again. All that is promised of the program is said of the one call `run`.
 //!
 //! Start at `program.rt`. `words.rt` reads the words, `write.rt` and `entries.rt` are the commands, `writing.rt` the steps of a file
-//! that grows, `status.rt` and `message.rt` the answers and their lines. The folder `format` has the bytes of the file of one field;
-//! it is scaffold, which goes once the container, the page lists and the reader carry the program: don't polish it.
+//! that grows, `status.rt` and `message.rt` the answers and their lines. The bytes of the file stand in nt_onefield, as scaffold.
 //!
 //! Proved: all that `docs/PROOFS.md` lists of the program, as clauses of `run`. Tested, over memory in nt_rows: whole files, each
 //! answer with its line, and each call of the outside failing in turn.
@@ -11,7 +10,6 @@
 
 mod entries;
 mod events;
-mod format;
 mod message;
 mod program;
 mod status;
@@ -22,7 +20,6 @@ mod words;
 mod write;
 mod writing;
 
-pub use format::{has_chain, has_length, has_one_list, has_pieces, has_pointers};
 pub use program::run;
 pub use status::{Status, TextFault};
 pub use words::wrong_words_are_no_command;

@@ -4,11 +4,11 @@ ghost use Rattle.std.specs.Prelude.{◌≡◌, ◌⊎◌, ℕ, ◌+◌, ◌*◌,
 ghost use Rattle.nt_outside.specs.declared.fault.Refused.TheVariants as refused;
 ghost use Rattle.nt_outside.specs.Faults.{HasCause, RoseOnFailed};
 ghost use Rattle.nt_outside.specs.Held.{WhereHeld, BecomesSome, nothing_held};
-ghost use Rattle.nt_app.specs.Cluster.{cluster_blob};
-ghost use Rattle.nt_app.specs.PlainFile.{plain_file};
+ghost use Rattle.nt_onefield.specs.Cluster.{cluster_blob};
+ghost use Rattle.nt_onefield.specs.PlainFile.{plain_file};
 ghost use Rattle.nt_app.specs.Writing.{blank, file_begun, gathered, IsUnfinished, NeverBegan, Leaves, Keeps, finished, BeginsWithZero};
 
-use crate::format::{cluster_blob, front, header_blob, tail};
+use nt_onefield::{cluster_blob, front, header_blob, tail};
 use nt_outside::{Disk, Failed, Gate, Point, Refused};
 use std::alloc::Global;
 

@@ -1,0 +1,17 @@
+use Rattle.nt_onefield.specs.Header.{field_x}
+use Rattle.nt_onefield.proofs.Appends.{puts, ◌▸◌}
+use Rattle.nt_onefield.proofs.header.put_field.Goals as goal
+
+pub returns : goal.returns
+unfolding field_x
+returns c =
+    let all = puts _ _ _ c.in_ok-put_u32le.ensures.ok
+    ▸ puts _ _ _ c.in_ok-put_u32le-2.ensures.ok
+    ▸ puts _ _ _ c.in_ok-put_u32le-3.ensures.ok
+    ▸ puts _ _ _ c.in_ok-put_u16le.ensures.ok
+    ▸ puts _ _ _ c.in_ok-put_u16le-2.ensures.ok
+    ▸ puts _ _ _ c.in_ok-put_string.ensures.ok
+    ▸ puts _ _ _ c.in_ok-put_string-2.ensures.ok
+    ▸ puts _ _ _ c.in_ok-put_string-3.ensures.ok
+    ▸ puts _ _ _ c.in_ok-put_string-4.ensures.ok in
+    record { ok = all.is }
