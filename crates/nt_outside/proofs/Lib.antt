@@ -1,4 +1,5 @@
 pub mod Crashes
+pub mod Order
 pub mod Known
 pub mod Printing
 pub mod Ranges

@@ -4,6 +4,7 @@ pub mod File
 pub mod Log
 pub mod Reads
 pub mod Crash
+pub mod Order
 pub mod Range
 pub mod Held
 pub mod Disk

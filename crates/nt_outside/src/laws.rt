@@ -4,6 +4,7 @@ ghost use Rattle.std.specs.Prelude.{◌≡◌, ◌↔◌, ◌++◌, ◌∷◌, [
 ghost use Rattle.nt_outside.specs.Log.{Step, Sync};
 ghost use Rattle.nt_outside.specs.Reads.{Reads, IsKnown, known_of};
 ghost use Rattle.nt_outside.specs.Crash.{crash_of, MayLeave};
+ghost use Rattle.nt_outside.specs.Order.{IsInOrder, MayFollow};
 ghost use Rattle.nt_outside.specs.Laws.{Overwrites, Settling, Lengthens};
 
 /// Where every byte of a log is known, exactly one list of bytes reads it.
@@ -18,4 +19,9 @@ pub fn crashes_follow_steps()
     ensures appends { (log : List Step) → Lengthens log }
     ensures writes { (log : List Step) → Overwrites log }
     ensures settles { (log : List Step) → Settling log }
+{}
+
+/// A log in order stays so by each step that may follow it.
+pub fn steps_keep_order()
+    ensures { (log : List Step) (step : Step) → IsInOrder log → MayFollow log step → IsInOrder (log ++ step ∷ []) }
 {}

@@ -5,7 +5,8 @@
 //! A call's contract is one named relation between the state before, the state after and the answer.
 //!
 //! A disk tells a log of its steps. What the log reads as stands in `specs/Reads.antt`, and what a crash may leave of it in
-//! `specs/Crash.antt`; `known_logs_read_once` and `crashes_follow_steps` are their laws.
+//! `specs/Crash.antt`, and the order in which a file's first byte comes last in `specs/Order.antt`; `known_logs_read_once`,
+//! `crashes_follow_steps` and `steps_keep_order` are their laws.
 #![tactic(auto)]
 
 mod asked;
@@ -25,7 +26,7 @@ pub use fault::{Failed, Refused};
 pub use file::ReadAt;
 pub use gate::{Gate, NoGate, Point};
 pub use host::{Host, print_all};
-pub use laws::{crashes_follow_steps, known_logs_read_once};
+pub use laws::{crashes_follow_steps, known_logs_read_once, steps_keep_order};
 pub use range::{Ext, Pen, Range, take_off};
 pub use source::{Source, read_front};
 pub use stream::Stream;
