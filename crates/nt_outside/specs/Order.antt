@@ -28,5 +28,5 @@ MayAllFollow before [] = Unit {0}
 MayAllFollow before (step ∷ log) = MayFollow before step × MayAllFollow (before ++ step ∷ []) log
 
 -- the steps of a file whose first byte is written over only when all the rest stays
-abbrev pub IsInOrder : List Step → Type 0
-IsInOrder log = MayAllFollow [] log
+abbrev pub FirstByteLast : List Step → Type 0
+FirstByteLast log = MayAllFollow [] log

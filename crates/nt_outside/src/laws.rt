@@ -4,7 +4,7 @@ ghost use Rattle.std.specs.Prelude.{◌≡◌, ◌↔◌, ◌++◌, ◌∷◌, [
 ghost use Rattle.nt_outside.specs.Log.{Step, Sync};
 ghost use Rattle.nt_outside.specs.Reads.{Reads, IsKnown, known_of};
 ghost use Rattle.nt_outside.specs.Crash.{crash_of, MayLeave};
-ghost use Rattle.nt_outside.specs.Order.{IsInOrder, MayFollow};
+ghost use Rattle.nt_outside.specs.Order.{FirstByteLast, MayFollow};
 ghost use Rattle.nt_outside.specs.Laws.{Overwrites, Settling, Lengthens};
 
 /// Where every byte of a log is known, exactly one list of bytes reads it.
@@ -23,5 +23,5 @@ pub fn crashes_follow_steps()
 
 /// A log in order stays so by each step that may follow it.
 pub fn steps_keep_order()
-    ensures { (log : List Step) (step : Step) → IsInOrder log → MayFollow log step → IsInOrder (log ++ step ∷ []) }
+    ensures { (log : List Step) (step : Step) → FirstByteLast log → MayFollow log step → FirstByteLast (log ++ step ∷ []) }
 {}
