@@ -1,5 +1,8 @@
 //! The image of a cluster.
 
+ghost use Rattle.std.specs.Prelude.{◌≡◌, ◌≤◌, ◌++◌, length, drop};
+ghost use Rattle.nt_pages.specs.Image.{key_room};
+
 use nt_book::ClusterMeta;
 use nt_bytes::Bytes;
 
@@ -10,4 +13,16 @@ pub struct ClusterImage {
     pub bytes: Bytes,
     /// Where its pages lie, counted from the beginning of the payload.
     pub meta: ClusterMeta,
+}
+
+impl ClusterImage {
+    /// Writes the key into its room. The payload and what is kept of the cluster stay.
+    pub fn put_key(&mut self, key: &[u8])
+        requires key { length key.now ≡ key_room }
+        requires room { key_room ≤ length self.old.bytes }
+        ensures bytes { self.new.bytes ≡ key.now ++ drop key_room self.old.bytes }
+        ensures meta { self.new.meta ≡ self.old.meta }
+    {
+        self.bytes.put_over(0, key);
+    }
 }
