@@ -11,7 +11,7 @@ use Rattle.nt_format.specs.Relations.{Agrees, With, Passes, IsThere}
 use Rattle.nt_format.specs.declared.fault.EnvelopeFault.{EnvelopeFault}
 use Rattle.nt_format.proofs.Envelopes.{payload_again, payload_takes}
 use Rattle.nt_format.proofs.Relations.{bind, test, there, piece_bytes, in_words}
-use Rattle.nt_files.specs.Envelopes.{Sealed, Block, sealed, opened, envelope_of, IsEnvelope, inside_of}
+use Rattle.nt_files.specs.Envelopes.{Sealed, Block, sealed, opened_envelope, envelope_of, IsEnvelope, inside_of}
 
 -- bytes are an envelope of this kind
 record IsSealed (kind : ℕ) (bytes : List ℕ) (is : Sealed) : Type 0 where
@@ -22,16 +22,16 @@ record IsSealed (kind : ℕ) (bytes : List ℕ) (is : Sealed) : Type 0 where
 sealed_is : (kind : ℕ) (is : Sealed) → is.sum ≡ xxh3 (unsealed kind is.payload) → sealed kind is.payload ≡ is
 sealed_is kind is e = ap (λ (s : ℕ). record { payload = is.payload; sum = s }) (sym e)
 
-opened_ok : (place kind : ℕ) (bytes : List ℕ) (r : Result (List ℕ) EnvelopeFault) (is : Sealed) → opened place kind bytes r ≡ Ok is
+opened_ok : (place kind : ℕ) (bytes : List ℕ) (r : Result (List ℕ) EnvelopeFault) (is : Sealed) → opened_envelope place kind bytes r ≡ Ok is
     → (payload : List ℕ) × (r ≡ Ok payload) × (sealed kind payload ≡ is)
 opened_ok place kind bytes (Ok payload) is e = (payload, refl, ok_is {E = ReadError} (sealed kind payload) is e)
 opened_ok place kind bytes (Err f) is e = absurd cc
 
-opening : (place kind : ℕ) (bytes : List ℕ) → kind < 2 ^ 16 → IsBytes bytes → Agrees (opened place kind bytes (payload_of kind bytes)) (IsSealed kind bytes)
+opening : (place kind : ℕ) (bytes : List ℕ) → kind < 2 ^ 16 → IsBytes bytes → Agrees (opened_envelope place kind bytes (payload_of kind bytes)) (IsSealed kind bytes)
 opening place kind bytes low fits = record {
   reads = λ is h.
       let small : length is.payload + 16 < 2 ^ 48 = h.small in
-      ap (λ (r : Result (List ℕ) EnvelopeFault). opened place kind bytes r) (ap (λ (l : List ℕ). payload_of kind l) h.all ∙ payload_again kind is.payload low h.small)
+      ap (λ (r : Result (List ℕ) EnvelopeFault). opened_envelope place kind bytes r) (ap (λ (l : List ℕ). payload_of kind l) h.all ∙ payload_again kind is.payload low h.small)
       ∙ ap (λ (s : Sealed). Ok s) (sealed_is kind is h.sum);
   finds = λ is e.
       let o = opened_ok place kind bytes (payload_of kind bytes) is e in

@@ -1,2 +1,5 @@
 pub mod EnvelopesBack
 pub mod OutlinesBack
+pub mod SoundBack
+pub mod ClustersBack
+pub mod FilesBack

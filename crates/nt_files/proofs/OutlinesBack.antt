@@ -13,7 +13,7 @@ use Rattle.nt_pagelists.specs.declared.cluster.ClusterList.{ClusterList}
 use Rattle.nt_pagelists.specs.PageLists.{ProgressCounts, page_list_at}
 use Rattle.nt_pagelists.specs.Footers.{footer_at}
 use Rattle.nt_files.specs.Envelopes.{IsEnvelope, header_kind, footer_kind, page_list_kind}
-use Rattle.nt_files.specs.Headers.{header_at}
+use Rattle.nt_files.specs.Headers.{header_payload_at}
 use Rattle.nt_files.specs.Outlines.{Outline, header_block, footer_block, list_block, known_columns, no_progress, clusters_of_block, group_clusters, groups_clusters, described_of, outline_of}
 use Rattle.nt_files.specs.Describes.{ListsGroup, ListsGroups, no_more, and_more, HasOutline}
 use Rattle.nt_files.proofs.EnvelopesBack.{envelope_is, inside}
@@ -76,7 +76,7 @@ groups file sum columns (g ∷ gs) p fits = in_words
 
 DescribedSteps : List ℕ → Anchor → Table × List Group × ℕ → Type 0
 DescribedSteps file a =
-    With (IsEnvelope file header_kind (header_block a)) λ header. With (λ (t : Table). header_at (standing 0 header.payload) ≡ Ok t) λ first.
+    With (IsEnvelope file header_kind (header_block a)) λ header. With (λ (t : Table). header_payload_at (standing 0 header.payload) ≡ Ok t) λ first.
     With (IsEnvelope file footer_kind (footer_block a)) λ footer. With (λ (w : Table × List Group). footer_at header.sum first (standing 0 footer.payload) ≡ Ok w) λ whole.
     Is (whole.0, whole.1, header.sum)
 

@@ -11,12 +11,12 @@ use Rattle.nt_pagelists.specs.declared.cluster.ClusterList.{ClusterList}
 use Rattle.nt_pagelists.specs.PageLists.{ProgressCounts, page_list_at}
 use Rattle.nt_pagelists.specs.Footers.{footer_at}
 use Rattle.nt_files.specs.Envelopes.{Sealed, IsEnvelope, header_kind, footer_kind, page_list_kind}
-use Rattle.nt_files.specs.Headers.{header_at}
+use Rattle.nt_files.specs.Headers.{header_payload_at}
 use Rattle.nt_files.specs.Outlines.{Outline, header_block, footer_block, list_block, known_columns, no_progress, clusters_of_block}
 
 -- the payload of a header describes these rows
 abbrev pub DescribesHeader : List ℕ → Table → Type 0
-DescribesHeader payload t = header_at (standing 0 payload) ≡ Ok t
+DescribesHeader payload t = header_payload_at (standing 0 payload) ≡ Ok t
 
 -- the payload of a footer names the header by its checksum, describes the rows of an extension behind the header's, and has these groups
 abbrev pub DescribesFooter : List ℕ → ℕ → Table → Table → List Group → Type 0

@@ -34,7 +34,7 @@ pub record Sealed : Type 0 where
   pub payload : List ℕ
   pub sum : ℕ
 
--- an envelope of this kind, opened
+-- an envelope of this kind, opened_envelope
 abbrev pub sealed : ℕ → List ℕ → Sealed
 sealed kind payload = record { payload = payload; sum = xxh3 (unsealed kind payload) }
 
@@ -56,9 +56,9 @@ envelope_fault place kind bytes (Kind kept) = with_values kept kind (fault bad_e
 envelope_fault place kind bytes (Checksum kept found) = with_values kept found (fault bad_envelope place)
 
 -- the envelope that was found, or its fault
-abbrev pub opened : ℕ → ℕ → List ℕ → Result (List ℕ) EnvelopeFault → Result Sealed ReadError
-opened place kind bytes (Ok payload) = Ok (sealed kind payload)
-opened place kind bytes (Err e) = Err (envelope_fault place kind bytes e)
+abbrev pub opened_envelope : ℕ → ℕ → List ℕ → Result (List ℕ) EnvelopeFault → Result Sealed ReadError
+opened_envelope place kind bytes (Ok payload) = Ok (sealed kind payload)
+opened_envelope place kind bytes (Err e) = Err (envelope_fault place kind bytes e)
 
 -- a block is stored as it is (own profile)
 abbrev pub is_stored_plain : Block → Result (Unit {0}) ReadError
@@ -73,7 +73,7 @@ unfoldable pub envelope_of : List ℕ → ℕ → Block → Result Sealed ReadEr
 envelope_of file kind block = do
   plain ← is_stored_plain block
   bytes ← block_bytes file block
-  opened block.place kind bytes (payload_of kind bytes)
+  opened_envelope block.place kind bytes (payload_of kind bytes)
 
 -- a block of the file is this envelope, stored as it is
 pub record IsEnvelope (file : List ℕ) (kind : ℕ) (block : Block) (is : Sealed) : Type 0 where

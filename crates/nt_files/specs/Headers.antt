@@ -11,8 +11,8 @@ use Rattle.nt_grammar.specs.declared.part.Part.TheVariants.{Header}
 use Rattle.nt_pagelists.specs.Footers.{feature_flags_at}
 
 -- the header whose payload begins here: no feature flag, the names of the ntuple, of what describes it and of what wrote it, and the schema
-unfoldable pub header_at : At → Result Table ReadError
-header_at here = do
+unfoldable pub header_payload_at : At → Result Table ReadError
+header_payload_at here = do
   flags ← feature_flags_at here
   name ← placed (string_at flags.1)
   text ← placed (string_at name.1)

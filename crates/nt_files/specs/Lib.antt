@@ -2,3 +2,6 @@ pub mod Envelopes
 pub mod Headers
 pub mod Outlines
 pub mod Describes
+pub mod Clusters
+pub mod Files
+pub mod Holds

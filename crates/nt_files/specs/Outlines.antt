@@ -18,7 +18,7 @@ use Rattle.nt_pagelists.specs.declared.cluster.ColumnList.{ColumnList}
 use Rattle.nt_pagelists.specs.PageLists.{ProgressCounts, page_list_at}
 use Rattle.nt_pagelists.specs.Footers.{footer_at}
 use Rattle.nt_files.specs.Envelopes.{Block, header_kind, footer_kind, page_list_kind, payload_start, envelope_of, inside_of}
-use Rattle.nt_files.specs.Headers.{header_at}
+use Rattle.nt_files.specs.Headers.{header_payload_at}
 
 -- the rows of the schema, and the clusters in the order of their groups; the places of frames are counted from the file's beginning
 pub record Outline : Type 0 where
@@ -47,13 +47,13 @@ abbrev pub known_column : Option NeedData → ColumnRow → KnownColumn
 known_column need c = record { is_open = is_needed need; is_principal = is_entries need; first = c.first }
 
 -- what a schema tells of columns whose ids go on from this one
-abbrev pub known_from : Table → ℕ → List ColumnRow → List KnownColumn
-known_from t id [] = []
-known_from t id (c ∷ cs) = known_column (need_of t id) c ∷ known_from t (id + 1) cs
+abbrev pub known_columns_from : Table → ℕ → List ColumnRow → List KnownColumn
+known_columns_from t id [] = []
+known_columns_from t id (c ∷ cs) = known_column (need_of t id) c ∷ known_columns_from t (id + 1) cs
 
 -- what a schema tells of its columns
 abbrev pub known_columns : Table → List KnownColumn
-known_columns t = known_from t 0 t.columns
+known_columns t = known_columns_from t 0 t.columns
 
 -- nothing was read of a file with so many columns
 abbrev pub no_progress : ℕ → ProgressCounts
@@ -88,7 +88,7 @@ groups_clusters file sum columns (g ∷ gs) p =
 unfoldable pub described_of : List ℕ → Anchor → Result (Table × List Group × ℕ) ReadError
 described_of file a = do
   header ← envelope_of file header_kind (header_block a)
-  first ← inside_of (header_block a) (header_at (standing 0 header.payload))
+  first ← inside_of (header_block a) (header_payload_at (standing 0 header.payload))
   footer ← envelope_of file footer_kind (footer_block a)
   whole ← inside_of (footer_block a) (footer_at header.sum first (standing 0 footer.payload))
   Ok (whole.0, whole.1, header.sum)

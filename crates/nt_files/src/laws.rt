@@ -1,12 +1,32 @@
 //! The laws of whole files.
 
-ghost use Rattle.std.specs.Prelude.{ℕ, List};
+ghost use Rattle.std.specs.Prelude.{◌≡◌, ◌⊎◌, ℕ, List};
+ghost use Rattle.nt_num.specs.declared.fault.ReadError.{ReadError};
+ghost use Rattle.nt_types.specs.TreeData.{TreesData};
+ghost use Rattle.nt_grammar.specs.Table.{Table};
 ghost use Rattle.nt_format.specs.Reading.{IsBytes};
 ghost use Rattle.nt_format.specs.Relations.{Agrees};
 ghost use Rattle.nt_files.specs.Outlines.{outline_of};
 ghost use Rattle.nt_files.specs.Describes.{HasOutline};
+ghost use Rattle.nt_files.specs.Files.{read_file, Means, HasDefect};
+ghost use Rattle.nt_files.specs.Holds.{HoldsFile};
 
 /// A file is read as an outline exactly where it has that outline.
 pub fn outlines_are_described()
     ensures { (file : List ℕ) → IsBytes file → Agrees (outline_of file) (HasOutline file) }
+{}
+
+/// A file is read as a schema and entries exactly where it holds them.
+pub fn files_hold_what_they_mean()
+    ensures { (file : List ℕ) → IsBytes file → Agrees (read_file file) (HoldsFile file) }
+{}
+
+/// A file means one schema and the entries of its clusters, or it has one first fault, and never
+/// both.
+pub fn files_have_one_meaning()
+    ensures means { (file : List ℕ) (t u : Table) (ks ls : List (List TreesData)) → Means file t ks → Means file u ls
+        → (t ≡ u) × (ks ≡ ls) }
+    ensures defect { (file : List ℕ) (e f : ReadError) → HasDefect file e → HasDefect file f → e ≡ f }
+    ensures some { (file : List ℕ) → ((t : Table) × (ks : List (List TreesData)) × Means file t ks) ⊎ ((e : ReadError) × HasDefect file e) }
+    ensures apart { (file : List ℕ) (t : Table) (ks : List (List TreesData)) (e : ReadError) → Means file t ks → HasDefect file e → ⊥ }
 {}
