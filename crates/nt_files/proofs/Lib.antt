@@ -3,3 +3,4 @@ pub mod OutlinesBack
 pub mod SoundBack
 pub mod ClustersBack
 pub mod FilesBack
+pub mod HeadersBack

@@ -1,11 +1,14 @@
 //! The laws of whole files.
 
-ghost use Rattle.std.specs.Prelude.{◌≡◌, ◌⊎◌, ℕ, List};
+ghost use Rattle.std.specs.Prelude.{◌≡◌, ◌⊎◌, ◌<◌, ◌^◌, ℕ, List, ◌++◌, length, Ok};
 ghost use Rattle.nt_num.specs.declared.fault.ReadError.{ReadError};
 ghost use Rattle.nt_types.specs.TreeData.{TreesData};
 ghost use Rattle.nt_grammar.specs.Table.{Table};
-ghost use Rattle.nt_format.specs.Reading.{IsBytes};
+ghost use Rattle.nt_format.specs.Reading.{standing, IsBytes};
 ghost use Rattle.nt_format.specs.Relations.{Agrees};
+ghost use Rattle.nt_grammar.specs.ReadingBack.{IsDescribed, up_to};
+ghost use Rattle.nt_grammar.specs.declared.part.Part.TheVariants.{Header};
+ghost use Rattle.nt_files.specs.Headers.{header_text, header_payload_at};
 ghost use Rattle.nt_files.specs.Outlines.{outline_of};
 ghost use Rattle.nt_files.specs.Describes.{HasOutline};
 ghost use Rattle.nt_files.specs.Files.{read_file, Means, HasDefect};
@@ -14,6 +17,12 @@ ghost use Rattle.nt_files.specs.Holds.{HoldsFile};
 /// A file is read as an outline exactly where it has that outline.
 pub fn outlines_are_described()
     ensures { (file : List ℕ) → IsBytes file → Agrees (outline_of file) (HasOutline file) }
+{}
+
+/// What is written of the header's rows is read back, whatever follows.
+pub fn headers_are_read_back()
+    ensures { (t : Table) (place : ℕ) (rest : List ℕ) → IsDescribed t → length t.fields < 2 ^ 32 → length t.columns < 2 ^ 32
+        → length (header_text t) < 2 ^ 63 → header_payload_at (standing place (header_text t ++ rest)) ≡ Ok (up_to Header t) }
 {}
 
 /// A file is read as a schema and entries exactly where it holds them.

@@ -15,10 +15,14 @@
 //! Proved, each as the contract of a function with an empty body: a file is read as an outline, and
 //! as a schema and entries, exactly where it has and holds them (`outlines_are_described`,
 //! `files_hold_what_they_mean`); a file means one schema and the entries of its clusters, or has one
-//! first fault, and never both (`files_have_one_meaning`). That the definitions are the standard's
+//! first fault, and never both (`files_have_one_meaning`); a header that is written is read back
+//! (`headers_are_read_back`). That the definitions are the standard's
 //! rests on reading them.
 #![tactic(auto)]
 
 mod laws;
 
-pub use laws::{files_have_one_meaning, files_hold_what_they_mean, outlines_are_described};
+pub use laws::{
+    files_have_one_meaning, files_hold_what_they_mean, headers_are_read_back,
+    outlines_are_described,
+};

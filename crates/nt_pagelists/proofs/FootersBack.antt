@@ -26,7 +26,7 @@ use Rattle.nt_grammar.specs.ReadingBack.{IsDescribed, header_of, before, up_to}
 use Rattle.nt_grammar.proofs.ReadingParts.{part-reads}
 use Rattle.nt_pagelists.proofs.GroupsBack.{group-list-reads}
 
-flags-read : ReadsAs feature_flags_at (to_le_bytes w64 0) 0
+pub flags-read : ReadsAs feature_flags_at (to_le_bytes w64 0) 0
 unfolding feature_flags_at u64_at
 flags-read place rest =
     rw (u64-reads 0 (omega arith) place rest) refl
