@@ -1,0 +1,3 @@
+pub mod Spots
+pub mod Sweeps
+pub mod Readable

@@ -1,0 +1,48 @@
+//! Sweeps over a column.
+
+ghost use Rattle.std.specs.Prelude.{◌≡◌, option_map};
+ghost use Rattle.nt_trees.specs.Faults.{rising, free, column_fault};
+ghost use Rattle.nt_join.specs.Spots.{spot_of};
+ghost use Rattle.nt_join.specs.Sweeps.{IsFirstUnmet};
+
+use crate::fault::{ValueFault, first_in};
+use crate::reading::number;
+use nt_column::Columns;
+
+/// The first end that is below the one before, or the number of elements.
+fn first_fall<C: Columns>(columns: &C, column: u32) -> u64
+    ensures { IsFirstUnmet rising (C.Columns.elements columns.now column) result }
+{
+    let len = columns.len(column);
+    let mut last: u64 = 0;
+    for i in 0..len {
+        let end = number(columns, column, i);
+        if end < last {
+            return i;
+        }
+        last = end;
+    }
+    len
+}
+
+/// The fault of a column of ends that must have so many.
+pub fn ends_fault<C: Columns>(columns: &C, column: u32, needed: u64) -> Option<ValueFault>
+    ensures { option_map spot_of result
+        ≡ column_fault rising (C.Columns.elements columns.now) column needed }
+{
+    first_in(
+        column,
+        columns.len(column),
+        needed,
+        first_fall(columns, column),
+    )
+}
+
+/// The fault of a column of values that must have so many.
+pub fn values_fault<C: Columns>(columns: &C, column: u32, needed: u64) -> Option<ValueFault>
+    ensures { option_map spot_of result
+        ≡ column_fault free (C.Columns.elements columns.now) column needed }
+{
+    let len = columns.len(column);
+    first_in(column, len, needed, len)
+}
