@@ -5,3 +5,4 @@ pub mod Buffers
 pub mod Pages
 pub mod Sets
 pub mod Sizes
+pub mod Growing

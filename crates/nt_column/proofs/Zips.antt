@@ -1,5 +1,5 @@
 -- Pairs of two lists of one length.
-use Rattle.std.proofs.Common.{◌≡◌, ℕ, ◌<◌, List, [], ◌∷◌, ◌++◌, length, get_or, refl, sym, ◌∙◌, ap, arith}
+use Rattle.std.proofs.Common.{◌≡◌, ℕ, zero, suc, ◌<◌, List, [], ◌∷◌, ◌++◌, length, take, get_or, refl, sym, ◌∙◌, ap, arith}
 use Rattle.std.specs.List.{zip, slice_range}
 use Rattle.std.proofs.lemmas.List.{get_or_read}
 use Rattle.nt_encode.specs.Switch.{switch_bytes}
@@ -50,3 +50,17 @@ pub page-seen : (is ts : List ℕ) (es : List Element) (a b : ℕ) (page : List 
     → page ≡ switch_bytes (numbers (slice_range es a b)) (tags (slice_range es a b))
 page-seen is ts es a b page seen same written =
     rw (← seen, indices-range is ts a b same, tags_of-range is ts a b same) written
+
+-- pairs of lists that grow
+pub zip-append : (is js ts us : List ℕ) → length ts ≡ length is → zip (is ++ js) (ts ++ us) ≡ zip is ts ++ zip js us
+zip-append [] js [] us same = refl
+zip-append [] js (t ∷ ts) us same = absurd (omega arith)
+zip-append (i ∷ is) js [] us same = absurd (omega arith)
+zip-append (i ∷ is) js (t ∷ ts) us same = ap (λ (es : List Element). (i, t) ∷ es) (zip-append is js ts us (omega arith))
+
+-- the first pairs are those of the first indices and tags
+pub zip-take : (n : ℕ) (is ts : List ℕ) → zip (take n is) (take n ts) ≡ take n (zip is ts)
+zip-take zero is ts = refl
+zip-take (suc n) [] ts = refl
+zip-take (suc n) (i ∷ is) [] = refl
+zip-take (suc n) (i ∷ is) (t ∷ ts) = ap (λ (es : List Element). (i, t) ∷ es) (zip-take n is ts)

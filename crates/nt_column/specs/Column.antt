@@ -1,5 +1,5 @@
 -- Columns, as their buffers hold them.
-use Rattle.std.specs.Prelude.{ℕ, zero, suc, List, [], ◌∷◌, ◌++◌, map, slice_index_or, slice_get, replicate, Option}
+use Rattle.std.specs.Prelude.{ℕ, zero, suc, List, [], ◌∷◌, ◌++◌, map, take, min, slice_index_or, slice_get, replicate, Option}
 use Rattle.std.specs.Option.{option_map}
 use Rattle.nt_types.specs.declared.column_type.ColumnType.{ColumnType}
 use Rattle.nt_column.specs.Elements.{Element, plain, AreElementsOf}
@@ -26,6 +26,10 @@ zeroed kind n = record { kind = kind; elements = replicate n (plain 0); zeros = 
 -- the column with these elements at its end
 abbrev pub with_more : Column → List Element → Column
 with_more c es = record { kind = c.kind; elements = c.elements ++ es; zeros = c.zeros }
+
+-- the first elements of a column
+abbrev pub cut_to : ℕ → Column → Column
+cut_to len c = record { kind = c.kind; elements = take len c.elements; zeros = min len c.zeros }
 
 -- what the buffers hold, by column
 abbrev pub columns_of : List Buffer → List Column

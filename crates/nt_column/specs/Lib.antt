@@ -6,3 +6,4 @@ pub mod Widths
 pub mod Bits
 pub mod Store
 pub mod Lending
+pub mod Growing

@@ -5,12 +5,12 @@ ghost use Rattle.std.specs.List.{slice_range};
 ghost use Rattle.nt_types.specs.declared.column_type.ColumnType.TheVariants.{Switch};
 ghost use Rattle.nt_types.specs.ColumnTable.{bits_of};
 ghost use Rattle.nt_encode.specs.Pages.{page_size};
-ghost use Rattle.nt_column.specs.Elements.{plain, numbers, tags, text_of, page_of};
+ghost use Rattle.nt_column.specs.Elements.{plain, numbers, tags, text_of, page_of, page_elements};
 ghost use Rattle.nt_column.specs.Cow.{cow_items, is_borrowed};
-ghost use Rattle.nt_column.specs.Column.{empty, zeroed, with_more, IsInRange};
+ghost use Rattle.nt_column.specs.Column.{empty, zeroed, with_more, cut_to, IsInRange};
 ghost use Rattle.nt_lists.specs.Chunks.{chunks};
 
-use crate::cow::CowSlice;
+use crate::cow::{CowSlice, lent};
 use crate::store::Store;
 use crate::zero_page::encode_zeros;
 use nt_types::ColumnType;
@@ -130,6 +130,27 @@ impl ColumnBuf {
         self.store.push_bytes(bytes);
     }
 
+    /// Adds the elements of a page of so many, read from its bytes.
+    pub fn push_page(&mut self, bytes: &[u8], count: usize)
+        requires stored { self.old.column.zeros ≡ 0 }
+        requires length { length bytes.now ≡ page_size self.old.column.kind count }
+        requires spare { count ≤ self.old.spare }
+        ensures column { self.new.column ≡ with_more self.old.column
+            (page_elements self.old.column.kind count bytes.now) }
+        ensures spare { self.old.spare ≤ self.new.spare + count }
+    {
+        self.store.push_page(self.kind, bytes, count);
+    }
+
+    /// Drops the elements behind the first ones, and keeps their memory.
+    pub fn cut(&mut self, len: usize)
+        ensures column { self.new.column ≡ cut_to len self.old.column }
+        ensures spare { self.old.spare ≤ self.new.spare }
+    {
+        self.store.cut(len);
+        self.zeros = self.zeros.min(len);
+    }
+
     /// Takes all elements away, and keeps their memory.
     pub fn clear(&mut self)
         ensures column { self.new.column ≡ empty self.old.column.kind }
@@ -233,14 +254,4 @@ impl ColumnBuf {
         }
         Ok(bytes)
     }
-}
-
-/// A part of the elements of 8 bits, as they lie there.
-fn lent(bytes: &[u8], from: usize, to: usize) -> CowSlice<'_, u8>
-    requires order { from ≤ to }
-    requires within { to ≤ length bytes.now }
-    ensures text { cow_items result ≡ text_of (slice_range (map plain bytes.now) from to) }
-    ensures lent { IsTrue (is_borrowed result) }
-{
-    CowSlice::Borrowed(&bytes[from..to])
 }

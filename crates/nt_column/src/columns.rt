@@ -9,8 +9,9 @@ ghost use Rattle.nt_column.specs.Cow.{cow_items};
 use crate::cow::CowSlice;
 use std::alloc::{AllocError, Global};
 
-/// The elements of columns, by the column's id and the element's place, both from 0.
-pub trait Columns {
+/// The elements of columns, by the column's id and the element's place, both from 0. Threads may
+/// share them.
+pub trait Columns: Sync {
     ghost elements: { Self → ℕ → List Element };
 
     /// The type of a column; none of a column that isn't there.

@@ -1,7 +1,9 @@
 //! A slice that is borrowed where it can be, and owned where it can't.
 
-ghost use Rattle.std.specs.Prelude.{◌≡◌};
-ghost use Rattle.nt_column.specs.Cow.{cow_items};
+ghost use Rattle.std.specs.Prelude.{◌≡◌, ◌≤◌, length, map, IsTrue};
+ghost use Rattle.std.specs.List.{slice_range};
+ghost use Rattle.nt_column.specs.Elements.{plain, text_of};
+ghost use Rattle.nt_column.specs.Cow.{cow_items, is_borrowed};
 
 /// Items that lie together elsewhere, or a copy of them.
 #[derive(Drop)]
@@ -20,4 +22,14 @@ impl<'a, T> CowSlice<'a, T> {
             CowSlice::Owned(items) => items,
         }
     }
+}
+
+/// A part of the elements of 8 bits, as they lie there.
+pub(crate) fn lent(bytes: &[u8], from: usize, to: usize) -> CowSlice<'_, u8>
+    requires order { from ≤ to }
+    requires within { to ≤ length bytes.now }
+    ensures text { cow_items result ≡ text_of (slice_range (map plain bytes.now) from to) }
+    ensures lent { IsTrue (is_borrowed result) }
+{
+    CowSlice::Borrowed(&bytes[from..to])
 }

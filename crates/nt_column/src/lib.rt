@@ -1,7 +1,7 @@
 //! Columns in memory: buffers that keep each element at its own width, and sets of them by column.
 //!
-//! `push` and `number` are on the hot path of every event: they take no memory, and `reserve` does
-//! it before. `Columns` is how others read columns; keep it free of buffers.
+//! `push`, `push_page` and `number` are on the hot path of every event: they take no memory, and
+//! `reserve` does it before. `Columns` is how others read columns; keep it free of buffers.
 //!
 //! Where to start: `buffer.rt` with `specs/Column` (what a buffer holds) and `specs/Elements` (the
 //! elements and their page); `set.rt` and `columns.rt` for columns by id.
@@ -10,7 +10,8 @@
 //! tag 0; *zeros* are a column kept as its count; *spare* is how many elements can still be pushed.
 //!
 //! Proved: a push adds its element and takes no memory (`column`, `spare`); a reserve changes no
-//! element; the page of any part (`encode`, by `page_of`); the number of pages (`page_cut`, by
+//! element; a page is read straight into a buffer (`push_page`, by `page_elements`), and a buffer
+//! is cut to its first elements (`cut`); the page of any part (`encode`, by `page_of`); the number of pages (`page_cut`, by
 //! nt_lists' `chunks`); a page's size (`pages_have_their_size`); a set lends its buffers and
 //! answers elements, tags and texts (`Columns`), a text of 8 bits without a copy (`lent`); each
 //! element is one of its column's type (`in_range`, of a buffer and of `Columns`).
@@ -29,6 +30,7 @@
 mod buffer;
 mod columns;
 mod cow;
+mod filling;
 mod laws;
 mod pairs;
 mod ranges;
@@ -40,5 +42,5 @@ mod zero_page;
 pub use buffer::ColumnBuf;
 pub use columns::Columns;
 pub use cow::CowSlice;
-pub use laws::pages_have_their_size;
+pub use laws::{buffers_can_be_shared, pages_have_their_size};
 pub use set::ColumnSet;

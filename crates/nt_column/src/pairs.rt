@@ -1,12 +1,14 @@
 //! The pairs of a Switch column.
 
-ghost use Rattle.std.specs.Prelude.{◌≡◌, ◌+◌, ◌-◌, ◌*◌, ◌<◌, ◌≤◌, [], ◌∷◌, ◌++◌, length, slice_index, OnOk};
+ghost use Rattle.std.specs.Prelude.{◌≡◌, ◌+◌, ◌-◌, ◌*◌, ◌<◌, ◌≤◌, [], ◌∷◌, ◌++◌, length, take, slice_index, OnOk};
 ghost use Rattle.std.specs.List.{slice_range};
 ghost use Rattle.nt_encode.specs.Switch.{switch_bytes};
-ghost use Rattle.nt_column.specs.Elements.{numbers, tags, AreElementsOf};
+ghost use Rattle.nt_column.specs.Elements.{numbers, tags, page_elements, AreElementsOf};
+ghost use Rattle.nt_types.specs.declared.column_type.ColumnType.TheVariants.{Switch};
 ghost use Rattle.nt_types.specs.ColumnTable.{bits_of};
 ghost use Rattle.nt_column.specs.Widths.{pair_width};
 
+use crate::filling::push_pairs;
 use crate::ranges::pairs_in_range;
 use nt_encode::encode_switch;
 use nt_types::ColumnType;
@@ -78,6 +80,26 @@ impl PairList {
     {
         self.indices.push_reserved(index);
         self.tags.push_reserved(tag);
+    }
+
+    /// Adds the pairs of a page of so many.
+    pub fn push_page(&mut self, bytes: &[u8], count: usize)
+        requires length { length bytes.now ≡ 12 * count }
+        requires spare { count ≤ self.old.spare }
+        ensures elements { self.new.elements ≡ self.old.elements
+            ++ page_elements Switch count bytes.now }
+        ensures spare { self.old.spare ≤ self.new.spare + count }
+    {
+        push_pairs(&mut self.indices, &mut self.tags, bytes, count);
+    }
+
+    /// Drops the pairs behind the first ones.
+    pub fn cut(&mut self, len: usize)
+        ensures elements { self.new.elements ≡ take len self.old.elements }
+        ensures spare { self.old.spare ≤ self.new.spare }
+    {
+        self.indices.truncate(len);
+        self.tags.truncate(len);
     }
 
     /// Takes all pairs away, and keeps their memory.

@@ -1,13 +1,14 @@
 //! The elements of a buffer, each kept at the width of its type.
 
-ghost use Rattle.std.specs.Prelude.{◌≡◌, ◌≢◌, ◌+◌, ◌-◌, ◌<◌, ◌≤◌, ◌^◌, ◌↔◌, [], ◌∷◌, ◌++◌, length, map, slice_index, OnOk, IsSome, IfSome};
+ghost use Rattle.std.specs.Prelude.{◌≡◌, ◌≢◌, ◌+◌, ◌-◌, ◌<◌, ◌≤◌, ◌^◌, ◌↔◌, [], ◌∷◌, ◌++◌, length, map, take, slice_index, OnOk, IsSome, IfSome};
 ghost use Rattle.std.specs.List.{slice_range};
 ghost use Rattle.nt_types.specs.ColumnTable.{bits_of};
 ghost use Rattle.nt_encode.specs.Pages.{page_size};
-ghost use Rattle.nt_column.specs.Elements.{plain, numbers, tags, page_of, AreElementsOf};
+ghost use Rattle.nt_column.specs.Elements.{plain, numbers, tags, page_of, page_elements, AreElementsOf};
 ghost use Rattle.nt_column.specs.Store.{elements_of, width_of, spare_of};
 ghost use Rattle.nt_column.specs.Widths.{pair_width};
 
+use crate::filling::{push_8, push_16, push_32, push_64, push_bits};
 use crate::pairs::PairList;
 use crate::ranges::{bits_in_range, bytes_in_range, in_range_16, in_range_32, in_range_64};
 use crate::widths::{encode_16, encode_32, encode_64, encode_bits, encode_bytes};
@@ -134,6 +135,42 @@ impl Store {
                 Err(_) => unreachable!(),
             },
             _ => unreachable!(),
+        }
+    }
+
+    /// Adds the elements of a page of so many.
+    pub fn push_page(&mut self, kind: ColumnType, bytes: &[u8], count: usize)
+        requires kind { width_of self.old ≡ bits_of kind }
+        requires length { length bytes.now ≡ page_size kind count }
+        requires spare { count ≤ spare_of self.old }
+        ensures elements { elements_of self.new ≡ elements_of self.old
+            ++ page_elements kind count bytes.now }
+        ensures width { width_of self.new ≡ width_of self.old }
+        ensures spare { spare_of self.old ≤ spare_of self.new + count }
+    {
+        match self {
+            Store::Bits(list) => push_bits(list, kind, bytes, count),
+            Store::Bytes(list) => push_8(list, kind, bytes, count),
+            Store::Words16(list) => push_16(list, kind, bytes, count),
+            Store::Words32(list) => push_32(list, kind, bytes, count),
+            Store::Words64(list) => push_64(list, kind, bytes, count),
+            Store::Pairs(pairs) => pairs.push_page(bytes, count),
+        }
+    }
+
+    /// Drops the elements behind the first ones.
+    pub fn cut(&mut self, len: usize)
+        ensures elements { elements_of self.new ≡ take len (elements_of self.old) }
+        ensures width { width_of self.new ≡ width_of self.old }
+        ensures spare { spare_of self.old ≤ spare_of self.new }
+    {
+        match self {
+            Store::Bits(list) => list.truncate(len),
+            Store::Bytes(list) => list.truncate(len),
+            Store::Words16(list) => list.truncate(len),
+            Store::Words32(list) => list.truncate(len),
+            Store::Words64(list) => list.truncate(len),
+            Store::Pairs(pairs) => pairs.cut(len),
         }
     }
 

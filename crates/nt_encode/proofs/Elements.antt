@@ -1,5 +1,5 @@
 -- Elements of a type.
-use Rattle.std.proofs.Common.{◌≡◌, ◌≢◌, ℕ, suc, ◌+◌, ◌-◌, ◌^◌, ◌<◌, ◌≤◌, List, [], ◌∷◌, ◌++◌, length, map, get_or, replicate, refl, sym, ap, ◌∙◌, inl, inr, arith}
+use Rattle.std.proofs.Common.{◌≡◌, ◌≢◌, ℕ, suc, ◌-◌, ◌^◌, ◌<◌, ◌≤◌, List, [], ◌∷◌, ◌++◌, length, map, get_or, replicate, refl, sym, ap, ◌∙◌, inl, inr, arith}
 use Rattle.std.specs.List.{zip}
 use Rattle.std.proofs.lemmas.Bool.{cases_lt}
 use Rattle.std.proofs.lemmas.List.{length-map, length-append, length-replicate, get_or-map, get_or-replicate, get_or_append_left, get_or-append_right, get_or_default}
@@ -91,7 +91,7 @@ page_of-numbers : (kind : ColumnType) (es : List Element) → kind ≢ Switch �
 page_of-numbers Switch es other = absurd (other refl)
 page_of-numbers kind es other = refl
 
-page_elements-values : (kind : ColumnType) (n : ℕ) (bytes : List ℕ) → kind ≢ Switch
+pub page_elements-values : (kind : ColumnType) (n : ℕ) (bytes : List ℕ) → kind ≢ Switch
     → page_elements kind n bytes ≡ map plain (page_values kind n bytes)
 page_elements-values Switch n bytes other = absurd (other refl)
 page_elements-values kind n bytes other = refl

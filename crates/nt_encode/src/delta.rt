@@ -5,7 +5,7 @@ ghost use Rattle.nt_encode.specs.Delta.{delta_values, delta_word, index_before};
 
 /// The sum, modulo the numbers of so many bytes.
 #[inline(always)]
-fn sum_within(a: u64, b: u64, width: usize) -> u64
+pub fn sum_within(a: u64, b: u64, width: usize) -> u64
     requires width { width ≤ 8 }
     requires a { a < 2 ^ (8 * width) }
     requires b { b < 2 ^ (8 * width) }

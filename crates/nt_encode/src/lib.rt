@@ -35,10 +35,12 @@ mod page;
 mod plain;
 mod split;
 mod switch;
+mod value;
 mod zigzag;
 
 pub use laws::{
     elements_are_in_range, elements_are_spelled, pages_are_spelled, switches_are_spelled,
 };
 pub use page::{decode, encode, size_of};
-pub use switch::{decode_switch, encode_switch};
+pub use switch::{decode_switch, encode_switch, index_of_pair, tag_of_pair};
+pub use value::value_at;

@@ -1,10 +1,10 @@
 //! Pairs of an index and a tag.
 
-ghost use Rattle.std.specs.Prelude.{◌≡◌, ◌*◌, length};
+ghost use Rattle.std.specs.Prelude.{◌≡◌, ◌+◌, ◌*◌, ◌<◌, ◌≤◌, length, slice_index};
 ghost use Rattle.std.specs.List.{zip};
 ghost use Rattle.nt_types.specs.declared.column_type.ColumnType.TheVariants.{Switch};
 ghost use Rattle.nt_encode.specs.Elements.{AreElementsOf};
-ghost use Rattle.nt_encode.specs.Switch.{switch_indices, switch_tags, switch_bytes};
+ghost use Rattle.nt_encode.specs.Switch.{switch_index, switch_indices, switch_tag, switch_tags, switch_bytes};
 
 use crate::number::{number_at, put_number};
 
@@ -32,7 +32,45 @@ pub fn decode_switch(bytes: &[u8], indices: &mut [u64], tags: &mut [u32])
     ensures fits { AreElementsOf Switch (zip indices.new tags.new) }
 {
     for (i, index) in indices.iter_mut().enumerate() {
-        *index = number_at(bytes, i * PAIR, 1, 8);
-        tags[i] = number_at(bytes, i * PAIR + 8, 1, 4) as u32;
+        *index = index_at(bytes, i);
+        tags[i] = tag_at(bytes, i);
     }
+}
+
+/// The index of pair i of a page of so many.
+#[inline(always)]
+pub fn index_of_pair(bytes: &[u8], count: usize, i: usize) -> u64
+    requires length { length bytes.now ≡ 12 * count }
+    requires within { i < count }
+    ensures { result ≡ slice_index (switch_indices count bytes.now) i }
+{
+    index_at(bytes, i)
+}
+
+/// The tag of pair i of a page of so many.
+#[inline(always)]
+pub fn tag_of_pair(bytes: &[u8], count: usize, i: usize) -> u32
+    requires length { length bytes.now ≡ 12 * count }
+    requires within { i < count }
+    ensures { result ≡ slice_index (switch_tags count bytes.now) i }
+{
+    tag_at(bytes, i)
+}
+
+/// The index of pair i.
+#[inline(always)]
+fn index_at(bytes: &[u8], i: usize) -> u64
+    requires { 12 * i + 12 ≤ length bytes.now }
+    ensures { result ≡ switch_index bytes.now i }
+{
+    number_at(bytes, i * PAIR, 1, 8)
+}
+
+/// The tag of pair i.
+#[inline(always)]
+fn tag_at(bytes: &[u8], i: usize) -> u32
+    requires { 12 * i + 12 ≤ length bytes.now }
+    ensures { result ≡ switch_tag bytes.now i }
+{
+    number_at(bytes, i * PAIR + 8, 1, 4) as u32
 }

@@ -49,7 +49,7 @@ pub fn fill_zigzags(values: &[u64], width: usize, from: usize, words: &mut [u64]
 
 /// The number of a word.
 #[inline(always)]
-fn zigzag_value(word: u64, width: usize) -> u64
+pub fn zigzag_value(word: u64, width: usize) -> u64
     requires width { width ≤ 8 }
     requires fits { word < 2 ^ (8 * width) }
     ensures { result ≡ zigzag_value (8 * width) word }

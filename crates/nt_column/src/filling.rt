@@ -1,0 +1,112 @@
+//! Pages that are read straight into lists of their width.
+
+ghost use Rattle.std.specs.Prelude.{◌≡◌, ◌+◌, ◌*◌, ◌≤◌, ◌++◌, length, map, vec_len, vec_capacity};
+ghost use Rattle.nt_types.specs.ColumnTable.{bits_of};
+ghost use Rattle.nt_encode.specs.Pages.{page_size, page_values};
+ghost use Rattle.nt_encode.specs.Switch.{switch_indices, switch_tags};
+ghost use Rattle.nt_column.specs.Bits.{bit_of};
+ghost use Rattle.nt_column.specs.Growing.{HasGrown};
+
+use nt_encode::{index_of_pair, tag_of_pair, value_at};
+use nt_types::ColumnType;
+
+/// Adds the values of a page as truth values.
+#[inline(always)]
+pub fn push_bits(list: &mut Vec<bool>, kind: ColumnType, bytes: &[u8], count: usize)
+    requires kind { bits_of kind ≡ 1 }
+    requires length { length bytes.now ≡ page_size kind count }
+    requires room { vec_len list.old + count ≤ vec_capacity list.old }
+    ensures items { map bit_of list.new.items ≡ map bit_of list.old.items ++ page_values kind count bytes.now }
+    ensures room { HasGrown count (vec_len list.old) (vec_capacity list.old) (vec_len list.new)
+        (vec_capacity list.new) }
+{
+    let mut last = 0;
+    for i in 0..count {
+        last = value_at(kind, bytes, count, i, last);
+        list.push_reserved(last == 1);
+    }
+}
+
+/// Adds the values of a page as bytes, which are those of the page.
+pub fn push_8(list: &mut Vec<u8>, kind: ColumnType, bytes: &[u8], count: usize)
+    requires kind { bits_of kind ≡ 8 }
+    requires length { length bytes.now ≡ page_size kind count }
+    requires room { vec_len list.old + count ≤ vec_capacity list.old }
+    ensures items { list.new.items ≡ list.old.items ++ page_values kind count bytes.now }
+    ensures room { HasGrown count (vec_len list.old) (vec_capacity list.old) (vec_len list.new)
+        (vec_capacity list.new) }
+{
+    match list.extend_from_slice(bytes) {
+        Ok(()) => {}
+        Err(_) => unreachable!(),
+    }
+}
+
+/// Adds the values of a page as words of 16 bits.
+#[inline(always)]
+pub fn push_16(list: &mut Vec<u16>, kind: ColumnType, bytes: &[u8], count: usize)
+    requires kind { bits_of kind ≡ 16 }
+    requires length { length bytes.now ≡ page_size kind count }
+    requires room { vec_len list.old + count ≤ vec_capacity list.old }
+    ensures items { list.new.items ≡ list.old.items ++ page_values kind count bytes.now }
+    ensures room { HasGrown count (vec_len list.old) (vec_capacity list.old) (vec_len list.new)
+        (vec_capacity list.new) }
+{
+    let mut last = 0;
+    for i in 0..count {
+        last = value_at(kind, bytes, count, i, last);
+        list.push_reserved(last as u16);
+    }
+}
+
+/// Adds the values of a page as words of 32 bits.
+#[inline(always)]
+pub fn push_32(list: &mut Vec<u32>, kind: ColumnType, bytes: &[u8], count: usize)
+    requires kind { bits_of kind ≡ 32 }
+    requires length { length bytes.now ≡ page_size kind count }
+    requires room { vec_len list.old + count ≤ vec_capacity list.old }
+    ensures items { list.new.items ≡ list.old.items ++ page_values kind count bytes.now }
+    ensures room { HasGrown count (vec_len list.old) (vec_capacity list.old) (vec_len list.new)
+        (vec_capacity list.new) }
+{
+    let mut last = 0;
+    for i in 0..count {
+        last = value_at(kind, bytes, count, i, last);
+        list.push_reserved(last as u32);
+    }
+}
+
+/// Adds the values of a page as words of 64 bits.
+#[inline(always)]
+pub fn push_64(list: &mut Vec<u64>, kind: ColumnType, bytes: &[u8], count: usize)
+    requires kind { bits_of kind ≡ 64 }
+    requires length { length bytes.now ≡ page_size kind count }
+    requires room { vec_len list.old + count ≤ vec_capacity list.old }
+    ensures items { list.new.items ≡ list.old.items ++ page_values kind count bytes.now }
+    ensures room { HasGrown count (vec_len list.old) (vec_capacity list.old) (vec_len list.new)
+        (vec_capacity list.new) }
+{
+    let mut last = 0;
+    for i in 0..count {
+        last = value_at(kind, bytes, count, i, last);
+        list.push_reserved(last);
+    }
+}
+
+/// Adds the indices and tags of a page of pairs.
+pub fn push_pairs(indices: &mut Vec<u64>, tags: &mut Vec<u32>, bytes: &[u8], count: usize)
+    requires length { length bytes.now ≡ 12 * count }
+    requires indices { vec_len indices.old + count ≤ vec_capacity indices.old }
+    requires tags { vec_len tags.old + count ≤ vec_capacity tags.old }
+    ensures indices { indices.new.items ≡ indices.old.items ++ switch_indices count bytes.now }
+    ensures tags { tags.new.items ≡ tags.old.items ++ switch_tags count bytes.now }
+    ensures indices_room { HasGrown count (vec_len indices.old) (vec_capacity indices.old)
+        (vec_len indices.new) (vec_capacity indices.new) }
+    ensures tags_room { HasGrown count (vec_len tags.old) (vec_capacity tags.old)
+        (vec_len tags.new) (vec_capacity tags.new) }
+{
+    for i in 0..count {
+        indices.push_reserved(index_of_pair(bytes, count, i));
+        tags.push_reserved(tag_of_pair(bytes, count, i));
+    }
+}
