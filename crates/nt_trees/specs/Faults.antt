@@ -29,8 +29,8 @@ is_met (tagged most) es i = nat_le (tag_at es i) most && index_counts es i
 
 -- this, or else the number behind those before, if the test fails there
 abbrev pub or_last : Option ℕ → Bool → ℕ → Option ℕ
-or_last (Some i) passes n = Some i
-or_last None passes n = if passes then None else Some n
+or_last (Some i) good n = Some i
+or_last None good n = if good then None else Some n
 
 -- the first of so many numbers at which a test fails
 abbrev pub first_failing : (ℕ → Bool) → ℕ → Option ℕ

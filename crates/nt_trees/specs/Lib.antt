@@ -6,3 +6,4 @@ pub mod Put
 pub mod Fits
 pub mod Views
 pub mod Faults
+pub mod Required
