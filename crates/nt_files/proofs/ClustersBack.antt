@@ -20,7 +20,7 @@ use Rattle.nt_pagelists.specs.declared.column.KnownColumn.{KnownColumn}
 use Rattle.nt_pagelists.specs.declared.page.PageItem.{PageItem}
 use Rattle.nt_pagelists.specs.declared.cluster.ClusterList.{ClusterList}
 use Rattle.nt_files.specs.Outlines.{known_column}
-use Rattle.nt_files.specs.Clusters.{stored_len, is_checked, kind_of_code, page_of_column, pages_of_column, pages_of_kind, pages_listed, begins_behind, zero_elements, column_elements, columns_from, cols_of, no_value_fault, entries_of_columns, cluster_of}
+use Rattle.nt_files.specs.Clusters.{stored_len, is_checked, kind_of_code, page_of_column, pages_of_column, pages_of_kind, pages_listed, begins_behind, zero_elements, column_elements, columns_from, columns_by_id, no_value_fault, entries_of_columns, cluster_of}
 use Rattle.nt_files.specs.Holds.{HoldsPage, HoldsPages, no_page, and_page, HoldsColumn, closed, not_begun, untyped, in_pages, HoldsColumns, no_column, and_column, HoldsCluster}
 use Rattle.nt_files.proofs.SoundBack.{fault_in_any-sound}
 
@@ -130,7 +130,7 @@ no_fault number k (Some s) = record { reads = λ u h. absurd cc; finds = λ u e.
 
 ClusterSteps : List ℕ → Table → ℕ → ClusterList → List TreesData → Type 0
 ClusterSteps file t number k =
-    With (HoldsColumns file k t 0 t.columns) λ columns. With (λ (u : Unit {0}). fault_in_any (open_plans t) (cols_of columns) k.entries ≡ None) λ u.
+    With (HoldsColumns file k t 0 t.columns) λ columns. With (λ (u : Unit {0}). fault_in_any (open_plans t) (columns_by_id columns) k.entries ≡ None) λ u.
     Is (entries_of_columns t columns k.entries)
 
 cluster_steps : (file : List ℕ) (t : Table) (number : ℕ) (k : ClusterList) → Agrees (cluster_of file t number k) (ClusterSteps file t number k)
@@ -143,12 +143,12 @@ cluster file t number k = in_words
     (λ es w. record {
       columns = w.middle;
       holds = w.first;
-      sound = AllSound-no_fault (open_plans t) (cols_of w.middle) k.entries w.second.first;
+      sound = AllSound-no_fault (open_plans t) (columns_by_id w.middle) k.entries w.second.first;
       give = w.second.second;
     })
     (λ es h. record {
       middle = h.columns;
       first = h.holds;
-      second = record { middle = tt; first = fault_in_any-sound (open_plans t) (cols_of h.columns) k.entries h.sound; second = h.give };
+      second = record { middle = tt; first = fault_in_any-sound (open_plans t) (columns_by_id h.columns) k.entries h.sound; second = h.give };
     })
     (cluster_steps file t number k)

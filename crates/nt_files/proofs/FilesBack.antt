@@ -10,12 +10,12 @@ use Rattle.nt_types.specs.TreeData.{TreesData}
 use Rattle.nt_grammar.specs.Table.{Table}
 use Rattle.nt_pagelists.specs.declared.cluster.ClusterList.{ClusterList}
 use Rattle.nt_files.specs.Describes.{HasOutline}
-use Rattle.nt_files.specs.Files.{clusters_from, read_file, Means, HasDefect}
+use Rattle.nt_files.specs.Files.{entries_from, read_file, Means, HasDefect}
 use Rattle.nt_files.specs.Holds.{HoldsCluster, HoldsClusters, no_cluster, and_cluster, HoldsFile}
 use Rattle.nt_files.proofs.OutlinesBack.{outlined}
 use Rattle.nt_files.proofs.ClustersBack.{cluster}
 
-clusters : (file : List ℕ) (t : Table) (number : ℕ) (ks : List ClusterList) → Agrees (clusters_from file t number ks) (HoldsClusters file t ks)
+clusters : (file : List ℕ) (t : Table) (number : ℕ) (ks : List ClusterList) → Agrees (entries_from file t number ks) (HoldsClusters file t ks)
 clusters file t number [] = in_words
     (λ es is. subst (λ (l : List (List TreesData)). HoldsClusters file t [] l) (sym is) no_cluster)
     (λ es h. none es h)

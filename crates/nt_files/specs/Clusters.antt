@@ -104,8 +104,8 @@ columns_from file number k t id (c ∷ cs) =
     column_elements file number k id (known_column (need_of t id) c) c.code >>= λ first. columns_from file number k t (id + 1) cs >>= λ others. Ok (first ∷ others)
 
 -- columns by their ids
-abbrev pub cols_of : List (List Element) → Cols
-cols_of columns id = slice_index_or columns id []
+abbrev pub columns_by_id : List (List Element) → Cols
+columns_by_id columns id = slice_index_or columns id []
 
 -- the frame that shows a column of a cluster: its own, or the cluster's where it isn't listed
 abbrev pub frame_of : ClusterList → ℕ → ℕ
@@ -122,11 +122,11 @@ no_value_fault number k (Some spot) = Err (value_fault number k spot)
 
 -- the entries that columns give: of each the trees of the open fields at the top level, in order
 abbrev pub entries_of_columns : Table → List (List Element) → ℕ → List TreesData
-entries_of_columns t columns n = map (λ i. each_at (open_plans t) (cols_of columns) i) (range_with_len 0 n)
+entries_of_columns t columns n = map (λ i. each_at (open_plans t) (columns_by_id columns) i) (range_with_len 0 n)
 
 -- the entries of a cluster, or its first fault
 unfoldable pub cluster_of : List ℕ → Table → ℕ → ClusterList → Result (List TreesData) ReadError
 cluster_of file t number k = do
   columns ← columns_from file number k t 0 t.columns
-  sound ← no_value_fault number k (fault_in_any (open_plans t) (cols_of columns) k.entries)
+  sound ← no_value_fault number k (fault_in_any (open_plans t) (columns_by_id columns) k.entries)
   Ok (entries_of_columns t columns k.entries)

@@ -9,15 +9,15 @@ use Rattle.nt_files.specs.Outlines.{outline_of}
 use Rattle.nt_files.specs.Clusters.{cluster_of}
 
 -- the entries of clusters whose numbers go on from this one
-abbrev pub clusters_from : List ℕ → Table → ℕ → List ClusterList → Result (List (List TreesData)) ReadError
-clusters_from file t number [] = Ok []
-clusters_from file t number (k ∷ ks) = cluster_of file t number k >>= λ first. clusters_from file t (number + 1) ks >>= λ others. Ok (first ∷ others)
+abbrev pub entries_from : List ℕ → Table → ℕ → List ClusterList → Result (List (List TreesData)) ReadError
+entries_from file t number [] = Ok []
+entries_from file t number (k ∷ ks) = cluster_of file t number k >>= λ first. entries_from file t (number + 1) ks >>= λ others. Ok (first ∷ others)
 
 -- the rows of the schema and the entries of each cluster, or the first fault
 unfoldable pub read_file : List ℕ → Result (Table × List (List TreesData)) ReadError
 read_file file = do
   outline ← outline_of file
-  clusters ← clusters_from file outline.table 0 outline.clusters
+  clusters ← entries_from file outline.table 0 outline.clusters
   Ok (outline.table, clusters)
 
 -- a file means a schema and the entries of its clusters

@@ -16,7 +16,7 @@ use Rattle.nt_pagelists.specs.declared.page.PageItem.{PageItem}
 use Rattle.nt_pagelists.specs.declared.cluster.ClusterList.{ClusterList}
 use Rattle.nt_files.specs.Outlines.{Outline, known_column}
 use Rattle.nt_files.specs.Describes.{HasOutline}
-use Rattle.nt_files.specs.Clusters.{stored_len, is_checked, kind_of_code, pages_listed, begins_behind, zero_elements, cols_of, entries_of_columns}
+use Rattle.nt_files.specs.Clusters.{stored_len, is_checked, kind_of_code, pages_listed, begins_behind, zero_elements, columns_by_id, entries_of_columns}
 
 -- a page stands in the file where its item says, has the size of its elements and its checksum, and gives these elements
 pub record HoldsPage (file : List ℕ) (kind : ColumnType) (p : PageItem) (es : List Element) : Type 0 where
@@ -55,7 +55,7 @@ pub data HoldsColumns (file : List ℕ) (k : ClusterList) (t : Table) : ℕ → 
 pub record HoldsCluster (file : List ℕ) (t : Table) (k : ClusterList) (entries : List TreesData) : Type 0 where
   pub columns : List (List Element)
   pub holds : HoldsColumns file k t 0 t.columns columns
-  pub sound : AllSound (open_plans t) (cols_of columns) k.entries
+  pub sound : AllSound (open_plans t) (columns_by_id columns) k.entries
   pub give : entries ≡ entries_of_columns t columns k.entries
 
 -- clusters have these entries, each its own
