@@ -26,7 +26,7 @@ file_told (Err (stop.Text line kind)) numbers text w world held are told = absur
 file_told (Err stop.Memory) numbers text w world held are told = told
 
 -- a disk that came back is found under its name
-stored_kept : (files : Files) (name : List ℕ) (s : Stored) → map.get (map.insert files name s) name ≡ Some s
+pub stored_kept : (files : Files) (name : List ℕ) (s : Stored) → map.get (map.insert files name s) name ≡ Some s
 stored_kept files name s = grind (arith, gets)
 
 -- and leaves every other

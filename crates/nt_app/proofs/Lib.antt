@@ -4,9 +4,11 @@ pub mod Apart
 pub mod Images
 pub mod Fronts
 pub mod Left
+pub mod Ordered
 pub mod Operands
 pub mod Spoken
 pub mod Ends
+pub mod InOrder
 pub mod Asking
 pub mod Answered
 pub mod Listing

@@ -19,6 +19,7 @@ use Rattle.nt_app.specs.Statuses.{message_of}
 use Rattle.nt_app.specs.Writing.{IsUnfinished}
 use Rattle.nt_app.specs.Writes.{WriteTold, AsksAsDone, WritesFile}
 use Rattle.nt_app.specs.Entries.{IsNoPlainFile, FirstFault, EntriesTold, ListsFile}
+use Rattle.nt_app.proofs.InOrder.{nothing_made, reported_in_order}
 use Rattle.nt_app.proofs.Spoken.{write_is_not_entries}
 use Rattle.nt_app.specs.Runs.{Reports, RefusesWords, RunsWrite, RunsEntries}
 use Rattle.nt_app.specs.declared.status.Status.{Status}
@@ -49,6 +50,7 @@ not_both words o s i n one other = write_is_not_entries (some_is (codes "write")
 pub memory_writes : (o s i : List ℕ) (state : HostState) → WritesFile o s i state state status.Memory
 memory_writes o s i state = record {
   told = λ w is. (w, is, refl, λ other differs. refl, (inl (refl, refl), (0, sym (append-nil w.out))));
+  order = nothing_made o state.world;
   asked = (0, sym (append-nil state.asked));
   later = omega arith;
   failed = λ outside. absurd (cc);
@@ -177,6 +179,7 @@ run_write o s i old mid new answer writes reports = record {
         done.3,
         write_told_after o s i w done.0 (done.0.err ++ take said.0 (message_of answer)) answer done.4,
       );
+  order = reported_in_order o (message_of answer) old.world mid.world new.world (λ w is. let done = writes.told w is in (done.0, done.1)) writes.order (λ w is. let said = reports.told w is in (said.0, said.1));
   asked = subst (λ (l : List Asked). AsksAsDone (Text s ∷ Text i ∷ Out o ∷ []) old.asked l answer) (sym reports.asked) writes.asked;
   failed = λ is. subst (λ (n : ℕ). Rose old.faults n) (sym reports.faults) (writes.failed is);
   opened = reports.opened ∙ writes.opened;

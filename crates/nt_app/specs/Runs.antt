@@ -9,7 +9,7 @@ use Rattle.nt_app.specs.Schemas.{IsSchemaText}
 use Rattle.nt_app.specs.Events.{IsEventText}
 use Rattle.nt_app.specs.Stops.{IsThereWith}
 use Rattle.nt_app.specs.Statuses.{message_of}
-use Rattle.nt_app.specs.Writes.{KeepsFiles, OthersStay, WriteTold, AsksAsDone}
+use Rattle.nt_app.specs.Writes.{KeepsFiles, OthersStay, WriteTold, WritesInOrder, AsksAsDone}
 use Rattle.nt_app.specs.Entries.{IsNoPlainFile, EntriesTold}
 use Rattle.nt_app.specs.declared.status.TextFault.{TextFault}
 use Rattle.nt_app.specs.declared.status.Status.{Status}
@@ -43,6 +43,8 @@ pub record RefusesWords (old new : HostState) (answer : Status) : Type 0 where
 pub record RunsWrite (out schema input : List ℕ) (old new : HostState) (answer : Status) : Type 0 where
   -- where the host tells what it holds
   pub told : (w : World) → old.world ≡ Some w → (w' : World) × (new.world ≡ Some w') × SaysOnErr (message_of answer) old new w w' × OthersStay out w w' × WriteTold out schema input w w' answer
+  -- where the file was begun, its first byte came only when all the rest stayed
+  pub order : WritesInOrder out old.world new.world
   -- what was asked for: all three names where the file is whole, and else the first of them
   pub asked : AsksAsDone (Text schema ∷ Text input ∷ Out out ∷ []) old.asked new.asked answer
   -- the outside is blamed only where it failed

@@ -2,7 +2,8 @@
 use Rattle.std.specs.Prelude.{◌≡◌, ◌≢◌, ◌⊎◌, ℕ, ◌≤◌, List, [], ◌∷◌, ◌++◌, take, codes, Option, Some, None, Result, Ok, Err}
 use Rattle.nt_outside.specs.declared.stream.Stream.TheVariants.{ToOut}
 use Rattle.nt_outside.specs.Faults.{Rose}
-use Rattle.nt_outside.specs.Log.{FailedAppend}
+use Rattle.nt_outside.specs.Log.{Step, FailedAppend}
+use Rattle.nt_outside.specs.Order.{FirstByteLast}
 use Rattle.nt_outside.specs.Held.{Held}
 use Rattle.nt_outside.specs.World.{World, Stored, Asked, Text, Out, HostState, stored, file, prints}
 use Rattle.nt_onefield.specs.PlainFile.{plain_file}
@@ -77,6 +78,18 @@ KeepsFiles w w' = (w'.created ≡ w.created) × (w'.files ≡ w.files)
 abbrev pub MakesDisk : List ℕ → World → World → Type 0
 MakesDisk name w w' = w'.created ≡ w.created ++ name ∷ []
 
+-- the file of this name was written in order, by a disk that told its steps
+pub record IsWrittenInOrder (name : List ℕ) (w : World) : Type 0 where
+  pub file : Stored
+  pub log : List Step
+  pub there : stored w name ≡ Some file
+  pub steps : file.log ≡ Some log
+  pub order : FirstByteLast log
+
+-- where a disk of this name was made, its file was written in order
+abbrev pub WritesInOrder : List ℕ → Option World → Option World → Type 0
+WritesInOrder name old new = (w w' : World) → old ≡ Some w → new ≡ Some w' → MakesDisk name w w' → IsWrittenInOrder name w'
+
 -- a disk of this name was made, and its file can't pass for finished
 abbrev pub LeavesOpen : List ℕ → World → World → Type 0
 LeavesOpen name w w' = MakesDisk name w w' × IsLeftOpen name w'
@@ -142,6 +155,7 @@ AsksAsDone objects old new status.Memory = AsksFirst objects old new
 pub record WritesFile (out schema input : List ℕ) (old new : HostState) (answer : Status) : Type 0 where
   -- where the host tells what it holds
   pub told : (w : World) → old.world ≡ Some w → (w' : World) × (new.world ≡ Some w') × (w'.err ≡ w.err) × OthersStay out w w' × WriteTold out schema input w w' answer
+  pub order : WritesInOrder out old.world new.world
   pub asked : AsksAsDone (Text schema ∷ Text input ∷ Out out ∷ []) old.asked new.asked answer
   pub later : old.faults ≤ new.faults
   pub failed : answer ≡ status.Outside → Rose old.faults new.faults

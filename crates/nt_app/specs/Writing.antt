@@ -2,7 +2,8 @@
 use Rattle.std.specs.Prelude.{◌≡◌, ◌⊎◌, ℕ, List, [], ◌∷◌, ◌++◌, replicate, Option, Some}
 use Rattle.nt_lists.specs.Places.{put_at}
 use Rattle.nt_outside.specs.Log.{FailedAppend}
-use Rattle.nt_outside.specs.Held.{Held}
+use Rattle.nt_outside.specs.Held.{Held, BecomesSome}
+use Rattle.nt_outside.specs.Order.{FirstByteLast}
 use Rattle.nt_app.specs.declared.stop.Stop.{Stop}
 use Rattle.nt_app.specs.declared.stop.Stop.TheVariants as stop
 use Rattle.nt_onefield.specs.Header.{header_blob}
@@ -36,6 +37,10 @@ Leaves old new P = (h : Held) → old ≡ Some h → (h' : Held) × (new ≡ Som
 -- the same, where what was held had something too
 abbrev pub Keeps : Option Held → Option Held → (List ℕ → Type 0) → (List ℕ → Type 0) → Type 0
 Keeps old new P Q = (h : Held) → old ≡ Some h → P h.image → (h' : Held) × (new ≡ Some h') × Q h'.image
+
+-- steps that were in order still are: the first byte is written over only right behind a sync
+abbrev pub KeepsOrder : Option Held → Option Held → Type 0
+KeepsOrder old new = BecomesSome old new (λ h h'. FirstByteLast h.log → FirstByteLast h'.log)
 
 -- what is left to write: what stands behind the cluster, what stands in front of the header, and then the first byte
 abbrev pub finished : List ℕ → List ℕ → List ℕ → List ℕ

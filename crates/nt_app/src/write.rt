@@ -7,8 +7,8 @@ ghost use Rattle.nt_outside.specs.Held.{Held, WhereHeld, nothing_held};
 ghost use Rattle.nt_outside.specs.World.{World, Text as asked_text, Out as asked_out};
 ghost use Rattle.nt_app.specs.declared.stop.Stop.TheVariants as stop;
 ghost use Rattle.nt_app.specs.Stops.{TellsEvents, AsksFor, StopsWithCause};
-ghost use Rattle.nt_app.specs.Writing.{file_begun, Leaves, LeftBy};
-ghost use Rattle.nt_app.specs.Writes.{NumbersTold, FileTold, OthersStay, OutTold, WritesFile};
+ghost use Rattle.nt_app.specs.Writing.{file_begun, Leaves, LeftBy, KeepsOrder};
+ghost use Rattle.nt_app.specs.Writes.{NumbersTold, FileTold, OthersStay, OutTold, WritesInOrder, WritesFile};
 
 use crate::status::Status;
 use crate::stop::Stop;
@@ -27,6 +27,7 @@ fn begin_and_read<D: Disk, S: Source>(
     requires end { (D.state disk.old).end ≡ 0 }
     ensures begun { OnOk result (Leaves (D.state disk.old).held (D.state disk.new).held (λ h. h.image ≡ file_begun)) }
     ensures left { IfErr result (λ e. Leaves (D.state disk.old).held (D.state disk.new).held (LeftBy e)) }
+    ensures order { KeepsOrder (D.state disk.old).held (D.state disk.new).held }
     ensures end { OnOk result ((D.state disk.new).end ≡ 445) }
     ensures out { (D.state disk.new).out ≡ (D.state disk.old).out }
     ensures some { IfOk result (λ numbers. 0 < vec_len numbers) }
@@ -53,6 +54,7 @@ fn write_numbers<H: Host, G: Gate>(
     requires end { (H.Out.state disk.old).end ≡ 445 }
     requires out { (H.Out.state disk.old).out ≡ [] }
     ensures told { (w : World) (h : Held) → (H.state host.old).world ≡ Some w → (H.Out.state disk.old).held ≡ Some h → h.image ≡ file_begun → NumbersTold numbers.now w (H.state host.new).world (H.Out.state disk.new).held result }
+    ensures order { KeepsOrder (H.Out.state disk.old).held (H.Out.state disk.new).held }
     ensures asked { (H.state host.new).asked ≡ (H.state host.old).asked }
     ensures disk_later { (H.Out.state disk.old).faults ≤ (H.Out.state disk.new).faults }
     ensures later { (H.state host.old).faults ≤ (H.state host.new).faults }
@@ -79,6 +81,7 @@ fn write_file<H: Host, G: Gate>(
     requires out { (H.Out.state disk.old).out ≡ [] }
     requires text { (H.Text.state text).faults ≡ 0 }
     ensures told { (w : World) (t : List ℕ) → (H.state host.old).world ≡ Some w → (H.Text.state text).left ≡ Some t → (H.Out.state disk.old).held ≡ Some nothing_held → FileTold t w (H.state host.new).world (H.Out.state disk.new).held result }
+    ensures order { KeepsOrder (H.Out.state disk.old).held (H.Out.state disk.new).held }
     ensures asked { (H.state host.new).asked ≡ (H.state host.old).asked }
     ensures disk_later { (H.Out.state disk.old).faults ≤ (H.Out.state disk.new).faults }
     ensures later { (H.state host.old).faults ≤ (H.state host.new).faults }
@@ -104,6 +107,7 @@ fn write_out<H: Host, G: Gate>(
     gate: &G,
 ) -> Result<(), Stop>
     ensures told { (w : World) → (H.state host.old).world ≡ Some w → (w' : World) × ((H.state host.new).world ≡ Some w') × (w'.err ≡ w.err) × OthersStay out.now w w' × OutTold out.now input.now w w' result }
+    ensures order { WritesInOrder out.now (H.state host.old).world (H.state host.new).world }
     ensures asked { AsksFor (asked_text input.now ∷ asked_out out.now ∷ []) (H.state host.old).asked (H.state host.new).asked result }
     ensures cause { StopsWithCause (H.state host.old).faults (H.state host.new).faults result }
     ensures err_faults { (H.state host.new).err_faults ≡ (H.state host.old).err_faults }

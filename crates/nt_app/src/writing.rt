@@ -6,7 +6,7 @@ ghost use Rattle.nt_outside.specs.Faults.{HasCause, RoseOnFailed};
 ghost use Rattle.nt_outside.specs.Held.{WhereHeld, BecomesSome, nothing_held};
 ghost use Rattle.nt_onefield.specs.Cluster.{cluster_blob};
 ghost use Rattle.nt_onefield.specs.PlainFile.{plain_file};
-ghost use Rattle.nt_app.specs.Writing.{blank, file_begun, gathered, IsUnfinished, NeverBegan, Leaves, Keeps, finished, BeginsWithZero};
+ghost use Rattle.nt_app.specs.Writing.{blank, file_begun, gathered, IsUnfinished, NeverBegan, Leaves, Keeps, KeepsOrder, finished, BeginsWithZero};
 
 use nt_onefield::{cluster_blob, front, header_blob, tail};
 use nt_outside::{Disk, Failed, Gate, Point, Refused};
@@ -27,6 +27,7 @@ pub fn begin<D: Disk>(alloc: Global, disk: &mut D) -> Result<(), Refused>
     ensures begun { OnOk result (Leaves (D.state disk.old).held (D.state disk.new).held (λ h. h.image ≡ file_begun)) }
     ensures left { Leaves (D.state disk.old).held (D.state disk.new).held (λ h. IsUnfinished h.image ⊎ NeverBegan h) }
     ensures memory { IsErrOf result refused.Memory → Leaves (D.state disk.old).held (D.state disk.new).held (λ h. IsUnfinished h.image) }
+    ensures order { KeepsOrder (D.state disk.old).held (D.state disk.new).held }
     ensures end { OnOk result ((D.state disk.new).end ≡ 445) }
     ensures out { (D.state disk.new).out ≡ (D.state disk.old).out }
     ensures cause { RoseOnFailed (D.state disk.old).faults (D.state disk.new).faults result }
@@ -50,6 +51,7 @@ pub fn append_cluster<D: Disk, G: Gate>(
     requires end { (D.state disk.old).end ≡ 445 }
     ensures gathered { OnOk result (Keeps (D.state disk.old).held (D.state disk.new).held (λ b. b ≡ file_begun) (λ b. b ≡ gathered numbers.now)) }
     ensures left { Keeps (D.state disk.old).held (D.state disk.new).held (λ b. b ≡ file_begun) IsUnfinished }
+    ensures order { KeepsOrder (D.state disk.old).held (D.state disk.new).held }
     ensures end { OnOk result ((D.state disk.new).end ≡ 495 + 8 * length numbers.now) }
     ensures out { (D.state disk.new).out ≡ (D.state disk.old).out }
     ensures cause { RoseOnFailed (D.state disk.old).faults (D.state disk.new).faults result }
@@ -72,6 +74,7 @@ pub fn close<D: Disk>(alloc: Global, disk: &mut D, numbers: &[u64]) -> Result<()
     ensures whole { OnOk result (Keeps (D.state disk.old).held (D.state disk.new).held (λ b. b ≡ gathered numbers.now) (λ b. b ≡ plain_file numbers.now)) }
     ensures left { Keeps (D.state disk.old).held (D.state disk.new).held (λ b. b ≡ gathered numbers.now) (λ b. IsUnfinished b ⊎ (b ≡ plain_file numbers.now)) }
     ensures memory { IsErrOf result refused.Memory → Keeps (D.state disk.old).held (D.state disk.new).held (λ b. b ≡ gathered numbers.now) IsUnfinished }
+    ensures order { KeepsOrder (D.state disk.old).held (D.state disk.new).held }
     ensures cause { RoseOnFailed (D.state disk.old).faults (D.state disk.new).faults result }
 {
     let tail = tail(alloc, numbers)?;
@@ -91,6 +94,7 @@ fn finish<D: Disk>(disk: &mut D, tail: &[u8], front: &[u8]) -> Result<(), Failed
     requires out { (D.state disk.old).out ≡ [] }
     ensures whole { OnOk result (BecomesSome (D.state disk.old).held (D.state disk.new).held (λ h h'. h'.image ≡ finished h.image tail.now front.now)) }
     ensures left { BecomesSome (D.state disk.old).held (D.state disk.new).held (λ h h'. BeginsWithZero h.image → IsUnfinished h'.image ⊎ (h'.image ≡ finished h.image tail.now front.now)) }
+    ensures order { KeepsOrder (D.state disk.old).held (D.state disk.new).held }
     ensures cause { HasCause (D.state disk.old).faults (D.state disk.new).faults result }
 {
     disk.append(tail)?;
