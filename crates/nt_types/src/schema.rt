@@ -3,7 +3,7 @@
 ghost use Rattle.std.specs.Prelude.{◌≡◌, ◌≤◌, ◌^◌, ◌==◌, ◌∷◌, List, length, IfOk, Ok, Err};
 ghost use Rattle.std.specs.List.{position_or_len, slice_split};
 ghost use Rattle.nt_types.specs.Views.{members_view};
-ghost use Rattle.nt_types.specs.Schema.{schema_text, take_lines, first_line, at_line};
+ghost use Rattle.nt_types.specs.Schema.{schema_text, take_lines, first_line};
 ghost use Rattle.nt_types.specs.ShapeData.{MemberData};
 ghost use Rattle.nt_types.specs.Limits.{max_text};
 ghost use Rattle.nt_types.specs.Rules.{AreFields};
@@ -12,10 +12,9 @@ ghost use Rattle.nt_types.specs.TextAnswers.{TellsText};
 ghost use Rattle.nt_lists.specs.Answering.{Answers};
 ghost use Rattle.nt_types.specs.FaultViews.{schema_fault};
 ghost use Rattle.nt_types.specs.TextLines.{lines_left, bytes_left};
-ghost use Rattle.nt_types.specs.declared.fault.SchemaError.TheVariants.{Fault};
 ghost use Rattle.nt_types.specs.declared.fault.SchemaFault.{SchemaFault};
 
-use crate::fault::{SchemaError, SchemaFault, SchemaKind};
+use crate::fault::{LineError, SchemaError, SchemaKind};
 use crate::progress::Progress;
 use crate::shape::{Fields, Members};
 use std::alloc::Global;
@@ -43,12 +42,6 @@ fn cut_line(text: &[u8]) -> (&[u8], Option<&[u8]>)
     }
 }
 
-fn text_fault(kind: SchemaKind) -> SchemaError
-    ensures { result ≡ Fault (at_line 0 kind) }
-{
-    SchemaError::Fault(SchemaFault { line: 0, kind })
-}
-
 /// The fields of the lines, of which there is at least one.
 fn read_lines(alloc: Global, text: &[u8]) -> Result<Fields, SchemaError>
     requires { length text.now ≤ max_text }
@@ -67,7 +60,7 @@ fn read_lines(alloc: Global, text: &[u8]) -> Result<Fields, SchemaError>
         }
     }
     if progress.members.is_empty() {
-        return Err(text_fault(SchemaKind::Empty));
+        return Err(LineError::Kind(SchemaKind::Empty).at(0));
     }
     Ok(Members::from_vec(progress.members))
 }
@@ -94,7 +87,7 @@ fn read_text(alloc: Global, text: &[u8]) -> Result<Fields, SchemaError>
     ensures { Answers members_view schema_fault result (schema_text text.now) }
 {
     if text.len() > MAX_TEXT {
-        return Err(text_fault(SchemaKind::TooLong));
+        return Err(LineError::Kind(SchemaKind::TooLong).at(0));
     }
     read_lines(alloc, text)
 }
