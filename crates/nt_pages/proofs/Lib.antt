@@ -1,3 +1,4 @@
 pub mod Pages
 pub mod Sizes
 pub mod Places
+pub mod Paged

@@ -1,9 +1,9 @@
 -- How long pages are, one after the other.
-use Rattle.std.proofs.Common.{◌≡◌, ℕ, zero, suc, ◌+◌, ◌-◌, ◌*◌, ◌/◌, ◌%◌, ◌<◌, ◌≤◌, min, List, ◌∷◌, length, map, drop, refl, sym, ◌∙◌, ap, arith, replicate, add-zero, zero-add, Option, None, Some}
+use Rattle.std.proofs.Common.{◌≡◌, ℕ, zero, suc, ◌+◌, ◌-◌, ◌*◌, ◌/◌, ◌%◌, ◌<◌, ◌≤◌, min, List, ◌∷◌, length, map, refl, sym, ◌∙◌, ap, arith, replicate, add-zero, zero-add, Option, None, Some}
 use Rattle.std.specs.Option.{SomeIff, IfSome}
 use Rattle.std.specs.Int.{w64, to_le_bytes, div_ceil}
 use Rattle.std.specs.List.{flat_map, range_with_len}
-use Rattle.std.proofs.lemmas.List.{length-append, length-take, length-drop, length-replicate}
+use Rattle.std.proofs.lemmas.List.{length-append, length-replicate}
 use Rattle.std.proofs.Math.Nat.{add-mul, suc-mul, zero-mul, mul_comm, div-add-mod, mod-lt}
 use Rattle.nt_types.specs.declared.column_type.ColumnType.{ColumnType}
 use Rattle.nt_encode.specs.Pages.{page_size}

@@ -26,3 +26,11 @@ impl ClusterImage {
         self.bytes.put_over(0, key);
     }
 }
+
+/// An image can be handed to another thread.
+pub fn images_can_move() {
+    can_move::<ClusterImage>();
+}
+
+/// What can be handed to another thread.
+fn can_move<T: Send>() {}

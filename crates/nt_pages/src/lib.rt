@@ -12,7 +12,9 @@
 //!
 //! Proved: `build` gives the image and its metas (`bytes`, `meta`); the size that is reserved is
 //! the image's (`image_size`); at the place of each page lie its bytes and their checksum
-//! (`pages_lie_where_said`).
+//! (`pages_lie_where_said`); what is kept of a cluster is what a book asks (`clusters_are_paged`); a
+//! key is written into its room (`put_key`); an image can move to another thread
+//! (`images_can_move`).
 //!
 //! Only tested: that no more memory is taken than that; images against tables made outside.
 //!
@@ -31,5 +33,5 @@ mod page;
 mod size;
 
 pub use building::build;
-pub use image::ClusterImage;
-pub use laws::pages_lie_where_said;
+pub use image::{ClusterImage, images_can_move};
+pub use laws::{clusters_are_paged, pages_lie_where_said};
