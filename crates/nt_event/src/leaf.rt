@@ -2,11 +2,14 @@
 
 ghost use Rattle.std.specs.Prelude.{pos, ◌≡◌, ◌^◌, nat_lt, option_map, IfOk};
 ghost use Rattle.serde_json.specs.View.{view};
-ghost use Rattle.nt_types.specs.TreeData.{num};
+ghost use Rattle.serde_json.specs.Find.{as_bool};
+ghost use Rattle.nt_types.specs.TreeData.{flag, num, text};
+ghost use Rattle.nt_types.specs.TreeViews.{tree_view};
 ghost use Rattle.nt_types.specs.Fits.{is_int};
 ghost use Rattle.nt_event.specs.Line.{text_read, int_read, tag_read};
 
 use hex::FromHexError;
+use nt_types::{Bytes, Tree};
 use serde_json::Value;
 use std::alloc::{AllocError, Global};
 
@@ -37,7 +40,7 @@ fn in_unsigned_range(n: u64, bits: u8, signed: bool) -> bool
 }
 
 /// The integer that a value is, in a width.
-pub(crate) fn int(value: &Value, bits: u8, signed: bool) -> Option<i128>
+fn int(value: &Value, bits: u8, signed: bool) -> Option<i128>
     ensures { option_map num result ≡ int_read (is_int bits signed) (view value.now) }
 {
     if let Some(n) = value.as_u64() {
@@ -55,7 +58,7 @@ pub(crate) fn int(value: &Value, bits: u8, signed: bool) -> Option<i128>
 }
 
 /// The bytes that a value stands for.
-pub(crate) fn bytes(alloc: Global, value: &Value) -> Result<Option<Vec<u8>>, AllocError>
+fn bytes(alloc: Global, value: &Value) -> Result<Option<Vec<u8>>, AllocError>
     ensures { IfOk result (λ found. option_map (λ v. v.items) found ≡ text_read (view value.now)) }
 {
     if let Some(text) = value.as_str() {
@@ -77,6 +80,36 @@ pub(crate) fn bytes(alloc: Global, value: &Value) -> Result<Option<Vec<u8>>, All
         Ok(bytes) => Ok(Some(bytes)),
         Err(FromHexError::OutOfMemory) => Err(AllocError),
         Err(_) => Ok(None),
+    }
+}
+
+/// The truth value that a value is.
+pub(crate) fn flag(value: &Value) -> Option<Tree>
+    ensures { option_map tree_view result ≡ option_map flag (as_bool (view value.now)) }
+{
+    match value.as_bool() {
+        Some(holds) => Some(Tree::Flag(holds)),
+        None => None,
+    }
+}
+
+/// The integer that a value is, in a width.
+pub(crate) fn number(value: &Value, bits: u8, signed: bool) -> Option<Tree>
+    ensures { option_map tree_view result ≡ int_read (is_int bits signed) (view value.now) }
+{
+    match int(value, bits, signed) {
+        Some(n) => Some(Tree::Num(n)),
+        None => None,
+    }
+}
+
+/// The text that a value is.
+pub(crate) fn text(alloc: Global, value: &Value) -> Result<Option<Tree>, AllocError>
+    ensures { IfOk result (λ found. option_map tree_view found ≡ option_map text (text_read (view value.now))) }
+{
+    match bytes(alloc, value)? {
+        Some(bytes) => Ok(Some(Tree::Text(Bytes::from_vec(bytes)))),
+        None => Ok(None),
     }
 }
 

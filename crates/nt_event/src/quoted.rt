@@ -24,7 +24,7 @@ fn is_plain(byte: u8) -> bool
 }
 
 /// The end of bytes that stand for themselves.
-fn plain_end(text: &[u8], at: usize) -> usize
+pub(crate) fn plain_end(text: &[u8], at: usize) -> usize
     requires { at ≤ length text.now }
     ensures low { at ≤ result }
     ensures high { result ≤ length text.now }

@@ -2,10 +2,11 @@
 
 ghost use Rattle.std.specs.Prelude.{◌≡◌, ◌++◌, ◌∷◌, ◌<◌, [], length, take, drop, OnOk};
 ghost use Rattle.std.specs.Char.{digit_char};
-ghost use Rattle.json.specs.Print.{escape, escape_byte};
+ghost use Rattle.json.specs.Print.{escape, escape_byte, quoted};
 ghost use Rattle.serde_json.specs.Written.{compact_text};
-ghost use Rattle.nt_event.specs.Json.{text_data};
+ghost use Rattle.nt_event.specs.Json.{text_data, hex_data};
 
+use crate::quoted::plain_end;
 use std::alloc::{AllocError, Global};
 
 /// A hex digit.
@@ -51,9 +52,39 @@ fn put_escaped(bytes: &[u8], out: &mut Vec<u8>) -> Result<(), AllocError>
     ensures ok { OnOk result (out.new.items ≡ out.old.items ++ escape bytes.now) }
     ensures kept { take (length out.old.items) out.new.items ≡ out.old.items }
 {
-    for byte in bytes {
-        put_byte(*byte, out)?;
+    let mut i = 0;
+    while i < bytes.len() {
+        let stop = plain_end(bytes, i);
+        out.extend_from_slice(&bytes[i..stop])?;
+        if stop == bytes.len() {
+            return Ok(());
+        }
+        put_byte(bytes[stop], out)?;
+        i = stop + 1;
     }
+    Ok(())
+}
+
+/// Appends bytes between quotes.
+fn put_quoted(bytes: &[u8], out: &mut Vec<u8>) -> Result<(), AllocError>
+    ensures ok { OnOk result (out.new.items ≡ out.old.items ++ quoted bytes.now) }
+    ensures kept { take (length out.old.items) out.new.items ≡ out.old.items }
+{
+    out.push(b'"')?;
+    put_escaped(bytes, out)?;
+    out.push(b'"')?;
+    Ok(())
+}
+
+/// Appends an object with the hex of bytes.
+fn put_hex(alloc: Global, bytes: &[u8], out: &mut Vec<u8>) -> Result<(), AllocError>
+    ensures ok { OnOk result (out.new.items ≡ out.old.items ++ compact_text (hex_data bytes.now)) }
+    ensures kept { take (length out.old.items) out.new.items ≡ out.old.items }
+{
+    let digits = hex::encode(alloc, bytes)?;
+    out.extend_from_slice(b"{\"hex\":")?;
+    put_quoted(digits.as_bytes(), out)?;
+    out.push(b'}')?;
     Ok(())
 }
 
@@ -63,18 +94,7 @@ pub(crate) fn put_text(alloc: Global, bytes: &[u8], out: &mut Vec<u8>) -> Result
     ensures kept { take (length out.old.items) out.new.items ≡ out.old.items }
 {
     match simdutf8::compat::from_utf8(bytes) {
-        Ok(_) => {
-            out.push(b'"')?;
-            put_escaped(bytes, out)?;
-            out.push(b'"')?;
-            Ok(())
-        }
-        Err(_) => {
-            let digits = hex::encode(alloc, bytes)?;
-            out.extend_from_slice(b"{\"hex\":\"")?;
-            put_escaped(digits.as_bytes(), out)?;
-            out.extend_from_slice(b"\"}")?;
-            Ok(())
-        }
+        Ok(_) => put_quoted(bytes, out),
+        Err(_) => put_hex(alloc, bytes, out),
     }
 }

@@ -6,10 +6,10 @@ ghost use Rattle.nt_types.specs.ShapeData.{kinds_of, parts_of};
 ghost use Rattle.nt_types.specs.Views.{shape_view, member_view};
 ghost use Rattle.nt_types.specs.TreeData.{trees_of};
 ghost use Rattle.nt_types.specs.TreeViews.{tree_view};
-ghost use Rattle.nt_event.specs.Line.{tree_read, all_read, pick_read, one_read, kinds_read, parts_read};
+ghost use Rattle.nt_event.specs.Line.{tree_read, all_read, choice_read, pick_read, one_read, kinds_read, parts_read};
 
-use crate::leaf::{bytes, int, tag};
-use nt_types::{Bytes, Member, Shape, Tree, Trees};
+use crate::leaf::{flag, number, tag, text};
+use nt_types::{Member, Shape, Tree, Trees};
 use serde_json::Value;
 use std::alloc::{AllocError, Global};
 
@@ -19,22 +19,10 @@ fn tree(alloc: Global, shape: &Shape, value: &Value) -> Result<Option<Tree>, All
     ensures { IfOk result (λ found. option_map tree_view found ≡ tree_read (shape_view shape.now) (view value.now)) }
 {
     match shape {
-        Shape::Bool => match value.as_bool() {
-            Some(holds) => Ok(Some(Tree::Flag(holds))),
-            None => Ok(None),
-        },
-        Shape::Char | Shape::Byte => match int(value, 8, false) {
-            Some(n) => Ok(Some(Tree::Num(n))),
-            None => Ok(None),
-        },
-        Shape::Int { bits, signed } => match int(value, *bits, *signed) {
-            Some(n) => Ok(Some(Tree::Num(n))),
-            None => Ok(None),
-        },
-        Shape::Text => match bytes(alloc, value)? {
-            Some(bytes) => Ok(Some(Tree::Text(Bytes::from_vec(bytes)))),
-            None => Ok(None),
-        },
+        Shape::Bool => Ok(flag(value)),
+        Shape::Char | Shape::Byte => Ok(number(value, 8, false)),
+        Shape::Int { bits, signed } => Ok(number(value, *bits, *signed)),
+        Shape::Text => text(alloc, value),
         Shape::List(of) => {
             let Some(values) = value.as_array() else {
                 return Ok(None);
@@ -62,15 +50,7 @@ fn tree(alloc: Global, shape: &Shape, value: &Value) -> Result<Option<Tree>, All
                 None => Ok(None),
             }
         }
-        Shape::Choice(shapes) => {
-            if value.is_null() {
-                return Ok(Some(Tree::Nothing));
-            }
-            let Some(values) = value.as_array() else {
-                return Ok(None);
-            };
-            picked(alloc, &shapes.list, &values)
-        }
+        Shape::Choice(shapes) => choice(alloc, &shapes.list, value),
     }
 }
 
@@ -149,4 +129,18 @@ fn picked(alloc: Global, shapes: &[Shape], values: &[Value]) -> Result<Option<Tr
         })),
         None => Ok(None),
     }
+}
+
+/// `null`, or a tag and the value of its alternative.
+#[cycle(tree)]
+fn choice(alloc: Global, shapes: &[Shape], value: &Value) -> Result<Option<Tree>, AllocError>
+    ensures { IfOk result (λ found. option_map tree_view found ≡ choice_read (one_read (kinds_of (map shape_view shapes.now))) (view value.now)) }
+{
+    if value.is_null() {
+        return Ok(Some(Tree::Nothing));
+    }
+    let Some(values) = value.as_array() else {
+        return Ok(None);
+    };
+    picked(alloc, shapes, &values)
 }

@@ -140,38 +140,38 @@ picked-returns-in-None t c =
     ap (option_map (pick tag)) (at ∙ sym (one-nth ks (tag - 1) (shape_view k) (view y) (omega (arith, lt, length-map c.args.shapes.now shape_view)) (nth-shape c.args.shapes.now (tag - 1) k lt c.index-shapes-tag.is)) ∙ ap (λ n. one_read (kinds_of ks) n (view y)) (sym next))
     ∙ sym (picked_is ks c.args.values.now c.index-values-0.result y tag (omega (arith, c.if-values-ne2.false)) c.index-values-0.is c.index-values-1.is (sym c.in-Some.is ∙ c.tag.ensures))
 
+pub tree-returns-in-Some-2 : goal.tree-returns-in-Some-2
+tree-returns-in-Some-2 t c =
+    let e = c.in_ok-list-in-List.ensures in
+    let vs = c.in-Some-2.list in
+    let k = c.in-List.of in
+    let xs = c.in-Some.values.now in
+    let d = view c.args.value.now in
+    let all : Some (trees_of (map tree_view vs.items)) ≡ all_read (tree_read (shape_view k.value)) (items_view xs.items) = search (rules, e, c.in-Some-2.is, c.deref.ensures, c.deref-in-List.ensures.value) in
+    ap (λ (v : TreeData). Some v) (view-Items vs)
+    ∙ list-tree (shape_view k.value) d (items_view xs.items) (trees_of (map tree_view vs.items)) c.in-Some.ensures all
+    ∙ ap (λ j. tree_read j d) (sym (view-List k)) ∙ ap (λ s. tree_read (shape_view s) d) (sym c.in-List.is)
+
 pub tree-returns-in-Some-3 : goal.tree-returns-in-Some-3
 tree-returns-in-Some-3 t c =
-    let e = c.in_ok-list-in-List.ensures in
+    let e = c.in_ok-list-in-Rec.ensures in
     let vs = c.in-Some-3.list in
-    let k = c.in-List.of in
+    let ms = c.in-Rec.members in
     let xs = c.in-Some-as_array.values.now in
     let d = view c.args.value.now in
-    let all : Some (trees_of (map tree_view vs.items)) ≡ all_read (tree_read (shape_view k.value)) (items_view xs.items) = search (rules, e, c.in-Some-3.is, c.deref.ensures, c.deref-in-List.ensures.value) in
-    ap (λ (v : TreeData). Some v) (view-Items vs)
-    ∙ list-tree (shape_view k.value) d (items_view xs.items) (trees_of (map tree_view vs.items)) c.in-Some-as_array.ensures all
-    ∙ ap (λ j. tree_read j d) (sym (view-List k)) ∙ ap (λ s. tree_read (shape_view s) d) (sym c.in-List.is)
+    let all : Some (trees_of (map tree_view vs.items)) ≡ lines.parts_read (parts_of (members_view ms)) (items_view xs.items) = search (rules, shape_lemmas, e, c.in-Some-3.is, c.deref-in-Rec.ensures.value, c.deref-in-Rec-2.ensures.value) in
+    ap (λ (v : TreeData). Some v) (view-Parts vs)
+    ∙ record-tree (parts_of (members_view ms)) d (items_view xs.items) (trees_of (map tree_view vs.items)) c.in-Some-as_array.ensures all
+    ∙ ap (λ j. tree_read j d) (sym (view-Rec ms)) ∙ ap (λ s. tree_read (shape_view s) d) (sym c.in-Rec.is)
 
 pub tree-returns-in-Some-4 : goal.tree-returns-in-Some-4
 tree-returns-in-Some-4 t c =
-    let e = c.in_ok-list-in-Rec.ensures in
+    let e = c.in_ok-list-in-Tuple.ensures in
     let vs = c.in-Some-4.list in
-    let ms = c.in-Rec.members in
+    let ks = c.in-Tuple.shapes in
     let xs = c.in-Some-as_array-2.values.now in
     let d = view c.args.value.now in
-    let all : Some (trees_of (map tree_view vs.items)) ≡ lines.parts_read (parts_of (members_view ms)) (items_view xs.items) = search (rules, shape_lemmas, e, c.in-Some-4.is, c.deref-in-Rec.ensures.value, c.deref-in-Rec-2.ensures.value) in
+    let all : Some (trees_of (map tree_view vs.items)) ≡ lines.kinds_read (kinds_of (map shape_view ks.list.items)) (items_view xs.items) = search (rules, e, c.in-Some-4.is, c.deref-in-Tuple.ensures.value, c.deref-in-Tuple-2.ensures.value) in
     ap (λ (v : TreeData). Some v) (view-Parts vs)
-    ∙ record-tree (parts_of (members_view ms)) d (items_view xs.items) (trees_of (map tree_view vs.items)) c.in-Some-as_array-2.ensures all
-    ∙ ap (λ j. tree_read j d) (sym (view-Rec ms)) ∙ ap (λ s. tree_read (shape_view s) d) (sym c.in-Rec.is)
-
-pub tree-returns-in-Some-5 : goal.tree-returns-in-Some-5
-tree-returns-in-Some-5 t c =
-    let e = c.in_ok-list-in-Tuple.ensures in
-    let vs = c.in-Some-5.list in
-    let ks = c.in-Tuple.shapes in
-    let xs = c.in-Some-as_array-3.values.now in
-    let d = view c.args.value.now in
-    let all : Some (trees_of (map tree_view vs.items)) ≡ lines.kinds_read (kinds_of (map shape_view ks.list.items)) (items_view xs.items) = search (rules, e, c.in-Some-5.is, c.deref-in-Tuple.ensures.value, c.deref-in-Tuple-2.ensures.value) in
-    ap (λ (v : TreeData). Some v) (view-Parts vs)
-    ∙ tuple-tree (kinds_of (map shape_view ks.list.items)) d (items_view xs.items) (trees_of (map tree_view vs.items)) c.in-Some-as_array-3.ensures all
+    ∙ tuple-tree (kinds_of (map shape_view ks.list.items)) d (items_view xs.items) (trees_of (map tree_view vs.items)) c.in-Some-as_array-2.ensures all
     ∙ ap (λ j. tree_read j d) (sym (view-Tuple ks)) ∙ ap (λ s. tree_read (shape_view s) d) (sym c.in-Tuple.is)
