@@ -1,0 +1,11 @@
+#!/bin/sh
+# Measures nt_event's read_line and write_line beside a plain parser and printer in C++, both by the shapes of a schema and with
+# trees between, and read_line by serde_json, on the same lines with a blank that only it reads. The lines are compared first.
+# Each figure is a median of rounds taken in turn.
+set -eu
+cd "$(dirname -- "$(readlink -f -- "$0")")"
+made=$(mktemp -d)
+trap 'rm -rf "$made"' EXIT
+(cd ../crates/nt_event_c && rt lib >"$made/log" 2>&1) || { cat "$made/log" >&2; exit 1; }
+c++ -std=c++17 -O3 -o "$made/event" event.cpp ../crates/nt_event_c/out/libnt_event_c.a "$(dirname "$(rt doc)")/c/liblibc_c.a"
+"$made/event"
