@@ -21,10 +21,10 @@ holding_by Idle out is held = absurd (cc held)
 holding_by (Waiting t) out is held = absurd is
 holding_by (Holding t) out is held = (t, refl, is)
 
-module _ {V E B : Type 0} (id : TableId) (seats : ℕ) (turn : TurnState) (turn_is : record { id = id; seats = seats } ≡ turn)
+module _ {V E B : Type 0} (id : TableId) (seats : ℕ) (birth : B) (turn : TurnState B) (turn_is : record { id = id; seats = seats; birth = birth } ≡ turn)
     (table : TableId) (number splits : ℕ) (me : Me (Option V) (View E B)) (is : IsPass number splits me) (pass : PassState E B) (pass_is : pass_state table me.0 ≡ pass) where
   of_turn : pass.turn ≡ turn.id → table ≡ id
-  of_turn same = ap (λ (p : PassState E B). p.turn) pass_is ∙ (same ∙ sym (ap (λ (t : TurnState). t.id) turn_is))
+  of_turn same = ap (λ (p : PassState E B). p.turn) pass_is ∙ (same ∙ sym (ap (λ (t : TurnState B). t.id) turn_is))
 
   idle : pass.holds ≡ false → IsIdle me
   idle free =
@@ -39,12 +39,12 @@ module _ {V E B : Type 0} (id : TableId) (seats : ℕ) (turn : TurnState) (turn_
   pub first_of : IsFirst turn pass → (table ≡ id) × IsIdle me × (me.0.number ≡ seats)
   first_of p =
       let number_is = ap (λ (q : PassState E B). q.number) pass_is in
-      let seats_are = ap (λ (t : TurnState). t.seats) turn_is in
+      let seats_are = ap (λ (t : TurnState B). t.seats) turn_is in
       (of_turn p.turn_is, idle p.free, number_is ∙ (p.number ∙ sym seats_are))
 
   -- a first pass that may be split has room
   pub room_of : pass.splits < turn.seats → me.0.splits < seats
-  room_of less = let splits_are = ap (λ (q : PassState E B). q.splits) pass_is in let seats_are = ap (λ (t : TurnState). t.seats) turn_is in omega arith
+  room_of less = let splits_are = ap (λ (q : PassState E B). q.splits) pass_is in let seats_are = ap (λ (t : TurnState B). t.seats) turn_is in omega arith
 
   -- the user of a pass that holds the turn has the value
   pub holder_of : IsHolder turn pass → (table ≡ id) × IsHolding me

@@ -11,10 +11,11 @@ use Rattle.nt_turn.specs.declared.view.Stage.TheVariants.{Idle, Waiting, Holding
 use Rattle.nt_turn.specs.declared.view.View.{View}
 use Rattle.nt_turn.specs.History.{entries_of, longer, HasNone}
 
--- which turn it is, and how many passes may be split off its first, whose number that is
-pub record TurnState : Type 0 where
+-- which turn it is, how many passes may be split off its first, whose number that is, and the birth of its value
+pub record TurnState (B : Type 0) : Type 0 where
   pub id : TableId
   pub seats : ℕ
+  pub birth : B
 
 -- a pass: its turn and number, whether it holds the turn, the birth, what it has seen of the history, its own entries,
 -- how many passes were split off it, and the number and entries of each that was joined to it
@@ -53,9 +54,9 @@ pub record IsPass {V E B : Type 0} (number splits : ℕ) (me : Me (Option V) (Vi
   pub settled : IsSettled me.0.stage me.1
 
 -- the first pass of a turn
-abbrev pub first_pass : {E B : Type 0} → TurnState → B → PassState E B
-first_pass turn birth =
-    record { turn = turn.id; number = turn.seats; holds = false; birth = Some birth; seen = []; own = []; splits = 0; kept = [] }
+abbrev pub first_pass : {E B : Type 0} → TurnState B → PassState E B
+first_pass turn =
+    record { turn = turn.id; number = turn.seats; holds = false; birth = Some turn.birth; seen = []; own = []; splits = 0; kept = [] }
 
 -- the pass that is split off this one: it has the next number, has seen the same, and has no entries
 abbrev pub next_pass : {E B : Type 0} → PassState E B → PassState E B
@@ -76,18 +77,18 @@ after_joining first other =
     record first { seen = longer first.seen other.seen; kept = first.kept ++ (other.number, other.own) ∷ [] }
 
 -- the pass is of this turn, and doesn't hold it
-pub record IsFree {E B : Type 0} (turn : TurnState) (pass : PassState E B) : Type 0 where
+pub record IsFree {E B : Type 0} (turn : TurnState B) (pass : PassState E B) : Type 0 where
   pub turn_is : pass.turn ≡ turn.id
   pub free : pass.holds ≡ false
 
 -- the first pass of this turn, which doesn't hold it
-pub record IsFirst {E B : Type 0} (turn : TurnState) (pass : PassState E B) : Type 0 where
+pub record IsFirst {E B : Type 0} (turn : TurnState B) (pass : PassState E B) : Type 0 where
   pub turn_is : pass.turn ≡ turn.id
   pub free : pass.holds ≡ false
   pub number : pass.number ≡ turn.seats
 
 -- the pass is of this turn, and holds it
-pub record IsHolder {E B : Type 0} (turn : TurnState) (pass : PassState E B) : Type 0 where
+pub record IsHolder {E B : Type 0} (turn : TurnState B) (pass : PassState E B) : Type 0 where
   pub turn_is : pass.turn ≡ turn.id
   pub held : pass.holds ≡ true
 

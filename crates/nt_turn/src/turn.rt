@@ -36,9 +36,13 @@ impl<V: Logged> Model for Turn<V> {
     ghost use Rattle.std.specs.Prelude.{◌≡◌};
     ghost use Rattle.nt_turn.specs.Pass.{TurnState};
 
-    ghost Value = { TurnState };
+    ghost Value = { TurnState V.Birth };
 
-    ghost view = { λ t. record { id = t.table.shared.table_id; seats = t.table.shared.key.seats } };
+    ghost view = { λ t. record {
+      id = t.table.shared.table_id;
+      seats = t.table.shared.key.seats;
+      birth = V.birth t.table.shared.key.first.value;
+    } };
 
     ghost invariant = { λ t. (t.table.shared.table_id.words ≡ 2) × (t.table.shared.table_id.slots ≡ 1) };
 }
@@ -50,7 +54,7 @@ impl<V: Logged> Turn<V> {
     pub fn new(alloc: Global, value: V, seats: u32) -> Result<(Turn<V>, Pass<V>), (V, AllocError)>
         requires seats { (1 ≤ seats) × (seats ≤ MOST_SEATS) }
         requires empty { V.history value ≡ [] }
-        ensures ok { IfOk result (λ t. (t.0.seats ≡ seats) × (t.1 ≡ first_pass t.0 (V.birth value))) }
+        ensures ok { IfOk result (λ t. (t.0.seats ≡ seats) × (t.0.birth ≡ V.birth value) × (t.1 ≡ first_pass t.0)) }
         ensures err { IfErr result (λ e. e.0 ≡ value) }
     {
         let key = Key {
