@@ -1,0 +1,11 @@
+pub mod Steps
+pub mod PageSteps
+pub mod SummarySteps
+pub mod ColumnSteps
+pub mod UnlistedSteps
+pub mod FirstSteps
+pub mod ClusterSteps
+pub mod Adding
+pub mod GroupSteps
+pub mod Appended
+pub mod BookFacts
