@@ -15,11 +15,11 @@ use Rattle.nt_book.specs.declared.state.RangeState.{RangeState}
 use Rattle.nt_book.specs.declared.state.RangeState.TheVariants as state
 use Rattle.nt_book.specs.declared.row.ClusterRow.{ClusterRow}
 use Rattle.nt_book.specs.Books.{entry_count, elements_before}
-use Rattle.nt_book.specs.Entries.{no_row, row_cluster, clusters_from}
+use Rattle.nt_book.specs.Entries.{no_row, row_cluster, row_clusters}
 use Rattle.nt_book.specs.Keeping.{IsRowOf, IsCounted, AreFirsts, AreOffsets, with_state, count_out, is_out_state}
 use Rattle.nt_book.specs.Limiting.{limit_error}
 use Rattle.nt_book.specs.Pages.{element_count, listed_elements, stored_size, IsPageOf, IsPaged}
-use Rattle.nt_book.proofs.Rows.{length-with_state, length-clusters_from, clusters_from-append}
+use Rattle.nt_book.proofs.Rows.{length-with_state, length-row_clusters, row_clusters-append}
 
 pub each-at : (P : ClusterRow → Type 0) (rows : List ClusterRow) (k : ℕ) (d : ClusterRow) → AllByRecursion P rows → k < length rows → P (slice_index_or rows k d)
 each-at P [] k d h less = absurd (omega arith)
@@ -28,9 +28,9 @@ each-at P (row ∷ rows) (suc k) d h less = each-at P rows k d h.1 (omega arith)
 
 -- a view of clusters that does not see their states
 pub map-with_state : {B : Type 0} (f : Cluster ClusterMeta → B) → ((n : ℕ) (row : ClusterRow) (s : RangeState) → f (row_cluster n (record row { state = s })) ≡ f (row_cluster n row))
-    → (m : ℕ) (rows : List ClusterRow) (n : ℕ) (s : RangeState) → map f (clusters_from m (with_state rows n s)) ≡ map f (clusters_from m rows)
+    → (m : ℕ) (rows : List ClusterRow) (n : ℕ) (s : RangeState) → map f (row_clusters m (with_state rows n s)) ≡ map f (row_clusters m rows)
 map-with_state f blind m [] n s = refl
-map-with_state f blind m (row ∷ rows) zero s = ap (λ (b : _). b ∷ map f (clusters_from (m + 1) rows)) (blind m row s)
+map-with_state f blind m (row ∷ rows) zero s = ap (λ (b : _). b ∷ map f (row_clusters (m + 1) rows)) (blind m row s)
 map-with_state f blind m (row ∷ rows) (suc n) s = ap (λ (l : List _). f (row_cluster m row) ∷ l) (map-with_state f blind (m + 1) rows n s)
 
 map-take : {X Y : Type 0} (f : X → Y) (k : ℕ) (xs : List X) → map f (take k xs) ≡ take k (map f xs)
@@ -39,15 +39,15 @@ map-take f (suc k) [] = refl
 map-take f (suc k) (x ∷ xs) = ap (λ (l : List _). f x ∷ l) (map-take f k xs)
 
 pub sum-with_state : (f : Cluster ClusterMeta → ℕ) → ((n : ℕ) (row : ClusterRow) (s : RangeState) → f (row_cluster n (record row { state = s })) ≡ f (row_cluster n row))
-    → (rows : List ClusterRow) (n : ℕ) (s : RangeState) → sum_by f (clusters_from 0 (with_state rows n s)) ≡ sum_by f (clusters_from 0 rows)
-sum-with_state f blind rows n s = sym (sum-map f (clusters_from 0 (with_state rows n s))) ∙ (ap sum (map-with_state f blind 0 rows n s) ∙ sum-map f (clusters_from 0 rows))
+    → (rows : List ClusterRow) (n : ℕ) (s : RangeState) → sum_by f (row_clusters 0 (with_state rows n s)) ≡ sum_by f (row_clusters 0 rows)
+sum-with_state f blind rows n s = sym (sum-map f (row_clusters 0 (with_state rows n s))) ∙ (ap sum (map-with_state f blind 0 rows n s) ∙ sum-map f (row_clusters 0 rows))
 
 pub sum-take-with_state : (f : Cluster ClusterMeta → ℕ) → ((n : ℕ) (row : ClusterRow) (s : RangeState) → f (row_cluster n (record row { state = s })) ≡ f (row_cluster n row))
-    → (rows : List ClusterRow) (n : ℕ) (s : RangeState) (k : ℕ) → sum_by f (take k (clusters_from 0 (with_state rows n s))) ≡ sum_by f (take k (clusters_from 0 rows))
+    → (rows : List ClusterRow) (n : ℕ) (s : RangeState) (k : ℕ) → sum_by f (take k (row_clusters 0 (with_state rows n s))) ≡ sum_by f (take k (row_clusters 0 rows))
 sum-take-with_state f blind rows n s k =
-    sym (sum-map f (take k (clusters_from 0 (with_state rows n s))))
-    ∙ (ap sum (map-take f k (clusters_from 0 (with_state rows n s)) ∙ (ap (λ (l : List ℕ). take k l) (map-with_state f blind 0 rows n s) ∙ sym (map-take f k (clusters_from 0 rows))))
-    ∙ sum-map f (take k (clusters_from 0 rows)))
+    sym (sum-map f (take k (row_clusters 0 (with_state rows n s))))
+    ∙ (ap sum (map-take f k (row_clusters 0 (with_state rows n s)) ∙ (ap (λ (l : List ℕ). take k l) (map-with_state f blind 0 rows n s) ∙ sym (map-take f k (row_clusters 0 rows))))
+    ∙ sum-map f (take k (row_clusters 0 rows)))
 
 each-with_state : (columns : ℕ) (rows : List ClusterRow) (n : ℕ) (s : RangeState) → AllByRecursion (IsRowOf columns) rows → AllByRecursion (IsRowOf columns) (with_state rows n s)
 each-with_state columns [] n s h = tt
@@ -60,20 +60,20 @@ AreFirsts-with_state entries (row ∷ rows) zero s h = (h.0, h.1)
 AreFirsts-with_state entries (row ∷ rows) (suc n) s h = (h.0, AreFirsts-with_state (entries + row.meta.entries) rows n s h.1)
 
 -- a row that begins with the entry that all those before it leave
-AreFirsts-append : (m entries : ℕ) (rows : List ClusterRow) (row : ClusterRow) → AreFirsts entries rows → row.first ≡ entries + entry_count (clusters_from m rows)
+AreFirsts-append : (m entries : ℕ) (rows : List ClusterRow) (row : ClusterRow) → AreFirsts entries rows → row.first ≡ entries + entry_count (row_clusters m rows)
     → AreFirsts entries (rows ++ row ∷ [])
 AreFirsts-append m entries [] row h is = (omega (arith, is), tt)
 AreFirsts-append m entries (one ∷ rows) row h is =
-    let sum = sum_by-cons (λ (c : Cluster ClusterMeta). c.meta.entries) (row_cluster m one) (clusters_from (m + 1) rows) in
+    let sum = sum_by-cons (λ (c : Cluster ClusterMeta). c.meta.entries) (row_cluster m one) (row_clusters (m + 1) rows) in
     (h.0, AreFirsts-append (m + 1) (entries + one.meta.entries) rows row h.1 (omega (arith, is, sum)))
 
 -- a row begins with the entry that those before it leave
 pub AreFirsts-at : (m entries : ℕ) (rows : List ClusterRow) (k : ℕ) (d : ClusterRow) → k < length rows → AreFirsts entries rows
-    → (slice_index_or rows k d).first ≡ entries + entry_count (take k (clusters_from m rows))
+    → (slice_index_or rows k d).first ≡ entries + entry_count (take k (row_clusters m rows))
 AreFirsts-at m entries [] k d less h = absurd (omega (arith, less))
 AreFirsts-at m entries (row ∷ rows) zero d less h = omega (arith, h.0)
 AreFirsts-at m entries (row ∷ rows) (suc k) d less h =
-    let sum = sum_by-cons (λ (c : Cluster ClusterMeta). c.meta.entries) (row_cluster m row) (take k (clusters_from (m + 1) rows)) in
+    let sum = sum_by-cons (λ (c : Cluster ClusterMeta). c.meta.entries) (row_cluster m row) (take k (row_clusters (m + 1) rows)) in
     omega (arith, AreFirsts-at (m + 1) (entries + row.meta.entries) rows k d (omega (arith, less)) h.1, sum)
 
 abbrev out_one : RangeState → ℕ
@@ -163,19 +163,19 @@ pub listed_elements-le : (meta : ClusterMeta) (column : ℕ) → IsPaged meta �
 listed_elements-le meta column h = let sizes = h.sizes in omega (arith, sizes, listed-le meta meta.pages column h.each)
 
 pub elements_before-le : (columns m : ℕ) (rows : List ClusterRow) (column : ℕ) → AllByRecursion (IsRowOf columns) rows
-    → elements_before (clusters_from m rows) column ≤ 8 * sum_by (λ (c : Cluster ClusterMeta). c.len) (clusters_from m rows)
+    → elements_before (row_clusters m rows) column ≤ 8 * sum_by (λ (c : Cluster ClusterMeta). c.len) (row_clusters m rows)
 elements_before-le columns m [] column h = omega arith
 elements_before-le columns m (row ∷ rows) column h =
     omega (
       arith,
       listed_elements-le row.meta column h.0.paged,
       elements_before-le columns (m + 1) rows column h.1,
-      sum_by-cons (λ (c : Cluster ClusterMeta). listed_elements c.meta column) (row_cluster m row) (clusters_from (m + 1) rows),
-      sum_by-cons (λ (c : Cluster ClusterMeta). c.len) (row_cluster m row) (clusters_from (m + 1) rows),
+      sum_by-cons (λ (c : Cluster ClusterMeta). listed_elements c.meta column) (row_cluster m row) (row_clusters (m + 1) rows),
+      sum_by-cons (λ (c : Cluster ClusterMeta). c.len) (row_cluster m row) (row_clusters (m + 1) rows),
     )
 
 pub entry_count-le : (columns m : ℕ) (rows : List ClusterRow) → AllByRecursion (IsRowOf columns) rows
-    → entry_count (clusters_from m rows) ≤ 8 * sum_by (λ (c : Cluster ClusterMeta). c.len) (clusters_from m rows)
+    → entry_count (row_clusters m rows) ≤ 8 * sum_by (λ (c : Cluster ClusterMeta). c.len) (row_clusters m rows)
 entry_count-le columns m [] h = omega arith
 entry_count-le columns m (row ∷ rows) h =
     let entries = h.0.paged.entries in
@@ -183,20 +183,20 @@ entry_count-le columns m (row ∷ rows) h =
       arith,
       entries,
       entry_count-le columns (m + 1) rows h.1,
-      sum_by-cons (λ (c : Cluster ClusterMeta). c.meta.entries) (row_cluster m row) (clusters_from (m + 1) rows),
-      sum_by-cons (λ (c : Cluster ClusterMeta). c.len) (row_cluster m row) (clusters_from (m + 1) rows),
+      sum_by-cons (λ (c : Cluster ClusterMeta). c.meta.entries) (row_cluster m row) (row_clusters (m + 1) rows),
+      sum_by-cons (λ (c : Cluster ClusterMeta). c.len) (row_cluster m row) (row_clusters (m + 1) rows),
     )
 
 -- one cluster more
 module _ (rows : List ClusterRow) (row : ClusterRow) where
-  clusters-append : clusters_from 0 (rows ++ row ∷ []) ≡ clusters_from 0 rows ++ row_cluster (length rows) row ∷ []
-  clusters-append = clusters_from-append 0 rows row ∙ ap (λ (m : ℕ). clusters_from 0 rows ++ row_cluster m row ∷ []) (omega arith)
+  clusters-append : row_clusters 0 (rows ++ row ∷ []) ≡ row_clusters 0 rows ++ row_cluster (length rows) row ∷ []
+  clusters-append = row_clusters-append 0 rows row ∙ ap (λ (m : ℕ). row_clusters 0 rows ++ row_cluster m row ∷ []) (omega arith)
 
-  pub sum-clusters-append : (f : Cluster ClusterMeta → ℕ) → sum_by f (clusters_from 0 (rows ++ row ∷ [])) ≡ sum_by f (clusters_from 0 rows) + f (row_cluster (length rows) row)
-  sum-clusters-append f = ap (sum_by f) clusters-append ∙ sum_by_push f (clusters_from 0 rows) (row_cluster (length rows) row)
+  pub sum-clusters-append : (f : Cluster ClusterMeta → ℕ) → sum_by f (row_clusters 0 (rows ++ row ∷ [])) ≡ sum_by f (row_clusters 0 rows) + f (row_cluster (length rows) row)
+  sum-clusters-append f = ap (sum_by f) clusters-append ∙ sum_by_push f (row_clusters 0 rows) (row_cluster (length rows) row)
 
-  take-clusters-append : (k : ℕ) → k ≤ length rows → take k (clusters_from 0 (rows ++ row ∷ [])) ≡ take k (clusters_from 0 rows)
-  take-clusters-append k inside = ap (λ (l : List (Cluster ClusterMeta)). take k l) clusters-append ∙ take-append-le k (clusters_from 0 rows) (row_cluster (length rows) row ∷ []) (omega (arith, length-clusters_from 0 rows))
+  take-clusters-append : (k : ℕ) → k ≤ length rows → take k (row_clusters 0 (rows ++ row ∷ [])) ≡ take k (row_clusters 0 rows)
+  take-clusters-append k inside = ap (λ (l : List (Cluster ClusterMeta)). take k l) clusters-append ∙ take-append-le k (row_clusters 0 rows) (row_cluster (length rows) row ∷ []) (omega (arith, length-row_clusters 0 rows))
 
   each-append : (P : ClusterRow → Type 0) (xs : List ClusterRow) → AllByRecursion P xs → P row → AllByRecursion P (xs ++ row ∷ [])
   each-append P [] h here = (here, tt)
@@ -229,7 +229,7 @@ module _ (rows : List ClusterRow) (row : ClusterRow) where
       → ((k : ℕ) → k < length offsets → slice_index more k ≡ slice_index offsets k)
       → ((column : ℕ) → column < length firsts → slice_index more (length offsets + column) ≡ slice_index offsets (length offsets - length firsts + column) + listed_elements row.meta column)
       → (k column : ℕ) → (k < length rows + 1) ⊎ (length rows + 1 ≤ k) → k ≤ length rows + 1 → column < length firsts
-      → slice_index more (k * length firsts + column) ≡ slice_index firsts column + elements_before (take k (clusters_from 0 (rows ++ row ∷ []))) column
+      → slice_index more (k * length firsts + column) ≡ slice_index firsts column + elements_before (take k (row_clusters 0 (rows ++ row ∷ []))) column
   AreOffsets-at firsts offsets more h long kept behind k column (inl low) inside less =
       let place = table_place k (length rows) column (length firsts) (omega arith) less in
       kept (k * length firsts + column) (omega (arith, place, h.long))
@@ -238,13 +238,13 @@ module _ (rows : List ClusterRow) (row : ClusterRow) where
       let last : k ≡ length rows + 1 = omega arith in
       let place : k * length firsts + column ≡ length offsets + column = omega (arith, h.long, ap (λ (n : ℕ). n * length firsts) last) in
       let before : length offsets - length firsts + column ≡ length rows * length firsts + column = omega (arith, h.long) in
-      let all : take (length rows) (clusters_from 0 rows) ≡ clusters_from 0 rows = take_all (length rows) (clusters_from 0 rows) (omega (arith, length-clusters_from 0 rows)) in
-      let whole : take k (clusters_from 0 (rows ++ row ∷ [])) ≡ clusters_from 0 (rows ++ row ∷ []) =
-      take_all k (clusters_from 0 (rows ++ row ∷ [])) (omega (arith, length-clusters_from 0 (rows ++ row ∷ []), length-append rows (row ∷ []))) in
-      let was : slice_index offsets (length offsets - length firsts + column) ≡ slice_index firsts column + elements_before (clusters_from 0 rows) column =
+      let all : take (length rows) (row_clusters 0 rows) ≡ row_clusters 0 rows = take_all (length rows) (row_clusters 0 rows) (omega (arith, length-row_clusters 0 rows)) in
+      let whole : take k (row_clusters 0 (rows ++ row ∷ [])) ≡ row_clusters 0 (rows ++ row ∷ []) =
+      take_all k (row_clusters 0 (rows ++ row ∷ [])) (omega (arith, length-row_clusters 0 (rows ++ row ∷ []), length-append rows (row ∷ []))) in
+      let was : slice_index offsets (length offsets - length firsts + column) ≡ slice_index firsts column + elements_before (row_clusters 0 rows) column =
       ap (λ (n : ℕ). slice_index offsets n) before
       ∙ (h.each (length rows) column (omega arith) less ∙ ap (λ (l : List (Cluster ClusterMeta)). slice_index firsts column + elements_before l column) all) in
-      let now : elements_before (take k (clusters_from 0 (rows ++ row ∷ []))) column ≡ elements_before (clusters_from 0 rows) column + listed_elements row.meta column =
+      let now : elements_before (take k (row_clusters 0 (rows ++ row ∷ []))) column ≡ elements_before (row_clusters 0 rows) column + listed_elements row.meta column =
       ap (λ (l : List (Cluster ClusterMeta)). elements_before l column) whole ∙ sum-clusters-append (λ (c : Cluster ClusterMeta). listed_elements c.meta column) in
       ap (λ (n : ℕ). slice_index more n) place ∙ (behind column less ∙ omega (arith, was, now))
 
@@ -284,8 +284,8 @@ pub offsets-fit : (begin end entries out : ℕ) (limits : Limits) (firsts offset
     → (column : ℕ) → column < length firsts → slice_index offsets (length offsets - length firsts + column) + listed_elements meta column < 2 ^ 64
 offsets-fit begin end entries out limits firsts offsets rows meta h o paged within column less =
     let before : length offsets - length firsts + column ≡ length rows * length firsts + column = omega (arith, o.long) in
-    let all : take (length rows) (clusters_from 0 rows) ≡ clusters_from 0 rows = take_all (length rows) (clusters_from 0 rows) (omega (arith, length-clusters_from 0 rows)) in
-    let was : slice_index offsets (length offsets - length firsts + column) ≡ slice_index firsts column + elements_before (clusters_from 0 rows) column =
+    let all : take (length rows) (row_clusters 0 rows) ≡ row_clusters 0 rows = take_all (length rows) (row_clusters 0 rows) (omega (arith, length-row_clusters 0 rows)) in
+    let was : slice_index offsets (length offsets - length firsts + column) ≡ slice_index firsts column + elements_before (row_clusters 0 rows) column =
     ap (λ (n : ℕ). slice_index offsets n) before
     ∙ (o.each (length rows) column (omega arith) less ∙ ap (λ (l : List (Cluster ClusterMeta)). slice_index firsts column + elements_before l column) all) in
     omega (arith, was, low-at firsts column h.low, elements_before-le (length firsts) 0 rows column h.each, listed_elements-le meta column paged, h.ends, limits.file_bound)

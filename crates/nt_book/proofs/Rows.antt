@@ -12,33 +12,33 @@ use Rattle.nt_book.specs.declared.event.EventKind.TheVariants.{Committed, Settle
 use Rattle.nt_book.specs.declared.state.RangeState.{RangeState}
 use Rattle.nt_book.specs.declared.state.RangeState.TheVariants as state
 use Rattle.nt_book.specs.declared.row.ClusterRow.{ClusterRow}
-use Rattle.nt_book.specs.Entries.{fate_of, committed_by, no_row, row_cluster, clusters_from, entry_of_kind, history_of}
+use Rattle.nt_book.specs.Entries.{fate_of, committed_by, no_row, row_cluster, row_clusters, entry_of_kind, history_of}
 use Rattle.nt_book.specs.Keeping.{IsKindOf, with_state}
 
-pub clusters_from-append : (n : ℕ) (rows : List ClusterRow) (row : ClusterRow) → clusters_from n (rows ++ row ∷ []) ≡ clusters_from n rows ++ row_cluster (n + length rows) row ∷ []
-clusters_from-append n [] row = ap (λ (m : ℕ). row_cluster m row ∷ []) (omega arith)
-clusters_from-append n (r ∷ rows) row =
+pub row_clusters-append : (n : ℕ) (rows : List ClusterRow) (row : ClusterRow) → row_clusters n (rows ++ row ∷ []) ≡ row_clusters n rows ++ row_cluster (n + length rows) row ∷ []
+row_clusters-append n [] row = ap (λ (m : ℕ). row_cluster m row ∷ []) (omega arith)
+row_clusters-append n (r ∷ rows) row =
     ap (λ (l : List (Cluster ClusterMeta)). row_cluster n r ∷ l)
-    (clusters_from-append (n + 1) rows row ∙ ap (λ (m : ℕ). clusters_from (n + 1) rows ++ row_cluster m row ∷ []) (omega arith))
+    (row_clusters-append (n + 1) rows row ∙ ap (λ (m : ℕ). row_clusters (n + 1) rows ++ row_cluster m row ∷ []) (omega arith))
 
-pub length-clusters_from : (n : ℕ) (rows : List ClusterRow) → length (clusters_from n rows) ≡ length rows
-length-clusters_from n [] = refl
-length-clusters_from n (row ∷ rows) = ap suc (length-clusters_from (n + 1) rows)
+pub length-row_clusters : (n : ℕ) (rows : List ClusterRow) → length (row_clusters n rows) ≡ length rows
+length-row_clusters n [] = refl
+length-row_clusters n (row ∷ rows) = ap suc (length-row_clusters (n + 1) rows)
 
 -- the cluster of this number is that of its row
-pub clusters_from-at : (n : ℕ) (rows : List ClusterRow) (k : ℕ) (d : Cluster ClusterMeta) (e : ClusterRow) → k < length rows
-    → slice_index_or (clusters_from n rows) k d ≡ row_cluster (n + k) (slice_index_or rows k e)
-clusters_from-at n [] k d e less = absurd (omega arith)
-clusters_from-at n (row ∷ rows) zero d e less = ap (λ (m : ℕ). row_cluster m row) (omega arith)
-clusters_from-at n (row ∷ rows) (suc k) d e less =
-    clusters_from-at (n + 1) rows k d e (omega arith) ∙ ap (λ (m : ℕ). row_cluster m (slice_index_or rows k e)) (omega arith)
+pub row_clusters-at : (n : ℕ) (rows : List ClusterRow) (k : ℕ) (d : Cluster ClusterMeta) (e : ClusterRow) → k < length rows
+    → slice_index_or (row_clusters n rows) k d ≡ row_cluster (n + k) (slice_index_or rows k e)
+row_clusters-at n [] k d e less = absurd (omega arith)
+row_clusters-at n (row ∷ rows) zero d e less = ap (λ (m : ℕ). row_cluster m row) (omega arith)
+row_clusters-at n (row ∷ rows) (suc k) d e less =
+    row_clusters-at (n + 1) rows k d e (omega arith) ∙ ap (λ (m : ℕ). row_cluster m (slice_index_or rows k e)) (omega arith)
 
-pub slice_get-clusters_from : (n : ℕ) (rows : List ClusterRow) (k : ℕ) (e : ClusterRow) → k < length rows
-    → slice_get (clusters_from n rows) k ≡ Some (row_cluster (n + k) (slice_index_or rows k e))
-slice_get-clusters_from n [] k e less = absurd (omega arith)
-slice_get-clusters_from n (row ∷ rows) zero e less = ap (λ (m : ℕ). Some (row_cluster m row)) (omega arith)
-slice_get-clusters_from n (row ∷ rows) (suc k) e less =
-    slice_get-clusters_from (n + 1) rows k e (omega arith) ∙ ap (λ (m : ℕ). Some (row_cluster m (slice_index_or rows k e))) (omega arith)
+pub slice_get-row_clusters : (n : ℕ) (rows : List ClusterRow) (k : ℕ) (e : ClusterRow) → k < length rows
+    → slice_get (row_clusters n rows) k ≡ Some (row_cluster (n + k) (slice_index_or rows k e))
+slice_get-row_clusters n [] k e less = absurd (omega arith)
+slice_get-row_clusters n (row ∷ rows) zero e less = ap (λ (m : ℕ). Some (row_cluster m row)) (omega arith)
+slice_get-row_clusters n (row ∷ rows) (suc k) e less =
+    slice_get-row_clusters (n + 1) rows k e (omega arith) ∙ ap (λ (m : ℕ). Some (row_cluster m (slice_index_or rows k e))) (omega arith)
 
 pub inside-slice_get : {X : Type 0} (xs : List X) (k : ℕ) (x : X) → slice_get xs k ≡ Some x → k < length xs
 inside-slice_get [] k x at = cc
@@ -54,18 +54,18 @@ Out-fate_of state.Settled is = cc
 Out-fate_of (state.Spoiled faults) is = cc
 
 -- a view of clusters that sees neither number nor state, as the commit order does
-pub order-clusters_from : (n : ℕ) (rows : List ClusterRow) → map (λ (c : Cluster ClusterMeta). c.context) (clusters_from n rows) ≡ map (λ (row : ClusterRow). row.meta.context) rows
-order-clusters_from n [] = refl
-order-clusters_from n (row ∷ rows) = ap (λ (l : List ℕ). row.meta.context ∷ l) (order-clusters_from (n + 1) rows)
+pub order-row_clusters : (n : ℕ) (rows : List ClusterRow) → map (λ (c : Cluster ClusterMeta). c.context) (row_clusters n rows) ≡ map (λ (row : ClusterRow). row.meta.context) rows
+order-row_clusters n [] = refl
+order-row_clusters n (row ∷ rows) = ap (λ (l : List ℕ). row.meta.context ∷ l) (order-row_clusters (n + 1) rows)
 
-pub clusters_from-with_state : (n : ℕ) (rows : List ClusterRow) (k : ℕ) (s : RangeState) (c : Cluster ClusterMeta) → slice_get (clusters_from n rows) k ≡ Some c
-    → clusters_from n (with_state rows k s) ≡ slice_set (clusters_from n rows) k (record c { state = fate_of s })
-clusters_from-with_state n [] k s c at = cc
-clusters_from-with_state n (row ∷ rows) zero s c at =
+pub row_clusters-with_state : (n : ℕ) (rows : List ClusterRow) (k : ℕ) (s : RangeState) (c : Cluster ClusterMeta) → slice_get (row_clusters n rows) k ≡ Some c
+    → row_clusters n (with_state rows k s) ≡ slice_set (row_clusters n rows) k (record c { state = fate_of s })
+row_clusters-with_state n [] k s c at = cc
+row_clusters-with_state n (row ∷ rows) zero s c at =
     let same : row_cluster n row ≡ c = cc in
-    ap (λ (d : Cluster ClusterMeta). record d { state = fate_of s } ∷ clusters_from (n + 1) rows) same
-clusters_from-with_state n (row ∷ rows) (suc k) s c at =
-    ap (λ (l : List (Cluster ClusterMeta)). row_cluster n row ∷ l) (clusters_from-with_state (n + 1) rows k s c at)
+    ap (λ (d : Cluster ClusterMeta). record d { state = fate_of s } ∷ row_clusters (n + 1) rows) same
+row_clusters-with_state n (row ∷ rows) (suc k) s c at =
+    ap (λ (l : List (Cluster ClusterMeta)). row_cluster n row ∷ l) (row_clusters-with_state (n + 1) rows k s c at)
 
 pub length-with_state : (rows : List ClusterRow) (k : ℕ) (s : RangeState) → length (with_state rows k s) ≡ length rows
 length-with_state [] k s = refl

@@ -47,9 +47,9 @@ row_cluster n row =
     record { context = row.meta.context; number = n; start = row.start; len = row.meta.len; meta = row.meta; state = fate_of row.state }
 
 -- the clusters of rows, numbered from here on
-abbrev pub clusters_from : ℕ → List ClusterRow → List (history.Cluster ClusterMeta)
-clusters_from n [] = []
-clusters_from n (row ∷ rows) = row_cluster n row ∷ clusters_from (n + 1) rows
+abbrev pub row_clusters : ℕ → List ClusterRow → List (history.Cluster ClusterMeta)
+row_clusters n [] = []
+row_clusters n (row ∷ rows) = row_cluster n row ∷ row_clusters (n + 1) rows
 
 -- the entry of an event, whose cluster is one of these rows
 abbrev pub entry_of_kind : List ClusterRow → ℕ → ℕ → Happening → Entry ClusterMeta

@@ -11,7 +11,7 @@ use Rattle.nt_book.specs.declared.state.RangeState.{RangeState}
 use Rattle.nt_book.specs.declared.state.RangeState.TheVariants as state
 use Rattle.nt_book.specs.declared.row.ClusterRow.{ClusterRow}
 use Rattle.nt_book.specs.Books.{entry_count, elements_before}
-use Rattle.nt_book.specs.Entries.{clusters_from, history_of, no_row}
+use Rattle.nt_book.specs.Entries.{row_clusters, history_of, no_row}
 use Rattle.nt_book.specs.Pages.{IsPaged}
 
 -- neither settled nor spoiled
@@ -52,19 +52,19 @@ pub record AreOffsets (firsts : List ℕ) (rows : List ClusterRow) (offsets : Li
   pub long : length offsets ≡ (length rows + 1) * length firsts
   pub each : (k column : ℕ) → k ≤ length rows → column < length firsts
       → slice_index offsets (k * length firsts + column)
-      ≡ slice_index firsts column + elements_before (take k (clusters_from 0 rows)) column
+      ≡ slice_index firsts column + elements_before (take k (row_clusters 0 rows)) column
 
 -- rows and events are those of one history, which is legal
 pub record IsHistory (begin : ℕ) (rows : List ClusterRow) (events : List Event) : Type 0 where
   pub legal : IsLegal begin (history_of rows events)
-  pub clusters : clusters_from 0 rows ≡ ranges_of (history_of rows events)
+  pub clusters : row_clusters 0 rows ≡ ranges_of (history_of rows events)
   pub named : AllByRecursion (λ (e : Event). IsKindOf (length rows) e.cluster e.kind) events
 
 -- the numbers that are kept beside the rows
 pub record IsCounted (begin end entries out : ℕ) (limits : Limits) (firsts : List ℕ) (rows : List ClusterRow) : Type 0 where
-  pub ends : end ≡ end_after begin (clusters_from 0 rows)
+  pub ends : end ≡ end_after begin (row_clusters 0 rows)
   pub most : end ≤ 2 ^ 56
-  pub summed : entries ≡ entry_count (clusters_from 0 rows)
+  pub summed : entries ≡ entry_count (row_clusters 0 rows)
   pub counted : out ≡ count_out rows
   pub few : length rows ≤ limits.clusters
   pub bound : limits.clusters < 2 ^ 32

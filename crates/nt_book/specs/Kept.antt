@@ -4,20 +4,22 @@ use Rattle.std.specs.List.{AllByRecursion}
 use Rattle.nt_machine.specs.History.{Cluster}
 use Rattle.nt_machine.specs.Legal.{IsLegal}
 use Rattle.nt_book.specs.declared.meta.ClusterMeta.{ClusterMeta}
-use Rattle.nt_book.specs.Books.{BookData, book_clusters, cluster_at}
+use Rattle.nt_book.specs.Books.{BookData, book_clusters, book_end, cluster_at}
 use Rattle.nt_book.specs.Pages.{IsPaged}
 
 -- a cluster has a list of pages for each of so many columns, and pages that lie in its range; the largest limits hold
 pub record IsKeptCluster (columns : ℕ) (c : Cluster ClusterMeta) : Type 0 where
   pub lists : length c.meta.pages ≡ columns
   pub paged : IsPaged c.meta
+  pub len : c.len ≡ c.meta.len
   pub short : c.meta.len ≤ 2 ^ 30
   pub low : c.start + c.meta.len ≤ 2 ^ 56
 
 -- the history is legal, and there are no more clusters, columns and elements before the first cluster than their numbers can tell
-pub record IsKept (book : BookData) : Type 0 where
+pub record IsBookKept (book : BookData) : Type 0 where
   pub legal : IsLegal book.begin book.history
   pub clusters : (k : ℕ) → k < length (book_clusters book) → IsKeptCluster (length book.firsts) (cluster_at book k)
+  pub end : book_end book ≤ 2 ^ 56
   pub few : length (book_clusters book) < 2 ^ 32
   pub columns : length book.firsts < 2 ^ 32
   pub firsts : AllByRecursion (λ first. first ≤ 2 ^ 60) book.firsts

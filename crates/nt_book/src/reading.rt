@@ -3,7 +3,7 @@
 ghost use Rattle.std.specs.Prelude.{◌≡◌, ◌<◌, length, IfOk};
 ghost use Rattle.nt_machine.specs.History.{order_of};
 ghost use Rattle.nt_book.specs.Books.{book_clusters, book_end, cluster_at, column_offset, entry_count, first_entry};
-ghost use Rattle.nt_book.specs.Kept.{IsKept};
+ghost use Rattle.nt_book.specs.Kept.{IsBookKept};
 ghost use Rattle.nt_book.specs.Entries.{fate_of};
 ghost use Rattle.nt_book.specs.Pages.{IsPaged};
 
@@ -15,7 +15,7 @@ use std::alloc::{AllocError, Global};
 impl Book {
     /// What holds of each book: its history is legal, and its clusters keep the limits.
     pub fn keeps(&self)
-        ensures { IsKept self.now }
+        ensures { IsBookKept self.now }
     {
         let _begin = self.begin; // a look at the book, so that its invariant is known here
     }

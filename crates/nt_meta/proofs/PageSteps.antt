@@ -6,7 +6,7 @@ use Rattle.nt_lists.specs.Chaining.{◌>>=◌}
 use Rattle.nt_lists.specs.Answering.{Refuses}
 use Rattle.nt_lists.proofs.Answering.{Refuses-bind}
 use Rattle.nt_pagelists.specs.declared.page.PageItem.{PageItem}
-use Rattle.nt_pagelists.specs.Columns.{page_elements}
+use Rattle.nt_pagelists.specs.Columns.{paged_elements}
 use Rattle.nt_pagelists.specs.Pages.{page_item_at, page_items_on}
 use Rattle.nt_meta.proofs.Steps.{one_less, none_left}
 
@@ -25,11 +25,11 @@ items-fail cluster column n i pages here e all lt f h =
 pub items-done : (cluster column n i : ℕ) (pages : List PageItem) (here : At) (all : Result (List PageItem × At) ReadError) → n ≤ i → page_items_on cluster column (n - i) pages here ≡ all → all ≡ Ok (pages, here)
 items-done cluster column n i pages here all le h = sym h ∙ ap (λ (k : ℕ). page_items_on cluster column k pages here) (none_left n i le)
 
-pub elements-push : (ps : List PageItem) (p : PageItem) → page_elements (ps ++ p ∷ []) ≡ page_elements ps + p.count
+pub elements-push : (ps : List PageItem) (p : PageItem) → paged_elements (ps ++ p ∷ []) ≡ paged_elements ps + p.count
 elements-push [] p = omega arith
 elements-push (q ∷ ps) p = omega (arith, elements-push ps p)
 
-pub elements-more : (n count : ℕ) (ps more : List PageItem) (p : PageItem) → n ≡ page_elements ps → count ≡ p.count → more ≡ ps ++ p ∷ [] → n + count ≡ page_elements more
-elements-more n count ps more p e same new = omega (arith, elements-push ps p, ap page_elements new, e)
+pub elements-more : (n count : ℕ) (ps more : List PageItem) (p : PageItem) → n ≡ paged_elements ps → count ≡ p.count → more ≡ ps ++ p ∷ [] → n + count ≡ paged_elements more
+elements-more n count ps more p e same new = omega (arith, elements-push ps p, ap paged_elements new, e)
 
 pub ruleset page_steps = (items-next, items-fail, items-done, elements-more)

@@ -2,7 +2,7 @@
 
 ghost use Rattle.std.specs.Prelude.{◌≡◌, ◌≤◌, length, drop, Some};
 ghost use Rattle.nt_lists.specs.Answering.{Answers};
-ghost use Rattle.nt_pagelists.specs.Columns.{page_elements, no_pages, begins_inside, has_its_elements, has_its_offset, judged, judged_unlisted};
+ghost use Rattle.nt_pagelists.specs.Columns.{paged_elements, no_pages, begins_inside, has_its_elements, has_its_offset, judged, judged_unlisted};
 
 use crate::faults::fault_in;
 use crate::known::{KnownColumns, ends_before};
@@ -36,7 +36,7 @@ fn has_its_elements(
     pages: &[PageItem],
     elements: u64,
 ) -> bool
-    requires { elements ≡ page_elements pages.now }
+    requires { elements ≡ paged_elements pages.now }
     ensures { result ≡ has_its_elements cluster.now column.now pages.now }
 {
     if !(column.is_open && column.is_principal) {
@@ -56,7 +56,7 @@ fn has_its_offset(
     elements: u64,
     offset: u64,
 ) -> bool
-    requires { elements ≡ page_elements pages.now }
+    requires { elements ≡ paged_elements pages.now }
     ensures { result ≡ has_its_offset column.now before pages.now offset }
 {
     !column.is_open || elements == 0 || (column.first <= offset && offset - column.first == before)
@@ -74,7 +74,7 @@ pub(crate) fn judge(
     elements: u64,
     offset: u64,
 ) -> Result<(), ReadError>
-    requires { elements ≡ page_elements pages.now }
+    requires { elements ≡ paged_elements pages.now }
     ensures { Answers (λ done. done) (λ e. Some e) result
         (judged cluster.now id column.now before frame pages.now offset) }
 {

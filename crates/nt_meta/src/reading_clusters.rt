@@ -3,7 +3,7 @@
 ghost use Rattle.std.specs.Prelude.{◌≡◌, ◌-◌, ◌≤◌, ◌<◌, ◌^◌, [], length, min, slice_index_or, IfOk};
 ghost use Rattle.nt_lists.specs.Answering.{Answers};
 ghost use Rattle.nt_meta.specs.Defects.{defect_of};
-ghost use Rattle.nt_pagelists.specs.Columns.{page_elements};
+ghost use Rattle.nt_pagelists.specs.Columns.{paged_elements};
 ghost use Rattle.nt_pagelists.specs.Clusters.{outer_list_at, cluster_list_at, with_elements, cluster_lists_on, cluster_lists_at};
 ghost use Rattle.nt_pagelists.specs.declared.cluster.ColumnList.{ColumnList};
 
@@ -70,7 +70,7 @@ fn read_cluster(
 #[tactic(auto, using(crate::proofs::Adding::counting_steps))]
 /// The elements of these pages, or 2^64 - 1 where there are more.
 fn count_elements(pages: &[PageItem]) -> u64
-    ensures { result ≡ min (page_elements pages.now) (2 ^ 64 - 1) }
+    ensures { result ≡ min (paged_elements pages.now) (2 ^ 64 - 1) }
 {
     let mut elements: u64 = 0;
     for i in 0..pages.len() {
@@ -81,7 +81,7 @@ fn count_elements(pages: &[PageItem]) -> u64
 
 fn count_column(lists: &[ColumnList], id: usize) -> u64
     requires { id < length lists.now }
-    ensures { (d : ColumnList) → result ≡ min (page_elements (slice_index_or lists.now id d).pages) (2 ^ 64 - 1) }
+    ensures { (d : ColumnList) → result ≡ min (paged_elements (slice_index_or lists.now id d).pages) (2 ^ 64 - 1) }
 {
     count_elements(lists[id].pages.as_slice())
 }

@@ -3,7 +3,7 @@
 ghost use Rattle.std.specs.Prelude.{◌≡◌, [], IfOk};
 ghost use Rattle.nt_lists.specs.Answering.{Answers};
 ghost use Rattle.nt_meta.specs.Defects.{defect_of};
-ghost use Rattle.nt_pagelists.specs.Columns.{page_elements};
+ghost use Rattle.nt_pagelists.specs.Columns.{paged_elements};
 ghost use Rattle.nt_pagelists.specs.Pages.{page_count_at, page_size_at, page_item_at, page_items_on};
 
 use crate::error::MetaError;
@@ -72,7 +72,7 @@ pub(crate) fn push_items(
     requires { pages.old.items ≡ [] }
     ensures told { Answers (λ _. (pages.new.items, cur.new)) defect_of result
         (page_items_on cluster column count [] cur.old) }
-    ensures elements { IfOk result (λ n. n ≡ page_elements pages.new.items) }
+    ensures elements { IfOk result (λ n. n ≡ paged_elements pages.new.items) }
 {
     let mut elements = 0;
     for _ in 0..count {

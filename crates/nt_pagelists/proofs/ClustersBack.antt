@@ -16,7 +16,7 @@ use Rattle.nt_pagelists.specs.declared.cluster.ClusterSummary.{ClusterSummary}
 use Rattle.nt_pagelists.specs.declared.cluster.ColumnList.{ColumnList}
 use Rattle.nt_pagelists.specs.declared.cluster.ClusterList.{ClusterList}
 use Rattle.nt_pagelists.specs.declared.group.Group.{Group}
-use Rattle.nt_pagelists.specs.Columns.{page_elements, judged_unlisted}
+use Rattle.nt_pagelists.specs.Columns.{paged_elements, judged_unlisted}
 use Rattle.nt_pagelists.specs.Pages.{column_lists_on}
 use Rattle.nt_pagelists.specs.Clusters.{outer_list_at, cluster_list_at, with_elements, cluster_lists_on, cluster_lists_at, first_entry_at, entry_count_at, summary_at, summaries_on, summaries_at}
 use Rattle.nt_pagelists.specs.PageLists.{ProgressCounts, with_group, header_sum_at, page_list_at}
@@ -57,7 +57,7 @@ cluster-reads columns number entries elements w few is fits place rest =
 added-gained : (es : List ℕ) (place : ℕ) (ls : List ListedColumn) → with_elements es (column_lists_from place ls) ≡ with_listed es ls
 added-gained es place [] = refl
 added-gained [] place (l ∷ ls) = refl
-added-gained (e ∷ es) place (l ∷ ls) = ap (λ (x : List ℕ). min (e + page_elements l.pages) (2 ^ 64 - 1) ∷ x) (added-gained es _ ls)
+added-gained (e ∷ es) place (l ∷ ls) = ap (λ (x : List ℕ). min (e + paged_elements l.pages) (2 ^ 64 - 1) ∷ x) (added-gained es _ ls)
 
 abbrev clusters : List ListedCluster → List ClusterSummary
 clusters [] = []

@@ -15,7 +15,7 @@ use Rattle.nt_pagelists.specs.declared.cluster.ClusterSummary.{ClusterSummary}
 use Rattle.nt_pagelists.specs.declared.cluster.ColumnList.{ColumnList}
 use Rattle.nt_pagelists.specs.declared.cluster.ClusterList.{ClusterList}
 use Rattle.nt_pagelists.specs.declared.group.Group.{Group}
-use Rattle.nt_pagelists.specs.Columns.{in_column, page_elements, judged_unlisted}
+use Rattle.nt_pagelists.specs.Columns.{in_column, paged_elements, judged_unlisted}
 use Rattle.nt_pagelists.specs.Pages.{column_lists_on}
 
 -- the list of columns of a cluster; it may lack columns at its end
@@ -36,7 +36,7 @@ cluster_list_at k columns elements here = do
 abbrev pub with_elements : List ℕ → List ColumnList → List ℕ
 with_elements es [] = es
 with_elements [] (l ∷ ls) = []
-with_elements (e ∷ es) (l ∷ ls) = min (e + page_elements l.pages) (2 ^ 64 - 1) ∷ with_elements es ls
+with_elements (e ∷ es) (l ∷ ls) = min (e + paged_elements l.pages) (2 ^ 64 - 1) ∷ with_elements es ls
 
 -- the pages of these clusters behind these, with the elements of each column before them
 abbrev pub cluster_lists_on : List KnownColumn → List ClusterSummary → List ℕ → List ClusterList → At → Result (List ClusterList × List ℕ) ReadError

@@ -18,9 +18,9 @@ abbrev pub unknown_column : KnownColumn
 unknown_column = record { is_open = false; is_principal = false; first = 0 }
 
 -- the elements on these pages
-abbrev pub page_elements : List PageItem → ℕ
-page_elements [] = 0
-page_elements (p ∷ ps) = p.count + page_elements ps
+abbrev pub paged_elements : List PageItem → ℕ
+paged_elements [] = 0
+paged_elements (p ∷ ps) = p.count + paged_elements ps
 
 -- the column has no page
 abbrev pub no_pages : List PageItem → Bool
@@ -34,11 +34,11 @@ begins_inside k c = c.is_open && c.is_principal && nat_lt k.first c.first && nat
 -- an open principal column has one element for each entry, or no page where it begins behind them all or where there is no entry
 abbrev pub has_its_elements : ClusterSummary → KnownColumn → List PageItem → Bool
 has_its_elements k c pages =
-    not (c.is_open && c.is_principal) || (if (k.entries == 0) || nat_lt k.first c.first then no_pages pages else page_elements pages == k.entries)
+    not (c.is_open && c.is_principal) || (if (k.entries == 0) || nat_lt k.first c.first then no_pages pages else paged_elements pages == k.entries)
 
 -- the elements of an open column, where it has some here, stand behind those of its earlier pages
 abbrev pub has_its_offset : KnownColumn → ℕ → List PageItem → ℕ → Bool
-has_its_offset c before pages offset = not c.is_open || (page_elements pages == 0) || (offset == c.first + before)
+has_its_offset c before pages offset = not c.is_open || (paged_elements pages == 0) || (offset == c.first + before)
 
 -- the column has what it must have in the cluster
 abbrev pub is_sound_column : ClusterSummary → KnownColumn → ℕ → List PageItem → ℕ → Bool

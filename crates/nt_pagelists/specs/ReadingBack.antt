@@ -10,7 +10,7 @@ use Rattle.nt_pagelists.specs.declared.cluster.ColumnList.{ColumnList}
 use Rattle.nt_pagelists.specs.declared.cluster.ClusterList.{ClusterList}
 use Rattle.nt_pagelists.specs.declared.page.PageItem.{PageItem}
 use Rattle.nt_pagelists.specs.declared.group.Group.{Group}
-use Rattle.nt_pagelists.specs.Columns.{unknown_column, page_elements, is_sound_column}
+use Rattle.nt_pagelists.specs.Columns.{unknown_column, paged_elements, is_sound_column}
 use Rattle.nt_pagelists.specs.Writing.{ListedColumn, ListedCluster, column_list_text, cluster_list_text, summary_texts}
 
 -- what is read of columns whose frames begin at this place
@@ -37,7 +37,7 @@ first_cluster_place place ws = place + 8 + length (list_frame (length ws) (summa
 abbrev pub with_listed : List ℕ → List ListedColumn → List ℕ
 with_listed es [] = es
 with_listed [] (c ∷ cs) = []
-with_listed (e ∷ es) (c ∷ cs) = min (e + page_elements c.pages) (2 ^ 64 - 1) ∷ with_listed es cs
+with_listed (e ∷ es) (c ∷ cs) = min (e + paged_elements c.pages) (2 ^ 64 - 1) ∷ with_listed es cs
 
 -- the same with those of all these clusters
 abbrev pub with_all_listed : List ℕ → List ListedCluster → List ℕ
