@@ -1,6 +1,6 @@
 -- The bytes of a cluster: its columns one after the other, each cut into pages.
 -- RNTuple Binary Format Specification 1.0.0.0, sections Pages and Clusters.
-use Rattle.std.specs.Prelude.{ℕ, ◌≡◌, ◌^◌, List, ◌++◌, map, replicate}
+use Rattle.std.specs.Prelude.{ℕ, ◌^◌, List, ◌++◌, map, replicate}
 use Rattle.std.specs.List.{flat_map}
 use Rattle.std.specs.Int.{w64, to_le_bytes}
 use Rattle.nt_types.specs.declared.column_type.ColumnType.{ColumnType}
@@ -38,7 +38,3 @@ payload page cs = flat_map (column_bytes page) cs
 -- the payload behind the room for its key
 abbrev pub image : ℕ → List Column → List ℕ
 image page cs = replicate key_room 0 ++ payload page cs
-
--- columns of the types that these rows describe
-abbrev pub AreDescribed : List Column → List ColumnRow → Type 0
-AreDescribed cs rows = map (λ (c : Column). code_of c.kind) cs ≡ map (λ (r : ColumnRow). r.code) rows

@@ -2,7 +2,9 @@
 use Rattle.std.specs.Prelude.{ℕ, zero, suc, Bool, false, List, [], ◌∷◌, Option, Some, None}
 use Rattle.nt_types.specs.ShapeData.{ShapeData, ShapesData, no_kinds, kind}
 use Rattle.nt_types.specs.TreeData.{TreeData, TreesData}
-use Rattle.nt_types.specs.Fits.{is_int, all_trees, fits_flag, fits_number, fits_text, fits_items, fits_parts, fits_pick, fits_next, are_no_trees}
+use Rattle.nt_types.specs.Fits.{is_int, all_trees, fits_flag, fits_number, fits_text, fits_items, fits_parts, fits_pick, fits_next, are_no_trees, fit_kinds}
+use Rattle.nt_grammar.specs.Table.{Table}
+use Rattle.nt_grammar.specs.Open.{open_shapes}
 use Rattle.nt_plans.specs.Plan.{PlanData, PlansData, bool, number, text, list, record_of, choice, no_plans, plan}
 
 -- whether a plan takes a tree
@@ -32,3 +34,7 @@ abbrev pub some_shapes : List (Option ShapeData) → ShapesData
 some_shapes [] = no_kinds
 some_shapes (None ∷ shapes) = some_shapes shapes
 some_shapes (Some k ∷ shapes) = kind k (some_shapes shapes)
+
+-- whether these are one tree for each open field at the top level, which they fit
+abbrev pub fits_entry : Table → TreesData → Bool
+fits_entry t ts = fit_kinds (some_shapes (open_shapes t.fields t.columns 0 t.fields)) ts

@@ -4,7 +4,7 @@ mod data;
 
 ghost use Rattle.std.specs.Prelude.{◌≡◌, IsTrue};
 ghost use Rattle.nt_column.specs.Column.{columns_of};
-ghost use Rattle.nt_pages.specs.Image.{AreDescribed};
+ghost use Rattle.nt_trees.specs.Described.{AreDescribed};
 
 use self::data::{COLUMNS, IMAGE, METAS, PAIRS, Page};
 use super::rows::{described, schema_of};

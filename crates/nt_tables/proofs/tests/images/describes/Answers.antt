@@ -5,7 +5,7 @@ use Rattle.std.proofs.lemmas.List.{map_more, take_all, length-map}
 use Rattle.nt_types.specs.ColumnTable.{code_of}
 use Rattle.nt_grammar.specs.declared.rows.ColumnRow.{ColumnRow}
 use Rattle.nt_column.specs.Column.{Column, Buffer, columns_of}
-use Rattle.nt_pages.specs.Image.{AreDescribed}
+use Rattle.nt_trees.specs.Described.{AreDescribed}
 use Rattle.nt_tables.proofs.tests.images.describes.Goals as goal
 
 -- one column more is of its type

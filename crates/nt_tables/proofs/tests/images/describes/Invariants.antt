@@ -1,7 +1,7 @@
 -- the columns so far are of the types that the rows so far have
 use Rattle.std.proofs.Common.{take}
 use Rattle.nt_column.specs.Column.{columns_of}
-use Rattle.nt_pages.specs.Image.{AreDescribed}
+use Rattle.nt_trees.specs.Described.{AreDescribed}
 use Rattle.nt_tables.proofs.tests.images.describes.Given as goal
 
 abbrev pub invariant-loop-k : goal.invariant-loop-k

@@ -1,0 +1,9 @@
+pub mod Sets
+pub mod Left
+pub mod Arms
+pub mod Alternatives
+pub mod Grown
+pub mod Ends
+pub mod PlanLists
+pub mod Entries
+pub mod Typed
