@@ -1,6 +1,9 @@
 //! Integers in their compact form.
 
-ghost use Rattle.std.specs.Prelude.{◌≡◌, ◌≤◌, ◌<◌, ◌+◌, ◌-◌, ◌^◌, length, decimal, true, IfSome, IsTrue, get_or, if◌then◌else◌};
+ghost use Rattle.std.specs.Prelude.{◌≡◌, ◌≤◌, ◌<◌, ◌+◌, ◌-◌, ◌*◌, ◌^◌, length, decimal, true, IfSome, IsTrue, get_or, if◌then◌else◌};
+ghost use Rattle.std.specs.List.{slice_range};
+ghost use Rattle.std.specs.Char.{digit_value, is_ascii_digit};
+ghost use Rattle.std.specs.Str.Parse.{AllDigits, digits_value};
 ghost use Rattle.serde_json.specs.Written.{compact_text};
 ghost use Rattle.nt_types.specs.TreeData.{num};
 ghost use Rattle.nt_types.specs.Fits.{is_int};
@@ -17,10 +20,12 @@ fn has_no_zeros(text: &[u8], at: usize, end: usize) -> bool
     text[at] != b'0' || end - at == 1
 }
 
-/// A number of at most 19 digits, as it is printed.
-pub(crate) fn number(text: &[u8], at: usize) -> Option<(u64, usize)>
+/// The end of at most 19 digits, and their number.
+fn digits(text: &[u8], at: usize) -> (u64, usize)
     requires { at ≤ length text.now }
-    ensures { IfSome result (λ r. StandsFrom (decimal r.0) text.now at r.1) }
+    ensures value { result.0 ≡ digits_value 10 (slice_range text.now at result.1) }
+    ensures digits { AllDigits 10 (slice_range text.now at result.1) }
+    ensures within { (at ≤ result.1) × (result.1 ≤ length text.now) × (result.1 ≤ at + 19) }
 {
     let mut n: u64 = 0;
     let mut i = at;
@@ -28,11 +33,33 @@ pub(crate) fn number(text: &[u8], at: usize) -> Option<(u64, usize)>
         n = n * 10 + u64::from(text[i] - b'0');
         i += 1;
     }
-    if i > at && has_no_zeros(text, at, i) {
-        Some((n, i))
-    } else {
-        None
+    (n, i)
+}
+
+/// A number of 64 bits and one digit more, where 64 bits hold it.
+fn then_digit(n: u64, byte: u8) -> Option<u64>
+    ensures { IfSome result (λ m. (m ≡ n * 10 + digit_value byte) × (m < 2 ^ 64) × (is_ascii_digit byte ≡ true)) }
+{
+    if !byte.is_ascii_digit() {
+        return None;
     }
+    n.checked_mul(10)?.checked_add(u64::from(byte - b'0'))
+}
+
+/// A number of 64 bits, as it is printed.
+pub(crate) fn number(text: &[u8], at: usize) -> Option<(u64, usize)>
+    requires { at ≤ length text.now }
+    ensures { IfSome result (λ r. StandsFrom (decimal r.0) text.now at r.1) }
+{
+    let (n, end) = digits(text, at);
+    if end == at || !has_no_zeros(text, at, end) {
+        return None;
+    }
+    if end - at < 19 || end == text.len() || !text[end].is_ascii_digit() {
+        return Some((n, end));
+    }
+    let all = then_digit(n, text[end])?;
+    Some((all, end + 1))
 }
 
 /// The largest integer of a width.
