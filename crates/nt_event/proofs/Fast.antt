@@ -31,7 +31,8 @@ text_deep : (b : Bool) (s : List ℕ) → depth (outline (if b then string s els
 text_deep true s = omega arith
 text_deep false s = omega arith
 
-all_deep : (k : ShapeData) (vs : TreesData) → ((v : TreeData) → fits k v ≡ true → depth (outline (data_of v)) ≤ spelling.depth k) → all_trees (fits k) vs ≡ true → items_depth (items_outline (datas_of vs)) ≤ spelling.depth k
+all_deep : (k : ShapeData) (vs : TreesData) → ((v : TreeData) → fits k v ≡ true → depth (outline (data_of v)) ≤ spelling.depth k)
+    → all_trees (fits k) vs ≡ true → items_depth (items_outline (datas_of vs)) ≤ spelling.depth k
 all_deep k no_trees each h = omega arith
 all_deep k (tree v vs) each h = let p = and_parts (fits k v) (all_trees (fits k) vs) h in max-le (each v p.0) (all_deep k vs each p.1)
 
@@ -79,17 +80,22 @@ mutual
   deep_one : (ks : ShapesData) (tag : ℕ) (v : TreeData) → fits_one ks tag v ≡ true → depth (outline (data_of v)) ≤ deepest_kind ks
   deep_one no_kinds tag v h = absurd (false≢true h)
   deep_one (kind k ks) zero v h = absurd (false≢true h)
-  deep_one (kind k ks) (suc zero) v h = let a = deep k v h in let l = le-max_left (spelling.depth k) (deepest_kind ks) in omega (arith, a, l)
-  deep_one (kind k ks) (suc (suc n)) v h = let a = deep_one ks (suc n) v h in let r = le-max_right (spelling.depth k) (deepest_kind ks) in omega (arith, a, r)
+  deep_one (kind k ks) (suc zero) v h = let a = deep k v h in let l = le-max_left (spelling.depth k) (deepest_kind ks) in
+      omega (arith, a, l)
+  deep_one (kind k ks) (suc (suc n)) v h = let a = deep_one ks (suc n) v h in let r = le-max_right (spelling.depth k) (deepest_kind ks) in
+      omega (arith, a, r)
 
-counts : (f : List ℕ → Data) (ps : List MemberData) (vs : List TreeData) → fit_parts (parts_of ps) (trees_of vs) ≡ true → items_len (datas_with f (trees_of vs)) ≡ parts_len (parts_of ps)
+counts : (f : List ℕ → Data) (ps : List MemberData) (vs : List TreeData) → fit_parts (parts_of ps) (trees_of vs) ≡ true
+    → items_len (datas_with f (trees_of vs)) ≡ parts_len (parts_of ps)
 counts f [] [] h = refl
 counts f (p ∷ ps) (v ∷ vs) h = ap suc (counts f ps vs (and_parts (fits p.of v) (fit_parts (parts_of ps) (trees_of vs)) h).1)
 counts f [] (v ∷ vs) h = absurd (false≢true h)
 counts f (p ∷ ps) [] h = absurd (false≢true h)
 
-pub fit_entry : (ps : List MemberData) (vs : List TreeData) (line : List ℕ) → length line ≤ 2 ^ 24 → IsUtf8 line → fit_parts (parts_of ps) (trees_of vs) ≡ true → AllInRange (trees_of vs)
-    → (f : List ℕ → Data) → GivesText f → read line ≡ Some (array (datas_with f (trees_of vs))) → entry_of (parts_of ps) line ≡ Ok (trees_of vs)
+pub fit_entry : (ps : List MemberData) (vs : List TreeData) (line : List ℕ) → length line ≤ 2 ^ 24 → IsUtf8 line
+    → fit_parts (parts_of ps) (trees_of vs) ≡ true → AllInRange (trees_of vs)
+    → (f : List ℕ → Data) → GivesText f → read line ≡ Some (array (datas_with f (trees_of vs)))
+    → entry_of (parts_of ps) line ≡ Ok (trees_of vs)
 fit_entry ps vs line few utf8 fit range f gives is =
     let F = parts_of ps in
     let ds = datas_with f (trees_of vs) in
@@ -97,13 +103,15 @@ fit_entry ps vs line few utf8 fit range f gives is =
     ∙ ap (λ b. if b then or_misfit (lines.parts_read F ds) else Err Count) (eq-eqb (items_len ds) (parts_len F) (counts f ps vs fit))
     ∙ ap or_misfit (parts_read-data f gives F (trees_of vs) fit range)
 
-pub compact_entry : (ps : List MemberData) (vs : List TreeData) (line : List ℕ) → length line ≤ 2 ^ 24 → IsUtf8 line → fit_parts (parts_of ps) (trees_of vs) ≡ true → AllInRange (trees_of vs) → deepest_part (parts_of ps) ≤ 126
+pub compact_entry : (ps : List MemberData) (vs : List TreeData) (line : List ℕ) → length line ≤ 2 ^ 24 → IsUtf8 line
+    → fit_parts (parts_of ps) (trees_of vs) ≡ true → AllInRange (trees_of vs) → deepest_part (parts_of ps) ≤ 126
     → line ≡ line_of (trees_of vs) → entry_of (parts_of ps) line ≡ Ok (trees_of vs)
 compact_entry ps vs line few utf8 fit range shallow is =
     let d = deep_parts (parts_of ps) (trees_of vs) fit in
     fit_entry ps vs line few utf8 fit range text_data text_gives (ap read is ∙ read-line_of (trees_of vs) range (omega (arith, d, shallow)))
 
-pub written_entry : (ps : List MemberData) (vs : List TreeData) (line : List ℕ) → length line ≤ 2 ^ 24 → IsUtf8 line → IsWritten ps vs line → entry_of (parts_of ps) line ≡ Ok (trees_of vs)
+pub written_entry : (ps : List MemberData) (vs : List TreeData) (line : List ℕ) → length line ≤ 2 ^ 24 → IsUtf8 line
+    → IsWritten ps vs line → entry_of (parts_of ps) line ≡ Ok (trees_of vs)
 written_entry ps vs line few utf8 h =
     let range = each-range 126 (kinds_in ps) vs h.good in
     fit_entry ps vs line few utf8 (parts-fit 126 ps vs h.good) range string string_gives

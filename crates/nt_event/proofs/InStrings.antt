@@ -21,7 +21,8 @@ prepend-nil (Some s) = refl
 
 -- ---- bytes that stand for themselves
 
-stays_inside : (o s : Bool) (x : ℕ) (r : List ℕ) (k : Mode → List Lexeme) → lex_byte in_string (cond o operator (cond s space other)) x r k ≡ k in_string
+stays_inside : (o s : Bool) (x : ℕ) (r : List ℕ) (k : Mode → List Lexeme)
+    → lex_byte in_string (cond o operator (cond s space other)) x r k ≡ k in_string
 stays_inside true s x r k = refl
 stays_inside false true x r k = refl
 stays_inside false false x r k = refl
@@ -89,30 +90,38 @@ then-run s u t at i stop h g = record {
   past = omega (arith, h.past, g.past);
 }
 
-pub then-escape : (s u t : List ℕ) (at stop next end : ℕ) → StandsFor s t at stop → StandsFrom (92 ∷ []) t stop next → EscapeStands after_backslash in_escape u t next end → StandsFor (s ++ u) t at end
+pub then-escape : (s u t : List ℕ) (at stop next end : ℕ) → StandsFor s t at stop → StandsFrom (92 ∷ []) t stop next
+    → EscapeStands after_backslash in_escape u t next end → StandsFor (s ++ u) t at end
 then-escape s u t at stop next end h slash e = record {
-  read = h.read ∙ ap (prepend s) (ap (content plain) slash.part_is ∙ slash-read (drop next t) ∙ e.read) ∙ prepend-prepend s u (content plain (drop end t));
+  read = h.read ∙ ap (prepend s) (ap (content plain) slash.part_is ∙ slash-read (drop next t) ∙ e.read)
+      ∙ prepend-prepend s u (content plain (drop end t));
   lexed = h.lexed ∙ ap (lex in_string) slash.part_is ∙ slash-lexed (drop next t) ∙ e.lexed;
   past = omega (arith, h.past, slash.some, e.past);
 }
 
 -- ---- what an escape stands for
 
-four : (d : List ℕ) (i : ℕ) → i + 4 ≤ length d → drop i d ≡ get_or d i 0 ∷ get_or d (i + 1) 0 ∷ get_or d (i + 2) 0 ∷ get_or d (i + 3) 0 ∷ drop (i + 4) d
+four : (d : List ℕ) (i : ℕ) → i + 4 ≤ length d → drop i d ≡ get_or d i 0 ∷ get_or d (i + 1) 0 ∷ get_or d (i + 2) 0 ∷ get_or d (i + 3) 0 ∷
+    drop (i + 4) d
 four d i h =
-    let more : (j k : ℕ) → k ≡ j + 1 → j < length d → drop j d ≡ get_or d j 0 ∷ drop k d = λ j k e l. drop_more d j 0 l ∙ ap (λ n. get_or d j 0 ∷ drop n d) (sym e) in
-    more i (i + 1) refl (omega arith) ∙ ap (λ l. get_or d i 0 ∷ l) (more (i + 1) (i + 2) (omega arith) (omega arith) ∙ ap (λ l. get_or d (i + 1) 0 ∷ l)
-    (more (i + 2) (i + 3) (omega arith) (omega arith) ∙ ap (λ l. get_or d (i + 2) 0 ∷ l) (more (i + 3) (i + 4) (omega arith) (omega arith))))
+    let more : (j k : ℕ) → k ≡ j + 1 → j < length d → drop j d ≡ get_or d j 0 ∷ drop k d = λ j k e l. drop_more d j 0 l
+    ∙ ap (λ n. get_or d j 0 ∷ drop n d) (sym e) in
+    more i (i + 1) refl (omega arith) ∙ ap (λ l. get_or d i 0 ∷ l)
+    (more (i + 1) (i + 2) (omega arith) (omega arith) ∙ ap (λ l. get_or d (i + 1) 0 ∷ l)
+    (more (i + 2) (i + 3) (omega arith) (omega arith)
+    ∙ ap (λ l. get_or d (i + 2) 0 ∷ l) (more (i + 3) (i + 4) (omega arith) (omega arith))))
 
 is_hex : (x : ℕ) → is_digit x 16 ≡ true → (x ≡ 34 → ⊥) × (x ≡ 92 → ⊥)
 is_hex x h = (λ e. false≢true (subst (λ y. is_digit y 16 ≡ true) e h), λ e. false≢true (subst (λ y. is_digit y 16 ≡ true) e h))
 
 -- the code unit of four hex digits
-unit_digits : (a b c d u : ℕ) → code_unit a b c d ≡ Some u → (is_digit a 16 ≡ true) × (is_digit b 16 ≡ true) × (is_digit c 16 ≡ true) × (is_digit d 16 ≡ true)
+unit_digits : (a b c d u : ℕ) → code_unit a b c d ≡ Some u
+    → (is_digit a 16 ≡ true) × (is_digit b 16 ≡ true) × (is_digit c 16 ≡ true) × (is_digit d 16 ≡ true)
 unfolding code_unit
 unit_digits a b c d u h = go (is_digit a 16 && is_digit b 16 && is_digit c 16 && is_digit d 16) refl h
   where
-    go : (t : Bool) → (is_digit a 16 && is_digit b 16 && is_digit c 16 && is_digit d 16) ≡ t → cond t (Some (digit_value a * 4096 + digit_value b * 256 + digit_value c * 16 + digit_value d)) None ≡ Some u
+    go : (t : Bool) → (is_digit a 16 && is_digit b 16 && is_digit c 16 && is_digit d 16) ≡ t
+        → cond t (Some (digit_value a * 4096 + digit_value b * 256 + digit_value c * 16 + digit_value d)) None ≡ Some u
         → (is_digit a 16 ≡ true) × (is_digit b 16 ≡ true) × (is_digit c 16 ≡ true) × (is_digit d 16 ≡ true)
     go true e h =
         let p = and_parts (is_digit a 16 && is_digit b 16 && is_digit c 16) (is_digit d 16) e in
@@ -121,22 +130,27 @@ unit_digits a b c d u h = go (is_digit a 16 && is_digit b 16 && is_digit c 16 &&
         (r.0, r.1, q.1, p.1)
     go false e h = cc
 
-unit-lexed : (t : List ℕ) (i u : ℕ) → i + 4 ≤ length t → code_unit (get_or t i 0) (get_or t (i + 1) 0) (get_or t (i + 2) 0) (get_or t (i + 3) 0) ≡ Some u → lex in_string (drop i t) ≡ lex in_string (drop (i + 4) t)
+unit-lexed : (t : List ℕ) (i u : ℕ) → i + 4 ≤ length t
+    → code_unit (get_or t i 0) (get_or t (i + 1) 0) (get_or t (i + 2) 0) (get_or t (i + 3) 0) ≡ Some u
+    → lex in_string (drop i t) ≡ lex in_string (drop (i + 4) t)
 unit-lexed t i u within h =
     let p = unit_digits _ _ _ _ u h in
     let a = is_hex _ p.0 in
     let b = is_hex _ p.1 in
     let c = is_hex _ p.2 in
     let d = is_hex _ p.3 in
-    ap (lex in_string) (four t i within) ∙ lexed-inside _ _ a.0 a.1 ∙ lexed-inside _ _ b.0 b.1 ∙ lexed-inside _ _ c.0 c.1 ∙ lexed-inside _ _ d.0 d.1
+    ap (lex in_string) (four t i within) ∙ lexed-inside _ _ a.0 a.1 ∙ lexed-inside _ _ b.0 b.1 ∙ lexed-inside _ _ c.0 c.1
+    ∙ lexed-inside _ _ d.0 d.1
 
 content-after_u : (d : List ℕ) (i : ℕ) → i + 4 ≤ length d → content after_u (drop i d)
-    ≡ option_and_then (λ u. cond (is_high_surrogate u) (content (after_high u) (drop (i + 4) d)) (cond (is_low_surrogate u) None (prepend (encode_utf8 u) (content plain (drop (i + 4) d)))))
+    ≡ option_and_then (λ u. cond (is_high_surrogate u) (content (after_high u) (drop (i + 4) d))
+    (cond (is_low_surrogate u) None (prepend (encode_utf8 u) (content plain (drop (i + 4) d)))))
     (code_unit (get_or d i 0) (get_or d (i + 1) 0) (get_or d (i + 2) 0) (get_or d (i + 3) 0))
 unfolding content
 content-after_u d i h = ap (content after_u) (four d i h)
 
-pub unit-stands : (t : List ℕ) (i u : ℕ) → i + 4 ≤ length t → code_unit (get_or t i 0) (get_or t (i + 1) 0) (get_or t (i + 2) 0) (get_or t (i + 3) 0) ≡ Some u
+pub unit-stands : (t : List ℕ) (i u : ℕ) → i + 4 ≤ length t
+    → code_unit (get_or t i 0) (get_or t (i + 1) 0) (get_or t (i + 2) 0) (get_or t (i + 3) 0) ≡ Some u
     → is_high_surrogate u ≡ false → is_low_surrogate u ≡ false → EscapeStands after_u in_string (encode_utf8 u) t i (i + 4)
 unit-stands t i u within is high low = record {
   read = content-after_u t i within ∙ rw (is, high, low) refl;
@@ -145,7 +159,8 @@ unit-stands t i u within is high low = record {
   within = within;
 }
 
-pub high-then : (t s : List ℕ) (i u end : ℕ) → i + 4 ≤ length t → code_unit (get_or t i 0) (get_or t (i + 1) 0) (get_or t (i + 2) 0) (get_or t (i + 3) 0) ≡ Some u
+pub high-then : (t s : List ℕ) (i u end : ℕ) → i + 4 ≤ length t
+    → code_unit (get_or t i 0) (get_or t (i + 1) 0) (get_or t (i + 2) 0) (get_or t (i + 3) 0) ≡ Some u
     → is_high_surrogate u ≡ true → EscapeStands (after_high u) in_string s t (i + 4) end → EscapeStands after_u in_string s t i end
 high-then t s i u end within is high h = record {
   read = content-after_u t i within ∙ rw (is, high) h.read;
@@ -154,19 +169,24 @@ high-then t s i u end within is high h = record {
   within = h.within;
 }
 
-content-after_high : (d : List ℕ) (i high : ℕ) → i + 6 ≤ length d → get_or d i 0 ≡ 92 → get_or d (i + 1) 0 ≡ 117 → content (after_high high) (drop i d)
+content-after_high : (d : List ℕ) (i high : ℕ) → i + 6 ≤ length d → get_or d i 0 ≡ 92 → get_or d (i + 1) 0 ≡ 117
+    → content (after_high high) (drop i d)
     ≡ option_and_then (λ l. cond (is_low_surrogate l) (prepend (encode_utf8 (surrogate_pair high l)) (content plain (drop (i + 6) d))) None)
     (code_unit (get_or d (i + 2) 0) (get_or d (i + 2 + 1) 0) (get_or d (i + 2 + 2) 0) (get_or d (i + 2 + 3) 0))
 unfolding content
 content-after_high d i high h slash u =
     let two : i + 1 + 1 ≡ i + 2 = omega arith in
     let six : i + 2 + 4 ≡ i + 6 = omega arith in
-    let last = four d (i + 2) (omega arith) ∙ ap (λ n. get_or d (i + 2) 0 ∷ get_or d (i + 2 + 1) 0 ∷ get_or d (i + 2 + 2) 0 ∷ get_or d (i + 2 + 3) 0 ∷ drop n d) six in
-    ap (content (after_high high)) (drop_more d i 0 (omega arith) ∙ ap (λ l. get_or d i 0 ∷ l) (drop_more d (i + 1) 0 (omega arith) ∙ ap (λ l. get_or d (i + 1) 0 ∷ l) (ap (λ n. drop n d) two ∙ last)))
+    let last = four d (i + 2) (omega arith) ∙ ap
+    (λ n. get_or d (i + 2) 0 ∷ get_or d (i + 2 + 1) 0 ∷ get_or d (i + 2 + 2) 0 ∷ get_or d (i + 2 + 3) 0 ∷ drop n d) six in
+    ap (content (after_high high)) (drop_more d i 0 (omega arith)
+    ∙ ap (λ l. get_or d i 0 ∷ l) (drop_more d (i + 1) 0 (omega arith)
+    ∙ ap (λ l. get_or d (i + 1) 0 ∷ l) (ap (λ n. drop n d) two ∙ last)))
     ∙ rw (slash, u) refl
 
 pub low-stands : (t : List ℕ) (i high low : ℕ) → i + 6 ≤ length t → get_or t i 0 ≡ 92 → get_or t (i + 1) 0 ≡ 117
-    → code_unit (get_or t (i + 2) 0) (get_or t (i + 2 + 1) 0) (get_or t (i + 2 + 2) 0) (get_or t (i + 2 + 3) 0) ≡ Some low → is_low_surrogate low ≡ true
+    → code_unit (get_or t (i + 2) 0) (get_or t (i + 2 + 1) 0) (get_or t (i + 2 + 2) 0) (get_or t (i + 2 + 3) 0) ≡ Some low
+    → is_low_surrogate low ≡ true
     → EscapeStands (after_high high) in_string (encode_utf8 (surrogate_pair high low)) t i (i + 6)
 low-stands t i high low within slash u is low_half =
     let first : i < length t = omega arith in
@@ -183,11 +203,13 @@ low-stands t i high low within slash u is low_half =
     }
 
 content-after_backslash : (d : List ℕ) (i : ℕ) → i < length d → content after_backslash (drop i d)
-    ≡ cond (get_or d i 0 == 117) (content after_u (drop (i + 1) d)) (option_and_then (λ c. prepend (c ∷ []) (content plain (drop (i + 1) d))) (short_escape (get_or d i 0)))
+    ≡ cond (get_or d i 0 == 117) (content after_u (drop (i + 1) d))
+    (option_and_then (λ c. prepend (c ∷ []) (content plain (drop (i + 1) d))) (short_escape (get_or d i 0)))
 unfolding content
 content-after_backslash d i h = ap (content after_backslash) (drop_more d i 0 h)
 
-pub unicode-stands : (t s : List ℕ) (i end : ℕ) → i < length t → get_or t i 0 ≡ 117 → EscapeStands after_u in_string s t (i + 1) end → EscapeStands after_backslash in_escape s t i end
+pub unicode-stands : (t s : List ℕ) (i end : ℕ) → i < length t → get_or t i 0 ≡ 117 → EscapeStands after_u in_string s t (i + 1) end
+    → EscapeStands after_backslash in_escape s t i end
 unicode-stands t s i end lt is h = record {
   read = content-after_backslash t i lt ∙ rw is h.read;
   lexed = ap (lex in_escape) (drop_more t i 0 lt) ∙ escape-lexed (get_or t i 0) (drop (i + 1) t) ∙ h.lexed;
@@ -195,7 +217,8 @@ unicode-stands t s i end lt is h = record {
   within = h.within;
 }
 
-pub short-stands : (t s : List ℕ) (i c : ℕ) → i < length t → (get_or t i 0 ≡ 117 → ⊥) → short_escape (get_or t i 0) ≡ Some c → s ≡ c ∷ [] → EscapeStands after_backslash in_escape s t i (i + 1)
+pub short-stands : (t s : List ℕ) (i c : ℕ) → i < length t → (get_or t i 0 ≡ 117 → ⊥) → short_escape (get_or t i 0) ≡ Some c → s ≡ c ∷ []
+    → EscapeStands after_backslash in_escape s t i (i + 1)
 short-stands t s i c lt no_u is one = record {
   read = content-after_backslash t i lt ∙ rw (ne_eqb (get_or t i 0) 117 no_u, is, one) refl;
   lexed = ap (lex in_escape) (drop_more t i 0 lt) ∙ escape-lexed (get_or t i 0) (drop (i + 1) t);

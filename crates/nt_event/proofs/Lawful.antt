@@ -52,7 +52,8 @@ one_tag (kind k ks) zero v h = absurd (false≢true h)
 one_tag (kind k ks) (suc zero) v h = omega arith
 one_tag (kind k ks) (suc (suc n)) v h = let e = one_tag ks (suc n) v h in omega (arith, e)
 
-all_range : (k : ShapeData) (vs : TreesData) → ((v : TreeData) → fits k v ≡ true → HasBytes v → InRange v) → all_trees (fits k) vs ≡ true → AllHaveBytes vs → AllInRange vs
+all_range : (k : ShapeData) (vs : TreesData) → ((v : TreeData) → fits k v ≡ true → HasBytes v → InRange v) → all_trees (fits k) vs ≡ true
+    → AllHaveBytes vs → AllInRange vs
 all_range k no_trees each h b = tt
 all_range k (tree v vs) each h b = let p = and_parts (fits k v) (all_trees (fits k) vs) h in (each v p.0 b.0, all_range k vs each p.1 b.1)
 
@@ -75,15 +76,19 @@ mutual
   parts_range no_parts no_trees t h y = tt
   parts_range no_parts (tree v vs) t h y = absurd (false≢true h)
   parts_range (part n k ps) no_trees t h y = absurd (false≢true h)
-  parts_range (part n k ps) (tree v vs) t h y = let p = and_parts (fits k v) (fit_parts ps vs) h in (range k false v t.1 p.0 y.0, parts_range ps vs t.2 p.1 y.1)
+  parts_range (part n k ps) (tree v vs) t h y = let p = and_parts (fits k v) (fit_parts ps vs) h in
+      (range k false v t.1 p.0 y.0, parts_range ps vs t.2 p.1 y.1)
 
-  kinds_range : (ks : ShapesData) (within : Bool) (vs : TreesData) → AreMoreKinds within ks → fit_kinds ks vs ≡ true → AllHaveBytes vs → AllInRange vs
+  kinds_range : (ks : ShapesData) (within : Bool) (vs : TreesData) → AreMoreKinds within ks → fit_kinds ks vs ≡ true → AllHaveBytes vs
+      → AllInRange vs
   kinds_range no_kinds within no_trees t h y = tt
   kinds_range no_kinds within (tree v vs) t h y = absurd (false≢true h)
   kinds_range (kind k ks) within no_trees t h y = absurd (false≢true h)
-  kinds_range (kind k ks) within (tree v vs) t h y = let p = and_parts (fits k v) (fit_kinds ks vs) h in (range k within v t.0 p.0 y.0, kinds_range ks within vs t.1 p.1 y.1)
+  kinds_range (kind k ks) within (tree v vs) t h y = let p = and_parts (fits k v) (fit_kinds ks vs) h in
+      (range k within v t.0 p.0 y.0, kinds_range ks within vs t.1 p.1 y.1)
 
-  one_range : (ks : ShapesData) (within : Bool) (tag : ℕ) (v : TreeData) → AreMoreKinds within ks → fits_one ks tag v ≡ true → HasBytes v → InRange v
+  one_range : (ks : ShapesData) (within : Bool) (tag : ℕ) (v : TreeData) → AreMoreKinds within ks → fits_one ks tag v ≡ true → HasBytes v
+      → InRange v
   one_range no_kinds within tag v t h y = absurd (false≢true h)
   one_range (kind k ks) within zero v t h y = absurd (false≢true h)
   one_range (kind k ks) within (suc zero) v t h y = range k within v t.0 h y
@@ -110,8 +115,10 @@ text_utf8 : (b : Bool) (s : List ℕ) → is_utf8 s ≡ b → IsUtf8 (compact_te
 text_utf8 true s h = IsUtf8-quoted s (IsUtf8-from_is_utf8 s h)
 text_utf8 false s h =
     let digits = IsUtf8-from_ascii (encode_lower s) (IsAscii-encode_with lower_digits s (ascii_of lower_digits refl)) in
-    ascii_then 123 _ (omega arith) (IsUtf8-append (quoted (codes "hex")) _ (IsUtf8-quoted (codes "hex") (IsUtf8-are_ascii (codes "hex") refl))
-    (ascii_then 58 _ (omega arith) (IsUtf8-append (quoted (encode_lower s)) _ (IsUtf8-quoted (encode_lower s) digits) (IsUtf8-are_ascii (125 ∷ []) refl))))
+    ascii_then 123 _ (omega arith) (IsUtf8-append (quoted (codes "hex")) _
+    (IsUtf8-quoted (codes "hex") (IsUtf8-are_ascii (codes "hex") refl))
+    (ascii_then 58 _ (omega arith) (IsUtf8-append (quoted (encode_lower s)) _ (IsUtf8-quoted (encode_lower s) digits)
+    (IsUtf8-are_ascii (125 ∷ []) refl))))
 
 comma_utf8 : (b : Bool) → IsUtf8 (comma_if b)
 comma_utf8 true = IsUtf8-are_ascii _ refl
@@ -131,9 +138,13 @@ mutual
 
   all_utf8 : (later : Bool) (vs : TreesData) → AllInRange vs → IsUtf8 (items_text later (datas_of vs))
   all_utf8 later no_trees h = IsUtf8-are_ascii _ refl
-  all_utf8 later (tree v vs) h = IsUtf8-append (comma_if later) _ (comma_utf8 later) (IsUtf8-append (compact_text (data_of v)) _ (utf8 v h.0) (all_utf8 true vs h.1))
+  all_utf8 later (tree v vs) h = IsUtf8-append (comma_if later) _ (comma_utf8 later)
+      (IsUtf8-append (compact_text (data_of v)) _ (utf8 v h.0) (all_utf8 true vs h.1))
 
-pub line_is_read_back : (ps : List MemberData) (ts : List TreeData) → AreFields ps → fit_parts (parts_of ps) (trees_of ts) ≡ true → AllHaveBytes (trees_of ts) → length (line_of (trees_of ts)) ≤ max_line → entry_of (parts_of ps) (line_of (trees_of ts)) ≡ Ok (trees_of ts)
+pub line_is_read_back : (ps : List MemberData) (ts : List TreeData) → AreFields ps → fit_parts (parts_of ps) (trees_of ts) ≡ true
+    → AllHaveBytes (trees_of ts) → length (line_of (trees_of ts)) ≤ max_line
+    → entry_of (parts_of ps) (line_of (trees_of ts)) ≡ Ok (trees_of ts)
 line_is_read_back ps ts rules fit bytes few =
     let inside = parts_range (parts_of ps) (trees_of ts) rules.rules fit bytes in
-    compact_entry ps ts (line_of (trees_of ts)) few (ascii_then 91 _ (omega arith) (all_utf8 false (trees_of ts) inside)) fit inside (omega (arith, rules.shallow)) refl
+    compact_entry ps ts (line_of (trees_of ts)) few (ascii_then 91 _ (omega arith) (all_utf8 false (trees_of ts) inside)) fit inside
+    (omega (arith, rules.shallow)) refl

@@ -67,7 +67,8 @@ blank-passed x xs (inr (inr e)) = rw e refl
 pub no-blanks : (t : List ℕ) (at : ℕ) → at ≤ length t → BlanksStand t at at
 no-blanks t at h = record { told = refl; word = λ e. e; within = h; past = omega arith }
 
-pub one-blank : (t : List ℕ) (at i : ℕ) → BlanksStand t at i → i < length t → (get_or t i 0 ≡ 32) ⊎ ((get_or t i 0 ≡ 9) ⊎ (get_or t i 0 ≡ 13)) → BlanksStand t at (i + 1)
+pub one-blank : (t : List ℕ) (at i : ℕ) → BlanksStand t at i → i < length t
+    → (get_or t i 0 ≡ 32) ⊎ ((get_or t i 0 ≡ 9) ⊎ (get_or t i 0 ≡ 13)) → BlanksStand t at (i + 1)
 one-blank t at i b lt is =
     let next = drop_more t i 0 lt in
     record {
@@ -79,14 +80,16 @@ one-blank t at i b lt is =
 
 -- ---- words
 
-number-token : (p : Place) (s : List ℕ) (ls : List Lexeme) → may_begin p ≡ true → punctuate p (token (number s) ∷ ls) ≡ number s ∷ punctuate after_value ls
+number-token : (p : Place) (s : List ℕ) (ls : List Lexeme) → may_begin p ≡ true
+    → punctuate p (token (number s) ∷ ls) ≡ number s ∷ punctuate after_value ls
 unfolding punctuate
 number-token fresh s ls h = refl
 number-token after_comma s ls h = refl
 number-token after_value s ls h = absurd (false≢true h)
 number-token after_key s ls h = absurd (false≢true h)
 
-truth-token : (p : Place) (b : Bool) (ls : List Lexeme) → may_begin p ≡ true → punctuate p (token (boolean b) ∷ ls) ≡ boolean b ∷ punctuate after_value ls
+truth-token : (p : Place) (b : Bool) (ls : List Lexeme) → may_begin p ≡ true
+    → punctuate p (token (boolean b) ∷ ls) ≡ boolean b ∷ punctuate after_value ls
 unfolding punctuate
 truth-token fresh b ls h = refl
 truth-token after_comma b ls h = refl
@@ -100,7 +103,8 @@ null-token after_comma ls h = refl
 null-token after_value ls h = absurd (false≢true h)
 null-token after_key ls h = absurd (false≢true h)
 
-string-token : (p : Place) (s : List ℕ) (ls : List Lexeme) → may_begin p ≡ true → begins_colon ls ≡ false → punctuate p (token (string s) ∷ ls) ≡ string s ∷ punctuate after_value ls
+string-token : (p : Place) (s : List ℕ) (ls : List Lexeme) → may_begin p ≡ true → begins_colon ls ≡ false
+    → punctuate p (token (string s) ∷ ls) ≡ string s ∷ punctuate after_value ls
 unfolding punctuate
 string-token fresh s ls h c = rw c refl
 string-token after_comma s ls h c = rw c refl
@@ -121,28 +125,33 @@ lex-null r h = ap₂ (λ b l. token (cond b null bad) ∷ l) h (in_word-ended r 
 
 pub number-stands : (s t : List ℕ) (at end : ℕ) → IsNumber s → StandsFrom s t at end → ValueStands (json.number s) t at end
 number-stands s t at end n h = record {
-  told = λ p b e. ap (tokens_from p) h.part_is ∙ ap (punctuate p) (lex-number s (drop end t) n e.word) ∙ number-token p s (lex between (drop end t)) b;
+  told = λ p b e. ap (tokens_from p) h.part_is ∙ ap (punctuate p) (lex-number s (drop end t) n e.word)
+      ∙ number-token p s (lex between (drop end t)) b;
   within = h.within;
   some = h.some;
 }
 
 pub true-stands : (t : List ℕ) (at end : ℕ) → StandsFrom (116 ∷ 114 ∷ 117 ∷ 101 ∷ []) t at end → ValueStands (json.boolean true) t at end
 true-stands t at end h = record {
-  told = λ p b e. ap (tokens_from p) h.part_is ∙ ap (punctuate p) (lex-true (drop end t) e.word) ∙ truth-token p true (lex between (drop end t)) b;
+  told = λ p b e. ap (tokens_from p) h.part_is ∙ ap (punctuate p) (lex-true (drop end t) e.word)
+      ∙ truth-token p true (lex between (drop end t)) b;
   within = h.within;
   some = h.some;
 }
 
-pub false-stands : (t : List ℕ) (at end : ℕ) → StandsFrom (102 ∷ 97 ∷ 108 ∷ 115 ∷ 101 ∷ []) t at end → ValueStands (json.boolean false) t at end
+pub false-stands : (t : List ℕ) (at end : ℕ) → StandsFrom (102 ∷ 97 ∷ 108 ∷ 115 ∷ 101 ∷ []) t at end
+    → ValueStands (json.boolean false) t at end
 false-stands t at end h = record {
-  told = λ p b e. ap (tokens_from p) h.part_is ∙ ap (punctuate p) (lex-false (drop end t) e.word) ∙ truth-token p false (lex between (drop end t)) b;
+  told = λ p b e. ap (tokens_from p) h.part_is ∙ ap (punctuate p) (lex-false (drop end t) e.word)
+      ∙ truth-token p false (lex between (drop end t)) b;
   within = h.within;
   some = h.some;
 }
 
 pub null-stands : (t : List ℕ) (at end : ℕ) → StandsFrom (110 ∷ 117 ∷ 108 ∷ 108 ∷ []) t at end → ValueStands json.null t at end
 null-stands t at end h = record {
-  told = λ p b e. ap (tokens_from p) h.part_is ∙ ap (punctuate p) (lex-null (drop end t) e.word) ∙ null-token p (lex between (drop end t)) b;
+  told = λ p b e. ap (tokens_from p) h.part_is ∙ ap (punctuate p) (lex-null (drop end t) e.word)
+      ∙ null-token p (lex between (drop end t)) b;
   within = h.within;
   some = h.some;
 }
@@ -153,7 +162,8 @@ lex-string : (s xs : List ℕ) → content plain xs ≡ Some s → lex between (
 unfolding lex
 lex-string s xs h = ap (λ o. token (string_token o) ∷ lex in_string xs) h
 
-pub string-stands : (s t : List ℕ) (at first end : ℕ) → StandsFrom (34 ∷ []) t at first → content plain (drop first t) ≡ Some s → lex in_string (drop first t) ≡ lex between (drop end t)
+pub string-stands : (s t : List ℕ) (at first end : ℕ) → StandsFrom (34 ∷ []) t at first → content plain (drop first t) ≡ Some s
+    → lex in_string (drop first t) ≡ lex between (drop end t)
     → first < end → end ≤ length t → ValueStands (json.string s) t at end
 string-stands s t at first end opens is passed some within = record {
   told = λ p b e.

@@ -15,7 +15,8 @@ use Rattle.nt_event.specs.declared.lines.LineError.{LineError}
 use Rattle.nt_event.specs.declared.lines.LineError.TheVariants.{Fault, TooLong, Memory}
 
 -- known bytes that stand in front are taken from there
-pub front_taken : (known : Option (List ℕ)) (whole front rest : List ℕ) → whole ≡ front ++ rest → Consumes (prepend_known whole known) (prepend_known rest known) front
+pub front_taken : (known : Option (List ℕ)) (whole front rest : List ℕ) → whole ≡ front ++ rest
+    → Consumes (prepend_known whole known) (prepend_known rest known) front
 front_taken None whole front rest e = tt
 front_taken (Some xs) whole front rest e = ap (λ l. l ++ xs) e ∙ append_assoc front rest xs
 
@@ -39,26 +40,39 @@ no_lf-append a b ha hb k lt e = go (cases_lt k (length a))
 
 -- ---- what is ready
 
-pub too_many : (known : Option (List ℕ)) (hay before : List ℕ) (count : ℕ) → count ≤ length hay → Nowhere (Passes (is_byte 10) hay) 0 count → max_line < length before + count → IsTooMany (prepend_known hay known) before
+pub too_many : (known : Option (List ℕ)) (hay before : List ℕ) (count : ℕ) → count ≤ length hay
+    → Nowhere (Passes (is_byte 10) hay) 0 count → max_line < length before + count → IsTooMany (prepend_known hay known) before
 too_many known hay before count le none many = record {
   front = take count hay;
-  begins = record { rest = prepend_known (drop count hay) known; taken = front_taken known hay (take count hay) (drop count hay) (sym (take-append-drop count hay)) };
+  begins = record {
+    rest = prepend_known (drop count hay) known;
+    taken =
+        front_taken known hay (take count hay) (drop count hay) (sym (take-append-drop count hay));
+  };
   one_line = no_lf-take hay count le none;
   many = omega (arith, many, length-take-le count hay le);
 }
 
 -- the bytes up to the first LF, the LF, and what is behind it
-split_at_lf : (piece : List ℕ) (at end count : ℕ) → count < length (slice_range piece at end) → get_or (slice_range piece at end) count 0 ≡ 10 → slice_range piece at end ≡ (take count (slice_range piece at end) ++ 10 ∷ []) ++ slice_range piece (at + (count + 1)) end
+split_at_lf : (piece : List ℕ) (at end count : ℕ) → count < length (slice_range piece at end)
+    → get_or (slice_range piece at end) count 0 ≡ 10
+    → slice_range piece at end ≡ (take count (slice_range piece at end) ++ 10 ∷ []) ++ slice_range piece (at + (count + 1)) end
 split_at_lf piece at end count lt is =
     let hay = slice_range piece at end in
     let few : length hay ≡ min (end - at) (length (drop at piece)) = length-take (end - at) (drop at piece) in
     let width : end - at ≡ (count + 1) + (end - (at + (count + 1))) = omega (arith, few, lt) in
     let back : drop (count + 1) hay ≡ slice_range piece (at + (count + 1)) end =
-    ap (λ n. drop (count + 1) (take n (drop at piece))) width ∙ drop-take (count + 1) (end - (at + (count + 1))) (drop at piece) ∙ ap (take (end - (at + (count + 1)))) (drop-drop (count + 1) at piece) in
-    sym (take-append-drop (count + 1) hay) ∙ ap (λ l. l ++ drop (count + 1) hay) (take_more hay count 0 lt ∙ ap (λ b. take count hay ++ b ∷ []) is) ∙ ap (λ l. (take count hay ++ 10 ∷ []) ++ l) back
+    ap (λ n. drop (count + 1) (take n (drop at piece))) width ∙ drop-take (count + 1) (end - (at + (count + 1))) (drop at piece)
+    ∙ ap (take (end - (at + (count + 1)))) (drop-drop (count + 1) at piece) in
+    sym (take-append-drop (count + 1) hay) ∙ ap (λ l. l ++ drop (count + 1) hay)
+    (take_more hay count 0 lt ∙ ap (λ b. take count hay ++ b ∷ []) is) ∙ ap (λ l. (take count hay ++ 10 ∷ []) ++ l) back
 
-pub taken_to_lf : (known : Option (List ℕ)) (piece : List ℕ) (at end count : ℕ) → count < length (slice_range piece at end) → get_or (slice_range piece at end) count 0 ≡ 10 → Consumes (prepend_known (slice_range piece at end) known) (prepend_known (slice_range piece (at + (count + 1)) end) known) (take count (slice_range piece at end) ++ 10 ∷ [])
-taken_to_lf known piece at end count lt is = front_taken known (slice_range piece at end) (take count (slice_range piece at end) ++ 10 ∷ []) (slice_range piece (at + (count + 1)) end) (split_at_lf piece at end count lt is)
+pub taken_to_lf : (known : Option (List ℕ)) (piece : List ℕ) (at end count : ℕ) → count < length (slice_range piece at end)
+    → get_or (slice_range piece at end) count 0 ≡ 10
+    → Consumes (prepend_known (slice_range piece at end) known) (prepend_known (slice_range piece (at + (count + 1)) end) known)
+    (take count (slice_range piece at end) ++ 10 ∷ [])
+taken_to_lf known piece at end count lt is = front_taken known (slice_range piece at end)
+    (take count (slice_range piece at end) ++ 10 ∷ []) (slice_range piece (at + (count + 1)) end) (split_at_lf piece at end count lt is)
 
 pub no_lf-before : (hay : List ℕ) (count : ℕ) → NoneBefore (Passes (is_byte 10) hay) 0 (length hay) count → HasNoLf (take count hay)
 no_lf-before hay count h = no_lf-take hay count (omega (arith, h.high)) h.before
@@ -68,14 +82,20 @@ lf_at hay count h = eqb-true (get_or hay count 0) 10 h
 
 -- ---- lines
 
-pub more_left : (a b : Option (List ℕ)) (known : Option (List ℕ)) (bytes ready : List ℕ) → Consumes a b bytes → b ≡ prepend_known ready known → 0 < length ready → HasMore a
+pub more_left : (a b : Option (List ℕ)) (known : Option (List ℕ)) (bytes ready : List ℕ) → Consumes a b bytes
+    → b ≡ prepend_known ready known → 0 < length ready → HasMore a
 more_left a b known bytes ready h e some = record {
   front = bytes ++ ready;
-  begins = record { rest = known; taken = Consumes-trans a b known bytes ready h (subst (λ o. Consumes o known ready) (sym e) (all_taken known ready)) };
+  begins = record {
+    rest = known;
+    taken = Consumes-trans a b known bytes ready h
+        (subst (λ o. Consumes o known ready) (sym e) (all_taken known ready));
+  };
   some = omega (arith, some, length-append bytes ready);
 }
 
-pub gives_err : (A C D : LinesState) (e : LineError) (bytes after : List ℕ) → C.number ≡ A.number → Consumes A.left C.left bytes → HasNoLf bytes → TakesPart C D bytes after (Err e) → GivesLine A D (Err e)
+pub gives_err : (A C D : LinesState) (e : LineError) (bytes after : List ℕ) → C.number ≡ A.number → Consumes A.left C.left bytes
+    → HasNoLf bytes → TakesPart C D bytes after (Err e) → GivesLine A D (Err e)
 gives_err A C D Fault bytes after n h one p = absurd p
 gives_err A C D Memory bytes after n h one p = tt
 gives_err A C D (TooLong line) bytes after n h one p = (
@@ -88,11 +108,16 @@ gives_err A C D (TooLong line) bytes after n h one p = (
   }),
 )
 
-pub next_line : (A C D E : LinesState) (line : Line) (bytes after : List ℕ) → A.number < max_number → Consumes A.left C.left bytes → HasNoLf bytes → TakesMore C D bytes after (10 ∷ []) → E.left ≡ D.left → E.number ≡ A.number + 1 → line.number ≡ A.number + 1 → line.bytes ≡ after → IsNextLine A E line
+pub next_line : (A C D E : LinesState) (line : Line) (bytes after : List ℕ) → A.number < max_number → Consumes A.left C.left bytes
+    → HasNoLf bytes → TakesMore C D bytes after (10 ∷ []) → E.left ≡ D.left → E.number ≡ A.number + 1 → line.number ≡ A.number + 1
+    → line.bytes ≡ after → IsNextLine A E line
 next_line A C D E line bytes after room h one p left counted number same =
-    let whole : bytes ++ (p.part ++ 10 ∷ []) ≡ line.bytes ++ 10 ∷ [] = sym (append_assoc bytes p.part (10 ∷ [])) ∙ ap (λ l. l ++ 10 ∷ []) (sym (same ∙ p.grown)) in
+    let whole : bytes ++ (p.part ++ 10 ∷ []) ≡ line.bytes ++ 10 ∷ [] = sym (append_assoc bytes p.part (10 ∷ []))
+    ∙ ap (λ l. l ++ 10 ∷ []) (sym (same ∙ p.grown)) in
     record {
-      ends = inl (subst (λ l. Consumes A.left E.left l) whole (subst (λ o. Consumes A.left o (bytes ++ (p.part ++ 10 ∷ []))) (sym left) (Consumes-trans A.left C.left D.left bytes (p.part ++ 10 ∷ []) h p.taken)));
+      ends = inl (subst (λ l. Consumes A.left E.left l) whole
+          (subst (λ o. Consumes A.left o (bytes ++ (p.part ++ 10 ∷ []))) (sym left)
+          (Consumes-trans A.left C.left D.left bytes (p.part ++ 10 ∷ []) h p.taken)));
       one_line = subst HasNoLf (sym (same ∙ p.grown)) (no_lf-append bytes p.part one p.one_line);
       fits = omega (arith, p.few, ap (λ (l : List ℕ). length l) same);
       number = (number, omega (arith, number, room));

@@ -10,4 +10,5 @@ plain-next (d ∷ ds) c h k = (h.0, plain-next ds c h.1 k)
 
 pub plain-escape : (s : List ℕ) → AllPlain s → escape s ≡ s
 plain-escape [] h = refl
-plain-escape (x ∷ xs) h = ap (λ l. l ++ escape xs) (escape_byte_plain x h.0.no_quote h.0.no_slash h.0.low) ∙ ap (λ l. x ∷ l) (plain-escape xs h.1)
+plain-escape (x ∷ xs) h = ap (λ l. l ++ escape xs) (escape_byte_plain x h.0.no_quote h.0.no_slash h.0.low)
+    ∙ ap (λ l. x ∷ l) (plain-escape xs h.1)

@@ -54,7 +54,8 @@ mutual
   of_json-data f t (pick tag v) h = rw (number_of-decimal tag (omega (arith, h.0)), of_json-data f t v h.1) refl
   of_json-data f t nothing h = refl
 
-  pub of_items-datas : (f : List ℕ → Data) → IsText f → (vs : TreesData) → AllInRange vs → of_items (items_outline (datas_with f vs)) ≡ Some (datas_with f vs)
+  pub of_items-datas : (f : List ℕ → Data) → IsText f → (vs : TreesData) → AllInRange vs
+      → of_items (items_outline (datas_with f vs)) ≡ Some (datas_with f vs)
   of_items-datas f t no_trees h = refl
   of_items-datas f t (tree v vs) h = rw (of_json-data f t v h.0, of_items-datas f t vs h.1) refl
 
@@ -73,16 +74,20 @@ mutual
   numbers-datas (tree v vs) h = (numbers-data v h.0, numbers-datas vs h.1)
 
 -- tokens of a value's outline are read as the value, whatever text gave them
-pub read-tokens : (f : List ℕ → Data) → IsText f → (bytes : List ℕ) (vs : TreesData) → AllInRange vs → tree.depth (outline (array (datas_with f vs))) ≤ 127
+pub read-tokens : (f : List ℕ → Data) → IsText f → (bytes : List ℕ) (vs : TreesData) → AllInRange vs
+    → tree.depth (outline (array (datas_with f vs))) ≤ 127
     → tokens bytes ≡ json_tokens (outline (array (datas_with f vs))) → read bytes ≡ Some (array (datas_with f vs))
 read-tokens f t bytes vs h shallow same =
     let j = outline (array (datas_with f vs)) in
-    ap (λ ts. option_and_then of_json (option_and_then (λ p. json.if_last p.0 p.1) (json.value max_depth ts))) (same ∙ sym (append-nil (json_tokens j)))
+    ap (λ ts. option_and_then of_json (option_and_then (λ p. json.if_last p.0 p.1) (json.value max_depth ts)))
+    (same ∙ sym (append-nil (json_tokens j)))
     ∙ ap (λ o. option_and_then of_json (option_and_then (λ p. json.if_last p.0 p.1) o)) (value-json_tokens j max_depth [] shallow)
     ∙ ap (option_map array) (of_items-datas f t vs h)
 
 tokens-compact : (d : Data) → HasNumbers (outline d) → tokens (compact_text d) ≡ json_tokens (outline d)
 tokens-compact d h = ap tokens (sym (print-outline d)) ∙ tokens-print (json_tokens (outline d)) (ArePrintable-json_tokens (outline d) h)
 
-pub read-line_of : (vs : TreesData) → AllInRange vs → tree.depth (outline (array (datas_of vs))) ≤ 127 → read (line_of vs) ≡ Some (array (datas_of vs))
-read-line_of vs h shallow = read-tokens text_data text_is (line_of vs) vs h shallow (tokens-compact (array (datas_of vs)) (numbers-datas vs h))
+pub read-line_of : (vs : TreesData) → AllInRange vs → tree.depth (outline (array (datas_of vs))) ≤ 127
+    → read (line_of vs) ≡ Some (array (datas_of vs))
+read-line_of vs h shallow = read-tokens text_data text_is (line_of vs) vs h shallow
+    (tokens-compact (array (datas_of vs)) (numbers-datas vs h))

@@ -36,38 +36,47 @@ tag_back : (tag : ℕ) → tag < 2 ^ 32 → tag_of tag ≡ Some tag
 tag_back tag h = ap (λ b. if b then Some tag else None) (lt-ltb tag (2 ^ 32) h)
 
 all_back : (t : List ℕ → Data) (f : Data → Option TreeData) (g : TreeData → Bool) (vs : TreesData)
-    → ((v : TreeData) → g v ≡ true → InRange v → f (data_with t v) ≡ Some v) → all_trees g vs ≡ true → AllInRange vs → all_read f (datas_with t vs) ≡ Some vs
+    → ((v : TreeData) → g v ≡ true → InRange v → f (data_with t v) ≡ Some v) → all_trees g vs ≡ true → AllInRange vs
+    → all_read f (datas_with t vs) ≡ Some vs
 all_back t f g no_trees each h b = refl
 all_back t f g (tree v vs) each h b = let p = and_parts (g v) (all_trees g vs) h in rw (each v p.0 b.0, all_back t f g vs each p.1 b.1) refl
 
 mutual
-  pub tree_read-data : (t : List ℕ → Data) → GivesText t → (k : ShapeData) (v : TreeData) → fits k v ≡ true → InRange v → tree_read k (data_with t v) ≡ Some v
+  pub tree_read-data : (t : List ℕ → Data) → GivesText t → (k : ShapeData) (v : TreeData) → fits k v ≡ true → InRange v
+      → tree_read k (data_with t v) ≡ Some v
   tree_read-data t g kinds.bool (flag b) h y = refl
   tree_read-data t g kinds.char (num z) h y = int_back (is_int 8 false) z h
   tree_read-data t g kinds.byte (num z) h y = int_back (is_int 8 false) z h
   tree_read-data t g (kinds.int bits signed) (num z) h y = int_back (is_int bits signed) z h
   tree_read-data t g kinds.text (text s) h y = ap (option_map text) (g s y)
-  tree_read-data t g (kinds.list k) (items vs) h y = ap (option_map items) (all_back t (tree_read k) (fits k) vs (λ v e b. tree_read-data t g k v e b) h y)
+  tree_read-data t g (kinds.list k) (items vs) h y =
+      ap (option_map items) (all_back t (tree_read k) (fits k) vs (λ v e b. tree_read-data t g k v e b) h y)
   tree_read-data t g (kinds.fields ps) (parts vs) h y = ap (option_map parts) (parts_read-data t g ps vs h y)
   tree_read-data t g (kinds.tuple ks) (parts vs) h y = ap (option_map parts) (kinds_read-data t g ks vs h y)
   tree_read-data t g (kinds.choice ks) nothing h y = refl
   tree_read-data t g (kinds.choice ks) (pick tag v) h y =
-      ap (option_and_then (λ n. option_map (pick n) (one_read ks n (data_with t v)))) (tag_back tag y.0) ∙ ap (option_map (pick tag)) (one_read-data t g ks tag v h y.1)
+      ap (option_and_then (λ n. option_map (pick n) (one_read ks n (data_with t v)))) (tag_back tag y.0)
+      ∙ ap (option_map (pick tag)) (one_read-data t g ks tag v h y.1)
   tree_read-data t g _ _ h y = absurd (false≢true h)
 
-  pub parts_read-data : (t : List ℕ → Data) → GivesText t → (ps : MembersData) (vs : TreesData) → fit_parts ps vs ≡ true → AllInRange vs → parts_read ps (datas_with t vs) ≡ Some vs
+  pub parts_read-data : (t : List ℕ → Data) → GivesText t → (ps : MembersData) (vs : TreesData) → fit_parts ps vs ≡ true → AllInRange vs
+      → parts_read ps (datas_with t vs) ≡ Some vs
   parts_read-data t g no_parts no_trees h y = refl
   parts_read-data t g no_parts (tree v vs) h y = absurd (false≢true h)
   parts_read-data t g (part n k ps) no_trees h y = absurd (false≢true h)
-  parts_read-data t g (part n k ps) (tree v vs) h y = let p = and_parts (fits k v) (fit_parts ps vs) h in rw (tree_read-data t g k v p.0 y.0, parts_read-data t g ps vs p.1 y.1) refl
+  parts_read-data t g (part n k ps) (tree v vs) h y = let p = and_parts (fits k v) (fit_parts ps vs) h in
+      rw (tree_read-data t g k v p.0 y.0, parts_read-data t g ps vs p.1 y.1) refl
 
-  pub kinds_read-data : (t : List ℕ → Data) → GivesText t → (ks : ShapesData) (vs : TreesData) → fit_kinds ks vs ≡ true → AllInRange vs → kinds_read ks (datas_with t vs) ≡ Some vs
+  pub kinds_read-data : (t : List ℕ → Data) → GivesText t → (ks : ShapesData) (vs : TreesData) → fit_kinds ks vs ≡ true → AllInRange vs
+      → kinds_read ks (datas_with t vs) ≡ Some vs
   kinds_read-data t g no_kinds no_trees h y = refl
   kinds_read-data t g no_kinds (tree v vs) h y = absurd (false≢true h)
   kinds_read-data t g (kind k ks) no_trees h y = absurd (false≢true h)
-  kinds_read-data t g (kind k ks) (tree v vs) h y = let p = and_parts (fits k v) (fit_kinds ks vs) h in rw (tree_read-data t g k v p.0 y.0, kinds_read-data t g ks vs p.1 y.1) refl
+  kinds_read-data t g (kind k ks) (tree v vs) h y = let p = and_parts (fits k v) (fit_kinds ks vs) h in
+      rw (tree_read-data t g k v p.0 y.0, kinds_read-data t g ks vs p.1 y.1) refl
 
-  one_read-data : (t : List ℕ → Data) → GivesText t → (ks : ShapesData) (tag : ℕ) (v : TreeData) → fits_one ks tag v ≡ true → InRange v → one_read ks tag (data_with t v) ≡ Some v
+  one_read-data : (t : List ℕ → Data) → GivesText t → (ks : ShapesData) (tag : ℕ) (v : TreeData) → fits_one ks tag v ≡ true → InRange v
+      → one_read ks tag (data_with t v) ≡ Some v
   one_read-data t g no_kinds tag v h y = absurd (false≢true h)
   one_read-data t g (kind k ks) zero v h y = absurd (false≢true h)
   one_read-data t g (kind k ks) (suc zero) v h y = tree_read-data t g k v h y

@@ -39,21 +39,26 @@ view-Tuple ks = search (rules, shape_lemmas)
 pub view-shape_Text : shape_view shapes.Text ≡ kinds.text
 view-shape_Text = search (rules, shape_lemmas)
 
-pub next-shapes : (ks : List Shape) (i : ℕ) (k : Shape) → i < length ks → k ≡ get_or ks i k → take (i + 1) (map shape_view ks) ≡ take i (map shape_view ks) ++ shape_view k ∷ []
+pub next-shapes : (ks : List Shape) (i : ℕ) (k : Shape) → i < length ks → k ≡ get_or ks i k
+    → take (i + 1) (map shape_view ks) ≡ take i (map shape_view ks) ++ shape_view k ∷ []
 next-shapes [] i k lt is = absurd (omega arith)
 next-shapes (j ∷ ks) zero k lt is = ap (λ (s : Shape). shape_view s ∷ []) (sym is)
-next-shapes (j ∷ ks) (suc i) k lt is = let e : suc i + 1 ≡ suc (i + 1) = omega arith in ap (λ n. take n (map shape_view (j ∷ ks))) e ∙ ap (λ l. shape_view j ∷ l) (next-shapes ks i k (omega arith) is)
+next-shapes (j ∷ ks) (suc i) k lt is = let e : suc i + 1 ≡ suc (i + 1) = omega arith in ap (λ n. take n (map shape_view (j ∷ ks))) e
+    ∙ ap (λ l. shape_view j ∷ l) (next-shapes ks i k (omega arith) is)
 
-pub next-members : (ms : List Member) (i : ℕ) (m : Member) → i < length ms → m ≡ get_or ms i m → take (i + 1) (kinds_in (map member_view ms)) ≡ take i (kinds_in (map member_view ms)) ++ shape_view m.of ∷ []
+pub next-members : (ms : List Member) (i : ℕ) (m : Member) → i < length ms → m ≡ get_or ms i m
+    → take (i + 1) (kinds_in (map member_view ms)) ≡ take i (kinds_in (map member_view ms)) ++ shape_view m.of ∷ []
 next-members [] i m lt is = absurd (omega arith)
 next-members (j ∷ ms) zero m lt is = ap (λ k. k ∷ []) (member_view-of j) ∙ ap (λ (s : Member). shape_view s.of ∷ []) (sym is)
-next-members (j ∷ ms) (suc i) m lt is = let e : suc i + 1 ≡ suc (i + 1) = omega arith in ap (λ n. take n (kinds_in (map member_view (j ∷ ms)))) e ∙ ap (λ l. (member_view j).of ∷ l) (next-members ms i m (omega arith) is)
+next-members (j ∷ ms) (suc i) m lt is = let e : suc i + 1 ≡ suc (i + 1) = omega arith in
+    ap (λ n. take n (kinds_in (map member_view (j ∷ ms)))) e ∙ ap (λ l. (member_view j).of ∷ l) (next-members ms i m (omega arith) is)
 
 pub length-kinds_in : (ms : List Member) → length (kinds_in (map member_view ms)) ≡ length ms
 length-kinds_in [] = refl
 length-kinds_in (m ∷ ms) = ap suc (length-kinds_in ms)
 
-pub nth-shape : (ks : List Shape) (i : ℕ) (k : Shape) → i < length ks → k ≡ get_or ks i k → shape_view k ≡ get_or (map shape_view ks) i (shape_view k)
+pub nth-shape : (ks : List Shape) (i : ℕ) (k : Shape) → i < length ks → k ≡ get_or ks i k
+    → shape_view k ≡ get_or (map shape_view ks) i (shape_view k)
 nth-shape [] i k lt is = absurd (omega arith)
 nth-shape (j ∷ ks) zero k lt is = ap shape_view is
 nth-shape (j ∷ ks) (suc i) k lt is = nth-shape ks i k (omega arith) is

@@ -43,7 +43,8 @@ json_entry F (Some d) = data_entry F d
 
 -- the entry that a line is, or the first thing that is wrong
 abbrev pub entry_of : MembersData → List ℕ → Result TreesData TextKind
-entry_of F bytes = if nat_lt max_line (length bytes) then Err TooLong else (if is_utf8 bytes then json_entry F (read bytes) else Err NotJson)
+entry_of F bytes = if nat_lt max_line (length bytes) then Err TooLong else
+    (if is_utf8 bytes then json_entry F (read bytes) else Err NotJson)
 
 -- these trees, and then those
 abbrev pub trees_then : List TreeData → TreesData → TreesData

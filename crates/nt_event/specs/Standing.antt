@@ -29,7 +29,8 @@ pub record EndsValue (xs : List ℕ) : Type 0 where
 
 -- from one place to another stands a JSON value, where it has ended there
 pub record ValueStands (j : Json) (text : List ℕ) (at end : ℕ) : Type 0 where
-  pub told : (p : Place) → may_begin p ≡ true → EndsValue (drop end text) → tokens_from p (drop at text) ≡ json_tokens j ++ tokens_from after_value (drop end text)
+  pub told : (p : Place) → may_begin p ≡ true → EndsValue (drop end text)
+      → tokens_from p (drop at text) ≡ json_tokens j ++ tokens_from after_value (drop end text)
   pub within : end ≤ length text
   pub some : at < end
 

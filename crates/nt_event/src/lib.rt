@@ -21,6 +21,7 @@ mod marks;
 mod printing;
 mod quoted;
 mod scan;
+mod single;
 mod strings;
 mod values;
 

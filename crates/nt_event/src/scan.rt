@@ -7,10 +7,10 @@ ghost use Rattle.nt_types.specs.TreeData.{trees_of};
 ghost use Rattle.nt_types.specs.TreeViews.{tree_view, trees_view};
 ghost use Rattle.nt_event.specs.Standing.{StandsFrom, ItemsStand, ReadsValue, AllGood, EachGood, jsons_of, kinds_in, IsWritten};
 
-use crate::integers::{integer, number};
-use crate::marks::{after, after_blanks, comma, comma_if, null, truth};
-use crate::quoted::string;
-use nt_types::{Bytes, Fields, Member, Shape, Tree, Trees};
+use crate::integers::number;
+use crate::marks::{after, after_blanks, comma, comma_if, null};
+use crate::single::single_value;
+use nt_types::{Fields, Member, Shape, Tree, Trees};
 use std::alloc::{AllocError, Global};
 
 /// How deep arrays nest in that of a line.
@@ -26,37 +26,6 @@ fn open(text: &[u8], at: usize, deep: usize) -> Option<(usize, usize)>
         None
     } else {
         Some((first, deep - 1))
-    }
-}
-
-/// The value at a place, of a shape that has no parts.
-fn leaf(
-    alloc: Global,
-    shape: &Shape,
-    text: &[u8],
-    at: usize,
-) -> Result<Option<(Tree, usize)>, AllocError>
-    requires { at ≤ length text.now }
-    ensures { IfOk result (λ found. IfSome found (λ r. ReadsValue 0 (shape_view shape.now) (tree_view r.0) text.now at r.1)) }
-{
-    match shape {
-        Shape::Bool => match truth(text, at) {
-            Some((holds, end)) => Ok(Some((Tree::Flag(holds), end))),
-            None => Ok(None),
-        },
-        Shape::Char | Shape::Byte => match integer(text, at, 8, false) {
-            Some((n, end)) => Ok(Some((Tree::Num(n), end))),
-            None => Ok(None),
-        },
-        Shape::Int { bits, signed } => match integer(text, at, *bits, *signed) {
-            Some((n, end)) => Ok(Some((Tree::Num(n), end))),
-            None => Ok(None),
-        },
-        Shape::Text => match string(alloc, text, at)? {
-            Some((bytes, end)) => Ok(Some((Tree::Text(Bytes::from_vec(bytes)), end))),
-            None => Ok(None),
-        },
-        _ => Ok(None),
     }
 }
 
@@ -104,7 +73,7 @@ fn value(
             Some(end) => Ok(Some((Tree::Nothing, end))),
             None => picked(alloc, &shapes.list, text, at, deep),
         },
-        _ => leaf(alloc, shape, text, at),
+        _ => single_value(alloc, shape, text, at),
     }
 }
 

@@ -11,8 +11,10 @@ returns-then-unit c =
     let t = c.args.text.now in
     let at = c.args.at in
     let u = c.in_ok-unit.unit in
-    some-then c.pair.result (λ r. EscapeStands (after_high u) in_string (encode_utf8 r.0) t (at + 4) r.1) (λ r. EscapeStands after_u in_string (encode_utf8 r.0) t at r.1)
-    (λ r h. high-then t (encode_utf8 r.0) at u r.1 (omega (arith, c.requires, c.if-text-at-lt4.false)) (sym c.in_ok-unit.ensures.value) c.if-unit.true h) c.pair.ensures
+    some-then c.pair.result (λ r. EscapeStands (after_high u) in_string (encode_utf8 r.0) t (at + 4) r.1)
+    (λ r. EscapeStands after_u in_string (encode_utf8 r.0) t at r.1)
+    (λ r h. high-then t (encode_utf8 r.0) at u r.1 (omega (arith, c.requires, c.if-text-at-lt4.false)) (sym c.in_ok-unit.ensures.value)
+    c.if-unit.true h) c.pair.ensures
 
 pub returns : goal.returns
 returns c =

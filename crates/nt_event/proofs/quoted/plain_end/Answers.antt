@@ -10,5 +10,6 @@ loop-i-preserved c =
     record {
       low = omega (arith, v.low);
       high = omega (arith, c.loop-i-test.true);
-      plain = subst AllPlain (sym (range-next c.args.text.now c.args.at c.loop-i.i v.low c.loop-i-test.true)) (plain-next _ _ v.plain (c.is_plain.ensures c.if-is_plain.true));
+      plain = subst AllPlain (sym (range-next c.args.text.now c.args.at c.loop-i.i v.low c.loop-i-test.true))
+          (plain-next _ _ v.plain (c.is_plain.ensures c.if-is_plain.true));
     }

@@ -34,7 +34,8 @@ items-loop-next-preserved t c =
       within = item.stands.within;
       past = omega (arith, v.past, comma.some, item.stands.some);
       stands = subst (λ vs. OpenStands vs text c.args.at c.in-Some-3.end) (sym views)
-          (open-next text c.args.at c.loop-next.i c.in-Some-comma.next c.in-Some-3.end olds (tree_view c.in-Some-3.item) v.stands commas item.stands);
+          (open-next text c.args.at c.loop-next.i c.in-Some-comma.next c.in-Some-3.end olds (tree_view c.in-Some-3.item) v.stands commas
+          item.stands);
       good = subst (AllGood deep k) (sym views) (all-next deep k olds (tree_view c.in-Some-3.item) v.good item.good);
     }
 
@@ -46,7 +47,8 @@ items-loop-next-init t c =
     let k = shape_view c.args.of.now in
     let first = c.in-Some-2.first in
     let i = c.in-Some-2.i in
-    let item : ReadsValue deep k (tree_view first) text at i = subst (λ o. IfSome o (λ r. ReadsValue deep k (tree_view r.0) text at r.1)) c.in-Some-2.is c.in_ok-first.ensures in
+    let item : ReadsValue deep k (tree_view first) text at i =
+    subst (λ o. IfSome o (λ r. ReadsValue deep k (tree_view r.0) text at r.1)) c.in-Some-2.is c.in_ok-first.ensures in
     let more = c.in_ok-push.ensures.items ∙ ap (λ (l : List Tree). l ++ first ∷ []) c.new-list.ensures.items in
     let views = ap (map tree_view) more in
     record {
@@ -67,7 +69,8 @@ items-returns-in-Some-clause-stands t c =
 pub items-returns-in-Some-after-clause-stands : goal.items-returns-in-Some-after-clause-stands
 items-returns-in-Some-after-clause-stands t c =
     let v = c.loop-next.invariant in
-    open-end c.args.text.now c.args.at c.loop-next.i c.in-Some-after.end (map tree_view c.loop-next.list.items) (omega (arith, v.past)) v.stands c.in-Some-after.ensures
+    open-end c.args.text.now c.args.at c.loop-next.i c.in-Some-after.end (map tree_view c.loop-next.list.items) (omega (arith, v.past))
+    v.stands c.in-Some-after.ensures
 
 pub each-loop-shape-preserved : goal.each-loop-shape-preserved
 each-loop-shape-preserved t c =
@@ -85,21 +88,25 @@ each-loop-shape-preserved t c =
     let views = ap (map tree_view) c.in_ok-push.ensures.items ∙ map-append tree_view xs (c.in-Some-2.tree ∷ []) in
     let same : length xs ≡ vec_len c.loop-shape.list = search rules in
     let stands : not c.is_empty.result ≡ are_some olds = ap not (c.is_empty.ensures ∙ ap (λ n. n == 0) (sym same)) ∙ sym (some_views xs) in
-    let comma : MayStand (are_some olds) text c.loop-shape.i next = subst (λ b. MayStand b text c.loop-shape.i next) stands c.in-Some.ensures in
+    let comma : MayStand (are_some olds) text c.loop-shape.i next =
+    subst (λ b. MayStand b text c.loop-shape.i next) stands c.in-Some.ensures in
     let ks = take c.loop-shape.shape-index (map shape_view c.args.shapes.now) in
     record {
       within = item.stands.within;
       past = omega (arith, v.past, may-past (are_some olds) text c.loop-shape.i next comma, item.stands.some);
-      stands = subst (λ vs. OpenStands vs text c.args.at end) (sym views) (open-next text c.args.at c.loop-shape.i next end olds w v.stands comma item.stands);
+      stands = subst (λ vs. OpenStands vs text c.args.at end) (sym views)
+          (open-next text c.args.at c.loop-shape.i next end olds w v.stands comma item.stands);
       good = subst (EachGood deep (take (c.loop-shape.shape-index + 1) (map shape_view c.args.shapes.now))) (sym views)
-          (subst (λ l. EachGood deep l (olds ++ w ∷ [])) (sym (next-shapes c.args.shapes.now c.loop-shape.shape-index shape (omega (arith, c.loop-shape-test.true)) c.shape-item.is))
+          (subst (λ l. EachGood deep l (olds ++ w ∷ []))
+          (sym (next-shapes c.args.shapes.now c.loop-shape.shape-index shape (omega (arith, c.loop-shape-test.true)) c.shape-item.is))
           (each-next deep ks (shape_view shape) olds w v.good item.good));
     }
 
 pub each-returns-in-Some-after-clause-stands : goal.each-returns-in-Some-after-clause-stands
 each-returns-in-Some-after-clause-stands t c =
     let v = c.loop-shape.invariant in
-    open-end c.args.text.now c.args.at c.loop-shape.i c.in-Some-after.end (map tree_view c.loop-shape.list.items) v.past v.stands c.in-Some-after.ensures
+    open-end c.args.text.now c.args.at c.loop-shape.i c.in-Some-after.end (map tree_view c.loop-shape.list.items) v.past v.stands
+    c.in-Some-after.ensures
 
 pub each_member-loop-member-preserved : goal.each_member-loop-member-preserved
 each_member-loop-member-preserved t c =
@@ -117,28 +124,33 @@ each_member-loop-member-preserved t c =
     let views = ap (map tree_view) c.in_ok-push.ensures.items ∙ map-append tree_view xs (c.in-Some-2.tree ∷ []) in
     let same : length xs ≡ vec_len c.loop-member.list = search rules in
     let stands : not c.is_empty.result ≡ are_some olds = ap not (c.is_empty.ensures ∙ ap (λ n. n == 0) (sym same)) ∙ sym (some_views xs) in
-    let comma : MayStand (are_some olds) text c.loop-member.i next = subst (λ b. MayStand b text c.loop-member.i next) stands c.in-Some.ensures in
+    let comma : MayStand (are_some olds) text c.loop-member.i next =
+    subst (λ b. MayStand b text c.loop-member.i next) stands c.in-Some.ensures in
     let i = c.loop-member.member-index in
     let ks = kinds_in (map member_view c.args.members.now) in
     record {
       within = item.stands.within;
       past = omega (arith, v.past, may-past (are_some olds) text c.loop-member.i next comma, item.stands.some);
-      stands = subst (λ vs. OpenStands vs text c.args.at end) (sym views) (open-next text c.args.at c.loop-member.i next end olds w v.stands comma item.stands);
+      stands = subst (λ vs. OpenStands vs text c.args.at end) (sym views)
+          (open-next text c.args.at c.loop-member.i next end olds w v.stands comma item.stands);
       good = subst (EachGood deep (take (i + 1) ks)) (sym views)
-          (subst (λ l. EachGood deep l (olds ++ w ∷ [])) (sym (next-members c.args.members.now i member (omega (arith, c.loop-member-test.true)) c.member-item.is))
+          (subst (λ l. EachGood deep l (olds ++ w ∷ []))
+          (sym (next-members c.args.members.now i member (omega (arith, c.loop-member-test.true)) c.member-item.is))
           (each-next deep (take i ks) (shape_view member.of) olds w v.good item.good));
     }
 
 pub each_member-returns-in-Some-after-clause-stands : goal.each_member-returns-in-Some-after-clause-stands
 each_member-returns-in-Some-after-clause-stands t c =
     let v = c.loop-member.invariant in
-    open-end c.args.text.now c.args.at c.loop-member.i c.in-Some-after.end (map tree_view c.loop-member.list.items) v.past v.stands c.in-Some-after.ensures
+    open-end c.args.text.now c.args.at c.loop-member.i c.in-Some-after.end (map tree_view c.loop-member.list.items) v.past v.stands
+    c.in-Some-after.ensures
 
 pub each_member-returns-in-Some-after-clause-good : goal.each_member-returns-in-Some-after-clause-good
 each_member-returns-in-Some-after-clause-good t c =
     let i = c.loop-member.member-index in
     let ks = kinds_in (map member_view c.args.members.now) in
-    subst (λ l. EachGood c.args.deep l (map tree_view c.loop-member.list.items)) (take_all i ks (omega (arith, c.loop-member-test.false, length-kinds_in c.args.members.now))) c.loop-member.invariant.good
+    subst (λ l. EachGood c.args.deep l (map tree_view c.loop-member.list.items))
+    (take_all i ks (omega (arith, c.loop-member-test.false, length-kinds_in c.args.members.now))) c.loop-member.invariant.good
 
 pub value-returns-in-Some-2 : goal.value-returns-in-Some-2
 value-returns-in-Some-2 t c =
@@ -148,11 +160,15 @@ value-returns-in-Some-2 t c =
     let end = c.in-Some-2.end in
     let k = c.in-List.of in
     let deep = c.in-Some.inside in
-    let so = subst (λ o. IfSome o (λ r. ItemsStand (jsons_of (trees_of (map tree_view r.0.items))) text c.in-Some.first r.1)) c.in-Some-2.is e.stands in
+    let so = subst (λ o. IfSome o (λ r. ItemsStand (jsons_of (trees_of (map tree_view r.0.items))) text c.in-Some.first r.1))
+    c.in-Some-2.is e.stands in
     let good : AllGood deep (shape_view k.value) (map tree_view vs.items) = search (rules, e.good, c.in-Some-2.is, c.deref.ensures) in
-    let read = reads-list deep (shape_view k.value) (map tree_view vs.items) text c.args.at c.in-Some.first end c.in-Some.ensures.bracket so good in
-    subst (λ n. ReadsValue n (shape_view c.args.shape.now) (tree_view (trees.Items (record { list = vs }))) text c.args.at end) (sym c.in-Some.ensures.deep)
-    (subst (λ j. ReadsValue (deep + 1) (shape_view j) (tree_view (trees.Items (record { list = vs }))) text c.args.at end) (sym c.in-List.is)
+    let read = reads-list deep (shape_view k.value) (map tree_view vs.items) text c.args.at c.in-Some.first end c.in-Some.ensures.bracket
+    so good in
+    subst (λ n. ReadsValue n (shape_view c.args.shape.now) (tree_view (trees.Items (record { list = vs }))) text c.args.at end)
+    (sym c.in-Some.ensures.deep)
+    (subst (λ j. ReadsValue (deep + 1) (shape_view j) (tree_view (trees.Items (record { list = vs }))) text c.args.at end)
+    (sym c.in-List.is)
     (subst (λ j. ReadsValue (deep + 1) j (tree_view (trees.Items (record { list = vs }))) text c.args.at end) (sym (view-List k))
     (subst (λ v. ReadsValue (deep + 1) (kinds.list (shape_view k.value)) v text c.args.at end) (sym (view-Items vs)) read)))
 
@@ -164,10 +180,14 @@ value-returns-in-Some-3 t c =
     let end = c.in-Some-3.end in
     let ms = c.in-Rec.members in
     let deep = c.in-Some-open.inside in
-    let so = subst (λ o. IfSome o (λ r. ItemsStand (jsons_of (trees_of (map tree_view r.0.items))) text c.in-Some-open.first r.1)) c.in-Some-3.is e.stands in
-    let good : EachGood deep (kinds_in (members_view ms)) (map tree_view vs.items) = search (rules, shape_lemmas, e.good, c.in-Some-3.is, c.deref-in-Rec.ensures.value) in
-    let read = reads-record deep (members_view ms) (map tree_view vs.items) text c.args.at c.in-Some-open.first end c.in-Some-open.ensures.bracket so good in
-    subst (λ n. ReadsValue n (shape_view c.args.shape.now) (tree_view (trees.Parts (record { list = vs }))) text c.args.at end) (sym c.in-Some-open.ensures.deep)
+    let so = subst (λ o. IfSome o (λ r. ItemsStand (jsons_of (trees_of (map tree_view r.0.items))) text c.in-Some-open.first r.1))
+    c.in-Some-3.is e.stands in
+    let good : EachGood deep (kinds_in (members_view ms)) (map tree_view vs.items) =
+    search (rules, shape_lemmas, e.good, c.in-Some-3.is, c.deref-in-Rec.ensures.value) in
+    let read = reads-record deep (members_view ms) (map tree_view vs.items) text c.args.at c.in-Some-open.first end
+    c.in-Some-open.ensures.bracket so good in
+    subst (λ n. ReadsValue n (shape_view c.args.shape.now) (tree_view (trees.Parts (record { list = vs }))) text c.args.at end)
+    (sym c.in-Some-open.ensures.deep)
     (subst (λ j. ReadsValue (deep + 1) (shape_view j) (tree_view (trees.Parts (record { list = vs }))) text c.args.at end) (sym c.in-Rec.is)
     (subst (λ j. ReadsValue (deep + 1) j (tree_view (trees.Parts (record { list = vs }))) text c.args.at end) (sym (view-Rec ms))
     (subst (λ v. ReadsValue (deep + 1) (kinds.fields (parts_of (members_view ms))) v text c.args.at end) (sym (view-Parts vs)) read)))
@@ -180,19 +200,26 @@ value-returns-in-Some-4 t c =
     let end = c.in-Some-4.end in
     let ks = c.in-Tuple.shapes in
     let deep = c.in-Some-open-2.inside in
-    let so = subst (λ o. IfSome o (λ r. ItemsStand (jsons_of (trees_of (map tree_view r.0.items))) text c.in-Some-open-2.first r.1)) c.in-Some-4.is e.stands in
-    let good : EachGood deep (map shape_view ks.list.items) (map tree_view vs.items) = search (rules, e.good, c.in-Some-4.is, c.deref-in-Tuple.ensures.value) in
-    let read = reads-tuple deep (map shape_view ks.list.items) (map tree_view vs.items) text c.args.at c.in-Some-open-2.first end c.in-Some-open-2.ensures.bracket so good in
-    subst (λ n. ReadsValue n (shape_view c.args.shape.now) (tree_view (trees.Parts (record { list = vs }))) text c.args.at end) (sym c.in-Some-open-2.ensures.deep)
-    (subst (λ j. ReadsValue (deep + 1) (shape_view j) (tree_view (trees.Parts (record { list = vs }))) text c.args.at end) (sym c.in-Tuple.is)
+    let so = subst (λ o. IfSome o (λ r. ItemsStand (jsons_of (trees_of (map tree_view r.0.items))) text c.in-Some-open-2.first r.1))
+    c.in-Some-4.is e.stands in
+    let good : EachGood deep (map shape_view ks.list.items) (map tree_view vs.items) =
+    search (rules, e.good, c.in-Some-4.is, c.deref-in-Tuple.ensures.value) in
+    let read = reads-tuple deep (map shape_view ks.list.items) (map tree_view vs.items) text c.args.at c.in-Some-open-2.first end
+    c.in-Some-open-2.ensures.bracket so good in
+    subst (λ n. ReadsValue n (shape_view c.args.shape.now) (tree_view (trees.Parts (record { list = vs }))) text c.args.at end)
+    (sym c.in-Some-open-2.ensures.deep)
+    (subst (λ j. ReadsValue (deep + 1) (shape_view j) (tree_view (trees.Parts (record { list = vs }))) text c.args.at end)
+    (sym c.in-Tuple.is)
     (subst (λ j. ReadsValue (deep + 1) j (tree_view (trees.Parts (record { list = vs }))) text c.args.at end) (sym (view-Tuple ks))
-    (subst (λ v. ReadsValue (deep + 1) (kinds.tuple (kinds_of (map shape_view ks.list.items))) v text c.args.at end) (sym (view-Parts vs)) read)))
+    (subst (λ v. ReadsValue (deep + 1) (kinds.tuple (kinds_of (map shape_view ks.list.items))) v text c.args.at end) (sym (view-Parts vs))
+    read)))
 
 pub value-returns-in-Some-null : goal.value-returns-in-Some-null
 value-returns-in-Some-null t c =
     let end = c.in-Some-null.end in
     let ks = kinds_of (map shape_view c.in-Choice.shapes.list.items) in
-    let r : ReadsValue c.args.deep (kinds.choice ks) nothing c.args.text.now c.args.at end = reads-null c.args.deep ks c.args.text.now c.args.at end c.in-Some-null.ensures in
+    let r : ReadsValue c.args.deep (kinds.choice ks) nothing c.args.text.now c.args.at end =
+    reads-null c.args.deep ks c.args.text.now c.args.at end c.in-Some-null.ensures in
     search (rules, shape_lemmas, tree_lemmas, r, c.in-Choice.is)
 
 pub picked-returns : goal.picked-returns
@@ -217,5 +244,7 @@ picked-returns t c =
     let read = reads-pick deep ks tag i (shape_view of) (tree_view c.in-Some-2.tree) text c.args.at first c.in-Some-number.i next last end
     (omega (arith, some)) (omega (arith, lt, length-map c.args.shapes.now shape_view)) (nth-shape c.args.shapes.now i of lt nth) small
     c.in-Some.ensures.bracket number c.in-Some-comma.ensures value c.in-Some-after.ensures in
-    subst (λ n. ReadsValue n (kinds.choice (kinds_of ks)) (tree_view (trees.Pick tag c.in_ok-new.field-0)) text c.args.at end) (sym c.in-Some.ensures.deep)
-    (subst (λ v. ReadsValue (deep + 1) (kinds.choice (kinds_of ks)) v text c.args.at end) (sym (view-Pick tag c.in_ok-new.field-0 ∙ ap (λ (u : Tree). pick tag (tree_view u)) c.in_ok-new.ensures.ok)) read)
+    subst (λ n. ReadsValue n (kinds.choice (kinds_of ks)) (tree_view (trees.Pick tag c.in_ok-new.field-0)) text c.args.at end)
+    (sym c.in-Some.ensures.deep)
+    (subst (λ v. ReadsValue (deep + 1) (kinds.choice (kinds_of ks)) v text c.args.at end)
+    (sym (view-Pick tag c.in_ok-new.field-0 ∙ ap (λ (u : Tree). pick tag (tree_view u)) c.in_ok-new.ensures.ok)) read)

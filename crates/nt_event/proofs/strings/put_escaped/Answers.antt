@@ -17,8 +17,10 @@ loop-i-preserved c =
     let lt : stop < length d = omega (arith, p.high, c.if-stop-bytes.false) in
     record {
       within = omega (arith, lt);
-      text = byte-put d c.extend_from_slice.new.self.items w c.put_byte.new.out.items stop lt (run-put d c.loop-i.out.items w c.extend_from_slice.new.self.items i stop p.low p.plain v.text run) e.ok;
-      kept = front-then c.args.out.now.items c.loop-i.out.items c.put_byte.new.out.items (slice_range d i stop) v.kept (subst (λ l. take (length l) c.put_byte.new.out.items ≡ l) run e.kept);
+      text = byte-put d c.extend_from_slice.new.self.items w c.put_byte.new.out.items stop lt
+          (run-put d c.loop-i.out.items w c.extend_from_slice.new.self.items i stop p.low p.plain v.text run) e.ok;
+      kept = front-then c.args.out.now.items c.loop-i.out.items c.put_byte.new.out.items (slice_range d i stop) v.kept
+          (subst (λ l. take (length l) c.put_byte.new.out.items ≡ l) run e.kept);
     }
 
 pub returns-then-stop-bytes-clause-ok : goal.returns-then-stop-bytes-clause-ok
@@ -29,10 +31,12 @@ returns-then-stop-bytes-clause-ok c =
     let p = c.plain_end-stop.ensures in
     let w = c.args.out.now.items ++ escape d in
     all-put d c.extend_from_slice.new.self.items w stop c.if-stop-bytes.true
-    (run-put d c.loop-i.out.items w c.extend_from_slice.new.self.items c.loop-i.i stop p.low p.plain v.text c.in_ok-extend_from_slice.ensures.items)
+    (run-put d c.loop-i.out.items w c.extend_from_slice.new.self.items c.loop-i.i stop p.low p.plain v.text
+    c.in_ok-extend_from_slice.ensures.items)
 
 pub returns-in_err-put_byte-clause-kept : goal.returns-in_err-put_byte-clause-kept
 returns-in_err-put_byte-clause-kept c =
     let d = c.args.bytes.now in
-    front-then c.args.out.now.items c.loop-i.out.items c.put_byte.new.out.items (slice_range d c.loop-i.i c.plain_end-stop.result) c.loop-i.invariant.kept
+    front-then c.args.out.now.items c.loop-i.out.items c.put_byte.new.out.items (slice_range d c.loop-i.i c.plain_end-stop.result)
+    c.loop-i.invariant.kept
     (subst (λ l. take (length l) c.put_byte.new.out.items ≡ l) c.in_ok-extend_from_slice.ensures.items c.in_err-put_byte.ensures.kept)

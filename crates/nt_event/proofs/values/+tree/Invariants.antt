@@ -10,15 +10,20 @@ use Rattle.nt_event.proofs.values.+tree.Given as goal
 
 abbrev pub invariant-list-loop-value : goal.invariant-list-loop-value
 invariant-list-loop-value l = record {
-  left : all_read (tree_read (shape_view l.of)) (items_view l.values) ≡ option_map (trees_then (map tree_view l.trees.items)) (all_read (tree_read (shape_view l.of)) (items_view (drop l.value-index l.values)));
+  left : all_read (tree_read (shape_view l.of)) (items_view l.values) ≡ option_map (trees_then (map tree_view l.trees.items))
+      (all_read (tree_read (shape_view l.of)) (items_view (drop l.value-index l.values)));
 }
 
 abbrev pub invariant-each-loop-i : goal.invariant-each-loop-i
 invariant-each-loop-i l = record {
-  left : lines.kinds_read (kinds_of (map shape_view l.shapes)) (items_view l.values) ≡ option_map (trees_then (map tree_view l.trees.items)) (lines.kinds_read (kinds_of (map shape_view (drop l.i l.shapes))) (items_view (drop l.i l.values)));
+  left : lines.kinds_read (kinds_of (map shape_view l.shapes)) (items_view l.values) ≡ option_map
+      (trees_then (map tree_view l.trees.items))
+      (lines.kinds_read (kinds_of (map shape_view (drop l.i l.shapes))) (items_view (drop l.i l.values)));
 }
 
 abbrev pub invariant-each_member-loop-i : goal.invariant-each_member-loop-i
 invariant-each_member-loop-i l = record {
-  left : lines.parts_read (parts_of (map member_view l.members)) (items_view l.values) ≡ option_map (trees_then (map tree_view l.trees.items)) (lines.parts_read (parts_of (map member_view (drop l.i l.members))) (items_view (drop l.i l.values)));
+  left : lines.parts_read (parts_of (map member_view l.members)) (items_view l.values) ≡ option_map
+      (trees_then (map tree_view l.trees.items))
+      (lines.parts_read (parts_of (map member_view (drop l.i l.members))) (items_view (drop l.i l.values)));
 }

@@ -22,7 +22,8 @@ returns-then-self-ge-MAX_NUMBER-clause-line g c =
       ap (λ n. n + 1) (c.fill.ensures.number ∙ v.number),
       inr (
         omega (arith, c.if-self-ge-MAX_NUMBER.true),
-        more_left A.left C.left (state s.source).left c.loop.bytes.items ready (Consumes-kept A.left B.left C.left c.loop.bytes.items v.taken c.fill.ensures.same) refl some,
+        more_left A.left C.left (state s.source).left c.loop.bytes.items ready
+            (Consumes-kept A.left B.left C.left c.loop.bytes.items v.taken c.fill.ensures.same) refl some,
       ),
     )
 
@@ -50,7 +51,9 @@ returns-then-branch-clause-line g c =
     let v = c.loop.invariant in
     let n = c.numbered-then-branch.ensures in
     let same = c.take_part.ensures.number ∙ c.fill.ensures.number ∙ v.number in
-    let part : TakesMore C D c.loop.bytes.items c.take_part.new.line.items (10 ∷ []) = search (rules, c.in_ok-take_part.ensures.part, c.if-branch.true) in
+    let part : TakesMore C D c.loop.bytes.items c.take_part.new.line.items (10 ∷ []) =
+    search (rules, c.in_ok-take_part.ensures.part, c.if-branch.true) in
     next_line A C D E c.numbered-then-branch.result c.loop.bytes.items c.take_part.new.line.items
-    (omega (arith, c.if-self-ge-MAX_NUMBER.false, c.fill.ensures.number, v.number)) (Consumes-kept A.left B.left C.left c.loop.bytes.items v.taken c.fill.ensures.same) v.one_line part
+    (omega (arith, c.if-self-ge-MAX_NUMBER.false, c.fill.ensures.number, v.number))
+    (Consumes-kept A.left B.left C.left c.loop.bytes.items v.taken c.fill.ensures.same) v.one_line part
     n.left (n.number ∙ ap (λ m. m + 1) same) (n.line.0 ∙ ap (λ m. m + 1) same) n.line.1
