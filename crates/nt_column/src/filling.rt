@@ -86,7 +86,7 @@ pub fn push_64(list: &mut Vec<u64>, kind: ColumnType, bytes: &[u8], count: usize
     ensures room { HasGrown count (vec_len list.old) (vec_capacity list.old) (vec_len list.new)
         (vec_capacity list.new) }
 {
-    let mut last = 0;
+    let mut last: u64 = 0;
     for i in 0..count {
         last = value_at(kind, bytes, count, i, last);
         list.push_reserved(last);
