@@ -69,6 +69,12 @@ expect 4 'ntuple: outside' entries .
 [ $? -eq 4 ] && [ "$(cat err)" = 'ntuple: outside' ] || fail 'an out that takes nothing is no status 4'
 "$program" entries two.root 2>/dev/full >out || fail 'an err that takes nothing changes the status'
 
+# OUT may be a link to a file that isn't there yet
+mkdir folder
+ln -s folder/linked.root link.root
+expect 0 '' write link.root schema.txt events.txt
+same folder/linked.root "$top/crates/nt_tool/data/two.root"
+
 # OUT is never an input, under whatever name
 for input in schema.txt events.txt; do
     cp "$input" kept

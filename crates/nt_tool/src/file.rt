@@ -7,6 +7,7 @@ use crate::faults::Faults;
 use nt_outside::{Failed, ReadAt};
 use std::fs::OpenFile;
 use std::io;
+use std::io::{Error, ErrorKind};
 use std::os::unix::fs::FileExt;
 
 /// A file that is read from an opened file.
@@ -34,17 +35,22 @@ impl<F: FileExt + OpenFile> ReadAt for RealFile<F> {
     }
 }
 
-/// Fills `buf` from place `at` of a file, as far as the file has bytes there. A read may give only some of them.
+/// Fills `buf` from place `at` of a file, as far as the file has bytes there. A read may give only some of them, and a signal may
+/// interrupt it: both are no failure, and the next read goes on.
 fn fill_from<F: FileExt>(file: &F, at: u64, buf: &mut [u8]) -> io::Result<usize>
     ensures { IfOk result (λ n. n ≤ length buf.new) }
 {
     let mut filled = 0;
-    while filled < buf.len() {
-        let count = file.read_at(&mut buf[filled..], at.saturating_add(filled as u64))?;
-        if count == 0 {
-            break;
+    for _ in 0..u64::MAX {
+        if filled >= buf.len() {
+            return Ok(filled);
         }
-        filled += count;
+        match file.read_at(&mut buf[filled..], at.saturating_add(filled as u64)) {
+            Ok(0) => return Ok(filled),
+            Ok(count) => filled += count,
+            Err(error) if error.kind() == ErrorKind::Interrupted => {}
+            Err(error) => return Err(error),
+        }
     }
-    Ok(filled)
+    Err(Error::from(ErrorKind::Interrupted))
 }

@@ -1,10 +1,9 @@
 //! Files of the system by name, and which file a name leads to.
 
-use std::fs::{File, Metadata, OpenFile, OpenOptions};
+use std::fs::{File, Metadata, OpenFile, OpenOptions, canonicalize};
 use std::io;
 use std::io::{Error, ErrorKind};
 use std::os::unix::fs::MetadataExt;
-use std::path::Path;
 
 /// Which file it is, whatever its names are: its device and its number there.
 #[derive(Clone, Copy, Debug, PartialEq, Eq)]
@@ -42,13 +41,13 @@ impl Named {
             .open(&self.rt, self.name.as_str())
     }
 
-    /// Makes sure that the name stays in its folder, whatever happens.
+    /// Makes sure that the file stays in its folder, whatever happens: that of the file itself, where the name is a link to it.
     pub fn sync_folder(&self) -> io::Result<()> {
-        let folder = match Path::new(self.name.as_str()).parent() {
+        let whole = canonicalize(&self.rt, self.name.as_str())?;
+        let folder = match whole.as_path().parent() {
             Some(folder) => folder.as_str(),
             None => "/",
         };
-        let folder = if folder.is_empty() { "." } else { folder };
         File::open(&self.rt, folder)?.sync_all()
     }
 }
@@ -61,17 +60,14 @@ pub struct Made {
     pub is_new: bool,
 }
 
-/// Opens a file to be written. One that is there keeps its bytes.
+/// Opens a file to be written, and says whether it is new. One that is there keeps its bytes; a name that is a link to no file
+/// makes the file that it names.
 fn open_or_make(rt: &HostRuntime, name: &str) -> io::Result<(File, bool)> {
-    match OpenOptions::new()
-        .write(true)
-        .create_new(true)
-        .open(rt, name)
-    {
-        Ok(file) => Ok((file, true)),
-        Err(error) if error.kind() == ErrorKind::AlreadyExists => {
+    match OpenOptions::new().write(true).open(rt, name) {
+        Ok(file) => Ok((file, false)),
+        Err(error) if error.kind() == ErrorKind::NotFound => {
             let file = OpenOptions::new().write(true).create(true).open(rt, name)?;
-            Ok((file, false))
+            Ok((file, true))
         }
         Err(error) => Err(error),
     }

@@ -6,16 +6,16 @@ use crate::disk::RealDisk;
 use crate::faults::Faults;
 use crate::file::RealFile;
 use crate::host::RealHost;
-use crate::named::Named;
+use crate::named::{Named, make};
 use crate::range::{RealExt, RealPen};
 use crate::text::RealText;
 use nt_outside::{Disk, Ext, Failed, Host, Pen, Range, ReadAt, Refused, Source};
 use std::alloc::AllocError;
 use std::cell::Cell;
-use std::fs::{File, Metadata, OpenFile};
+use std::fs::{File, Metadata, OpenFile, remove_file};
 use std::io;
 use std::io::{Error, ErrorKind, Read};
-use std::os::unix::fs::FileExt;
+use std::os::unix::fs::{FileExt, symlink};
 use std::process::Abort;
 use std::test::Fail;
 
@@ -97,12 +97,12 @@ impl OpenFile for Slow {
     }
 }
 
-/// A disk over such a file, whose name stands in this folder.
-fn new_disk(rt: &HostRuntime, folder: &str, calls: u32) -> Result<RealDisk<Slow>, AllocError>
+/// A disk over such a file, of this name.
+fn new_disk(rt: &HostRuntime, name: &str, calls: u32) -> Result<RealDisk<Slow>, AllocError>
     ensures end { IfOk result (λ d. d.end ≡ 0) }
     ensures out { IfOk result (λ d. d.out.items ≡ []) }
 {
-    let name = format!(in rt.alloc(); "{folder}/out")?;
+    let name = String::from_str(rt.alloc(), name)?;
     Ok(RealDisk {
         named: Named { rt: *rt, name },
         file: Slow::failing_after(calls),
@@ -122,6 +122,7 @@ fn short_reads_go_on_to_the_end(rt: HostRuntime) {
             faults: Faults::NONE,
         };
         let mut buf = [0; 6];
+        file.file.interrupted.set(2);
         assert_eq!(rt; file.read_at(3, &mut buf), want, "after {calls}");
         assert_eq!(rt;
             file.faults.count,
@@ -200,6 +201,18 @@ fn the_folder_of_a_new_file_is_synced_once(rt: HostRuntime) -> Result<(), Fail> 
 }
 
 #[test]
+fn a_link_to_no_file_makes_a_new_one(rt: HostRuntime) {
+    for name in ["made", "link"] {
+        let _ = remove_file(&rt, name);
+    }
+    assert!(rt; symlink(&rt, "made", "link").is_ok());
+    for (turn, is_new) in [true, false].into_iter().enumerate() {
+        let made = make(&rt, "link", &[]);
+        assert!(rt; made.is_ok_and(|made| made.is_new == is_new), "turn {turn}");
+    }
+}
+
+#[test]
 fn a_pen_fills_its_own_file(rt: HostRuntime) {
     let mut pen = RealPen {
         file: Slow::failing_after(4),
@@ -228,6 +241,7 @@ fn a_text_counts_its_failures(rt: HostRuntime) {
         faults: Faults::NONE,
     };
     let mut buf = [0; 8];
+    text.file.interrupted.set(2);
     assert_eq!(rt; text.read(&mut buf), Ok(3));
     assert_eq!(rt; text.read(&mut buf), Err(Failed));
     assert_eq!(rt; text.faults.count, 1);

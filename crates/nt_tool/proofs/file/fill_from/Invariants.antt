@@ -1,8 +1,5 @@
-use Rattle.std.proofs.Common.{length, ◌-◌, ◌≤◌}
+use Rattle.std.proofs.Common.{length, ◌≤◌}
 use Rattle.nt_tool.proofs.file.fill_from.Given as goal
 
-abbrev pub invariant-loop-filled : goal.invariant-loop-filled
-invariant-loop-filled g l = l.filled ≤ length l.buf
-
-abbrev pub decreases-loop-filled : goal.decreases-loop-filled
-decreases-loop-filled g l = length l.initial.buf - l.filled
+abbrev pub invariant-loop : goal.invariant-loop
+invariant-loop g l = l.filled ≤ length l.buf
