@@ -4,3 +4,5 @@ pub mod ColumnsBack
 pub mod ClustersBack
 pub mod GroupsBack
 pub mod FootersBack
+pub mod SoundLists
+pub mod BooksBack

@@ -8,3 +8,4 @@ pub mod Writing
 pub mod FooterWriting
 pub mod ReadingBack
 pub mod Books
+pub mod SoundBooks

@@ -14,7 +14,8 @@
 //! page lists.
 //!
 //! Proved, each as the contract of a function with an empty body: what is written of clusters and
-//! of groups is read back, whatever follows (`page_lists_are_read_back`, `footers_are_read_back`).
+//! of groups is read back, whatever follows (`page_lists_are_read_back`, `footers_are_read_back`);
+//! so are the clusters of a book whose columns have what they must have (`books_are_read_back`).
 //! That the definitions are the standard's is tested by the crates above, on bytes from outside.
 //!
 //! Choices that bind nobody else: the fault of a cluster's first entry, of its flags, or of too
@@ -30,5 +31,5 @@ mod page;
 pub use cluster::{ClusterList, ClusterLists, ClusterSummary, ColumnList, ColumnLists};
 pub use column::KnownColumn;
 pub use group::{Group, Groups};
-pub use laws::{footers_are_read_back, page_lists_are_read_back};
+pub use laws::{books_are_read_back, footers_are_read_back, page_lists_are_read_back};
 pub use page::{PageItem, PageItems};
