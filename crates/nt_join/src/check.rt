@@ -101,7 +101,7 @@ fn block_fault<C: Columns>(
 /// Whether a cluster's columns are those of so many entries; if not, what is wrong first. By column
 /// id: the column's length first, and then its elements. It takes no memory, and makes one sweep
 /// over each column of ends, and one over a Switch for each 128 of its tags.
-pub fn check_values<C: Columns>(columns: &C, plans: &Plans, entries: u64) -> Result<(), ValueFault>
+pub fn check_by<C: Columns>(columns: &C, plans: &Plans, entries: u64) -> Result<(), ValueFault>
     ensures fault { MatchResult result
         (λ _. fault_in_any (plans_of (plans_view plans.now)) (C.Columns.elements columns.now) entries
         ≡ None)

@@ -95,7 +95,7 @@ fn each<C: Columns>(alloc: Global, columns: &C, parts: &[Plan], i: u64) -> Resul
 }
 
 /// The trees of an entry, of the open fields at the top level in order.
-pub fn entry<C: Columns>(
+pub fn entry_by<C: Columns>(
     alloc: Global,
     columns: &C,
     plans: &Plans,

@@ -1,14 +1,14 @@
 //! Columns of a cluster to the trees of its entries.
 //!
-//! Start at `check_values`, which tells what is wrong with columns first, and then `entry`, which
+//! Start at `check_by`, which tells what is wrong with columns first, and then `entry_by`, which
 //! gives the trees of an entry of columns in which nothing is. Both work over any `Columns`, by the
 //! plans of the open fields; nothing here reads rows.
 //!
 //! Words: those of nt_trees; a *sweep* goes over the elements of a column once.
 //!
-//! Proved: `check_values` gives exactly the first fault by column and element, as `fault_in_any` of
+//! Proved: `check_by` gives exactly the first fault by column and element, as `fault_in_any` of
 //! nt_trees defines it (`fault`); without one the columns are sound (`sound`), and each entry can be
-//! read (`readable`); the trees of an entry are those of the definition `each_at` (`entry`).
+//! read (`readable`); the trees of an entry are those of the definition `each_at` (`entry_by`).
 //!
 //! Not proved: how many sweeps there are, and that nothing but trees takes memory.
 //!
@@ -28,6 +28,6 @@ mod join;
 mod number;
 mod reading;
 
-pub use check::check_values;
+pub use check::check_by;
 pub use fault::ValueFault;
-pub use join::entry;
+pub use join::entry_by;

@@ -85,7 +85,7 @@ tree-range-requires g t c κs within =
     let order : c.begin-from-in-List.result ≤ c.number-to-in-List.result =
     omega (arith, r.1, c.begin-from-in-List.ensures, c.number-to-in-List.ensures) in (
       omega (arith, e, d, smaller k c.in-List.of),
-      (search (rules, within), (order, subst (ReadableTo of cols) (sym c.number-to-in-List.ensures) r.0)),
+      (search (rules, within), (search rules, (order, subst (ReadableTo of cols) (sym c.number-to-in-List.ensures) r.0))),
     )
 
 choice-is : (p : Plan) (s : ℕ) (ps : Plans) → p ≡ Choice s ps → plan_view p ≡ choice s (plans_of (map plan_view ps.list.items))
@@ -129,8 +129,11 @@ tree-tree-requires g t c κs within =
       omega (arith, e, f),
       (
         search (rules, within),
-        subst (Readable (plan_view x) cols) (sym c.number-at.ensures)
-            (picked-readable s (plans_of (map plan_view l)) tag (plan_view x) cols i n is some r),
+        (
+          search rules,
+          subst (Readable (plan_view x) cols) (sym c.number-at.ensures)
+              (picked-readable s (plans_of (map plan_view l)) tag (plan_view x) cols i n is some r),
+        ),
       ),
     )
 

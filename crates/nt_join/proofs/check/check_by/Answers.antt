@@ -5,7 +5,7 @@ use Rattle.nt_trees.specs.Faults.{fault_in_any}
 use Rattle.nt_trees.proofs.NoFault.{AllSound-no_fault}
 use Rattle.nt_join.specs.Spots.{spot_of}
 use Rattle.nt_join.proofs.Plans.{plans_view-list}
-use Rattle.nt_join.proofs.check.check_values.Goals as goal
+use Rattle.nt_join.proofs.check.check_by.Goals as goal
 
 pub returns-in-None-clause-sound : goal.returns-in-None-clause-sound
 returns-in-None-clause-sound g c =
