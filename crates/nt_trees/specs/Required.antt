@@ -53,7 +53,7 @@ abbrev mutual
       IsRequired p cols (count_tag (suc before) es) r ⊎ IsRequiredUnder (suc before) ps es cols r
 
 -- one of the requirements isn't met by this column, at this element, and all of lower columns are
-pub record IsFirstFault (Asked : Required → Type 0) (cols : Cols) (s : Spot) : Type 0 where
+pub record IsLowestFault (Asked : Required → Type 0) (cols : Cols) (s : Spot) : Type 0 where
   pub of : Required
   pub is_asked : Asked of
   pub column_is : of.column ≡ s.0
@@ -63,4 +63,4 @@ pub record IsFirstFault (Asked : Required → Type 0) (cols : Cols) (s : Spot) :
 -- all requirements are met, or this is the first that isn't, by column
 abbrev pub IsFaultOfAll : (Required → Type 0) → Cols → Option Spot → Type 0
 IsFaultOfAll Asked cols None = (r : Required) → Asked r → IsKeptBy cols r
-IsFaultOfAll Asked cols (Some s) = IsFirstFault Asked cols s
+IsFaultOfAll Asked cols (Some s) = IsLowestFault Asked cols s
