@@ -30,6 +30,10 @@ pub four : (a b c d : List ℕ) (v w x y z : Written) → w ≡ bytes_added a v 
     → z ≡ bytes_added (a ++ (b ++ (c ++ d))) v
 four a b c d v w x y z e f g h = two_parts a (b ++ (c ++ d)) v w z e (three b c d w x y z f g h)
 
+pub five : (a b c d e : List ℕ) (u v w x y z : Written) → v ≡ bytes_added a u → w ≡ bytes_added b v → x ≡ bytes_added c w → y ≡ bytes_added d x
+    → z ≡ bytes_added e y → z ≡ bytes_added (a ++ (b ++ (c ++ (d ++ e)))) u
+five a b c d e u v w x y z f g h i j = two_parts a (b ++ (c ++ (d ++ e))) u v z f (four b c d e v w x y z g h i j)
+
 -- nothing is written
 pub nothing : (w : Written) → w ≡ bytes_added [] w
 unfolding written

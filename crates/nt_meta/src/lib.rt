@@ -17,8 +17,10 @@
 //! elements stay at 2^64 - 1, which no offset can meet.
 #![tactic(auto)]
 
+mod descriptions;
 mod error;
 mod faults;
+mod headers;
 mod judging;
 mod known;
 mod progress;
@@ -36,6 +38,7 @@ mod writing_footer;
 mod writing_list;
 
 pub use error::MetaError;
+pub use headers::{read_header, write_header};
 pub use known::KnownColumns;
 pub use progress::Progress;
 pub use reading_footer::read_footer;

@@ -2,6 +2,7 @@
 
 ghost use Rattle.std.specs.Int.{w32, w64};
 ghost use Rattle.nt_num.specs.Cursor.{little};
+ghost use Rattle.nt_format.specs.Strings.{string_at};
 ghost use Rattle.nt_format.specs.Reading.{placed};
 ghost use Rattle.nt_lists.specs.Answering.{Answers};
 ghost use Rattle.nt_meta.specs.Defects.{defect_of};
@@ -25,4 +26,13 @@ pub(crate) fn read_u64(cur: &mut Cur) -> Result<u64, MetaError>
 {
     let lost = MetaError::Defect(fault(BAD_FRAME, cur.place()));
     cur.u64le().map_err(|_| lost)
+}
+
+#[tactic(auto, unfolding(nt_format::specs::Strings::string_at))]
+pub(crate) fn read_text<'a>(cur: &mut Cur<'a>) -> Result<&'a [u8], MetaError>
+    ensures { Answers (λ text. (text.now, cur.new)) defect_of result (placed (string_at cur.old)) }
+{
+    let lost = MetaError::Defect(fault(BAD_FRAME, cur.place()));
+    let size = cur.u32le().map_err(|_| lost)?;
+    cur.bytes(size as usize).map_err(|_| lost)
 }
