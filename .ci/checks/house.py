@@ -3,7 +3,7 @@
 - Each crate of crates.txt has a row in the table of docs/ARCHITECTURE.md with a layer, and its root file begins with `//!`.
 - A crate stands on crates of its own layer or of a lower one.
 - Each path that a document names is there.
-- No name of a definition stands in the specs of two crates, but for those of SHARED and STILL_SHARED; the latter only shrinks.
+- No name of a definition stands in the specs of two crates, but for those of SHARED.
 - Bodies of functions over 40 lines and files over 250 are named; they are no failure.
 """
 import collections
@@ -14,9 +14,8 @@ import sys
 
 LAYERS = ["definitions", "codecs", "data", "plans", "threads", "whole files", "program"]
 
-# Names that several crates may define: those of a type's own model, and those that are still to be told apart.
+# Names that several crates may define: those of a type's own model.
 SHARED = set("state_of".split())
-STILL_SHARED = set()
 
 # The file of one field, which goes once the program stands on the container, the page lists and the reader.
 SCAFFOLD = "crates/nt_onefield/specs/"
@@ -104,7 +103,7 @@ def check_names(files):
             if found and found.group(1) not in ("use", "mod", "mutual"):
                 places[found.group(1)].add(inside.group(1))
     for name, crates in sorted(places.items()):
-        if len(crates) > 1 and name not in SHARED | STILL_SHARED:
+        if len(crates) > 1 and name not in SHARED:
             yield f"specs: {name} is defined in {', '.join(sorted(crates))}"
 
 
