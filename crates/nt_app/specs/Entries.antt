@@ -1,15 +1,15 @@
 -- What a command `entries` does to a host, by its answer.
-use Rattle.std.specs.Prelude.{◌≡◌, ◌≢◌, ◌⊎◌, ℕ, ◌≤◌, List, [], ◌∷◌, ◌++◌, length, take, slice_index, codes, Option, Some}
+use Rattle.std.specs.Prelude.{◌≡◌, ◌≢◌, ◌⊎◌, ℕ, ◌≤◌, List, [], ◌∷◌, ◌++◌, length, take, slice_index, codes, Option, Some, Result, OnOk, OnErr}
 use Rattle.nt_num.specs.declared.fault.ReadError.{ReadError}
 use Rattle.nt_outside.specs.declared.fault.Refused.{Refused}
 use Rattle.nt_outside.specs.declared.fault.Refused.TheVariants as refused
 use Rattle.nt_outside.specs.declared.stream.Stream.TheVariants.{ToOut}
 use Rattle.nt_outside.specs.Faults.{Rose}
-use Rattle.nt_outside.specs.World.{World, File, HostState, file, prints}
+use Rattle.nt_outside.specs.World.{World, Asked, File, HostState, file, prints}
 use Rattle.nt_onefield.specs.PlainFile.{IsPlainFile}
 use Rattle.nt_app.specs.Events.{event_lines}
 use Rattle.nt_app.specs.Writing.{IsUnfinished}
-use Rattle.nt_app.specs.Stops.{IsThereWith}
+use Rattle.nt_app.specs.Stops.{IsThereWith, AsksFirst}
 use Rattle.nt_app.specs.Writes.{KeepsFiles, AsksAsDone}
 use Rattle.nt_app.specs.declared.verdict.Verdict.{Verdict}
 use Rattle.nt_app.specs.declared.verdict.Verdict.TheVariants.{Numbers, Fault}
@@ -19,6 +19,11 @@ use Rattle.nt_app.specs.declared.status.Status.TheVariants as status
 -- a file that isn't ROOT's: it has another first byte, or four bytes that aren't `root`
 abbrev pub IsNotRoot : List ℕ → Type 0
 IsNotRoot bytes = (slice_index bytes 0 ≢ 0x72) ⊎ ((4 ≤ length bytes) × (take 4 bytes ≢ codes "root"))
+
+-- an object was asked for; before a refusal, maybe not
+pub record AsksOne {T : Type 0} (object : Asked) (old new : List Asked) (result : Result T Refused) : Type 0 where
+  pub ok : OnOk result (new ≡ old ++ object ∷ [])
+  pub err : OnErr result (AsksFirst (object ∷ []) old new)
 
 -- a file of no numbers
 abbrev pub IsNoPlainFile : List ℕ → Type 0

@@ -1,7 +1,9 @@
 -- Why the writing of a file ended early, and what that says of the outside and of the texts.
-use Rattle.std.specs.Prelude.{◌≡◌, ℕ, ◌≤◌, List, ◌++◌, take, Option, Some, None, Result, Ok, Err, IsErrOf}
+use Rattle.std.specs.Prelude.{◌≡◌, ◌⊎◌, ℕ, ◌-◌, ◌<◌, ◌≤◌, List, ◌++◌, take, Option, Some, None, Result, Ok, Err, IfOk, IsErrOf, Vec, vec_len}
+use Rattle.std.specs.Result.{result_map_both}
+use Rattle.std.specs.declared.alloc.Global.{Global}
 use Rattle.nt_outside.specs.Faults.{Rose}
-use Rattle.nt_outside.specs.World.{Asked}
+use Rattle.nt_outside.specs.World.{Asked, HostState}
 use Rattle.nt_outside.specs.declared.fault.Refused.{Refused}
 use Rattle.nt_outside.specs.declared.fault.Refused.TheVariants as refused
 use Rattle.nt_app.specs.declared.status.Status.{Status}
@@ -28,6 +30,29 @@ AsksFor objects old new (Err e) = AsksFirst objects old new
 pub record StopsWithCause {T : Type 0} (before now : ℕ) (result : Result T Stop) : Type 0 where
   pub later : before ≤ now
   pub failed : IsErrOf result stop.Outside → Rose before now
+
+-- two counts of faults never fall, and one of them rose where the outside failed
+pub record StopsWithEither {T : Type 0} (one one' other other' : ℕ) (result : Result T Stop) : Type 0 where
+  pub later : one ≤ one'
+  pub other_later : other ≤ other'
+  pub failed : IsErrOf result stop.Outside → Rose one one' ⊎ Rose other other'
+
+-- what was opened came back, and no print on err failed
+pub record IsBalanced (old new : HostState) : Type 0 where
+  pub err_faults : new.err_faults ≡ old.err_faults
+  pub opened : new.opened ≡ old.opened
+
+-- the same, and nothing was asked for
+pub record AsksNothing (old new : HostState) : Type 0 where
+  pub asked : new.asked ≡ old.asked
+  pub err_faults : new.err_faults ≡ old.err_faults
+  pub opened : new.opened ≡ old.opened
+
+-- nothing was asked for, and one object that was out came back
+pub record TakesOneBack (old new : HostState) : Type 0 where
+  pub asked : new.asked ≡ old.asked
+  pub err_faults : new.err_faults ≡ old.err_faults
+  pub opened : new.opened ≡ old.opened - 1
 
 -- a text that is there and has this
 abbrev pub IsThereWith : (List ℕ → Type 0) → Option (List ℕ) → Type 0
@@ -79,3 +104,9 @@ abbrev pub status_of : Option ℕ → Stop → Status
 status_of input stop.Outside = status.Outside
 status_of input (stop.Text line kind) = status.Text input line kind
 status_of input stop.Memory = status.Memory
+
+-- an input was read: it has 1 to 30 numbers, and it is that of them, or why it isn't
+pub record ReadsInput (text : Option (List ℕ)) (result : Result (Vec ℕ Global) Stop) : Type 0 where
+  pub some : IfOk result (λ numbers. 0 < vec_len numbers)
+  pub few : IfOk result (λ numbers. vec_len numbers ≤ 30)
+  pub told : (t : List ℕ) → text ≡ Some t → TellsEvents (Some t) (result_map_both (λ numbers. numbers.items) (λ e. e) result)

@@ -1,8 +1,9 @@
 -- A file as it grows on a disk. Its first byte is 0 until all the rest stays.
-use Rattle.std.specs.Prelude.{◌≡◌, ◌⊎◌, ℕ, List, [], ◌∷◌, ◌++◌, replicate, Option, Some}
+use Rattle.std.specs.Prelude.{◌≡◌, ◌⊎◌, ℕ, List, [], ◌∷◌, ◌++◌, replicate, Option, Some, Result, OnOk}
 use Rattle.nt_lists.specs.Places.{put_at}
 use Rattle.nt_outside.specs.Log.{FailedAppend}
 use Rattle.nt_outside.specs.Held.{Held, BecomesSome}
+use Rattle.nt_outside.specs.Disk.{DiskState}
 use Rattle.nt_outside.specs.Order.{FirstByteLast}
 use Rattle.nt_app.specs.declared.stop.Stop.{Stop}
 use Rattle.nt_app.specs.declared.stop.Stop.TheVariants as stop
@@ -37,6 +38,16 @@ Leaves old new P = (h : Held) → old ≡ Some h → (h' : Held) × (new ≡ Som
 -- the same, where what was held had something too
 abbrev pub Keeps : Option Held → Option Held → (List ℕ → Type 0) → (List ℕ → Type 0) → Type 0
 Keeps old new P Q = (h : Held) → old ≡ Some h → P h.image → (h' : Held) × (new ≡ Some h') × Q h'.image
+
+-- the disk ends here on Ok, and its ranges stay
+pub record EndsAt {V E : Type 0} (end : ℕ) (old new : DiskState) (result : Result V E) : Type 0 where
+  pub end_is : OnOk result (new.end ≡ end)
+  pub out : new.out ≡ old.out
+
+-- on Ok the file is begun
+pub record BeginsFile {V E : Type 0} (old new : DiskState) (result : Result V E) : Type 0 where
+  pub begun : OnOk result (Leaves old.held new.held (λ h. h.image ≡ file_begun))
+  pub place : EndsAt 445 old new result
 
 -- steps that were in order still are: the first byte is written over only right behind a sync
 abbrev pub KeepsOrder : Option Held → Option Held → Type 0

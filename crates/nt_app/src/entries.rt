@@ -8,9 +8,9 @@ ghost use Rattle.nt_outside.specs.Source.{IsFrontOf, TakesFront};
 ghost use Rattle.nt_outside.specs.World.{World, Turns, File as asked_file, file, prints, PrintsFront};
 ghost use Rattle.nt_app.specs.Events.{event_lines};
 ghost use Rattle.nt_app.specs.Writing.{IsUnfinished};
-ghost use Rattle.nt_app.specs.Stops.{AsksFirst, IsThereWith};
+ghost use Rattle.nt_app.specs.Stops.{AsksNothing, IsBalanced, IsThereWith};
 ghost use Rattle.nt_app.specs.declared.status.Status.TheVariants as status;
-ghost use Rattle.nt_app.specs.Entries.{IsNotRoot, Judges, fault_at_start, status_of_refusal, ListTold, ListsFile};
+ghost use Rattle.nt_app.specs.Entries.{AsksOne, IsNotRoot, Judges, fault_at_start, status_of_refusal, ListTold, ListsFile};
 
 use crate::status::Status;
 use crate::verdict::Verdict;
@@ -81,11 +81,9 @@ fn read_start<F: ReadAt>(alloc: Global, file: &mut F, most: usize) -> Result<Vec
 fn read_file<H: Host>(alloc: Global, host: &mut H, name: &str) -> Result<Vec<u8>, Refused>
     ensures front { IfOk result (λ bytes. (w : World) → (H.state host.old).world ≡ Some w → IsThereWith (λ whole. IsFrontOf 1361 bytes.items whole) (file w name.now)) }
     ensures world { (H.state host.new).world ≡ (H.state host.old).world }
-    ensures asked_ok { OnOk result ((H.state host.new).asked ≡ (H.state host.old).asked ++ asked_file name.now ∷ []) }
-    ensures asked_err { OnErr result (AsksFirst (asked_file name.now ∷ []) (H.state host.old).asked (H.state host.new).asked) }
+    ensures asked { AsksOne (asked_file name.now) (H.state host.old).asked (H.state host.new).asked result }
     ensures cause { RoseOnFailed (H.state host.old).faults (H.state host.new).faults result }
-    ensures err_faults { (H.state host.new).err_faults ≡ (H.state host.old).err_faults }
-    ensures opened { (H.state host.new).opened ≡ (H.state host.old).opened }
+    ensures balanced { IsBalanced (H.state host.old) (H.state host.new) }
 {
     let mut file = host.open_file(name)?;
     let read = read_start(alloc, &mut file, MOST_OF_FILE);
@@ -129,10 +127,8 @@ fn print_events<H: Host>(alloc: Global, host: &mut H, numbers: &[u64]) -> Result
     ensures ok { OnOk result (Turns (H.state host.old).world (H.state host.new).world (prints stream.ToOut (event_lines numbers.now))) }
     ensures front { PrintsFront stream.ToOut (event_lines numbers.now) (H.state host.old).world (H.state host.new).world }
     ensures memory { IsErrOf result refused.Memory → (H.state host.new).world ≡ (H.state host.old).world }
-    ensures asked { (H.state host.new).asked ≡ (H.state host.old).asked }
     ensures cause { RoseOnFailed (H.state host.old).faults (H.state host.new).faults result }
-    ensures err_faults { (H.state host.new).err_faults ≡ (H.state host.old).err_faults }
-    ensures opened { (H.state host.new).opened ≡ (H.state host.old).opened }
+    ensures rest { AsksNothing (H.state host.old) (H.state host.new) }
 {
     let lines = lines_of(alloc, numbers)?;
     print_all(host, Stream::ToOut, &lines)?;
@@ -152,12 +148,10 @@ fn status_of_refusal(refused: Refused) -> Status
 /// Lists the events of a file whose start was read.
 fn list<H: Host>(alloc: Global, host: &mut H, start: &[u8]) -> Status
     ensures told { (w : World) → (H.state host.old).world ≡ Some w → ListTold start.now w (H.state host.new).world result }
-    ensures asked { (H.state host.new).asked ≡ (H.state host.old).asked }
     ensures later { (H.state host.old).faults ≤ (H.state host.new).faults }
     ensures command { result ≡ status.Usage → ⊥ }
     ensures failed { result ≡ status.Outside → Rose (H.state host.old).faults (H.state host.new).faults }
-    ensures err_faults { (H.state host.new).err_faults ≡ (H.state host.old).err_faults }
-    ensures opened { (H.state host.new).opened ≡ (H.state host.old).opened }
+    ensures rest { AsksNothing (H.state host.old) (H.state host.new) }
 {
     match judge(alloc, start) {
         Ok(Verdict::Numbers(numbers)) => match print_events(alloc, host, &numbers) {

@@ -6,7 +6,7 @@ ghost use Rattle.nt_outside.specs.World.{World, Text as asked_text, file};
 ghost use Rattle.nt_types.specs.Views.{member_view, members_view};
 ghost use Rattle.nt_app.specs.Schemas.{x_of_u64};
 ghost use Rattle.nt_app.specs.Events.{IsEventText};
-ghost use Rattle.nt_app.specs.Stops.{AsksFor, StopsWithCause, TellsSchema, TellsFields, TellsEvents};
+ghost use Rattle.nt_app.specs.Stops.{AsksFor, StopsWithCause, IsBalanced, TellsSchema, TellsFields, ReadsInput};
 
 use crate::events::read_events;
 use crate::status::TextFault;
@@ -65,8 +65,7 @@ pub fn check_schema<H: Host>(alloc: Global, host: &mut H, name: &str) -> Result<
     ensures world { (H.state host.new).world ≡ (H.state host.old).world }
     ensures told { (w : World) → (H.state host.old).world ≡ Some w → TellsSchema (file w name.now) result }
     ensures cause { StopsWithCause (H.state host.old).faults (H.state host.new).faults result }
-    ensures err_faults { (H.state host.new).err_faults ≡ (H.state host.old).err_faults }
-    ensures opened { (H.state host.new).opened ≡ (H.state host.old).opened }
+    ensures balanced { IsBalanced (H.state host.old) (H.state host.new) }
 {
     let mut text = host.open_text(name)?;
     let read = read_front(alloc, &mut text, MOST_OF_SCHEMA);
@@ -77,9 +76,7 @@ pub fn check_schema<H: Host>(alloc: Global, host: &mut H, name: &str) -> Result<
 
 /// Reads the numbers of an event text.
 pub fn read_input<S: Source>(alloc: Global, text: &mut S) -> Result<Vec<u64>, Stop>
-    ensures some { IfOk result (λ numbers. 0 < vec_len numbers) }
-    ensures few { IfOk result (λ numbers. vec_len numbers ≤ 30) }
-    ensures told { (t : List ℕ) → (S.state text.old).left ≡ Some t → TellsEvents (Some t) (result_map_both (λ numbers. numbers.items) (λ e. e) result) }
+    ensures input { ReadsInput (S.state text.old).left result }
     ensures cause { StopsWithCause (S.state text.old).faults (S.state text.new).faults result }
 {
     let bytes = read_front(alloc, text, MOST_OF_EVENTS)?;

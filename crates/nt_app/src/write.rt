@@ -6,8 +6,8 @@ ghost use Rattle.nt_outside.specs.Faults.{Rose};
 ghost use Rattle.nt_outside.specs.Held.{Held, WhereHeld, nothing_held};
 ghost use Rattle.nt_outside.specs.World.{World, Text as asked_text, Out as asked_out};
 ghost use Rattle.nt_app.specs.declared.stop.Stop.TheVariants as stop;
-ghost use Rattle.nt_app.specs.Stops.{TellsEvents, AsksFor, StopsWithCause};
-ghost use Rattle.nt_app.specs.Writing.{file_begun, Leaves, LeftBy, KeepsOrder};
+ghost use Rattle.nt_app.specs.Stops.{AsksFor, AsksNothing, IsBalanced, TakesOneBack, ReadsInput, StopsWithCause, StopsWithEither};
+ghost use Rattle.nt_app.specs.Writing.{file_begun, BeginsFile, Leaves, LeftBy, KeepsOrder};
 ghost use Rattle.nt_app.specs.Writes.{NumbersTold, FileTold, OthersStay, OutTold, WritesInOrder, WritesFile};
 
 use crate::status::Status;
@@ -25,17 +25,11 @@ fn begin_and_read<D: Disk, S: Source>(
 ) -> Result<Vec<u64>, Stop>
     requires empty { WhereHeld (D.state disk.old).held (λ h. h ≡ nothing_held) }
     requires end { (D.state disk.old).end ≡ 0 }
-    ensures begun { OnOk result (Leaves (D.state disk.old).held (D.state disk.new).held (λ h. h.image ≡ file_begun)) }
+    ensures begun { BeginsFile (D.state disk.old) (D.state disk.new) result }
     ensures left { IfErr result (λ e. Leaves (D.state disk.old).held (D.state disk.new).held (LeftBy e)) }
     ensures order { KeepsOrder (D.state disk.old).held (D.state disk.new).held }
-    ensures end { OnOk result ((D.state disk.new).end ≡ 445) }
-    ensures out { (D.state disk.new).out ≡ (D.state disk.old).out }
-    ensures some { IfOk result (λ numbers. 0 < vec_len numbers) }
-    ensures few { IfOk result (λ numbers. vec_len numbers ≤ 30) }
-    ensures told { (t : List ℕ) → (S.state text.old).left ≡ Some t → TellsEvents (Some t) (result_map_both (λ numbers. numbers.items) (λ e. e) result) }
-    ensures disk_later { (D.state disk.old).faults ≤ (D.state disk.new).faults }
-    ensures text_later { (S.state text.old).faults ≤ (S.state text.new).faults }
-    ensures cause { IsErrOf result stop.Outside → Rose (D.state disk.old).faults (D.state disk.new).faults ⊎ Rose (S.state text.old).faults (S.state text.new).faults }
+    ensures input { ReadsInput (S.state text.old).left result }
+    ensures cause { StopsWithEither (D.state disk.old).faults (D.state disk.new).faults (S.state text.old).faults (S.state text.new).faults result }
 {
     begin(alloc, disk)?;
     read_input(alloc, text)
@@ -55,12 +49,8 @@ fn write_numbers<H: Host, G: Gate>(
     requires out { (H.Out.state disk.old).out ≡ [] }
     ensures told { (w : World) (h : Held) → (H.state host.old).world ≡ Some w → (H.Out.state disk.old).held ≡ Some h → h.image ≡ file_begun → NumbersTold numbers.now w (H.state host.new).world (H.Out.state disk.new).held result }
     ensures order { KeepsOrder (H.Out.state disk.old).held (H.Out.state disk.new).held }
-    ensures asked { (H.state host.new).asked ≡ (H.state host.old).asked }
-    ensures disk_later { (H.Out.state disk.old).faults ≤ (H.Out.state disk.new).faults }
-    ensures later { (H.state host.old).faults ≤ (H.state host.new).faults }
-    ensures cause { IsErrOf result stop.Outside → Rose (H.Out.state disk.old).faults (H.Out.state disk.new).faults ⊎ Rose (H.state host.old).faults (H.state host.new).faults }
-    ensures err_faults { (H.state host.new).err_faults ≡ (H.state host.old).err_faults }
-    ensures opened { (H.state host.new).opened ≡ (H.state host.old).opened }
+    ensures cause { StopsWithEither (H.Out.state disk.old).faults (H.Out.state disk.new).faults (H.state host.old).faults (H.state host.new).faults result }
+    ensures rest { AsksNothing (H.state host.old) (H.state host.new) }
 {
     append_cluster(alloc, disk, numbers, gate)?;
     print_all(host, Stream::ToOut, b"order 0\n")?;
@@ -82,12 +72,8 @@ fn write_file<H: Host, G: Gate>(
     requires text { (H.Text.state text).faults ≡ 0 }
     ensures told { (w : World) (t : List ℕ) → (H.state host.old).world ≡ Some w → (H.Text.state text).left ≡ Some t → (H.Out.state disk.old).held ≡ Some nothing_held → FileTold t w (H.state host.new).world (H.Out.state disk.new).held result }
     ensures order { KeepsOrder (H.Out.state disk.old).held (H.Out.state disk.new).held }
-    ensures asked { (H.state host.new).asked ≡ (H.state host.old).asked }
-    ensures disk_later { (H.Out.state disk.old).faults ≤ (H.Out.state disk.new).faults }
-    ensures later { (H.state host.old).faults ≤ (H.state host.new).faults }
-    ensures cause { IsErrOf result stop.Outside → Rose (H.Out.state disk.old).faults (H.Out.state disk.new).faults ⊎ Rose (H.state host.old).faults (H.state host.new).faults }
-    ensures err_faults { (H.state host.new).err_faults ≡ (H.state host.old).err_faults }
-    ensures opened { (H.state host.new).opened ≡ (H.state host.old).opened - 1 }
+    ensures cause { StopsWithEither (H.Out.state disk.old).faults (H.Out.state disk.new).faults (H.state host.old).faults (H.state host.new).faults result }
+    ensures rest { TakesOneBack (H.state host.old) (H.state host.new) }
 {
     let mut text = text;
     let read = begin_and_read(alloc, disk, &mut text);
@@ -110,8 +96,7 @@ fn write_out<H: Host, G: Gate>(
     ensures order { WritesInOrder out.now (H.state host.old).world (H.state host.new).world }
     ensures asked { AsksFor (asked_text input.now ∷ asked_out out.now ∷ []) (H.state host.old).asked (H.state host.new).asked result }
     ensures cause { StopsWithCause (H.state host.old).faults (H.state host.new).faults result }
-    ensures err_faults { (H.state host.new).err_faults ≡ (H.state host.old).err_faults }
-    ensures opened { (H.state host.new).opened ≡ (H.state host.old).opened }
+    ensures balanced { IsBalanced (H.state host.old) (H.state host.new) }
 {
     let text = host.open_text(input)?;
     match host.create(out) {

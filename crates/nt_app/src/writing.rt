@@ -6,7 +6,7 @@ ghost use Rattle.nt_outside.specs.Faults.{HasCause, RoseOnFailed};
 ghost use Rattle.nt_outside.specs.Held.{WhereHeld, BecomesSome, nothing_held};
 ghost use Rattle.nt_onefield.specs.Cluster.{cluster_blob};
 ghost use Rattle.nt_onefield.specs.PlainFile.{plain_file};
-ghost use Rattle.nt_app.specs.Writing.{blank, file_begun, gathered, IsUnfinished, NeverBegan, Leaves, Keeps, KeepsOrder, finished, BeginsWithZero};
+ghost use Rattle.nt_app.specs.Writing.{blank, file_begun, gathered, IsUnfinished, NeverBegan, Leaves, Keeps, KeepsOrder, BeginsFile, EndsAt, finished, BeginsWithZero};
 
 use nt_onefield::{cluster_blob, front, header_blob, tail};
 use nt_outside::{Disk, Failed, Gate, Point, Refused};
@@ -24,12 +24,10 @@ fn blank() -> [u8; 226]
 pub fn begin<D: Disk>(alloc: Global, disk: &mut D) -> Result<(), Refused>
     requires empty { WhereHeld (D.state disk.old).held (λ h. h ≡ nothing_held) }
     requires end { (D.state disk.old).end ≡ 0 }
-    ensures begun { OnOk result (Leaves (D.state disk.old).held (D.state disk.new).held (λ h. h.image ≡ file_begun)) }
+    ensures begun { BeginsFile (D.state disk.old) (D.state disk.new) result }
     ensures left { Leaves (D.state disk.old).held (D.state disk.new).held (λ h. IsUnfinished h.image ⊎ NeverBegan h) }
     ensures memory { IsErrOf result refused.Memory → Leaves (D.state disk.old).held (D.state disk.new).held (λ h. IsUnfinished h.image) }
     ensures order { KeepsOrder (D.state disk.old).held (D.state disk.new).held }
-    ensures end { OnOk result ((D.state disk.new).end ≡ 445) }
-    ensures out { (D.state disk.new).out ≡ (D.state disk.old).out }
     ensures cause { RoseOnFailed (D.state disk.old).faults (D.state disk.new).faults result }
 {
     let header = header_blob(alloc)?;
@@ -52,8 +50,7 @@ pub fn append_cluster<D: Disk, G: Gate>(
     ensures gathered { OnOk result (Keeps (D.state disk.old).held (D.state disk.new).held (λ b. b ≡ file_begun) (λ b. b ≡ gathered numbers.now)) }
     ensures left { Keeps (D.state disk.old).held (D.state disk.new).held (λ b. b ≡ file_begun) IsUnfinished }
     ensures order { KeepsOrder (D.state disk.old).held (D.state disk.new).held }
-    ensures end { OnOk result ((D.state disk.new).end ≡ 495 + 8 * length numbers.now) }
-    ensures out { (D.state disk.new).out ≡ (D.state disk.old).out }
+    ensures place { EndsAt (495 + 8 * length numbers.now) (D.state disk.old) (D.state disk.new) result }
     ensures cause { RoseOnFailed (D.state disk.old).faults (D.state disk.new).faults result }
 {
     let cluster = cluster_blob(alloc, numbers)?;

@@ -12,8 +12,8 @@ returns-in-Ok-write_out g c = record {
   asked = asks_three _ _ _ _ _ _ c.in-Ok.ensures.asked c.in-Ok-write_out.ensures.asked;
   later = omega (arith, c.check_schema.ensures.cause.later, c.write_out.ensures.cause.later);
   failed = λ outside. absurd (cc);
-  err_faults = c.write_out.ensures.err_faults ∙ c.check_schema.ensures.err_faults;
-  opened = c.write_out.ensures.opened ∙ c.check_schema.ensures.opened;
+  err_faults = c.write_out.ensures.balanced.err_faults ∙ c.check_schema.ensures.balanced.err_faults;
+  opened = c.write_out.ensures.balanced.opened ∙ c.check_schema.ensures.balanced.opened;
 }
 
 pub returns-in-Err-write_out : goal.returns-in-Err-write_out
@@ -27,8 +27,8 @@ returns-in-Err-write_out g c = record {
   failed = λ outside.
       let rose = c.in-Err-write_out.ensures.cause.failed (outside_of _ _ c.in-Err-write_out.stop _ c.status.ensures outside) in
       omega (arith, rose, c.check_schema.ensures.cause.later);
-  err_faults = c.write_out.ensures.err_faults ∙ c.check_schema.ensures.err_faults;
-  opened = c.write_out.ensures.opened ∙ c.check_schema.ensures.opened;
+  err_faults = c.write_out.ensures.balanced.err_faults ∙ c.check_schema.ensures.balanced.err_faults;
+  opened = c.write_out.ensures.balanced.opened ∙ c.check_schema.ensures.balanced.opened;
 }
 
 pub returns-in-Err : goal.returns-in-Err
@@ -38,6 +38,6 @@ returns-in-Err g c = record {
   asked = asks_stopped _ c.in-Err.stop _ _ _ _ c.status-in-Err.ensures (asks_only _ _ _ _ c.in-Err.ensures.asked);
   later = omega (arith, c.check_schema.ensures.cause.later);
   failed = λ outside. c.in-Err.ensures.cause.failed (outside_of _ _ c.in-Err.stop _ c.status-in-Err.ensures outside);
-  err_faults = c.check_schema.ensures.err_faults;
-  opened = c.check_schema.ensures.opened;
+  err_faults = c.check_schema.ensures.balanced.err_faults;
+  opened = c.check_schema.ensures.balanced.opened;
 }

@@ -7,9 +7,9 @@ use Rattle.nt_app.proofs.write.write_file.Goals as goal
 
 pub returns-in-Ok-clause-told : goal.returns-in-Ok-clause-told
 returns-in-Ok-clause-told g c w text is left held =
-    let begun = c.in-Ok.ensures.begun nothing_held held in
+    let begun = c.in-Ok.ensures.begun.begun nothing_held held in
     let are : IsEventText text c.deref.result.now =
-    subst (λ (l : List ℕ). IsEventText text l) (sym c.deref.ensures.value) (c.in-Ok.ensures.told text left) in
+    subst (λ (l : List ℕ). IsEventText text l) (sym c.deref.ensures.value) (c.in-Ok.ensures.input.told text left) in
     file_told _ _ text w _ _ are (c.write_numbers.ensures.told w begun.0 (c.put_text.ensures.world ∙ is) begun.1 begun.2)
 
 pub returns-in-Ok-clause-order : goal.returns-in-Ok-clause-order

@@ -22,7 +22,7 @@ returns-in-Ok-clause-told g c w is =
 
 pub returns-in-Ok-clause-asked : goal.returns-in-Ok-clause-asked
 returns-in-Ok-clause-asked g c =
-    asks_two _ _ _ _ _ _ _ c.in_ok-text.ensures.opens.asks.ok c.in-Ok.ensures.creates.asks.ok (c.put_disk.ensures.back.asked ∙ c.write_file-written.ensures.asked)
+    asks_two _ _ _ _ _ _ _ c.in_ok-text.ensures.opens.asks.ok c.in-Ok.ensures.creates.asks.ok (c.put_disk.ensures.back.asked ∙ c.write_file-written.ensures.rest.asked)
 
 pub returns-in-Err-clause-told : goal.returns-in-Err-clause-told
 returns-in-Err-clause-told g c w is = (

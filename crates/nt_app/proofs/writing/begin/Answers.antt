@@ -1,4 +1,4 @@
-use Rattle.std.proofs.Common.{◌∙◌, ap, inl, refl, ℕ, List, [], ◌∷◌, ◌++◌, Some}
+use Rattle.std.proofs.Common.{◌∙◌, ap, inl, refl, rules, ℕ, List, [], ◌∷◌, ◌++◌, Some}
 use Rattle.nt_outside.specs.Log.{Append}
 use Rattle.nt_outside.specs.Held.{Held, nothing_held}
 use Rattle.nt_app.specs.Writing.{blank}
@@ -22,11 +22,14 @@ returns-in_err-sync-clause-left g c h is =
     (_, c.in_err-sync.ensures.err ∙ at_header, inl (unfinished_append c.blank.result _ _ (blank-begins _ c.blank.ensures) refl))
 
 pub returns-clause-begun : goal.returns-clause-begun
-returns-clause-begun g c h is =
-    let at_room = c.in_ok-room.ensures.held ∙ is ∙ ap (λ (k : Held). Some k) (c.requires.empty h is) in
-    let at_blank = c.in_ok-append.ensures.ok nothing_held at_room in
-    let at_header = c.in_ok-append-2.ensures.ok _ at_blank in
-    (_, c.in_ok-sync.ensures.ok _ at_header, ap (λ (l : List ℕ). l ++ c.deref.result.now) c.blank.ensures ∙ ap (λ (l : List ℕ). blank ++ l) (c.deref.ensures.value ∙ c.in_ok-header.ensures.bytes))
+returns-clause-begun g c = record {
+  begun = λ h is.
+      let at_room = c.in_ok-room.ensures.held ∙ is ∙ ap (λ (k : Held). Some k) (c.requires.empty h is) in
+      let at_blank = c.in_ok-append.ensures.ok nothing_held at_room in
+      let at_header = c.in_ok-append-2.ensures.ok _ at_blank in
+      (_, c.in_ok-sync.ensures.ok _ at_header, ap (λ (l : List ℕ). l ++ c.deref.result.now) c.blank.ensures ∙ ap (λ (l : List ℕ). blank ++ l) (c.deref.ensures.value ∙ c.in_ok-header.ensures.bytes));
+  place = search rules;
+}
 
 pub returns-clause-left : goal.returns-clause-left
 returns-clause-left g c h is =
