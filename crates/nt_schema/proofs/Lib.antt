@@ -2,5 +2,3 @@ pub mod TypeNames
 pub mod RowSteps
 pub mod Appended
 pub mod ByName
-pub mod Grouped
-pub mod OpenFields

@@ -4,21 +4,23 @@
 //!
 //! `describe` makes a `Schema` of fields (folder `describing`); `write_description` and
 //! `read_description` carry one part of it to bytes and back (`writing`, `reading`);
-//! `Schema::shape` says as what values of a field can be read (`shapes`), `Schema::find` finds a
-//! field by name (`by_name`). Start at `schema.rt`. Contracts speak of the definitions of
-//! `nt_grammar`, whose words hold here too; a *schema* is a table of rows together with the names
-//! and shapes that it keeps of them.
+//! `Schema::shape` says as what values of a field can be read, `Schema::plans` where they stand,
+//! `Schema::find` finds a field by name (`by_name`). What is asked for each entry, as plans, the
+//! field of a column or the fields inside one, is kept: no call walks over rows or takes memory.
+//! Start at `schema.rt`. Contracts speak of the definitions of `nt_grammar` and `nt_plans`, whose
+//! words hold here too; a *schema* is a table of rows together with what it keeps of them.
 //!
 //! Proved: `describe` gives the one table of its fields; `write_description` appends exactly the
 //! spelling of the part; `read_description` answers exactly the reading of the bytes, its first
 //! fault included, reads back what was written whatever follows, and adds only rows in range;
-//! `find` and `shape` are the first field of a name and the shape of an open field. Only tested:
-//! vectors of bytes from outside, and that each allocation may fail.
+//! `find` and `shape` are the first field of a name and the shape of an open field; `plans` are those
+//! of all open fields; `is_open_column`, `is_principal`, `top_field`, `children` and `columns_of` are
+//! what rows and plans say of a column or a field. Only tested: vectors of bytes from outside, and
+//! that each allocation may fail.
 //!
 //! Choices that bind nobody else:
-//! - A schema is judged when it is put together, always from all its rows (`Schema::of_rows`), so that its names and shapes belong
-//!   to its rows at every moment; a reader that fails leaves a schema of no rows. Judging visits each field once, with the list of
-//!   those inside it and of its columns, at most 64 levels deep: a hostile description costs no more than its size.
+//! - A schema is judged when it is put together, always from all its rows (`Schema::of_rows`), so that what it keeps belongs
+//!   to its rows at every moment; a reader that fails leaves a schema of no rows.
 //! - Names are found in a map in their order (`BTreeMap`); of equal names the first is kept. A hash map such as `indexmap` was
 //!   tried first: without a source of chance its seed is fixed, and a file whose names were chosen to collide would cost the
 //!   square of its size.
@@ -34,7 +36,6 @@ mod describing;
 mod description_error;
 mod reading;
 mod schema;
-mod shapes;
 mod writing;
 
 pub use describing::describe;

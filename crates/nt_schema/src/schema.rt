@@ -4,12 +4,17 @@ ghost use Rattle.std.specs.Prelude.{◌≡◌, ◌<◌, length, Some, slice_get,
 ghost use Rattle.nt_types.specs.Views.{shape_view};
 ghost use Rattle.nt_grammar.specs.Table.{no_rows, table_of};
 ghost use Rattle.nt_schema.specs.ByName.{find_from};
-ghost use Rattle.nt_grammar.specs.Open.{open_shape};
+ghost use Rattle.nt_grammar.specs.Open.{ids_inside, open_shape};
+ghost use Rattle.nt_plans.specs.Plan.{has_any, plans_of};
+ghost use Rattle.nt_plans.specs.PlanViews.{plans_view};
+ghost use Rattle.nt_plans.specs.Place.{column_ids, open_plans};
+ghost use Rattle.nt_plans.specs.Needs.{is_entries, need_of, top_of};
 ghost use Rattle.nt_schema.specs.Schema.{IsTable};
 
 use crate::by_name::names_of;
-use crate::shapes::shapes_of;
 use nt_grammar::{ColumnRow, FieldRow};
+use nt_open::{OpenFields, judge};
+use nt_plans::Plans;
 use nt_types::Shape;
 use std::alloc::{AllocError, Global};
 use std::collections::BTreeMap;
@@ -26,8 +31,8 @@ pub struct Schema {
     pub(crate) header_columns: u32,
     /// The first field at the top level of each name.
     names: BTreeMap<Vec<u8>, u32>,
-    /// The shape of each field, where it is at the top level and open.
-    shapes: Vec<Option<Shape>>,
+    /// The shapes and plans of open fields, and what belongs to each field and column.
+    kept: OpenFields,
 }
 
 impl Model for Schema {
@@ -35,15 +40,12 @@ impl Model for Schema {
 
     ghost Value = { Table };
 
-    ghost use Rattle.std.specs.Prelude.{map, option_map};
-    ghost use Rattle.nt_types.specs.Views.{shape_view};
     ghost use Rattle.nt_schema.specs.Schema.{IsKept};
 
     ghost view = { λ s. table_of s.fields.items s.columns.items s.header_fields s.header_columns };
 
     ghost invariant = { λ s. IsKept
-        (table_of s.fields.items s.columns.items s.header_fields s.header_columns) s.names
-        (map (option_map shape_view) s.shapes.items) };
+        (table_of s.fields.items s.columns.items s.header_fields s.header_columns) s.names s.kept };
 }
 
 fn shape_at(shapes: &[Option<Shape>], id: usize) -> Option<&Shape>
@@ -67,7 +69,7 @@ impl Schema {
             header_fields: 0,
             header_columns: 0,
             names: BTreeMap::new(alloc),
-            shapes: Vec::new(alloc),
+            kept: OpenFields::new(alloc),
         }
     }
 
@@ -85,14 +87,14 @@ impl Schema {
             ≡ table_of fields.items columns.items header_fields header_columns) }
     {
         let names = names_of(alloc, &fields)?;
-        let shapes = shapes_of(alloc, &fields, &columns)?;
+        let kept = judge(alloc, &fields, &columns)?;
         Ok(Schema {
             fields,
             columns,
             header_fields,
             header_columns,
             names,
-            shapes,
+            kept,
         })
     }
 
@@ -120,7 +122,54 @@ impl Schema {
     pub fn shape(&self, field: u32) -> Option<&Shape>
         ensures { option_map (λ shape. shape_view shape.now) result ≡ open_shape self.now field }
     {
-        shape_at(&self.shapes, field as usize)
+        shape_at(&self.kept.shapes, field as usize)
+    }
+
+    /// The plans of all open fields at the top level, in order.
+    pub fn plans(&self) -> &Plans
+        ensures { plans_of (plans_view result.now) ≡ open_plans self.now }
+    {
+        &self.kept.plans
+    }
+
+    /// Whether a column is of an open field.
+    pub fn is_open_column(&self, column: u32) -> bool
+        requires { column < length self.now.columns }
+        ensures { result ≡ has_any (open_plans self.now) column }
+    {
+        self.kept.is_open(column)
+    }
+
+    /// Whether a column is principal: it is of an open field, and has one element an entry.
+    pub fn is_principal(&self, column: u32) -> bool
+        requires { column < length self.now.columns }
+        ensures { result ≡ is_entries (need_of self.now column) }
+    {
+        self.kept.is_principal(column)
+    }
+
+    /// The open field at the top level that a column is of.
+    pub fn top_field(&self, column: u32) -> Option<u32>
+        requires { column < length self.now.columns }
+        ensures { result ≡ top_of self.now column }
+    {
+        self.kept.top_field(column)
+    }
+
+    /// The ids of the fields directly inside a field, in order.
+    pub fn children(&self, field: u32) -> &[u32]
+        requires { field < length self.now.fields }
+        ensures { result.now ≡ ids_inside field 0 self.now.fields }
+    {
+        self.kept.inside_of(field)
+    }
+
+    /// The ids of the columns of a field, in order.
+    pub fn columns_of(&self, field: u32) -> &[u32]
+        requires { field < length self.now.fields }
+        ensures { result.now ≡ column_ids field 0 self.now.columns }
+    {
+        self.kept.columns_of(field)
     }
 
     /// The number of fields.

@@ -1,0 +1,12 @@
+use Rattle.std.proofs.Common.{◌∙◌}
+use Rattle.nt_grammar.specs.Open.{open_shapes}
+use Rattle.nt_open.proofs.UseLaws.{kept-open}
+use Rattle.nt_schema.proofs.schema.Schema.is_open_column.Goals as goal
+
+pub returns : goal.returns
+returns c =
+    let fs = c.self.inside.fields.items in
+    let cs = c.self.inside.columns.items in
+    rw (← c.self.view_is) (c.is_open.ensures
+    ∙ kept-open fs cs (open_shapes fs cs 0 fs) c.self.inside.kept.uses.items c.args.column c.self.invariant.opened.uses
+    (rw (← c.self.view_is) at c.requires))
