@@ -18,8 +18,10 @@ use std::alloc::{AllocError, Global};
 /// The entry of any line that is not too long.
 fn read_value(alloc: Global, line: &[u8], fields: &Fields) -> Result<Trees, TextError>
     requires { length line.now ≤ max_line }
-    ensures ok { IfOk result (λ ts. entry_of (parts_of (members_view fields.now)) line.now ≡ Ok (trees_of (trees_view ts))) }
-    ensures err { IfErr result (λ e. IsFaultOf (entry_of (parts_of (members_view fields.now)) line.now) e) }
+    ensures ok { IfOk result (λ ts. entry_of (parts_of (members_view fields.now)) line.now ≡ Ok
+        (trees_of (trees_view ts))) }
+    ensures err { IfErr result (λ e. IsFaultOf
+        (entry_of (parts_of (members_view fields.now)) line.now) e) }
 {
     let value = match Value::from_slice(alloc, line) {
         Ok(value) => value,
@@ -47,8 +49,10 @@ fn read_value(alloc: Global, line: &[u8], fields: &Fields) -> Result<Trees, Text
 /// A line as [`crate::write_line`] puts it, or with blanks behind its commas and at its end, is read without a JSON value in
 /// between; so are texts with escapes and beyond ASCII.
 pub fn read_line(alloc: Global, bytes: &[u8], fields: &Fields) -> Result<Trees, TextError>
-    ensures ok { IfOk result (λ ts. entry_of (parts_of (members_view fields.now)) bytes.now ≡ Ok (trees_of (trees_view ts))) }
-    ensures err { IfErr result (λ e. IsFaultOf (entry_of (parts_of (members_view fields.now)) bytes.now) e) }
+    ensures ok { IfOk result (λ ts. entry_of (parts_of (members_view fields.now)) bytes.now ≡ Ok
+        (trees_of (trees_view ts))) }
+    ensures err { IfErr result (λ e. IsFaultOf
+        (entry_of (parts_of (members_view fields.now)) bytes.now) e) }
 {
     if bytes.len() > 1 << 24 {
         return Err(TextError::Kind(TextKind::TooLong));

@@ -21,7 +21,8 @@ fn digit(byte: u8) -> u32
 /// The code unit of four hex digits.
 fn unit(text: &[u8], at: usize) -> Option<u32>
     requires { at + 4 ≤ length text.now }
-    ensures value { result ≡ code_unit (get_or text.now at 0) (get_or text.now (at + 1) 0) (get_or text.now (at + 2) 0) (get_or text.now (at + 3) 0) }
+    ensures value { result ≡ code_unit (get_or text.now at 0) (get_or text.now (at + 1) 0)
+        (get_or text.now (at + 2) 0) (get_or text.now (at + 3) 0) }
     ensures bound { IfSome result (λ n. n < 65536) }
 {
     let (a, b, c, d) = (
@@ -40,7 +41,8 @@ fn unit(text: &[u8], at: usize) -> Option<u32>
 /// The character of two surrogates, behind the first.
 fn pair(text: &[u8], at: usize, high: u32) -> Option<(char, usize)>
     requires { (at ≤ length text.now) × (0xd800 ≤ high) × (high < 0xdc00) }
-    ensures { IfSome result (λ r. EscapeStands (after_high high) in_string (encode_utf8 r.0) text.now at r.1) }
+    ensures { IfSome result (λ r. EscapeStands (after_high high) in_string (encode_utf8 r.0)
+        text.now at r.1) }
 {
     if text.len() - at < 6 || !((text[at] == b'\\') & (text[at + 1] == b'u')) {
         return None;
@@ -56,7 +58,8 @@ fn pair(text: &[u8], at: usize, high: u32) -> Option<(char, usize)>
 /// The character of `\u` and its digits, behind the `u`.
 fn unicode(text: &[u8], at: usize) -> Option<(char, usize)>
     requires { at ≤ length text.now }
-    ensures { IfSome result (λ r. EscapeStands after_u in_string (encode_utf8 r.0) text.now at r.1) }
+    ensures { IfSome result (λ r. EscapeStands after_u in_string (encode_utf8 r.0) text.now at
+        r.1) }
 {
     if text.len() - at < 4 {
         return None;
@@ -88,7 +91,8 @@ fn short(byte: u8) -> Option<u8>
 /// The character that an escape stands for, behind its backslash.
 pub(crate) fn escape(text: &[u8], at: usize) -> Option<(char, usize)>
     requires { at ≤ length text.now }
-    ensures { IfSome result (λ r. EscapeStands after_backslash in_escape (encode_utf8 r.0) text.now at r.1) }
+    ensures { IfSome result (λ r. EscapeStands after_backslash in_escape (encode_utf8 r.0)
+        text.now at r.1) }
 {
     if at == text.len() {
         return None;

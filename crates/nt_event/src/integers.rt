@@ -38,7 +38,8 @@ fn digits(text: &[u8], at: usize) -> (u64, usize)
 
 /// A number of 64 bits and one digit more, where 64 bits hold it.
 fn then_digit(n: u64, byte: u8) -> Option<u64>
-    ensures { IfSome result (λ m. (m ≡ n * 10 + digit_value byte) × (m < 2 ^ 64) × (is_ascii_digit byte ≡ true)) }
+    ensures { IfSome result (λ m. (m ≡ n * 10 + digit_value byte) × (m < 2 ^ 64) ×
+        (is_ascii_digit byte ≡ true)) }
 {
     if !byte.is_ascii_digit() {
         return None;
@@ -64,7 +65,8 @@ pub(crate) fn number(text: &[u8], at: usize) -> Option<(u64, usize)>
 
 /// The largest integer of a width.
 fn most(bits: u8, signed: bool) -> Option<u64>
-    ensures { IfSome result (λ n. (n + 1 ≡ 2 ^ (if signed then bits - 1 else bits)) × (1 ≤ bits) × (bits ≤ 64)) }
+    ensures { IfSome result (λ n. (n + 1 ≡ 2 ^ (if signed then bits - 1 else bits)) × (1 ≤ bits) ×
+        (bits ≤ 64)) }
 {
     match (bits, signed) {
         (8, false) => Some(0xff),
@@ -82,7 +84,8 @@ fn most(bits: u8, signed: bool) -> Option<u64>
 /// An integer of a width, as it is printed.
 pub(crate) fn integer(text: &[u8], at: usize, bits: u8, signed: bool) -> Option<(i128, usize)>
     requires { at ≤ length text.now }
-    ensures spells { IfSome result (λ r. StandsFrom (compact_text (data_of (num r.0))) text.now at r.1) }
+    ensures spells { IfSome result
+        (λ r. StandsFrom (compact_text (data_of (num r.0))) text.now at r.1) }
     ensures fits { IfSome result (λ r. is_int bits signed r.0 ≡ true) }
     ensures range { IfSome result (λ r. InWord r.0) }
 {

@@ -12,5 +12,8 @@ ghost use Rattle.nt_event.specs.Limits.{max_line};
 
 /// The line of an entry, its LF taken off, is that entry: for the fields of a schema text, and a line that is not too long.
 pub fn lines_are_read_back()
-    ensures { (ps : List MemberData) (ts : List TreeData) → AreFields ps → fit_parts (parts_of ps) (trees_of ts) ≡ true → AllHaveBytes (trees_of ts) → length (line_of (trees_of ts)) ≤ max_line → entry_of (parts_of ps) (line_of (trees_of ts)) ≡ Ok (trees_of ts) }
+    ensures { (ps : List MemberData) (ts : List TreeData) → AreFields ps
+        → fit_parts (parts_of ps) (trees_of ts) ≡ true → AllHaveBytes (trees_of ts)
+        → length (line_of (trees_of ts)) ≤ max_line
+        → entry_of (parts_of ps) (line_of (trees_of ts)) ≡ Ok (trees_of ts) }
 {}

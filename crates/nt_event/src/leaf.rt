@@ -105,7 +105,8 @@ pub(crate) fn number(value: &Value, bits: u8, signed: bool) -> Option<Tree>
 
 /// The text that a value is.
 pub(crate) fn text(alloc: Global, value: &Value) -> Result<Option<Tree>, AllocError>
-    ensures { IfOk result (λ found. option_map tree_view found ≡ option_map text (text_read (view value.now))) }
+    ensures { IfOk result (λ found. option_map tree_view found ≡ option_map text
+        (text_read (view value.now))) }
 {
     match bytes(alloc, value)? {
         Some(bytes) => Ok(Some(Tree::Text(Bytes::from_vec(bytes)))),

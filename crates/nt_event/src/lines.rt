@@ -83,7 +83,8 @@ impl<S: Source> LineReader<S> {
 
     /// Before the first line. Without memory the source comes back.
     pub fn new(alloc: Global, source: S) -> Result<LineReader<S>, (S, AllocError)>
-        ensures ok { IfOk result (λ r. lines_state (S.state r.source) r ≡ before_first_line (S.state source)) }
+        ensures ok { IfOk result (λ r. lines_state (S.state r.source) r ≡ before_first_line
+            (S.state source)) }
         ensures err { IfErr result (λ e. e.0 ≡ source) }
     {
         match empty_piece(alloc) {
@@ -107,10 +108,14 @@ impl<S: Source> LineReader<S> {
 
     /// Makes a byte ready, and says whether there is one.
     fn fill(&mut self) -> Result<bool, Failed>
-        ensures same { Keeps (lines_state (S.state self.old.source) self.old).left (lines_state (S.state self.new.source) self.new).left }
-        ensures ready { IfOk result (λ more. MatchBool more (self.new.at < self.new.end) (IsAtEnd (lines_state (S.state self.new.source) self.new).left)) }
+        ensures same { Keeps (lines_state (S.state self.old.source) self.old).left
+            (lines_state (S.state self.new.source) self.new).left }
+        ensures ready { IfOk result
+            (λ more. MatchBool more (self.new.at < self.new.end)
+            (IsAtEnd (lines_state (S.state self.new.source) self.new).left)) }
         ensures number { self.new.number ≡ self.old.number }
-        ensures cause { HasCause (S.state self.old.source).faults (S.state self.new.source).faults result }
+        ensures cause { HasCause (S.state self.old.source).faults (S.state self.new.source).faults
+            result }
     {
         if self.at < self.end {
             return Ok(true);
@@ -125,7 +130,8 @@ impl<S: Source> LineReader<S> {
     fn take_part(&mut self, line: &mut Vec<u8>) -> Result<bool, LineError>
         requires ready { self.old.at < self.old.end }
         requires few { length line.old.items ≤ max_line }
-        ensures part { TakesPart (lines_state (S.state self.old.source) self.old) (lines_state (S.state self.new.source) self.new) line.old.items line.new.items result }
+        ensures part { TakesPart (lines_state (S.state self.old.source) self.old)
+            (lines_state (S.state self.new.source) self.new) line.old.items line.new.items result }
         ensures source { self.new.source ≡ self.old.source }
         ensures number { self.new.number ≡ self.old.number }
     {
@@ -158,7 +164,8 @@ impl<S: Source> LineReader<S> {
     fn numbered(&mut self, bytes: Vec<u8>) -> Line
         requires { self.old.number < max_number }
         ensures line { (result.number ≡ self.old.number + 1) × (result.bytes ≡ bytes.items) }
-        ensures left { (lines_state (S.state self.new.source) self.new).left ≡ (lines_state (S.state self.old.source) self.old).left }
+        ensures left { (lines_state (S.state self.new.source) self.new).left ≡
+            (lines_state (S.state self.old.source) self.old).left }
         ensures number { self.new.number ≡ self.old.number + 1 }
         ensures source { self.new.source ≡ self.old.source }
     {
@@ -171,7 +178,8 @@ impl<S: Source> LineReader<S> {
 
     /// The next line, blank ones too; none at the end. After an error the reader is not asked again.
     pub fn next(&mut self, alloc: Global) -> Result<Option<Line>, LineError>
-        ensures line { GivesLine (lines_state (S.state self.old.source) self.old) (lines_state (S.state self.new.source) self.new) result }
+        ensures line { GivesLine (lines_state (S.state self.old.source) self.old)
+            (lines_state (S.state self.new.source) self.new) result }
         ensures later { (S.state self.old.source).faults ≤ (S.state self.new.source).faults }
     {
         let mut bytes = Vec::new(alloc);

@@ -16,7 +16,8 @@ const LF: u8 = 10;
 
 #[cycle(print)]
 fn put_tree(alloc: Global, tree: &Tree, out: &mut Vec<u8>) -> Result<(), AllocError>
-    ensures ok { OnOk result (out.new.items ≡ out.old.items ++ compact_text (data_of (tree_view tree.now))) }
+    ensures ok { OnOk result (out.new.items ≡ out.old.items ++ compact_text
+        (data_of (tree_view tree.now))) }
     ensures kept { take (length out.old.items) out.new.items ≡ out.old.items }
 {
     match tree {
@@ -57,7 +58,8 @@ fn put_tree(alloc: Global, tree: &Tree, out: &mut Vec<u8>) -> Result<(), AllocEr
 
 #[cycle(print)]
 fn put_items(alloc: Global, list: &[Tree], out: &mut Vec<u8>) -> Result<(), AllocError>
-    ensures ok { OnOk result (out.new.items ≡ out.old.items ++ items_text false (datas_of (trees_of (map tree_view list.now)))) }
+    ensures ok { OnOk result (out.new.items ≡ out.old.items ++ items_text false
+        (datas_of (trees_of (map tree_view list.now)))) }
     ensures kept { take (length out.old.items) out.new.items ≡ out.old.items }
 {
     let mut later = false;
@@ -74,7 +76,8 @@ fn put_items(alloc: Global, list: &[Tree], out: &mut Vec<u8>) -> Result<(), Allo
 
 /// An entry's array and its LF, where memory suffices.
 fn put_line(alloc: Global, trees: &Trees, out: &mut Vec<u8>) -> Result<(), AllocError>
-    ensures ok { OnOk result (out.new.items ≡ out.old.items ++ (line_of (trees_of (trees_view trees.now)) ++ LF ∷ [])) }
+    ensures ok { OnOk result (out.new.items ≡ out.old.items ++
+        (line_of (trees_of (trees_view trees.now)) ++ LF ∷ [])) }
     ensures kept { take (length out.old.items) out.new.items ≡ out.old.items }
 {
     out.push(b'[')?;
@@ -85,7 +88,8 @@ fn put_line(alloc: Global, trees: &Trees, out: &mut Vec<u8>) -> Result<(), Alloc
 
 /// Appends the line of an entry, a JSON array without blanks, and its LF; nothing where memory runs out.
 pub fn write_line(alloc: Global, trees: &Trees, out: &mut Vec<u8>) -> Result<(), AllocError>
-    ensures ok { OnOk result (out.new.items ≡ out.old.items ++ (line_of (trees_of (trees_view trees.now)) ++ LF ∷ [])) }
+    ensures ok { OnOk result (out.new.items ≡ out.old.items ++
+        (line_of (trees_of (trees_view trees.now)) ++ LF ∷ [])) }
     ensures err { OnErr result (out.new.items ≡ out.old.items) }
 {
     let len = out.len();

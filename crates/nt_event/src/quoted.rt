@@ -93,7 +93,8 @@ pub(crate) fn string(
     at: usize,
 ) -> Result<Option<(Vec<u8>, usize)>, AllocError>
     requires { at ≤ length text.now }
-    ensures stands { IfOk result (λ found. IfSome found (λ r. ValueStands (json.string r.0.items) text.now at r.1)) }
+    ensures stands { IfOk result (λ found. IfSome found
+        (λ r. ValueStands (json.string r.0.items) text.now at r.1)) }
     ensures bytes { IfOk result (λ found. IfSome found (λ r. IsBytes r.0.items)) }
 {
     let Some(first) = after(text, at, b'"') else {

@@ -39,7 +39,8 @@ fn value(
     deep: usize,
 ) -> Result<Option<(Tree, usize)>, AllocError>
     requires { at ≤ length text.now }
-    ensures { IfOk result (λ found. IfSome found (λ r. ReadsValue deep (shape_view shape.now) (tree_view r.0) text.now at r.1)) }
+    ensures { IfOk result (λ found. IfSome found
+        (λ r. ReadsValue deep (shape_view shape.now) (tree_view r.0) text.now at r.1)) }
 {
     match shape {
         Shape::List(of) => {
@@ -87,8 +88,10 @@ fn items(
     deep: usize,
 ) -> Result<Option<(Vec<Tree>, usize)>, AllocError>
     requires { at ≤ length text.now }
-    ensures stands { IfOk result (λ found. IfSome found (λ r. ItemsStand (jsons_of (trees_of (map tree_view r.0.items))) text.now at r.1)) }
-    ensures good { IfOk result (λ found. IfSome found (λ r. AllGood deep (shape_view of.now) (map tree_view r.0.items))) }
+    ensures stands { IfOk result (λ found. IfSome found
+        (λ r. ItemsStand (jsons_of (trees_of (map tree_view r.0.items))) text.now at r.1)) }
+    ensures good { IfOk result (λ found. IfSome found
+        (λ r. AllGood deep (shape_view of.now) (map tree_view r.0.items))) }
 {
     let mut list = Vec::new(alloc);
     if let Some(end) = after(text, at, b']') {
@@ -121,8 +124,10 @@ fn each(
     deep: usize,
 ) -> Result<Option<(Vec<Tree>, usize)>, AllocError>
     requires { at ≤ length text.now }
-    ensures stands { IfOk result (λ found. IfSome found (λ r. ItemsStand (jsons_of (trees_of (map tree_view r.0.items))) text.now at r.1)) }
-    ensures good { IfOk result (λ found. IfSome found (λ r. EachGood deep (map shape_view shapes.now) (map tree_view r.0.items))) }
+    ensures stands { IfOk result (λ found. IfSome found
+        (λ r. ItemsStand (jsons_of (trees_of (map tree_view r.0.items))) text.now at r.1)) }
+    ensures good { IfOk result (λ found. IfSome found
+        (λ r. EachGood deep (map shape_view shapes.now) (map tree_view r.0.items))) }
 {
     let mut list = Vec::with_capacity(alloc, shapes.len())?;
     let mut i = at;
@@ -152,8 +157,10 @@ fn each_member(
     deep: usize,
 ) -> Result<Option<(Vec<Tree>, usize)>, AllocError>
     requires { at ≤ length text.now }
-    ensures stands { IfOk result (λ found. IfSome found (λ r. ItemsStand (jsons_of (trees_of (map tree_view r.0.items))) text.now at r.1)) }
-    ensures good { IfOk result (λ found. IfSome found (λ r. EachGood deep (kinds_in (map member_view members.now)) (map tree_view r.0.items))) }
+    ensures stands { IfOk result (λ found. IfSome found
+        (λ r. ItemsStand (jsons_of (trees_of (map tree_view r.0.items))) text.now at r.1)) }
+    ensures good { IfOk result (λ found. IfSome found
+        (λ r. EachGood deep (kinds_in (map member_view members.now)) (map tree_view r.0.items))) }
 {
     let mut list = Vec::with_capacity(alloc, members.len())?;
     let mut i = at;
@@ -183,7 +190,9 @@ fn picked(
     deep: usize,
 ) -> Result<Option<(Tree, usize)>, AllocError>
     requires { at ≤ length text.now }
-    ensures { IfOk result (λ found. IfSome found (λ r. ReadsValue deep (choice (kinds_of (map shape_view shapes.now))) (tree_view r.0) text.now at r.1)) }
+    ensures { IfOk result (λ found. IfSome found
+        (λ r. ReadsValue deep (choice (kinds_of (map shape_view shapes.now))) (tree_view r.0)
+        text.now at r.1)) }
 {
     let Some((first, inside)) = open(text, at, deep) else {
         return Ok(None);
@@ -218,7 +227,8 @@ pub(crate) fn read_written(
     line: &[u8],
     fields: &Fields,
 ) -> Result<Option<Trees>, AllocError>
-    ensures { IfOk result (λ found. IfSome found (λ ts. IsWritten (members_view fields.now) (trees_view ts) line.now)) }
+    ensures { IfOk result (λ found. IfSome found
+        (λ ts. IsWritten (members_view fields.now) (trees_view ts) line.now)) }
 {
     let Some(first) = after(line, 0, b'[') else {
         return Ok(None);

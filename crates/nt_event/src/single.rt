@@ -19,7 +19,8 @@ pub(crate) fn single_value(
     at: usize,
 ) -> Result<Option<(Tree, usize)>, AllocError>
     requires { at ≤ length text.now }
-    ensures { IfOk result (λ found. IfSome found (λ r. ReadsValue 0 (shape_view shape.now) (tree_view r.0) text.now at r.1)) }
+    ensures { IfOk result (λ found. IfSome found
+        (λ r. ReadsValue 0 (shape_view shape.now) (tree_view r.0) text.now at r.1)) }
 {
     match shape {
         Shape::Bool => match truth(text, at) {

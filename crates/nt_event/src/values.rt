@@ -16,7 +16,8 @@ use std::alloc::{AllocError, Global};
 /// The tree that a value is, for a shape.
 #[cycle(tree)]
 fn tree(alloc: Global, shape: &Shape, value: &Value) -> Result<Option<Tree>, AllocError>
-    ensures { IfOk result (λ found. option_map tree_view found ≡ tree_read (shape_view shape.now) (view value.now)) }
+    ensures { IfOk result (λ found. option_map tree_view found ≡ tree_read (shape_view shape.now)
+        (view value.now)) }
 {
     match shape {
         Shape::Bool => Ok(flag(value)),
@@ -56,7 +57,8 @@ fn tree(alloc: Global, shape: &Shape, value: &Value) -> Result<Option<Tree>, All
 
 #[cycle(tree)]
 fn list(alloc: Global, of: &Shape, values: &[Value]) -> Result<Option<Vec<Tree>>, AllocError>
-    ensures { IfOk result (λ found. option_map (λ v. trees_of (map tree_view v.items)) found ≡ all_read (tree_read (shape_view of.now)) (items_view values.now)) }
+    ensures { IfOk result (λ found. option_map (λ v. trees_of (map tree_view v.items)) found ≡
+        all_read (tree_read (shape_view of.now)) (items_view values.now)) }
 {
     let mut trees = Vec::new(alloc);
     for value in values {
@@ -70,7 +72,8 @@ fn list(alloc: Global, of: &Shape, values: &[Value]) -> Result<Option<Vec<Tree>>
 
 #[cycle(tree)]
 fn each(alloc: Global, shapes: &[Shape], values: &[Value]) -> Result<Option<Vec<Tree>>, AllocError>
-    ensures { IfOk result (λ found. option_map (λ v. trees_of (map tree_view v.items)) found ≡ kinds_read (kinds_of (map shape_view shapes.now)) (items_view values.now)) }
+    ensures { IfOk result (λ found. option_map (λ v. trees_of (map tree_view v.items)) found ≡
+        kinds_read (kinds_of (map shape_view shapes.now)) (items_view values.now)) }
 {
     if shapes.len() != values.len() {
         return Ok(None);
@@ -91,7 +94,8 @@ pub(crate) fn each_member(
     members: &[Member],
     values: &[Value],
 ) -> Result<Option<Vec<Tree>>, AllocError>
-    ensures { IfOk result (λ found. option_map (λ v. trees_of (map tree_view v.items)) found ≡ parts_read (parts_of (map member_view members.now)) (items_view values.now)) }
+    ensures { IfOk result (λ found. option_map (λ v. trees_of (map tree_view v.items)) found ≡
+        parts_read (parts_of (map member_view members.now)) (items_view values.now)) }
 {
     if members.len() != values.len() {
         return Ok(None);
@@ -108,7 +112,8 @@ pub(crate) fn each_member(
 
 #[cycle(tree)]
 fn picked(alloc: Global, shapes: &[Shape], values: &[Value]) -> Result<Option<Tree>, AllocError>
-    ensures { IfOk result (λ found. option_map tree_view found ≡ pick_read (one_read (kinds_of (map shape_view shapes.now))) (items_view values.now)) }
+    ensures { IfOk result (λ found. option_map tree_view found ≡ pick_read
+        (one_read (kinds_of (map shape_view shapes.now))) (items_view values.now)) }
 {
     if values.len() != 2 {
         return Ok(None);
@@ -134,7 +139,8 @@ fn picked(alloc: Global, shapes: &[Shape], values: &[Value]) -> Result<Option<Tr
 /// `null`, or a tag and the value of its alternative.
 #[cycle(tree)]
 fn choice(alloc: Global, shapes: &[Shape], value: &Value) -> Result<Option<Tree>, AllocError>
-    ensures { IfOk result (λ found. option_map tree_view found ≡ choice_read (one_read (kinds_of (map shape_view shapes.now))) (view value.now)) }
+    ensures { IfOk result (λ found. option_map tree_view found ≡ choice_read
+        (one_read (kinds_of (map shape_view shapes.now))) (view value.now)) }
 {
     if value.is_null() {
         return Ok(Some(Tree::Nothing));
