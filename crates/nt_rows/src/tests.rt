@@ -4,12 +4,13 @@ mod data;
 mod events;
 mod failing;
 mod files;
+mod gates;
 mod schemas;
 mod words;
 
 use nt_app::{Status, run};
 use nt_memory::MemHost;
-use nt_outside::NoGate;
+use nt_outside::{Gate, NoGate};
 use std::alloc::{AllocError, Global};
 
 /// What a run answered, and what it left.
@@ -27,11 +28,20 @@ fn words_of(alloc: Global, words: &[&str]) -> Result<Vec<String>, AllocError> {
     Ok(list)
 }
 
-fn run_words(alloc: Global, host: MemHost, words: &[&str]) -> Result<Ran, AllocError> {
+fn run_gated<G: Gate>(
+    alloc: Global,
+    host: MemHost,
+    words: &[&str],
+    gate: &G,
+) -> Result<Ran, AllocError> {
     let mut host = host;
     let words = words_of(alloc, words)?;
-    let status = run(&(), alloc, words, &mut host, &NoGate);
+    let status = run(&(), alloc, words, &mut host, gate);
     Ok(Ran { status, host })
+}
+
+fn run_words(alloc: Global, host: MemHost, words: &[&str]) -> Result<Ran, AllocError> {
+    run_gated(alloc, host, words, &NoGate)
 }
 
 /// A run of `write o s a` over these texts.
