@@ -1,0 +1,7 @@
+mod Claimed
+mod Ending
+mod Following
+mod Handed
+mod Holding
+mod Stepping
+mod Telling

@@ -1,0 +1,72 @@
+-- What a commit answers, and what a claim is.
+use Rattle.std.specs.Prelude.{◌≡◌, ℕ, false, true, List, [], ◌∷◌, Option, Some, None, Result, Ok, Err, slice_get}
+use Rattle.nt_outside.specs.Faults.{Rose}
+use Rattle.nt_outside.specs.Held.{Held, WhereHeld}
+use Rattle.nt_outside.specs.Range.{ExtState}
+use Rattle.nt_outside.specs.declared.fault.Refused.{Refused}
+use Rattle.nt_outside.specs.declared.fault.Refused.TheVariants as refused
+use Rattle.nt_machine.specs.declared.entry.Entry.{Entry}
+use Rattle.nt_machine.specs.declared.entry.EntryKind.TheVariants as entry
+use Rattle.nt_machine.specs.History.{Cluster, Out}
+use Rattle.nt_book.specs.declared.limits.LimitError.{LimitError}
+use Rattle.nt_book.specs.declared.limits.LimitError.TheVariants as limit
+use Rattle.nt_book.specs.declared.meta.ClusterMeta.{ClusterMeta}
+use Rattle.nt_book.specs.Entries.{committed_entry, faulted_entry}
+use Rattle.nt_commit.specs.declared.claim.Claim.{Claim}
+use Rattle.nt_commit.specs.declared.error.CommitError.{CommitError}
+use Rattle.nt_commit.specs.declared.error.CommitError.TheVariants.{RangeTooLarge, FileTooLarge, TooManyClusters, Memory, Fault}
+use Rattle.nt_commit.specs.Locked.{place_of}
+
+-- the limit that an error names
+abbrev pub limit_in : CommitError → Option LimitError
+limit_in (RangeTooLarge len most) = Some (limit.RangeTooLarge len most)
+limit_in (FileTooLarge end most) = Some (limit.FileTooLarge end most)
+limit_in TooManyClusters = Some limit.TooManyClusters
+limit_in Memory = None
+limit_in Fault = None
+
+-- the limit that an answer names
+abbrev pub limit_answered : {A : Type 0} → Result A CommitError → Option LimitError
+limit_answered (Ok x) = None
+limit_answered (Err e) = limit_in e
+
+-- a claim of this cluster and range, which holds no bytes yet and will tell them where the disk does
+pub record IsNewClaim {X : Type 0} (tell : X → ExtState) (held : Option Held) (n start len : ℕ) (claim : Claim X) : Type 0 where
+  pub number : claim.cluster ≡ n
+  pub range : (tell claim.ext).range ≡ record { start = start; len = len }
+  pub unfilled : (tell claim.ext).filled ≡ false
+  pub empty : (tell claim.ext).content ≡ None
+  pub tells : WhereHeld held (λ h. (tell claim.ext).tells ≡ true)
+
+-- what a refusal of a context adds to the history: after a fault its count, which rose; else nothing
+abbrev pub RefusalAdds : ℕ → ℕ → ℕ → CommitError → List (Entry ClusterMeta) → Type 0
+RefusalAdds was is context (RangeTooLarge len most) added = added ≡ []
+RefusalAdds was is context (FileTooLarge end most) added = added ≡ []
+RefusalAdds was is context TooManyClusters added = added ≡ []
+RefusalAdds was is context Memory added = added ≡ []
+RefusalAdds was is context Fault added = Rose was is × (added ≡ faulted_entry context is ∷ [])
+
+-- what an answer adds: the one cluster, of which the claim is, or what the refusal does
+abbrev pub CommitAdds : {X : Type 0} → (X → ExtState) → Option Held → ℕ → ℕ → ℕ → ℕ → ClusterMeta → Result (Claim X) CommitError → List (Entry ClusterMeta) → Type 0
+CommitAdds tell held was is n start meta (Ok claim) added = IsNewClaim tell held n start meta.len claim × (added ≡ committed_entry n start meta ∷ [])
+CommitAdds tell held was is n start meta (Err e) added = RefusalAdds was is meta.context e added
+
+-- what the making of a pen adds: after a fault its count, which rose; else nothing
+abbrev pub PenAdds : {P : Type 0} → ℕ → ℕ → ℕ → Result P Refused → List (Entry ClusterMeta) → Type 0
+PenAdds was is context (Ok pen) added = added ≡ []
+PenAdds was is context (Err refused.Memory) added = added ≡ []
+PenAdds was is context (Err refused.Failed) added = Rose was is × (added ≡ faulted_entry context is ∷ [])
+
+-- the claim is of a cluster among these, which is out with this context
+pub record IsClaimOf {M X : Type 0} (tell : X → ExtState) (clusters : List (Cluster M)) (context : ℕ) (claim : Claim X) : Type 0 where
+  pub place : ℕ
+  pub cluster : Cluster M
+  pub at : slice_get clusters place ≡ Some cluster
+  pub own : cluster.context ≡ context
+  pub number : cluster.number ≡ claim.cluster
+  pub out : cluster.state ≡ Out
+  pub range : place_of cluster ≡ (tell claim.ext).range
+
+-- a range was settled with these bytes
+abbrev pub settled_with : ℕ → ℕ → Option (List ℕ) → Entry ClusterMeta
+settled_with context n bytes = record { context = context; kind = entry.Settled n bytes }

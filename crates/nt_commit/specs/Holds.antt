@@ -1,0 +1,151 @@
+-- What each call does to the disk and the book, and what its pass knows of that.
+use Rattle.std.specs.Prelude.{◌≡◌, ℕ, ◌+◌, ◌≤◌, false, List, [], ◌∷◌, ◌++◌, length, Some, Result, Err}
+use mathlib.Core.List.{IsPrefix}
+use Rattle.std.specs.List.{AllByRecursion}
+use Rattle.nt_turn.specs.Pass.{TurnState, PassState, next_pass}
+use Rattle.nt_outside.specs.Range.{ExtState, PenState}
+use Rattle.nt_outside.specs.Disk.{DiskState}
+use Rattle.nt_outside.specs.Faults.{Rose}
+use Rattle.nt_outside.specs.declared.fault.Refused.{Refused}
+use Rattle.nt_machine.specs.declared.entry.Entry.{Entry}
+use Rattle.nt_machine.specs.History.{Cluster, is_out, ranges_of}
+use Rattle.nt_machine.specs.Legal.{end_after}
+use Rattle.nt_book.specs.declared.meta.ClusterMeta.{ClusterMeta}
+use Rattle.nt_book.specs.Entries.{spoiled_entry}
+use Rattle.nt_book.specs.Limiting.{limit_error}
+use Rattle.nt_book.specs.Pages.{IsPaged}
+use Rattle.nt_pages.specs.Image.{key_room}
+use Rattle.nt_commit.specs.declared.claim.Claim.{Claim}
+use Rattle.nt_commit.specs.declared.error.CommitError.{CommitError}
+use Rattle.nt_commit.specs.declared.locked.Birth.{Birth}
+use Rattle.nt_commit.specs.Claims.{CommitAdds, PenAdds, limit_answered, settled_with}
+use Rattle.nt_commit.specs.Locked.{LockedState, IsInStep, history_of_locked}
+use Rattle.nt_logged.specs.Steps.{bytes_where_told}
+
+-- a pass of a committer, which doesn't hold the turn
+pub record IsPassOf {D : Type 0} (committer : TurnState (Birth D)) (pass : PassState (Entry ClusterMeta) (Birth D)) : Type 0 where
+  pub turn : pass.turn ≡ committer.id
+  pub free : pass.holds ≡ false
+  pub birth : pass.birth ≡ Some committer.birth
+  pub number : pass.number ≤ committer.birth.contexts
+  pub seats : committer.seats ≡ committer.birth.contexts
+
+-- the first pass of a committer, which doesn't hold the turn
+pub record IsFirstOf {D : Type 0} (committer : TurnState (Birth D)) (pass : PassState (Entry ClusterMeta) (Birth D)) : Type 0 where
+  pub of : IsPassOf committer pass
+  pub first : pass.number ≡ committer.seats
+
+-- none of the ranges of these entries is out
+abbrev pub HasNoneOut : List (Entry ClusterMeta) → Type 0
+HasNoneOut entries = AllByRecursion (λ (c : Cluster ClusterMeta). is_out c.state ≡ false) (ranges_of entries)
+
+-- none of the ranges of a first pass, and of those that were joined to it, is out
+pub record AreAllIn {D : Type 0} (first : PassState (Entry ClusterMeta) (Birth D)) : Type 0 where
+  pub own : HasNoneOut first.own
+  pub kept : AllByRecursion (λ (k : ℕ × List (Entry ClusterMeta)). HasNoneOut k.1) first.kept
+
+-- the pass of a context was joined to the first, which keeps its entries and has seen what it had, and nothing else of the first changed
+pub record LeavesAfter {D : Type 0} (old pass new : PassState (Entry ClusterMeta) (Birth D)) : Type 0 where
+  pub seen : IsPrefix old.seen new.seen
+  pub told : IsPrefix pass.seen new.seen
+  pub now : new ≡ record old { seen = new.seen; kept = old.kept ++ (pass.number, pass.own) ∷ [] }
+
+-- a cluster that may be committed: it has room for its key, a list of pages for each column, and a context of so many
+pub record IsCommittable (columns contexts : ℕ) (meta : ClusterMeta) : Type 0 where
+  pub context : meta.context ≤ contexts
+  pub room : key_room ≤ meta.len
+  pub lists : length meta.pages ≡ columns
+  pub paged : IsPaged meta
+
+module _ {D : Type 0} (state : D → DiskState) where
+  -- what was true before is true after, and what never changes did not
+  pub record IsStep (old new : LockedState D) : Type 0 where
+    pub birth : new.birth ≡ old.birth
+    pub before : IsInStep state old
+    pub after : IsInStep state new
+
+  -- where the next range starts
+  abbrev pub locked_end : LockedState D → ℕ
+  locked_end locked = end_after (state locked.birth.begun).end (ranges_of (history_of_locked state locked))
+
+  -- how many clusters there are
+  abbrev pub locked_count : LockedState D → ℕ
+  locked_count locked = length (ranges_of (history_of_locked state locked))
+
+  -- the history grew by these entries
+  abbrev pub GrowsBy : LockedState D → LockedState D → List (Entry ClusterMeta) → Type 0
+  GrowsBy old new added = history_of_locked state new ≡ history_of_locked state old ++ added
+
+  -- a cluster was committed behind all others, or refused: for a limit exactly where the cluster passes it
+  pub record Commits {X : Type 0} (tell : X → ExtState) (meta : ClusterMeta) (old new : LockedState D) (result : Result (Claim X) CommitError) : Type 0 where
+    pub limits : limit_error old.birth.limits (locked_end old) (locked_count old) meta.len ≡ limit_answered result
+    pub added : List (Entry ClusterMeta)
+    pub grows : GrowsBy old new added
+    pub adds : CommitAdds tell (state old.birth.begun).held (state old.disk).faults (state new.disk).faults (locked_count old) (locked_end old) meta result added
+
+  -- a pen was made, or refused
+  pub record OpensPen {P : Type 0} (context : ℕ) (old new : LockedState D) (result : Result P Refused) : Type 0 where
+    pub added : List (Entry ClusterMeta)
+    pub grows : GrowsBy old new added
+    pub adds : PenAdds (state old.disk).faults (state new.disk).faults context result added
+
+  -- a range was spoiled, with the disk's count of faults, which rose
+  pub record Spoils (context n : ℕ) (old new : LockedState D) : Type 0 where
+    pub rose : Rose (state old.disk).faults (state new.disk).faults
+    pub grows : GrowsBy old new (spoiled_entry context n (state new.disk).faults ∷ [])
+
+  -- a range was settled, with the bytes of its extent where the disk tells them
+  pub record SettlesRange (context n : ℕ) (ext : ExtState) (old new : LockedState D) : Type 0 where
+    pub grows : GrowsBy old new (settled_with context n (bytes_where_told (state old.birth.begun).held ext.content) ∷ [])
+
+  -- nothing was added
+  pub record KeepsHistory (old new : LockedState D) : Type 0 where
+    pub same : GrowsBy old new []
+
+  -- one hold of the turn: the pass had seen a beginning of the history, which then grew by these entries of its number
+  pub record IsHold (committer : TurnState (Birth D)) (taken given : LockedState D) (added : List (Entry ClusterMeta)) (old new : PassState (Entry ClusterMeta) (Birth D)) : Type 0 where
+    pub birth : taken.birth ≡ committer.birth
+    pub step : IsStep taken given
+    pub grows : GrowsBy taken given added
+    pub begins : IsPrefix old.seen (history_of_locked state taken)
+    pub now : new ≡ record old { seen = history_of_locked state given; own = old.own ++ added }
+
+  -- a hold in which these entries were added
+  pub record AddsInHold (committer : TurnState (Birth D)) (added : List (Entry ClusterMeta)) (old new : PassState (Entry ClusterMeta) (Birth D)) : Type 0 where
+    pub taken : LockedState D
+    pub given : LockedState D
+    pub hold : IsHold committer taken given added old new
+
+  -- a hold in which a cluster was committed, or refused
+  pub record CommitsInHold {X : Type 0} (tell : X → ExtState) (committer : TurnState (Birth D)) (meta : ClusterMeta) (old new : PassState (Entry ClusterMeta) (Birth D))
+      (result : Result (Claim X) CommitError) : Type 0 where
+    pub taken : LockedState D
+    pub given : LockedState D
+    pub commits : Commits tell meta taken given result
+    pub hold : IsHold committer taken given commits.added old new
+
+  -- a hold in which a range was spoiled
+  pub record SpoilsInHold (committer : TurnState (Birth D)) (n : ℕ) (old new : PassState (Entry ClusterMeta) (Birth D)) : Type 0 where
+    pub taken : LockedState D
+    pub given : LockedState D
+    pub rose : Rose (state taken.disk).faults (state given.disk).faults
+    pub hold : IsHold committer taken given (spoiled_entry old.number n (state given.disk).faults ∷ []) old new
+
+  -- a hold in which a pen was made, or refused
+  pub record OpensInHold {P : Type 0} (committer : TurnState (Birth D)) (old new : PassState (Entry ClusterMeta) (Birth D)) (result : Result P Refused) : Type 0 where
+    pub taken : LockedState D
+    pub given : LockedState D
+    pub opens : OpensPen old.number taken given result
+    pub hold : IsHold committer taken given opens.added old new
+
+  -- a hold in which no pen was to be had
+  abbrev pub RefusesPen : TurnState (Birth D) → PassState (Entry ClusterMeta) (Birth D) → PassState (Entry ClusterMeta) (Birth D) → Refused → Type 0
+  RefusesPen committer old new e = OpensInHold {P = Unit {0}} committer old new (Err e)
+
+  -- a context entered: after a hold in which its pen was made, its pass was split off
+  pub record EntersAfter {P : Type 0} (pen_state : P → PenState) (committer : TurnState (Birth D)) (old new pass : PassState (Entry ClusterMeta) (Birth D)) (pen : P) : Type 0 where
+    pub held : PassState (Entry ClusterMeta) (Birth D)
+    pub opens : AddsInHold committer [] old held
+    pub first : new ≡ record held { splits = old.splits + 1 }
+    pub pass_is : pass ≡ next_pass held
+    pub unused : (pen_state pen).faults ≡ 0

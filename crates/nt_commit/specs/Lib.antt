@@ -1,0 +1,4 @@
+pub mod Claims
+pub mod Holds
+pub mod Images
+pub mod Locked

@@ -1,0 +1,68 @@
+-- A disk and its book under the turn, and what is true of them while the turn is free.
+use Rattle.std.specs.Prelude.{◌≡◌, ℕ, ◌≤◌, List, ◌++◌, map, filter, length}
+use Rattle.std.specs.List.{AllByRecursion}
+use Rattle.nt_outside.specs.declared.range.Range.{Range}
+use Rattle.nt_outside.specs.Held.{BecomesSome}
+use Rattle.nt_outside.specs.Disk.{DiskState}
+use Rattle.nt_machine.specs.declared.entry.Entry.{Entry}
+use Rattle.nt_machine.specs.Faults.{FaultsRise}
+use Rattle.nt_machine.specs.History.{Cluster, is_out, ranges_of}
+use Rattle.nt_machine.specs.Legal.{IsLegal, end_after}
+use Rattle.nt_book.specs.declared.meta.ClusterMeta.{ClusterMeta}
+use Rattle.nt_book.specs.Books.{BookData}
+use Rattle.nt_commit.specs.declared.locked.Birth.{Birth}
+use Rattle.nt_pages.specs.Image.{key_room}
+use Rattle.nt_logged.specs.Steps.{steps_of_history, told_history}
+
+-- the disk, the book, and what never changes
+pub record LockedState (D : Type 0) : Type 0 where
+  pub disk : D
+  pub book : BookData
+  pub birth : Birth D
+
+-- disk and book of this birth
+abbrev pub locked_by : {D : Type 0} → Birth D → D → BookData → LockedState D
+locked_by birth disk book = record { disk = disk; book = book; birth = birth }
+
+-- what never changes of them
+abbrev pub birth_of : {D : Type 0} → LockedState D → Birth D
+birth_of locked = locked.birth
+
+-- the context of an entry
+abbrev pub context_of : Entry ClusterMeta → ℕ
+context_of e = e.context
+
+module _ {M : Type 0} where
+  -- the range of a cluster
+  abbrev pub place_of : Cluster M → Range
+  place_of c = record { start = c.start; len = c.len }
+
+  -- the ranges of clusters that are out
+  abbrev pub ranges_out : List (Cluster M) → List Range
+  ranges_out cs = map place_of (filter (λ (c : Cluster M). is_out c.state) cs)
+
+  -- the disk is what a history of so many contexts makes of it as it was begun
+  pub record Follows (begun disk : DiskState) (contexts : ℕ) (history : List (Entry M)) : Type 0 where
+    -- ranges are reserved one behind the other, and each is settled or spoiled at most once, by its context
+    pub legal : IsLegal begun.end history
+    pub contexts_are : AllByRecursion (λ (e : Entry M). e.context ≤ contexts) history
+    -- a range has room for its key
+    pub roomy : AllByRecursion (λ (c : Cluster M). key_room ≤ c.len) (ranges_of history)
+    pub end : disk.end ≡ end_after begun.end (ranges_of history)
+    pub out : disk.out ≡ ranges_out (ranges_of history)
+    -- its log is that from before, and then the steps of the history
+    pub log : BecomesSome begun.held disk.held (λ h h'. h'.log ≡ h.log ++ steps_of_history history)
+    -- each fault of the history was counted above those before it
+    pub rise : FaultsRise begun.faults history disk.faults
+
+module _ {D : Type 0} (state : D → DiskState) where
+  -- the history, with the bytes that the disk tells
+  abbrev pub history_of_locked : LockedState D → List (Entry ClusterMeta)
+  history_of_locked locked = told_history (state locked.birth.begun).held (state locked.disk).held locked.book.history
+
+  -- disk and book are what one history makes of them
+  pub record IsInStep (locked : LockedState D) : Type 0 where
+    pub begin : locked.book.begin ≡ (state locked.birth.begun).end
+    pub limits : locked.book.limits ≡ locked.birth.limits
+    pub columns : length locked.book.firsts ≡ locked.birth.columns
+    pub follows : Follows (state locked.birth.begun) (state locked.disk) locked.birth.contexts (history_of_locked locked)

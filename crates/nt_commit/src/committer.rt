@@ -1,0 +1,76 @@
+//! The committer, from its disk and book to the end.
+
+ghost use Rattle.std.specs.Prelude.{◌≡◌, ◌≤◌, [], length, IfOk, IfErr};
+ghost use Rattle.nt_turn.specs.Pass.{AllJoined, Closes, first_pass};
+ghost use Rattle.nt_commit.specs.Holds.{IsFirstOf, AreAllIn};
+ghost use Rattle.nt_commit.specs.Locked.{IsInStep, birth_of, context_of, history_of_locked, locked_by};
+
+use crate::locked::Locked;
+use nt_book::Book;
+use nt_outside::Disk;
+use nt_turn::{Logged, MOST_SEATS, Pass, Turn};
+use std::alloc::{AllocError, Global};
+use std::marker::Model;
+
+/// A value which contexts take in turn.
+pub struct CommitterOf<V: Logged> {
+    pub(crate) turn: Turn<V>,
+}
+
+impl<V: Logged> Model for CommitterOf<V> {
+    ghost use Rattle.nt_turn.specs.Pass.{TurnState};
+
+    ghost Value = { TurnState V.Birth };
+
+    ghost view = { λ c. c.turn };
+}
+
+/// A disk and its book, which contexts take in turn.
+pub type Committer<D> = CommitterOf<Locked<D>>;
+
+impl<D: Disk> Committer<D> {
+    /// A committer over a disk and its new book, for so many contexts at most, and its first pass.
+    /// Without memory both come back.
+    pub fn new(
+        alloc: Global,
+        disk: D,
+        book: Book,
+        contexts: u32,
+    ) -> Result<(Committer<D>, Pass<Locked<D>>), (D, Book, AllocError)>
+        requires contexts { (1 ≤ contexts) × (contexts ≤ MOST_SEATS) }
+        requires history { book.history ≡ [] }
+        requires end { book.begin ≡ (D.state disk).end }
+        requires out { (D.state disk).out ≡ [] }
+        ensures ok { IfOk result (λ t. (t.0.seats ≡ contexts) × (t.0.birth ≡ record {
+          begun = disk;
+          limits = book.limits;
+          columns = length book.firsts;
+          contexts = contexts;
+        }) × (t.1 ≡ first_pass t.0)) }
+        ensures err { IfErr result (λ e. (e.0 ≡ disk) × (e.1 ≡ book)) }
+    {
+        let locked = Locked::new(disk, book, contexts);
+        match Turn::new(alloc, locked, contexts) {
+            Ok((turn, pass)) => Ok((CommitterOf { turn }, pass)),
+            Err((locked, error)) => {
+                let (disk, book) = locked.into_parts();
+                Err((disk, book, error))
+            }
+        }
+    }
+
+    /// Ends the committer, once the pass of each context was joined and no range is out. What stands
+    /// on the disk then, and in the book, is what one history makes of them.
+    pub fn finish(self, first: Pass<Locked<D>>) -> (D, Book)
+        requires first { IsFirstOf self first }
+        requires joined { AllJoined first }
+        requires none_out { AreAllIn first }
+        ensures closes { Closes (history_of_locked D.state) birth_of context_of first (locked_by self.birth result.0 result.1) }
+        ensures in_step { IsInStep D.state (locked_by self.birth result.0 result.1) }
+        ensures out { (D.state result.0).out ≡ [] }
+    {
+        let CommitterOf { turn } = self;
+        let locked = turn.close(first);
+        locked.into_parts()
+    }
+}

@@ -1,0 +1,36 @@
+//! Contexts that write the clusters of one file beside each other.
+//!
+//! Begin at `Committer`. It holds a disk and its book under a turn. `Committer::new` makes it and its first pass; `enter` gives a
+//! context a pass and a pen. `commit` reserves the range of a cluster and enters it in the book, in one hold of the turn, and
+//! hands out a `Claim`. Outside the turn the context fills the claim's extent with its pen. `settle` hands the range back, or
+//! `spoil` after the pen failed. `leave` joins the pass of a context, and `finish` gives disk and book back.
+//!
+//! Disk and book are *in step*: both are what one history makes of the disk as it was begun (`IsInStep` in `specs/Locked.antt`,
+//! which is the invariant of `Locked`). What a call does in its hold of the turn, and what its pass knows of that, stands in
+//! `specs/Holds.antt`.
+//!
+//! Proved: `commit` adds just the one cluster to the pass's own list, and hands out an extent of the book's start and length that
+//! isn't filled; its limits are those of the history that the pass has then seen; a fault only where the disk's count rose in this
+//! hold, with that count in the own list; the key of the place stands in the image (`commits`, `image`). `settle` adds the bytes of
+//! the extent (`settles`), `spoil` the disk's count, which rose (`spoils`). `finish` gives one history with each pass's own entries
+//! (`closes`), of which disk and book are made (`in_step`).
+//!
+//! Neither proved nor promised: that a pass ever gets the turn, or that two contexts run beside each other.
+#![tactic(auto)]
+
+mod claim;
+mod committer;
+mod committing;
+mod contexts;
+mod error;
+mod key;
+mod locked;
+mod pens;
+mod ranges;
+mod shared;
+
+pub use claim::Claim;
+pub use committer::{Committer, CommitterOf};
+pub use error::CommitError;
+pub use locked::{Birth, Locked};
+pub use shared::committers_cross_threads;

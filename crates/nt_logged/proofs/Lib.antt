@@ -1,0 +1,3 @@
+mod Logging
+mod Standing
+mod Knowing
