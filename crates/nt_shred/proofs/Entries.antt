@@ -1,5 +1,5 @@
 -- An entry that is added.
-use Rattle.std.proofs.Common.{◌≡◌, ℕ, List, sym, ◌∙◌, ap, subst, arith}
+use Rattle.std.proofs.Common.{◌≡◌, ℕ, List, sym, subst, arith}
 use Rattle.nt_types.specs.TreeData.{TreesData}
 use Rattle.nt_column.specs.Column.{Buffer, columns_of}
 use Rattle.nt_plans.specs.Plan.{PlansData}
@@ -30,8 +30,7 @@ entry-ready ps ts old new more e is same r = record {
   room = entry-room ps ts old new more e is same r;
 }
 
-pub entry-last : (ps : PlansData) (ts : TreesData) (old mid new : List Buffer) → IsEntry ps ts old → columns_of mid ≡ columns_of old → cols_of new ≡ put_trees ps ts (cols_of mid) → (n : ℕ) → AllSound ps (cols_of old) n → IsLast ps ts n (cols_of new)
-entry-last ps ts old mid new e is added n s =
-    let whole = added ∙ ap (put_trees ps ts) (cols-kept old mid is) in
+pub entry-last : (ps : PlansData) (ts : TreesData) (old new : List Buffer) → IsEntry ps ts old → cols_of new ≡ put_trees ps ts (cols_of old) → (n : ℕ) → AllSound ps (cols_of old) n → IsLast ps ts n (cols_of new)
+entry-last ps ts old new e added n s =
     let both = each_added ps ts (cols_of old) n e.differ s e.fitting in
-    subst (IsLast ps ts n) (sym whole) (record { sound = both.0; entry = both.1 })
+    subst (IsLast ps ts n) (sym added) (record { sound = both.0; entry = both.1 })

@@ -7,3 +7,4 @@ pub mod Ends
 pub mod PlanLists
 pub mod Entries
 pub mod Typed
+pub mod SchemaSets

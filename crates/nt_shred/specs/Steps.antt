@@ -3,13 +3,16 @@ use Rattle.std.specs.Prelude.{ℕ, suc, true, ◌≡◌, ◌≤◌, List}
 use Rattle.nt_types.specs.TreeData.{TreeData, TreesData}
 use Rattle.nt_types.specs.TreeBytes.{AllHaveBytes}
 use Rattle.nt_types.specs.Fits.{all_trees}
-use Rattle.nt_column.specs.Column.{Buffer}
+use Rattle.nt_column.specs.Column.{Buffer, columns_of}
+use Rattle.nt_grammar.specs.Table.{Table}
 use Rattle.nt_plans.specs.Plan.{PlanData, PlansData, Differ, AllDiffer}
+use Rattle.nt_plans.specs.Place.{open_plans}
 use Rattle.nt_trees.specs.Columns.{Cols}
+use Rattle.nt_trees.specs.Described.{IsSetOf}
 use Rattle.nt_trees.specs.TreeAt.{each_at}
 use Rattle.nt_trees.specs.Sound.{Sound, AllSound}
 use Rattle.nt_trees.specs.Put.{put_each, put_tree, put_trees}
-use Rattle.nt_trees.specs.Fits.{fits_plan, fit_plans}
+use Rattle.nt_trees.specs.Fits.{fits_plan, fit_plans, fits_entry}
 use Rattle.nt_trees.specs.Views.{cols_of}
 use Rattle.nt_shred.specs.Frame.{set_frame, Takes, AllTake, capacity_at, FitsIn}
 
@@ -58,3 +61,11 @@ pub record IsEntry (ps : PlansData) (ts : TreesData) (bs : List Buffer) : Type 0
 pub record IsLast (ps : PlansData) (ts : TreesData) (n : ℕ) (cols : Cols) : Type 0 where
   pub sound : AllSound ps cols (suc n)
   pub entry : AllHaveBytes ts → each_at ps cols n ≡ ts
+
+-- the trees are one for each open field of a schema at the top level and fit it, and the set has its columns, sound for the entries
+-- so far
+pub record IsEntryOf (t : Table) (ts : TreesData) (bs : List Buffer) : Type 0 where
+  pub set : IsSetOf t.columns (columns_of bs)
+  pub fitting : fits_entry t ts ≡ true
+  pub size : ℕ
+  pub sound : AllSound (open_plans t) (cols_of bs) size

@@ -1,6 +1,6 @@
 //! Trees to columns: the elements of an entry at the ends of the columns of a set.
 //!
-//! Start at `shred.rt` with nt_trees' `specs/Put` (what an entry adds), then `putting.rt`, the one
+//! Start at `entry.rt` with nt_trees' `specs/Put` (what an entry adds), then `putting.rt`, the one
 //! walk over plans and trees. Every entry that is written comes through here, so keep it free of
 //! maps, of memory for single values, and of walks over the rows of a schema.
 //!
@@ -25,11 +25,11 @@
 
 mod counting;
 mod element;
+mod entry;
 mod growing;
 mod most;
 mod parts;
 mod pushing;
 mod putting;
-mod shred;
 
-pub use shred::shred_by;
+pub use entry::shred;
