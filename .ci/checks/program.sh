@@ -70,10 +70,10 @@ expect 4 'ntuple: outside' entries .
 "$program" entries two.root 2>/dev/full >out || fail 'an err that takes nothing changes the status'
 
 # OUT may be a link to a file that isn't there yet
-mkdir folder
-ln -s folder/linked.root link.root
+mkdir linked
+ln -s linked/there.root link.root
 expect 0 '' write link.root schema.txt events.txt
-same folder/linked.root "$top/crates/nt_tool/data/two.root"
+same linked/there.root "$top/crates/nt_tool/data/two.root"
 
 # OUT is never an input, under whatever name
 for input in schema.txt events.txt; do
