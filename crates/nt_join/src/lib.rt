@@ -1,8 +1,8 @@
 //! Columns of a cluster to the trees of its entries.
 //!
-//! Start at `check_by`, which tells what is wrong with columns first, and then `entry_by`, which
-//! gives the trees of an entry of columns in which nothing is. Both work over any `Columns`, by the
-//! plans of the open fields; nothing here reads rows.
+//! Start at `check_values`, which tells what is wrong with columns first, and then `entry`, which
+//! gives the trees of an entry of columns in which nothing is. Both work over any `Columns` by the
+//! plans of a schema's open fields (`check_by`, `entry_by`); nothing here reads rows.
 //!
 //! Words: those of nt_trees; a *sweep* goes over the elements of a column once.
 //!
@@ -26,8 +26,10 @@ mod ends;
 mod fault;
 mod join;
 mod number;
+mod open;
 mod reading;
 
 pub use check::check_by;
 pub use fault::ValueFault;
 pub use join::entry_by;
+pub use open::{check_values, entry};
