@@ -1,0 +1,36 @@
+use Rattle.std.proofs.Common.{refl, ◌∙◌}
+use Rattle.nt_close.specs.Steps.{torn_tail, torn_front, not_kept_shut, torn_first, not_kept_open, ended_whole}
+use Rattle.nt_close.proofs.steps.write_end.Goals as goal
+
+pub returns-in_err-append-clause-left : goal.returns-in_err-append-clause-left
+returns-in_err-append-clause-left g c h is = let torn = c.in_err-append.ensures.err h is in (torn.0, torn.1, torn_tail torn.2)
+
+pub returns-in_err-write_at-clause-left : goal.returns-in_err-write_at-clause-left
+returns-in_err-write_at-clause-left g c h is =
+    let torn = c.in_err-write_at.ensures.err _ (c.in_ok-append.ensures.ok h is) in
+    (torn.0, torn.1, torn_front torn.2)
+
+pub returns-in_err-sync-clause-left : goal.returns-in_err-sync-clause-left
+returns-in_err-sync-clause-left g c h is =
+    (_, c.in_err-sync.ensures.err ∙ c.in_ok-write_at.ensures.ok _ (c.in_ok-append.ensures.ok h is), not_kept_shut refl)
+
+pub returns-in_err-write_at-2-clause-left : goal.returns-in_err-write_at-2-clause-left
+returns-in_err-write_at-2-clause-left g c h is =
+    let kept = c.in_ok-sync.ensures.ok _ (c.in_ok-write_at.ensures.ok _ (c.in_ok-append.ensures.ok h is)) in
+    let torn = c.in_err-write_at-2.ensures.err _ kept in
+    (torn.0, torn.1, torn_first torn.2)
+
+pub returns-in_err-sync-2-clause-left : goal.returns-in_err-sync-2-clause-left
+returns-in_err-sync-2-clause-left g c h is =
+    let kept = c.in_ok-sync.ensures.ok _ (c.in_ok-write_at.ensures.ok _ (c.in_ok-append.ensures.ok h is)) in
+    (_, c.in_err-sync-2.ensures.err ∙ c.in_ok-write_at-2.ensures.ok _ kept, not_kept_open refl)
+
+pub returns-clause-ok : goal.returns-clause-ok
+returns-clause-ok g c h is =
+    let kept = c.in_ok-sync.ensures.ok _ (c.in_ok-write_at.ensures.ok _ (c.in_ok-append.ensures.ok h is)) in
+    c.in_ok-sync-2.ensures.ok _ (c.in_ok-write_at-2.ensures.ok _ kept)
+
+pub returns-clause-left : goal.returns-clause-left
+returns-clause-left g c h is =
+    let kept = c.in_ok-sync.ensures.ok _ (c.in_ok-write_at.ensures.ok _ (c.in_ok-append.ensures.ok h is)) in
+    (_, c.in_ok-sync-2.ensures.ok _ (c.in_ok-write_at-2.ensures.ok _ kept), ended_whole refl)

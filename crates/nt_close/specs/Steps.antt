@@ -1,0 +1,45 @@
+-- The steps of a disk by which a file is begun and closed, in their order. A step that fails ends them.
+use Rattle.std.specs.Prelude.{ℕ, ◌≡◌, List, [], ◌∷◌, length}
+use Rattle.nt_outside.specs.Held.{Held, appended, written, synced, IsTornAppend, IsTornWrite}
+
+-- head and header blob are appended, and stay
+abbrev pub begun_on : List ℕ → List ℕ → Held → Held
+begun_on head blob h = synced (appended blob (appended head h))
+
+-- what stands after these steps, or where one of them failed
+pub data IsBegunSoFar (head blob : List ℕ) (h left : Held) : Type 0 where
+  -- the head: of a file that wasn't there nothing is known
+  torn_head : IsTornAppend (length head) h left → IsBegunSoFar head blob h left
+  -- the header blob
+  torn_blob : IsTornAppend (length blob) (appended head h) left → IsBegunSoFar head blob h left
+  -- the sync
+  not_kept : left ≡ appended blob (appended head h) → IsBegunSoFar head blob h left
+  -- none
+  begun_whole : left ≡ begun_on head blob h → IsBegunSoFar head blob h left
+
+-- the byte that a finished file begins with
+abbrev pub first_byte : List ℕ
+first_byte = 0x72 ∷ []
+
+-- all but the first byte is written: what stands behind the clusters, and what stands behind that byte
+abbrev pub shut_on : List ℕ → List ℕ → Held → Held
+shut_on tail front h = written 1 front (appended tail h)
+
+-- and stays, and then the first byte is written, and stays
+abbrev pub ended_on : List ℕ → List ℕ → Held → Held
+ended_on tail front h = synced (written 0 first_byte (synced (shut_on tail front h)))
+
+-- what stands after these steps, or where one of them failed
+pub data IsEndedSoFar (tail front : List ℕ) (h left : Held) : Type 0 where
+  -- what stands behind the clusters
+  torn_tail : IsTornAppend (length tail) h left → IsEndedSoFar tail front h left
+  -- what stands behind the first byte
+  torn_front : IsTornWrite 1 front (appended tail h) left → IsEndedSoFar tail front h left
+  -- the sync before the first byte
+  not_kept_shut : left ≡ shut_on tail front h → IsEndedSoFar tail front h left
+  -- the first byte
+  torn_first : IsTornWrite 0 first_byte (synced (shut_on tail front h)) left → IsEndedSoFar tail front h left
+  -- the last sync
+  not_kept_open : left ≡ written 0 first_byte (synced (shut_on tail front h)) → IsEndedSoFar tail front h left
+  -- none
+  ended_whole : left ≡ ended_on tail front h → IsEndedSoFar tail front h left
