@@ -26,20 +26,20 @@ abbrev pub shut_on : List ℕ → List ℕ → Held → Held
 shut_on tail front h = written 1 front (appended tail h)
 
 -- and stays, and then the first byte is written, and stays
-abbrev pub ended_on : List ℕ → List ℕ → Held → Held
-ended_on tail front h = synced (written 0 first_byte (synced (shut_on tail front h)))
+abbrev pub closed_on : List ℕ → List ℕ → Held → Held
+closed_on tail front h = synced (written 0 first_byte (synced (shut_on tail front h)))
 
 -- what stands after these steps, or where one of them failed
-pub data IsEndedSoFar (tail front : List ℕ) (h left : Held) : Type 0 where
+pub data IsClosedSoFar (tail front : List ℕ) (h left : Held) : Type 0 where
   -- what stands behind the clusters
-  torn_tail : IsTornAppend (length tail) h left → IsEndedSoFar tail front h left
+  torn_tail : IsTornAppend (length tail) h left → IsClosedSoFar tail front h left
   -- what stands behind the first byte
-  torn_front : IsTornWrite 1 front (appended tail h) left → IsEndedSoFar tail front h left
+  torn_front : IsTornWrite 1 front (appended tail h) left → IsClosedSoFar tail front h left
   -- the sync before the first byte
-  not_kept_shut : left ≡ shut_on tail front h → IsEndedSoFar tail front h left
+  not_kept_shut : left ≡ shut_on tail front h → IsClosedSoFar tail front h left
   -- the first byte
-  torn_first : IsTornWrite 0 first_byte (synced (shut_on tail front h)) left → IsEndedSoFar tail front h left
+  torn_first : IsTornWrite 0 first_byte (synced (shut_on tail front h)) left → IsClosedSoFar tail front h left
   -- the last sync
-  not_kept_open : left ≡ written 0 first_byte (synced (shut_on tail front h)) → IsEndedSoFar tail front h left
+  not_kept_open : left ≡ written 0 first_byte (synced (shut_on tail front h)) → IsClosedSoFar tail front h left
   -- none
-  ended_whole : left ≡ ended_on tail front h → IsEndedSoFar tail front h left
+  closed_whole : left ≡ closed_on tail front h → IsClosedSoFar tail front h left

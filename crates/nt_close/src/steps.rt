@@ -3,7 +3,7 @@
 ghost use Rattle.std.specs.Prelude.{◌≡◌, ℕ, ◌+◌, ◌^◌, ◌≤◌, [], ◌∷◌, length, OnOk};
 ghost use Rattle.nt_outside.specs.Faults.{HasCause};
 ghost use Rattle.nt_outside.specs.Held.{Becomes, BecomesSome, WhereHeld, nothing_held};
-ghost use Rattle.nt_close.specs.Steps.{begun_on, IsBegunSoFar, ended_on, IsEndedSoFar};
+ghost use Rattle.nt_close.specs.Steps.{begun_on, IsBegunSoFar, closed_on, IsClosedSoFar};
 
 use nt_outside::{Disk, Failed};
 
@@ -38,8 +38,8 @@ pub fn write_end<D: Disk>(disk: &mut D, tail: &[u8], front: &[u8]) -> Result<(),
     requires sum { (D.state disk.old).end + length tail.now ≤ 2 ^ 63 }
     requires inside { 1 + length front.now ≤ (D.state disk.old).end }
     requires out { (D.state disk.old).out ≡ [] }
-    ensures ok { OnOk result (Becomes (D.state disk.old).held (D.state disk.new).held (ended_on tail.now front.now)) }
-    ensures left { BecomesSome (D.state disk.old).held (D.state disk.new).held (IsEndedSoFar tail.now front.now) }
+    ensures ok { OnOk result (Becomes (D.state disk.old).held (D.state disk.new).held (closed_on tail.now front.now)) }
+    ensures left { BecomesSome (D.state disk.old).held (D.state disk.new).held (IsClosedSoFar tail.now front.now) }
     ensures end { OnOk result ((D.state disk.new).end ≡ (D.state disk.old).end + length tail.now) }
     ensures out { (D.state disk.new).out ≡ [] }
     ensures cause { HasCause (D.state disk.old).faults (D.state disk.new).faults result }

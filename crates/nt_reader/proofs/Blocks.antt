@@ -1,6 +1,6 @@
 -- A block of a file that is read as an envelope.
-use Rattle.std.proofs.Common.{◌≡◌, ◌≢◌, ℕ, eqb, false, true, List, length, Option, Some, None, Result, Ok, Err, refl, sym, ap, ◌∙◌}
-use Rattle.std.proofs.lemmas.Bool.{eqb-true, eq-eqb, ne_eqb}
+use Rattle.std.proofs.Common.{◌≡◌, ◌≢◌, ℕ, eqb, false, true, List, Option, Some, None, Result, Ok, Err, refl, sym, ap, ◌∙◌}
+use Rattle.std.proofs.lemmas.Bool.{eq-eqb, ne_eqb}
 use Rattle.nt_num.specs.Place.{At}
 use Rattle.nt_num.specs.Codes.{compressed, out_of_file}
 use Rattle.nt_num.specs.Faults.{fault, with_values}

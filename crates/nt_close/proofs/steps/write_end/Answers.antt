@@ -1,5 +1,5 @@
 use Rattle.std.proofs.Common.{refl, ◌∙◌}
-use Rattle.nt_close.specs.Steps.{torn_tail, torn_front, not_kept_shut, torn_first, not_kept_open, ended_whole}
+use Rattle.nt_close.specs.Steps.{torn_tail, torn_front, not_kept_shut, torn_first, not_kept_open, closed_whole}
 use Rattle.nt_close.proofs.steps.write_end.Goals as goal
 
 pub returns-in_err-append-clause-left : goal.returns-in_err-append-clause-left
@@ -33,4 +33,4 @@ returns-clause-ok g c h is =
 pub returns-clause-left : goal.returns-clause-left
 returns-clause-left g c h is =
     let kept = c.in_ok-sync.ensures.ok _ (c.in_ok-write_at.ensures.ok _ (c.in_ok-append.ensures.ok h is)) in
-    (_, c.in_ok-sync-2.ensures.ok _ (c.in_ok-write_at-2.ensures.ok _ kept), ended_whole refl)
+    (_, c.in_ok-sync-2.ensures.ok _ (c.in_ok-write_at-2.ensures.ok _ kept), closed_whole refl)
