@@ -7,23 +7,18 @@ use Rattle.std.specs.Prelude.{◌&&◌, is_some, not, Vec}
 use Rattle.std.specs.Option.{option_or, option_copied}
 use Rattle.std.specs.Str.{bytes_eq}
 use Rattle.std.specs.declared.alloc.Global.{Global}
-use Rattle.std.specs.declared.cmp.Ordering.{Ordering}
-use Rattle.std.specs.Ordering.{nat_cmp, is_eq, eq_by_cmp}
-use Rattle.std.specs.Cmp.{eq_by_cmp_equiv}
-use Rattle.std.specs.Cmp.Lexicographic.{slice_cmp, nat_list_cmp_total}
 use Rattle.std.specs.Map.{lookup, KeepsOthers, IsKeyTest, AreApart}
-use Rattle.std.specs.BTreeMap.{UpdatesBy}
+use Rattle.indexmap.specs.IndexMap.{UpdatesBy}
 use Rattle.std.proofs.lemmas.Slice.Eq.{bytes_eq-Decides}
-use Rattle.std.proofs.lemmas.Map.Text.{is_eq-slice_cmp}
 use Rattle.nt_grammar.specs.declared.rows.FieldRow.{FieldRow}
 use Rattle.nt_schema.specs.ByName.{Names, found, find_from}
 
 abbrev Key : Type 0
 Key = Vec ℕ Global
 
--- names in order
-abbrev keys_cmp : Key → Key → Ordering
-keys_cmp x y = slice_cmp nat_cmp x.items y.items
+-- whether two names are one
+abbrev same_name : Key → Key → Bool
+same_name x y = bytes_eq x.items y.items
 
 other_way : (k n name : List ℕ) → k ≡ name → bytes_eq n name ≡ false → bytes_eq k n ≡ false
 other_way k n name is differ = by_case (bytes_eq k n) refl
@@ -35,19 +30,19 @@ other_way k n name is differ = by_case (bytes_eq k n) refl
         let both : bytes_eq n name ≡ true = (bytes_eq-Decides n name).1 (sym same ∙ is) in
         cc
 
--- what a change at some bytes leaves at any others
-other_entries : (test : Key → Bool) (old new : List (Key × ℕ)) → KeepsOthers (eq_by_cmp keys_cmp) test old new → (other : Key → Bool)
-    → IsKeyTest (eq_by_cmp keys_cmp) other → AreApart test other → lookup other new ≡ lookup other old
+-- what a change at a name leaves at any others
+other_entries : (test : Key → Bool) (old new : List (Key × ℕ)) → KeepsOthers same_name test old new → (other : Key → Bool)
+    → IsKeyTest same_name other → AreApart test other → lookup other new ≡ lookup other old
 unfolding KeepsOthers
 other_entries test old new h = h
 
-apart : (bs cs ks : List ℕ) → bytes_eq bs cs ≡ false → is_eq (slice_cmp nat_cmp bs ks) ≡ true → is_eq (slice_cmp nat_cmp cs ks) ≡ false
+apart : (bs cs ks : List ℕ) → bytes_eq bs cs ≡ false → bytes_eq bs ks ≡ true → bytes_eq cs ks ≡ false
 apart bs cs ks differ same = by_case (bytes_eq cs ks) refl
   where
-    by_case : (b : Bool) → bytes_eq cs ks ≡ b → is_eq (slice_cmp nat_cmp cs ks) ≡ false
-    by_case false e = is_eq-slice_cmp cs ks ∙ e
+    by_case : (b : Bool) → bytes_eq cs ks ≡ b → bytes_eq cs ks ≡ false
+    by_case false e = e
     by_case true e =
-        let one : bs ≡ ks = (bytes_eq-Decides bs ks).0 (sym (is_eq-slice_cmp bs ks) ∙ same) in
+        let one : bs ≡ ks = (bytes_eq-Decides bs ks).0 same in
         let two : cs ≡ ks = (bytes_eq-Decides cs ks).0 e in
         let both : bytes_eq bs cs ≡ true = (bytes_eq-Decides bs cs).1 (one ∙ sym two) in
         cc
@@ -58,7 +53,7 @@ or_none (Some x) = refl
 
 -- a new name is kept
 pub added : (old new : Names) (key : Key) (name : List ℕ) (parent id : ℕ) → (parent == id) ≡ true → key.items ≡ name
-    → found old name ≡ None → UpdatesBy keys_cmp (λ k. slice_cmp nat_cmp key.items k.items) old new (Some id)
+    → found old name ≡ None → UpdatesBy same_name (same_name key) old new (Some id)
     → (n : List ℕ) → found new n ≡ option_or (found old n) (if (parent == id) && bytes_eq n name then Some id else None)
 added old new key name parent id top is none h n = by_case (bytes_eq n name) refl
   where
@@ -71,7 +66,8 @@ added old new key name parent id top is none h n = by_case (bytes_eq n name) ref
         rw (top, e, before) (ap (found new) at_key ∙ h.1)
     by_case false e =
         let differ : bytes_eq key.items n ≡ false = other_way key.items n name is e in
-        rw (top, e) (other_entries _ old.entries new.entries h.3 _ (λ x y. (eq_by_cmp_equiv nat_list_cmp_total).congr n x.items y.items)
+        rw (top, e) (other_entries (same_name key) old.entries new.entries h.3 (λ k. bytes_eq n k.items)
+        (λ x y q. ap (λ (z : List ℕ). bytes_eq z y.items) ((bytes_eq-Decides n x.items).0 q))
         (λ k. apart key.items n k.items differ) ∙ or_none (found old n))
 
 pub none_found : {X : Type 0} (o : Option (Bor X)) (b : Bool) → is_some o ≡ not b → b ≡ true → option_copied o ≡ None

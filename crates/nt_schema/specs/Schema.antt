@@ -1,5 +1,5 @@
 -- What a schema keeps beside its rows.
-use Rattle.std.specs.Prelude.{true, ◌≡◌, ◌<◌, ◌≤◌, ◌^◌, length}
+use Rattle.std.specs.Prelude.{true, ◌≡◌, ◌<◌, ◌≤◌, ◌^◌, length, Option}
 use Rattle.std.specs.List.{list_all}
 use Rattle.nt_grammar.specs.Table.{Table, is_short}
 use Rattle.nt_schema.specs.ByName.{Names, HasNames}
@@ -15,7 +15,7 @@ pub record IsTable (t : Table) : Type 0 where
   pub short : list_all is_short t.fields ≡ true
 
 -- a table, with the first field of each name, and what is kept of its open fields
-pub record IsKept (t : Table) (names : Names) (kept : OpenFields) : Type 0 where
+pub record IsKept (t : Table) (names : Option Names) (kept : OpenFields) : Type 0 where
   pub rows : IsTable t
   pub by_name : HasNames names t.fields
   pub opened : IsOpened t.fields t.columns kept

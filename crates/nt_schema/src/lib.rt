@@ -21,9 +21,9 @@
 //! Choices that bind nobody else:
 //! - A schema is judged when it is put together, always from all its rows (`Schema::of_rows`), so that what it keeps belongs
 //!   to its rows at every moment; a reader that fails leaves a schema of no rows.
-//! - Names are found in a map in their order (`BTreeMap`); of equal names the first is kept. A hash map such as `indexmap` was
-//!   tried first: without a source of chance its seed is fixed, and a file whose names were chosen to collide would cost the
-//!   square of its size.
+//! - Names are found in a hash map (`indexmap`), of equal names the first is kept. The key of its hasher is a digest of all
+//!   names (`sha2`), so that nobody can choose names that collide: they would have to collide under a key that depends on them.
+//!   A schema of no rows has no map, since a hasher's key comes from a source that may fail.
 //! - Nothing is reserved for a list that says how many items it has: a count that the bytes don't keep costs nothing.
 //! - A description of more than 2^32 - 1 rows is want of memory: ids have 32 bits, and so many rows don't fit a machine that reads
 //!   them.
@@ -45,5 +45,5 @@ pub use nt_grammar::{
     descriptions_are_read_back, rows_read_are_described, schemas_are_described,
 };
 pub use reading::read_description;
-pub use schema::Schema;
+pub use schema::{Schema, schemas_can_be_shared};
 pub use writing::write_description;

@@ -11,13 +11,12 @@ ghost use Rattle.nt_plans.specs.Place.{column_ids, open_plans};
 ghost use Rattle.nt_plans.specs.Needs.{is_entries, need_of, top_of};
 ghost use Rattle.nt_schema.specs.Schema.{IsTable};
 
-use crate::by_name::names_of;
+use crate::by_name::{Names, names_of};
 use nt_grammar::{ColumnRow, FieldRow};
 use nt_open::{OpenFields, judge};
 use nt_plans::Plans;
 use nt_types::Shape;
 use std::alloc::{AllocError, Global};
-use std::collections::BTreeMap;
 use std::marker::Model;
 use std::mem;
 
@@ -30,7 +29,7 @@ pub struct Schema {
     pub(crate) header_fields: u32,
     pub(crate) header_columns: u32,
     /// The first field at the top level of each name.
-    names: BTreeMap<Vec<u8>, u32>,
+    names: Option<Names>,
     /// The shapes and plans of open fields, and what belongs to each field and column.
     kept: OpenFields,
 }
@@ -68,7 +67,7 @@ impl Schema {
             columns: Vec::new(alloc),
             header_fields: 0,
             header_columns: 0,
-            names: BTreeMap::new(alloc),
+            names: None,
             kept: OpenFields::new(alloc),
         }
     }
@@ -86,7 +85,7 @@ impl Schema {
         ensures { IfOk result (λ schema. schema
             ≡ table_of fields.items columns.items header_fields header_columns) }
     {
-        let names = names_of(alloc, &fields)?;
+        let names = Some(names_of(alloc, &fields)?);
         let kept = judge(alloc, &fields, &columns)?;
         Ok(Schema {
             fields,
@@ -114,7 +113,10 @@ impl Schema {
     pub fn find(&self, name: &[u8]) -> Option<u32>
         ensures { result ≡ find_from 0 self.now.fields name.now }
     {
-        self.names.get(name).copied()
+        match &self.names {
+            Some(names) => names.get(name).copied(),
+            None => None,
+        }
     }
 
     /// The shape of the values of an open field at the top level. A tuple has that of a record with
@@ -216,3 +218,11 @@ impl Schema {
         &self.columns[id as usize]
     }
 }
+
+/// Schemas can be handed to another thread, and be read by several.
+pub fn schemas_can_be_shared() {
+    is_shared::<Schema>();
+}
+
+/// What can be handed to another thread, and be read by several.
+fn is_shared<T: Send + Sync>() {}
