@@ -7,7 +7,7 @@ use std::alloc::{AllocError, Global};
 use std::test::Fail;
 
 /// A schema text, lines, and the lines that are printed for their entries.
-const READ: [(&str, &str, &str); 29] = [
+const READ: [(&str, &str, &str); 34] = [
     ("x u64", "[1]", "[1]"),
     ("x u64", " [ 1 ] \r", "[1]"),
     ("x u64", "[18446744073709551615]", "[18446744073709551615]"),
@@ -45,10 +45,27 @@ const READ: [(&str, &str, &str); 29] = [
     ("r rec{a:u8,b:vec<i8>}", "[[1,[-1,2]]]", "[[1,[-1,2]]]"),
     ("r rec{a:u8,b:vec<i8>}", "[[1, [-1, 2]]]", "[[1,[-1,2]]]"),
     ("p tuple<bool,u16>", "[[true,65535]]", "[[true,65535]]"),
+    ("x u64\nw vec<u8>", "[1, [2,\t3]] \t\r", "[1,[2,3]]"),
+    (
+        "w vec<string>",
+        r#"[["a\"b", "\\", "é\/€\n😀", "\ud83d\ude00x"]]"#,
+        r#"[["a\"b","\\","é/€\n😀","😀x"]]"#,
+    ),
+    (
+        "t string",
+        r#"["\uD7FF\uE000\u0000"]"#,
+        "[\"\u{d7ff}\u{e000}\\u0000\"]",
+    ),
+    (
+        "x i64",
+        "[-9223372036854775808]\r",
+        "[-9223372036854775808]",
+    ),
+    ("x u64", "[10000000000000000000]", "[10000000000000000000]"),
 ];
 
 /// A schema text, lines, and their fault.
-const REFUSED: [(&str, &[u8], TextKind); 37] = [
+const REFUSED: [(&str, &[u8], TextKind); 46] = [
     ("x u64", b"", NotJson),
     ("x u64", b"[", NotJson),
     ("x u64", b"[01]", NotJson),
@@ -59,6 +76,15 @@ const REFUSED: [(&str, &[u8], TextKind); 37] = [
     ("t string", b"[\"\xff\"]", NotJson),
     ("t string", b"[\"\x01\"]", NotJson),
     ("t string", b"[\"\\ud800\"]", NotJson),
+    ("t string", b"[\"\\udc00\"]", NotJson),
+    ("t string", b"[\"\\ud800\\ud800\"]", NotJson),
+    ("t string", b"[\"\\ud800\\u0041\"]", NotJson),
+    ("t string", b"[\"\\u00g0\"]", NotJson),
+    ("t string", b"[\"\\u00", NotJson),
+    ("t string", b"[\"\\x\"]", NotJson),
+    ("x u64", b"[1] x", NotJson),
+    ("x u64", b"[1, ]", NotJson),
+    ("t string", b"[\"a\x00\"]", NotJson),
     ("x u64", b"{}", NotArray),
     ("x u64", b"null", NotArray),
     ("x u64", b"[]", Count),
