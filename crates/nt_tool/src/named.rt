@@ -1,9 +1,10 @@
 //! Files of the system by name, and which file a name leads to.
 
-use std::fs::{File, Metadata, OpenFile, OpenOptions, canonicalize};
+use std::fs::{File, Metadata, OpenFile, OpenOptions, canonicalize, symlink_metadata};
 use std::io;
 use std::io::{Error, ErrorKind};
 use std::os::unix::fs::MetadataExt;
+use std::path::Path;
 
 /// Which file it is, whatever its names are: its device and its number there.
 #[derive(Clone, Copy, Debug, PartialEq, Eq)]
@@ -43,13 +44,31 @@ impl Named {
 
     /// Makes sure that the file stays in its folder, whatever happens: that of the file itself, where the name is a link to it.
     pub fn sync_folder(&self) -> io::Result<()> {
-        let whole = canonicalize(&self.rt, self.name.as_str())?;
-        let folder = match whole.as_path().parent() {
-            Some(folder) => folder.as_str(),
-            None => "/",
-        };
-        File::open(&self.rt, folder)?.sync_all()
+        let name = self.name.as_str();
+        if is_link(&self.rt, name) {
+            let whole = canonicalize(&self.rt, name)?;
+            return sync_parent(&self.rt, &whole.as_path());
+        }
+        sync_parent(&self.rt, &Path::new(name))
     }
+}
+
+/// Whether a name is a link to another.
+fn is_link(rt: &HostRuntime, name: &str) -> bool {
+    match symlink_metadata(rt, name) {
+        Ok(metadata) => metadata.is_symlink(),
+        Err(_) => false,
+    }
+}
+
+/// Syncs the folder that a path stands in.
+fn sync_parent(rt: &HostRuntime, path: &Path) -> io::Result<()> {
+    let folder = match path.parent() {
+        Some(folder) => folder.as_str(),
+        None => "/",
+    };
+    let folder = if folder.is_empty() { "." } else { folder };
+    File::open(rt, folder)?.sync_all()
 }
 
 /// A file to be written, empty, and whether it is new.
