@@ -71,8 +71,8 @@ expect 4 'ntuple: outside' entries .
 
 # OUT may be a link to a file that isn't there yet
 mkdir linked
-ln -s linked/there.root link.root
-expect 0 '' write link.root schema.txt events.txt
+ln -s linked/there.root far.root
+expect 0 '' write far.root schema.txt events.txt
 same linked/there.root "$top/crates/nt_tool/data/two.root"
 
 # OUT is never an input, under whatever name
