@@ -19,7 +19,7 @@ pub fn add_reserved(list: &mut Vec<u8>, bytes: &[u8])
     }
 }
 
-/// Takes the memory of so many more bytes than there is memory for.
+/// Takes the memory of so many more bytes than there is memory for, and no more: room that is kept would double at each call.
 pub fn grow_room(list: &mut Vec<u8>, more: usize) -> Result<(), AllocError>
     ensures items { list.new.items ≡ list.old.items }
     ensures len { vec_len list.new ≡ vec_len list.old }
@@ -29,7 +29,7 @@ pub fn grow_room(list: &mut Vec<u8>, more: usize) -> Result<(), AllocError>
     let Some(room) = (list.capacity() - list.len()).checked_add(more) else {
         return Err(AllocError);
     };
-    list.reserve(room)
+    list.reserve_exact(room)
 }
 
 /// Adds zeros for which there is room.

@@ -76,8 +76,9 @@ impl Log {
         let Some(bytes) = (self.bytes.capacity() - self.bytes.len()).checked_add(bytes) else {
             return Err(AllocError);
         };
-        self.rows.reserve(rows)?;
-        self.bytes.reserve(bytes)
+        // exactly, or else the room that is kept would double at each range
+        self.rows.reserve_exact(rows)?;
+        self.bytes.reserve_exact(bytes)
     }
 
     /// Adds a step with its bytes, for which there is room.
