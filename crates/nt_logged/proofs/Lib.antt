@@ -1,3 +1,4 @@
 mod Logging
 mod Standing
 mod Knowing
+mod Settling

@@ -1,15 +1,17 @@
 //! What the steps of a history do to a disk.
 
-ghost use Rattle.std.specs.Prelude.{◌≡◌, ℕ, List, ◌++◌, length, slice_get, Some};
+ghost use Rattle.std.specs.Prelude.{◌≡◌, ℕ, List, Option, ◌++◌, length, slice_get, Some};
 ghost use Rattle.std.specs.List.{AllByRecursion, AllZip, flat_map};
 ghost use Rattle.nt_outside.specs.Faults.{Rose};
 ghost use Rattle.nt_outside.specs.Log.{Step};
 ghost use Rattle.nt_outside.specs.Reads.{Reads, IsKnown, known_of};
 ghost use Rattle.nt_machine.specs.declared.entry.Entry.{Entry};
+ghost use Rattle.nt_machine.specs.declared.entry.EntryKind.TheVariants as entry;
 ghost use Rattle.nt_machine.specs.Faults.{HasFaults, FaultsRise};
 ghost use Rattle.nt_machine.specs.History.{Cluster, Settled, mine_of, ranges_of};
 ghost use Rattle.nt_machine.specs.Legal.{IsLegal};
 ghost use Rattle.nt_logged.specs.Stands.{IsBehind, StandOnceSettled, told_ranges};
+ghost use Rattle.nt_logged.specs.Settled.{IsLogged};
 ghost use Rattle.nt_logged.specs.Steps.{steps_of_history};
 
 /// No step covers a place before the beginning, and none a range that was handed back before.
@@ -18,6 +20,14 @@ pub fn steps_stand<M>()
         → AllByRecursion (IsBehind place) (steps_of_history history) }
     ensures settled { (place : ℕ) (history : List (Entry M)) → IsLegal place history
         → StandOnceSettled (steps_of_history history) }
+{}
+
+/// Each entry by which a range was settled has its step, with the bytes that the entry tells.
+pub fn settled_ranges_are_logged<M>()
+    ensures { (place : ℕ) (history : List (Entry M)) → IsLegal place history
+        → (k i n : ℕ) (bytes : Option (List ℕ))
+        → slice_get history k ≡ Some (record { context = i; kind = entry.Settled n bytes })
+        → IsLogged history n bytes }
 {}
 
 /// A log with the steps of a history tells what it told before, and then each range.

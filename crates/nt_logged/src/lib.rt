@@ -5,11 +5,13 @@
 //! in its log (`told_history`).
 //!
 //! Proved of the steps of a legal history: none covers a place before its beginning, and none a range that was handed back before
-//! (`steps_stand`); the log tells what it told
-//! before, and behind that the ranges, one by one (`ranges_are_told`), so a file whose ranges are all settled is its front and the
+//! (`steps_stand`); each settled range has its step (`settled_ranges_are_logged`); the log tells what it told before, and behind that the ranges, one by one (`ranges_are_told`), so a file whose ranges are all settled is its front and the
 //! bytes of the ranges (`settled_ranges_are_read`); faults of any context show as a count that rose (`faults_are_counted`).
 #![tactic(auto)]
 
 mod laws;
 
-pub use laws::{faults_are_counted, ranges_are_told, settled_ranges_are_read, steps_stand};
+pub use laws::{
+    faults_are_counted, ranges_are_told, settled_ranges_are_logged, settled_ranges_are_read,
+    steps_stand,
+};
