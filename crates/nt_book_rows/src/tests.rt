@@ -1,0 +1,125 @@
+//! A book of three clusters, and one that is full.
+
+ghost use Rattle.std.specs.Prelude.{◌≡◌, ◌+◌, ◌≤◌, ◌∷◌, [], length, IfOk};
+ghost use Rattle.nt_book.specs.Books.{book_clusters};
+ghost use Rattle.nt_book.specs.Pages.{IsPaged};
+
+use nt_book::{Book, ClusterMeta, LimitError, Limits, PageList, PageLists, PageMeta, RangeState};
+use std::alloc::{AllocError, Global};
+use std::test::Fail;
+
+/// What is kept of a cluster of so many bytes: two entries, and one column with so many elements on a page of three bytes.
+fn cluster(alloc: Global, context: u32, len: u64, count: u32) -> Result<ClusterMeta, AllocError>
+    requires len { 11 ≤ len }
+    requires count { count ≤ 24 }
+    ensures paged { IfOk result (λ meta. IsPaged meta) }
+    ensures one { IfOk result (λ meta. length meta.pages ≡ 1) }
+{
+    let page = PageMeta {
+        count,
+        place: 0,
+        size: 3,
+    };
+    let list = PageList::from_vec(vec![in alloc; page]?);
+    Ok(ClusterMeta {
+        context,
+        entries: 2,
+        len,
+        pages: PageLists::from_vec(vec![in alloc; list]?),
+    })
+}
+
+/// How a range is handed back.
+#[derive(Clone, Copy)]
+enum Back {
+    Filled,
+    AfterFaults(u64),
+}
+
+/// Appends a cluster, and hands its range back; or the limit that it passes.
+fn append(book: &mut Book, meta: &mut ClusterMeta, back: Back) -> Result<(), Fail>
+    requires paged { IsPaged meta.old }
+    requires lists { length meta.old.pages ≡ length book.old.firsts }
+    ensures firsts { book.new.firsts ≡ book.old.firsts }
+{
+    book.check(meta.len)?;
+    book.room()?;
+    let context = meta.context;
+    let number = book.append(meta);
+    match back {
+        Back::Filled => book.settle(number, context),
+        Back::AfterFaults(faults) => book.spoil(number, context, faults),
+    }
+    Ok(())
+}
+
+/// Limits of a range, of the file and of its clusters.
+fn limits(range: u64, file: u64, clusters: u32) -> Result<Limits, Fail> {
+    let Some(limits) = Limits::new(range, file, clusters) else {
+        return Err(Fail::new("limits that are too large"));
+    };
+    Ok(limits)
+}
+
+/// What a book tells of a cluster: its start, its first entry, the offset of its column, and its state.
+fn told(book: &Book, cluster: u32) -> Option<(u64, u64, u64, RangeState)>
+    requires { length book.now.firsts ≡ 1 }
+{
+    if cluster >= book.clusters() {
+        return None;
+    }
+    Some((
+        book.start(cluster),
+        book.first(cluster),
+        book.offset(cluster, 0),
+        book.state(cluster),
+    ))
+}
+
+#[test]
+fn a_book_tells_what_was_appended(rt: HostRuntime) -> Result<(), Fail> {
+    let alloc = rt.alloc();
+    let mut book = Book::new(alloc, 300, 1, limits(100, 1000, 7)?)?;
+    append(&mut book, &mut cluster(alloc, 1, 50, 5)?, Back::Filled)?;
+    append(
+        &mut book,
+        &mut cluster(alloc, 0, 60, 24)?,
+        Back::AfterFaults(4),
+    )?;
+    append(&mut book, &mut cluster(alloc, 1, 11, 0)?, Back::Filled)?;
+    let order = book.order(alloc)?;
+    assert_eq!(rt; order.as_slice(), [1, 0, 1].as_slice());
+    assert_eq!(rt; book.entries(), 6);
+    assert_eq!(rt; book.end(), 421);
+    let spoiled = RangeState::Spoiled { faults: 4 };
+    assert_eq!(rt; told(&book, 0), Some((300, 0, 0, RangeState::Settled)));
+    assert_eq!(rt; told(&book, 1), Some((350, 2, 5, spoiled)));
+    assert_eq!(rt; told(&book, 2), Some((410, 4, 29, RangeState::Settled)));
+    assert_eq!(rt; told(&book, 3), None);
+    Ok(())
+}
+
+#[test]
+fn a_full_book_takes_no_more(rt: HostRuntime) -> Result<(), Fail> {
+    let alloc = rt.alloc();
+    let mut book = Book::new(alloc, 900, 1, limits(100, 1000, 1)?)?;
+    let mut meta = cluster(alloc, 0, 50, 8)?;
+    append(&mut book, &mut meta, Back::Filled)?;
+    assert_eq!(rt; book.check(10), Err(LimitError::TooManyClusters));
+    // the limits of a range and of the file are told first
+    assert_eq!(rt;
+        book.check(51),
+        Err(LimitError::FileTooLarge {
+            end: 1001,
+            limit: 1000
+        })
+    );
+    assert_eq!(rt;
+        book.check(101),
+        Err(LimitError::RangeTooLarge {
+            len: 101,
+            limit: 100
+        })
+    );
+    Ok(())
+}

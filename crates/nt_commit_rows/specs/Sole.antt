@@ -1,0 +1,22 @@
+-- A context of which one range is out.
+use Rattle.std.specs.Prelude.{◌≡◌, ℕ, false, List, [], ◌∷◌, ◌++◌}
+use Rattle.std.specs.List.{AllByRecursion}
+use Rattle.nt_outside.specs.Range.{ExtState}
+use Rattle.nt_machine.specs.declared.entry.Entry.{Entry}
+use Rattle.nt_machine.specs.History.{Cluster, Out, is_out, ranges_of}
+use Rattle.nt_book.specs.declared.meta.ClusterMeta.{ClusterMeta}
+use Rattle.nt_commit.specs.declared.claim.Claim.{Claim}
+use Rattle.nt_commit.specs.Locked.{place_of}
+
+-- the claim is of the last range of a context's entries, so many bytes long, and no other range of theirs is out
+pub record IsSoleClaim {X : Type 0} (tell : X → ExtState) (entries : List (Entry ClusterMeta)) (context len : ℕ) (claim : Claim X) : Type 0 where
+  pub before : List (Cluster ClusterMeta)
+  pub last : Cluster ClusterMeta
+  pub are : ranges_of entries ≡ before ++ last ∷ []
+  pub back : AllByRecursion (λ (c : Cluster ClusterMeta). is_out c.state ≡ false) before
+  pub own : last.context ≡ context
+  pub number : last.number ≡ claim.cluster
+  pub out : last.state ≡ Out
+  pub range : place_of last ≡ (tell claim.ext).range
+  pub unfilled : (tell claim.ext).filled ≡ false
+  pub len_is : (tell claim.ext).range.len ≡ len
