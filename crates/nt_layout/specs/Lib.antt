@@ -1,0 +1,5 @@
+pub mod Blobs
+pub mod Headers
+pub mod Groups
+pub mod Finished
+pub mod Laid
