@@ -1,0 +1,16 @@
+pub mod Standing
+pub mod Starts
+pub mod Lengths
+pub mod Parts
+pub mod Spans
+pub mod Counts
+pub mod Headers
+pub mod Needs
+pub mod Pages
+pub mod Sound
+pub mod Lists
+pub mod Outlines
+pub mod Columns
+pub mod Clusters
+pub mod Whole
+pub mod Fields
