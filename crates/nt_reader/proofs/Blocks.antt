@@ -24,7 +24,8 @@ compressed_is file kind block differ =
     rw test refl
 
 piece_found : (e : ReadError) (o : Option (List ℕ)) (bytes : List ℕ) → standing_or e o ≡ Ok (standing 0 bytes) → found_or e o ≡ Ok bytes
-piece_found e (Some found) bytes h = ap (λ (l : List ℕ). Ok l) (ap (λ (a : At). a.left) (ok_is {E = ReadError} (standing 0 found) (standing 0 bytes) h))
+piece_found e (Some found) bytes h = ap (λ (l : List ℕ). Ok l)
+    (ap (λ (a : At). a.left) (ok_is {E = ReadError} (standing 0 found) (standing 0 bytes) h))
 piece_found e None bytes h = absurd cc
 
 piece_lost : (e f : ReadError) (o : Option (List ℕ)) → standing_or e o ≡ Err f → found_or {A = List ℕ} e o ≡ Err f
@@ -42,7 +43,8 @@ lost_is file kind block e same h =
 
 -- a block whose bytes are found is the envelope that they are
 pub found_is : (file : List ℕ) (kind : ℕ) (block : Block) (bytes : List ℕ) → block.size ≡ block.len
-    → piece_or (fault out_of_file block.place) file block.place block.size ≡ Ok (standing 0 bytes) → envelope_of file kind block ≡ opened_envelope block.place kind bytes (payload_of kind bytes)
+    → piece_or (fault out_of_file block.place) file block.place block.size ≡ Ok (standing 0 bytes)
+    → envelope_of file kind block ≡ opened_envelope block.place kind bytes (payload_of kind bytes)
 unfolding envelope_of
 found_is file kind block bytes same h =
     let test : eqb block.size block.len ≡ true = eq-eqb _ _ same in
@@ -51,14 +53,17 @@ found_is file kind block bytes same h =
 
 -- where no bytes are found, the answer is the one that says so
 pub lost-fails : (told : List ℕ) (kind : ℕ) (block : Block) (out : ReadError) (e : ReadFailure) → block.size ≡ block.len
-    → out ≡ with_values 0 0 (fault out_of_file block.place) → IsReadOrFails {V = At} (λ l. l) (Err e) (piece_or out told block.place block.size)
+    → out ≡ with_values 0 0 (fault out_of_file block.place)
+    → IsReadOrFails {V = At} (λ l. l) (Err e) (piece_or out told block.place block.size)
     → IsReadOrFails {V = Sealed} {W = Sealed} (λ s. s) (Err e) (envelope_of told kind block)
-lost-fails told kind block out (Defect d) same named h = lost_is told kind block d same (ap (λ (o : ReadError). piece_or o told block.place block.size) (sym named) ∙ h)
+lost-fails told kind block out (Defect d) same named h = lost_is told kind block d same
+    (ap (λ (o : ReadError). piece_or o told block.place block.size) (sym named) ∙ h)
 lost-fails told kind block out Fault same named h = tt
 lost-fails told kind block out Memory same named h = tt
 
 -- where they are found, the envelope is what they are
-pub found-opened_envelope : (told : List ℕ) (kind : ℕ) (block : Block) (bytes text : List ℕ) (out : ReadError) (r : Result Sealed ReadError) → text ≡ bytes → block.size ≡ block.len
+pub found-opened_envelope : (told : List ℕ) (kind : ℕ) (block : Block) (bytes text : List ℕ) (out : ReadError)
+    (r : Result Sealed ReadError) → text ≡ bytes → block.size ≡ block.len
     → out ≡ with_values 0 0 (fault out_of_file block.place) → piece_or out told block.place block.size ≡ Ok (standing 0 bytes)
     → opened_envelope block.place kind text (payload_of kind text) ≡ r → envelope_of told kind block ≡ r
 found-opened_envelope told kind block bytes text out r there same named h is =

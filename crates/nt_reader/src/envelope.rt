@@ -8,6 +8,7 @@ ghost use Rattle.nt_files.specs.Envelopes.{opened_envelope, envelope_of, envelop
 ghost use Rattle.nt_tfile.specs.Calls.{Serves, HasSize, ReadsFile, IsReadAs};
 ghost use Rattle.nt_reader.specs.Envelopes.{opened_bytes, block_of};
 
+use crate::faults::{BAD_ENVELOPE, COMPRESSED, OUT_OF_FILE, fault_with};
 use byteorder::{ByteOrder, LittleEndian};
 use nt_frame::{EnvelopeFault, read_envelope};
 use nt_num::ReadError;
@@ -15,15 +16,6 @@ use nt_outside::ReadAt;
 use nt_tfile::{ReadFailure, read_block};
 use std::alloc::Global;
 use std::marker::Model;
-
-/// The code of a block that is stored compressed.
-const COMPRESSED: u8 = 9;
-
-/// The code of a block that doesn't lie in the file.
-const OUT_OF_FILE: u8 = 10;
-
-/// The code of an envelope whose size, kind or checksum is wrong.
-const BAD_ENVELOPE: u8 = 11;
 
 /// Where a block stands in a file.
 #[derive(Clone, Copy, Debug, PartialEq, Eq)]
@@ -72,21 +64,6 @@ impl Envelope {
     }
 }
 
-/// A fault at a place, with what is kept and what is found there.
-fn fault_with(code: u8, at: u64, kept: u64, found: u64) -> ReadError
-    ensures { result ≡ with_values kept found (fault code at) }
-{
-    ReadError {
-        code,
-        at,
-        cluster: 0,
-        column: 0,
-        element: 0,
-        kept,
-        found,
-    }
-}
-
 /// What is wrong with bytes at a place that are no envelope of this kind.
 fn fault_of(fault: EnvelopeFault, bytes: &[u8], place: u64, kind: u16) -> ReadError
     ensures { result ≡ envelope_fault place kind bytes.now fault }
@@ -113,7 +90,8 @@ fn are_bytes(bytes: &[u8])
 
 /// The checksum of the envelope of this kind that bytes at a place are, or its fault.
 fn sum_of(bytes: &[u8], place: u64, kind: u16) -> Result<u64, ReadError>
-    ensures read { IsReadAs (λ sum. opened_bytes bytes.now sum) result (opened_envelope place kind bytes.now (payload_of kind bytes.now)) }
+    ensures read { IsReadAs (λ sum. opened_bytes bytes.now sum) result
+        (opened_envelope place kind bytes.now (payload_of kind bytes.now)) }
     ensures long { IfOk result (λ _. 16 ≤ length bytes.now) }
 {
     are_bytes(bytes);
@@ -141,7 +119,8 @@ pub fn read_sealed<F: ReadAt>(
 ) -> Result<Envelope, ReadFailure>
     requires { HasSize (F.state file.old) size }
     ensures file { Serves (F.state file.old) (F.state file.new) result }
-    ensures read { ReadsFile (λ e. e) (λ told. envelope_of told kind (block_of block)) (F.state file.old) result }
+    ensures read { ReadsFile (λ e. e)
+        (λ told. envelope_of told kind (block_of block)) (F.state file.old) result }
 {
     let place = block.place;
     if block.size != block.len {

@@ -1,15 +1,41 @@
-//! The whole reader of a file, of which envelopes stand so far.
+//! The whole reader of a file.
 //!
-//! `read_sealed` reads the envelope that is a block of a file: stored as it is, inside the file, of
-//! the kind and with the checksum that are required, or the first of these faults. Attaching to a
-//! file and reading its clusters come on top of it; what they will answer is said in nt_files.
+//! Start with `Reader::attach`, which reads the anchor, header and footer of a file and the page lists
+//! of its groups (`describing`, `groups`), and then `Reader::cluster`, which reads the pages of a
+//! cluster's open columns and looks at their values (`columns`, `pages`, `cluster`);
+//! `ClusterRead::entry` gives the trees of an entry. What they answer is said in nt_files.
 //!
-//! Words: those of nt_files; an `Envelope` here is one that was read, its payload and its checksum.
+//! Words: those of nt_files; an `Envelope` here is one that was read, its payload and its checksum;
+//! a *window* is a run of bytes of a file that were read at once.
 //!
-//! Proved: wherever the file tells its bytes, the answer is exactly `envelope_of` of nt_files (`read`);
-//! a fault of the outside comes only where the file's count rose (`file`). Nothing is only tested.
+//! Proved: wherever the file tells its bytes, `attach` answers exactly `outline_of` and `cluster`
+//! exactly `cluster_of` of nt_files, the first fault and its place included (`read`); a fault of the
+//! outside comes only where the file's count rose (`file`); an entry is that of the cluster (`entry`).
+//!
+//! Not proved: that pages which follow one another in the file are read by one call, at most 1 MiB at
+//! once (only tested); that memory is that of the page lists and of one cluster, whatever a file
+//! claims: nothing is reserved for a number in it before the bytes that bear it out were found.
+//!
+//! Choices that bind nobody else:
+//! - `ClusterRead` borrows the schema of its reader, so that `entry` takes none.
+//! - A fault or a frame whose place in the file doesn't fit 64 bits, which no machine can hold, is want of memory.
+//! - The clusters of a page list are copied once, with places that count from the file's beginning.
+//! - A closed column whose type isn't known is kept as an empty column of bits.
 #![tactic(auto)]
 
+mod cluster;
+mod columns;
+mod describing;
 mod envelope;
+mod faults;
+mod groups;
+mod known;
+mod moving;
+mod pages;
+mod reader;
+mod wanting;
+mod window;
 
+pub use cluster::ClusterRead;
 pub use envelope::{Block, Envelope, read_sealed};
+pub use reader::Reader;

@@ -1,0 +1,28 @@
+-- The entries that columns give.
+use Rattle.std.proofs.Common.{◌≡◌, ℕ, ◌<◌, List, slice_get, Some, option_map, sym, ap, subst, ◌∙◌, arith}
+use Rattle.std.specs.List.{range_with_len}
+use Rattle.std.proofs.lemmas.Option.{slice_get-map, slice_get-get_or}
+use Rattle.std.proofs.lemmas.List.FromFn.{length-range_with_len, get_or-range_with_len}
+use Rattle.nt_types.specs.TreeData.{TreesData}
+use Rattle.nt_encode.specs.Elements.{Element}
+use Rattle.nt_grammar.specs.Table.{Table}
+use Rattle.nt_plans.specs.Place.{open_plans}
+use Rattle.nt_trees.specs.TreeAt.{each_at}
+use Rattle.nt_files.specs.Clusters.{columns_by_id, entries_of_columns}
+use Rattle.nt_reader.specs.Columns.{ClusterData, given_entries}
+
+given-at : (t : Table) (cs : List (List Element)) (n i : ℕ) → i < n
+    → slice_get (entries_of_columns t cs n) i ≡ Some (each_at (open_plans t) (columns_by_id cs) i)
+given-at t cs n i lt =
+    let f : ℕ → TreesData = λ k. each_at (open_plans t) (columns_by_id cs) k in
+    slice_get-map f (range_with_len 0 n) i
+    ∙ ap (λ o. option_map f o) (slice_get-get_or (range_with_len 0 n) i 0 (omega (arith, length-range_with_len 0 n, lt))
+    ∙ ap (λ (k : ℕ). Some k) (get_or-range_with_len 0 n i 0 lt ∙ omega arith))
+
+-- an entry by its number
+pub entry-at : (c seen : ClusterData) (i : ℕ) (entry : TreesData) → c ≡ seen → i < seen.entries
+    → entry ≡ each_at (open_plans c.table) (columns_by_id c.columns) i → slice_get (given_entries seen) i ≡ Some entry
+entry-at c seen i entry is lt e =
+    subst (λ (d : ClusterData). slice_get (given_entries d) i ≡ Some entry) is
+    (given-at c.table c.columns c.entries i (omega (arith, ap (λ (d : ClusterData). d.entries) is, lt))
+    ∙ ap (λ (x : TreesData). Some x) (sym e))

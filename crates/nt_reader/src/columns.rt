@@ -1,0 +1,149 @@
+//! The columns of a cluster.
+
+ghost use Rattle.std.specs.Prelude.{◌≡◌, ◌<◌, length, map, slice_get, Some, IfOk};
+ghost use Rattle.nt_grammar.specs.declared.rows.ColumnRow.{ColumnRow};
+ghost use Rattle.nt_column.specs.Column.{columns_of, elements_at};
+ghost use Rattle.nt_files.specs.Clusters.{kind_of_code, pages_of_column, pages_listed, begins_behind, columns_from};
+ghost use Rattle.nt_tfile.specs.Calls.{Serves, HasSize, ReadsFile};
+ghost use Rattle.nt_reader.specs.Columns.{kind_or_bit, kept_empty, elements_in, held_elements, held_column, IsNextColumn, IsEmptyAt, ChangesOne};
+
+use crate::known::known_column;
+use crate::pages::push_pages;
+use crate::wanting::Wanting;
+use nt_column::ColumnSet;
+use nt_grammar::ColumnRow;
+use nt_outside::ReadAt;
+use nt_pagelists::{ClusterList, KnownColumn, PageItem};
+use nt_schema::Schema;
+use nt_tfile::ReadFailure;
+use nt_types::ColumnType;
+use std::alloc::Global;
+
+/// The type of a column, if it is one of those whose values can be read.
+fn kind_of_row(row: &ColumnRow) -> Option<ColumnType>
+    ensures { result ≡ kind_of_code row.now.code }
+{
+    ColumnType::of_code(row.code)
+}
+
+/// The type by which a column is kept.
+fn kept_kind(row: &ColumnRow) -> ColumnType
+    ensures { result ≡ kind_or_bit (kind_of_code row.now.code) }
+{
+    match kind_of_row(row) {
+        Some(kind) => kind,
+        None => ColumnType::Bit,
+    }
+}
+
+/// A column without elements for each of the schema.
+fn empty_columns(alloc: Global, schema: &Schema) -> Result<ColumnSet, Wanting>
+    ensures { IfOk result (λ set. columns_of set ≡ map kept_empty schema.now.columns) }
+{
+    let mut kinds = Vec::new(alloc);
+    for id in 0..schema.columns() {
+        kinds.push(kept_kind(schema.column(id)))?;
+    }
+    Ok(ColumnSet::new(alloc, &kinds)?)
+}
+
+/// The pages that a cluster lists of a column.
+fn pages_listed(cluster: &ClusterList, id: u32) -> &[PageItem]
+    ensures { result.now ≡ pages_listed cluster.now id }
+{
+    match cluster.columns.as_slice().get(id as usize) {
+        Some(column) => column.pages.as_slice(),
+        None => &[],
+    }
+}
+
+/// Whether a column begins behind all entries of a cluster.
+fn begins_behind(cluster: &ClusterList, known: &KnownColumn) -> bool
+    ensures { result ≡ begins_behind cluster.now known.now }
+{
+    known.is_principal
+        && u128::from(cluster.first) + u128::from(cluster.entries) <= u128::from(known.first)
+}
+
+/// Fills an empty column with the elements of its pages.
+fn fill<F: ReadAt>(
+    alloc: Global,
+    file: &mut F,
+    size: u64,
+    number: u32,
+    id: u32,
+    pages: &[PageItem],
+    columns: &mut ColumnSet,
+) -> Result<(), ReadFailure>
+    requires size { HasSize (F.state file.old) size }
+    requires empty { IsEmptyAt (columns_of columns.old) id }
+    ensures file { Serves (F.state file.old) (F.state file.new) result }
+    ensures read { let kind = (held_column (columns_of columns.old) id).kind in
+        ReadsFile (λ _. elements_at (columns_of columns.new) id)
+        (λ told. pages_of_column told number id kind pages.now) (F.state file.old) result }
+    ensures others { ChangesOne id (columns_of columns.old) (columns_of columns.new) }
+{
+    push_pages(alloc, file, size, number, id, pages, columns.buffer(id))
+}
+
+/// Reads the column with this id, of those that are still empty.
+fn read_column<F: ReadAt>(
+    alloc: Global,
+    file: &mut F,
+    size: u64,
+    number: u32,
+    cluster: &ClusterList,
+    schema: &Schema,
+    id: u32,
+    columns: &mut ColumnSet,
+) -> Result<(), ReadFailure>
+    requires size { HasSize (F.state file.old) size }
+    requires next { IsNextColumn schema.now.columns id (columns_of columns.old) }
+    ensures file { Serves (F.state file.old) (F.state file.new) result }
+    ensures read { (row : ColumnRow) → slice_get schema.now.columns id ≡ Some row
+        → ReadsFile (λ _. elements_at (columns_of columns.new) id)
+        (elements_in number cluster.now schema.now id row) (F.state file.old) result }
+    ensures others { ChangesOne id (columns_of columns.old) (columns_of columns.new) }
+{
+    let known = known_column(schema, id);
+    if !known.is_open {
+        return Ok(());
+    }
+    if begins_behind(cluster, &known) {
+        columns.zeros(id, cluster.entries);
+        return Ok(());
+    }
+    match kind_of_row(schema.column(id)) {
+        Some(_) => fill(
+            alloc,
+            file,
+            size,
+            number,
+            id,
+            pages_listed(cluster, id),
+            columns,
+        ),
+        None => Ok(()),
+    }
+}
+
+/// Reads the columns of a cluster, by id.
+pub fn read_columns<F: ReadAt>(
+    alloc: Global,
+    file: &mut F,
+    size: u64,
+    number: u32,
+    cluster: &ClusterList,
+    schema: &Schema,
+) -> Result<ColumnSet, ReadFailure>
+    requires { HasSize (F.state file.old) size }
+    ensures file { Serves (F.state file.old) (F.state file.new) result }
+    ensures read { let rows = schema.now.columns in ReadsFile (λ set. held_elements set)
+        (λ told. columns_from told number cluster.now schema.now 0 rows) (F.state file.old) result }
+{
+    let mut columns = empty_columns(alloc, schema)?;
+    for id in 0..schema.columns() {
+        read_column(alloc, file, size, number, cluster, schema, id, &mut columns)?;
+    }
+    Ok(columns)
+}

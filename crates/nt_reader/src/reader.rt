@@ -1,0 +1,103 @@
+//! A file that was attached to: its schema, and where its clusters lie.
+
+ghost use Rattle.std.specs.Prelude.{◌≡◌, ◌<◌, length};
+ghost use Rattle.nt_files.specs.Outlines.{outline_of};
+ghost use Rattle.nt_tfile.specs.Calls.{Serves, ReadsFile};
+ghost use Rattle.nt_reader.specs.Outlines.{numbered_cluster, entries_in};
+ghost use Rattle.nt_reader.specs.Columns.{given_entries};
+
+use crate::cluster::{ClusterRead, read_cluster};
+use crate::describing::read_described;
+use crate::groups::read_clusters;
+use nt_outside::ReadAt;
+use nt_pagelists::ClusterList;
+use nt_schema::Schema;
+use nt_tfile::{ReadFailure, read_tfile};
+use std::alloc::Global;
+use std::marker::Model;
+
+/// The schema of a file, and where the pages of its clusters lie. Contracts see it as the outline
+/// of the file.
+#[derive(Drop)]
+pub struct Reader {
+    schema: Schema,
+    clusters: Vec<ClusterList>,
+}
+
+impl Model for Reader {
+    ghost use Rattle.std.specs.Prelude.{◌<◌, ◌^◌, length};
+    ghost use Rattle.nt_files.specs.Outlines.{Outline};
+
+    ghost Value = { Outline };
+
+    ghost view = { λ r. record { table = r.schema; clusters = r.clusters.items } };
+
+    ghost invariant = { λ r. length r.clusters.items < 2 ^ 32 };
+}
+
+impl Reader {
+    /// Attaches to a file: its anchor, header and footer are read, and the page lists of all its
+    /// groups, but no page.
+    ///
+    /// # Errors
+    ///
+    /// A defect is the first fault of the file before any page, with one of the codes 1 to 20.
+    /// `Fault` comes only where the file's count of faults rose, `Memory` where memory ran out.
+    pub fn attach<F: ReadAt>(alloc: Global, file: &mut F) -> Result<Reader, ReadFailure>
+        ensures file { Serves (F.state file.old) (F.state file.new) result }
+        ensures read { ReadsFile (λ r. r) outline_of (F.state file.old) result }
+    {
+        let anchor = read_tfile(alloc, file)?;
+        let size = file.size()?;
+        let said = read_described(alloc, file, size, &anchor)?;
+        let clusters = read_clusters(alloc, file, size, &said)?;
+        Ok(Reader {
+            schema: said.schema,
+            clusters,
+        })
+    }
+
+    /// The rows of the file's schema.
+    pub fn schema(&self) -> &Schema
+        ensures { result.now ≡ self.now.table }
+    {
+        &self.schema
+    }
+
+    /// The number of clusters.
+    pub fn clusters(&self) -> u32
+        ensures { result ≡ length self.now.clusters }
+    {
+        self.clusters.len() as u32
+    }
+
+    /// The number of entries of a cluster.
+    pub fn entries_of(&self, k: u32) -> u64
+        requires { k < length self.now.clusters }
+        ensures { result ≡ (numbered_cluster self.now k).entries }
+    {
+        self.clusters[k as usize].entries
+    }
+
+    /// Reads a cluster: the pages of its open columns, and whether their values are those of entries.
+    ///
+    /// It takes memory for what the pages of the cluster hold, a column at a time.
+    ///
+    /// # Errors
+    ///
+    /// A defect is the first fault of the cluster, with one of the codes 9, 10, 21 and 22. `Fault`
+    /// comes only where the file's count of faults rose, `Memory` where memory ran out.
+    pub fn cluster<F: ReadAt>(
+        &self,
+        alloc: Global,
+        file: &mut F,
+        k: u32,
+    ) -> Result<ClusterRead<'_>, ReadFailure>
+        requires { k < length self.now.clusters }
+        ensures file { Serves (F.state file.old) (F.state file.new) result }
+        ensures read { ReadsFile (λ c. given_entries c)
+            (entries_in self.now k) (F.state file.old) result }
+    {
+        read_cluster(alloc, file, &self.schema, k, &self.clusters[k as usize])
+    }
+}
