@@ -1,1 +1,9 @@
 pub mod Apart
+pub mod Begun
+pub mod Endings
+pub mod Entries
+pub mod Finishing
+pub mod FirstByte
+pub mod Groups
+pub mod Leaving
+pub mod Within

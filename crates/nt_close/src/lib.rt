@@ -1,20 +1,42 @@
-//! The steps by which a file is begun and closed on a disk.
+//! How a file is begun and closed on a disk.
 //!
-//! `write_begin` appends the head of a file, whose first byte is 0, and its header blob, and syncs.
-//! `write_end` appends what stands behind the clusters, writes what stands behind the first byte,
-//! syncs, writes the first byte, and syncs. Both are stated over what the disk holds, its log among
-//! it, so that the order of the steps is part of what they promise. Which bytes these are is said by
-//! the crates that spell them; putting them together, with the limits and the ranges that are
-//! spoiled, is still to come.
+//! `begin` puts the head of a file, whose first byte is 0, and the header of its fields on an empty
+//! disk, and gives the schema and the book of the clusters to come. `close` puts page lists, footer,
+//! anchor and lists behind the clusters' ranges, then file header and directory in front of the
+//! header, and the first byte when all of that stays. `write_begin` and `write_end` are the steps of
+//! each, for bytes that are made. Start at `beginning.rt` and `closing.rt`. Which bytes these are is
+//! said in `nt_layout` (`file_begun`, `tail`, `front`, `finished`), in which order they are written
+//! in `specs/Steps.antt`, which limits they keep in `specs/Passing.antt`.
 //!
-//! Start at `specs/Steps.antt`.
+//! Proved of `begin`: after `Ok` the disk holds exactly that head and the header, with their steps
+//! in its log, and schema and book are those of the fields (`begun`); after a refusal what is left,
+//! and which limit is passed (`refused`). Of `close`: the cause of each answer, the lowest spoiled
+//! range and the first limit that is passed (`cause`); what is left after each answer, byte for byte
+//! and step for step, and nothing at all before all memory is there and all limits are tested
+//! (`left`); that a file with ranges of the clusters' lengths becomes the finished file with these
+//! ranges (`finished`), within the limits (`within`). A fault comes only where the disk's count rose.
+//! `closed_is_finished`, `first_byte_is_last` and `steps_stay_in_order` are laws on what is left.
+//! Nothing is only tested.
 //!
-//! Proved: after `Ok` exactly these steps were taken, in this order (`ok`); after a failure those
-//! before the step that failed, and what that one left (`left`); so the first byte is written only
-//! behind a sync of all the rest. A fault comes only where the disk's count rose (`cause`). Nothing
-//! is only tested.
+//! Choices that bind nobody else: parts that would begin behind 2^61 bytes, which no machine holds,
+//! are want of memory; the header is written again when a file is closed, for its checksum and its
+//! length, and not kept since it was begun.
 #![tactic(auto)]
 
+mod beginning;
+mod blobs;
+mod closing;
+mod ending;
+mod error;
+mod front;
+mod headers;
+mod laws;
+mod lists;
+mod spoiled;
 mod steps;
 
+pub use beginning::begin;
+pub use closing::close;
+pub use error::{BeginError, CloseError};
+pub use laws::{closed_is_finished, first_byte_is_last, steps_stay_in_order};
 pub use steps::{write_begin, write_end};

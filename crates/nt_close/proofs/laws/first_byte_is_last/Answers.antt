@@ -1,0 +1,5 @@
+use Rattle.nt_close.proofs.FirstByte.{begins_shut, closes_shut}
+use Rattle.nt_close.proofs.laws.first_byte_is_last.Goals as goal
+
+pub returns : goal.returns
+returns c = record { begins = begins_shut; closes = closes_shut }

@@ -1,0 +1,69 @@
+-- What the beginning of a file leaves.
+use Rattle.std.specs.Prelude.{◌≡◌, ◌≤◌, List, [], length, replicate, Option, Some, None}
+use Rattle.nt_types.specs.ShapeData.{MemberData}
+use Rattle.nt_outside.specs.Faults.{Rose}
+use Rattle.nt_outside.specs.Held.{Becomes, BecomesSome}
+use Rattle.nt_outside.specs.Disk.{DiskState, KeepsPlace}
+use Rattle.nt_container.specs.Spelling.{begun}
+use Rattle.nt_grammar.specs.Table.{Table}
+use Rattle.nt_grammar.specs.Rows.{Rows}
+use Rattle.nt_book.specs.Books.{BookData}
+use Rattle.nt_book.specs.declared.limits.Limits.{Limits}
+use Rattle.nt_book.specs.declared.limits.LimitError.{LimitError}
+use Rattle.nt_book.specs.declared.limits.LimitError.TheVariants as limit
+use Rattle.nt_book.specs.declared.params.Params.{Params}
+use Rattle.nt_layout.specs.Headers.{header_blob, clusters_place}
+use Rattle.nt_close.specs.declared.error.BeginError.{BeginError}
+use Rattle.nt_close.specs.declared.error.BeginError.TheVariants.{Memory, RangeTooLarge, FileTooLarge, Fault}
+use Rattle.nt_close.specs.Steps.{begun_on, IsBegunSoFar}
+use Rattle.nt_close.specs.Passing.{passed_by_begin}
+
+-- what is held, its length, its ranges and the count of faults are as before
+pub record IsUntouched (old new : DiskState) : Type 0 where
+  pub place : KeepsPlace old new
+  pub faults : new.faults ≡ old.faults
+
+-- a new book: its ranges begin behind the header, and no column is deferred
+abbrev pub new_book : Table → Limits → BookData
+new_book t limits =
+    record { begin = clusters_place t; limits = limits; firsts = replicate (length t.columns) 0; history = []; spare = 0 }
+
+-- the file of these fields is begun with this schema and book, within the limits
+pub record IsBegun (ps : List MemberData) (p : Params) (old new : DiskState) (book : BookData) (t : Table) : Type 0 where
+  pub rows : Rows ps p.plain t
+  pub book_is : book ≡ new_book t p.limits
+  pub within : passed_by_begin p.limits t ≡ None
+  pub held : Becomes old.held new.held (begun_on (begun 0 0 0) (header_blob t))
+  pub end : new.end ≡ clusters_place t
+  pub out : new.out ≡ old.out
+  pub later : old.faults ≤ new.faults
+
+-- a limit is passed, and nothing was written
+pub record IsTooLargeToBegin (ps : List MemberData) (p : Params) (passed : LimitError) (old new : DiskState) : Type 0 where
+  pub table : Table
+  pub rows : Rows ps p.plain table
+  pub passed_is : passed_by_begin p.limits table ≡ Some passed
+  pub untouched : IsUntouched old new
+
+-- a step failed, and those before it were taken
+pub record IsBeginCut (ps : List MemberData) (p : Params) (old new : DiskState) : Type 0 where
+  pub table : Table
+  pub rows : Rows ps p.plain table
+  pub within : passed_by_begin p.limits table ≡ None
+  pub held : BecomesSome old.held new.held (IsBegunSoFar (begun 0 0 0) (header_blob table))
+  pub out : new.out ≡ old.out
+  pub rose : Rose old.faults new.faults
+
+-- why the file of these fields isn't begun, and what is left then
+abbrev pub IsNotBegun : List MemberData → Params → DiskState → DiskState → BeginError → Type 0
+IsNotBegun ps p old new Memory = IsUntouched old new
+IsNotBegun ps p old new (RangeTooLarge len most) = IsTooLargeToBegin ps p (limit.RangeTooLarge len most) old new
+IsNotBegun ps p old new (FileTooLarge end most) = IsTooLargeToBegin ps p (limit.FileTooLarge end most) old new
+IsNotBegun ps p old new Fault = IsBeginCut ps p old new
+
+-- memory is wanting, or this limit is passed
+abbrev pub IsBeginPassed : Option LimitError → BeginError → Type 0
+IsBeginPassed passed Memory = Unit {0}
+IsBeginPassed passed (RangeTooLarge len most) = passed ≡ Some (limit.RangeTooLarge len most)
+IsBeginPassed passed (FileTooLarge end most) = passed ≡ Some (limit.FileTooLarge end most)
+IsBeginPassed passed Fault = ⊥

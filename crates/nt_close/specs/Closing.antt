@@ -1,0 +1,73 @@
+-- What the closing of a file leaves.
+use Rattle.std.specs.Prelude.{◌≡◌, ℕ, ◌≤◌, List, [], ◌++◌, map, length, Option, Some, None, Result, Ok, Err}
+use Rattle.std.specs.List.{concat}
+use Rattle.nt_outside.specs.Faults.{Rose}
+use Rattle.nt_outside.specs.Held.{Held, Becomes, BecomesSome}
+use Rattle.nt_outside.specs.Disk.{DiskState}
+use Rattle.nt_machine.specs.History.{Cluster}
+use Rattle.nt_grammar.specs.Table.{Table}
+use Rattle.nt_book.specs.declared.meta.ClusterMeta.{ClusterMeta}
+use Rattle.nt_book.specs.declared.params.Params.{Params}
+use Rattle.nt_book.specs.declared.limits.LimitError.{LimitError}
+use Rattle.nt_book.specs.declared.limits.LimitError.TheVariants as limit
+use Rattle.nt_book.specs.Books.{BookData, book_clusters, book_end}
+use Rattle.nt_layout.specs.Blobs.{blob_len}
+use Rattle.nt_layout.specs.Headers.{header_object, file_begun, clusters_place}
+use Rattle.nt_layout.specs.Finished.{finished, tail, front}
+use Rattle.nt_layout.specs.Laid.{IsWithin}
+use Rattle.nt_close.specs.declared.error.CloseError.{CloseError}
+use Rattle.nt_close.specs.declared.error.CloseError.TheVariants.{Spoiled, Memory, RangeTooLarge, FileTooLarge, Fault}
+use Rattle.nt_close.specs.Steps.{closed_on, IsClosedSoFar}
+use Rattle.nt_close.specs.Passing.{measures_of}
+use Rattle.nt_close.specs.Beginning.{IsUntouched}
+use Rattle.nt_close.specs.Spoiled.{NoneSpoiled, IsFirstSpoiled}
+
+-- a file can be closed: the book's ranges begin behind the header of its schema, the last one ends the file, and none is out
+pub record IsClosable (disk : DiskState) (book : BookData) (t : Table) : Type 0 where
+  pub begin : book.begin ≡ clusters_place t
+  pub end : disk.end ≡ book_end book
+  pub out : disk.out ≡ []
+
+-- the cause of an answer, in this order: the lowest spoiled range; a limit, the first that is passed; a step that failed. Want of memory has none
+abbrev pub HasCloseCause : BookData → Option LimitError → Result Unit CloseError → Type 0
+HasCloseCause book passed (Ok done) = NoneSpoiled book × (passed ≡ None)
+HasCloseCause book passed (Err (Spoiled cluster faults)) = IsFirstSpoiled book cluster faults
+HasCloseCause book passed (Err Memory) = NoneSpoiled book
+HasCloseCause book passed (Err (RangeTooLarge len most)) = NoneSpoiled book × (passed ≡ Some (limit.RangeTooLarge len most))
+HasCloseCause book passed (Err (FileTooLarge end most)) = NoneSpoiled book × (passed ≡ Some (limit.FileTooLarge end most))
+HasCloseCause book passed (Err Fault) = NoneSpoiled book × (passed ≡ None)
+
+-- all steps were taken
+pub record IsClosed (tail front : List ℕ) (old new : DiskState) : Type 0 where
+  pub held : Becomes old.held new.held (closed_on tail front)
+  pub out : new.out ≡ []
+  pub later : old.faults ≤ new.faults
+
+-- a step failed, and those before it were taken
+pub record IsCloseCut (tail front : List ℕ) (old new : DiskState) : Type 0 where
+  pub held : BecomesSome old.held new.held (IsClosedSoFar tail front)
+  pub out : new.out ≡ []
+  pub rose : Rose old.faults new.faults
+
+-- what is left after an answer: all steps, those before the one that failed, or none
+abbrev pub LeavesClosed : List ℕ → List ℕ → DiskState → DiskState → Result Unit CloseError → Type 0
+LeavesClosed tail front old new (Ok done) = IsClosed tail front old new
+LeavesClosed tail front old new (Err (Spoiled cluster faults)) = IsUntouched old new
+LeavesClosed tail front old new (Err Memory) = IsUntouched old new
+LeavesClosed tail front old new (Err (RangeTooLarge len most)) = IsUntouched old new
+LeavesClosed tail front old new (Err (FileTooLarge end most)) = IsUntouched old new
+LeavesClosed tail front old new (Err Fault) = IsCloseCut tail front old new
+
+-- one range for each cluster of a book, of its length
+abbrev pub AreRangesOf : BookData → List (List ℕ) → Type 0
+AreRangesOf book ranges = map length ranges ≡ map (λ (c : Cluster ClusterMeta). c.len) (book_clusters book)
+
+-- where a file that was begun held ranges of the clusters, whatever their bytes, it is the finished file with these ranges
+abbrev pub BecomesFinished : Table → BookData → ℕ → Option Held → Option Held → Type 0
+BecomesFinished t book most old new =
+    (ranges : List (List ℕ)) → AreRangesOf book ranges → (h : Held) → old ≡ Some h → h.image ≡ file_begun t ++ concat ranges
+    → (h' : Held) × (new ≡ Some h') × (h'.image ≡ finished t book most ranges)
+
+-- if the header's blob is within the limits, so are all blobs and the file
+abbrev pub StaysWithin : Table → Params → BookData → Type 0
+StaysWithin t p book = blob_len (length (header_object t)) ≤ p.limits.range → IsWithin t (measures_of p) book

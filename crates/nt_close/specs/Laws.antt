@@ -1,0 +1,35 @@
+-- What the steps by which a file is begun and closed leave of it.
+use Rattle.std.specs.Prelude.{◌≡◌, ◌⊎◌, ℕ, ◌<◌, List, [], ◌∷◌, ◌++◌, length}
+use Rattle.std.specs.List.{concat}
+use Rattle.nt_outside.specs.Log.{FailedAppend}
+use Rattle.nt_outside.specs.Held.{Held, nothing_held}
+use Rattle.nt_outside.specs.Order.{FirstByteLast}
+use Rattle.nt_outside.specs.Reads.{Reads}
+use Rattle.nt_container.specs.Spelling.{begun}
+use Rattle.nt_grammar.specs.Table.{Table}
+use Rattle.nt_book.specs.Books.{BookData}
+use Rattle.nt_layout.specs.Headers.{file_begun, clusters_place}
+use Rattle.nt_layout.specs.Finished.{finished, tail, front}
+use Rattle.nt_close.specs.Steps.{closed_on, IsBegunSoFar, IsClosedSoFar}
+use Rattle.nt_close.specs.Closing.{AreRangesOf}
+
+-- a file that was begun, and holds ranges of the clusters' lengths, is the finished file with these ranges once it is closed
+abbrev pub ClosedIsFinished : Type 0
+ClosedIsFinished =
+    (t : Table) (book : BookData) (most : ℕ) (ranges : List (List ℕ)) (h : Held) → book.begin ≡ clusters_place t → AreRangesOf book ranges
+    → h.image ≡ file_begun t ++ concat ranges → (closed_on (tail t book most) (front t book most) h).image ≡ finished t book most ranges
+
+-- the first byte is 0, and there is one
+abbrev pub IsShut : List ℕ → Type 0
+IsShut image = (rest : List ℕ) × (image ≡ 0 ∷ rest)
+
+-- until all steps are taken the first byte is 0: of a file that is begun, unless nothing is known of it but that its first append failed; of one that is closed, unless all of it stands there
+pub record FirstByteIsLast : Type 0 where
+  pub begins : (blob : List ℕ) (left : Held) → IsBegunSoFar (begun 0 0 0) blob nothing_held left → IsShut left.image ⊎ ((n : ℕ) × (left.log ≡ FailedAppend n ∷ []))
+  pub closes : (tail front : List ℕ) (h left : Held) → IsShut h.image → IsClosedSoFar tail front h left
+      → IsShut left.image ⊎ (left.image ≡ (closed_on tail front h).image)
+
+-- all that is written stays before the first byte is written over
+pub record StepsStayInOrder : Type 0 where
+  pub begins : (blob : List ℕ) (left : Held) → IsBegunSoFar (begun 0 0 0) blob nothing_held left → FirstByteLast left.log
+  pub closes : (tail front : List ℕ) (h left : Held) → 0 < length h.image → Reads h.log h.image → FirstByteLast h.log → IsClosedSoFar tail front h left → FirstByteLast left.log

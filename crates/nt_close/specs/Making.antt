@@ -1,0 +1,110 @@
+-- What stands behind the ranges of a file's clusters, made part by part.
+use Rattle.std.specs.Prelude.{◌≡◌, ℕ, ◌+◌, List, [], ◌∷◌, ◌++◌, length, drop, Option, Some}
+use Rattle.std.specs.List.{concat}
+use Rattle.nt_format.specs.Envelopes.{envelope}
+use Rattle.nt_files.specs.Envelopes.{footer_kind}
+use Rattle.nt_container.specs.declared.anchor.Anchor.{Anchor}
+use Rattle.nt_container.specs.declared.parts.FileFields.{FileFields}
+use Rattle.nt_container.specs.Lengths.{begun_len, anchor_part_len, key_list_part_len, free_list_part_len}
+use Rattle.nt_container.specs.Spelling.{header_part, record_part, anchor_part, key_list_part, free_list_part}
+use Rattle.nt_grammar.specs.Table.{Table}
+use Rattle.nt_book.specs.declared.limits.Limits.{Limits}
+use Rattle.nt_book.specs.declared.limits.LimitError.{LimitError}
+use Rattle.nt_book.specs.declared.limits.LimitError.TheVariants as limit
+use Rattle.nt_book.specs.Books.{BookData, book_end}
+use Rattle.nt_pagelists.specs.declared.group.Group.{Group}
+use Rattle.nt_pagelists.specs.FooterWriting.{footer_text}
+use Rattle.nt_layout.specs.Blobs.{blob, object_place}
+use Rattle.nt_layout.specs.Headers.{header_object, header_sum}
+use Rattle.nt_layout.specs.Groups.{ClusterSpan, list_object, span_group}
+use Rattle.nt_tfile.specs.Places.{ArePlaces}
+use Rattle.nt_layout.specs.Finished.{list_blobs, footer_blob, anchor_of_file, keys_start, free_start, file_len, tail}
+use Rattle.nt_close.specs.declared.error.CloseError.{CloseError}
+use Rattle.nt_close.specs.declared.error.CloseError.TheVariants.{Spoiled, Memory, RangeTooLarge, FileTooLarge, Fault}
+use Rattle.nt_close.specs.declared.headers.HeaderFacts.{HeaderFacts}
+use Rattle.nt_close.specs.Passing.{first_passed}
+
+-- memory is wanting, or this limit is passed
+abbrev pub IsPassed : Option LimitError → CloseError → Type 0
+IsPassed passed (Spoiled cluster faults) = ⊥
+IsPassed passed Memory = Unit {0}
+IsPassed passed (RangeTooLarge len most) = passed ≡ Some (limit.RangeTooLarge len most)
+IsPassed passed (FileTooLarge end most) = passed ≡ Some (limit.FileTooLarge end most)
+IsPassed passed Fault = ⊥
+
+-- memory is wanting, or the first limit that a file passes is passed by one of its first blobs, which are so long
+abbrev pub ArePassedBy : Limits → List ℕ → CloseError → Type 0
+ArePassedBy limits lens e = (more : List ℕ) (end : ℕ) → IsPassed (first_passed limits (lens ++ more) end) e
+
+-- the same of one blob
+abbrev pub IsPassedBy : Limits → ℕ → CloseError → Type 0
+IsPassedBy limits len e = ArePassedBy limits (len ∷ []) e
+
+-- no limit is passed by blobs of these lengths: it is by what comes behind them, if it is
+abbrev pub NonePassed : Limits → List ℕ → Type 0
+NonePassed limits lens = (more : List ℕ) (end : ℕ) → first_passed limits (lens ++ more) end ≡ first_passed limits more end
+
+-- the checksum and the length of a schema's header
+pub record AreHeaderFacts (t : Table) (facts : HeaderFacts) : Type 0 where
+  pub sum : facts.sum ≡ header_sum t
+  pub len : facts.len ≡ length (header_object t)
+
+-- the blob of the page list of these clusters stands behind the bytes that begin at the end of the ranges, and their group behind the others
+pub record AddsList (sum : ℕ) (book : BookData) (s : ClusterSpan) (old new : List ℕ) (groups more : List Group) : Type 0 where
+  pub bytes : new ≡ old ++ blob (book_end book + length old) (list_object sum book s)
+  pub group : more ≡ groups ++ span_group sum book (book_end book + length old) s ∷ []
+
+-- the footer of these groups
+unfoldable pub footer_with : Table → List Group → List ℕ
+footer_with t gs = envelope footer_kind (footer_text (header_sum t) t gs)
+
+-- the anchor of a file whose footer is this object, with its blob at a place
+abbrev pub anchor_to : Table → ℕ → List ℕ → Anchor
+anchor_to t place footer = record {
+  header = object_place begun_len;
+  header_size = length (header_object t);
+  header_len = length (header_object t);
+  footer = object_place place;
+  footer_size = length footer;
+  footer_len = length footer;
+}
+
+-- the footer's blob stands behind the bytes that begin at a place, and the anchor leads to it
+pub record AddsFooter (t : Table) (start : ℕ) (gs : List Group) (old new : List ℕ) (a : Anchor) : Type 0 where
+  pub bytes_are : new ≡ old ++ blob (start + length old) (footer_with t gs)
+  pub anchor_is : a ≡ anchor_to t (start + length old) (footer_with t gs)
+
+-- anchor, list of keys and list of free pieces from a place on
+abbrev pub container_behind : ℕ → Anchor → List ℕ
+container_behind place a =
+    anchor_part place a
+    ++ (key_list_part (place + anchor_part_len) place
+    ++ free_list_part (place + anchor_part_len + key_list_part_len) (place + anchor_part_len + key_list_part_len + free_list_part_len))
+
+-- where the lists and the end of a file are whose anchor begins there
+abbrev pub fields_behind : ℕ → FileFields
+fields_behind place = record {
+  end = place + anchor_part_len + key_list_part_len + free_list_part_len;
+  keys = place + anchor_part_len;
+  free = place + anchor_part_len + key_list_part_len;
+}
+
+-- where the lists and the end of the finished file are
+abbrev pub fields_of : Table → BookData → ℕ → FileFields
+fields_of t book most = record { end = file_len t book most; keys = keys_start t book most; free = free_start t book most }
+
+-- page lists and footer stand behind the ranges, and the anchor leads to header and footer
+pub record AreBlobsBehind (t : Table) (book : BookData) (most : ℕ) (bytes : List ℕ) (a : Anchor) : Type 0 where
+  pub bytes_are : bytes ≡ concat (list_blobs t book most) ++ footer_blob t book most
+  pub anchor_is : a ≡ anchor_of_file t book most
+
+-- all of it stands behind the ranges, where file header and directory say so; the file ends behind it
+pub record IsEnding (t : Table) (book : BookData) (most : ℕ) (bytes : List ℕ) (f : FileFields) : Type 0 where
+  pub bytes_are : bytes ≡ tail t book most
+  pub fields_are : f ≡ fields_of t book most
+  pub places : ArePlaces f
+  pub end : f.end ≡ book_end book + length bytes
+
+-- what stands in front of the header's blob, without the first byte, if file header and directory say so
+abbrev pub front_with : FileFields → List ℕ
+front_with f = drop 1 (header_part f.end f.free) ++ record_part f.keys

@@ -1,0 +1,42 @@
+//! How a file is closed.
+
+ghost use Rattle.std.specs.Prelude.{◌≡◌, OnOk};
+ghost use Rattle.nt_layout.specs.Finished.{tail, front};
+ghost use Rattle.nt_close.specs.Passing.{passed_by_close};
+ghost use Rattle.nt_close.specs.Closing.{IsClosable, HasCloseCause, LeavesClosed, BecomesFinished, StaysWithin};
+
+use crate::ending::ending_of;
+use crate::error::CloseError;
+use crate::front::write_ending;
+use crate::spoiled::refuse_spoiled;
+use nt_book::{Book, Params};
+use nt_outside::Disk;
+use nt_schema::Schema;
+use std::alloc::Global;
+
+/// Closes the file of a schema whose ranges are those of a book: page lists, footer, anchor and the
+/// lists of keys and of free pieces behind the ranges, file header and directory behind the first
+/// byte, and that byte once all the rest stays. All memory is taken, and all limits are tested,
+/// before the first of these steps. After a refusal the first byte is what it was, but for a fault
+/// of its own write or of the sync behind it.
+pub fn close<D: Disk>(
+    alloc: Global,
+    disk: &mut D,
+    book: &Book,
+    schema: &Schema,
+    params: &Params,
+) -> Result<(), CloseError>
+    requires { IsClosable (D.state disk.old) book.now schema.now }
+    ensures cause { HasCloseCause book.now (passed_by_close params.now schema.now book.now) result }
+    ensures left { LeavesClosed (tail schema.now book.now params.now.group)
+        (front schema.now book.now params.now.group) (D.state disk.old) (D.state disk.new) result }
+    ensures finished { OnOk result (BecomesFinished schema.now book.now params.now.group
+        (D.state disk.old).held (D.state disk.new).held) }
+    ensures within { OnOk result (StaysWithin schema.now params.now book.now) }
+{
+    refuse_spoiled(book)?;
+    let ending = ending_of(alloc, book, schema, params)?;
+    disk.room(5, ending.tail.len() as u64 + 226)?;
+    write_ending(disk, &ending)?;
+    Ok(())
+}

@@ -1,0 +1,19 @@
+//! Laws on what the steps leave by which a file is begun and closed.
+
+ghost use Rattle.nt_close.specs.Laws.{ClosedIsFinished, FirstByteIsLast, StepsStayInOrder};
+
+/// A file that was begun, and holds ranges of the clusters' lengths, is the finished file with these
+/// ranges once it is closed.
+pub fn closed_is_finished()
+    ensures { ClosedIsFinished }
+{}
+
+/// Until all steps are taken the first byte is 0.
+pub fn first_byte_is_last()
+    ensures { FirstByteIsLast }
+{}
+
+/// The steps keep a log in order: all that is written stays before the first byte is written over.
+pub fn steps_stay_in_order()
+    ensures { StepsStayInOrder }
+{}

@@ -1,0 +1,9 @@
+//! Rows for `nt_close`: files of one field that are begun, get clusters of one page each, and are
+//! closed, over memory: their lengths and bytes as they are laid out by hand, the limits that they
+//! pass, ranges that are spoiled, and each call of the disk failing in turn.
+#![tactic(auto)]
+
+#[cfg(test)]
+mod files;
+#[cfg(test)]
+mod tests;

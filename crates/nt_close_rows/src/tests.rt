@@ -1,0 +1,206 @@
+//! Files begun and closed.
+
+use crate::files::{End, Shape, write_file};
+use nt_close::{BeginError, CloseError};
+use nt_memory::{MemHost, Object};
+use std::alloc::Global;
+use std::test::*;
+
+/// The page of 1 and the largest number, and its bytes sorted into planes.
+const TWO: &[u8] = b"\x01\0\0\0\0\0\0\0\xff\xff\xff\xff\xff\xff\xff\xff";
+
+const TWO_SPLIT: &[u8] = b"\x01\xff\0\xff\0\xff\0\xff\0\xff\0\xff\0\xff\0\xff";
+
+/// The page of 7.
+const ONE: &[u8] = b"\x07\0\0\0\0\0\0\0";
+
+/// Plain columns, two clusters a group, and the largest limits.
+const WIDE: Shape = Shape {
+    plain: true,
+    group: 2,
+    range: 1 << 30,
+    file: 1 << 56,
+};
+
+/// Whether a file has so many bytes, and these at their places.
+fn lies_so(host: &MemHost, len: usize, places: &[(usize, &[u8])]) -> bool {
+    let Some(file) = host.file("o") else {
+        return false;
+    };
+    file.len() == len
+        && places.iter().all(|(place, bytes)| file
+            .get(*place..)
+            .is_some_and(|rest| rest.starts_with(bytes)))
+}
+
+#[test]
+fn files_lie_as_they_are_laid_out(rt: HostRuntime) -> Result<(), Fail> {
+    for (plain, pages, len, places) in [
+        // the end and the list of free pieces, the list of keys, and the checksums of header, page,
+        // page list, footer and anchor
+        (
+            true,
+            [TWO].as_slice(),
+            1137,
+            [
+                (0, b"root\0\x10\x39\xe8".as_slice()),
+                (12, b"\0\0\0\0\0\0\x04\x71\0\0\0\0\0\0\x04\x2a"),
+                (200, b"\0\0\0\0\0\0\x03\xb9"),
+                (401, b"\x0a\0"),
+                (437, b"\x09\xab\xfb\xb1\x20\x74\xa8\xce"),
+                (503, b"\x57\x58\xde\xca\xb5\x7d\x9e\x78"),
+                (669, b"\xef\xb6\x16\xd6\x81\xe5\x41\x7a"),
+                (811, b"\xdd\x5c\x18\xa4\xb3\x84\x2c\x14"),
+                (945, b"\x77\x9a\xe2\x51\x61\xf7\x33\xd7"),
+            ]
+            .as_slice(),
+        ),
+        (
+            false,
+            &[TWO_SPLIT],
+            1137,
+            &[(0, b"root"), (401, b"\x16\0"), (487, TWO_SPLIT)],
+        ),
+        (
+            true,
+            &[],
+            857,
+            &[
+                (12, b"\0\0\0\0\0\0\x03\x59"),
+                (487, b"\x02\0\x34\0"),
+                (503, b"\x09\xab\xfb\xb1\x20\x74\xa8\xce"),
+            ],
+        ),
+        // two page lists, of two clusters and of one, and the footer with their groups
+        (
+            true,
+            &[ONE, ONE, ONE],
+            1535,
+            &[
+                (661, b"\x03\0\xc8\0"),
+                (903, b"\x03\0\x7c\0"),
+                (1069, b"\x02\0\x94\0"),
+            ],
+        ),
+    ] {
+        let mut host = MemHost::new(rt.alloc());
+        let shape = Shape { plain, ..WIDE };
+        let end = write_file(rt.alloc(), &mut host, &shape, pages, pages.len())?;
+        assert_eq!(rt; end, End::Closed);
+        assert!(rt; lies_so(&host, len, places), "of {len}");
+    }
+    Ok(())
+}
+
+#[test]
+fn limits_are_told(rt: HostRuntime) -> Result<(), Fail> {
+    let large = |len, limit| CloseError::RangeTooLarge { len, limit };
+    for (group, range, file, pages, end) in [
+        // the header, a page list of two clusters, and the footer with three groups
+        (
+            2,
+            218,
+            2000,
+            [].as_slice(),
+            End::NotBegun(BeginError::RangeTooLarge {
+                len: 219,
+                limit: 218,
+            }),
+        ),
+        (
+            2,
+            241,
+            2000,
+            &[ONE, ONE, ONE],
+            End::NotClosed(large(242, 241)),
+        ),
+        (
+            1,
+            237,
+            2000,
+            &[ONE, ONE, ONE],
+            End::NotClosed(large(238, 237)),
+        ),
+        // the end behind the header, and behind all parts
+        (
+            2,
+            2000,
+            444,
+            &[],
+            End::NotBegun(BeginError::FileTooLarge {
+                end: 445,
+                limit: 444,
+            }),
+        ),
+        (
+            2,
+            2000,
+            1100,
+            &[TWO],
+            End::NotClosed(CloseError::FileTooLarge {
+                end: 1137,
+                limit: 1100,
+            }),
+        ),
+        (2, 242, 1535, &[ONE, ONE, ONE], End::Closed),
+    ] {
+        let mut host = MemHost::new(rt.alloc());
+        let shape = Shape {
+            plain: true,
+            group,
+            range,
+            file,
+        };
+        let is = write_file(rt.alloc(), &mut host, &shape, pages, pages.len())?;
+        assert_eq!(rt; is, end);
+        let first = host.file("o").and_then(|f| f.first().copied());
+        assert!(rt; first == Some(b'r') || is != End::Closed);
+        assert!(rt; first != Some(b'r') || is == End::Closed);
+    }
+    Ok(())
+}
+
+#[test]
+fn the_lowest_spoiled_range_is_told(rt: HostRuntime) -> Result<(), Fail> {
+    let mut host = MemHost::new(rt.alloc());
+    let pages = [ONE, ONE, ONE, ONE];
+    let end = write_file(rt.alloc(), &mut host, &WIDE, &pages, 2)?;
+    let told = CloseError::Spoiled {
+        cluster: 2,
+        faults: 2,
+    };
+    assert_eq!(rt; end, End::NotClosed(told));
+    assert!(rt; lies_so(&host, 677, &[(0, b"\0oot")]));
+    Ok(())
+}
+
+/// The file of one cluster when this call of the disk fails, and its first byte.
+fn failing(alloc: Global, call: u64) -> Result<(End, Option<u8>), Fail> {
+    let mut host = MemHost::new(alloc);
+    host.fail(Object::Disk, call)?;
+    let end = write_file(alloc, &mut host, &WIDE, &[TWO], 1)?;
+    let first = host.file("o").and_then(|f| f.first().copied());
+    Ok((end, first))
+}
+
+#[test]
+fn each_call_fails_in_turn(rt: HostRuntime) -> Result<(), Fail> {
+    let begun = End::NotBegun(BeginError::Fault);
+    let (end, _) = failing(rt.alloc(), 1)?; // of such a file nothing is known
+    assert_eq!(rt; end, begun);
+    for call in [2, 3] {
+        assert_eq!(rt; failing(rt.alloc(), call)?, (begun, Some(0)));
+    }
+    // the fourth call appends the cluster; then the tail, the front, and the sync before the first byte
+    let closed = End::NotClosed(CloseError::Fault);
+    for call in [5, 6, 7] {
+        assert_eq!(rt; failing(rt.alloc(), call)?, (closed, Some(0)));
+    }
+    // that byte is the old one or the new one, and the new one when the sync behind it fails
+    let (end, first) = failing(rt.alloc(), 8)?;
+    assert_eq!(rt; end, closed);
+    assert!(rt; first == Some(0) || first == Some(b'r'));
+    assert_eq!(rt; failing(rt.alloc(), 9)?, (closed, Some(b'r')));
+    assert_eq!(rt; failing(rt.alloc(), 10)?, (End::Closed, Some(b'r')));
+    Ok(())
+}
