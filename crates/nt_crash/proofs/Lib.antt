@@ -1,0 +1,6 @@
+mod Firsts
+mod Orders
+mod Opening
+mod Closing
+mod Filling
+mod Finishing

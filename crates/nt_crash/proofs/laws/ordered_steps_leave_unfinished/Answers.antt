@@ -1,0 +1,13 @@
+use Rattle.nt_crash.proofs.Filling.{read-cut}
+use Rattle.nt_crash.proofs.Opening.{written-left, torn-left}
+use Rattle.nt_crash.proofs.Orders.{ordered}
+use Rattle.nt_crash.proofs.laws.ordered_steps_leave_unfinished.Goals as goal
+
+pub returns-clause-order : goal.returns-clause-order
+returns-clause-order c = λ byte bytes log order. read-cut _ _ (ordered byte bytes log order)
+
+pub returns-clause-written : goal.returns-clause-written
+returns-clause-written c = written-left
+
+pub returns-clause-torn : goal.returns-clause-torn
+returns-clause-torn c = torn-left

@@ -1,0 +1,84 @@
+//! What a crash leaves of a file, wherever it cuts the steps off.
+
+ghost use Rattle.std.specs.Prelude.{◌≡◌, ◌⊎◌, ℕ, List, [], ◌∷◌, ◌++◌};
+ghost use Rattle.nt_types.specs.TreeData.{TreesData};
+ghost use Rattle.nt_outside.specs.Log.{Step, Write, FailedWrite, Append, Sync};
+ghost use Rattle.nt_outside.specs.Reads.{Reads};
+ghost use Rattle.nt_outside.specs.Crash.{crash_of, MayLeave};
+ghost use Rattle.nt_outside.specs.Order.{FirstByteLast};
+ghost use Rattle.nt_outside.specs.Held.{Held, nothing_held};
+ghost use Rattle.nt_container.specs.Spelling.{begun};
+ghost use Rattle.nt_grammar.specs.Table.{Table};
+ghost use Rattle.nt_grammar.specs.ReadingBack.{IsDescribed};
+ghost use Rattle.nt_book.specs.Books.{BookData};
+ghost use Rattle.nt_files.specs.Files.{Means};
+ghost use Rattle.nt_layout.specs.Headers.{header_blob};
+ghost use Rattle.nt_layout.specs.Finished.{finished, tail, front};
+ghost use Rattle.nt_layout.specs.Laid.{Measures, AreMeasures};
+ghost use Rattle.nt_close.specs.Steps.{IsBegunSoFar, closed_on, IsClosedSoFar};
+ghost use Rattle.nt_crash.specs.Cuts.{ReadsButFirst, LeavesUnfinished, LeavesUnfinishedOr, LeavesOnly};
+ghost use Rattle.nt_crash.specs.Fillings.{IsFilling, IsFilled, IsRangedAs, IsFilledWith, IsWrittenSoFar};
+
+use nt_book::ClusterMeta;
+use nt_finished::finished_files_mean_their_entries;
+use nt_logged::{ranges_are_told, steps_stand};
+
+/// Of a file that began with an append, and whose first byte is written over only right behind a
+/// sync, a crash leaves what isn't finished, or that byte was written over before, whole or not;
+/// right behind that write it leaves what stood there, but maybe for that byte.
+pub fn ordered_steps_leave_unfinished()
+    ensures order { (byte : ℕ) (bytes : List ℕ) (log : List Step)
+        → FirstByteLast (Append (byte ∷ bytes) ∷ log)
+        → LeavesUnfinishedOr (λ (left : List ℕ). Unit {0}) (Append (byte ∷ bytes) ∷ log) }
+    ensures written { (log : List Step) (byte : ℕ) (left : List ℕ)
+        → MayLeave (crash_of ((log ++ Sync ∷ []) ++ Write 0 (byte ∷ []) ∷ [])) left
+        → Reads log left ⊎ ReadsButFirst log byte left }
+    ensures torn { (log : List Step) (byte : ℕ) (left : List ℕ)
+        → MayLeave (crash_of ((log ++ Sync ∷ []) ++ FailedWrite 0 (byte ∷ []) ∷ [])) left
+        → Reads log left ⊎ ReadsButFirst log byte left }
+{}
+
+/// While a file is begun, and while contexts fill it, whatever they do, a crash leaves what isn't
+/// finished.
+pub fn filling_leaves_unfinished()
+    ensures beginning { (t : Table) (left : Held)
+        → IsBegunSoFar (begun 0 0 0) (header_blob t) nothing_held left → LeavesUnfinished left.log }
+    ensures filling { (t : Table) (log : List Step) → IsFilling t log → LeavesUnfinished log }
+{
+    steps_stand::<ClusterMeta>();
+}
+
+/// While a file is closed, a crash leaves what isn't finished, or its first byte was written over
+/// before, whole or not, and it may leave the finished file. Once it is closed, a crash leaves
+/// just that.
+pub fn closing_leaves_unfinished_or_finished()
+    ensures closing { (t : Table) (book : BookData) (most : ℕ) (ranges : List (List ℕ))
+        (h left : Held) → IsRangedAs t book ranges → IsFilled t ranges h.log
+        → IsClosedSoFar (tail t book most) (front t book most) h left
+        → LeavesUnfinishedOr (λ bytes. bytes ≡ finished t book most ranges) left.log }
+    ensures closed { (t : Table) (book : BookData) (most : ℕ) (ranges : List (List ℕ)) (h : Held)
+        → IsRangedAs t book ranges → IsFilled t ranges h.log
+        → LeavesOnly (λ bytes. bytes ≡ finished t book most ranges)
+        (closed_on (tail t book most) (front t book most) h).log }
+{
+    steps_stand::<ClusterMeta>();
+    ranges_are_told::<ClusterMeta>();
+}
+
+/// So a crash never leaves a file that is read and lacks entries, however far it is written: it
+/// isn't finished, or it means its schema and the entries of all its clusters.
+pub fn crashes_leave_all_entries_or_none()
+    ensures written { (t : Table) (clusters : List (List TreesData)) (m : Measures)
+        (book : BookData) (left : Held)
+        → IsDescribed t → AreMeasures m → IsWrittenSoFar t clusters m book left
+        → LeavesUnfinishedOr (λ bytes. Means bytes t clusters) left.log }
+    ensures closed { (t : Table) (clusters : List (List TreesData)) (m : Measures)
+        (book : BookData) (h : Held)
+        → IsDescribed t → AreMeasures m → IsFilledWith t clusters m book h.log
+        → LeavesOnly (λ bytes. Means bytes t clusters)
+        (closed_on (tail t book m.group) (front t book m.group) h).log }
+{
+    steps_stand::<ClusterMeta>();
+    ranges_are_told::<ClusterMeta>();
+    finished_files_mean_their_entries();
+}
