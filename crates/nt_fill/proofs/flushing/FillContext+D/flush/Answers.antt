@@ -1,0 +1,88 @@
+use Rattle.std.proofs.Common.{◌∙◌, ap, sym, refl, subst, ℕ, ◌-◌, List, [], ◌++◌, length, drop, arith}
+use Rattle.std.proofs.lemmas.Result.{err_from_is_err_and}
+use Rattle.nt_container.specs.Spelling.{blob_key}
+use Rattle.nt_book.specs.declared.meta.ClusterMeta.{ClusterMeta}
+use Rattle.nt_column.specs.Column.{Column, columns_of}
+use Rattle.nt_pages.specs.Image.{key_room}
+use Rattle.nt_pages.specs.Metas.{cluster_meta}
+use Rattle.nt_layout.specs.Laid.{Gives}
+use Rattle.nt_fill.specs.Context.{entries_given}
+use Rattle.nt_fill.proofs.Entries.{entries_count, gathered_length}
+use Rattle.nt_fill.proofs.Emptied.{emptied_gives}
+use Rattle.nt_fill.proofs.Images.{image_for, blob_of}
+use Rattle.nt_fill.proofs.flushing.FillContext+D.flush.Goals as goal
+
+pub write_image-requires-clause-image : goal.write_image-requires-clause-image
+write_image-requires-clause-image g c =
+    let t = c.self.inside.schema.now in
+    let columns = columns_of c.self.inside.store.columns in
+    let n = c.self.inside.store.entries in
+    let page = c.self.inside.store.page in
+    let number = c.self.inside.pass.number in
+    let is = c.in_ok-image.ensures.meta ∙ (ap (λ (i : ℕ). cluster_meta page i n columns) c.number.ensures ∙ ap (λ (m : ℕ). cluster_meta page number m columns) (sym (entries_count t columns n))) in
+    image_for t columns (entries_given t columns n) c.self.invariant.gives page number c.self.inside.committer.now.birth.columns (c.columns_have_types.ensures t) c.self.invariant.some c.self.invariant.count c.self.invariant.page
+    c.in_ok-image.image c.in_ok-image.ensures.bytes is
+
+pub returns-in_err-write_image-clause-nothing : goal.returns-in_err-write_image-clause-nothing
+returns-in_err-write_image-clause-nothing g c = λ none.
+    let zero = ap (λ s. s.entries) c.self.view_is ∙ (sym (gathered_length c.args.self.now) ∙ ap length none) in
+    absurd (omega (arith, zero, c.if-self-eq0.false))
+
+pub returns-in_err-write_image-clause-kept : goal.returns-in_err-write_image-clause-kept
+returns-in_err-write_image-clause-kept g c =
+    let p = err_from_is_err_and c.from_residual-in_err-write_image.result c.from_residual-in_err-write_image.ensures.1 in
+    λ e is apart.
+    let kept = c.in_err-write_image.ensures.kept e (cc (p.1, p.2, is)) apart in
+    rw (← c.self.view_is) (record {
+      gains = kept.0;
+      now = ap (λ q. record {
+        committer = c.self.inside.committer.now;
+        table = c.self.inside.schema.now;
+        cluster = c.self.inside.store.cluster;
+        page = c.self.inside.store.page;
+        pass = c.write_image.new.pass;
+        pen = q;
+        columns = columns_of c.self.inside.store.columns;
+        entries = c.self.inside.store.entries;
+      }) kept.1;
+    })
+
+pub invariant_of-self-2 : goal.invariant_of-self-2
+invariant_of-self-2 g c =
+    let t = c.self.inside.schema.now in
+    record {
+      of = c.in_ok-write_image.ensures.pass.0;
+      none_out = c.in_ok-write_image.ensures.pass.1;
+      count = c.self.invariant.count;
+      some = c.self.invariant.some;
+      gives = subst (λ (cs : List Column). Gives t cs []) (sym c.clear.ensures) (emptied_gives t (columns_of c.self.inside.store.columns) c.self.invariant.gives.set.described);
+      few = omega arith;
+      cluster = c.self.invariant.cluster;
+      page = c.self.invariant.page;
+    }
+
+pub returns-clause-nothing : goal.returns-clause-nothing
+returns-clause-nothing g c = λ none.
+    let zero = ap (λ s. s.entries) c.self.view_is ∙ (sym (gathered_length c.args.self.now) ∙ ap length none) in
+    absurd (omega (arith, zero, c.if-self-eq0.false))
+
+pub returns-clause-ok : goal.returns-clause-ok
+returns-clause-ok g c = λ some.
+    let t = c.self.inside.schema.now in
+    let columns = columns_of c.self.inside.store.columns in
+    let n = c.self.inside.store.entries in
+    let page = c.self.inside.store.page in
+    let w = c.in_ok-write_image.ensures.ok.0 in
+    let is = c.in_ok-image.ensures.meta ∙ ap (λ (m : ℕ). cluster_meta page c.number.result m columns) (sym (entries_count t columns n)) in
+    rw (← c.self.view_is) (record {
+      written = w.written;
+      len = w.len ∙ sym (ap (λ (m : ClusterMeta). m.len) w.meta);
+      blob = record {
+        bytes = blob_key (length c.in_ok-image.image.bytes - key_room) w.written.start ++ drop key_room c.in_ok-image.image.bytes;
+        blob = blob_of t columns (entries_given t columns n) c.self.invariant.gives page c.number.result w.written.start c.in_ok-image.image w.written.meta c.in_ok-image.ensures.bytes is w.meta;
+        told_are = w.bytes;
+      };
+      gains = w.gains;
+      alive = c.in_ok-write_image.ensures.ok.1;
+      now = refl;
+    })

@@ -1,0 +1,62 @@
+-- What a pass knows after a cluster was written, or wasn't.
+use Rattle.std.specs.Prelude.{ℕ, ◌≡◌, ◌-◌, ◌⊎◌, List, [], ◌∷◌, ◌++◌, length, drop, Option, Some, None, Result}
+use mathlib.Core.List.{IsPrefix}
+use Rattle.nt_turn.specs.Pass.{TurnState, PassState}
+use Rattle.nt_outside.specs.Disk.{DiskState}
+use Rattle.nt_container.specs.Spelling.{blob_key}
+use Rattle.nt_machine.specs.declared.entry.Entry.{Entry}
+use Rattle.nt_machine.specs.History.{WrittenChunk, entries_of, ranges_of}
+use Rattle.nt_machine.specs.Legal.{end_after}
+use Rattle.nt_book.specs.declared.meta.ClusterMeta.{ClusterMeta}
+use Rattle.nt_book.specs.Entries.{committed_by, spoiled_entry, faulted_entry}
+use Rattle.nt_book.specs.Limiting.{limit_error}
+use Rattle.nt_pages.specs.declared.image.ClusterImage.{ClusterImage}
+use Rattle.nt_pages.specs.Image.{key_room}
+use Rattle.nt_logged.specs.Steps.{bytes_where_told}
+use Rattle.nt_commit.specs.declared.locked.Birth.{Birth}
+use Rattle.nt_commit.specs.declared.error.CommitError.{CommitError}
+use Rattle.nt_commit.specs.Claims.{limit_answered}
+
+module _ {D : Type 0} where
+  -- the pass has seen this, and its own list gained these entries
+  abbrev pub gained : PassState (Entry ClusterMeta) (Birth D) → List (Entry ClusterMeta) → List (Entry ClusterMeta) → PassState (Entry ClusterMeta) (Birth D)
+  gained pass seen added = record pass { seen = seen; own = pass.own ++ added }
+
+  -- the pass has seen more, and its own list gained these entries
+  pub record Gains (added : List (Entry ClusterMeta)) (old new : PassState (Entry ClusterMeta) (Birth D)) : Type 0 where
+    pub seen : IsPrefix old.seen new.seen
+    pub now : new ≡ gained old new.seen added
+
+  -- a call failed: a count of faults stands in the own list
+  pub record MeetsFault (old new : PassState (Entry ClusterMeta) (Birth D)) : Type 0 where
+    pub faults : ℕ
+    pub gains : Gains (faulted_entry old.number faults ∷ []) old new
+
+  -- a range was committed and spoiled
+  pub record SpoilsRange (old new : PassState (Entry ClusterMeta) (Birth D)) : Type 0 where
+    pub cluster : ℕ
+    pub start : ℕ
+    pub meta : ClusterMeta
+    pub faults : ℕ
+    pub gains : Gains (committed_by old.number cluster start meta ∷ spoiled_entry old.number cluster faults ∷ []) old new
+
+  -- the pen is as before after a fault of the disk, and gone after its own
+  abbrev pub FailsToWrite : {P : Type 0} → PassState (Entry ClusterMeta) (Birth D) → PassState (Entry ClusterMeta) (Birth D) → Option P → Option P → Type 0
+  FailsToWrite old new pen pen' = (MeetsFault old new × (pen' ≡ pen)) ⊎ (SpoilsRange old new × (pen' ≡ None))
+
+  module _ (state : D → DiskState) (committer : TurnState (Birth D)) where
+    -- the answer names the limit that a range of this length passes behind a history that the pass has now seen, or none
+    pub record NamesLimit (len : ℕ) (old new : PassState (Entry ClusterMeta) (Birth D)) (result : Result Unit CommitError) : Type 0 where
+      pub history : List (Entry ClusterMeta)
+      pub later : IsPrefix old.seen history
+      pub seen : IsPrefix history new.seen
+      pub limits : limit_error committer.birth.limits (end_after (state committer.birth.begun).end (ranges_of history)) (length (ranges_of history)) len ≡ limit_answered result
+
+    -- the image was written with the key of its place, and its bytes are told where the disk told what it held at the beginning
+    pub record WritesImage (image : ClusterImage) (old new : PassState (Entry ClusterMeta) (Birth D)) : Type 0 where
+      pub written : WrittenChunk ClusterMeta
+      pub meta : written.meta ≡ image.meta
+      pub len : written.len ≡ image.meta.len
+      pub bytes : written.bytes ≡ bytes_where_told (state committer.birth.begun).held
+          (Some (blob_key (length image.bytes - key_room) written.start ++ drop key_room image.bytes))
+      pub gains : Gains (entries_of old.number written) old new

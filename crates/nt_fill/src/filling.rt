@@ -1,0 +1,33 @@
+//! Entries that are gathered.
+
+ghost use Rattle.std.specs.Prelude.{◌≡◌, ◌<◌, length, true, IsSome, OnOk, OnErr};
+ghost use Rattle.nt_types.specs.TreeData.{trees_of};
+ghost use Rattle.nt_types.specs.TreeViews.{trees_view};
+ghost use Rattle.nt_trees.specs.Fits.{fits_entry};
+ghost use Rattle.nt_fill.specs.Context.{Gathers, gathered};
+
+use crate::context::FillContext;
+use nt_column::Columns;
+use nt_outside::Disk;
+use nt_plans::columns_have_types;
+use nt_shred::shred;
+use nt_types::Trees;
+use std::alloc::AllocError;
+
+impl<'a, D: Disk> FillContext<'a, D> {
+    /// Gathers one entry, which has one tree for each open field. Without memory nothing changes.
+    pub fn fill(&mut self, trees: &Trees) -> Result<(), AllocError>
+        requires alive { IsSome self.old.pen }
+        requires room { length (gathered self.old) < self.old.cluster }
+        requires fits { fits_entry self.old.table (trees_of (trees_view trees.now)) ≡ true }
+        ensures ok { OnOk result (Gathers (trees_of (trees_view trees.now)) self.old self.new) }
+        ensures err { OnErr result (self.new ≡ self.old) }
+    {
+        columns_have_types();
+        shred(trees, self.schema, &mut self.store.columns)?;
+        // A text that was added is of bytes, since its column is.
+        self.store.columns.in_range();
+        self.store.entries += 1;
+        Ok(())
+    }
+}

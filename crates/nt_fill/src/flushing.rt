@@ -1,0 +1,45 @@
+//! Gathered entries that are written.
+
+ghost use Rattle.std.specs.Prelude.{◌≡◌, ◌≢◌, ◌<◌, [], length, Ok, Err, IsSome, OnOk, IsErrOf};
+ghost use Rattle.nt_commit.specs.declared.error.CommitError.TheVariants.{Memory, Fault};
+ghost use Rattle.nt_fill.specs.Context.{gathered};
+ghost use Rattle.nt_fill.specs.Flushes.{KeepsEntries, FailsToFlush, WritesCluster, KeepsLimits};
+
+use crate::context::FillContext;
+use crate::writing::write_image;
+use nt_commit::CommitError;
+use nt_outside::{Disk, Gate};
+use nt_plans::columns_have_types;
+use std::sync::Wait;
+
+impl<'a, D: Disk> FillContext<'a, D> {
+    /// Writes all gathered entries as one cluster: reserves its range in a hold of the turn, fills it
+    /// outside, and hands it back in another. With nothing gathered it does nothing.
+    pub fn flush<G: Gate>(&mut self, rt: &impl Wait, gate: &G) -> Result<(), CommitError>
+        requires alive { IsSome self.old.pen }
+        ensures nothing { gathered self.old ≡ [] → (result ≡ Ok tt) × (self.new ≡ self.old) }
+        ensures ok { 0 < length (gathered self.old)
+            → OnOk result (WritesCluster D.state self.old self.new) }
+        ensures limits { 0 < length (gathered self.old) → result ≢ Err Memory
+            → KeepsLimits D.state self.old self.new result }
+        ensures kept { (e : _) → result ≡ Err e → e ≢ Fault → KeepsEntries self.old self.new }
+        ensures fault { IsErrOf result Fault → FailsToFlush self.old self.new }
+    {
+        if self.store.entries == 0 {
+            return Ok(());
+        }
+        columns_have_types();
+        let mut image = self.store.image(self.schema, self.pass.number())?;
+        write_image(
+            rt,
+            gate,
+            self.committer,
+            &mut self.pass,
+            &mut self.pen,
+            &mut image,
+        )?;
+        self.store.columns.clear();
+        self.store.entries = 0;
+        Ok(())
+    }
+}
