@@ -1,0 +1,4 @@
+pub mod EventText
+pub mod Lengths
+pub mod Written
+pub mod Dealt

@@ -1,0 +1,35 @@
+-- What the contexts of a writer wrote, each for itself.
+use Rattle.std.specs.Prelude.{◌≡◌, ℕ, ◌+◌, ◌≤◌, List, [], ◌∷◌, Option, Some, length}
+use Rattle.nt_types.specs.TreeData.{TreesData}
+use Rattle.nt_grammar.specs.Table.{Table}
+use Rattle.nt_outside.specs.Held.{Held}
+use Rattle.nt_machine.specs.declared.entry.Entry.{Entry}
+use Rattle.nt_machine.specs.History.{Wrote, IsIdle}
+use Rattle.nt_book.specs.declared.meta.ClusterMeta.{ClusterMeta}
+use Rattle.nt_logged.specs.Steps.{bytes_where_told}
+use Rattle.nt_layout.specs.Laid.{IsBlobOfEntries}
+
+-- at a place stands the blob of a chunk, of which this is kept; its bytes are told where the disk told what it held at the beginning
+pub record IsChunkBlob (begun : Option Held) (t : Table) (page : ℕ) (entries : List TreesData) (place : ℕ) (bytes : Option (List ℕ)) (meta : ClusterMeta) : Type 0 where
+  pub blob : List ℕ
+  pub is_blob : IsBlobOfEntries t page entries place blob meta
+  pub told : bytes ≡ bytes_where_told begun (Some blob)
+
+-- the entries of a context in a history are those of its chunks, each committed and settled, one after the other
+abbrev pub WroteChunks : Option Held → Table → ℕ → ℕ → List (List TreesData) → List (Entry ClusterMeta) → Type 0
+WroteChunks begun t page i chunks own = Wrote (IsChunkBlob begun t page) i chunks own
+
+-- the contexts, from this number on, were joined in the order of their numbers, and each wrote its chunks
+abbrev pub AllWroteFrom : Option Held → Table → ℕ → ℕ → List (List (List TreesData)) → List (ℕ × List (Entry ClusterMeta)) → Type 0
+AllWroteFrom begun t page i [] [] = Unit {0}
+AllWroteFrom begun t page i [] (k ∷ kept) = ⊥
+AllWroteFrom begun t page i (chunks ∷ others) [] = ⊥
+AllWroteFrom begun t page i (chunks ∷ others) (k ∷ kept) =
+    (k.0 ≡ i) × WroteChunks begun t page i chunks k.1 × AllWroteFrom begun t page (i + 1) others kept
+
+-- a first pass keeps what each context wrote, and wrote nothing itself; its number is behind theirs
+pub record HaveWritten (begun : Option Held) (t : Table) (page : ℕ) (chunks : List (List (List TreesData))) (number : ℕ)
+    (own : List (Entry ClusterMeta)) (kept : List (ℕ × List (Entry ClusterMeta))) : Type 0 where
+  pub behind : length chunks ≤ number
+  pub idle : IsIdle own
+  pub each : AllWroteFrom begun t page 0 chunks kept

@@ -1,0 +1,32 @@
+//! What a committer hands back is its contexts' chunks, dealt out.
+
+ghost use Rattle.std.specs.Prelude.{ℕ, List};
+ghost use Rattle.nt_types.specs.TreeData.{TreesData};
+ghost use Rattle.nt_grammar.specs.Table.{Table};
+ghost use Rattle.nt_machine.specs.declared.entry.Entry.{Entry};
+ghost use Rattle.nt_turn.specs.Pass.{PassState, Closes};
+ghost use Rattle.nt_book.specs.declared.meta.ClusterMeta.{ClusterMeta};
+ghost use Rattle.nt_book.specs.Books.{BookData};
+ghost use Rattle.nt_commit.specs.declared.locked.Birth.{Birth};
+ghost use Rattle.nt_commit.specs.Locked.{IsInStep, birth_of, context_of, history_of_locked, locked_by};
+ghost use Rattle.nt_dealing.specs.Written.{HaveWritten};
+ghost use Rattle.nt_dealing.specs.Dealt.{IsDealtOut};
+
+use nt_book::ClusterMeta;
+use nt_logged::settled_ranges_are_read;
+use nt_outside::Disk;
+
+/// However contexts interleave: where each wrote its chunks, the clusters of the book that their
+/// committer hands back are these chunks, dealt out in the commit order, and the disk holds their
+/// blobs behind what it held before.
+pub fn commits_are_dealt<D: Disk>()
+    ensures { (birth : Birth D) (disk : D) (book : BookData)
+        (first : PassState (Entry ClusterMeta) (Birth D)) (t : Table) (page : ℕ)
+        (chunks : List (List (List TreesData)))
+        → Closes (history_of_locked D.state) birth_of context_of first (locked_by birth disk book)
+        → IsInStep D.state (locked_by birth disk book)
+        → HaveWritten (D.state birth.begun).held t page chunks first.number first.own first.kept
+        → IsDealtOut t page chunks book (D.state birth.begun).held (D.state disk).held }
+{
+    settled_ranges_are_read::<ClusterMeta>();
+}
