@@ -1,0 +1,63 @@
+-- The lines of a cluster's entries, gathered one by one.
+use Rattle.std.proofs.Common.{◌≡◌, ◌∙◌, ap, sym, refl, subst, ℕ, ◌+◌, ◌-◌, ◌≤◌, List, [], ◌∷◌, ◌++◌, length, map, take, drop, Option, Some, arith}
+use Rattle.std.specs.Prelude.{slice_get}
+use Rattle.std.proofs.lemmas.List.{length-map}
+use Rattle.std.proofs.lemmas.List.FromFn.{length-range_with_len}
+use Rattle.nt_types.specs.TreeData.{TreesData}
+use Rattle.nt_outside.specs.World.{World}
+use Rattle.nt_reader.specs.Columns.{ClusterData, given_entries}
+use Rattle.nt_show.specs.declared.entry_range.EntryRange.{EntryRange}
+use Rattle.nt_show.specs.Ranges.{entry_lines, in_range}
+use Rattle.nt_show.specs.Gathering.{Gathers, GathersPart}
+use Rattle.nt_show.proofs.Ranges.{more_lines, first_lines}
+use Rattle.nt_show.proofs.Gathering.{gathers_nothing, gathers_then, part_more, part_then}
+
+-- a cluster gives as many entries as it has
+pub length-given : (c : ClusterData) → length (given_entries c) ≡ c.entries
+length-given c = length-map _ _ ∙ length-range_with_len 0 c.entries
+
+-- no line yet
+pub none_gathered : (entries : List TreesData) (from : ℕ) (world : Option World) (waiting : List ℕ)
+    → Gathers (entry_lines (take (from - from) (drop from entries))) world waiting world waiting
+none_gathered entries from world waiting =
+    let none : from - from ≡ 0 = omega arith in
+    subst (λ (n : ℕ). Gathers (entry_lines (take n (drop from entries))) world waiting world waiting) (sym none)
+    (gathers_nothing world waiting)
+
+-- one more line
+pub one_gathered : (entries : List TreesData) (from i : ℕ) (x : TreesData) (old mid new : Option World) (waiting one two : List ℕ)
+    → from ≤ i → slice_get entries i ≡ Some x
+    → Gathers (entry_lines (take (i - from) (drop from entries))) old waiting mid one → Gathers (entry_lines (x ∷ [])) mid one new two
+    → Gathers (entry_lines (take (i + 1 - from) (drop from entries))) old waiting new two
+one_gathered entries from i x old mid new waiting one two low is first second =
+    subst (λ (l : List ℕ). Gathers l old waiting new two) (sym (more_lines entries from i x low is))
+    (gathers_then (entry_lines (take (i - from) (drop from entries))) (entry_lines (x ∷ [])) old mid new waiting one two first second)
+
+-- one more line in part
+pub one_in_part : (entries : List TreesData) (from i : ℕ) (x : TreesData) (old mid new : Option World) (waiting one : List ℕ) → from ≤ i
+    → slice_get entries i ≡ Some x
+    → Gathers (entry_lines (take (i - from) (drop from entries))) old waiting mid one → GathersPart (entry_lines (x ∷ [])) mid one new
+    → GathersPart (entry_lines (take (i + 1 - from) (drop from entries))) old waiting new
+one_in_part entries from i x old mid new waiting one low is first second =
+    subst (λ (l : List ℕ). GathersPart l old waiting new) (sym (more_lines entries from i x low is))
+    (part_then (entry_lines (take (i - from) (drop from entries))) (entry_lines (x ∷ [])) old mid new waiting one first second)
+
+-- the first lines are part of those of a range
+pub part_of_range : (range : EntryRange) (entries : List TreesData) (from to i : ℕ) (old new : Option World) (waiting : List ℕ)
+    → in_range range entries ≡ take (to - from) (drop from entries) → from ≤ i → i ≤ to
+    → GathersPart (entry_lines (take (i - from) (drop from entries))) old waiting new
+    → GathersPart (entry_lines (in_range range entries)) old waiting new
+part_of_range range entries from to i old new waiting is low high part =
+    subst (λ (l : List ℕ). GathersPart l old waiting new)
+    (sym (ap entry_lines is ∙ first_lines (drop from entries) (i - from) (to - from) (omega arith)))
+    (part_more (entry_lines (take (i - from) (drop from entries))) (entry_lines (drop (i - from) (take (to - from) (drop from entries))))
+    old new waiting part)
+
+-- all lines are those of the range
+pub whole_range : (range : EntryRange) (entries : List TreesData) (from to i : ℕ) (old new : Option World) (waiting left : List ℕ)
+    → in_range range entries ≡ take (to - from) (drop from entries) → i ≡ to
+    → Gathers (entry_lines (take (i - from) (drop from entries))) old waiting new left
+    → Gathers (entry_lines (in_range range entries)) old waiting new left
+whole_range range entries from to i old new waiting left is end lines =
+    subst (λ (l : List ℕ). Gathers l old waiting new left)
+    (ap (λ (n : ℕ). entry_lines (take (n - from) (drop from entries))) end ∙ sym (ap entry_lines is)) lines

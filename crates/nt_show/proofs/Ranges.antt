@@ -1,0 +1,153 @@
+-- Ranges of entries, of lists that are all_entries and of their beginnings.
+use Rattle.std.proofs.Common.{◌≡◌, ◌∙◌, ap, ap₂, sym, refl, ℕ, zero, suc, ◌+◌, ◌-◌, ◌<◌, ◌≤◌, List, [], ◌∷◌, ◌++◌, length, take, drop, get_or, Option, Some, None, arith, append_assoc, length-append, length-drop}
+use Rattle.std.specs.Prelude.{min, slice_get}
+use Rattle.std.proofs.lemmas.List.{append-nil, take-append-drop, take-take, take_more, take_min, drop_min, take_all, get_or-drop}
+use Rattle.std.proofs.lemmas.List.Concat.{flat_map-append}
+use Rattle.nt_types.specs.TreeData.{TreesData}
+use Rattle.nt_event.specs.Json.{line_of}
+use Rattle.nt_show.specs.declared.entry_range.EntryRange.{EntryRange}
+use Rattle.nt_show.specs.Ranges.{entry_lines, limited, limited_len, in_range, all_entries, range_lines, past_entries}
+
+drop_over : (n : ℕ) (xs ys : List TreesData) → drop n (xs ++ ys) ≡ drop n xs ++ drop (n - length xs) ys
+drop_over zero xs ys =
+    let none : 0 - length xs ≡ 0 = omega arith in
+    rw none refl
+drop_over (suc n) [] ys =
+    let all : suc n - 0 ≡ suc n = omega arith in
+    rw all refl
+drop_over (suc n) (x ∷ xs) ys =
+    let one : suc n - suc (length xs) ≡ n - length xs = omega arith in
+    rw one (drop_over n xs ys)
+
+take_over : (n : ℕ) (xs ys : List TreesData) → take n (xs ++ ys) ≡ take n xs ++ take (n - length xs) ys
+take_over zero xs ys =
+    let none : 0 - length xs ≡ 0 = omega arith in
+    rw none refl
+take_over (suc n) [] ys =
+    let all : suc n - 0 ≡ suc n = omega arith in
+    rw all refl
+take_over (suc n) (x ∷ xs) ys =
+    let one : suc n - suc (length xs) ≡ n - length xs = omega arith in
+    rw one (ap (λ (l : List TreesData). x ∷ l) (take_over n xs ys))
+
+range_over : (from : ℕ) (count : Option ℕ) (xs ys : List TreesData)
+    → in_range (record { from = from; count = count }) (xs ++ ys) ≡ in_range (record { from = from; count = count }) xs ++ in_range
+    (past_entries (length xs) (record { from = from; count = count })) ys
+range_over from None xs ys = drop_over from xs ys
+range_over from (Some most) xs ys =
+    ap (take most) (drop_over from xs ys)
+    ∙ take_over most (drop from xs) (drop (from - length xs) ys)
+    ∙ ap (λ (n : ℕ). take most (drop from xs) ++ take (most - n) (drop (from - length xs) ys)) (length-drop from xs)
+
+-- a range of two lists that are all_entries is that of the first, and then what is left of the range in the second
+pub in_range-append : (range : EntryRange) (xs ys : List TreesData)
+    → in_range range (xs ++ ys) ≡ in_range range xs ++ in_range (past_entries (length xs) range) ys
+in_range-append range xs ys = range_over range.from range.count xs ys
+
+-- of clusters too
+pub range_lines-append : (range : EntryRange) (ks ls : List (List TreesData))
+    → range_lines range (ks ++ ls) ≡ range_lines range ks ++ range_lines (past_entries (length (all_entries ks)) range) ls
+range_lines-append range ks ls =
+    ap (λ (l : List TreesData). entry_lines (in_range range l)) (flat_map-append (λ (entries : List TreesData). entries) ks ls)
+    ∙ ap entry_lines (in_range-append range (all_entries ks) (all_entries ls))
+    ∙ flat_map-append (λ entry. line_of entry ++ 10 ∷ []) (in_range range (all_entries ks))
+    (in_range (past_entries (length (all_entries ks)) range) (all_entries ls))
+
+-- one cluster is its entries
+pub range_lines-one : (range : EntryRange) (entries : List TreesData)
+    → range_lines range (entries ∷ []) ≡ entry_lines (in_range range entries)
+range_lines-one range entries = ap (λ (l : List TreesData). entry_lines (in_range range l)) (append-nil entries)
+
+-- a first cluster, and others
+pub range_lines-cons : (range : EntryRange) (entries : List TreesData) (ks : List (List TreesData))
+    → range_lines range (entries ∷ ks) ≡ entry_lines (in_range range entries) ++ range_lines (past_entries (length entries) range) ks
+range_lines-cons range entries ks =
+    ap entry_lines (in_range-append range entries (all_entries ks))
+    ∙ flat_map-append (λ entry. line_of entry ++ 10 ∷ []) (in_range range entries)
+    (in_range (past_entries (length entries) range) (all_entries ks))
+
+limited-nil : (count : Option ℕ) → limited {A = TreesData} count [] ≡ []
+limited-nil None = refl
+limited-nil (Some zero) = refl
+limited-nil (Some (suc n)) = refl
+
+drop-nil : (n : ℕ) → drop {A = TreesData} n [] ≡ []
+drop-nil zero = refl
+drop-nil (suc n) = refl
+
+-- no cluster has no line
+pub range_lines-nil : (range : EntryRange) → range_lines range [] ≡ []
+range_lines-nil range =
+    ap (λ (l : List TreesData). entry_lines (limited range.count l)) (drop-nil range.from) ∙ ap entry_lines (limited-nil range.count)
+
+past_count : (count : Option ℕ) (from m n : ℕ)
+    → (past_entries n (record {
+      from = from - m;
+      count = (past_entries m (record { from = from; count = count })).count;
+    })).count ≡ (past_entries (m + n) (record { from = from; count = count })).count
+past_count None from m n = refl
+past_count (Some most) from m n =
+    let same : (most - (m - from)) - (n - (from - m)) ≡ most - ((m + n) - from) = omega arith in
+    ap (λ (c : ℕ). Some c) same
+
+-- past some entries and then past others
+pub past_entries-past_entries : (m n : ℕ) (range : EntryRange) → past_entries n (past_entries m range) ≡ past_entries (m + n) range
+past_entries-past_entries m n range =
+    let same : (range.from - m) - n ≡ range.from - (m + n) = omega arith in
+    ap₂ (λ (from : ℕ) (count : Option ℕ). record { from = from; count = count }) same (past_count range.count range.from m n)
+
+-- past nothing
+pub past_entries-nothing : (range : EntryRange) → past_entries 0 range ≡ range
+past_entries-nothing range =
+    ap₂ (λ (from : ℕ) (count : Option ℕ). record { from = from; count = count }) (from_is range.from) (count_is range.from range.count)
+  where
+    from_is : (from : ℕ) → from - 0 ≡ from
+    from_is from = omega arith
+
+    count_is : (from : ℕ) (count : Option ℕ) → (past_entries 0 (record { from = from; count = count })).count ≡ count
+    count_is from None = refl
+    count_is from (Some most) =
+        let same : most - (0 - from) ≡ most = omega arith in
+        ap (λ (c : ℕ). Some c) same
+
+-- where so many entries follow, and so many of them are shown at most
+pub limited_is : (count : Option ℕ) (len shown : ℕ) (xs : List TreesData) → length xs ≡ len → shown ≡ limited_len count len
+    → limited count xs ≡ take shown xs
+limited_is None len shown xs is all = sym (take_all shown xs (omega (arith, is, all)))
+limited_is (Some most) len shown xs is few = sym (take_min most xs) ∙ ap (λ (n : ℕ). take n xs) (ap (min most) is ∙ sym few)
+
+-- so many entries are left out, and so many shown
+pub within_is : (range : EntryRange) (len from shown : ℕ) (xs : List TreesData) → length xs ≡ len → from ≡ min range.from len
+    → ((ys : List TreesData) → length ys ≡ len - from → limited range.count ys ≡ take shown ys)
+    → in_range range xs ≡ take shown (drop from xs)
+within_is range len from shown xs is first shows =
+    let same : drop range.from xs ≡ drop from xs = sym (drop_min range.from xs)
+    ∙ ap (λ (n : ℕ). drop n xs) (ap (min range.from) is ∙ sym first) in
+    ap (limited range.count) same ∙ shows (drop from xs) (length-drop from xs ∙ ap (λ (n : ℕ). n - from) is)
+
+there_is : (xs : List TreesData) (i : ℕ) (x : TreesData) → slice_get xs i ≡ Some x → (i < length xs) × (get_or xs i x ≡ x)
+there_is [] i x is = absurd (cc)
+there_is (y ∷ ys) zero x is = (omega arith, cc)
+there_is (y ∷ ys) (suc i) x is =
+    let rest = there_is ys i x is in
+    (omega (arith, rest.0), rest.1)
+
+-- the line of one more entry
+pub more_lines : (xs : List TreesData) (from i : ℕ) (x : TreesData) → from ≤ i → slice_get xs i ≡ Some x
+    → entry_lines (take (i + 1 - from) (drop from xs)) ≡ entry_lines (take (i - from) (drop from xs)) ++ entry_lines (x ∷ [])
+more_lines xs from i x low is =
+    let at = there_is xs i x is in
+    let below : i - from < length (drop from xs) = omega (arith, at.0, length-drop from xs) in
+    let next : i + 1 - from ≡ (i - from) + 1 = omega arith in
+    let there : get_or (drop from xs) (i - from) x ≡ x = get_or-drop from xs (i - from) x ∙ ap (λ (n : ℕ). get_or xs n x) (omega arith)
+    ∙ at.1 in
+    ap (λ (n : ℕ). entry_lines (take n (drop from xs))) next
+    ∙ ap entry_lines (take_more (drop from xs) (i - from) x below ∙ ap (λ (y : TreesData). take (i - from) (drop from xs) ++ y ∷ []) there)
+    ∙ flat_map-append (λ entry. line_of entry ++ 10 ∷ []) (take (i - from) (drop from xs)) (x ∷ [])
+
+-- the lines of the first entries, and others
+pub first_lines : (xs : List TreesData) (k n : ℕ) → k ≤ n
+    → entry_lines (take n xs) ≡ entry_lines (take k xs) ++ entry_lines (drop k (take n xs))
+first_lines xs k n low =
+    ap entry_lines (sym (take-append-drop k (take n xs)) ∙ ap (λ (l : List TreesData). l ++ drop k (take n xs)) (take-take k n xs low))
+    ∙ flat_map-append (λ entry. line_of entry ++ 10 ∷ []) (take k xs) (drop k (take n xs))

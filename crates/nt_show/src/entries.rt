@@ -1,0 +1,124 @@
+//! The entries of a file, printed as lines.
+
+ghost use Rattle.std.specs.Prelude.{◌≡◌, ◌<◌, ℕ, List, Some, length, OnOk, IfOk};
+ghost use Rattle.nt_outside.specs.Faults.{RoseOnFailed};
+ghost use Rattle.nt_reader.specs.Columns.{given_entries};
+ghost use Rattle.nt_show.specs.Ranges.{entry_lines, in_range};
+ghost use Rattle.nt_show.specs.Gathering.{Gathers, GathersPart, OnlyPrints, HasCauses};
+ghost use Rattle.nt_show.specs.Listing.{ClusterTold, ClustersTold};
+ghost use Rattle.nt_show.specs.Shown.{entries_shown, ShowsFile};
+
+use crate::entry_range::EntryRange;
+use crate::lines::put_line;
+use nt_num::ReadError;
+use nt_outside::{Host, ReadAt, Refused, Stream, print_all};
+use nt_reader::{ClusterRead, Reader};
+use nt_tfile::ReadFailure;
+use std::alloc::Global;
+
+/// Gathers the lines of those entries of a cluster that lie in the range.
+fn put_entries<H: Host>(
+    alloc: Global,
+    host: &mut H,
+    waiting: &mut Vec<u8>,
+    cluster: &ClusterRead<'_>,
+    range: &EntryRange,
+) -> Result<(), Refused>
+    ensures ok { OnOk result (Gathers (entry_lines (in_range range.now (given_entries cluster.now)))
+        (H.state host.old).world waiting.old.items (H.state host.new).world waiting.new.items) }
+    ensures part { GathersPart (entry_lines (in_range range.now (given_entries cluster.now)))
+        (H.state host.old).world waiting.old.items (H.state host.new).world }
+    ensures cause { RoseOnFailed (H.state host.old).faults (H.state host.new).faults result }
+    ensures rest { OnlyPrints (H.state host.old) (H.state host.new) }
+{
+    let (from, to) = range.within(cluster.entries());
+    for i in from..to {
+        let entry = cluster.entry(alloc, i)?;
+        put_line(alloc, host, waiting, &entry)?;
+    }
+    Ok(())
+}
+
+/// Reads a cluster, and then gathers the lines of its entries that lie in the range, which goes on
+/// behind them; or says the cluster's first fault.
+fn put_cluster<H: Host, F: ReadAt>(
+    alloc: Global,
+    host: &mut H,
+    file: &mut F,
+    reader: &Reader,
+    k: u32,
+    range: &mut EntryRange,
+    waiting: &mut Vec<u8>,
+) -> Result<Option<ReadError>, Refused>
+    requires { k < length reader.now.clusters }
+    ensures told { (b : List ℕ) → (F.state file.old).bytes ≡ Some b → ClusterTold b reader.now k range.old range.new
+        (H.state host.old).world waiting.old.items (H.state host.new).world waiting.new.items result }
+    ensures bytes { (F.state file.new).bytes ≡ (F.state file.old).bytes }
+    ensures cause { HasCauses (H.state host.old) (H.state host.new) (F.state file.old) (F.state file.new) result }
+    ensures rest { OnlyPrints (H.state host.old) (H.state host.new) }
+{
+    match reader.cluster(alloc, file, k) {
+        Ok(cluster) => {
+            put_entries(alloc, host, waiting, &cluster, range)?;
+            *range = range.past(cluster.entries());
+            Ok(None)
+        }
+        Err(ReadFailure::Defect(fault)) => Ok(Some(fault)),
+        Err(ReadFailure::Fault) => Err(Refused::Failed),
+        Err(ReadFailure::Memory) => Err(Refused::Memory),
+    }
+}
+
+/// The same of all clusters, up to the first with a fault.
+fn put_clusters<H: Host, F: ReadAt>(
+    alloc: Global,
+    host: &mut H,
+    file: &mut F,
+    reader: &Reader,
+    range: EntryRange,
+    waiting: &mut Vec<u8>,
+) -> Result<Option<ReadError>, Refused>
+    ensures told { (b : List ℕ) → (F.state file.old).bytes ≡ Some b → ClustersTold b reader.now range
+        (H.state host.old).world waiting.old.items (H.state host.new).world waiting.new.items result }
+    ensures cause { HasCauses (H.state host.old) (H.state host.new) (F.state file.old) (F.state file.new) result }
+    ensures rest { OnlyPrints (H.state host.old) (H.state host.new) }
+{
+    let mut left = range;
+    for k in 0..reader.clusters() {
+        let fault = put_cluster(alloc, host, file, reader, k, &mut left, waiting)?;
+        if fault.is_some() {
+            return Ok(fault);
+        }
+    }
+    Ok(None)
+}
+
+/// Attaches to a file, then reads its clusters in order, and prints the lines of the entries that lie
+/// in the range. The range chooses what is printed and not what is read: every cluster is read and
+/// checked, up to the first that has a fault.
+///
+/// A cluster's lines are printed once it was read. They are gathered to 64 KiB, also over clusters.
+///
+/// # Errors
+///
+/// A defect is the first fault of the file; then the lines of the clusters before it are printed.
+/// `Fault` comes only where the count of the host or of the file rose, `Memory` where memory ran out;
+/// then some of the lines are printed.
+pub fn show_entries<H: Host, F: ReadAt>(
+    alloc: Global,
+    host: &mut H,
+    file: &mut F,
+    range: EntryRange,
+) -> Result<(), ReadFailure>
+    ensures { ShowsFile (entries_shown range) (H.state host.old) (H.state host.new)
+        (F.state file.old) (F.state file.new) result }
+{
+    let reader = Reader::attach(alloc, file)?;
+    let mut waiting = Vec::new(alloc);
+    let fault = put_clusters(alloc, host, file, &reader, range, &mut waiting)?;
+    print_all(host, Stream::ToOut, &waiting)?;
+    match fault {
+        None => Ok(()),
+        Some(fault) => Err(ReadFailure::Defect(fault)),
+    }
+}

@@ -1,0 +1,38 @@
+//! Lines that are gathered before they are printed.
+
+ghost use Rattle.std.specs.Prelude.{◌≡◌, ◌∷◌, [], OnOk};
+ghost use Rattle.nt_types.specs.TreeData.{trees_of};
+ghost use Rattle.nt_types.specs.TreeViews.{trees_view};
+ghost use Rattle.nt_outside.specs.Faults.{RoseOnFailed};
+ghost use Rattle.nt_show.specs.Ranges.{entry_lines};
+ghost use Rattle.nt_show.specs.Gathering.{Gathers, GathersPart, OnlyPrints};
+
+use nt_event::write_line;
+use nt_outside::{Host, Refused, Stream, print_all};
+use nt_types::Trees;
+use std::alloc::Global;
+
+/// So many bytes wait before they are printed.
+const MANY: usize = 1 << 16;
+
+/// Puts the line of an entry behind those that wait, and prints them all once they are many.
+pub fn put_line<H: Host>(
+    alloc: Global,
+    host: &mut H,
+    waiting: &mut Vec<u8>,
+    entry: &Trees,
+) -> Result<(), Refused>
+    ensures ok { OnOk result (Gathers (entry_lines (trees_of (trees_view entry.now) ∷ []))
+        (H.state host.old).world waiting.old.items (H.state host.new).world waiting.new.items) }
+    ensures part { GathersPart (entry_lines (trees_of (trees_view entry.now) ∷ []))
+        (H.state host.old).world waiting.old.items (H.state host.new).world }
+    ensures cause { RoseOnFailed (H.state host.old).faults (H.state host.new).faults result }
+    ensures rest { OnlyPrints (H.state host.old) (H.state host.new) }
+{
+    write_line(alloc, entry, waiting)?;
+    if waiting.len() >= MANY {
+        print_all(host, Stream::ToOut, waiting)?;
+        waiting.clear();
+    }
+    Ok(())
+}
