@@ -37,6 +37,10 @@ printf 'order 0\n' | cmp - out || fail 'no order line'
 same two.root "$top/crates/nt_tool/data/two.root"
 expect 0 '' entries two.root
 same out events.txt
+expect 0 '' entries --from 1 --count 1 two.root
+tail -n 1 events.txt | cmp - out || fail 'not the second line alone'
+expect 0 '' schema two.root
+printf '[0,0,"x","std::uint64_t",0,[10],true]\n' | cmp - out || fail 'no line of the field'
 
 # one line, over a longer file
 expect 0 '' write two.root schema.txt one.txt
@@ -50,6 +54,8 @@ expect 2 'ntuple: usage' write out.root schema.txt out.root
 expect 2 'ntuple: usage' entries
 expect 2 'ntuple: usage' entries $'\xff.root'
 expect 2 'ntuple: usage' entries --help
+expect 2 'ntuple: usage' entries --from -1 two.root
+expect 2 'ntuple: usage' schema
 expect 2 'ntuple: usage' write --plain out.root schema.txt events.txt
 [ ! -e out.root ] || fail 'words that are no command made a file'
 
@@ -121,5 +127,8 @@ expect 3 'ntuple: file: 1 Unfinished at 0' entries empty.root
 expect 3 'ntuple: file: 1 Unfinished at 0' entries bad.root
 printf 'PK' >zip.root
 expect 3 'ntuple: file: 2 NotRoot at 0' entries zip.root
+expect 3 'ntuple: file: 2 NotRoot at 0' schema zip.root
+head -c 1100 "$top/crates/nt_tool/data/two.root" >cut.root
+expect 3 'ntuple: file: 3 BadFileHeader at 12' entries cut.root
 
 [ "$failures" -eq 0 ]

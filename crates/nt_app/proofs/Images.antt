@@ -7,7 +7,7 @@ use Rattle.std.specs.Prelude.{replicate}
 use Rattle.nt_onefield.specs.Header.{header_blob}
 use Rattle.nt_onefield.specs.Cluster.{cluster_blob}
 use Rattle.nt_onefield.specs.PlainFile.{front, tail, parts, plain_file}
-use Rattle.nt_app.specs.Writing.{IsUnfinished, BeginsWithZero, blank, file_begun, gathered, finished}
+use Rattle.nt_app.specs.Writing.{IsUnfinished, BeginsWithZero, blank, begun_image, gathered, with_front}
 
 -- bytes behind the first one, or written over those behind it, leave it
 pub unfinished_behind : (image tail over new : List ℕ) → BeginsWithZero image → new ≡ put_at (image ++ tail) 1 over → IsUnfinished new
@@ -22,7 +22,7 @@ unfinished_append image tail new zero is =
     subst IsUnfinished (sym (is ∙ ap (λ (l : List ℕ). l ++ tail) zero.1)) refl
 
 -- the write of the first byte, torn, leaves the old one or the new one
-pub first_byte_torn : (image tail front : List ℕ) (old new : Held) → old.image ≡ put_at (image ++ tail) 1 front → IsTornWrite 0 (0x72 ∷ []) old new → BeginsWithZero image → IsUnfinished new.image ⊎ (new.image ≡ finished image tail front)
+pub first_byte_torn : (image tail front : List ℕ) (old new : Held) → old.image ≡ put_at (image ++ tail) 1 front → IsTornWrite 0 (0x72 ∷ []) old new → BeginsWithZero image → IsUnfinished new.image ⊎ (new.image ≡ with_front image tail front)
 first_byte_torn image tail front old new was torn zero =
     elim (torn.single refl) [
       | inl same ↦ inl (unfinished_behind image tail front new.image zero (same ∙ was))
@@ -35,18 +35,18 @@ unfolding blank
 blank-begins image is = (replicate 225 0, is)
 
 -- so does a file that is begun
-pub begun-begins : (image : List ℕ) → image ≡ file_begun → BeginsWithZero image
+pub begun-begins : (image : List ℕ) → image ≡ begun_image → BeginsWithZero image
 begun-begins image is =
     let first = blank-begins blank refl in
     (first.0 ++ header_blob, is ∙ ap (λ (l : List ℕ). l ++ header_blob) first.1)
 
-pub unfinished_begun : (image : List ℕ) → image ≡ file_begun → IsUnfinished image
+pub unfinished_begun : (image : List ℕ) → image ≡ begun_image → IsUnfinished image
 unfinished_begun image is = let first = begun-begins image is in subst IsUnfinished (sym first.1) refl
 
 -- and one that has its cluster
 pub gathered-begins : (numbers image : List ℕ) → image ≡ gathered numbers → BeginsWithZero image
 gathered-begins numbers image is =
-    let first = begun-begins file_begun refl in
+    let first = begun-begins begun_image refl in
     (first.0 ++ cluster_blob numbers, is ∙ ap (λ (l : List ℕ). l ++ cluster_blob numbers) first.1)
 
 pub unfinished_gathered : (numbers image : List ℕ) → image ≡ gathered numbers → IsUnfinished image
@@ -63,7 +63,7 @@ put_behind_first zeros rest over same =
     ap (λ (n : ℕ). over ++ drop n ((0 ∷ zeros) ++ rest)) next ∙ ap (λ (l : List ℕ). over ++ l) (drop-append_seam zeros rest)
 
 -- what is written last makes the whole file of it
-pub finished-gathered : (numbers image tail' front' : List ℕ) → image ≡ gathered numbers → tail' ≡ tail (length numbers) → front' ≡ front (length numbers) → length front' ≡ 225 → finished image tail' front' ≡ plain_file numbers
+pub finished-gathered : (numbers image tail' front' : List ℕ) → image ≡ gathered numbers → tail' ≡ tail (length numbers) → front' ≡ front (length numbers) → length front' ≡ 225 → with_front image tail' front' ≡ plain_file numbers
 unfolding plain_file parts
 finished-gathered numbers image tail' front' is tail-is front-is len =
     let zeros = blank-parts.0 in

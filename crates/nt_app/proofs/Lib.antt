@@ -6,11 +6,11 @@ pub mod Fronts
 pub mod Left
 pub mod Ordered
 pub mod Operands
+pub mod Numbers
 pub mod Spoken
 pub mod Ends
 pub mod InOrder
 pub mod Asking
 pub mod Answered
-pub mod Listing
-pub mod Judging
 pub mod Running
+pub mod Shown

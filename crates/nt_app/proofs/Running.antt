@@ -1,13 +1,9 @@
 -- A command and the message after it, joined.
 use Rattle.std.proofs.Common.{◌≡◌, ◌⊎◌, ◌∙◌, inl, inr, ap, sym, subst, refl, ℕ, ◌≤◌, List, [], ◌∷◌, ◌++◌, length, take, Option, Some, None, Result, Ok, arith}
-use Rattle.std.specs.Prelude.{codes, slice_index}
 use Rattle.std.proofs.lemmas.List.{append-nil}
-use Rattle.nt_num.specs.declared.fault.ReadError.{ReadError}
 use Rattle.nt_outside.specs.Faults.{Rose}
-use Rattle.nt_outside.specs.World.{World, Asked, Text, File, Out, HostState, file}
-use Rattle.nt_app.specs.CommandLine.{IsWrite, IsEntries}
-use Rattle.nt_onefield.specs.Directory.{file_header_rest}
-use Rattle.nt_onefield.specs.PlainFile.{front, parts, plain_file, IsPlainFile}
+use Rattle.nt_outside.specs.World.{World, Asked, Text, Out, HostState, file}
+use Rattle.nt_app.specs.CommandLine.{IsWrite}
 use Rattle.nt_types.specs.ShapeData.{MemberData}
 use Rattle.nt_types.specs.declared.fault.SchemaFault.{SchemaFault}
 use Rattle.nt_app.specs.declared.status.TextFault.{TextFault}
@@ -16,12 +12,9 @@ use Rattle.nt_app.specs.Schemas.{x_of_u64, IsSchemaText, IsNoSchemaBy}
 use Rattle.nt_app.specs.Events.{IsEventText}
 use Rattle.nt_app.specs.Stops.{IsThereWith, IsNoInputBy}
 use Rattle.nt_app.specs.Statuses.{message_of}
-use Rattle.nt_app.specs.Writing.{IsUnfinished}
 use Rattle.nt_app.specs.Writes.{WriteTold, AsksAsDone, WritesFile}
-use Rattle.nt_app.specs.Entries.{IsNoPlainFile, FirstFault, EntriesTold, ListsFile}
 use Rattle.nt_app.proofs.InOrder.{nothing_made, reported_in_order}
-use Rattle.nt_app.proofs.Spoken.{write_is_not_entries}
-use Rattle.nt_app.specs.Runs.{Reports, RefusesWords, RunsWrite, RunsEntries}
+use Rattle.nt_app.specs.Runs.{Reports, RefusesWords, RunsWrite}
 use Rattle.nt_app.specs.declared.status.Status.{Status}
 use Rattle.nt_app.specs.declared.status.Status.TheVariants as status
 
@@ -39,13 +32,6 @@ same_write words o s i o' s' i' old new answer one other writes =
     let input-is : i ≡ i' = some_is i i' (sym one.names.input_is ∙ other.names.input_is) in
     subst (λ (l : List ℕ). WritesFile l s' i' old new answer) out-is (subst (λ (l : List ℕ). WritesFile o l i' old new answer) schema-is (subst (λ (l : List ℕ). WritesFile o s l old new answer) input-is writes))
 
-pub same_entries : (words : List (List ℕ)) (n n' : List ℕ) (old new : HostState) (answer : Status) → IsEntries words n → IsEntries words n' → ListsFile n old new answer → ListsFile n' old new answer
-same_entries words n n' old new answer one other lists =
-    subst (λ (l : List ℕ). ListsFile l old new answer) (some_is n n' (sym one.file_is ∙ other.file_is)) lists
-
-pub not_both : (words : List (List ℕ)) (o s i n : List ℕ) → IsWrite words o s i → IsEntries words n → ⊥
-not_both words o s i n one other = write_is_not_entries (some_is (codes "write") (codes "entries") (sym one.begins ∙ other.begins))
-
 -- want of memory for the words leaves all as it was
 pub memory_writes : (o s i : List ℕ) (state : HostState) → WritesFile o s i state state status.Memory
 memory_writes o s i state = record {
@@ -58,40 +44,13 @@ memory_writes o s i state = record {
   opened = refl;
 }
 
-pub memory_lists : (n : List ℕ) (state : HostState) → ListsFile n state state status.Memory
-memory_lists n state = record {
-  told = λ w is. (w, is, refl, (refl, refl), refl);
-  asked = (0, sym (append-nil state.asked));
-  later = omega arith;
-  failed = λ outside. absurd (cc);
-  err_faults = refl;
-  opened = refl;
-}
-
 -- a command that is one never says that the words are none
 pub write_is_command : (o s i : List ℕ) (old new : HostState) (answer : Status) → WritesFile o s i old new answer → answer ≡ status.Usage → ⊥
 write_is_command o s i old new answer writes is = subst (AsksAsDone (Text s ∷ Text i ∷ Out o ∷ []) old.asked new.asked) is writes.asked
 
-pub entries_is_command : (n : List ℕ) (old new : HostState) (answer : Status) → ListsFile n old new answer → answer ≡ status.Usage → ⊥
-entries_is_command n old new answer lists is = subst (AsksAsDone (File n ∷ []) old.asked new.asked) is lists.asked
-
-either_after : (old mid new : HostState) (n : ℕ) (message : List ℕ) → mid.err_faults ≡ old.err_faults → (length message ≤ n) ⊎ Rose mid.err_faults new.err_faults → (length message ≤ n) ⊎ Rose old.err_faults new.err_faults
+pub either_after : (old mid new : HostState) (n : ℕ) (message : List ℕ) → mid.err_faults ≡ old.err_faults → (length message ≤ n) ⊎ Rose mid.err_faults new.err_faults → (length message ≤ n) ⊎ Rose old.err_faults new.err_faults
 either_after old mid new n message same either =
     elim either [ inl whole ↦ inl whole | inr rose ↦ inr (subst (λ (m : ℕ). Rose m new.err_faults) same rose) ]
-
--- a file of numbers is finished and ROOT's
-plain_starts : (numbers : List ℕ) → (slice_index (plain_file numbers) 0 ≡ 0x72) × (take 4 (plain_file numbers) ≡ codes "root") × (IsUnfinished (plain_file numbers) → ⊥)
-unfolding plain_file parts front file_header_rest
-plain_starts numbers = (refl, refl, λ is. absurd (omega (arith, is)))
-
-plain_has_no_fault : (bytes numbers : List ℕ) (code : ℕ) → IsPlainFile bytes numbers → FirstFault bytes code → ⊥
-plain_has_no_fault bytes numbers code plain (inl (one, unfinished)) =
-    (plain_starts numbers).2 (subst IsUnfinished plain.is unfinished)
-plain_has_no_fault bytes numbers code plain (inr (inl (two, begun, inl other))) =
-    other (ap (λ (l : List ℕ). slice_index l 0) plain.is ∙ (plain_starts numbers).0)
-plain_has_no_fault bytes numbers code plain (inr (inl (two, begun, inr (some, other)))) =
-    other (ap (λ (l : List ℕ). take 4 l) plain.is ∙ (plain_starts numbers).1)
-plain_has_no_fault bytes numbers code plain (inr (inr (three, begun, root, none))) = none numbers plain
 
 -- what a print on err leaves of a command's doing
 write_told_after : (o s i : List ℕ) (w v : World) (err : List ℕ) (answer : Status) → WriteTold o s i w v answer → WriteTold o s i w (record v { err = err }) answer
@@ -106,16 +65,8 @@ write_told_after o s i w v err (status.Text None line kind) told = told
 write_told_after o s i w v err (status.Text (Some number) line kind) told = told
 write_told_after o s i w v err status.Memory told = told
 
-entries_told_after : (n : List ℕ) (w v : World) (err : List ℕ) (answer : Status) → EntriesTold n w v answer → EntriesTold n w (record v { err = err }) answer
-entries_told_after n w v err status.Done told = told
-entries_told_after n w v err status.Usage told = told
-entries_told_after n w v err (status.File fault) told = told
-entries_told_after n w v err status.Outside told = told
-entries_told_after n w v err (status.Text input line kind) told = told
-entries_told_after n w v err status.Memory told = told
-
 -- a text can't have a form and not have it
-not_there_both : (P Q : List ℕ → Type 0) (found : Option (List ℕ)) → ((text : List ℕ) → P text → Q text → ⊥) → IsThereWith P found → IsThereWith Q found → ⊥
+pub not_there_both : (P Q : List ℕ → Type 0) (found : Option (List ℕ)) → ((text : List ℕ) → P text → Q text → ⊥) → IsThereWith P found → IsThereWith Q found → ⊥
 not_there_both P Q None differ one other = one
 not_there_both P Q (Some text) differ one other = differ text one other
 
@@ -149,24 +100,6 @@ write_refused o s i w v (status.Text (Some number) line kind) told other served 
     absurd (not_there_both IsSchemaText (λ text. IsSchemaText text → ⊥) (file w s) (λ text one no. no one) told.1 other)
 write_refused o s i w v status.Memory told other served = inr refl
 
-entries_ends : (n : List ℕ) (w v : World) (numbers : List ℕ) (answer : Status) → EntriesTold n w v answer → IsThereWith (λ bytes. IsPlainFile bytes numbers) (file w n) → (answer ≡ status.Outside → ⊥) → (answer ≡ status.Done) ⊎ (answer ≡ status.Memory)
-entries_ends n w v numbers status.Done told plain served = inl refl
-entries_ends n w v numbers status.Usage told plain served = absurd told
-entries_ends n w v numbers (status.File fault) told plain served =
-    absurd (not_there_both (λ bytes. IsPlainFile bytes numbers) (λ bytes. FirstFault bytes fault.code) (file w n) (λ bytes one first. plain_has_no_fault bytes numbers fault.code one first) plain told.1)
-entries_ends n w v numbers status.Outside told plain served = absurd (served refl)
-entries_ends n w v numbers (status.Text input line kind) told plain served = absurd told
-entries_ends n w v numbers status.Memory told plain served = inr refl
-
-entries_refused : (n : List ℕ) (w v : World) (answer : Status) → EntriesTold n w v answer → IsThereWith IsNoPlainFile (file w n) → (answer ≡ status.Outside → ⊥) → ((fault : ReadError) × (answer ≡ status.File fault)) ⊎ (answer ≡ status.Memory)
-entries_refused n w v status.Done told none served =
-    absurd (not_there_both (λ bytes. IsPlainFile bytes told.0) IsNoPlainFile (file w n) (λ bytes one other. other told.0 one) told.1 none)
-entries_refused n w v status.Usage told none served = absurd told
-entries_refused n w v (status.File fault) told none served = inl (fault, refl)
-entries_refused n w v status.Outside told none served = absurd (served refl)
-entries_refused n w v (status.Text input line kind) told none served = absurd told
-entries_refused n w v status.Memory told none served = inr refl
-
 -- `write`, and then its message
 pub run_write : (o s i : List ℕ) (old mid new : HostState) (answer : Status) → WritesFile o s i old mid answer → Reports (message_of answer) mid new → RunsWrite o s i old new answer
 run_write o s i old mid new answer writes reports = record {
@@ -189,29 +122,6 @@ run_write o s i old mid new answer writes reports = record {
   refused = λ w is other served.
       let done = writes.told w is in
       write_refused o s i w done.0 answer done.4 other (λ outside. served (subst (λ (n : ℕ). Rose old.faults n) (sym reports.faults) (writes.failed outside)));
-}
-
--- `entries`, and then its message
-pub run_entries : (n : List ℕ) (old mid new : HostState) (answer : Status) → ListsFile n old mid answer → Reports (message_of answer) mid new → RunsEntries n old new answer
-run_entries n old mid new answer lists reports = record {
-  told = λ w is.
-      let done = lists.told w is in
-      let said = reports.told done.0 done.1 in (
-        _,
-        said.1,
-        (said.0, ap (λ (l : List ℕ). l ++ take said.0 (message_of answer)) done.2, either_after old mid new said.0 (message_of answer) lists.err_faults said.2),
-        done.3,
-        entries_told_after n w done.0 (done.0.err ++ take said.0 (message_of answer)) answer done.4,
-      );
-  asked = subst (λ (l : List Asked). AsksAsDone (File n ∷ []) old.asked l answer) (sym reports.asked) lists.asked;
-  failed = λ is. subst (λ (m : ℕ). Rose old.faults m) (sym reports.faults) (lists.failed is);
-  opened = reports.opened ∙ lists.opened;
-  complete = λ w numbers is plain served.
-      let done = lists.told w is in
-      entries_ends n w done.0 numbers answer done.4 plain (λ outside. served (subst (λ (m : ℕ). Rose old.faults m) (sym reports.faults) (lists.failed outside)));
-  refused = λ w is none served.
-      let done = lists.told w is in
-      entries_refused n w done.0 answer done.4 none (λ outside. served (subst (λ (m : ℕ). Rose old.faults m) (sym reports.faults) (lists.failed outside)));
 }
 
 -- no command, and then its message

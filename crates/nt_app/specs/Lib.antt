@@ -6,5 +6,5 @@ pub mod Writing
 pub mod Stops
 pub mod Schemas
 pub mod Writes
-pub mod Entries
 pub mod Runs
+pub mod Shows

@@ -1,16 +1,13 @@
 -- What the program does to a host, whole: the command, and then its message on err.
 use Rattle.std.specs.Prelude.{◌≡◌, ◌⊎◌, ℕ, ◌≤◌, List, [], ◌∷◌, ◌++◌, length, take, Some, None}
-use Rattle.nt_num.specs.declared.fault.ReadError.{ReadError}
 use Rattle.nt_outside.specs.declared.stream.Stream.TheVariants.{ToErr}
 use Rattle.nt_outside.specs.Faults.{Rose}
-use Rattle.nt_outside.specs.World.{World, Text, File, Out, HostState, file, prints}
-use Rattle.nt_onefield.specs.PlainFile.{IsPlainFile}
+use Rattle.nt_outside.specs.World.{World, Text, Out, HostState, file, prints}
 use Rattle.nt_app.specs.Schemas.{IsSchemaText}
 use Rattle.nt_app.specs.Events.{IsEventText}
 use Rattle.nt_app.specs.Stops.{IsThereWith}
 use Rattle.nt_app.specs.Statuses.{message_of}
 use Rattle.nt_app.specs.Writes.{KeepsFiles, OthersStay, WriteTold, WritesInOrder, AsksAsDone}
-use Rattle.nt_app.specs.Entries.{IsNoPlainFile, EntriesTold}
 use Rattle.nt_app.specs.declared.status.TextFault.{TextFault}
 use Rattle.nt_app.specs.declared.status.Status.{Status}
 use Rattle.nt_app.specs.declared.status.Status.TheVariants as status
@@ -55,16 +52,3 @@ pub record RunsWrite (out schema input : List ℕ) (old new : HostState) (answer
   pub complete : (w : World) (numbers : List ℕ) → old.world ≡ Some w → IsThereWith IsSchemaText (file w schema) → IsThereWith (λ text. IsEventText text numbers) (file w input) → Served old new → (answer ≡ status.Done) ⊎ (answer ≡ status.Memory)
   -- and any other SCHEMA has its fault named
   pub refused : (w : World) → old.world ≡ Some w → IsThereWith (λ text. IsSchemaText text → ⊥) (file w schema) → Served old new → ((line : ℕ) × (kind : TextFault) × (answer ≡ status.Text None line kind)) ⊎ (answer ≡ status.Memory)
-
--- the words were `entries FILE`
-pub record RunsEntries (name : List ℕ) (old new : HostState) (answer : Status) : Type 0 where
-  -- where the host tells what it holds
-  pub told : (w : World) → old.world ≡ Some w → (w' : World) × (new.world ≡ Some w') × SaysOnErr (message_of answer) old new w w' × KeepsFiles w w' × EntriesTold name w w' answer
-  pub asked : AsksAsDone (File name ∷ []) old.asked new.asked answer
-  pub failed : answer ≡ status.Outside → Rose old.faults new.faults
-  -- each object that was opened came back
-  pub opened : new.opened ≡ old.opened
-  -- where the outside serves, a file of numbers is listed unless memory runs out
-  pub complete : (w : World) (numbers : List ℕ) → old.world ≡ Some w → IsThereWith (λ bytes. IsPlainFile bytes numbers) (file w name) → Served old new → (answer ≡ status.Done) ⊎ (answer ≡ status.Memory)
-  -- and any other has its fault named
-  pub refused : (w : World) → old.world ≡ Some w → IsThereWith IsNoPlainFile (file w name) → Served old new → ((fault : ReadError) × (answer ≡ status.File fault)) ⊎ (answer ≡ status.Memory)

@@ -15,12 +15,12 @@ unfoldable pub blank : List ℕ
 blank = replicate 226 0
 
 -- a file that is begun: that room, and the header
-abbrev pub file_begun : List ℕ
-file_begun = blank ++ header_blob
+abbrev pub begun_image : List ℕ
+begun_image = blank ++ header_blob
 
 -- and its one cluster
 abbrev pub gathered : List ℕ → List ℕ
-gathered numbers = file_begun ++ cluster_blob numbers
+gathered numbers = begun_image ++ cluster_blob numbers
 
 -- a file that can't pass for a finished one: it has no byte, or its first byte is 0
 abbrev pub IsUnfinished : List ℕ → Type 0
@@ -46,7 +46,7 @@ pub record EndsAt {V E : Type 0} (end : ℕ) (old new : DiskState) (result : Res
 
 -- on Ok the file is begun
 pub record BeginsFile {V E : Type 0} (old new : DiskState) (result : Result V E) : Type 0 where
-  pub begun : OnOk result (Leaves old.held new.held (λ h. h.image ≡ file_begun))
+  pub begun : OnOk result (Leaves old.held new.held (λ h. h.image ≡ begun_image))
   pub place : EndsAt 445 old new result
 
 -- steps that were in order still are: the first byte is written over only right behind a sync
@@ -54,8 +54,8 @@ abbrev pub KeepsOrder : Option Held → Option Held → Type 0
 KeepsOrder old new = BecomesSome old new (λ h h'. FirstByteLast h.log → FirstByteLast h'.log)
 
 -- what is left to write: what stands behind the cluster, what stands in front of the header, and then the first byte
-abbrev pub finished : List ℕ → List ℕ → List ℕ → List ℕ
-finished image tail front = put_at (put_at (image ++ tail) 1 front) 0 (0x72 ∷ [])
+abbrev pub with_front : List ℕ → List ℕ → List ℕ → List ℕ
+with_front image tail front = put_at (put_at (image ++ tail) 1 front) 0 (0x72 ∷ [])
 
 -- an image whose first byte is 0
 abbrev pub BeginsWithZero : List ℕ → Type 0

@@ -1,12 +1,14 @@
 //! The words of the command line, as clap reads them.
 
-ghost use Rattle.std.specs.Prelude.{◌≡◌, true, ℕ, List, ◌∷◌, [], Some, codes, IfOk, IfSome};
+ghost use Rattle.std.specs.Prelude.{◌≡◌, true, ℕ, List, ◌∷◌, [], Some, codes, option_map, IfOk, IfSome};
 ghost use Rattle.clap.specs.Words.{app_of, is_simple_and_free, first_value, found_of, IsParsedFrom};
-ghost use Rattle.nt_app.specs.CommandLine.{texts, write_app, entries_app, Begins, IsNoCommand, IsWrong};
-ghost use Rattle.nt_app.specs.Commands.{Says, IsOperand, IsBare, HasMatch, IsCommandOf, ReadsWords};
+ghost use Rattle.nt_app.specs.CommandLine.{texts, write_app, schema_app, number_said, Begins, IsNoCommand, IsWrong};
+ghost use Rattle.nt_app.specs.Commands.{Says, IsOperand, IsNumberOption, IsBare, HasMatch, HasNumber, IsCommandOf, IsEntriesCommand, ReadsWords};
 
+use clap::builder::ValueParser;
 use clap::error::ErrorKind;
 use clap::{Arg, ArgAction, ArgMatches};
+use nt_show::EntryRange;
 use std::alloc::{AllocError, Global};
 
 /// A command, by the names that its words give.
@@ -17,6 +19,10 @@ pub enum Command<'a> {
         input: &'a str,
     },
     Entries {
+        range: EntryRange,
+        file: &'a str,
+    },
+    Schema {
         file: &'a str,
     },
     Unknown,
@@ -27,6 +33,16 @@ fn operand<'a>(alloc: Global, id: &'a str) -> Arg<'a>
     ensures { IsOperand id.entry.now result }
 {
     Arg::new(alloc, id).required(true).action(ArgAction::Set)
+}
+
+/// An option whose value is a number of 64 bits.
+fn number_option<'a>(alloc: Global, id: &'a str) -> Arg<'a>
+    ensures { IsNumberOption id.entry.now result }
+{
+    Arg::new(alloc, id)
+        .long(id)
+        .action(ArgAction::Set)
+        .value_parser(ValueParser::unsigned(0, u64::MAX))
 }
 
 /// A command without flags of its own.
@@ -47,11 +63,20 @@ fn write_command<'a>(alloc: Global) -> Result<clap::Command<'a>, AllocError>
     command.arg(operand(alloc, "IN"))
 }
 
-/// `entries FILE`.
+/// `entries [--from A] [--count C] FILE`.
 fn entries_command<'a>(alloc: Global) -> Result<clap::Command<'a>, AllocError>
-    ensures { IfOk result (IsCommandOf entries_app (codes "FILE" ∷ [])) }
+    ensures { IfOk result IsEntriesCommand }
 {
-    bare(alloc, "entries").arg(operand(alloc, "FILE"))
+    let command = bare(alloc, "entries").arg(number_option(alloc, "from"))?;
+    let command = command.arg(number_option(alloc, "count"))?;
+    command.arg(operand(alloc, "FILE"))
+}
+
+/// `schema FILE`.
+fn schema_command<'a>(alloc: Global) -> Result<clap::Command<'a>, AllocError>
+    ensures { IfOk result (IsCommandOf schema_app (codes "FILE" ∷ [])) }
+{
+    bare(alloc, "schema").arg(operand(alloc, "FILE"))
 }
 
 /// What clap finds in the words; nothing where it refuses them.
@@ -86,6 +111,14 @@ fn name_in<'a>(matches: &ArgMatches<'a>, id: &str) -> &'a str
     }
 }
 
+/// The number that was found under a name, if one was.
+fn number_in(matches: &ArgMatches<'_>, id: &str) -> Option<u64>
+    requires { HasNumber matches.now id.now }
+    ensures { result ≡ option_map number_said (first_value (found_of matches.now) id.now) }
+{
+    matches.get_one::<u64>(id)
+}
+
 /// The command of words that begin with `write`.
 fn write_of<'a>(alloc: Global, words: &'a [String]) -> Result<Command<'a>, AllocError>
     requires { Begins (texts words.now) (codes "write") }
@@ -108,8 +141,24 @@ fn entries_of<'a>(alloc: Global, words: &'a [String]) -> Result<Command<'a>, All
     requires { Begins (texts words.now) (codes "entries") }
     ensures { IfOk result (Says (texts words.entry.now)) }
 {
-    match matches_of(entries_command(alloc)?, words)? {
-        Some(matches) => Ok(Command::Entries {
+    let Some(matches) = matches_of(entries_command(alloc)?, words)? else {
+        return Ok(Command::Unknown);
+    };
+    let range = EntryRange {
+        from: number_in(&matches, "from").unwrap_or(0),
+        count: number_in(&matches, "count"),
+    };
+    let file = name_in(&matches, "FILE");
+    Ok(Command::Entries { range, file })
+}
+
+/// The command of words that begin with `schema`.
+fn schema_of<'a>(alloc: Global, words: &'a [String]) -> Result<Command<'a>, AllocError>
+    requires { Begins (texts words.now) (codes "schema") }
+    ensures { IfOk result (Says (texts words.entry.now)) }
+{
+    match matches_of(schema_command(alloc)?, words)? {
+        Some(matches) => Ok(Command::Schema {
             file: name_in(&matches, "FILE"),
         }),
         None => Ok(Command::Unknown),
@@ -123,6 +172,7 @@ pub fn command_of<'a>(alloc: Global, words: &'a [String]) -> Result<Command<'a>,
     match words {
         [first, ..] if first.as_str() == "write" => write_of(alloc, words),
         [first, ..] if first.as_str() == "entries" => entries_of(alloc, words),
+        [first, ..] if first.as_str() == "schema" => schema_of(alloc, words),
         _ => Ok(Command::Unknown),
     }
 }

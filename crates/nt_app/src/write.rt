@@ -7,7 +7,7 @@ ghost use Rattle.nt_outside.specs.Held.{Held, WhereHeld, nothing_held};
 ghost use Rattle.nt_outside.specs.World.{World, Text as asked_text, Out as asked_out};
 ghost use Rattle.nt_app.specs.declared.stop.Stop.TheVariants as stop;
 ghost use Rattle.nt_app.specs.Stops.{AsksFor, AsksNothing, IsBalanced, TakesOneBack, ReadsInput, StopsWithCause, StopsWithEither};
-ghost use Rattle.nt_app.specs.Writing.{file_begun, BeginsFile, Leaves, LeftBy, KeepsOrder};
+ghost use Rattle.nt_app.specs.Writing.{begun_image, BeginsFile, Leaves, LeftBy, KeepsOrder};
 ghost use Rattle.nt_app.specs.Writes.{NumbersTold, FileTold, OthersStay, OutTold, WritesInOrder, WritesFile};
 
 use crate::status::Status;
@@ -47,7 +47,7 @@ fn write_numbers<H: Host, G: Gate>(
     requires few { length numbers.now ≤ 30 }
     requires end { (H.Out.state disk.old).end ≡ 445 }
     requires out { (H.Out.state disk.old).out ≡ [] }
-    ensures told { (w : World) (h : Held) → (H.state host.old).world ≡ Some w → (H.Out.state disk.old).held ≡ Some h → h.image ≡ file_begun → NumbersTold numbers.now w (H.state host.new).world (H.Out.state disk.new).held result }
+    ensures told { (w : World) (h : Held) → (H.state host.old).world ≡ Some w → (H.Out.state disk.old).held ≡ Some h → h.image ≡ begun_image → NumbersTold numbers.now w (H.state host.new).world (H.Out.state disk.new).held result }
     ensures order { KeepsOrder (H.Out.state disk.old).held (H.Out.state disk.new).held }
     ensures cause { StopsWithEither (H.Out.state disk.old).faults (H.Out.state disk.new).faults (H.state host.old).faults (H.state host.new).faults result }
     ensures rest { AsksNothing (H.state host.old) (H.state host.new) }

@@ -6,7 +6,7 @@ ghost use Rattle.nt_outside.specs.Faults.{HasCause, RoseOnFailed};
 ghost use Rattle.nt_outside.specs.Held.{WhereHeld, BecomesSome, nothing_held};
 ghost use Rattle.nt_onefield.specs.Cluster.{cluster_blob};
 ghost use Rattle.nt_onefield.specs.PlainFile.{plain_file};
-ghost use Rattle.nt_app.specs.Writing.{blank, file_begun, gathered, IsUnfinished, NeverBegan, Leaves, Keeps, KeepsOrder, BeginsFile, EndsAt, finished, BeginsWithZero};
+ghost use Rattle.nt_app.specs.Writing.{blank, begun_image, gathered, IsUnfinished, NeverBegan, Leaves, Keeps, KeepsOrder, BeginsFile, EndsAt, with_front, BeginsWithZero};
 
 use nt_onefield::{cluster_blob, front, header_blob, tail};
 use nt_outside::{Disk, Failed, Gate, Point, Refused};
@@ -47,8 +47,8 @@ pub fn append_cluster<D: Disk, G: Gate>(
 ) -> Result<(), Refused>
     requires few { length numbers.now ≤ 30 }
     requires end { (D.state disk.old).end ≡ 445 }
-    ensures gathered { OnOk result (Keeps (D.state disk.old).held (D.state disk.new).held (λ b. b ≡ file_begun) (λ b. b ≡ gathered numbers.now)) }
-    ensures left { Keeps (D.state disk.old).held (D.state disk.new).held (λ b. b ≡ file_begun) IsUnfinished }
+    ensures gathered { OnOk result (Keeps (D.state disk.old).held (D.state disk.new).held (λ b. b ≡ begun_image) (λ b. b ≡ gathered numbers.now)) }
+    ensures left { Keeps (D.state disk.old).held (D.state disk.new).held (λ b. b ≡ begun_image) IsUnfinished }
     ensures order { KeepsOrder (D.state disk.old).held (D.state disk.new).held }
     ensures place { EndsAt (495 + 8 * length numbers.now) (D.state disk.old) (D.state disk.new) result }
     ensures cause { RoseOnFailed (D.state disk.old).faults (D.state disk.new).faults result }
@@ -89,8 +89,8 @@ fn finish<D: Disk>(disk: &mut D, tail: &[u8], front: &[u8]) -> Result<(), Failed
     requires sum { (D.state disk.old).end + length tail.now ≤ 2 ^ 63 }
     requires inside { 1 + length front.now ≤ (D.state disk.old).end }
     requires out { (D.state disk.old).out ≡ [] }
-    ensures whole { OnOk result (BecomesSome (D.state disk.old).held (D.state disk.new).held (λ h h'. h'.image ≡ finished h.image tail.now front.now)) }
-    ensures left { BecomesSome (D.state disk.old).held (D.state disk.new).held (λ h h'. BeginsWithZero h.image → IsUnfinished h'.image ⊎ (h'.image ≡ finished h.image tail.now front.now)) }
+    ensures whole { OnOk result (BecomesSome (D.state disk.old).held (D.state disk.new).held (λ h h'. h'.image ≡ with_front h.image tail.now front.now)) }
+    ensures left { BecomesSome (D.state disk.old).held (D.state disk.new).held (λ h h'. BeginsWithZero h.image → IsUnfinished h'.image ⊎ (h'.image ≡ with_front h.image tail.now front.now)) }
     ensures order { KeepsOrder (D.state disk.old).held (D.state disk.new).held }
     ensures cause { HasCause (D.state disk.old).faults (D.state disk.new).faults result }
 {

@@ -4,8 +4,10 @@ mod data;
 mod events;
 mod failing;
 mod files;
+mod foreign;
 mod gates;
 mod schemas;
+mod shown;
 mod words;
 
 use nt_app::{Status, run};
@@ -52,9 +54,14 @@ fn write_of(alloc: Global, schema: &[u8], input: &[u8]) -> Result<Ran, AllocErro
     run_words(alloc, host, &["write", "o", "s", "a"])
 }
 
-/// A run of `entries f` over this file.
-fn entries_of(alloc: Global, file: &[u8]) -> Result<Ran, AllocError> {
+/// A run of a command over this file, under the name `f`.
+fn run_over(alloc: Global, file: &[u8], words: &[&str]) -> Result<Ran, AllocError> {
     let mut host = MemHost::new(alloc);
     host.add("f", file)?;
-    run_words(alloc, host, &["entries", "f"])
+    run_words(alloc, host, words)
+}
+
+/// A run of `entries f` over this file.
+fn entries_of(alloc: Global, file: &[u8]) -> Result<Ran, AllocError> {
+    run_over(alloc, file, &["entries", "f"])
 }

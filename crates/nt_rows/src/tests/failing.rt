@@ -1,9 +1,10 @@
 //! Calls of the outside that fail, one at a time.
 
-use super::data::file_of_one;
+use super::data::{file_of_one, file_of_two};
 use super::run_words;
 use nt_app::Status;
 use nt_memory::{MemHost, Object};
+use std::alloc::{AllocError, Global};
 use std::test::*;
 
 /// The calls of an object in a run of `write`, and the first of them after which OUT is another file.
@@ -45,17 +46,44 @@ fn each_call_that_fails_leaves_no_finished_file(rt: HostRuntime) -> Result<(), F
     Ok(())
 }
 
-#[test]
-fn each_call_of_entries_that_fails_is_told(rt: HostRuntime) -> Result<(), Fail> {
-    for (object, call) in [(Object::Host, 1), (Object::File(0), 1), (Object::Host, 2)] {
-        let mut host = MemHost::new(rt.alloc());
-        host.add("f", &file_of_one(rt.alloc())?)?;
+/// How many calls an object has in a run over a file of 1 and the largest number that prints these lines. Each is made to fail in
+/// turn; nothing where a failure isn't answered as one, with nothing printed.
+fn calls_that_fail(
+    alloc: Global,
+    object: Object,
+    command: &str,
+    lines: &[u8],
+) -> Result<Option<u64>, AllocError> {
+    let file = file_of_two(alloc)?;
+    for call in 1..100 {
+        let mut host = MemHost::new(alloc);
+        host.add("f", &file)?;
         host.fail(object, call)?;
-        let ran = run_words(rt.alloc(), host, &["entries", "f"])?;
-        assert_eq!(rt; ran.status, Status::Outside);
-        assert_eq!(rt; ran.host.out(), b"".as_slice());
+        let ran = run_words(alloc, host, &[command, "f"])?;
+        if ran.status == Status::Done && ran.host.out() == lines {
+            return Ok(Some(call - 1));
+        }
+        let told = ran.host.err() == b"ntuple: outside\n".as_slice();
+        if ran.status != Status::Outside || !told || !ran.host.out().is_empty() {
+            return Ok(None);
+        }
     }
-    let ran = run_words(rt.alloc(), MemHost::new(rt.alloc()), &["entries", "f"])?;
-    assert_eq!(rt; ran.status, Status::Outside);
+    Ok(None)
+}
+
+#[test]
+fn each_call_of_a_reading_that_fails_is_told(rt: HostRuntime) -> Result<(), Fail> {
+    for (command, lines) in [
+        ("entries", b"[1]\n[18446744073709551615]\n".as_slice()),
+        ("schema", b"[0,0,\"x\",\"std::uint64_t\",0,[10],true]\n"),
+    ] {
+        // the file is opened, and the lines are printed at once
+        let calls = calls_that_fail(rt.alloc(), Object::Host, command, lines)?;
+        assert_eq!(rt; calls, Some(2));
+        let calls = calls_that_fail(rt.alloc(), Object::File(0), command, lines)?;
+        assert!(rt; calls > Some(6), "{calls:?}");
+        let ran = run_words(rt.alloc(), MemHost::new(rt.alloc()), &[command, "f"])?;
+        assert_eq!(rt; ran.status, Status::Outside);
+    }
     Ok(())
 }

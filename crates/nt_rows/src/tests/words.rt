@@ -30,6 +30,18 @@ fn other_words_are_refused(rt: HostRuntime) -> Result<(), Fail> {
     assert!(rt; refuses(rt.alloc(), &["entries", "-h"])?);
     assert!(rt; refuses(rt.alloc(), &["entries", "--version", "f"])?);
     assert!(rt; refuses(rt.alloc(), &["entries", "help", "f"])?);
+    // numbers of 64 bits, each once
+    for count in ["", "x", "-1", "1.0", " 1", "18446744073709551616"] {
+        assert!(rt;
+            refuses(rt.alloc(), &["entries", "--count", count, "f"])?,
+            "{count}"
+        );
+    }
+    assert!(rt; refuses(rt.alloc(), &["entries", "f", "--from"])?);
+    assert!(rt; refuses(rt.alloc(), &["entries", "--from", "1", "--from", "1", "f"])?);
+    assert!(rt; refuses(rt.alloc(), &["schema"])?);
+    assert!(rt; refuses(rt.alloc(), &["schema", "f", "g"])?);
+    assert!(rt; refuses(rt.alloc(), &["schema", "--count", "1", "f"])?);
     assert_eq!(rt; Status::Usage.code(), 2);
     Ok(())
 }

@@ -1,6 +1,6 @@
 use Rattle.std.proofs.Common.{◌∙◌, ap, refl, arith, ℕ, List, ◌++◌}
 use Rattle.nt_outside.proofs.Order.{append_follows, torn_append_follows}
-use Rattle.nt_app.specs.Writing.{file_begun}
+use Rattle.nt_app.specs.Writing.{begun_image}
 use Rattle.nt_app.proofs.Images.{begun-begins, unfinished_append, unfinished_begun}
 use Rattle.nt_app.proofs.writing.append_cluster.Goals as goal
 
@@ -19,7 +19,7 @@ pub returns-clause-gathered : goal.returns-clause-gathered
 returns-clause-gathered g c h is was = (
   _,
   c.in_ok-append.ensures.ok h (c.in_ok-room.ensures.held ∙ is),
-  ap (λ (l : List ℕ). l ++ c.deref.result.now) was ∙ ap (λ (l : List ℕ). file_begun ++ l) (c.deref.ensures.value ∙ c.in_ok-cluster.ensures.bytes),
+  ap (λ (l : List ℕ). l ++ c.deref.result.now) was ∙ ap (λ (l : List ℕ). begun_image ++ l) (c.deref.ensures.value ∙ c.in_ok-cluster.ensures.bytes),
 )
 
 pub returns-clause-left : goal.returns-clause-left
