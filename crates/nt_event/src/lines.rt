@@ -9,6 +9,7 @@ use memchr::memchr;
 use nt_outside::{Failed, Source};
 use nt_types::Bytes;
 use std::alloc::{AllocError, Global};
+use std::mem;
 
 /// The bytes that are read at once.
 const PIECE: usize = 1 << 16;
@@ -67,6 +68,8 @@ pub struct LineReader<S> {
     end: usize,
     /// The number of the last line that was given.
     number: u64,
+    /// Memory for the next line.
+    spare: Vec<u8>,
     ghost within: { (at ≤ end) × (end ≤ vec_len piece) × (0 < vec_len piece) },
     ghost numbers: { number ≤ max_number },
 }
@@ -94,6 +97,7 @@ impl<S: Source> LineReader<S> {
                 at: 0,
                 end: 0,
                 number: 0,
+                spare: Vec::new(alloc),
             }),
             Err(error) => Err((source, error)),
         }
@@ -176,13 +180,14 @@ impl<S: Source> LineReader<S> {
         }
     }
 
-    /// The next line, blank ones too; none at the end. After an error the reader is not asked again.
-    pub fn next(&mut self, alloc: Global) -> Result<Option<Line>, LineError>
+    /// The next line, in memory that holds nothing yet.
+    fn next_in(&mut self, memory: Vec<u8>) -> Result<Option<Line>, LineError>
+        requires empty { memory.items ≡ [] }
         ensures line { GivesLine (lines_state (S.state self.old.source) self.old)
             (lines_state (S.state self.new.source) self.new) result }
         ensures later { (S.state self.old.source).faults ≤ (S.state self.new.source).faults }
     {
-        let mut bytes = Vec::new(alloc);
+        let mut bytes = memory;
         for _ in 0..=MAX_LINE {
             if !self.fill()? {
                 if bytes.is_empty() {
@@ -200,5 +205,24 @@ impl<S: Source> LineReader<S> {
             }
         }
         unreachable!()
+    }
+
+    /// The next line, blank ones too; none at the end. After an error the reader is not asked again.
+    pub fn next(&mut self, alloc: Global) -> Result<Option<Line>, LineError>
+        ensures line { GivesLine (lines_state (S.state self.old.source) self.old)
+            (lines_state (S.state self.new.source) self.new) result }
+        ensures later { (S.state self.old.source).faults ≤ (S.state self.new.source).faults }
+    {
+        let mut memory = mem::replace(&mut self.spare, Vec::new(alloc));
+        memory.clear();
+        self.next_in(memory)
+    }
+
+    /// Takes a line back. The next one stands in its memory.
+    pub fn reuse(&mut self, line: Line)
+        ensures { lines_state (S.state self.new.source) self.new
+            ≡ lines_state (S.state self.old.source) self.old }
+    {
+        self.spare = line.bytes.into_vec();
     }
 }

@@ -2,7 +2,7 @@ use Rattle.std.proofs.Common.{◌≡◌, ◌≤◌, ◌<◌, ℕ, List, length}
 use Rattle.std.specs.Io.KnownBytes.{Consumes}
 use Rattle.nt_event.specs.Limits.{max_line, max_number}
 use Rattle.nt_event.specs.Lines.{LinesState, HasNoLf, lines_state}
-use Rattle.nt_event.proofs.lines.LineReader.next.Given as goal
+use Rattle.nt_event.proofs.lines.LineReader.next_in.Given as goal
 
 -- these bytes, which have no LF, were taken, at least one in each turn
 pub record Gathered (old new : LinesState) (turns : ℕ) (bytes : List ℕ) : Type 0 where

@@ -5,7 +5,7 @@ use Rattle.nt_event.specs.Lines.{lines_state}
 use Rattle.nt_event.specs.LineParts.{TakesMore}
 use Rattle.nt_event.proofs.Digits.{range-length}
 use Rattle.nt_event.proofs.LineSteps.{more_left, gives_err, next_line}
-use Rattle.nt_event.proofs.lines.LineReader.next.Goals as goal
+use Rattle.nt_event.proofs.lines.LineReader.next_in.Goals as goal
 
 pub returns-then-self-ge-MAX_NUMBER-clause-line : goal.returns-then-self-ge-MAX_NUMBER-clause-line
 returns-then-self-ge-MAX_NUMBER-clause-line g c =
