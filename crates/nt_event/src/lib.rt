@@ -1,7 +1,7 @@
 //! Event text: lines of JSON to trees, and back.
 //!
 //! Start at [`LineReader`], which gives the lines of a text; [`blank`] tells those without an entry, [`read_line`] reads
-//! an entry by the fields of a schema, and [`write_line`] appends the line of one.
+//! an entry by the fields of a schema, and [`write_line`] appends the line of one; [`write_text`] appends one text of it.
 //!
 //! Its words: an *entry* is one tree for each field; its *line* is a JSON array with one value for each field. A value in its
 //! *compact form* stands as `write_line` prints it. What a line means is `entry_of` (specs/Entry.antt), by what
@@ -31,3 +31,4 @@ pub use fault::{TextError, TextKind};
 pub use laws::lines_are_read_back;
 pub use lines::{Line, LineError, LineReader};
 pub use printing::write_line;
+pub use strings::write_text;

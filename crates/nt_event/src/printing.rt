@@ -6,7 +6,7 @@ ghost use Rattle.nt_event.specs.Json.{data_of, datas_of, line_of};
 ghost use Rattle.nt_types.specs.TreeData.{trees_of};
 ghost use Rattle.nt_types.specs.TreeViews.{tree_view, trees_view};
 
-use crate::strings::put_text;
+use crate::strings::write_text;
 use itoa::Buffer;
 use nt_types::{Tree, Trees};
 use std::alloc::{AllocError, Global};
@@ -32,7 +32,7 @@ fn put_tree(alloc: Global, tree: &Tree, out: &mut Vec<u8>) -> Result<(), AllocEr
             let mut digits = Buffer::new();
             out.extend_from_slice(digits.format(*n).as_bytes())
         }
-        Tree::Text(bytes) => put_text(alloc, bytes.as_slice(), out),
+        Tree::Text(bytes) => write_text(alloc, bytes.as_slice(), out),
         Tree::Items(trees) => {
             out.push(b'[')?;
             put_items(alloc, &trees.list, out)?;

@@ -4,7 +4,8 @@ ghost use Rattle.std.specs.Prelude.{◌≡◌, ◌++◌, ◌∷◌, ◌<◌, [],
 ghost use Rattle.std.specs.Char.{digit_char};
 ghost use Rattle.json.specs.Print.{escape, escape_byte, quoted};
 ghost use Rattle.serde_json.specs.Written.{compact_text};
-ghost use Rattle.nt_event.specs.Json.{text_data, hex_data};
+ghost use Rattle.nt_event.specs.Json.{data_of, hex_data};
+ghost use Rattle.nt_types.specs.TreeData.{text};
 
 use crate::quoted::plain_end;
 use std::alloc::{AllocError, Global};
@@ -88,9 +89,10 @@ fn put_hex(alloc: Global, bytes: &[u8], out: &mut Vec<u8>) -> Result<(), AllocEr
     Ok(())
 }
 
-/// Appends a string, or an object with its hex where it is not UTF-8.
-pub(crate) fn put_text(alloc: Global, bytes: &[u8], out: &mut Vec<u8>) -> Result<(), AllocError>
-    ensures ok { OnOk result (out.new.items ≡ out.old.items ++ compact_text (text_data bytes.now)) }
+/// Appends a text as it stands in a line: a string, or an object with its hex where it is not UTF-8. Where memory runs out,
+/// some of it may stand behind what was there.
+pub fn write_text(alloc: Global, bytes: &[u8], out: &mut Vec<u8>) -> Result<(), AllocError>
+    ensures ok { OnOk result (out.new.items ≡ out.old.items ++ compact_text (data_of (text bytes.now))) }
     ensures kept { take (length out.old.items) out.new.items ≡ out.old.items }
 {
     match simdutf8::compat::from_utf8(bytes) {

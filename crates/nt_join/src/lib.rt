@@ -27,7 +27,7 @@ mod fault;
 mod join;
 mod number;
 mod open;
-mod reading;
+pub mod reading;
 
 pub use check::check_by;
 pub use fault::ValueFault;

@@ -2,7 +2,7 @@ use Rattle.std.proofs.Common.{rules, ◌≡◌, ◌++◌, subst}
 use Rattle.std.specs.Prelude.{OnOk}
 use Rattle.std.specs.Str.{IsUtf8}
 use Rattle.nt_event.proofs.Prints.{utf8_text, not_utf8_text}
-use Rattle.nt_event.proofs.strings.put_text.Goals as goal
+use Rattle.nt_event.proofs.strings.write_text.Goals as goal
 
 pub returns-in-Ok-clause-ok : goal.returns-in-Ok-clause-ok
 returns-in-Ok-clause-ok c =

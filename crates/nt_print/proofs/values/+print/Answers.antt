@@ -1,0 +1,182 @@
+use Rattle.std.proofs.Common.{rules, ◌≡◌, ◌<◌, ◌≤◌, ◌-◌, ◌+◌, ℕ, ◌∷◌, ◌++◌, map, length, drop, get_or, sym, ap, ◌∙◌, subst, arith, Box, Global}
+use Rattle.std.proofs.lemmas.List.{drop_more, drop_all, length-map}
+use Rattle.serde_json.specs.Written.{compact_text}
+use Rattle.nt_types.specs.TreeData.{TreeData, pick}
+use Rattle.nt_event.specs.Json.{data_of}
+use Rattle.nt_event.proofs.Prints.{kept-on}
+use Rattle.nt_plans.specs.Plan.{text, list, choice, plans_of}
+use Rattle.nt_plans.specs.PlanViews.{plan_view, plans_view}
+use Rattle.nt_plans.specs.declared.plan.Plan.{Plan, List as ListPlan, the_lemmas as plan_lemmas}
+use Rattle.nt_plans.specs.declared.plan.Plans.{Plans}
+use Rattle.nt_plans.proofs.plan.Plan.TheLaws.{the_size}
+use Rattle.nt_plans.proofs.plan.Plans.TheLaws.{the_size as plans_size}
+use Rattle.nt_plans.proofs.PlanViews.{view-Text, view-List}
+use Rattle.nt_trees.specs.Columns.{Cols}
+use Rattle.nt_trees.specs.TreeAt.{tree_at, each_at}
+use Rattle.nt_join.specs.Readable.{Readable, ReadableTo, ReadableEach}
+use Rattle.nt_join.proofs.Plans.{plans_view-list}
+use Rattle.nt_join.proofs.Reach.{of_tag-at, readable-is, text-within, items-readable, tag-among, picked-readable, tree_at-picked}
+use Rattle.nt_print.proofs.Arrays.{pick-put, IsBegun-none, IsBegun-next, IsBegun-end, IsBegun-fails, kept-kept, trees_from-first, trees_from-none}
+use Rattle.nt_print.proofs.values.+print.Goals as goal
+
+pub put_range-loop-i-init : goal.put_range-loop-i-init
+put_range-loop-i-init g t c = IsBegun-none _ _ _ c.in_ok-push.ensures.items
+
+pub put_range-loop-i-preserved : goal.put_range-loop-i-preserved
+put_range-loop-i-preserved g t c =
+    let f = tree_at (plan_view c.args.of.now) (g.C.Columns.elements c.args.columns.now) in
+    let i = c.loop-i.i in
+    IsBegun-next _ c.loop-i.out.items c.put_comma.new.out.items c.put_value.new.out.items c.loop-i.later (f i) _ _ _
+    (trees_from-first f i c.args.to (omega (arith, c.loop-i-test.true))) c.loop-i.invariant c.in_ok-put_comma.ensures.ok
+    c.in_ok-put_value.ensures.ok
+
+pub put_range-returns-in_err-put_comma-clause-kept : goal.put_range-returns-in_err-put_comma-clause-kept
+put_range-returns-in_err-put_comma-clause-kept g t c =
+    kept-kept _ c.loop-i.out.items c.put_comma.new.out.items c.loop-i.invariant.kept c.put_comma.ensures.kept
+
+pub put_range-returns-in_err-put_value-clause-kept : goal.put_range-returns-in_err-put_value-clause-kept
+put_range-returns-in_err-put_value-clause-kept g t c =
+    IsBegun-fails _ c.loop-i.out.items c.put_comma.new.out.items c.put_value.new.out.items c.loop-i.later _ _ c.loop-i.invariant
+    c.in_ok-put_comma.ensures.ok c.put_value.ensures.kept
+
+pub put_range-returns-clause-ok : goal.put_range-returns-clause-ok
+put_range-returns-clause-ok g t c =
+    let f = tree_at (plan_view c.args.of.now) (g.C.Columns.elements c.args.columns.now) in
+    IsBegun-end _ c.loop-i.out.items _ c.loop-i.later _ _ (trees_from-none f c.loop-i.i c.args.to (omega (arith, c.loop-i-test.false)))
+    c.loop-i.invariant c.in_ok-push-2.ensures.items
+
+pub put_each-loop-part-init : goal.put_each-loop-part-init
+put_each-loop-part-init g t c = record { readable = c.requires; begun = IsBegun-none _ _ _ c.in_ok-push.ensures.items }
+
+pub put_each-loop-part-preserved : goal.put_each-loop-part-preserved
+put_each-loop-part-preserved g t c =
+    let v = c.loop-part.invariant in
+    let cols = g.C.Columns.elements c.args.columns.now in
+    let i = c.args.i in
+    let first = c.part-item.result in
+    let parts = c.args.parts.now in
+    let rest = drop (c.loop-part.part-index + 1) parts in
+    let next : drop c.loop-part.part-index parts ≡ first ∷ rest =
+    drop_more parts c.loop-part.part-index first c.loop-part-test.true ∙ ap (λ p. p ∷ rest) (sym c.part-item.is) in
+    let sound = subst (λ ps. ReadableEach (plans_of (map plan_view ps)) cols i) next v.readable in
+    record {
+      readable = record { size = sound.size; sound = sound.sound.1; within = sound.within };
+      begun = IsBegun-next _ c.loop-part.out.items c.put_comma.new.out.items c.put_value.new.out.items c.loop-part.later
+          (tree_at (plan_view first) cols i) _ _ _ (ap (λ ps. each_at (plans_of (map plan_view ps)) cols i) next) v.begun
+          c.in_ok-put_comma.ensures.ok c.in_ok-put_value.ensures.ok;
+    }
+
+pub put_each-returns-in_err-put_comma-clause-kept : goal.put_each-returns-in_err-put_comma-clause-kept
+put_each-returns-in_err-put_comma-clause-kept g t c =
+    kept-kept _ c.loop-part.out.items c.put_comma.new.out.items c.loop-part.invariant.begun.kept c.put_comma.ensures.kept
+
+pub put_each-returns-in_err-put_value-clause-kept : goal.put_each-returns-in_err-put_value-clause-kept
+put_each-returns-in_err-put_value-clause-kept g t c =
+    IsBegun-fails _ c.loop-part.out.items c.put_comma.new.out.items c.put_value.new.out.items c.loop-part.later _ _
+    c.loop-part.invariant.begun c.in_ok-put_comma.ensures.ok c.put_value.ensures.kept
+
+pub put_each-returns-clause-ok : goal.put_each-returns-clause-ok
+put_each-returns-clause-ok g t c =
+    let cols = g.C.Columns.elements c.args.columns.now in
+    let none = drop_all c.loop-part.part-index c.args.parts.now c.loop-part-test.false in
+    IsBegun-end _ c.loop-part.out.items _ c.loop-part.later _ _ (ap (λ ps. each_at (plans_of (map plan_view ps)) cols c.args.i) none)
+    c.loop-part.invariant.begun c.in_ok-push-2.ensures.items
+
+pub put_value-put_part-requires-clause-within : goal.put_value-put_part-requires-clause-within
+put_value-put_part-requires-clause-within g t c =
+    let cols = g.C.Columns.elements c.args.columns.now in
+    let e = c.in-Text.ends in
+    let b = c.in-Text.bytes in
+    let r = readable-is _ (text e b) cols c.args.i (ap plan_view c.in-Text.is ∙ view-Text e b) c.requires in
+    omega (arith, c.number-to.ensures, text-within e b cols c.args.i r)
+
+smaller : (e : ℕ) (p : Box Plan Global) → the_size p.value < the_size (ListPlan e p)
+smaller e p = search (rules, plan_lemmas)
+
+pub put_value-put_range-requires : goal.put_value-put_range-requires
+put_value-put_range-requires g t c κs within =
+    let cols = g.C.Columns.elements c.args.columns.now in
+    let k = c.in-List.ends in
+    let of = plan_view c.deref.result.now in
+    let is = ap plan_view c.in-List.is ∙ view-List k c.in-List.of ∙ ap (λ p. list k (plan_view p)) (sym c.deref.ensures) in
+    let r = items-readable k of cols c.args.i (readable-is _ (list k of) cols c.args.i is c.requires) in
+    let e = ap the_size c.in-List.is in
+    let d = ap the_size c.deref.ensures in
+    let order : c.begin-from-in-List.result ≤ c.number-to-in-List.result =
+    omega (arith, r.1, c.begin-from-in-List.ensures, c.number-to-in-List.ensures) in (
+      omega (arith, e, d, smaller k c.in-List.of),
+      (search (rules, within), (search rules, (order, subst (ReadableTo of cols) (sym c.number-to-in-List.ensures) r.0))),
+    )
+
+-- what is readable of a choice in the code
+choice_readable : (s : ℕ) (ps : Plans) (cols : Cols) (i : ℕ) → Readable (choice s (plans_of (plans_view ps))) cols i
+    → Readable (choice s (plans_of (map plan_view ps.list.items))) cols i
+choice_readable s ps cols i r = readable-is _ _ cols i (ap (λ l. choice s (plans_of l)) (plans_view-list ps)) r
+
+pub put_choice-index-chosen-requires : goal.put_choice-index-chosen-requires
+put_choice-index-chosen-requires g t c =
+    let cols = g.C.Columns.elements c.args.columns.now in
+    let s = c.args.tags in
+    let ps = c.args.of.now in
+    omega (
+      arith,
+      c.tag-tag.ensures,
+      c.if-tag-eq0.false,
+      tag-among s (map plan_view ps.list.items) cols c.args.i (choice_readable s ps cols c.args.i c.requires),
+      length-map ps.list.items plan_view,
+      ps.list.ok,
+    )
+
+smaller_part : (ps : Plans) (i : ℕ) (x : Plan) → i < length ps.list.items → x ≡ get_or ps.list.items i x → the_size x < plans_size ps
+smaller_part ps i x h is = search (rules, plan_lemmas)
+
+pub put_choice-put_value-requires : goal.put_choice-put_value-requires
+put_choice-put_value-requires g t c κs within =
+    let cols = g.C.Columns.elements c.args.columns.now in
+    let i = c.args.i in
+    let s = c.args.tags in
+    let ps = c.args.of.now in
+    let l = ps.list.items in
+    let r = choice_readable s ps cols i c.requires in
+    let tag = c.tag-tag.result in
+    let is = sym c.tag-tag.ensures in
+    let some : 0 < tag = omega (arith, c.if-tag-eq0.false) in
+    let among : tag ≤ length l = omega (arith, is, tag-among s (map plan_view l) cols i r, length-map l plan_view) in
+    let x = c.index-chosen.result.now in
+    let n = of_tag-at l tag x some among c.index-chosen.ensures in
+    let f = smaller_part ps (tag - 1) x (omega (arith, some, among)) c.index-chosen.ensures in (
+      omega (arith, c.decreases, f),
+      (
+        search (rules, within),
+        (
+          search rules,
+          subst (Readable (plan_view x) cols) (sym c.number-at.ensures)
+              (picked-readable s (plans_of (map plan_view l)) tag (plan_view x) cols i n is some r),
+        ),
+      ),
+    )
+
+pub put_choice-returns-in_err-put_value-clause-kept : goal.put_choice-returns-in_err-put_value-clause-kept
+put_choice-returns-in_err-put_value-clause-kept g t c =
+    kept-on c.args.out.now.items _ _ _ c.in_ok-put_tag.ensures.ok c.put_value.ensures.kept
+
+pub put_choice-returns-clause-ok : goal.put_choice-returns-clause-ok
+put_choice-returns-clause-ok g t c =
+    let cols = g.C.Columns.elements c.args.columns.now in
+    let i = c.args.i in
+    let s = c.args.tags in
+    let ps = c.args.of.now in
+    let l = ps.list.items in
+    let r = choice_readable s ps cols i c.requires in
+    let tag = c.tag-tag.result in
+    let is = sym c.tag-tag.ensures in
+    let some : 0 < tag = omega (arith, c.if-tag-eq0.false) in
+    let among : tag ≤ length l = omega (arith, is, tag-among s (map plan_view l) cols i r, length-map l plan_view) in
+    let x = c.index-chosen.result.now in
+    let n = of_tag-at l tag x some among c.index-chosen.ensures in
+    let v = tree_at (plan_view x) cols c.number-at.result in
+    pick-put c.args.out.now.items _ _ _ tag v c.in_ok-put_tag.ensures.ok c.in_ok-put_value.ensures.ok c.in_ok-push.ensures.items
+    ∙ ap (λ (u : TreeData). c.args.out.now.items ++ compact_text (data_of u))
+    (ap (λ j. pick tag (tree_at (plan_view x) cols j)) c.number-at.ensures
+    ∙ sym (tree_at-picked s (plans_of (map plan_view l)) tag (plan_view x) cols i n is some)
+    ∙ ap (λ ls. tree_at (choice s (plans_of ls)) cols i) (sym (plans_view-list ps)))

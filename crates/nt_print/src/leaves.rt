@@ -1,0 +1,125 @@
+//! Values that hold no others, and the pieces between values.
+
+ghost use Rattle.std.specs.Prelude.{◌≡◌, ◌≤◌, ◌-◌, ◌++◌, ◌∷◌, [], length, take, true, pos, decimal, OnOk};
+ghost use Rattle.serde_json.specs.Written.{compact_text, comma_if};
+ghost use Rattle.nt_event.specs.Json.{data_of};
+ghost use Rattle.nt_types.specs.TreeData.{flag, num, text};
+ghost use Rattle.nt_trees.specs.Integers.{integer_of};
+ghost use Rattle.nt_trees.specs.TreeAt.{text_from};
+
+use itoa::Buffer;
+use nt_column::Columns;
+use nt_event::write_text;
+use std::alloc::{AllocError, Global};
+
+/// Appends a comma, where something stands before.
+#[inline]
+pub fn put_comma(later: bool, out: &mut Vec<u8>) -> Result<(), AllocError>
+    ensures ok { OnOk result (out.new.items ≡ out.old.items ++ comma_if later) }
+    ensures kept { take (length out.old.items) out.new.items ≡ out.old.items }
+{
+    if later {
+        out.push(b',')?;
+    }
+    Ok(())
+}
+
+/// Appends a truth value.
+pub fn put_flag(holds: bool, out: &mut Vec<u8>) -> Result<(), AllocError>
+    ensures ok { OnOk result (out.new.items ≡ out.old.items ++ compact_text (data_of (flag holds))) }
+    ensures kept { take (length out.old.items) out.new.items ≡ out.old.items }
+{
+    if holds {
+        out.extend_from_slice(b"true")
+    } else {
+        out.extend_from_slice(b"false")
+    }
+}
+
+/// Appends a number without a sign.
+#[inline]
+fn put_unsigned(n: u64, out: &mut Vec<u8>) -> Result<(), AllocError>
+    ensures ok { OnOk result (out.new.items ≡ out.old.items ++ compact_text (data_of (num (pos n)))) }
+    ensures kept { take (length out.old.items) out.new.items ≡ out.old.items }
+{
+    let mut digits = Buffer::new();
+    out.extend_from_slice(digits.format(n).as_bytes())
+}
+
+/// Appends a number, with its sign if it is below zero.
+#[inline]
+fn put_signed(n: i64, out: &mut Vec<u8>) -> Result<(), AllocError>
+    ensures ok { OnOk result (out.new.items ≡ out.old.items ++ compact_text (data_of (num n))) }
+    ensures kept { take (length out.old.items) out.new.items ≡ out.old.items }
+{
+    let mut digits = Buffer::new();
+    out.extend_from_slice(digits.format(n).as_bytes())
+}
+
+/// The integer that an element of this width stands for, where it has a sign.
+fn signed_of(element: u64, bits: u8) -> i64
+    requires { bits ≤ 64 }
+    ensures { result ≡ integer_of bits true element }
+{
+    let half: u64 = if bits == 0 { 1 } else { 1 << (bits - 1) };
+    let top = half - 1 + half;
+    if element < half {
+        element as i64
+    } else if element > top {
+        -1
+    } else {
+        -1 - (top - element) as i64
+    }
+}
+
+/// Appends the integer that an element of this width and sign stands for.
+pub fn put_integer(
+    element: u64,
+    bits: u8,
+    signed: bool,
+    out: &mut Vec<u8>,
+) -> Result<(), AllocError>
+    ensures ok { OnOk result (out.new.items ≡ out.old.items ++ compact_text
+        (data_of (num (integer_of bits signed element)))) }
+    ensures kept { take (length out.old.items) out.new.items ≡ out.old.items }
+{
+    if !signed {
+        return put_unsigned(element, out);
+    }
+    // A width of more than 64 bits: no element is as large as half of it.
+    if bits > 64 {
+        return put_unsigned(element, out);
+    }
+    put_signed(signed_of(element, bits), out)
+}
+
+/// Appends the text of the bytes from one place to before another.
+pub fn put_part<C: Columns>(
+    alloc: Global,
+    columns: &C,
+    column: u32,
+    from: u64,
+    to: u64,
+    out: &mut Vec<u8>,
+) -> Result<(), AllocError>
+    requires order { from ≤ to }
+    requires within { to ≤ length (C.Columns.elements columns.now column) }
+    ensures ok { OnOk result (out.new.items ≡ out.old.items ++ compact_text
+        (data_of (text (text_from (C.Columns.elements columns.now column) from (to - from))))) }
+    ensures kept { take (length out.old.items) out.new.items ≡ out.old.items }
+{
+    let bytes = columns.text(alloc, column, from, to)?;
+    write_text(alloc, bytes.as_slice(), out)
+}
+
+/// Appends what stands before the value of an alternative: a bracket, the tag and a comma.
+pub fn put_tag(tag: u32, out: &mut Vec<u8>) -> Result<(), AllocError>
+    ensures ok { OnOk result (out.new.items ≡ out.old.items ++ 91 ∷ (decimal tag ++ 44 ∷ [])) }
+    ensures kept { take (length out.old.items) out.new.items ≡ out.old.items }
+{
+    out.push(b'[')?;
+    let mut digits = Buffer::new();
+    out.extend_from_slice(digits.format(tag).as_bytes())?;
+    out.push(b',')?;
+    Ok(())
+}

@@ -1,0 +1,130 @@
+//! Values at elements, printed by their plans.
+
+ghost use Rattle.std.specs.Prelude.{◌≡◌, ◌≤◌, ◌-◌, ◌++◌, length, map, take, OnOk};
+ghost use Rattle.serde_json.specs.Written.{compact_text};
+ghost use Rattle.nt_event.specs.Json.{data_of, line_of};
+ghost use Rattle.nt_plans.specs.Plan.{choice, plans_of};
+ghost use Rattle.nt_plans.specs.PlanViews.{plan_view, plans_view};
+ghost use Rattle.nt_trees.specs.TreeAt.{tree_at, each_at, trees_from};
+ghost use Rattle.nt_join.specs.Readable.{Readable, ReadableTo, ReadableEach};
+
+use crate::leaves::{put_comma, put_flag, put_integer, put_part, put_tag};
+use nt_column::Columns;
+use nt_join::reading::{begin, number, tag};
+use nt_plans::{Plan, Plans};
+use std::alloc::{AllocError, Global};
+
+/// Appends the value of an element.
+#[cycle(print)]
+fn put_value<C: Columns>(
+    alloc: Global,
+    columns: &C,
+    plan: &Plan,
+    i: u64,
+    out: &mut Vec<u8>,
+) -> Result<(), AllocError>
+    requires { Readable (plan_view plan.now) (C.Columns.elements columns.now) i }
+    ensures ok { OnOk result (out.new.items ≡ out.old.items ++ compact_text
+        (data_of (tree_at (plan_view plan.now) (C.Columns.elements columns.now) i))) }
+    ensures kept { take (length out.old.items) out.new.items ≡ out.old.items }
+{
+    match plan {
+        Plan::Bool { column } => put_flag(number(columns, *column, i) == 1, out),
+        Plan::Number {
+            column,
+            bits,
+            signed,
+        } => put_integer(number(columns, *column, i), *bits, *signed, out),
+        Plan::Text { ends, bytes } => {
+            let from = begin(columns, *ends, i);
+            let to = number(columns, *ends, i);
+            put_part(alloc, columns, *bytes, from, to, out)
+        }
+        Plan::List { ends, of } => {
+            let from = begin(columns, *ends, i);
+            let to = number(columns, *ends, i);
+            put_range(alloc, columns, of, from, to, out)
+        }
+        Plan::Record(parts) => put_each(alloc, columns, &parts.list, i, out),
+        Plan::Choice { tags, of } => put_choice(alloc, columns, *tags, of, i, out),
+    }
+}
+
+/// Appends the array of the values from one place to before another.
+#[cycle(print)]
+fn put_range<C: Columns>(
+    alloc: Global,
+    columns: &C,
+    of: &Plan,
+    from: u64,
+    to: u64,
+    out: &mut Vec<u8>,
+) -> Result<(), AllocError>
+    requires order { from ≤ to }
+    requires readable { ReadableTo (plan_view of.now) (C.Columns.elements columns.now) to }
+    ensures ok { OnOk result (out.new.items ≡ out.old.items ++ line_of
+        (trees_from (tree_at (plan_view of.now) (C.Columns.elements columns.now)) from (to - from))) }
+    ensures kept { take (length out.old.items) out.new.items ≡ out.old.items }
+{
+    out.push(b'[')?;
+    let mut later = false;
+    for i in from..to {
+        put_comma(later, out)?;
+        put_value(alloc, columns, of, i, out)?;
+        later = true;
+    }
+    out.push(b']')?;
+    Ok(())
+}
+
+/// Appends the array of the value of each plan, all at one element.
+#[cycle(print)]
+pub fn put_each<C: Columns>(
+    alloc: Global,
+    columns: &C,
+    parts: &[Plan],
+    i: u64,
+    out: &mut Vec<u8>,
+) -> Result<(), AllocError>
+    requires { ReadableEach (plans_of (map plan_view parts.now)) (C.Columns.elements columns.now) i }
+    ensures ok { OnOk result (out.new.items ≡ out.old.items ++ line_of
+        (each_at (plans_of (map plan_view parts.now)) (C.Columns.elements columns.now) i)) }
+    ensures kept { take (length out.old.items) out.new.items ≡ out.old.items }
+{
+    out.push(b'[')?;
+    let mut later = false;
+    for part in parts {
+        put_comma(later, out)?;
+        put_value(alloc, columns, part, i, out)?;
+        later = true;
+    }
+    out.push(b']')?;
+    Ok(())
+}
+
+/// Appends the tag and the value of an alternative, or what stands for none.
+#[cycle(print)]
+fn put_choice<C: Columns>(
+    alloc: Global,
+    columns: &C,
+    tags: u32,
+    of: &Plans,
+    i: u64,
+    out: &mut Vec<u8>,
+) -> Result<(), AllocError>
+    requires { Readable (choice tags (plans_of (plans_view of.now))) (C.Columns.elements columns.now) i }
+    ensures ok { OnOk result (out.new.items ≡ out.old.items ++ compact_text (data_of
+        (tree_at (choice tags (plans_of (plans_view of.now))) (C.Columns.elements columns.now) i))) }
+    ensures kept { take (length out.old.items) out.new.items ≡ out.old.items }
+{
+    let tag = tag(columns, tags, i);
+    if tag == 0 {
+        return out.extend_from_slice(b"null");
+    }
+    let chosen = &of.list[tag as usize - 1];
+    let at = number(columns, tags, i);
+    put_tag(tag, out)?;
+    put_value(alloc, columns, chosen, at, out)?;
+    out.push(b']')?;
+    Ok(())
+}
