@@ -1,9 +1,10 @@
 -- The entries that columns give.
-use Rattle.std.proofs.Common.{◌≡◌, ℕ, ◌<◌, List, slice_get, Some, option_map, sym, ap, subst, ◌∙◌, arith}
+use Rattle.std.proofs.Common.{◌≡◌, ℕ, ◌<◌, List, length, get_or, slice_get, Some, option_map, sym, ap, subst, ◌∙◌, arith}
 use Rattle.std.specs.List.{range_with_len}
 use Rattle.std.proofs.lemmas.Option.{slice_get-map, slice_get-get_or}
+use Rattle.std.proofs.lemmas.List.{length-map}
 use Rattle.std.proofs.lemmas.List.FromFn.{length-range_with_len, get_or-range_with_len}
-use Rattle.nt_types.specs.TreeData.{TreesData}
+use Rattle.nt_types.specs.TreeData.{TreesData, no_trees}
 use Rattle.nt_encode.specs.Elements.{Element}
 use Rattle.nt_grammar.specs.Table.{Table}
 use Rattle.nt_plans.specs.Place.{open_plans}
@@ -26,3 +27,18 @@ entry-at c seen i entry is lt e =
     subst (λ (d : ClusterData). slice_get (given_entries d) i ≡ Some entry) is
     (given-at c.table c.columns c.entries i (omega (arith, ap (λ (d : ClusterData). d.entries) is, lt))
     ∙ ap (λ (x : TreesData). Some x) (sym e))
+
+-- a cluster gives as many entries as it has
+length-given : (c : ClusterData) → length (given_entries c) ≡ c.entries
+length-given c = length-map _ _ ∙ length-range_with_len 0 c.entries
+
+-- the entry at a place
+pub entry-is : (c seen : ClusterData) (i : ℕ) → c ≡ seen → i < seen.entries
+    → get_or (given_entries seen) i no_trees ≡ each_at (open_plans c.table) (columns_by_id c.columns) i
+entry-is c seen i is lt =
+    let x = each_at (open_plans c.table) (columns_by_id c.columns) i in
+    let below : i < c.entries = omega (arith, ap (λ (d : ClusterData). d.entries) is, lt) in
+    let here = slice_get-get_or (given_entries c) i no_trees (omega (arith, length-given c, below)) in
+    let there = given-at c.table c.columns c.entries i below in
+    let same : get_or (given_entries c) i no_trees ≡ x = cc (here, there) in
+    subst (λ (d : ClusterData). get_or (given_entries d) i no_trees ≡ x) is same

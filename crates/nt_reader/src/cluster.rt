@@ -1,12 +1,13 @@
 //! A cluster that was read.
 
-ghost use Rattle.std.specs.Prelude.{◌≡◌, ◌<◌, Some, slice_get, IfOk};
-ghost use Rattle.nt_types.specs.TreeData.{trees_of};
+ghost use Rattle.std.specs.Prelude.{◌≡◌, ◌<◌, ◌++◌, ◌∷◌, [], Some, slice_get, slice_index_or, IfOk, OnOk, OnErr};
+ghost use Rattle.nt_types.specs.TreeData.{trees_of, no_trees};
 ghost use Rattle.nt_types.specs.TreeViews.{trees_view};
 ghost use Rattle.nt_plans.specs.Place.{open_plans};
 ghost use Rattle.nt_trees.specs.Sound.{AllSound};
 ghost use Rattle.nt_trees.specs.Faults.{Spot, fault_in_any};
 ghost use Rattle.nt_join.specs.Spots.{spot_of};
+ghost use Rattle.nt_event.specs.Json.{line_of};
 ghost use Rattle.nt_files.specs.Clusters.{columns_by_id, frame_of, value_fault, no_value_fault, cluster_of};
 ghost use Rattle.nt_tfile.specs.Calls.{Serves, IsReadAs, ReadsFile};
 ghost use Rattle.nt_reader.specs.Columns.{held_elements, given_entries};
@@ -61,6 +62,16 @@ impl<'a> ClusterRead<'a> {
             (λ ts. slice_get (given_entries self.now) i ≡ Some (trees_of (trees_view ts))) }
     {
         nt_join::entry(alloc, &self.columns, self.schema, i)
+    }
+
+    /// Appends the line of an entry, the same values as event text, and its LF; nothing where memory runs out.
+    pub fn write_entry(&self, alloc: Global, i: u64, out: &mut Vec<u8>) -> Result<(), AllocError>
+        requires { i < self.now.entries }
+        ensures ok { OnOk result (out.new.items ≡ out.old.items
+            ++ (line_of (slice_index_or (given_entries self.now) i no_trees) ++ 10 ∷ [])) }
+        ensures err { OnErr result (out.new.items ≡ out.old.items) }
+    {
+        nt_print::write_entry(alloc, &self.columns, self.schema, i, out)
     }
 }
 

@@ -1,9 +1,10 @@
 -- The lines of a cluster's entries, gathered one by one.
-use Rattle.std.proofs.Common.{◌≡◌, ◌∙◌, ap, sym, refl, subst, ℕ, ◌+◌, ◌-◌, ◌≤◌, List, [], ◌∷◌, ◌++◌, length, map, take, drop, Option, Some, arith}
+use Rattle.std.proofs.Common.{◌≡◌, ◌∙◌, ap, sym, subst, ℕ, ◌+◌, ◌-◌, ◌<◌, ◌≤◌, List, [], ◌∷◌, length, take, drop, get_or, Option, Some, arith}
 use Rattle.std.specs.Prelude.{slice_get}
 use Rattle.std.proofs.lemmas.List.{length-map}
+use Rattle.std.proofs.lemmas.Option.{slice_get-get_or}
 use Rattle.std.proofs.lemmas.List.FromFn.{length-range_with_len}
-use Rattle.nt_types.specs.TreeData.{TreesData}
+use Rattle.nt_types.specs.TreeData.{TreesData, no_trees}
 use Rattle.nt_outside.specs.World.{World}
 use Rattle.nt_reader.specs.Columns.{ClusterData, given_entries}
 use Rattle.nt_show.specs.declared.entry_range.EntryRange.{EntryRange}
@@ -15,6 +16,10 @@ use Rattle.nt_show.proofs.Gathering.{gathers_nothing, gathers_then, part_more, p
 -- a cluster gives as many entries as it has
 pub length-given : (c : ClusterData) → length (given_entries c) ≡ c.entries
 length-given c = length-map _ _ ∙ length-range_with_len 0 c.entries
+
+-- each of them is there
+pub given_there : (c : ClusterData) (i : ℕ) → i < c.entries → slice_get (given_entries c) i ≡ Some (get_or (given_entries c) i no_trees)
+given_there c i lt = slice_get-get_or (given_entries c) i no_trees (omega (arith, length-given c, lt))
 
 -- no line yet
 pub none_gathered : (entries : List TreesData) (from : ℕ) (world : Option World) (waiting : List ℕ)

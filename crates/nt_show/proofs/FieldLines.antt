@@ -1,11 +1,11 @@
 -- The columns of a field by their ids, and the fields of a schema one by one.
-use Rattle.std.proofs.Common.{◌≡◌, ◌∙◌, ap, ap₂, sym, refl, subst, ℕ, zero, suc, ◌+◌, ◌<◌, ◌≤◌, ◌==◌, Bool, true, false, cond, List, [], ◌∷◌, ◌++◌, map, length, take, drop, get_or, Option, Some, None, arith, append_assoc, length-append, add-one}
-use Rattle.std.specs.Prelude.{slice_index_or, slice_get, filter, is_some, option_map}
+use Rattle.std.proofs.Common.{◌≡◌, ◌∙◌, ap, ap₂, sym, refl, subst, ℕ, zero, suc, ◌+◌, ◌<◌, ◌≤◌, ◌==◌, Bool, true, false, cond, List, [], ◌∷◌, ◌++◌, map, length, take, drop, get_or, Option, Some, arith, append_assoc, length-append}
+use Rattle.std.specs.Prelude.{slice_index_or, slice_get}
 use Rattle.std.proofs.lemmas.List.{append-nil, get_or_at, drop_all, map_push, map_more, take_all}
 use Rattle.nt_types.specs.declared.tree.Tree.{Tree}
 use Rattle.nt_types.specs.TreeViews.{tree_view}
 use Rattle.std.proofs.lemmas.List.Concat.{flat_map-append}
-use Rattle.nt_types.specs.TreeData.{TreeData, TreesData, num, trees_of}
+use Rattle.nt_types.specs.TreeData.{TreeData, TreesData}
 use Rattle.nt_event.specs.Json.{line_of}
 use Rattle.nt_grammar.specs.declared.rows.FieldRow.{FieldRow}
 use Rattle.nt_grammar.specs.declared.rows.ColumnRow.{ColumnRow}

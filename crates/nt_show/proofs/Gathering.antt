@@ -1,5 +1,5 @@
 -- Prints on out that follow each other, and what is left to print behind them.
-use Rattle.std.proofs.Common.{◌≡◌, ◌∙◌, ap, sym, refl, subst, ℕ, ◌≤◌, List, [], ◌++◌, length, take, drop, Option, Some, append_assoc}
+use Rattle.std.proofs.Common.{◌≡◌, ◌∙◌, ap, sym, refl, ℕ, List, [], ◌++◌, take, drop, Option, Some, append_assoc}
 use Rattle.std.proofs.lemmas.List.{append-nil, take-append-drop}
 use Rattle.nt_outside.specs.declared.stream.Stream.TheVariants.{ToOut}
 use Rattle.nt_outside.specs.World.{World, Turns, PrintsFront, prints}
@@ -20,6 +20,20 @@ gathers_nothing world waiting w is = ([], is ∙ ap (λ (v : World). Some v) (sy
 pub gathers_pushed : (text : List ℕ) (world new : Option World) (waiting left : List ℕ) → new ≡ world → left ≡ waiting ++ text
     → Gathers text world waiting new left
 gathers_pushed text world new waiting left same is w told = ([], same ∙ told ∙ ap (λ (v : World). Some v) (sym (prints-nothing w)), sym is)
+
+-- and then all that waited was printed, or nothing of it
+pub pushed_then : (text : List ℕ) (old new : Option World) (waiting one left : List ℕ) → one ≡ waiting ++ text → Gathers [] old one new left
+    → Gathers text old waiting new left
+pushed_then text old new waiting one left is then_printed w told =
+    let two = then_printed w told in
+    (two.0, two.1, sym is ∙ sym (append-nil one) ∙ two.2)
+
+-- or a front of it was
+pub pushed_in_part : (text : List ℕ) (old new : Option World) (waiting one : List ℕ) → one ≡ waiting ++ text → GathersPart [] old one new
+    → GathersPart text old waiting new
+pushed_in_part text old new waiting one is then_printed w told =
+    let two = then_printed w told in
+    (two.0, two.1, two.2, sym is ∙ sym (append-nil one) ∙ two.3)
 
 -- one after the other
 pub gathers_then : (a b : List ℕ) (old mid new : Option World) (l m n : List ℕ) → Gathers a old l mid m → Gathers b mid m new n

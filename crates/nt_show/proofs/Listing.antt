@@ -1,16 +1,14 @@
 -- The clusters of a file before its first fault.
-use Rattle.std.proofs.Common.{◌≡◌, ◌∙◌, ◌⊎◌, inl, inr, ap, sym, refl, subst, ℕ, zero, suc, ◌+◌, ◌<◌, ◌≤◌, Bool, true, false, cond, List, [], ◌∷◌, ◌++◌, length, take, drop, get_or, Option, Some, None, Result, Ok, Err, arith, append_assoc, length-append}
-use Rattle.std.specs.Prelude.{slice_index_or, is_some}
+use Rattle.std.proofs.Common.{◌≡◌, ◌∙◌, ap, sym, refl, subst, ℕ, ◌+◌, ◌<◌, ◌≤◌, true, false, List, [], ◌∷◌, ◌++◌, length, drop, Option, Some, None, Result, Ok, Err, append_assoc, length-append}
+use Rattle.std.specs.Prelude.{is_some}
 use Rattle.std.proofs.lemmas.List.{append-nil, drop_more, drop_all}
 use Rattle.std.proofs.lemmas.List.Concat.{flat_map-append}
 use Rattle.nt_lists.specs.Chaining.{◌>>=◌}
 use Rattle.nt_num.specs.declared.fault.ReadError.{ReadError}
 use Rattle.nt_types.specs.TreeData.{TreesData}
-use Rattle.nt_grammar.specs.Table.{Table}
 use Rattle.nt_pagelists.specs.declared.cluster.ClusterList.{ClusterList}
-use Rattle.nt_files.specs.Outlines.{Outline, outline_of}
-use Rattle.nt_files.specs.Clusters.{cluster_of}
-use Rattle.nt_files.specs.Files.{entries_from, read_file}
+use Rattle.nt_files.specs.Outlines.{Outline}
+use Rattle.nt_files.specs.Files.{entries_from}
 use Rattle.nt_reader.specs.Outlines.{unlisted_cluster, numbered_cluster, entries_in}
 use Rattle.nt_outside.specs.World.{World}
 use Rattle.nt_show.specs.declared.entry_range.EntryRange.{EntryRange}

@@ -1,5 +1,5 @@
 -- Where a file has its first fault, and which clusters stand before it.
-use Rattle.std.proofs.Common.{◌≡◌, ◌∙◌, ◌⊎◌, inl, inr, ap, sym, refl, subst, ℕ, zero, suc, ◌+◌, ◌<◌, ◌≤◌, Bool, true, false, cond, List, [], ◌∷◌, ◌++◌, length, take, Option, Some, None, Result, Ok, Err, arith}
+use Rattle.std.proofs.Common.{◌≡◌, ◌∙◌, ◌⊎◌, inl, inr, ap, sym, refl, subst, ℕ, suc, ◌+◌, ◌<◌, Bool, true, false, cond, List, [], ◌∷◌, ◌++◌, length, take, Option, Some, None, Result, Ok, Err, arith}
 use Rattle.std.specs.Prelude.{slice_index_or, nat_eq}
 use Rattle.nt_lists.specs.Chaining.{◌>>=◌}
 use Rattle.nt_lists.proofs.Chaining.{bind_ok}
@@ -7,7 +7,7 @@ use Rattle.nt_num.specs.Codes.{compressed, out_of_file, bad_page, bad_value}
 use Rattle.nt_num.specs.declared.fault.ReadError.{ReadError}
 use Rattle.nt_types.specs.TreeData.{TreesData}
 use Rattle.nt_types.specs.declared.column_type.ColumnType.{ColumnType}
-use Rattle.nt_encode.specs.Elements.{Element, page_elements}
+use Rattle.nt_encode.specs.Elements.{page_elements}
 use Rattle.nt_encode.specs.Pages.{page_size}
 use Rattle.nt_num.specs.Faults.{fault, with_values}
 use Rattle.nt_format.specs.Pieces.{piece}

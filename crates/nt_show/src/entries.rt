@@ -9,7 +9,7 @@ ghost use Rattle.nt_show.specs.Listing.{ClusterTold, ClustersTold};
 ghost use Rattle.nt_show.specs.Shown.{entries_shown, ShowsFile};
 
 use crate::entry_range::EntryRange;
-use crate::lines::put_line;
+use crate::lines::put_entry;
 use nt_num::ReadError;
 use nt_outside::{Host, ReadAt, Refused, Stream, print_all};
 use nt_reader::{ClusterRead, Reader};
@@ -33,8 +33,7 @@ fn put_entries<H: Host>(
 {
     let (from, to) = range.within(cluster.entries());
     for i in from..to {
-        let entry = cluster.entry(alloc, i)?;
-        put_line(alloc, host, waiting, &entry)?;
+        put_entry(alloc, host, waiting, cluster, i)?;
     }
     Ok(())
 }

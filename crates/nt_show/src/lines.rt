@@ -1,21 +1,39 @@
 //! Lines that are gathered before they are printed.
 
-ghost use Rattle.std.specs.Prelude.{◌≡◌, ◌∷◌, [], OnOk};
-ghost use Rattle.nt_types.specs.TreeData.{trees_of};
+ghost use Rattle.std.specs.Prelude.{◌≡◌, ◌<◌, ◌∷◌, [], slice_index_or, OnOk};
+ghost use Rattle.nt_types.specs.TreeData.{trees_of, no_trees};
 ghost use Rattle.nt_types.specs.TreeViews.{trees_view};
 ghost use Rattle.nt_outside.specs.Faults.{RoseOnFailed};
+ghost use Rattle.nt_reader.specs.Columns.{given_entries};
 ghost use Rattle.nt_show.specs.Ranges.{entry_lines};
 ghost use Rattle.nt_show.specs.Gathering.{Gathers, GathersPart, OnlyPrints};
 
 use nt_event::write_line;
 use nt_outside::{Host, Refused, Stream, print_all};
+use nt_reader::ClusterRead;
 use nt_types::Trees;
 use std::alloc::Global;
 
 /// So many bytes wait before they are printed.
 const MANY: usize = 1 << 16;
 
-/// Puts the line of an entry behind those that wait, and prints them all once they are many.
+/// Prints all that waits, once it is much.
+fn print_many<H: Host>(host: &mut H, waiting: &mut Vec<u8>) -> Result<(), Refused>
+    ensures ok { OnOk result (Gathers []
+        (H.state host.old).world waiting.old.items (H.state host.new).world waiting.new.items) }
+    ensures part { GathersPart []
+        (H.state host.old).world waiting.old.items (H.state host.new).world }
+    ensures cause { RoseOnFailed (H.state host.old).faults (H.state host.new).faults result }
+    ensures rest { OnlyPrints (H.state host.old) (H.state host.new) }
+{
+    if waiting.len() >= MANY {
+        print_all(host, Stream::ToOut, waiting)?;
+        waiting.clear();
+    }
+    Ok(())
+}
+
+/// Puts the line of trees behind those that wait, and prints them all once they are many.
 pub fn put_line<H: Host>(
     alloc: Global,
     host: &mut H,
@@ -30,9 +48,28 @@ pub fn put_line<H: Host>(
     ensures rest { OnlyPrints (H.state host.old) (H.state host.new) }
 {
     write_line(alloc, entry, waiting)?;
-    if waiting.len() >= MANY {
-        print_all(host, Stream::ToOut, waiting)?;
-        waiting.clear();
-    }
+    print_many(host, waiting)?;
+    Ok(())
+}
+
+/// Puts the line of an entry of a cluster behind those that wait, and prints them all once they are
+/// many.
+pub fn put_entry<H: Host>(
+    alloc: Global,
+    host: &mut H,
+    waiting: &mut Vec<u8>,
+    cluster: &ClusterRead<'_>,
+    i: u64,
+) -> Result<(), Refused>
+    requires { i < cluster.now.entries }
+    ensures ok { OnOk result (Gathers (entry_lines (slice_index_or (given_entries cluster.now) i no_trees ∷ []))
+        (H.state host.old).world waiting.old.items (H.state host.new).world waiting.new.items) }
+    ensures part { GathersPart (entry_lines (slice_index_or (given_entries cluster.now) i no_trees ∷ []))
+        (H.state host.old).world waiting.old.items (H.state host.new).world }
+    ensures cause { RoseOnFailed (H.state host.old).faults (H.state host.new).faults result }
+    ensures rest { OnlyPrints (H.state host.old) (H.state host.new) }
+{
+    cluster.write_entry(alloc, i, waiting)?;
+    print_many(host, waiting)?;
     Ok(())
 }

@@ -1,4 +1,4 @@
-use Rattle.std.proofs.Common.{◌≡◌, ◌≤◌, ℕ, List, Option, Some}
+use Rattle.std.proofs.Common.{◌≡◌, ◌≤◌, ℕ, List, Some}
 use Rattle.nt_outside.specs.World.{HostState}
 use Rattle.nt_outside.specs.File.{FileState}
 use Rattle.nt_files.specs.Outlines.{Outline}

@@ -1,4 +1,4 @@
-use Rattle.std.proofs.Common.{◌≡◌, ◌≤◌, ◌-◌, ℕ, List, take, drop}
+use Rattle.std.proofs.Common.{◌≤◌, ◌-◌, ℕ, List, take, drop}
 use Rattle.nt_outside.specs.World.{HostState}
 use Rattle.nt_reader.specs.Columns.{given_entries}
 use Rattle.nt_show.specs.Ranges.{entry_lines}

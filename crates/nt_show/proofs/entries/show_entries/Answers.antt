@@ -1,4 +1,4 @@
-use Rattle.std.proofs.Common.{◌≡◌, ◌∙◌, ap, sym, refl, subst, inl, inr, arith, ℕ, List, Result, Ok, Err}
+use Rattle.std.proofs.Common.{◌∙◌, ap, sym, refl, subst, inl, inr, arith, ℕ, List, Ok, Err}
 use Rattle.std.proofs.lemmas.Result.{err_from_is_err_and}
 use Rattle.nt_outside.specs.declared.stream.Stream.TheVariants.{ToOut}
 use Rattle.nt_outside.specs.World.{Turns, PrintsFront, prints}

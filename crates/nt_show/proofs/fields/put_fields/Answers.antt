@@ -1,10 +1,10 @@
-use Rattle.std.proofs.Common.{◌≡◌, ◌∙◌, ap, sym, refl, subst, arith, rules, ℕ, ◌+◌, Bool, List, [], ◌∷◌, ◌++◌, length, drop}
+use Rattle.std.proofs.Common.{◌≡◌, ◌∙◌, ap, sym, refl, arith, rules, ◌+◌, Bool, List, [], ◌∷◌, ◌++◌, length, drop}
 use Rattle.nt_types.specs.TreeData.{trees_of}
 use Rattle.nt_types.specs.TreeViews.{trees_view}
 use Rattle.nt_show.specs.Ranges.{entry_lines}
 use Rattle.nt_show.specs.Fields.{is_open_field, fields_from}
 use Rattle.nt_show.proofs.Gathering.{gathers_nothing, gathers_part}
-use Rattle.nt_show.proofs.FieldLines.{one_more_field, all_shown, part_shown, line_more, line_part}
+use Rattle.nt_show.proofs.FieldLines.{one_more_field, part_shown, line_more, line_part}
 use Rattle.nt_show.proofs.fields.put_fields.Goals as goal
 
 pub loop-id-init : goal.loop-id-init

@@ -1,4 +1,4 @@
-use Rattle.std.proofs.Common.{◌≡◌, ◌∙◌, ap, sym, subst, inl, arith, ℕ, List, [], Err}
+use Rattle.std.proofs.Common.{◌∙◌, ap, sym, subst, inl, arith, ℕ, List, [], Err}
 use Rattle.std.proofs.lemmas.Result.{err_from_is_err_and}
 use Rattle.nt_grammar.specs.Table.{Table}
 use Rattle.nt_outside.specs.declared.stream.Stream.TheVariants.{ToOut}

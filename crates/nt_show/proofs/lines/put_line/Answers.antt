@@ -1,13 +1,19 @@
-use Rattle.std.proofs.Common.{◌≡◌, ◌∙◌, ap, sym, refl, subst, ℕ, List, ◌++◌, append-nil}
-use Rattle.nt_outside.specs.declared.stream.Stream.TheVariants.{ToOut}
-use Rattle.nt_outside.specs.World.{PrintsFront}
-use Rattle.nt_show.proofs.Gathering.{gathers_pushed, part_printed}
+use Rattle.std.proofs.Common.{◌≡◌, ◌∙◌, ap, sym, ℕ, List, [], ◌++◌, append-nil}
+use Rattle.nt_show.proofs.Gathering.{pushed_then, pushed_in_part}
 use Rattle.nt_show.proofs.lines.put_line.Goals as goal
 
-pub returns-in_err-print_all-clause-part : goal.returns-in_err-print_all-clause-part
-returns-in_err-print_all-clause-part g c =
-    let front = subst (λ (l : List ℕ). PrintsFront ToOut l (g.H.Host.state c.args.host.now).world
-    (g.H.Host.state c.print_all.new.host).world) c.deref.ensures.value c.print_all.ensures.front in
-    part_printed _ _ _ _ c.args.waiting.now.items _
-    (gathers_pushed _ _ _ c.args.waiting.now.items _ refl
-    (c.in_ok-write_line.ensures.ok ∙ ap (λ (l : List ℕ). c.args.waiting.now.items ++ l) (sym (append-nil _)))) front
+-- one line behind what waits
+one_line : (waiting one line : List ℕ) → one ≡ waiting ++ line → one ≡ waiting ++ (line ++ [])
+one_line waiting one line is = is ∙ ap (λ (l : List ℕ). waiting ++ l) (sym (append-nil line))
+
+pub returns-in_err-print_many-clause-part : goal.returns-in_err-print_many-clause-part
+returns-in_err-print_many-clause-part g c =
+    pushed_in_part _ _ _ c.args.waiting.now.items _ (one_line _ _ _ c.in_ok-write_line.ensures.ok) c.in_err-print_many.ensures.part
+
+pub returns-clause-ok : goal.returns-clause-ok
+returns-clause-ok g c =
+    pushed_then _ _ _ c.args.waiting.now.items _ _ (one_line _ _ _ c.in_ok-write_line.ensures.ok) c.in_ok-print_many.ensures.ok
+
+pub returns-clause-part : goal.returns-clause-part
+returns-clause-part g c =
+    pushed_in_part _ _ _ c.args.waiting.now.items _ (one_line _ _ _ c.in_ok-write_line.ensures.ok) c.in_ok-print_many.ensures.part
