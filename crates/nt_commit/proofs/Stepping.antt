@@ -33,7 +33,7 @@ use Rattle.nt_commit.proofs.Telling.{told_entry, told_history-snoc, steps_are_co
 
 abbrev pub locked_of : {D : Type 0} → D → D → ℕ → BookData → LockedState D
 locked_of begun disk contexts book =
-    record { disk = disk; book = book; birth = record { begun = begun; limits = book.limits; columns = length book.firsts; contexts = contexts } }
+    record { disk = disk; book = book; birth = record { begun = begun; limits = book.limits; columns = length book.firsts; firsts = book.firsts; contexts = contexts } }
 
 -- only a settled entry gains bytes
 told-committed : (held : Option Held) (i n start len : ℕ) (meta : ClusterMeta) (steps : List Step)
@@ -131,7 +131,7 @@ module _ {D : Type 0} (state : D → DiskState) (begun d : D) (contexts : ℕ) (
         record {
           birth = ap (λ (x : BookData). (locked_of begun d' contexts x).birth) is;
           before = was;
-          after = record { begin = ap (λ (x : BookData). x.begin) is ∙ was.begin; limits = refl; columns = refl; follows = follows };
+          after = record { begin = ap (λ (x : BookData). x.begin) is ∙ was.begin; limits = refl; columns = refl; firsts = refl; follows = follows };
         }
 
     -- a history that grows by an entry of the book, and its steps

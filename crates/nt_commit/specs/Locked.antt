@@ -65,4 +65,5 @@ module _ {D : Type 0} (state : D → DiskState) where
     pub begin : locked.book.begin ≡ (state locked.birth.begun).end
     pub limits : locked.book.limits ≡ locked.birth.limits
     pub columns : length locked.book.firsts ≡ locked.birth.columns
+    pub firsts : locked.book.firsts ≡ locked.birth.firsts
     pub follows : Follows (state locked.birth.begun) (state locked.disk) locked.birth.contexts (history_of_locked locked)

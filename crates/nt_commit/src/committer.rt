@@ -45,6 +45,7 @@ impl<D: Disk> Committer<D> {
           begun = disk;
           limits = book.limits;
           columns = length book.firsts;
+          firsts = book.firsts;
           contexts = contexts;
         }) × (t.1 ≡ first_pass t.0)) }
         ensures err { IfErr result (λ e. (e.0 ≡ disk) × (e.1 ≡ book)) }

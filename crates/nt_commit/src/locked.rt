@@ -7,15 +7,18 @@ use nt_book::{Book, Limits};
 use nt_machine::Entry;
 use nt_outside::Disk;
 use nt_turn::Logged;
+use std::collections::LinkedList;
 use std::marker::Model;
 use std::snapshot::Snapshot;
 
-/// What never changes: the disk as it was begun, the limits and the number of columns of its book,
-/// and how many contexts there are at most. No value of it is made.
+/// What never changes: the disk as it was begun, the limits of its book, the number of its columns
+/// and the first element index of each, and how many contexts there are at most. No value of it is
+/// made.
 pub struct Birth<D> {
     pub begun: D,
     pub limits: Limits,
     pub columns: u32,
+    pub firsts: LinkedList<u64>,
     pub contexts: u32,
 }
 
@@ -40,6 +43,7 @@ impl<D: Disk> Model for Locked<D> {
         begun = l.begun.value;
         limits = l.book.limits;
         columns = length l.book.firsts;
+        firsts = l.book.firsts;
         contexts = l.contexts;
       };
     } };
@@ -51,6 +55,7 @@ impl<D: Disk> Model for Locked<D> {
         begun = l.begun.value;
         limits = l.book.limits;
         columns = length l.book.firsts;
+        firsts = l.book.firsts;
         contexts = l.contexts;
       };
     } };
@@ -83,6 +88,7 @@ impl<D: Disk> Locked<D> {
             begun = disk;
             limits = book.limits;
             columns = length book.firsts;
+            firsts = book.firsts;
             contexts = contexts;
           };
         } }
