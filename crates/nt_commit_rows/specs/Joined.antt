@@ -36,7 +36,7 @@ pub record HasLeft {D : Type 0} (committer : TurnState (Birth D)) (old pass new 
   pub back : AreAllIn old → AreAllIn new
 
 -- a context that hasn't begun: no range of its pass is out, and its image is one of this committer
-pub record IsReady {D : Type 0} (committer : TurnState (Birth D)) (pass : Seat D) (image : ClusterImage) : Type 0 where
+pub record IsReadyToWrite {D : Type 0} (committer : TurnState (Birth D)) (pass : Seat D) (image : ClusterImage) : Type 0 where
   pub of : IsPassOf committer pass
   pub back : HasNoneOut pass.own
   pub image_is : IsImageFor committer.birth.columns pass.number image

@@ -4,7 +4,7 @@ ghost use Rattle.std.specs.Prelude.{◌≡◌, ◌<◌, ◌≤◌, ◌+◌, leng
 ghost use Rattle.nt_commit.specs.Holds.{IsPassOf, IsFirstOf, HasNoneOut};
 ghost use Rattle.nt_commit.specs.Images.{IsImageFor};
 ghost use Rattle.nt_commit_rows.specs.Sole.{IsSoleClaim};
-ghost use Rattle.nt_commit_rows.specs.Joined.{IsReady, IsDone, IsEntered, HasAllBack, HasLeft};
+ghost use Rattle.nt_commit_rows.specs.Joined.{IsReadyToWrite, IsDone, IsEntered, HasAllBack, HasLeft};
 
 use nt_book::{ClusterMeta, PageLists};
 use nt_bytes::Bytes;
@@ -146,7 +146,7 @@ fn finish_one<D: Disk>(
 
 /// Commits a context's cluster, fills its range and hands it back.
 pub fn write_one<D: Disk>(rt: &impl Wait, committer: &Committer<D>, context: Context<D>) -> Done<D>
-    requires { IsReady committer.now context.pass context.image }
+    requires { IsReadyToWrite committer.now context.pass context.image }
     ensures { IsDone committer.now context.pass.number result.pass }
 {
     let mut context = context;
@@ -163,8 +163,8 @@ pub fn write_beside<D: Disk>(
     other: Context<D>,
     last: bool,
 ) -> (Done<D>, Done<D>)
-    requires one { IsReady committer.now one.pass one.image }
-    requires other { IsReady committer.now other.pass other.image }
+    requires one { IsReadyToWrite committer.now one.pass one.image }
+    requires other { IsReadyToWrite committer.now other.pass other.image }
     ensures one { IsDone committer.now one.pass.number result.0.pass }
     ensures other { IsDone committer.now other.pass.number result.1.pass }
 {

@@ -1,5 +1,5 @@
 use Rattle.nt_commit_rows.proofs.Joined.{back-around}
-use Rattle.nt_commit_rows.proofs.tests.pairs.write_two.Goals as goal
+use Rattle.nt_commit_rows.proofs.pairs.write_two.Goals as goal
 
 pub returns : goal.returns
 returns g c =

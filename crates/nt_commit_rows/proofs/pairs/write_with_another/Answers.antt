@@ -1,6 +1,6 @@
 use Rattle.std.proofs.Common.{refl}
 use Rattle.nt_commit_rows.proofs.Joined.{back-alone}
-use Rattle.nt_commit_rows.proofs.tests.pairs.write_with_another.Goals as goal
+use Rattle.nt_commit_rows.proofs.pairs.write_with_another.Goals as goal
 
 pub returns-in_default-image_of-clause-all : goal.returns-in_default-image_of-clause-all
 returns-in_default-image_of-clause-all g c =
