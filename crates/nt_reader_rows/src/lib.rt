@@ -3,6 +3,8 @@
 #![tactic(auto)]
 
 #[cfg(test)]
+mod bends;
+#[cfg(test)]
 mod files;
 #[cfg(test)]
 mod tests;
