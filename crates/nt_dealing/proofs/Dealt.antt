@@ -26,6 +26,7 @@ use Rattle.nt_layout.specs.Laid.AreBlobsOf.{none_left, and_blob}
 use Rattle.nt_dealing.specs.Written.{IsChunkBlob, HaveWritten}
 use Rattle.nt_dealing.specs.Dealt.{commit_order, IsDealtOut}
 use Rattle.nt_dealing.proofs.Written.{each_wrote, others_idle}
+use Rattle.nt_dealing.proofs.Filled.{AllTold, front_stays}
 
 module _ (begun : Option Held) (t : Table) (page : ℕ) where
   -- what a range that was written has: its blob, with the bytes of its state
@@ -60,12 +61,14 @@ module _ (begun : Option Held) (t : Table) (page : ℕ) where
       }
 
 -- a history with bytes has the ranges of the one without, but for the bytes
-same_ranges : (begun now : Option Held) (history : List (Entry ClusterMeta)) → map untold (ranges_of (told_history begun now history)) ≡ map untold (ranges_of history)
+same_ranges : (begun now : Option Held) (history : List (Entry ClusterMeta))
+    → map untold (ranges_of (told_history begun now history)) ≡ map untold (ranges_of history)
 same_ranges None now history = refl
 same_ranges (Some h) None history = refl
 same_ranges (Some h) (Some h') history = same history _
 
-same_contexts : (begun now : Option Held) (history : List (Entry ClusterMeta)) → order_of (ranges_of (told_history begun now history)) ≡ order_of (ranges_of history)
+same_contexts : (begun now : Option Held) (history : List (Entry ClusterMeta))
+    → order_of (ranges_of (told_history begun now history)) ≡ order_of (ranges_of history)
 same_contexts None now history = refl
 same_contexts (Some h) None history = refl
 same_contexts (Some h) (Some h') history = same_order history _
@@ -73,12 +76,15 @@ same_contexts (Some h) (Some h') history = same_order history _
 -- a file whose ranges are all settled is its front and their bytes
 abbrev pub ReadsSettled : Type 0
 ReadsSettled = (log : List Step) (front image : List ℕ) (history : List (Entry ClusterMeta)) (parts : List (List ℕ)) → IsKnown log front
-    → IsLegal (length front) history → AllZip (λ (part : List ℕ) (c : Cluster ClusterMeta). c.state ≡ Settled (Some part)) parts (ranges_of history)
+    → IsLegal (length front) history
+    → AllZip (λ (part : List ℕ) (c : Cluster ClusterMeta). c.state ≡ Settled (Some part)) parts (ranges_of history)
     → Reads (log ++ steps_of_history history) image → image ≡ front ++ flat_map (λ (part : List ℕ). part) parts
 
-module _ {D : Type 0} (state : D → DiskState) (told : (d : D) (h : Held) → (state d).held ≡ Some h → ((state d).end ≡ length h.image) × Reads h.log h.image)
-    (all_read : ReadsSettled) where
-  pub dealt_out : (birth : Birth D) (disk : D) (book : BookData) (first : PassState (Entry ClusterMeta) (Birth D)) (t : Table) (page : ℕ) (chunks : List (List (List TreesData)))
+module _ {D : Type 0} (state : D → DiskState)
+    (told : (d : D) (h : Held) → (state d).held ≡ Some h → ((state d).end ≡ length h.image) × Reads h.log h.image)
+    (all_told : AllTold) (all_read : ReadsSettled) where
+  pub dealt_out : (birth : Birth D) (disk : D) (book : BookData) (first : PassState (Entry ClusterMeta) (Birth D)) (t : Table) (page : ℕ)
+      (chunks : List (List (List TreesData)))
       → Closes (history_of_locked state) birth_of context_of first (locked_by birth disk book)
       → IsInStep state (locked_by birth disk book)
       → HaveWritten (state birth.begun).held t page chunks first.number first.own first.kept
@@ -91,7 +97,8 @@ module _ {D : Type 0} (state : D → DiskState) (told : (d : D) (h : Held) → (
       (each_wrote begun t page history chunks first.number first.own first.kept have closes.kept)
       (others_idle begun t page history chunks first.number first.own first.kept have closes.own closes.others) in
       let order : order_of (ranges_of history) ≡ commit_order book = same_contexts begun now book.history in
-      let blobs = blobs_of begun t page d.dealt (ranges_of history) (ranges_of book.history) d.written (same_ranges begun now book.history) in
+      let blobs =
+      blobs_of begun t page d.dealt (ranges_of history) (ranges_of book.history) d.written (same_ranges begun now book.history) in
       record {
         ranges = blobs.ranges;
         are = record {
@@ -102,14 +109,23 @@ module _ {D : Type 0} (state : D → DiskState) (told : (d : D) (h : Held) → (
         };
         stand = λ h is.
             let after = step.follows.log h is in
-            let begins = told birth.begun h is in
-            let reads = (told disk after.0 after.1).1 in (
+            let legal : IsLegal (length h.image) history =
+            subst (λ (n : ℕ). IsLegal n history) (told birth.begun h is).0 step.follows.legal in
+            let reads : Reads (h.log ++ steps_of_history history) after.0.image =
+            subst (λ (l : List Step). Reads l after.0.image) after.2 (told disk after.0 after.1).1 in (
               after.0,
               after.1,
-              λ known.
-                  all_read h.log h.image after.0.image history blobs.ranges known
-                  (subst (λ (n : ℕ). IsLegal n history) begins.0 step.follows.legal) (blobs.states h is)
-                  (subst (λ (l : _). Reads l after.0.image) after.2 reads)
-                  ∙ ap (λ (l : List ℕ). h.image ++ l) (sym (concat_is blobs.ranges)),
+              record {
+                fills = record {
+                  history = history;
+                  legal = subst (λ (n : ℕ). IsLegal n history) (sym step.begin) step.follows.legal;
+                  log = after.2;
+                  front = λ known. front_stays all_told h.log h.image after.0.image history legal known reads;
+                };
+                settled = blobs.states h is;
+                stand = λ known.
+                    all_read h.log h.image after.0.image history blobs.ranges known legal (blobs.states h is) reads
+                    ∙ ap (λ (l : List ℕ). h.image ++ l) (sym (concat_is blobs.ranges));
+              },
             );
       }

@@ -1,4 +1,5 @@
-mod Written
+pub mod Written
+mod Filled
 mod Dealt
 pub mod EventLines
 mod Lists
@@ -6,3 +7,8 @@ mod Lengths
 mod Files
 pub mod ReadFits
 pub mod TableFits
+mod Takings
+mod Undealt
+mod Permuted
+mod Fronts
+mod Committed

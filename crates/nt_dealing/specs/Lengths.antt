@@ -51,5 +51,6 @@ page_lists_len most metas = page_list_len [] * group_count most (length metas) +
 -- the file of these clusters
 abbrev pub whole_len : Table → ℕ → List ClusterMeta → ℕ
 whole_len t most metas =
-    clusters_place t + sum_by (λ (m : ClusterMeta). m.len) metas + page_lists_len most metas + footer_len t (group_count most (length metas))
+    clusters_place t + sum_by (λ (m : ClusterMeta). m.len) metas + page_lists_len most metas
+    + footer_len t (group_count most (length metas))
     + (anchor_part_len + key_list_part_len + free_list_part_len)

@@ -1,4 +1,6 @@
 pub mod EventText
+pub mod Texts
 pub mod Lengths
+pub mod Limits
 pub mod Written
 pub mod Dealt

@@ -1,4 +1,4 @@
-//! What a committer hands back is its contexts' chunks, dealt out.
+//! What a committer hands back is the steps of one history, and its contexts' chunks, dealt out.
 
 ghost use Rattle.std.specs.Prelude.{ℕ, List};
 ghost use Rattle.nt_types.specs.TreeData.{TreesData};
@@ -10,10 +10,11 @@ ghost use Rattle.nt_book.specs.Books.{BookData};
 ghost use Rattle.nt_commit.specs.declared.locked.Birth.{Birth};
 ghost use Rattle.nt_commit.specs.Locked.{IsInStep, birth_of, context_of, history_of_locked, locked_by};
 ghost use Rattle.nt_dealing.specs.Written.{HaveWritten};
-ghost use Rattle.nt_dealing.specs.Dealt.{IsDealtOut};
+ghost use Rattle.nt_dealing.specs.Dealt.{FillsBehind, IsDealtOut};
+ghost use Rattle.nt_outside.specs.Held.{BecomesSome};
 
 use nt_book::ClusterMeta;
-use nt_logged::settled_ranges_are_read;
+use nt_logged::{ranges_are_told, settled_ranges_are_read};
 use nt_outside::Disk;
 
 /// However contexts interleave: where each wrote its chunks, the clusters of the book that their
@@ -28,5 +29,17 @@ pub fn commits_are_dealt<D: Disk>()
         → HaveWritten (D.state birth.begun).held t page chunks first.number first.own first.kept
         → IsDealtOut t page chunks book (D.state birth.begun).held (D.state disk).held }
 {
+    ranges_are_told::<ClusterMeta>();
     settled_ranges_are_read::<ClusterMeta>();
+}
+
+/// Whatever contexts did, the disk has the steps of one legal history behind those that it had when
+/// it was begun, and what stood there then stays where it was told.
+pub fn histories_fill<D: Disk>()
+    ensures { (birth : Birth D) (disk : D) (book : BookData)
+        → IsInStep D.state (locked_by birth disk book)
+        → BecomesSome (D.state birth.begun).held (D.state disk).held
+        (FillsBehind (D.state birth.begun).end) }
+{
+    ranges_are_told::<ClusterMeta>();
 }

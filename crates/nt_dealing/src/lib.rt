@@ -3,21 +3,29 @@
 //!
 //! Start at `specs/Dealt.antt`: the clusters of a file are the chunks of its contexts, *dealt out*
 //! in the commit order. `specs/Written.antt` says when a context has written its chunks, each as the
-//! blob of its entries, `specs/EventText.antt` which entries an event text gives, up to its first bad
-//! line, and `specs/Lengths.antt` how long a file of such clusters is.
+//! blob of its entries, or committed the first of them, `specs/EventText.antt` which entries an event
+//! text gives, up to its first bad line, `specs/Texts.antt` which chunks texts make,
+//! `specs/Lengths.antt` how long a file of such clusters is, and `specs/Limits.antt` which limits the
+//! file of some chunks passes, in whatever order they are committed.
 //!
-//! Proved: however contexts interleave, where each wrote its chunks, the book that their committer
-//! hands back has these chunks, dealt out, and the disk holds their blobs behind what it held before
-//! (`commits_are_dealt`); the lines of a text come off one by one (`lines_come_in_order`), and what is
-//! read of a line fits its fields and the rows that describe them (`entries_fit`); page lists, footer
-//! and file are as long as what is kept of each cluster says, in whatever order they stand
+//! Proved: whatever contexts did, the disk has the steps of one history behind those that it had, and
+//! what it held stays (`histories_fill`). However they interleave, where each wrote its chunks, the
+//! book that their committer hands back has these chunks, dealt out, each range was settled with its
+//! blob, and the disk holds the blobs behind what it held before (`commits_are_dealt`). Such chunks
+//! are all chunks in another order (`dealt_chunks_are_all_chunks`), and where the next chunk of a
+//! context passes a limit, the file of all chunks passes it (`next_chunks_pass_limits_of_all`). The
+//! lines of a text come off one by one (`lines_come_in_order`), and what is read of a line fits its
+//! fields and the rows that describe them (`entries_fit`). Page lists, footer and file are as long as
+//! what is kept of each cluster says, in whatever order they stand
 //! (`files_are_as_long_as_their_clusters_say`).
 #![tactic(auto)]
 
 mod laws;
+mod limits;
 mod sizes;
 mod texts;
 
-pub use laws::commits_are_dealt;
+pub use laws::{commits_are_dealt, histories_fill};
+pub use limits::{dealt_chunks_are_all_chunks, next_chunks_pass_limits_of_all};
 pub use sizes::files_are_as_long_as_their_clusters_say;
 pub use texts::{entries_fit, lines_come_in_order};

@@ -1,0 +1,57 @@
+//! Which limit the file of all chunks passes, and what it has of them.
+
+ghost use Rattle.std.specs.Prelude.{◌≡◌, ℕ, List, [], Some, map, slice_get, slice_index_or, IsPermutation};
+ghost use mathlib.Core.List.{IsPrefix};
+ghost use Rattle.nt_types.specs.ShapeData.{MemberData};
+ghost use Rattle.nt_types.specs.TreeData.{TreesData};
+ghost use Rattle.nt_types.specs.Rules.{AreFields};
+ghost use Rattle.nt_grammar.specs.Table.{Table};
+ghost use Rattle.nt_grammar.specs.Rows.{Rows};
+ghost use Rattle.nt_machine.specs.declared.entry.Entry.{Entry};
+ghost use Rattle.nt_machine.specs.History.{Cluster};
+ghost use Rattle.nt_turn.specs.Pass.{PassState, Closes};
+ghost use Rattle.nt_book.specs.declared.meta.ClusterMeta.{ClusterMeta};
+ghost use Rattle.nt_book.specs.declared.params.Params.{Params};
+ghost use Rattle.nt_book.specs.declared.limits.LimitError.{LimitError};
+ghost use Rattle.nt_book.specs.Books.{BookData, book_clusters};
+ghost use Rattle.nt_book.specs.Kept.{IsBookKept};
+ghost use Rattle.nt_commit.specs.declared.locked.Birth.{Birth};
+ghost use Rattle.nt_commit.specs.Locked.{IsInStep, birth_of, context_of, history_of_locked, locked_by};
+ghost use Rattle.nt_layout.specs.Headers.{clusters_place};
+ghost use Rattle.nt_dealing.specs.Lengths.{whole_len};
+ghost use Rattle.nt_dealing.specs.Texts.{joined_chunks, chunks_of, all_chunks};
+ghost use Rattle.nt_dealing.specs.Written.{HaveCommitted};
+ghost use Rattle.nt_dealing.specs.Dealt.{AreChunksDealt};
+ghost use Rattle.nt_dealing.specs.Limits.{AreKeptOf, IsOverBy, NextPasses};
+
+use nt_outside::Disk;
+
+/// Chunks that were dealt out are all chunks of the contexts, in another order, and what is kept of
+/// each makes the file as long as in any order.
+pub fn dealt_chunks_are_all_chunks()
+    ensures { (t : Table) (page most : ℕ) (chunks : List (List (List TreesData)))
+        (book : BookData) (ranges : List (List ℕ))
+        (is : AreChunksDealt t page chunks book ranges) → IsBookKept book
+        → IsPermutation is.dealt (joined_chunks chunks)
+        × AreKeptOf t page is.dealt (map (λ (c : Cluster ClusterMeta). c.meta) (book_clusters book))
+        × ((metas : List ClusterMeta) × AreKeptOf t page (joined_chunks chunks) metas
+        × (whole_len t most metas
+        ≡ whole_len t most (map (λ (c : Cluster ClusterMeta). c.meta) (book_clusters book)))) }
+{}
+
+/// Where the next chunk of a context passes a limit behind what others have committed, the file of
+/// all chunks passes it, in whatever order they are committed.
+pub fn next_chunks_pass_limits_of_all<D: Disk>()
+    ensures { (birth : Birth D) (disk : D) (book : BookData)
+        (first : PassState (Entry ClusterMeta) (Birth D)) (fields : List MemberData) (t : Table)
+        (p : Params) (texts : List (List ℕ)) (i : ℕ) (own seen : List (Entry ClusterMeta))
+        (error : LimitError) → AreFields fields → Rows fields p.plain t
+        → Closes (history_of_locked D.state) birth_of context_of first (locked_by birth disk book)
+        → IsInStep D.state (locked_by birth disk book) → birth.limits ≡ p.limits
+        → (D.state birth.begun).end ≡ clusters_place t
+        → HaveCommitted t p.page (chunks_of p.cluster fields texts) first.number first.own first.kept
+        → slice_get first.kept i ≡ Some (i, own) → IsPrefix seen first.seen
+        → NextPasses birth.limits (D.state birth.begun).end t p.page
+        (slice_index_or (chunks_of p.cluster fields texts) i []) own seen error
+        → IsOverBy t p (all_chunks p.cluster fields texts) error }
+{}
