@@ -74,8 +74,8 @@ module _ {D : Type 0} where
   pub fault_in : (old new : Pass D) → HasNoneOut old.own → MeetsFault old new → HasNoneOut new.own
   fault_in old new none f = none_after _ old new f.gains (faulted_in old.own old.number f.faults none)
 
-  pub spoil_in : (old new : Pass D) → HasNoneOut old.own → SpoilsRange old new → HasNoneOut new.own
-  spoil_in old new none s = none_after _ old new s.gains (spoiled_in old.own old.number s.cluster s.start s.meta.len s.meta s.faults none)
+  pub spoil_in : (meta : ClusterMeta) (old new : Pass D) → HasNoneOut old.own → SpoilsRange meta old new → HasNoneOut new.own
+  spoil_in meta old new none s = none_after _ old new s.gains (spoiled_in old.own old.number s.cluster s.start meta.len meta s.faults none)
 
   pub kept_in : (old new : Pass D) → HasNoneOut old.own → Gains [] old new → HasNoneOut new.own
   kept_in old new none g = none_after [] old new g (subst (λ (l : List (Entry ClusterMeta)). HasNoneOut l) (sym (append-nil old.own)) none)
@@ -157,11 +157,11 @@ module _ {D : Type 0} (state : D → DiskState) (committer : TurnState (Birth D)
           }
 
       -- it was spoiled
-      pub spoils : (new : Pass D) → SpoilsInHold state committer claim.cluster mid new → SpoilsRange old new
+      pub spoils : (new : Pass D) → SpoilsInHold state committer claim.cluster mid new → SpoilsRange meta old new
       spoils new s =
           let faults = (state s.given.disk).faults in
           let spoiled = subst (λ (i : ℕ). Gains (spoiled_entry i claim.cluster faults ∷ []) mid new) (number_after _ old mid commits_one) (gains_by s.taken s.given _ mid new s.hold) in
-          record { cluster = claim.cluster; start = start; meta = meta; faults = faults; gains = gains_twice _ _ old mid new commits_one spoiled }
+          record { cluster = claim.cluster; start = start; faults = faults; gains = gains_twice _ _ old mid new commits_one spoiled }
 
   -- no range is out once an image was written
   pub writes_in : (image : ClusterImage) (old new : Pass D) → HasNoneOut old.own → WritesImage state committer image old new → HasNoneOut new.own

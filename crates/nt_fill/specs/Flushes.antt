@@ -9,6 +9,7 @@ use Rattle.nt_machine.specs.History.{WrittenChunk, entries_of}
 use Rattle.nt_book.specs.declared.meta.ClusterMeta.{ClusterMeta}
 use Rattle.nt_column.specs.Column.{Column}
 use Rattle.nt_pages.specs.Image.{image}
+use Rattle.nt_pages.specs.Metas.{cluster_meta}
 use Rattle.nt_logged.specs.Steps.{bytes_where_told}
 use Rattle.nt_commit.specs.declared.locked.Birth.{Birth}
 use Rattle.nt_commit.specs.declared.error.CommitError.{CommitError}
@@ -32,9 +33,12 @@ module _ {D P : Type 0} where
     pub gains : Gains [] old.pass new.pass
     pub now : new ≡ record old { pass = new.pass }
 
-  -- the disk or the pen failed: the pen is gone after its own fault, and else the context is as before
+  -- the disk or the pen failed: the pen is gone after its own fault, with a range that was committed as the cluster of the gathered
+  -- entries, and else the context is as before
   pub record FailsToFlush (old new : DiskContext D P) : Type 0 where
-    pub fails : FailsToWrite old.pass new.pass old.pen new.pen
+    pub columns : List Column
+    pub gives : Gives old.table columns (gathered old)
+    pub fails : FailsToWrite (cluster_meta old.page old.pass.number (length (gathered old)) columns) old.pass new.pass old.pen new.pen
     pub now : new ≡ record old { pass = new.pass; pen = new.pen }
 
   module _ (state : D → DiskState) where

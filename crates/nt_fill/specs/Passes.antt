@@ -32,17 +32,17 @@ module _ {D : Type 0} where
     pub faults : ℕ
     pub gains : Gains (faulted_entry old.number faults ∷ []) old new
 
-  -- a range was committed and spoiled
-  pub record SpoilsRange (old new : PassState (Entry ClusterMeta) (Birth D)) : Type 0 where
+  -- a range was committed with this metadata, and spoiled
+  pub record SpoilsRange (meta : ClusterMeta) (old new : PassState (Entry ClusterMeta) (Birth D)) : Type 0 where
     pub cluster : ℕ
     pub start : ℕ
-    pub meta : ClusterMeta
     pub faults : ℕ
     pub gains : Gains (committed_by old.number cluster start meta ∷ spoiled_entry old.number cluster faults ∷ []) old new
 
-  -- the pen is as before after a fault of the disk, and gone after its own
-  abbrev pub FailsToWrite : {P : Type 0} → PassState (Entry ClusterMeta) (Birth D) → PassState (Entry ClusterMeta) (Birth D) → Option P → Option P → Type 0
-  FailsToWrite old new pen pen' = (MeetsFault old new × (pen' ≡ pen)) ⊎ (SpoilsRange old new × (pen' ≡ None))
+  -- a range of this metadata was to be written: the pen is as before after a fault of the disk, and gone after its own
+  abbrev pub FailsToWrite : {P : Type 0} → ClusterMeta → PassState (Entry ClusterMeta) (Birth D) → PassState (Entry ClusterMeta) (Birth D)
+      → Option P → Option P → Type 0
+  FailsToWrite meta old new pen pen' = (MeetsFault old new × (pen' ≡ pen)) ⊎ (SpoilsRange meta old new × (pen' ≡ None))
 
   module _ (state : D → DiskState) (committer : TurnState (Birth D)) where
     -- the answer names the limit that a range of this length passes behind a history that the pass has now seen, or none

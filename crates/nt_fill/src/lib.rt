@@ -13,7 +13,8 @@
 //! list, whose bytes and metadata are the blob of the gathered entries (`ok`, by `WritesCluster`); the
 //! limit that it names is the one that this blob passes behind a history that the pass has then seen
 //! (`limits`); a fault only where the own list gained a Faulted or a Spoiled entry, and then the pen
-//! is gone just where its range was spoiled (`fault`); after any other refusal all is as before but
+//! is gone just where its range was spoiled, which was committed with the metadata of the gathered
+//! entries (`fault`); after any other refusal all is as before but
 //! what the pass has seen (`kept`); an entry is gathered whole or not at all (`fill`). What holds of
 //! each context at any moment is `IsGathering`, the invariant.
 //!

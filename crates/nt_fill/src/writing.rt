@@ -75,7 +75,8 @@ pub(crate) fn write_image<D: Disk, G: Gate>(
         (WritesImage D.state committer.now image.old pass.old pass.new × IsSome pen.new) }
     ensures kept { (e : _) → result ≡ Err e → e ≢ Fault
         → Gains [] pass.old pass.new × (pen.new ≡ pen.old) }
-    ensures fault { IsErrOf result Fault → FailsToWrite pass.old pass.new pen.old pen.new }
+    ensures fault { IsErrOf result Fault
+        → FailsToWrite image.old.meta pass.old pass.new pen.old pen.new }
 {
     let context = pass.number();
     gate.at(context, Point::BeforeCommit);

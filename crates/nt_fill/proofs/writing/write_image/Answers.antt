@@ -32,7 +32,7 @@ fill_range-requires-clause-empty g c =
 pub returns-in_err-fill_range-clause-pass : goal.returns-in_err-fill_range-clause-pass
 returns-in_err-fill_range-clause-pass g c =
     let s = spoils g.D.Disk.state c.args.committer.now g.D.Ext.Ext.state c.args.image.now.meta c.args.pass.now c.commit.new.pass c.in_ok-claim.claim c.in_ok-claim.ensures.commits c.requires.image.context_is c.fill_range.new.pass c.in_err-fill_range.ensures.err.0 in
-    (pass_after g.D.Disk.state c.args.committer.now _ c.args.pass.now c.fill_range.new.pass s.gains c.requires.pass.0, spoil_in c.args.pass.now c.fill_range.new.pass c.requires.pass.1 s)
+    (pass_after g.D.Disk.state c.args.committer.now _ c.args.pass.now c.fill_range.new.pass s.gains c.requires.pass.0, spoil_in c.args.image.now.meta c.args.pass.now c.fill_range.new.pass c.requires.pass.1 s)
 
 pub returns-in_err-fill_range-clause-limits : goal.returns-in_err-fill_range-clause-limits
 returns-in_err-fill_range-clause-limits g c =

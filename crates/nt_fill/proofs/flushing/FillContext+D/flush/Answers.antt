@@ -7,6 +7,7 @@ use Rattle.nt_pages.specs.Image.{key_room}
 use Rattle.nt_pages.specs.Metas.{cluster_meta}
 use Rattle.nt_layout.specs.Laid.{Gives}
 use Rattle.nt_fill.specs.Context.{entries_given}
+use Rattle.nt_fill.specs.Passes.{FailsToWrite}
 use Rattle.nt_fill.proofs.Entries.{entries_count, gathered_length}
 use Rattle.nt_fill.proofs.Emptied.{emptied_gives}
 use Rattle.nt_fill.proofs.Images.{image_for, blob_of}
@@ -45,6 +46,27 @@ returns-in_err-write_image-clause-kept g c =
         columns = columns_of c.self.inside.store.columns;
         entries = c.self.inside.store.entries;
       }) kept.1;
+    })
+
+pub returns-in_err-write_image-clause-fault : goal.returns-in_err-write_image-clause-fault
+returns-in_err-write_image-clause-fault g c =
+    let p = err_from_is_err_and c.from_residual-in_err-write_image.result c.from_residual-in_err-write_image.ensures.1 in
+    λ is.
+    let columns = columns_of c.self.inside.store.columns in
+    let n = c.self.inside.store.entries in
+    let page = c.self.inside.store.page in
+    let number = c.self.inside.pass.number in
+    let count = sym (entries_count c.self.inside.schema.now columns n) in
+    let meta =
+    c.in_ok-image.ensures.meta
+    ∙ (ap (λ (i : ℕ). cluster_meta page i n columns) c.number.ensures ∙ ap (λ (m : ℕ). cluster_meta page number m columns) count) in
+    rw (← c.self.view_is) (record {
+      columns = columns;
+      gives = c.self.invariant.gives;
+      fails = subst
+          (λ (m : ClusterMeta). FailsToWrite m c.self.inside.pass c.write_image.new.pass c.self.inside.pen c.write_image.new.pen) meta
+          (c.in_err-write_image.ensures.fault (cc (p.1, p.2, is)));
+      now = refl;
     })
 
 pub invariant_of-self-2 : goal.invariant_of-self-2
