@@ -1,0 +1,7 @@
+mod Chunking
+mod Committing
+mod Writing
+mod Reading
+mod TakenLines
+mod Lines
+mod Ending

@@ -1,0 +1,38 @@
+use Rattle.std.proofs.Common.{sym, ap, refl, Some}
+use Rattle.nt_types.specs.Views.{members_view}
+use Rattle.nt_fill.specs.Flushes.{DiskContext}
+use Rattle.nt_writing.proofs.Ending.{ended_ran, unbegun, new_open, new_for, new_empty}
+use Rattle.nt_writing.proofs.seats.run_context.Goals as goal
+
+pub read_all-ended-requires-clause-fields : goal.read_all-ended-requires-clause-fields
+read_all-ended-requires-clause-fields g c =
+    new_for c.args.committer.now c.args.schema.now c.args.params.now.cluster c.args.params.now.page c.args.pass c.args.pen c.in-Ok.fill
+    c.in-Ok.ensures.ok
+    (members_view c.args.fields.now) c.args.params.now.plain c.requires.rules c.requires.rows
+
+pub read_all-ended-requires-clause-is_open : goal.read_all-ended-requires-clause-is_open
+read_all-ended-requires-clause-is_open g c =
+    new_open c.args.committer.now c.args.schema.now c.args.params.now.cluster c.args.params.now.page c.args.pass c.args.pen c.in-Ok.fill
+    c.in-Ok.ensures.ok
+    c.args.params.now.cluster_range.0
+
+pub read_all-ended-requires-clause-empty : goal.read_all-ended-requires-clause-empty
+read_all-ended-requires-clause-empty g c =
+    new_empty c.args.committer.now c.args.schema.now c.args.params.now.cluster c.args.params.now.page c.args.pass c.args.pen c.in-Ok.fill
+    c.in-Ok.ensures.ok
+
+pub returns-in-Ok : goal.returns-in-Ok
+returns-in-Ok g c =
+    let is = c.in-Ok.ensures.ok in
+    ended_ran g.D.Disk.state (members_view c.args.fields.now) c.args.schema.now c.args.params.now c.args.committer.now c.in-Ok.fill
+    c.read_all-ended.new.fill
+    (ap (λ (d : DiskContext _ _). d.committer) is) (ap (λ (d : DiskContext _ _). d.table) is) (ap (λ (d : DiskContext _ _). d.cluster) is)
+    (ap (λ (d : DiskContext _ _). d.page) is) g.S.Source.state _ _ (sym (ap (λ (d : DiskContext _ _). Some d.pass) is))
+    (ap Some c.end-pass.ensures.parts.0) c.end-pass.ensures.pass c.end-pass.ensures.none_out c.read_all-ended.ensures.later
+    c.read_all-ended.ensures.ended
+
+pub returns-in-Err : goal.returns-in-Err
+returns-in-Err g c =
+    unbegun g.D.Disk.state g.S.Source.state (members_view c.args.fields.now) c.args.schema.now c.args.params.now c.args.committer.now _ _
+    c.args.pass refl
+    (ap Some c.in-Err.ensures.err.0) refl refl c.requires.pass.0 c.requires.pass.1

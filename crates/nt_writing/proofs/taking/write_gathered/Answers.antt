@@ -1,0 +1,11 @@
+use Rattle.std.proofs.Common.{sym, subst, Err}
+use Rattle.nt_writing.specs.declared.error.ContextError.{ContextError}
+use Rattle.nt_writing.specs.Taking.{Writes}
+use Rattle.nt_writing.proofs.Writing.{write_refused}
+use Rattle.nt_writing.proofs.taking.write_gathered.Goals as goal
+
+pub returns-in-Err : goal.returns-in-Err
+returns-in-Err g c =
+    subst (λ (e : ContextError). Writes g.D.Disk.state c.args.fill.now c.flush.new.self (Err e)) (sym c.from.ensures)
+    (write_refused g.D.Disk.state c.args.fill.now c.flush.new.self c.in-Err.error
+    (c.in-Err.ensures.limits c.requires.some) c.in-Err.ensures.kept c.in-Err.ensures.fault)
