@@ -1,0 +1,123 @@
+-- Disk and book of a committer that ended, by what its first pass keeps.
+use Rattle.std.proofs.Common.{◌≡◌, ◌⊎◌, inl, inr, ℕ, zero, suc, ◌-◌, ◌^◌, ◌<◌, ◌≤◌, List, [], ◌∷◌, length, map, Option, Some, None, refl, sym, ap, ◌∙◌, arith}
+use Rattle.std.specs.Prelude.{slice_get, slice_index_or}
+use Rattle.std.specs.List.{AllZip}
+use Rattle.nt_types.specs.TreeData.{TreesData}
+use Rattle.nt_grammar.specs.Table.{Table}
+use Rattle.nt_outside.specs.Held.{Held}
+use Rattle.nt_outside.specs.Disk.{DiskState}
+use Rattle.nt_outside.specs.Faults.{Rose}
+use Rattle.nt_turn.specs.Pass.{Closes}
+use Rattle.nt_machine.specs.declared.entry.Entry.{Entry}
+use Rattle.nt_machine.specs.declared.entry.EntryKind.{EntryKind}
+use Rattle.nt_machine.specs.declared.entry.EntryKind.TheVariants as entry
+use Rattle.nt_machine.specs.Faults.{HasRisen, HasFaults, faults_after, FaultsRise}
+use Rattle.nt_machine.specs.History.{Fate, Out, Settled, Spoiled, Cluster, mine_of, ranges_of, IsWritten}
+use Rattle.nt_machine.specs.Legal.{end_after}
+use Rattle.nt_machine.specs.Untold.{untold, untold_fate}
+use Rattle.nt_machine.proofs.Dealing.{deals}
+use Rattle.nt_machine.proofs.Rising.{rose}
+use Rattle.nt_machine.proofs.Untelling.{same, same_end}
+use Rattle.nt_book.specs.declared.meta.ClusterMeta.{ClusterMeta}
+use Rattle.nt_book.specs.Books.{BookData, book_end, no_cluster}
+use Rattle.nt_logged.specs.Steps.{told_history}
+use Rattle.nt_commit.specs.declared.locked.Birth.{Birth}
+use Rattle.nt_commit.specs.Locked.{IsInStep, birth_of, context_of, history_of_locked, locked_by}
+use Rattle.nt_close.specs.Spoiled.{IsUnspoiled, NoneSpoiled}
+use Rattle.nt_dealing.specs.Written.{IsChunkBlob, HaveWritten}
+use Rattle.nt_dealing.proofs.Written.{each_wrote, others_idle}
+use Rattle.nt_writing.specs.Filling.{HaveFaults}
+use Rattle.nt_writing.specs.Seats.{DiskPass}
+use Rattle.nt_contexts.specs.Working.{KeepsFaults}
+use Rattle.nt_contexts.specs.Working.KeepsFaults.{of_first, of_kept}
+use Rattle.nt_contexts.proofs.Lists.{All-at}
+
+faults_after-le : (least : ℕ) (k : EntryKind ClusterMeta) → (HasFaults k → HasRisen least (faults_after least k))
+    → least ≤ faults_after least k
+faults_after-le least (entry.Committed n start len meta) h = omega arith
+faults_after-le least (entry.Settled n bytes) h = omega arith
+faults_after-le least (entry.Spoiled n faults) h = (h tt).0
+faults_after-le least (entry.Faulted faults) h = (h tt).0
+
+FaultsRise-le : (least : ℕ) (history : List (Entry ClusterMeta)) (count : ℕ) → FaultsRise least history count → least ≤ count
+FaultsRise-le least [] count h = h
+FaultsRise-le least (e ∷ es) count h =
+    let first = faults_after-le least e.kind h.0 in
+    let rest = FaultsRise-le (faults_after least e.kind) es count h.1 in
+    omega arith
+
+-- a count that has risen rose
+rose-of : (old new : ℕ) → HasRisen old new → Rose old new
+rose-of old new h = at h.1
+  where
+    at : (old < new) ⊎ (new ≡ 2 ^ 64 - 1) → Rose old new
+    at (inl less) = omega arith
+    at (inr top) = omega arith
+
+-- a cluster that has a state but for its bytes
+untold-unspoiled : (state : Fate) (bytes : Option (List ℕ)) → untold_fate state ≡ untold_fate (Settled bytes) → IsUnspoiled state
+untold-unspoiled Out bytes is = tt
+untold-unspoiled (Settled told) bytes is = tt
+untold-unspoiled (Spoiled faults) bytes is = cc
+
+none-spoiled : {C : Type 0} (IsBlobOf : C → ℕ → Option (List ℕ) → ClusterMeta
+    → Type 0) (dealt : List C) (cs ds : List (Cluster ClusterMeta))
+    → AllZip (IsWritten IsBlobOf) dealt cs → map untold cs ≡ map untold ds → (k : ℕ) → k < length ds
+    → IsUnspoiled (slice_index_or ds k no_cluster).state
+none-spoiled IsBlobOf dealt cs [] h is k less = absurd (omega arith)
+none-spoiled IsBlobOf dealt [] (d ∷ ds) h is k less = cc
+none-spoiled IsBlobOf [] (c ∷ cs) (d ∷ ds) h is k less = absurd h
+none-spoiled IsBlobOf (x ∷ xs) (c ∷ cs) (d ∷ ds) h is zero less =
+    let one : untold c ≡ untold d = cc in
+    untold-unspoiled d.state h.0.bytes (sym (ap (λ (e : Cluster ClusterMeta). e.state) one) ∙ ap untold_fate h.0.filled)
+none-spoiled IsBlobOf (x ∷ xs) (c ∷ cs) (d ∷ ds) h is (suc k) less =
+    let rest : map untold cs ≡ map untold ds = cc in
+    none-spoiled IsBlobOf xs cs ds h.1 rest k (omega arith)
+
+same-ranges : (begun now : Option Held) (history : List (Entry ClusterMeta))
+    → map untold (ranges_of (told_history begun now history)) ≡ map untold (ranges_of history)
+same-ranges None now history = refl
+same-ranges (Some h) None history = refl
+same-ranges (Some h) (Some h') history = same history _
+
+same-end : (place : ℕ) (begun now : Option Held) (history : List (Entry ClusterMeta))
+    → end_after place (ranges_of (told_history begun now history)) ≡ end_after place (ranges_of history)
+same-end place None now history = refl
+same-end place (Some h) None history = refl
+same-end place (Some h) (Some h') history = same_end place history _
+
+module _ {D : Type 0} (state : D → DiskState) (birth : Birth D) (disk : D) (book : BookData) (first : DiskPass D)
+    (closes : Closes (history_of_locked state) birth_of context_of first (locked_by birth disk book)) (step : IsInStep state (locked_by
+    birth disk book)) where
+  abbrev history : List (Entry ClusterMeta)
+  history = history_of_locked state (locked_by birth disk book)
+
+  pub faults-later : (state birth.begun).faults ≤ (state disk).faults
+  faults-later = FaultsRise-le (state birth.begun).faults history (state disk).faults step.follows.rise
+
+  own-rose : (state disk).faults < 2 ^ 64 → (i : ℕ) (own : List (Entry ClusterMeta)) → own ≡ mine_of history i → HaveFaults own
+      → Rose (state birth.begun).faults (state disk).faults
+  own-rose last i own is f =
+      rose-of (state birth.begun).faults (state disk).faults
+      (rose (state birth.begun).faults history (state disk).faults step.follows.rise last i f.place f.entry
+      (sym (ap (λ (l : List (Entry ClusterMeta)). slice_get l f.place) is) ∙ f.at) f.faults)
+
+  pub faults-rose : (state disk).faults < 2 ^ 64 → KeepsFaults first → Rose (state birth.begun).faults (state disk).faults
+  faults-rose last (of_first f) = own-rose last first.number first.own closes.own f
+  faults-rose last (of_kept place k at f) =
+      own-rose last k.0 k.1 (All-at (λ (k : ℕ × List (Entry ClusterMeta)). k.1 ≡ mine_of history k.0) first.kept place k closes.kept at) f
+
+  pub end-is : (state disk).end ≡ book_end book
+  end-is =
+      step.follows.end ∙ (same-end (state birth.begun).end (state birth.begun).held (state disk).held book.history
+      ∙ ap (λ (n : ℕ). end_after n (ranges_of book.history)) (sym step.begin))
+
+  pub unspoiled : (t : Table) (page : ℕ) (chunks : List (List (List TreesData)))
+      → HaveWritten (state birth.begun).held t page chunks first.number first.own first.kept → NoneSpoiled book
+  unspoiled t page chunks have =
+      let begun = (state birth.begun).held in
+      let d = deals (IsChunkBlob begun t page) chunks history
+      (each_wrote begun t page history chunks first.number first.own first.kept have closes.kept)
+      (others_idle begun t page history chunks first.number first.own first.kept have closes.own closes.others) in
+      none-spoiled (IsChunkBlob begun t page) d.dealt (ranges_of history) (ranges_of book.history) d.written (same-ranges begun (state
+      disk).held book.history)

@@ -1,0 +1,7 @@
+mod Lists
+mod Opens
+mod Leaves
+mod Ran
+mod Worked
+mod Finished
+mod Told

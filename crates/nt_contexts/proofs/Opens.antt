@@ -1,0 +1,280 @@
+-- Contexts are let in, one after the other.
+use Rattle.std.proofs.Common.{◌≡◌, ℕ, ◌+◌, ◌<◌, ◌≤◌, List, [], ◌∷◌, ◌++◌, length, map, Option, Some, refl, sym, ap, ◌∙◌, subst, append_assoc, append-nil, length-append, arith, Err}
+use Rattle.std.proofs.lemmas.List.{length-map}
+use Rattle.std.proofs.lemmas.Slice.Zip.{AllZip-long}
+use Rattle.std.specs.Prelude.{All, IsSome}
+use Rattle.nt_types.specs.ShapeData.{MemberData}
+use Rattle.nt_grammar.specs.Table.{Table}
+use Rattle.nt_book.specs.declared.params.Params.{Params}
+use Rattle.nt_turn.specs.Pass.{TurnState, next_pass}
+use Rattle.nt_outside.specs.Disk.{DiskState}
+use Rattle.nt_outside.specs.Range.{PenState}
+use Rattle.nt_outside.specs.Source.{SourceState}
+use Rattle.nt_outside.specs.declared.fault.Refused.{Refused}
+use Rattle.nt_outside.specs.declared.fault.Refused.TheVariants as refused
+use Rattle.nt_machine.specs.declared.entry.Entry.{Entry}
+use Rattle.nt_machine.specs.History.{IsIdle}
+use Rattle.nt_book.specs.declared.meta.ClusterMeta.{ClusterMeta}
+use Rattle.nt_book.specs.Entries.{faulted_entry}
+use Rattle.nt_commit.specs.declared.locked.Birth.{Birth}
+use Rattle.nt_commit.specs.Claims.{PenAdds}
+use Rattle.nt_commit.specs.Holds.{IsPassOf, HasNoneOut, RefusesPen, EntersAfter}
+use Rattle.nt_event.specs.Lines.{before_first_line}
+use Rattle.nt_writing.specs.declared.seats.Seat.{Seat}
+use Rattle.nt_writing.specs.Reading.{left_of}
+use Rattle.nt_writing.specs.Filling.{HaveFaults}
+use Rattle.nt_writing.specs.Seats.{DiskPass, IsFresh}
+use Rattle.nt_contexts.specs.Contexts.{AreLater}
+use Rattle.nt_contexts.specs.Seating.{IsLettingIn, HasLetIn, RefusesSeat, IsNewSeat, AreNewSeats, HasOpened, MayWork, CanRun}
+
+-- no count fell
+pub same-later : (states : List SourceState) → AreLater states states
+same-later [] = tt
+same-later (s ∷ states) = (omega arith, same-later states)
+
+no-others : (others left : List SourceState) → AreLater others left → left ≡ [] → others ≡ []
+no-others [] left later none = refl
+no-others (s ∷ others) [] later none = absurd later
+no-others (s ∷ others) (r ∷ left) later none = cc
+
+module _ {D : Type 0} (committer : TurnState (Birth D)) where
+  -- a pass with more seen, other entries and other numbers of passes that were split off
+  same-pass : (old : DiskPass D) (seen own : List (Entry ClusterMeta)) (splits : ℕ) → IsPassOf committer old
+      → IsPassOf committer (record old { seen = seen; own = own; splits = splits })
+  same-pass old seen own splits is = record { turn = is.turn; free = is.free; birth = is.birth; number = is.number; seats = is.seats }
+
+  -- one more was let in
+  let-in : (n splits : ℕ) (old : DiskPass D) (seen : List (Entry ClusterMeta)) → IsLettingIn committer n old → splits ≡ n + 1
+      → IsLettingIn committer (n + 1) (record old { seen = seen; own = old.own ++ []; splits = splits })
+  let-in n splits old seen h is = record {
+    of = record { of = same-pass old seen (old.own ++ []) splits h.of.of; first = h.of.first };
+    splits = is;
+    kept = h.kept;
+    unused = append-nil old.own ∙ h.unused;
+  }
+
+  -- nothing was done with the first pass but letting contexts in
+  pub let-in-so-far : (n : ℕ) (first : DiskPass D) → IsLettingIn committer n first → HasLetIn committer n first
+  let-in-so-far n first h = record {
+    of = h.of;
+    splits = h.splits;
+    kept = h.kept;
+    idle = subst (λ (l : List (Entry ClusterMeta)). IsIdle l) (sym h.unused) tt;
+    none_out = subst (λ (l : List (Entry ClusterMeta)). HasNoneOut l) (sym h.unused) tt;
+  }
+
+  -- memory was wanting for a seat
+  pub no-memory : (n : ℕ) (first : DiskPass D) → IsLettingIn committer n first → RefusesSeat committer n first refused.Memory
+  no-memory n first h = record { let_in = let-in-so-far n first h; blamed = λ e. cc }
+
+  faulted : (n context faults : ℕ) (old : DiskPass D) (seen own : List (Entry ClusterMeta)) → IsLettingIn committer n old
+      → own ≡ faulted_entry context faults ∷ []
+      → RefusesSeat committer n (record old { seen = seen; own = own }) refused.Failed
+  faulted n context faults old seen own h is = record {
+    let_in = record {
+      of = record { of = same-pass old seen own old.splits h.of.of; first = h.of.first };
+      splits = h.splits;
+      kept = h.kept;
+      idle = subst (λ (l : List (Entry ClusterMeta)). IsIdle l) (sym is) (tt, tt);
+      none_out = subst (λ (l : List (Entry ClusterMeta)). HasNoneOut l) (sym is) tt;
+    };
+    blamed = λ e. subst (λ (l : List (Entry ClusterMeta)). HaveFaults l) (sym is) (record {
+      place = 0;
+      entry = faulted_entry context
+          faults;
+      at = refl;
+      faults = tt;
+    });
+  }
+
+  not-let-in : (n was is context : ℕ) (old : DiskPass D) (seen own added : List (Entry ClusterMeta)) (error : Refused)
+      → IsLettingIn committer n old
+      → own ≡ added → PenAdds {P = Unit {0}} was is context (Err error) added
+      → RefusesSeat committer n (record old { seen = seen; own = own }) error
+  not-let-in n was is context old seen own added refused.Memory h grown adds =
+      no-memory n (record old { seen = seen; own = own }) (record {
+        of = record { of = same-pass old seen own old.splits h.of.of; first = h.of.first };
+        splits = h.splits;
+        kept = h.kept;
+        unused = grown ∙ adds;
+      })
+  not-let-in n was is context old seen own added refused.Failed h grown adds = faulted n context is old seen own h (grown ∙ adds.1)
+
+  module _ (state : D → DiskState) where
+    -- no pen was to be had
+    pub refuses : (n : ℕ) (old new : DiskPass D) (error : Refused) → IsLettingIn committer n old → RefusesPen state committer old new error
+        → RefusesSeat committer n new error
+    refuses n old new error h r =
+        subst (λ (f : DiskPass D). RefusesSeat committer n f error) (sym r.hold.now)
+        (not-let-in n _ _ old.number old _ (old.own ++ r.opens.added) r.opens.added error h (ap (λ (l : List (Entry ClusterMeta)). l ++
+        r.opens.added) h.unused) r.opens.adds)
+
+    module _ {P : Type 0} (pen_state : P → PenState) where
+      enters-as : (old new pass : DiskPass D) (pen : P) (e : EntersAfter state pen_state committer old new pass pen)
+          → new ≡ record old { seen = e.held.seen; own = old.own ++ []; splits = old.splits + 1 }
+      enters-as old new pass pen e =
+          let held : e.held ≡ record old { seen = e.held.seen; own = old.own ++ [] } =
+          e.opens.hold.now ∙ ap (λ (l : List (Entry ClusterMeta)). record old { seen = l; own = old.own ++ [] }) (sym (ap (λ (f :
+          DiskPass D). f.seen) e.opens.hold.now)) in
+          e.first ∙ ap (λ (f : DiskPass D). record f { splits = old.splits + 1 }) held
+
+      -- a context entered
+      pub enters : (n : ℕ) (old new pass : DiskPass D) (pen : P) → IsLettingIn committer n old
+          → EntersAfter state pen_state committer old new pass pen
+          → IsLettingIn committer (n + 1) new
+      enters n old new pass pen h e =
+          subst (λ (f : DiskPass D). IsLettingIn committer (n + 1) f) (sym (enters-as old new pass pen e))
+          (let-in n (old.splits + 1) old e.held.seen h (ap (λ (m : ℕ). m + 1) h.splits))
+
+      -- its pass is one of the committer, with the next number
+      pub entered : (n : ℕ) (old new pass : DiskPass D) (pen : P) → IsLettingIn committer n old → n < committer.birth.contexts
+          → EntersAfter state pen_state committer old new pass pen → IsPassOf committer pass × (pass.own ≡ []) × (pass.number ≡ n)
+      entered n old new pass pen h room e =
+          let same = e.opens.hold.now in
+          let splits : e.held.splits ≡ n = ap (λ (f : DiskPass D). f.splits) same ∙ h.splits in
+          let of : IsPassOf committer (next_pass e.held) = record {
+            turn = ap (λ (f : DiskPass D). f.turn) same ∙ h.of.of.turn;
+            free = refl;
+            birth = ap (λ (f : DiskPass D). f.birth) same ∙ h.of.of.birth;
+            number = omega (arith, splits, room);
+            seats = h.of.of.seats;
+          } in (
+            subst (λ (f : DiskPass D). IsPassOf committer f) (sym e.pass_is) of,
+            ap (λ (f : DiskPass D). f.own) e.pass_is,
+            ap (λ (f : DiskPass D). f.number) e.pass_is ∙ splits,
+          )
+
+  module _ {S P : Type 0} (source : S → SourceState) where
+    pub new-seat : (n : ℕ) (s : SourceState) (seat : Seat S (DiskPass D) P) (pass : DiskPass D) (pen : P) → seat.pass ≡ Some pass
+        → seat.pen ≡ Some pen
+        → IsPassOf committer pass × (pass.own ≡ []) × (pass.number ≡ n) → left_of source seat.lines ≡ before_first_line s
+        → IsNewSeat committer source n s seat
+    new-seat n s seat pass pen there pen_is of begun = record {
+      fresh = record {
+        pass = pass;
+        there = there;
+        of = of.0;
+        unused = of.1;
+        pen = subst (λ (o : Option P). IsSome o) (sym pen_is) refl;
+        first = ap (λ (l : _). l.number) begun;
+      };
+      number_is = of.2;
+      begun = begun;
+    }
+
+    AreNewSeats-snoc : (n : ℕ) (states : List SourceState) (seats : List (Seat S (DiskPass D) P)) (s : SourceState) (seat : Seat S
+        (DiskPass D) P)
+        → AreNewSeats committer source n states seats → IsNewSeat committer source (n + length seats) s seat
+        → AreNewSeats committer source n (states ++ s ∷ []) (seats ++ seat ∷ [])
+    AreNewSeats-snoc n [] [] s seat are is = (subst (λ (m : ℕ). IsNewSeat committer source m s seat) (omega arith) is, tt)
+    AreNewSeats-snoc n [] (x ∷ seats) s seat are is = absurd are
+    AreNewSeats-snoc n (r ∷ states) [] s seat are is = absurd are
+    AreNewSeats-snoc n (r ∷ states) (x ∷ seats) s seat are is =
+        let next : n + length (x ∷ seats) ≡ n + 1 + length seats = omega arith in
+        (are.0, AreNewSeats-snoc (n + 1) states seats s seat are.1 (subst (λ (m : ℕ). IsNewSeat committer source m s seat) next is))
+
+    -- some sources have seats, and these are left
+    pub record StillOpens (all left : List S) (seats : List (Seat S (DiskPass D) P)) (first : DiskPass D) : Type 0 where
+      pub states : List SourceState
+      pub whole : map source all ≡ states ++ map source left
+      pub seats_are : AreNewSeats committer source 0 states seats
+      pub letting : IsLettingIn committer (length seats) first
+
+    pub opening-begins : (all : List S) (seats : List (Seat S (DiskPass D) P)) (first : DiskPass D) → seats ≡ []
+        → IsLettingIn committer 0 first → StillOpens all all seats first
+    opening-begins all seats first none h =
+        subst (λ (l : List (Seat S (DiskPass D) P)). StillOpens all all l first) (sym none) (record {
+          states = [];
+          whole = refl;
+          seats_are = tt;
+          letting = h;
+        })
+
+    pub opening-goes-on : (all left rest : List S) (s : S) (seats : List (Seat S (DiskPass D) P)) (seat : Seat S (DiskPass D) P) (first
+        next : DiskPass D) → left ≡ s ∷ rest
+        → StillOpens all left seats first → IsLettingIn committer (first.splits + 1) next
+        × IsNewSeat committer source first.splits (source s) seat
+        → StillOpens all rest (seats ++ seat ∷ []) next
+    opening-goes-on all left rest s seats seat first next is h opens =
+        let count : first.splits ≡ length seats = h.letting.splits in
+        let more : first.splits + 1 ≡ length (seats ++ seat ∷ []) = omega (arith, count, length-append seats (seat ∷ [])) in
+        record {
+          states = h.states ++ source s ∷ [];
+          whole = h.whole ∙ (ap (λ (l : List S). h.states ++ map source l) is
+              ∙ sym (append_assoc h.states (source s ∷ []) (map source rest)));
+          seats_are = AreNewSeats-snoc 0 h.states seats (source s) seat h.seats_are (subst (λ (m : ℕ). IsNewSeat committer source m
+              (source s) seat) (count ∙ omega arith) opens.1);
+          letting = subst (λ (m : ℕ). IsLettingIn committer m next) more opens.0;
+        }
+
+    -- each source has its seat
+    pub opening-ends : (all left : List S) (seats : List (Seat S (DiskPass D) P)) (first : DiskPass D)
+        → StillOpens all left seats first → HasOpened committer source all left seats first
+    opening-ends all left seats first h = record {
+      states = h.states;
+      others = map source left;
+      whole = h.whole;
+      left = same-later (map source left);
+      seats_are = h.seats_are;
+      let_in = let-in-so-far (length seats) first h.letting;
+    }
+
+    -- the first source that is left has no seat, and stands before the others again
+    pub opening-stops : (all left rest : List S) (s s' : S) (seats : List (Seat S (DiskPass D) P)) (first next : DiskPass D) (error :
+        Refused) → left ≡ s ∷ rest
+        → StillOpens all left seats first → (source s').faults ≡ (source s).faults → RefusesSeat committer first.splits next error
+        → HasOpened committer source all (s' ∷ rest) seats next
+    opening-stops all left rest s s' seats first next error is h same refuses = record {
+      states = h.states;
+      others = source s ∷ map source rest;
+      whole = h.whole ∙ ap (λ (l : List S). h.states ++ map source l) is;
+      left = (omega (arith, same), same-later (map source rest));
+      seats_are = h.seats_are;
+      let_in = subst (λ (n : ℕ). HasLetIn committer n next) h.letting.splits refuses.let_in;
+    }
+
+    new-count : (i : ℕ) (states : List SourceState) (seats : List (Seat S (DiskPass D) P))
+        → AreNewSeats committer source i states seats → length states ≡ length seats
+    new-count i [] [] new = refl
+    new-count i [] (x ∷ xs) new = absurd new
+    new-count i (s ∷ states) [] new = absurd new
+    new-count i (s ∷ states) (x ∷ xs) new = omega (arith, new-count (i + 1) states xs new.1)
+
+    -- each source has a seat or is left
+    pub opened-count : (all left : List S) (seats : List (Seat S (DiskPass D) P)) (first : DiskPass D)
+        → HasOpened committer source all left seats first
+        → length seats + length left ≡ length all
+    opened-count all left seats first h =
+        let long : length all ≡ length (h.states ++ h.others) = sym (length-map all source)
+        ∙ ap (λ (l : List SourceState). length l) h.whole in
+        let others : length (map source left) ≡ length h.others = AllZip-long (λ (s s' : SourceState). s.faults ≤ s'.faults) h.others
+        (map source left) h.left in
+        omega (arith, long, length-append h.states h.others, others, length-map left source, new-count 0 h.states seats h.seats_are)
+
+    -- where none is left, these are all
+    pub opened-all : (all left : List S) (seats : List (Seat S (DiskPass D) P)) (first : DiskPass D) (h : HasOpened committer source all
+        left seats first) → left ≡ []
+        → map source all ≡ h.states
+    opened-all all left seats first h none =
+        h.whole ∙ (ap (λ (l : List SourceState). h.states ++ l) (no-others h.others (map source left) h.left (ap (λ (l : List S). map
+        source l) none)) ∙ append-nil h.states)
+
+    -- contexts that all have their seats may run
+    pub may-run : (fields : List MemberData) (t : Table) (p : Params) (all left : List S) (seats : List (Seat S (DiskPass D) P)) (first
+        next : DiskPass D)
+        → MayWork committer fields t p (length all) first → HasOpened committer source all left seats next → left ≡ []
+        → All (IsFresh source committer) seats
+        → CanRun committer source fields t p seats next
+    may-run fields t p all left seats first next may opened none fresh =
+        let count = opened-count all left seats next opened in
+        let empty : length left ≡ 0 = ap (λ (l : List S). length l) none in
+        record {
+          rules = may.rules;
+          rows = may.rows;
+          columns = may.columns;
+          some = omega (arith, may.some, count, empty);
+          few = omega (arith, may.few, count, empty);
+          seated = omega (arith, may.seated, count, empty);
+          fresh = fresh;
+          let_in = opened.let_in;
+        }

@@ -1,0 +1,177 @@
+-- What contexts did to the disk, the book and their sources, by what the first pass keeps of them.
+use Rattle.std.proofs.Common.{◌≡◌, ◌⊎◌, inl, inr, ℕ, ◌+◌, ◌≤◌, List, [], ◌∷◌, length, take, refl, sym, ap, ◌∙◌, subst, append-nil, arith, replicate, Result, Ok, Err}
+use Rattle.std.proofs.lemmas.List.{length-replicate}
+use Rattle.std.proofs.lemmas.Slice.Zip.{AllZip-long}
+use Rattle.nt_types.specs.ShapeData.{MemberData}
+use Rattle.nt_types.specs.TreeData.{TreesData}
+use Rattle.nt_types.specs.Rules.{AreFields}
+use Rattle.nt_grammar.specs.Table.{Table}
+use Rattle.nt_grammar.specs.Rows.{Rows}
+use Rattle.nt_outside.specs.Disk.{DiskState}
+use Rattle.nt_outside.specs.Faults.{Rose}
+use Rattle.nt_outside.specs.Source.{SourceState}
+use Rattle.nt_turn.specs.Pass.{TurnState, first_pass}
+use Rattle.nt_book.specs.declared.params.Params.{Params}
+use Rattle.nt_book.specs.declared.limits.LimitError.{LimitError}
+use Rattle.nt_book.specs.declared.limits.LimitError.TheVariants as limit
+use Rattle.nt_book.specs.Books.{BookData, book_end}
+use Rattle.nt_commit.specs.declared.locked.Birth.{Birth}
+use Rattle.nt_layout.specs.Headers.{clusters_place}
+use Rattle.nt_close.specs.Beginning.{new_book}
+use Rattle.nt_dealing.specs.Texts.{all_chunks}
+use Rattle.nt_dealing.specs.Limits.{IsOver, IsOverBy}
+use Rattle.nt_writing.specs.Seats.{DiskPass}
+use Rattle.nt_contexts.specs.declared.error.RunError.{RunError}
+use Rattle.nt_contexts.specs.declared.error.RunError.TheVariants.{Outside, Memory, Line, Limit}
+use Rattle.nt_contexts.specs.Answers.{limit_told}
+use Rattle.nt_contexts.specs.Contexts.{SomeRose, ContextsTold, IsReady, RunsContexts}
+use Rattle.nt_contexts.specs.Working.{KeepsFaults, WorkTold, HasWorked}
+use Rattle.nt_contexts.specs.Seating.{IsLettingIn, MayWork}
+use Rattle.nt_contexts.proofs.Opens.{same-later}
+use Rattle.nt_contexts.specs.Ending.{IsBornFor, HasEnded}
+
+-- the limit that an error names is the one that is told
+over-told : (t : Table) (p : Params) (chunks : List (List TreesData)) (reached most : ℕ) (error : LimitError)
+    → Limit reached most ≡ limit_told p.limits.clusters error → IsOverBy t p chunks error → IsOver t p chunks reached most
+over-told t p chunks reached most (limit.RangeTooLarge len range) is over =
+    let one : len ≡ reached = cc in
+    let two : range ≡ most = cc in
+    subst (λ (n : ℕ). IsOver t p chunks n most) one (subst (λ (n : ℕ). IsOver t p chunks len n) two over)
+over-told t p chunks reached most (limit.FileTooLarge end file) is over =
+    let one : end ≡ reached = cc in
+    let two : file ≡ most = cc in
+    subst (λ (n : ℕ). IsOver t p chunks n most) one (subst (λ (n : ℕ). IsOver t p chunks end n) two over)
+over-told t p chunks reached most limit.TooManyClusters is over =
+    let one : p.limits.clusters + 1 ≡ reached = cc in
+    let two : p.limits.clusters ≡ most = cc in
+    subst (λ (n : ℕ). IsOver t p chunks n most) one (subst (λ (n : ℕ). IsOver t p chunks (p.limits.clusters + 1) n) two over)
+
+module _ {D : Type 0} (state : D → DiskState) (fields : List MemberData) (t : Table) (p : Params) (committer : TurnState (Birth D)) where
+  abbrev begun : DiskState
+  begun = state committer.birth.begun
+
+  -- all contexts were joined, and the committer ended
+  pub runs : (sources sources' : List SourceState) (first : DiskPass D) (answer : Result Unit RunError) (disk : D) (book : BookData)
+      → AreFields fields → Rows fields p.plain t → IsBornFor state committer.birth t p
+      → committer.birth.firsts ≡ replicate (length t.columns) 0
+      → HasWorked state fields t p committer sources sources' first answer → HasEnded state committer.birth first disk book
+      → RunsContexts t fields p begun (state disk) (new_book t p.limits) book sources sources' answer
+  runs sources sources' first answer disk book rules rows born firsts work ended = record {
+    told = λ texts tell. tell-all texts answer (work.told texts tell);
+    failed = λ is. blame (work.blamed is);
+    unspoiled = λ is. let w = work.wrote is in (ended.dealt t p.page w.0 w.1).1;
+    later = ended.later;
+    number = AllZip-long (λ (s s' : SourceState). s.faults ≤ s'.faults) sources sources' work.later;
+    sources_later = work.later;
+    held = ended.held;
+    book_on = record { begin = ended.begin ∙ born.end; limits = ended.limits ∙ born.limits; firsts = ended.firsts ∙ firsts };
+    end = ended.end;
+    out = ended.out;
+  }
+    where
+      blame : SomeRose sources sources' ⊎ KeepsFaults first → Rose begun.faults (state disk).faults ⊎ SomeRose sources sources'
+      blame (inl rose) = inr rose
+      blame (inr kept) = inl (ended.blamed kept)
+
+      tell-all : (texts : List (List ℕ)) (r : Result Unit RunError) → WorkTold state fields t p committer texts first r
+          → ContextsTold t fields p texts begun (state disk) book r
+      tell-all texts (Ok done) w = (w.0, (ended.dealt t p.page _ w.1).0)
+      tell-all texts (Err (Line input line kind)) w = w
+      tell-all texts (Err (Limit reached most)) w =
+          over-told t p (all_chunks p.cluster fields texts) reached most w.error w.names
+          (ended.over fields t p texts w.place w.own w.seen w.error rules rows born w.committed w.at w.before w.passes)
+      tell-all texts (Err Outside) w = tt
+      tell-all texts (Err Memory) w = tt
+
+-- nothing was done, for want of memory
+pub runs-nothing : (fields : List MemberData) (t : Table) (p : Params) (disk : DiskState) (book : BookData) (sources : List SourceState)
+    (n : ℕ)
+    → IsReady fields p t book disk n → RunsContexts t fields p disk disk book book sources sources (Err Memory)
+runs-nothing fields t p disk book sources n ready = record {
+  told = λ texts tell. tt;
+  failed = λ is. cc;
+  unspoiled = λ is. cc;
+  later = omega arith;
+  number = refl;
+  sources_later = same-later sources;
+  held = λ h is. (h, is, record { history = []; legal = tt; log = sym (append-nil h.log); front = λ known. whole h.image });
+  book_on = record { begin = refl; limits = refl; firsts = refl };
+  end = ready.end ∙ begins;
+  out = ready.out;
+}
+  where
+    whole : (l : List ℕ) → take (length l) l ≡ l
+    whole [] = refl
+    whole (x ∷ l) = ap (λ (r : List ℕ). x ∷ r) (whole l)
+
+    begins : clusters_place t ≡ book_end book
+    begins = subst (λ (b : BookData). clusters_place t ≡ book_end b) (sym ready.book_is) (omega arith)
+
+module _ {D : Type 0} (state : D → DiskState) (fields : List MemberData) (t : Table) (p : Params) (committer : TurnState (Birth D)) where
+  -- a new committer over a file that was begun
+  pub newly : (first : DiskPass D) (disk : D) (book : BookData) (n : ℕ) → IsReady fields p t book (state disk) n → committer.seats ≡ n
+      → committer.birth ≡ record {
+        begun = disk;
+        limits = book.limits;
+        columns = length book.firsts;
+        firsts = book.firsts;
+        contexts = n;
+      } → first ≡ first_pass committer
+      → MayWork committer fields t p n first
+  newly first disk book n ready seats born is =
+      let columns : committer.birth.columns ≡ length book.firsts = ap (λ (b : Birth D). b.columns) born in
+      let contexts : committer.birth.contexts ≡ n = ap (λ (b : Birth D). b.contexts) born in
+      let firsts : book.firsts ≡ replicate (length t.columns) 0 = ap (λ (b : BookData). b.firsts) ready.book_is in
+      let begins : IsLettingIn committer 0 (first_pass committer) = record {
+        of = record {
+          of = record {
+            turn = refl;
+            free = refl;
+            birth = refl;
+            number = omega (arith, seats, contexts);
+            seats = omega (
+              arith,
+              seats,
+              contexts,
+            );
+          };
+          first = refl;
+        };
+        splits = refl;
+        kept = refl;
+        unused = refl;
+      } in
+      record {
+        rules = ready.rules;
+        rows = ready.rows;
+        columns = sym (columns ∙ (ap (λ (l : List ℕ). length l) firsts ∙ length-replicate (length t.columns) 0));
+        some = omega (arith, ready.some);
+        few = ready.few;
+        seated = omega (arith, contexts);
+        letting = subst (λ (f : DiskPass D). IsLettingIn committer 0 f) (sym is) begins;
+      }
+
+  pub born-for : (disk : D) (book : BookData) (n : ℕ) → IsReady fields p t book (state disk) n
+      → committer.birth ≡ record { begun = disk; limits = book.limits; columns = length book.firsts; firsts = book.firsts; contexts = n }
+      → IsBornFor state committer.birth t p
+  born-for disk book n ready born = record {
+    limits = ap (λ (b : Birth D). b.limits) born ∙ ap (λ (b : BookData). b.limits) ready.book_is;
+    end = ap (λ (b : Birth D). (state b.begun).end) born ∙ ready.end;
+  }
+
+  pub born-firsts : (disk : D) (book : BookData) (n : ℕ) → IsReady fields p t book (state disk) n
+      → committer.birth ≡ record { begun = disk; limits = book.limits; columns = length book.firsts; firsts = book.firsts; contexts = n }
+      → committer.birth.firsts ≡ replicate (length t.columns) 0
+  born-firsts disk book n ready born = ap (λ (b : Birth D). b.firsts) born ∙ ap (λ (b : BookData). b.firsts) ready.book_is
+
+  -- what was begun is the disk and the book that were given
+  pub runs-given : (disk : D) (after : DiskState) (book book' : BookData) (n : ℕ) (sources sources' : List SourceState) (answer : Result
+      Unit RunError)
+      → IsReady fields p t book (state disk) n
+      → committer.birth ≡ record { begun = disk; limits = book.limits; columns = length book.firsts; firsts = book.firsts; contexts = n }
+      → RunsContexts t fields p (state committer.birth.begun) after (new_book t p.limits) book' sources sources' answer
+      → RunsContexts t fields p (state disk) after book book' sources sources' answer
+  runs-given disk after book book' n sources sources' answer ready born ran =
+      subst (λ (b : BookData). RunsContexts t fields p (state disk) after b book' sources sources' answer) (sym ready.book_is)
+      (subst (λ (d : D). RunsContexts t fields p (state d) after (new_book t p.limits) book' sources sources' answer) (ap (λ (b : Birth
+      D). b.begun) born) ran)

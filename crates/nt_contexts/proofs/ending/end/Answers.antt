@@ -1,0 +1,32 @@
+use Rattle.std.proofs.Common.{◌<◌, ◌^◌, arith}
+use Rattle.nt_contexts.proofs.Finished.{faults-later, faults-rose, end-is, unspoiled}
+use Rattle.nt_contexts.proofs.ending.end.Goals as goal
+
+pub returns : goal.returns
+returns g c =
+    let state = g.D.Disk.state in
+    let birth = c.args.committer.birth in
+    let disk = c.finish-disk.result.0 in
+    let book = c.finish-disk.result.1 in
+    let first = c.args.first in
+    let closes = c.finish-disk.ensures.closes in
+    let step = c.finish-disk.ensures.in_step in
+    let last : (state disk).faults < 2 ^ 64 = omega (arith, c.faults-faults.ensures) in
+    record {
+      later = faults-later state birth disk book first closes step;
+      blamed = faults-rose state birth disk book first closes step last;
+      dealt = λ t page chunks have. (
+        c.commits_are_dealt.ensures birth disk book first t page chunks closes step have,
+        unspoiled state birth disk book first
+            closes step t page chunks have,
+      );
+      over = λ fields t p texts i own seen error rules rows born committed at before passes.
+          c.next_chunks_pass_limits_of_all.ensures birth disk book first fields t p texts i own seen error rules rows closes step
+          born.limits born.end committed at before passes;
+      held = c.histories_fill.ensures birth disk book step;
+      begin = step.begin;
+      limits = step.limits;
+      firsts = step.firsts;
+      end = end-is state birth disk book first closes step;
+      out = c.finish-disk.ensures.out;
+    }

@@ -1,0 +1,5 @@
+pub mod Answers
+pub mod Contexts
+pub mod Seating
+pub mod Working
+pub mod Ending

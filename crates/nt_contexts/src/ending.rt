@@ -1,0 +1,26 @@
+//! How a committer ends whose contexts were joined.
+
+ghost use Rattle.nt_turn.specs.Pass.{AllJoined};
+ghost use Rattle.nt_commit.specs.Holds.{IsFirstOf, AreAllIn};
+ghost use Rattle.nt_contexts.specs.Ending.{HasEnded};
+
+use nt_book::Book;
+use nt_commit::{Committer, Locked};
+use nt_dealing::{commits_are_dealt, histories_fill, next_chunks_pass_limits_of_all};
+use nt_outside::Disk;
+use nt_turn::Pass;
+
+/// Ends the committer: disk and book are what the contexts made of them.
+pub(crate) fn end<D: Disk>(committer: Committer<D>, first: Pass<Locked<D>>) -> (D, Book)
+    requires first { IsFirstOf committer first }
+    requires joined { AllJoined first }
+    requires none_out { AreAllIn first }
+    ensures { HasEnded D.state committer.birth first result.0 result.1 }
+{
+    commits_are_dealt::<D>();
+    histories_fill::<D>();
+    next_chunks_pass_limits_of_all::<D>();
+    let (disk, book) = committer.finish(first);
+    let _faults = disk.faults();
+    (disk, book)
+}
