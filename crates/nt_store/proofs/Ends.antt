@@ -1,0 +1,243 @@
+-- What is left of a host once the disk of a file is back.
+use Rattle.std.proofs.Common.{◌≡◌, ◌≢◌, ◌∙◌, inl, inr, ap, sym, subst, refl, ℕ, List, [], ◌∷◌, ◌++◌, length, Option, Some, Result, Ok, Err}
+use Rattle.std.proofs.Common.{arith, length-append}
+use Rattle.std.proofs.lemmas.List.{append-nil}
+use Rattle.std.specs.Option.{option_map}
+use Rattle.std.proofs.lemmas.Map.Lookups.{exact_bytes}
+use Rattle.std.specs.Prelude.{IsErrOf}
+use Rattle.std.specs.FinMap as map
+use Rattle.std.specs.FinMap.{gets}
+use Rattle.nt_types.specs.ShapeData.{MemberData}
+use Rattle.nt_outside.specs.declared.fault.Refused.{Refused}
+use Rattle.nt_outside.specs.declared.fault.Refused.TheVariants as refused
+use Rattle.nt_outside.specs.declared.stream.Stream.TheVariants.{ToOut}
+use Rattle.nt_outside.specs.Log.{Step}
+use Rattle.nt_outside.specs.Held.{Held, nothing_held}
+use Rattle.nt_outside.specs.Order.{BeginsOpen}
+use Rattle.nt_outside.specs.World.{World, Files, Stored, file, creates, keeps_disk, prints}
+use Rattle.nt_book.specs.declared.params.Params.{Params}
+use Rattle.nt_store.specs.declared.error.StoreError.{StoreError}
+use Rattle.nt_store.specs.declared.error.StoreError.TheVariants.{Outside, Memory, Schema, Line, Limit}
+use Rattle.nt_store.specs.Errors.{error_of_refusal, IsRefusal}
+use Rattle.nt_store.specs.Orders.{order_line, GainsOrderFront}
+use Rattle.nt_store.specs.Schemas.{TellsSchema}
+use Rattle.nt_store.specs.Texts.{AreTexts}
+use Rattle.nt_store.specs.Worlds.{IsThereWith, OthersStay, IsLeftOpen, IsNeverBegun, IsWrittenInOrder, WritesInOrder}
+use Rattle.nt_store.specs.Stored.{StoresWhole, StoreTold}
+use Rattle.nt_store.specs.Writing.{NeverBegan, EndsWhole, FileTold, IsInOrderFrom}
+
+-- a disk that came back is found under its name
+stored_kept : (files : Files) (name : List ℕ) (s : Stored) → map.get (map.insert files name s) name ≡ Some s
+stored_kept files name s = grind (arith, gets)
+
+-- and leaves every other
+stored_other : (files : Files) (name other : List ℕ) (s : Stored) → other ≢ name
+    → map.get (map.insert files name s) other ≡ map.get files other
+stored_other files name other s differs = grind (arith, gets, differs, exact_bytes other name)
+
+there : (P : List ℕ → Type 0) (found : Option (List ℕ)) (bytes : List ℕ) → found ≡ Some bytes → P bytes → IsThereWith P found
+there P found bytes is has = subst (IsThereWith P) (sym is) has
+
+file_kept : (out : List ℕ) (h : Held) (v : World) → file (keeps_disk out h v) out ≡ Some h.image
+file_kept out h v =
+    ap (λ (o : Option Stored). option_map (λ (s : Stored). s.bytes) o) (stored_kept v.files out (record {
+      bytes = h.image;
+      log = Some
+          h.log;
+    }))
+
+kept_open : (out : List ℕ) (h : Held) (v : World) → BeginsOpen h.image → IsLeftOpen out (keeps_disk out h v)
+kept_open out h v begins = there BeginsOpen (file (keeps_disk out h v) out) h.image (file_kept out h v) begins
+
+kept_never_begun : (out : List ℕ) (h : Held) (v : World) → NeverBegan h → IsNeverBegun out (keeps_disk out h v)
+kept_never_begun out h v began = record {
+  at = record { bytes = h.image; log = Some h.log };
+  len = began.0;
+  there = stored_kept v.files out (record { bytes = h.image; log = Some h.log });
+  log = ap (λ (l : List Step). Some l) began.1;
+}
+
+others_kept : (out : List ℕ) (h : Held) (v : World) → OthersStay out v (keeps_disk out h v)
+others_kept out h v other differs = stored_other v.files out other (record { bytes = h.image; log = Some h.log }) differs
+
+-- a disk comes back under the name that it was made for
+abbrev pub ComesBack : Option World → Option World → Option Held → Type 0
+ComesBack world world' held = (name : List ℕ) (h : Held) (v : World) → world ≡ Some v → v.creating ≡ Some name → held ≡ Some h
+    → world' ≡ Some (keeps_disk name h v)
+
+-- what is left once the disk is back
+abbrev pub IsBack : List ℕ → List ℕ → List (List ℕ) → Params → World → Option World → Result Unit StoreError → Type 0
+IsBack out schema inputs p w world result =
+    (w' : World) × (world ≡ Some w') × (w'.err ≡ w.err) × OthersStay out w w' × StoreTold out schema inputs p w w' result
+
+module _ (out schema : List ℕ) (inputs : List (List ℕ)) (p : Params) (fields : List MemberData) (texts : List (List ℕ)) (w : World) (are
+    : AreTexts w schema inputs fields texts) where
+  -- the world once the disk is back, so much being printed
+  abbrev after : List ℕ → Held → World
+  after printed h = keeps_disk out h (prints ToOut printed (creates out w))
+
+  others : (printed : List ℕ) (h : Held) → OthersStay out w (after printed h)
+  others printed h = others_kept out h (prints ToOut printed (creates out w))
+
+  gains : (order printed left : List ℕ) (h : Held) → order_line order ≡ printed ++ left → GainsOrderFront w (after printed h)
+  gains order printed left h line = record { order = order; printed = printed; left = left; out = refl; line = line }
+
+  opens : (printed : List ℕ) (h : Held) → BeginsOpen h.image → IsLeftOpen out (after printed h)
+  opens printed h begins = kept_open out h (prints ToOut printed (creates out w)) begins
+
+  module _ (world world' : Option World) (held : Option Held) (keeps : ComesBack world world' held) where
+    whole : (ends : EndsWhole fields p texts (creates out w) world held)
+        → StoresWhole out schema inputs p w (after (order_line ends.order) ends.file.0)
+    whole ends = record {
+      fields = fields;
+      texts = texts;
+      are = are;
+      made = refl;
+      bytes = ends.file.0.image;
+      file_is = file_kept out ends.file.0 (prints ToOut (order_line ends.order) (creates out w));
+      order = ends.order;
+      stored = ends.file.2;
+      printed = refl;
+    }
+
+    -- what the writing of a file leaves
+    pub out_told : (result : Result Unit StoreError) → FileTold fields p texts (creates out w) world held result
+        → IsBack out schema inputs p w world' result
+    out_told (Ok value) ends = (
+      after (order_line ends.order) ends.file.0,
+      keeps out ends.file.0 _ ends.printed refl ends.file.1,
+      refl,
+      others (order_line
+          ends.order) ends.file.0,
+      whole ends,
+    )
+    out_told (Err Outside) (inr ends) = (
+      after (order_line ends.order) ends.file.0,
+      keeps out ends.file.0 _ ends.printed refl ends.file.1,
+      refl,
+      others (order_line
+          ends.order) ends.file.0,
+      inr (whole ends),
+    )
+    out_told (Err Outside) (inl ((order, printed, left, world-is, line), (h, held-is, inl begins))) = (
+      after printed h,
+      keeps out h _ world-is refl held-is,
+      refl,
+      others printed h,
+      inl (inr (refl, inl (opens printed h begins)), gains order printed left h line),
+    )
+    out_told (Err Outside) (inl ((order, printed, left, world-is, line), (h, held-is, inr began))) = (
+      after printed h,
+      keeps out h _ world-is refl held-is,
+      refl,
+      others printed h,
+      inl (inr (refl, inr (kept_never_begun out h (prints ToOut printed (creates out w)) began)), gains order printed left h line),
+    )
+    out_told (Err Memory) ((order, printed, left, world-is, line), (h, held-is, begins)) = (
+      after printed h,
+      keeps out h _ world-is refl held-is,
+      refl,
+      others printed h,
+      (inr (refl, opens printed h begins), gains order printed left h line),
+    )
+    out_told (Err (Limit reached most)) (passes, (order, printed, left, world-is, line), (h, held-is, begins)) = (
+      after printed h,
+      keeps out h _ world-is refl held-is,
+      refl,
+      others printed h,
+      (
+        record { fields = fields; texts = texts; are = are; table = passes.table; rows = passes.rows; over = passes.over },
+        (refl, opens printed h begins),
+        gains order printed left h line,
+      ),
+    )
+    out_told (Err (Line input line kind)) (first, world-is, (h, held-is, begins)) = (
+      keeps_disk out h (creates out w),
+      keeps out h _ world-is refl held-is,
+      refl,
+      others_kept out h (creates out w),
+      (record { fields = fields; texts = texts; are = are; first = first }, (refl, kept_open out h (creates out w) begins), refl),
+    )
+    out_told (Err (Schema line kind)) told = absurd told
+
+    -- the name whose disk is out
+    left_world : (result : Result Unit StoreError) → FileTold fields p texts (creates out w) world held result
+        → (u : World) × (world ≡ Some u) × (u.creating ≡ Some out)
+    left_world (Ok value) ends = (_, ends.printed, refl)
+    left_world (Err Outside) (inr ends) = (_, ends.printed, refl)
+    left_world (Err Outside) (inl ((order, printed, left, world-is, line), some)) = (_, world-is, refl)
+    left_world (Err Memory) ((order, printed, left, world-is, line), some) = (_, world-is, refl)
+    left_world (Err (Limit reached most)) (passes, (order, printed, left, world-is, line), some) = (_, world-is, refl)
+    left_world (Err (Line input line kind)) (first, world-is, some) = (_, world-is, refl)
+    left_world (Err (Schema line kind)) told = absurd told
+
+    -- the file was written in order
+    pub back_in_order : (old : Option World) (disk : Option Held) (result : Result Unit StoreError) → disk ≡ Some nothing_held
+        → IsInOrderFrom nothing_held disk held
+        → FileTold fields p texts (creates out w) world held result → WritesInOrder out old world'
+    back_in_order old disk result empty order told v v' is is' made =
+        let left = left_world result told in
+        let kept = order empty in
+        let same : keeps_disk out kept.0 left.0 ≡ v' = some_is _ _ (sym (keeps out kept.0 left.0 left.1 left.2 kept.1) ∙ is') in
+        subst (IsWrittenInOrder out) same (record {
+          at = record { bytes = kept.0.image; log = Some kept.0.log };
+          log = kept.0.log;
+          there = stored_kept left.0.files out (record { bytes = kept.0.image; log = Some kept.0.log });
+          steps = refl;
+          order = kept.2;
+        })
+      where
+        some_is : (a b : World) → ◌≡◌ {A = Option World} (Some a) (Some b) → a ≡ b
+        some_is a b e = cc
+
+world_is : (a b : World) → ◌≡◌ {A = Option World} (Some a) (Some b) → a ≡ b
+world_is a b e = cc
+
+-- where nothing changed no disk was made
+pub nothing_made : (name : List ℕ) (old new : Option World) → new ≡ old → WritesInOrder name old new
+nothing_made name old new stays w w' is is' made =
+    let same : w ≡ w' = world_is w w' (sym is ∙ (sym stays ∙ is')) in
+    let none : w'.created ≡ w'.created ++ name ∷ [] = subst (λ (v : World). w'.created ≡ v.created ++ name ∷ []) same made in
+    absurd (omega (arith, ap (λ (l : List (List ℕ)). length l) none, length-append w'.created (name ∷ [])))
+
+-- nothing is printed
+gains_none : (w : World) → GainsOrderFront w w
+gains_none w = record { order = []; printed = []; left = order_line []; out = sym (append-nil w.out); line = refl }
+
+refused_as : (out schema : List ℕ) (inputs : List (List ℕ)) (p : Params) (w : World) (e : StoreError) → IsRefusal e
+    → StoreTold out schema inputs p w w (Err e)
+refused_as out schema inputs p w Outside is = inl (inl (refl, refl), gains_none w)
+refused_as out schema inputs p w Memory is = (inl (refl, refl), gains_none w)
+refused_as out schema inputs p w (Schema line kind) is = absurd is
+refused_as out schema inputs p w (Line input line kind) is = absurd is
+refused_as out schema inputs p w (Limit reached most) is = absurd is
+
+-- a refusal before there is a disk leaves all as it was
+pub refused_told : (out schema : List ℕ) (inputs : List (List ℕ)) (p : Params) (w : World) (world : Option World) (e : StoreError)
+    → IsRefusal e → world ≡ Some w → IsBack out schema inputs p w world (Err e)
+refused_told out schema inputs p w world e is same = (w, same, refl, λ other differs. refl, refused_as out schema inputs p w e is)
+
+schema_as : (out schema : List ℕ) (inputs : List (List ℕ)) (p : Params) (w : World) (e : StoreError)
+    → TellsSchema (file w schema) (Err e) → StoreTold out schema inputs p w w (Err e)
+schema_as out schema inputs p w Outside told = inl (inl (refl, refl), gains_none w)
+schema_as out schema inputs p w Memory told = (inl (refl, refl), gains_none w)
+schema_as out schema inputs p w (Schema line kind) told = (told, (refl, refl), refl)
+schema_as out schema inputs p w (Line input line kind) told = absurd told
+schema_as out schema inputs p w (Limit reached most) told = absurd told
+
+-- and so does a schema text without fields
+pub schema_told : (out schema : List ℕ) (inputs : List (List ℕ)) (p : Params) (w : World) (world : Option World) (e : StoreError)
+    → TellsSchema (file w schema) (Err e) → world ≡ Some w
+    → IsBack out schema inputs p w world (Err e)
+schema_told out schema inputs p w world e told same = (w, same, refl, λ other differs. refl, schema_as out schema inputs p w e told)
+
+-- the outside's refusals
+pub refusal_is : (r : Refused) → IsRefusal (error_of_refusal r)
+refusal_is refused.Failed = tt
+refusal_is refused.Memory = tt
+
+-- and they fail where it failed
+pub refused_outside : {T : Type 0} (r : Refused) (e : StoreError) → e ≡ error_of_refusal r → IsErrOf {T = Unit} (Err e) Outside
+    → IsErrOf {T = T} (Err r) refused.Failed
+refused_outside refused.Failed e is outside = refl
+refused_outside refused.Memory e is outside = absurd (cc (is, outside))

@@ -1,0 +1,220 @@
+-- What the writing of a file leaves on its disk, by what its parts say.
+use Rattle.std.proofs.Common.{◌≡◌, ◌⊎◌, ◌∙◌, inl, inr, sym, subst, refl, ℕ, ◌<◌, List, [], ◌∷◌, ◌++◌, Option, Some, None, Result, Ok, Err}
+use Rattle.std.proofs.Common.{arith}
+use Rattle.std.specs.List.{concat}
+use Rattle.nt_types.specs.ShapeData.{MemberData}
+use Rattle.nt_types.specs.Rules.{AreFields}
+use Rattle.nt_outside.specs.Faults.{Rose}
+use Rattle.nt_outside.specs.Held.{Held, BecomesSome, nothing_held}
+use Rattle.nt_outside.specs.Disk.{DiskState}
+use Rattle.nt_outside.specs.Order.{FirstByteLast}
+use Rattle.nt_outside.specs.Source.{SourceState}
+use Rattle.nt_outside.specs.World.{World}
+use Rattle.nt_grammar.specs.Table.{Table}
+use Rattle.nt_grammar.specs.Rows.{Rows}
+use Rattle.nt_book.specs.declared.params.Params.{Params}
+use Rattle.nt_book.specs.declared.limits.LimitError.TheVariants as limit
+use Rattle.nt_book.specs.Books.{BookData}
+use Rattle.nt_book.specs.Kept.{IsBookKept}
+use Rattle.nt_layout.specs.Headers.{header_blob, file_begun}
+use Rattle.nt_close.specs.declared.error.BeginError.{BeginError}
+use Rattle.nt_close.specs.declared.error.BeginError.TheVariants as begin
+use Rattle.nt_close.specs.Beginning.{new_book, IsNotBegun}
+use Rattle.nt_close.specs.Passing.{passed_by_begin}
+use Rattle.nt_close.specs.Steps.{begun_whole}
+use Rattle.nt_close.specs.Laws.{IsShut}
+use Rattle.nt_close.proofs.FirstByte.{begins_shut, begins_in_order}
+use Rattle.nt_dealing.specs.Dealt.{IsDealtOut, FillsBehind, commit_order}
+use Rattle.nt_dealing.specs.Texts.{AreSound, chunks_of, all_chunks}
+use Rattle.nt_contexts.specs.declared.error.RunError.{RunError}
+use Rattle.nt_contexts.specs.declared.error.RunError.TheVariants as run
+use Rattle.nt_contexts.specs.Contexts.{IsBookOn, SomeRose, ContextsTold}
+use Rattle.nt_store.specs.declared.error.StoreError.{StoreError}
+use Rattle.nt_store.specs.declared.error.StoreError.TheVariants.{Outside, Memory, Schema, Line, Limit}
+use Rattle.nt_store.specs.Errors.{error_of_begin, error_of_run}
+use Rattle.nt_store.specs.Worlds.{SomeFailed}
+use Rattle.nt_store.specs.Writing.{as_begun, FinishTold, FileTold, EndsWhole, IsInOrderFrom}
+use Rattle.nt_store.specs.Laws.{HoldsChunks, RangesAreAsLong, FinishedAreStored, PassedAreOver}
+use Rattle.nt_store.proofs.Begun.{begun_known, shut_open, filled_shut, filled_order}
+use Rattle.nt_store.proofs.Finishing.{none_printed, whole_printed}
+use Rattle.nt_store.proofs.Passing.{begun_over}
+
+-- what the contexts left on the disk of a file that was begun: its first byte is 0
+pub record IsFilledShut (t : Table) (held : Option Held) : Type 0 where
+  pub h : Held
+  pub is : held ≡ Some h
+  pub shut : IsShut h.image
+  pub order : FirstByteLast h.log
+
+begun_order : (t : Table) → FirstByteLast (as_begun t).log
+begun_order t = begins_in_order (header_blob t) (as_begun t) (begun_whole refl)
+
+pub filled_from : (t : Table) (begin : ℕ) (old new : Option Held) → 0 < begin → old ≡ Some (as_begun t)
+    → BecomesSome old new (FillsBehind begin) → IsFilledShut t new
+filled_from t begin old new some is fills =
+    let left = fills (as_begun t) is in
+    record {
+      h = left.0;
+      is = left.1;
+      shut = filled_shut t begin left.0 left.2;
+      order = filled_order begin (as_begun t) left.0 some left.2 (begun_order t);
+    }
+
+-- why contexts end early
+pub run_told : (e : RunError) (t : Table) (fields : List MemberData) (p : Params) (texts : List (List ℕ)) (disk disk' : DiskState) (book
+    : BookData) (w : World) (new : Option World)
+    → Rows fields p.plain t → ContextsTold t fields p texts disk disk' book (Err e) → IsFilledShut t disk'.held → new ≡ Some w
+    → FileTold fields p texts w new disk'.held (Err (error_of_run e))
+run_told run.Outside t fields p texts disk disk' book w new rows told filled is =
+    inl (none_printed w new is, (filled.h, filled.is, inl (shut_open filled.h.image filled.shut)))
+run_told run.Memory t fields p texts disk disk' book w new rows told filled is =
+    (none_printed w new is, (filled.h, filled.is, shut_open filled.h.image filled.shut))
+run_told (run.Line input line kind) t fields p texts disk disk' book w new rows told filled is =
+    (told, is, (filled.h, filled.is, shut_open filled.h.image filled.shut))
+run_told (run.Limit reached most) t fields p texts disk disk' book w new rows told filled is =
+    (record { table = t; rows = rows; over = told }, none_printed w new is, (filled.h, filled.is, shut_open filled.h.image filled.shut))
+
+-- the same of an answer that is one of these
+pub run_err : (r : Result Unit RunError) (e : RunError) (t : Table) (fields : List MemberData) (p : Params) (texts : List (List ℕ)) (disk
+    disk' : DiskState) (book : BookData) (w : World)
+    (new : Option World) → r ≡ Err e → Rows fields p.plain t → ContextsTold t fields p texts disk disk' book r
+    → IsFilledShut t disk'.held → new ≡ Some w
+    → FileTold fields p texts w new disk'.held (Err (error_of_run e))
+run_err r e t fields p texts disk disk' book w new is rows told filled same =
+    run_told e t fields p texts disk disk' book w new rows (subst (λ (o : Result Unit RunError). ContextsTold t fields p texts disk disk'
+    book o) is told) filled same
+
+pub run_ok : (r : Result Unit RunError) (t : Table) (fields : List MemberData) (p : Params) (texts : List (List ℕ)) (disk disk' :
+    DiskState) (book : BookData) → r ≡ Ok tt
+    → ContextsTold t fields p texts disk disk' book r
+    → AreSound fields texts × IsDealtOut t p.page (chunks_of p.cluster fields texts) book disk.held disk'.held
+run_ok r t fields p texts disk disk' book is told = subst (λ (o : Result Unit RunError). ContextsTold t fields p texts disk disk' book o)
+    is told
+
+-- an early end of contexts is a failure only where one of them failed
+run_outside : (e : RunError) → error_of_run e ≡ Outside → ◌≡◌ {A = Result Unit RunError} (Err e) (Err run.Outside)
+run_outside run.Outside is = refl
+run_outside run.Memory is = absurd (cc is)
+run_outside (run.Line input line kind) is = absurd (cc is)
+run_outside (run.Limit reached most) is = absurd (cc is)
+
+pub rose_failed : (old new : List SourceState) → SomeRose old new → SomeFailed new
+rose_failed [] [] rose = absurd rose
+rose_failed [] (s ∷ new) rose = absurd rose
+rose_failed (s ∷ old) [] rose = absurd rose
+rose_failed (s ∷ old) (s' ∷ new) (inl rose) = inl (omega (arith, rose))
+rose_failed (s ∷ old) (s' ∷ new) (inr rose) = inr (rose_failed old new rose)
+
+-- the chunks were dealt out on the disk of a file that was begun
+pub record IsDealtShut (fields : List MemberData) (p : Params) (texts : List (List ℕ)) (t : Table) (book : BookData) (h : Held) : Type 0
+  where
+    pub ranges : List (List ℕ)
+    pub holds : HoldsChunks fields p texts t book ranges
+    pub image : h.image ≡ file_begun t ++ concat ranges
+
+pub dealt_from : (fields : List MemberData) (p : Params) (texts : List (List ℕ)) (t : Table) (book : BookData) (old new : Option Held) (h
+    : Held) → AreFields fields → Rows fields p.plain t
+    → passed_by_begin p.limits t ≡ None → IsBookKept book → IsBookOn (new_book t p.limits) book → AreSound fields texts
+    → IsDealtOut t p.page (chunks_of p.cluster fields texts) book old new → old ≡ Some (as_begun t) → new ≡ Some h
+    → IsDealtShut fields p texts t book h
+dealt_from fields p texts t book old new h rules rows within kept book_on sound dealt begun is =
+    let left = dealt.stand (as_begun t) begun in
+    let same : left.0 ≡ h = held_is left.0 h (sym left.1 ∙ is) in
+    record {
+      ranges = dealt.ranges;
+      holds = record { rules = rules; rows = rows; within = within; kept = kept; book_on = book_on; sound = sound; are = dealt.are };
+      image = subst (λ (k : Held). k.image ≡ file_begun t ++ concat dealt.ranges) same (left.2.stand (begun_known t));
+    }
+  where
+    held_is : (a b : Held) → ◌≡◌ {A = Option Held} (Some a) (Some b) → a ≡ b
+    held_is a b e = cc
+
+module _ (long : RangesAreAsLong) (stored : FinishedAreStored) (over : PassedAreOver) where
+  module _ (fields : List MemberData) (p : Params) (texts : List (List ℕ)) (t : Table) (book : BookData) (w : World) (new : Option World)
+      (h : Held) (held : Option Held)
+      (dealt : IsDealtShut fields p texts t book h) (shut : IsShut h.image) where
+    ends_whole : FinishTold t p book w new (Some h) held (Ok tt) → EndsWhole fields p texts w new held
+    ends_whole told =
+        let left = told.1 dealt.ranges (long fields p texts t book dealt.ranges dealt.holds) h refl dealt.image in
+        record {
+          order = commit_order book;
+          file = (left.0, left.1, stored fields p texts t book dealt.ranges left.0.image dealt.holds told.2 left.2);
+          printed = told.0;
+        }
+
+    -- what the end of the file leaves
+    pub finish_told : (result : Result Unit StoreError) → FinishTold t p book w new (Some h) held result
+        → FileTold fields p texts w new held result
+    finish_told (Ok value) told = ends_whole told
+    finish_told (Err Outside) (inl (front, (left, is, begins))) = inl (front, (left, is, inl begins))
+    finish_told (Err Outside) (inr told) = inr (ends_whole told)
+    finish_told (Err Memory) told = (told.0, (h, told.1, shut_open h.image shut))
+    finish_told (Err (Limit reached most)) told = (
+      record { table = t; rows = dealt.holds.rows; over = over fields p texts t book dealt.ranges reached most dealt.holds told.2 },
+      whole_printed book w new told.0,
+      (h, told.1, shut_open h.image shut),
+    )
+    finish_told (Err (Schema line kind)) told = absurd told
+    finish_told (Err (Line input line kind)) told = absurd told
+
+-- why a file isn't begun
+pub begin_told : (e : BeginError) (fields : List MemberData) (p : Params) (texts : List (List ℕ)) (old new : DiskState) (w : World)
+    (world : Option World) → IsNotBegun fields p old new e
+    → old.held ≡ Some nothing_held → world ≡ Some w → FileTold fields p texts w world new.held (Err (error_of_begin e))
+begin_told begin.Memory fields p texts old new w world left is same = (none_printed w world same, (nothing_held, left.place.held ∙ is, tt))
+begin_told (begin.RangeTooLarge len most) fields p texts old new w world left is same = (
+  record {
+    table = left.table;
+    rows = left.rows;
+    over = begun_over left.table p (all_chunks p.cluster fields texts) (limit.RangeTooLarge len most) len most left.passed_is (inl refl);
+  },
+  none_printed w world same,
+  (nothing_held, left.untouched.place.held ∙ is, tt),
+)
+begin_told (begin.FileTooLarge end most) fields p texts old new w world left is same = (
+  record {
+    table = left.table;
+    rows = left.rows;
+    over = begun_over left.table p (all_chunks p.cluster fields texts) (limit.FileTooLarge end most) end most left.passed_is (inr refl);
+  },
+  none_printed w world same,
+  (nothing_held, left.untouched.place.held ∙ is, tt),
+)
+begin_told begin.Fault fields p texts old new w world left is same =
+    let some = left.held nothing_held is in
+    inl (
+      none_printed w world same,
+      (
+        some.0,
+        some.1,
+        elim (begins_shut (header_blob left.table) some.0 some.2) [
+          | inl shut ↦ inl (shut_open some.0.image shut)
+          | inr torn ↦ inr torn
+        ],
+      ),
+    )
+
+pub begin_order : (e : BeginError) (fields : List MemberData) (p : Params) (old new : DiskState) → IsNotBegun fields p old new e
+    → IsInOrderFrom nothing_held old.held new.held
+begin_order begin.Memory fields p old new left is = (nothing_held, left.place.held ∙ is, tt)
+begin_order (begin.RangeTooLarge len most) fields p old new left is = (nothing_held, left.untouched.place.held ∙ is, tt)
+begin_order (begin.FileTooLarge end most) fields p old new left is = (nothing_held, left.untouched.place.held ∙ is, tt)
+begin_order begin.Fault fields p old new left is =
+    let some = left.held nothing_held is in
+    (some.0, some.1, begins_in_order (header_blob left.table) some.0 some.2)
+
+pub begin_fails : (e : BeginError) (fields : List MemberData) (p : Params) (old new : DiskState) → IsNotBegun fields p old new e
+    → error_of_begin e ≡ Outside → 0 < new.faults
+begin_fails begin.Memory fields p old new left is = absurd (cc is)
+begin_fails (begin.RangeTooLarge len most) fields p old new left is = absurd (cc is)
+begin_fails (begin.FileTooLarge end most) fields p old new left is = absurd (cc is)
+begin_fails begin.Fault fields p old new left is = omega (arith, left.rose)
+
+-- where contexts failed the disk has failed, or the count of the host rose as their sources came back
+pub run_fails : (r : Result Unit RunError) (e : RunError) (disk disk' old new : ℕ) (sources sources' : List SourceState) → r ≡ Err e
+    → (r ≡ Err run.Outside → Rose disk disk' ⊎ SomeRose sources sources') → (SomeFailed sources' → Rose old new)
+    → error_of_run e ≡ Outside → (0 < disk') ⊎ Rose old new
+run_fails r e disk disk' old new sources sources' is failed back outside = elim (failed (is ∙ run_outside e outside)) [
+  | inl rose ↦ inl (omega (arith, rose))
+  | inr some ↦ inr (back (rose_failed sources sources' some))
+]

@@ -1,0 +1,12 @@
+pub mod Fronts
+pub mod OrderLines
+pub mod Files
+pub mod Back
+pub mod Opening
+pub mod Begun
+pub mod Whole
+pub mod Passing
+pub mod Finishing
+pub mod Filling
+pub mod Ends
+pub mod Asking

@@ -1,0 +1,253 @@
+-- A limit that the closing of a file passes is one that its chunks pass.
+use Rattle.std.proofs.Common.{◌≡◌, ◌⊎◌, ◌∙◌, inl, inr, ap, sym, subst, refl, ℕ, zero, suc, ◌+◌, ◌<◌, ◌≤◌, Bool, true, false, List, [], ◌∷◌}
+use Rattle.std.proofs.Common.{◌++◌, length, take, drop, map, Option, Some, None, append_assoc, arith}
+use Rattle.std.specs.Prelude.{nat_lt, if◌then◌else◌, IsPermutation}
+use Rattle.std.specs.Int.{div_ceil}
+use Rattle.std.specs.List.{AllByRecursion, AllZip, range_with_len}
+use Rattle.std.proofs.lemmas.Bool.Decides.{nat_tests}
+use Rattle.std.proofs.lemmas.List.{length-take, length-map, take-append-drop, take-map, drop-map}
+use Rattle.std.proofs.lemmas.List.Sorted.{IsPermutation-append_comm, IsPermutation-append_left, IsPermutation-trans, length_permutation}
+use Rattle.nt_types.specs.ShapeData.{MemberData}
+use Rattle.nt_types.specs.TreeData.{TreesData}
+use Rattle.nt_grammar.specs.Table.{Table}
+use Rattle.nt_machine.specs.History.{Cluster}
+use Rattle.nt_book.specs.declared.meta.ClusterMeta.{ClusterMeta}
+use Rattle.nt_book.specs.declared.params.Params.{Params}
+use Rattle.nt_book.specs.declared.limits.Limits.{Limits}
+use Rattle.nt_book.specs.declared.limits.LimitError.{LimitError}
+use Rattle.nt_book.specs.declared.limits.LimitError.TheVariants as limit
+use Rattle.nt_book.specs.Books.{BookData, book_clusters}
+use Rattle.nt_book.specs.Kept.{IsBookKept}
+use Rattle.nt_layout.specs.Blobs.{blob_len}
+use Rattle.nt_layout.specs.Headers.{header_object, header_sum, clusters_place}
+use Rattle.nt_layout.specs.Groups.{ClusterSpan, cluster_span, list_len}
+use Rattle.nt_layout.specs.Finished.{spans, footer_object, file_len}
+use Rattle.nt_layout.specs.Laid.{IsBookOf}
+use Rattle.nt_finished.proofs.Spans.{AreInOrder, spans_in_order, order-le}
+use Rattle.nt_close.specs.Passing.{first_passed, passed_by_begin, passed_by_close}
+use Rattle.nt_dealing.specs.Dealt.{AreChunksDealt}
+use Rattle.nt_dealing.specs.Texts.{joined_chunks, chunks_of, all_chunks}
+use Rattle.nt_dealing.specs.Lengths.{page_list_len, group_count, footer_len, whole_len}
+use Rattle.nt_dealing.specs.Limits.{IsKeptOf, AreKeptOf, IsBlobLen, of_header, of_page_list, of_footer, IsOver, range_passed, file_passed}
+use Rattle.nt_dealing.specs.Limits.{begun_passed}
+use Rattle.nt_store.specs.Laws.{HoldsChunks, PassedAreOver}
+use Rattle.nt_store.proofs.Whole.{BooksAreOf, book_of}
+
+-- what is kept of clusters
+abbrev metas : List (Cluster ClusterMeta) → List ClusterMeta
+metas cs = map (λ (c : Cluster ClusterMeta). c.meta) cs
+
+-- the laws of lengths and of chunks that were dealt out
+abbrev pub ListsAreAsLong : Type 0
+ListsAreAsLong =
+    (sum : ℕ) (book : BookData) (s : ClusterSpan) → s.from + s.count ≤ length (book_clusters book)
+    → list_len sum book s ≡ page_list_len (metas (take s.count (drop s.from (book_clusters book))))
+
+abbrev pub FootersAreAsLong : Type 0
+FootersAreAsLong =
+    (t : Table) (book : BookData) (most : ℕ)
+    → blob_len (length (footer_object t book most)) ≡ footer_len t (group_count most (length (book_clusters book)))
+
+abbrev pub FilesAreAsLong : Type 0
+FilesAreAsLong =
+    (t : Table) (book : BookData) (most : ℕ) → IsBookOf t book → 0 < most
+    → file_len t book most ≡ whole_len t most (metas (book_clusters book))
+
+abbrev pub DealtAreAll : Type 0
+DealtAreAll =
+    (t : Table) (page most : ℕ) (chunks : List (List (List TreesData))) (book : BookData) (ranges : List (List ℕ))
+    (is : AreChunksDealt t page chunks book ranges) → IsBookKept book
+    → IsPermutation is.dealt (joined_chunks chunks) × AreKeptOf t page is.dealt (metas (book_clusters book))
+    × ((ms : List ClusterMeta) × AreKeptOf t page (joined_chunks chunks) ms × (whole_len t most ms ≡ whole_len t most (metas (book_clusters
+    book))))
+
+-- a piece of a list, and the others
+pub piece_apart : {X : Type 0} (from count : ℕ) (xs : List X)
+    → IsPermutation (take count (drop from xs) ++ (take from xs ++ drop count (drop from xs))) xs
+piece_apart from count xs =
+    let rest = drop from xs in
+    let piece = take count rest in
+    let front = take from xs in
+    let behind = drop count rest in
+    let whole : (front ++ piece) ++ behind ≡ xs =
+    append_assoc front piece behind ∙ (ap (λ l. front ++ l) (take-append-drop count rest) ∙ take-append-drop from xs) in
+    subst (λ l. IsPermutation l xs) (append_assoc piece front behind)
+    (subst (λ l. IsPermutation ((piece ++ front) ++ behind) l) whole
+    (IsPermutation-append_left behind (piece ++ front) (front ++ piece) (IsPermutation-append_comm piece front)))
+
+take_none : {X : Type 0} (n : ℕ) → ◌≡◌ {A = List X} (take n []) []
+take_none zero = refl
+take_none (suc n) = refl
+
+pub zip_take : {A B : Type 0} (R : A → B → Type 0) (n : ℕ) (xs : List A) (ys : List B) → AllZip R xs ys → AllZip R (take n xs) (take n ys)
+zip_take R zero xs ys all = tt
+zip_take R (suc n) [] [] all = tt
+zip_take R (suc n) [] (y ∷ ys) all = absurd all
+zip_take R (suc n) (x ∷ xs) [] all = absurd all
+zip_take R (suc n) (x ∷ xs) (y ∷ ys) all = (all.0, zip_take R n xs ys all.1)
+
+pub zip_drop : {A B : Type 0} (R : A → B → Type 0) (n : ℕ) (xs : List A) (ys : List B) → AllZip R xs ys → AllZip R (drop n xs) (drop n ys)
+zip_drop R zero xs ys all = all
+zip_drop R (suc n) [] [] all = tt
+zip_drop R (suc n) [] (y ∷ ys) all = absurd all
+zip_drop R (suc n) (x ∷ xs) [] all = absurd all
+zip_drop R (suc n) (x ∷ xs) (y ∷ ys) all = zip_drop R n xs ys all.1
+
+-- groups lie among the clusters, and none is too large
+inside : (k n : ℕ) (ss : List ClusterSpan) → AreInOrder k n ss → AllByRecursion (λ (s : ClusterSpan). s.from + s.count ≤ n) ss
+inside k n [] order = tt
+inside k n (s ∷ ss) order =
+    let least = order-le (k + s.count) n ss order.2 in
+    (omega (arith, order.0, least), inside (k + s.count) n ss order.2)
+
+small : (most n i m : ℕ) → AllByRecursion (λ (s : ClusterSpan). s.count ≤ most) (map (cluster_span most n) (range_with_len i m))
+small most n i zero = tt
+small most n i (suc m) = (omega arith, small most n (i + 1) m)
+
+-- the first blob of these that is passed
+record PassesBlob {X : Type 0} (f : X → ℕ) (P Q : X → Type 0) (limits : Limits) (e : LimitError) : Type 0 where
+  x : X
+  first : P x
+  second : Q x
+  above : limits.range < f x
+  is : e ≡ limit.RangeTooLarge (f x) limits.range
+
+some_is : (a b : LimitError) → ◌≡◌ {A = Option LimitError} (Some a) (Some b) → a ≡ b
+some_is a b e = cc
+
+one_blob : {X : Type 0} (f : X → ℕ) (P Q : X → Type 0) (limits : Limits) (x : X) (e : LimitError) (more : Option LimitError) (b : Bool)
+    → P x → Q x → nat_lt limits.range (f x) ≡ b
+    → (if b then Some (limit.RangeTooLarge (f x) limits.range) else more) ≡ Some e → PassesBlob f P Q limits e ⊎ (more ≡ Some e)
+one_blob f P Q limits x e more true first second above is =
+    inl (record { x = x; first = first; second = second; above = grind (arith, nat_tests, above); is = sym (some_is _ _ is) })
+one_blob f P Q limits x e more false first second above is = inr is
+
+blobs_or : {X : Type 0} (f : X → ℕ) (P Q : X → Type 0) (limits : Limits) (xs : List X) (more : List ℕ) (end : ℕ) (e : LimitError)
+    → AllByRecursion P xs → AllByRecursion Q xs
+    → first_passed limits (map f xs ++ more) end ≡ Some e → PassesBlob f P Q limits e ⊎ (first_passed limits more end ≡ Some e)
+blobs_or f P Q limits [] more end e first second is = inr is
+blobs_or f P Q limits (x ∷ xs) more end e first second is =
+    elim (one_blob f P Q limits x e (first_passed limits (map f xs ++ more) end) (nat_lt limits.range (f x)) first.0 second.0 refl is) [
+      | inl passes ↦ inl passes
+      | inr others ↦ blobs_or f P Q limits xs more end e first.1 second.1 others
+    ]
+
+ends_by : (limits : Limits) (end : ℕ) (e : LimitError) (b : Bool) → nat_lt limits.file end ≡ b
+    → (if b then Some (limit.FileTooLarge end limits.file) else None) ≡ Some e
+    → (limits.file < end) × (e ≡ limit.FileTooLarge end limits.file)
+ends_by limits end e true above is = (grind (arith, nat_tests, above), sym (some_is _ _ is))
+ends_by limits end e false above is = absurd (cc is)
+
+ends : (limits : Limits) (end : ℕ) (e : LimitError) → first_passed limits [] end ≡ Some e
+    → (limits.file < end) × (e ≡ limit.FileTooLarge end limits.file)
+ends limits end e is = ends_by limits end e (nat_lt limits.file end) refl is
+
+-- a blob is passed, or the file's end, as an error says
+abbrev pub Names : LimitError → ℕ → ℕ → Type 0
+Names e reached most = (e ≡ limit.RangeTooLarge reached most) ⊎ (e ≡ limit.FileTooLarge reached most)
+
+range_named : (e : LimitError) (reached most len range : ℕ) → Names e reached most → e ≡ limit.RangeTooLarge len range
+    → (reached ≡ len) × (most ≡ range)
+range_named e reached most len range (inl is) named = (cc, cc)
+range_named e reached most len range (inr is) named = absurd (cc)
+
+file_named : (e : LimitError) (reached most end file : ℕ) → Names e reached most → e ≡ limit.FileTooLarge end file
+    → (reached ≡ end) × (most ≡ file)
+file_named e reached most end file (inl is) named = absurd (cc)
+file_named e reached most end file (inr is) named = (cc, cc)
+
+-- a blob that is written of the chunks, above the limit
+blob_over : (t : Table) (p : Params) (chunks : List (List TreesData)) (reached most len : ℕ) → IsBlobLen t p chunks len
+    → p.limits.range < len → (reached ≡ len) × (most ≡ p.limits.range)
+    → IsOver t p chunks reached most
+blob_over t p chunks reached most len blob above (is, limit-is) =
+    range_passed (subst (IsBlobLen t p chunks) (sym is) blob) limit-is (omega (arith, above, is, limit-is))
+
+-- the limit that a beginning passes
+pub begun_over : (t : Table) (p : Params) (chunks : List (List TreesData)) (e : LimitError) (reached most : ℕ)
+    → passed_by_begin p.limits t ≡ Some e → Names e reached most → IsOver t p chunks reached most
+begun_over t p chunks e reached most passed names =
+    elim (blobs_or (λ (n : ℕ). n) (λ (n : ℕ). n ≡ blob_len (length (header_object t))) (λ (n : ℕ). Unit {0}) p.limits (blob_len (length
+    (header_object t)) ∷ []) [] (clusters_place t) e (refl, tt) (tt, tt) passed) [
+      | inl blob ↦ blob_over t p chunks reached most blob.x (of_header blob.first) blob.above (range_named e reached most blob.x
+          p.limits.range names blob.is)
+      | inr rest ↦
+          let end = ends p.limits (clusters_place t) e rest in
+          let named = file_named e reached most (clusters_place t) p.limits.file names end.1 in
+          begun_passed named.0 named.1 (omega (arith, end.0, named.0, named.1))
+    ]
+
+module _ (lists : ListsAreAsLong) (footers : FootersAreAsLong) (files : FilesAreAsLong) (dealt_all : DealtAreAll) (books : BooksAreOf) where
+  module _ (fields : List MemberData) (p : Params) (texts : List (List ℕ)) (t : Table) (book : BookData) (ranges : List (List ℕ)) (holds
+      : HoldsChunks fields p texts t book ranges) where
+    abbrev chunks : List (List TreesData)
+    chunks = all_chunks p.cluster fields texts
+
+    all-dealt : IsPermutation holds.are.dealt (joined_chunks (chunks_of p.cluster fields texts)) × AreKeptOf t p.page holds.are.dealt (metas
+        (book_clusters book))
+        × ((ms : List ClusterMeta) × AreKeptOf t p.page (joined_chunks (chunks_of p.cluster fields texts)) ms × (whole_len t p.group ms ≡
+        whole_len t p.group (metas (book_clusters book))))
+    all-dealt = dealt_all t p.page p.group (chunks_of p.cluster fields texts) book ranges holds.are holds.kept
+
+    list_written : (s : ClusterSpan) → s.from + s.count ≤ length (book_clusters book) → s.count ≤ p.group
+        → IsBlobLen t p chunks (list_len (header_sum t) book s)
+    list_written s within few =
+        let dealt = holds.are.dealt in
+        let ms = metas (book_clusters book) in
+        let same : take s.count (drop s.from ms) ≡ metas (take s.count (drop s.from (book_clusters book))) =
+        ap (λ (l : List ClusterMeta). take s.count l) (drop-map (λ (c : Cluster ClusterMeta). c.meta) s.from (book_clusters book))
+        ∙ take-map (λ (c : Cluster ClusterMeta). c.meta) s.count (drop s.from (book_clusters book)) in
+        of_page_list (take s.count (drop s.from dealt)) (take s.from dealt ++ drop s.count (drop s.from dealt)) (take s.count (drop
+        s.from ms))
+        (IsPermutation-trans _ dealt chunks (piece_apart s.from s.count dealt) all-dealt.0)
+        (omega (arith, few, length-take s.count (drop s.from dealt)))
+        (zip_take (IsKeptOf t p.page) s.count (drop s.from dealt) (drop s.from ms) (zip_drop (IsKeptOf t p.page) s.from dealt ms
+        all-dealt.1))
+        (lists (header_sum t) book s within ∙ ap page_list_len (sym same))
+
+    counts : length (book_clusters book) ≡ length chunks
+    counts =
+        omega (
+          arith,
+          length_permutation holds.are.dealt chunks all-dealt.0,
+          holds.are.is_deal.long,
+          length-map (book_clusters book) (λ
+              (c : Cluster ClusterMeta). c.context),
+        )
+
+    footer_written : IsBlobLen t p chunks (blob_len (length (footer_object t book p.group)))
+    footer_written = of_footer (footers t book p.group ∙ ap (λ (n : ℕ). footer_len t (group_count p.group n)) counts)
+
+    closed_over : (e : LimitError) (reached most : ℕ) → passed_by_close p t book ≡ Some e → Names e reached most
+        → IsOver t p chunks reached most
+    closed_over e reached most passed names =
+        let n = length (book_clusters book) in
+        let foot = blob_len (length (footer_object t book p.group)) in
+        let some : 0 < p.group = omega (arith, p.group_range.0) in
+        elim (blobs_or (list_len (header_sum t) book) (λ (s : ClusterSpan). s.from + s.count ≤ n) (λ (s : ClusterSpan). s.count ≤
+        p.group) p.limits (spans book p.group) (foot ∷ []) (file_len t book p.group) e
+        (inside 0 n (spans book p.group) (spans_in_order p.group n some)) (small p.group n 0 (div_ceil n p.group)) passed) [
+          | inl list ↦ blob_over t p chunks reached most _ (list_written list.x list.first list.second) list.above (range_named e reached
+              most _ p.limits.range names list.is)
+          | inr rest ↦ elim (blobs_or (λ (m : ℕ). m) (λ (m : ℕ). m ≡ foot) (λ (m : ℕ). Unit {0}) p.limits (foot ∷ []) [] (file_len t book
+              p.group) e (refl, tt) (tt, tt) rest) [
+                | inl blob ↦ blob_over t p chunks reached most blob.x (subst (IsBlobLen t p chunks) (sym blob.first) footer_written)
+                    blob.above (range_named e reached most blob.x p.limits.range names blob.is)
+                | inr last ↦
+                    let end = ends p.limits (file_len t book p.group) e last in
+                    let named = file_named e reached most (file_len t book p.group) p.limits.file names end.1 in
+                    let long = files t book p.group (book_of books fields p texts t book ranges holds) some in
+                    file_passed all-dealt.2.0 all-dealt.2.1 (omega (arith, named.0, long, all-dealt.2.2)) named.1 (omega (
+                      arith,
+                      end.0,
+                      named.0,
+                      named.1,
+                    ))
+              ]
+        ]
+
+  pub closing_over : PassedAreOver
+  closing_over fields p texts t book ranges reached most holds (inl is) =
+      closed_over fields p texts t book ranges holds (limit.RangeTooLarge reached most) reached most is (inl refl)
+  closing_over fields p texts t book ranges reached most holds (inr is) =
+      closed_over fields p texts t book ranges holds (limit.FileTooLarge reached most) reached most is (inr refl)

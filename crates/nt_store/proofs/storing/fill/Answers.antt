@@ -1,0 +1,59 @@
+use Rattle.std.proofs.Common.{◌∙◌, ◌<◌, ap, subst, arith}
+use Rattle.nt_types.specs.Views.{members_view}
+use Rattle.nt_book.specs.Books.{BookData}
+use Rattle.nt_layout.specs.Headers.{clusters_place}
+use Rattle.nt_contexts.specs.Contexts.{IsBookOn}
+use Rattle.nt_store.proofs.Filling.{filled_from, run_err, run_ok, run_fails, dealt_from, finish_told}
+use Rattle.nt_store.proofs.storing.fill.Goals as goal
+
+pub finish-finished-requires-clause-closable : goal.finish-finished-requires-clause-closable
+finish-finished-requires-clause-closable g c = record {
+  begin = c.run_contexts-disk.ensures.book_on.begin ∙ ap (λ (b : BookData). b.begin) c.requires.ready.book_is;
+  end = c.run_contexts-disk.ensures.end;
+  out = c.run_contexts-disk.ensures.out;
+}
+
+pub returns-in-Ok-clause-told : goal.returns-in-Ok-clause-told
+returns-in-Ok-clause-told g c w ts is tell held =
+    let run = c.run_contexts-disk.ensures in
+    let some : 0 < clusters_place c.args.schema.now = omega arith in
+    let filled = filled_from c.args.schema.now _ _ _ (omega (arith, some, c.requires.ready.end)) held run.held in
+    let told = run_ok _ c.args.schema.now _ c.args.params.now ts (g.H.Out.Disk.state c.args.disk) (g.H.Out.Disk.state
+    c.run_contexts-disk.result.disk) _ c.in-Ok.is (run.told ts tell) in
+    let dealt = dealt_from (members_view c.args.fields.now) c.args.params.now ts c.args.schema.now c.run_contexts-disk.result.book
+    (g.H.Out.Disk.state c.args.disk).held (g.H.Out.Disk.state c.run_contexts-disk.result.disk).held filled.h c.requires.ready.rules
+    c.requires.ready.rows c.requires.within c.keeps.ensures
+    (subst (λ (b : BookData). IsBookOn b c.run_contexts-disk.result.book) c.requires.ready.book_is run.book_on) told.0 told.1 held
+    filled.is in
+    finish_told c.chunks_in_files.ensures.lengths c.chunks_in_files.ensures.stored c.chunks_in_files.ensures.over _ _ ts _ _ w _ filled.h
+    _ dealt filled.shut _
+    (c.finish-finished.ensures.told w filled.h (c.put_texts.ensures.world ∙ is) filled.is filled.shut)
+
+pub returns-clause-told : goal.returns-clause-told
+returns-clause-told g c w ts is tell held =
+    let run = c.run_contexts-disk.ensures in
+    let some : 0 < clusters_place c.args.schema.now = omega arith in
+    let filled = filled_from c.args.schema.now _ _ _ (omega (arith, some, c.requires.ready.end)) held run.held in
+    rw c.from.ensures (run_err _ c.in-Err.error c.args.schema.now _ c.args.params.now ts (g.H.Out.Disk.state c.args.disk)
+    (g.H.Out.Disk.state c.run_contexts-disk.result.disk) _ w _ c.in-Err.is c.requires.ready.rows (run.told ts tell) filled
+    (c.put_texts.ensures.world ∙ is))
+
+pub returns-in-Ok-clause-order : goal.returns-in-Ok-clause-order
+returns-in-Ok-clause-order g c held =
+    let some : 0 < clusters_place c.args.schema.now = omega arith in
+    let filled = filled_from c.args.schema.now _ _ _ (omega (arith, some, c.requires.ready.end)) held c.run_contexts-disk.ensures.held in
+    let left = c.finish-finished.ensures.order filled.h filled.is in
+    (left.0, left.1, left.2 filled.shut filled.order)
+
+pub returns-clause-order : goal.returns-clause-order
+returns-clause-order g c held =
+    let some : 0 < clusters_place c.args.schema.now = omega arith in
+    let filled = filled_from c.args.schema.now _ _ _ (omega (arith, some, c.requires.ready.end)) held c.run_contexts-disk.ensures.held in
+    (filled.h, filled.is, filled.order)
+
+pub returns-clause-cause : goal.returns-clause-cause
+returns-clause-cause g c = record {
+  later = c.put_texts.ensures.later;
+  failed = λ is. run_fails _ c.in-Err.error _ _ _ _ _ _ c.in-Err.is c.run_contexts-disk.ensures.failed c.put_texts.ensures.failed (cc
+      (c.from.ensures, is));
+}

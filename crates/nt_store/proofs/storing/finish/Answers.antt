@@ -1,0 +1,68 @@
+use Rattle.std.proofs.Common.{◌∙◌, ap, inl, arith}
+use Rattle.std.proofs.lemmas.Result.{err_from_is_err_and}
+use Rattle.nt_dealing.specs.Dealt.{commit_order}
+use Rattle.nt_store.specs.Orders.{order_line}
+use Rattle.nt_store.proofs.Begun.{shut_open}
+use Rattle.nt_store.proofs.Finishing.{none_printed, front_printed, line_printed, close_told, close_order, close_fails, told_becomes}
+use Rattle.nt_store.proofs.storing.finish.Goals as goal
+
+pub returns-in_err-order-clause-told : goal.returns-in_err-order-clause-told
+returns-in_err-order-clause-told g c w h is held shut =
+    let p = err_from_is_err_and c.from_residual.result c.from_residual.ensures.1 in
+    rw (p.1, p.2) (none_printed w _ is, held)
+
+pub returns-in_err-line-clause-told : goal.returns-in_err-line-clause-told
+returns-in_err-line-clause-told g c w h is held shut =
+    let p = err_from_is_err_and c.from_residual-in_err-line.result c.from_residual-in_err-line.ensures.1 in
+    rw (p.1, p.2) (none_printed w _ is, held)
+
+pub returns-in_err-print_all-clause-told : goal.returns-in_err-print_all-clause-told
+returns-in_err-print_all-clause-told g c w h is held shut =
+    let p = err_from_is_err_and c.from_residual-in_err-print_all.result c.from_residual-in_err-print_all.ensures.1 in
+    let front = c.print_all.ensures.front w is in
+    let line = c.deref-2.ensures.value ∙ (c.in_ok-line.ensures ∙ ap order_line (c.deref.ensures.value ∙ c.in_ok-order.ensures)) in
+    rw (p.1, p.2) (inl (
+      front_printed (commit_order c.args.book.now) c.deref-2.result.now front.0 w _ line front.2,
+      (
+        h,
+        held,
+        shut_open
+            h.image shut,
+      ),
+    ))
+
+pub returns-in_err-close-clause-told : goal.returns-in_err-close-clause-told
+returns-in_err-close-clause-told g c w h is held shut =
+    let p = err_from_is_err_and c.from_residual-in_err-close.result c.from_residual-in_err-close.ensures.1 in
+    let line = c.deref-2.ensures.value ∙ (c.in_ok-line.ensures ∙ ap order_line (c.deref.ensures.value ∙ c.in_ok-order.ensures)) in
+    rw (p.1, p.2) (close_told c.args.schema.now c.args.params.now c.args.book.now c.requires.closable.begin c.in_err-close.field-0.0 w _ h
+    (g.H.Out.Disk.state c.args.disk.now) (g.H.Out.Disk.state c.close.new.disk)
+    (line_printed c.args.book.now c.deref-2.result.now w _ line (c.in_ok-print_all.ensures.ok w is)) held shut c.requires.unspoiled
+    c.in_err-close.ensures.cause c.in_err-close.ensures.left)
+
+pub returns-clause-told : goal.returns-clause-told
+returns-clause-told g c w h is held shut =
+    let line = c.deref-2.ensures.value ∙ (c.in_ok-line.ensures ∙ ap order_line (c.deref.ensures.value ∙ c.in_ok-order.ensures)) in (
+      line_printed c.args.book.now c.deref-2.result.now w _ line (c.in_ok-print_all.ensures.ok w is),
+      told_becomes c.args.schema.now c.args.book.now c.args.params.now.group _ _ h held c.in_ok-close.ensures.finished,
+      c.in_ok-close.ensures.within,
+    )
+
+pub returns-in_err-close-clause-order : goal.returns-in_err-close-clause-order
+returns-in_err-close-clause-order g c =
+    close_order _ _ (g.H.Out.Disk.state c.args.disk.now) (g.H.Out.Disk.state c.close.new.disk) _ (λ h is. (g.met.H.Out.Disk.told
+    c.args.disk.now h is).1) c.close.ensures.left
+
+pub returns-clause-order : goal.returns-clause-order
+returns-clause-order g c =
+    close_order _ _ (g.H.Out.Disk.state c.args.disk.now) (g.H.Out.Disk.state c.close.new.disk) _ (λ h is. (g.met.H.Out.Disk.told
+    c.args.disk.now h is).1) c.close.ensures.left
+
+pub returns-in_err-close-clause-cause : goal.returns-in_err-close-clause-cause
+returns-in_err-close-clause-cause g c =
+    let p = err_from_is_err_and c.from_residual-in_err-close.result c.from_residual-in_err-close.ensures.1 in
+    record {
+      later = omega (arith, c.print_all.ensures.cause.later);
+      failed = λ is. inl (close_fails c.args.book.now _ _ _ (g.H.Out.Disk.state c.args.disk.now) (g.H.Out.Disk.state c.close.new.disk)
+          c.in_err-close.field-0.0 c.requires.unspoiled c.in_err-close.ensures.cause c.in_err-close.ensures.left (cc (p.1, p.2, is)));
+    }

@@ -1,0 +1,51 @@
+-- What the laws of files say of one whose clusters are the chunks of texts.
+use Rattle.std.specs.Prelude.{◌≡◌, ℕ, List, None}
+use Rattle.nt_types.specs.ShapeData.{MemberData}
+use Rattle.nt_types.specs.Rules.{AreFields}
+use Rattle.nt_grammar.specs.Table.{Table}
+use Rattle.nt_grammar.specs.Rows.{Rows}
+use Rattle.nt_book.specs.declared.params.Params.{Params}
+use Rattle.nt_book.specs.Books.{BookData}
+use Rattle.nt_book.specs.Kept.{IsBookKept}
+use Rattle.nt_layout.specs.Finished.{finished}
+use Rattle.nt_close.specs.Beginning.{new_book}
+use Rattle.nt_close.specs.Passing.{passed_by_begin, passed_by_close}
+use Rattle.nt_close.specs.Closing.{AreRangesOf, StaysWithin}
+use Rattle.nt_dealing.specs.Dealt.{AreChunksDealt, commit_order}
+use Rattle.nt_dealing.specs.Texts.{AreSound, chunks_of, all_chunks}
+use Rattle.nt_dealing.specs.Limits.{IsOver}
+use Rattle.nt_contexts.specs.Contexts.{IsBookOn}
+use Rattle.nt_store.specs.Stored.{IsStored}
+use Rattle.nt_store.specs.Writing.{IsPassedAs}
+
+-- a file was begun for these fields, and its clusters are the chunks of sound texts, dealt out
+pub record HoldsChunks (fields : List MemberData) (p : Params) (texts : List (List ℕ)) (t : Table) (book : BookData) (ranges : List (List
+    ℕ)) : Type 0 where
+  pub rules : AreFields fields
+  pub rows : Rows fields p.plain t
+  pub within : passed_by_begin p.limits t ≡ None
+  pub kept : IsBookKept book
+  pub book_on : IsBookOn (new_book t p.limits) book
+  pub sound : AreSound fields texts
+  pub are : AreChunksDealt t p.page (chunks_of p.cluster fields texts) book ranges
+
+-- its ranges are as long as the book says
+abbrev pub RangesAreAsLong : Type 0
+RangesAreAsLong =
+    (fields : List MemberData) (p : Params) (texts : List (List ℕ)) (t : Table) (book : BookData) (ranges : List (List ℕ))
+    → HoldsChunks fields p texts t book ranges → AreRangesOf book ranges
+
+-- once it is finished, within the limits, it is stored
+abbrev pub FinishedAreStored : Type 0
+FinishedAreStored =
+    (fields : List MemberData) (p : Params) (texts : List (List ℕ)) (t : Table) (book : BookData) (ranges : List (List ℕ)) (bytes : List ℕ)
+    → HoldsChunks fields p texts t book ranges → StaysWithin t p book → bytes ≡ finished t book p.group ranges
+    → IsStored p fields texts (commit_order book) bytes
+
+-- a limit that its closing passes is one that its chunks pass
+abbrev pub PassedAreOver : Type 0
+PassedAreOver =
+    (fields : List MemberData) (p : Params) (texts : List (List ℕ)) (t : Table) (book : BookData) (ranges : List (List ℕ)) (reached most
+    : ℕ)
+    → HoldsChunks fields p texts t book ranges → IsPassedAs (passed_by_close p t book) reached most
+    → IsOver t p (all_chunks p.cluster fields texts) reached most

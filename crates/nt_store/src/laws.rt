@@ -1,0 +1,38 @@
+//! What the laws of the crates below say together of a file that is written.
+
+ghost use Rattle.nt_store.specs.Laws.{RangesAreAsLong, FinishedAreStored, PassedAreOver};
+
+use nt_dealing::{dealt_chunks_are_all_chunks, files_are_as_long_as_their_clusters_say};
+use nt_finished::{
+    books_of_fields_are_of_their_schema, files_of_fields_mean_their_entries,
+    finished_files_are_as_long,
+};
+
+/// Where the clusters are the chunks of texts, dealt out, the ranges are as long as the book says, and the finished file is stored.
+fn finished_files_are_stored()
+    ensures lengths { RangesAreAsLong }
+    ensures stored { FinishedAreStored }
+{
+    books_of_fields_are_of_their_schema();
+    finished_files_are_as_long();
+    files_of_fields_mean_their_entries();
+}
+
+/// A limit that the closing of such a file passes is one that its chunks pass, in whatever order they are committed.
+fn closing_passes_limits_of_chunks()
+    ensures { PassedAreOver }
+{
+    books_of_fields_are_of_their_schema();
+    files_are_as_long_as_their_clusters_say();
+    dealt_chunks_are_all_chunks();
+}
+
+/// What holds of files whose clusters are the chunks of texts, dealt out.
+pub(crate) fn chunks_in_files()
+    ensures lengths { RangesAreAsLong }
+    ensures stored { FinishedAreStored }
+    ensures over { PassedAreOver }
+{
+    finished_files_are_stored();
+    closing_passes_limits_of_chunks();
+}

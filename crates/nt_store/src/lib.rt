@@ -1,0 +1,23 @@
+//! Writes a file from a schema text and event texts of a host: the work of the command `write`.
+//!
+//! Start at `storing.rt` (`store`). `texts.rt` reads the schema text, opens the inputs and gives them back; `orders.rt` makes the
+//! line of the commit order; `laws.rt` joins what the crates below say of finished files; `error.rt` is why a file isn't written.
+//!
+//! Words: a file is *stored* that is whole, laid out for the chunks of its texts and means them (`specs/Stored.antt`); it is *left
+//! open* where it can't pass for finished (`specs/Worlds.antt`).
+//!
+//! Proved: after `Ok` the file is stored, and out has the line of its order; a schema fault is the text's first one, a bad line the
+//! first of the lowest input, and a limit one that the chunks pass in whatever order they are committed; after these and after
+//! `Memory` the file is left open, and after `Outside` too, unless it is stored or its first append failed. The first byte is
+//! written over only when all the rest stays. `Outside` comes only where the host's count rose, and each object that was opened
+//! comes back. Nothing is only tested.
+#![tactic(auto)]
+
+mod error;
+mod laws;
+mod orders;
+mod storing;
+mod texts;
+
+pub use error::StoreError;
+pub use storing::{Names, store};

@@ -1,0 +1,196 @@
+//! A file that is written from texts.
+
+ghost use Rattle.std.specs.Prelude.{◌≡◌, ℕ, List, Some, None, length, map};
+ghost use Rattle.nt_types.specs.Views.{members_view};
+ghost use Rattle.nt_types.specs.Rules.{AreFields};
+ghost use Rattle.nt_outside.specs.Held.{Held, nothing_held};
+ghost use Rattle.nt_outside.specs.World.{World};
+ghost use Rattle.nt_close.specs.Closing.{IsClosable};
+ghost use Rattle.nt_close.specs.Spoiled.{NoneSpoiled};
+ghost use Rattle.nt_close.specs.Passing.{passed_by_begin};
+ghost use Rattle.nt_store.specs.Worlds.{LeavesOut};
+ghost use Rattle.nt_close.specs.Laws.{IsShut};
+ghost use Rattle.nt_contexts.specs.Contexts.{IsReady, TellTexts};
+ghost use Rattle.nt_book.specs.Ranges.{IsFromTo};
+ghost use Rattle.nt_store.specs.Writing.{as_begun, FinishTold, FileTold, KeepsOrder, IsInOrderFrom, FailsOnEither, IsEmptyDisk};
+ghost use Rattle.nt_store.specs.Writing.{TakesTextsBack};
+ghost use Rattle.nt_store.specs.Stored.{Stores};
+
+use crate::error::StoreError;
+use crate::laws::chunks_in_files;
+use crate::orders::order_line;
+use crate::texts::{open_texts, put_texts, read_schema};
+use nt_book::{Book, Params};
+use nt_close::{begin, close};
+use nt_contexts::{Ended, run_contexts};
+use nt_outside::{Gate, Host, Stream, print_all};
+use nt_schema::Schema;
+use nt_types::Fields;
+use std::alloc::Global;
+use std::sync::Wait;
+use std::thread::Threads;
+
+/// The names of the texts that are read, and of the file that is written.
+#[derive(Clone, Copy)]
+pub struct Names<'a> {
+    pub out: &'a str,
+    pub schema: &'a str,
+    pub inputs: &'a [&'a str],
+}
+
+/// Tells the order of the clusters on out, and then closes their file.
+fn finish<H: Host>(
+    alloc: Global,
+    host: &mut H,
+    disk: &mut H::Out,
+    book: &Book,
+    schema: &Schema,
+    params: &Params,
+) -> Result<(), StoreError>
+    requires closable { IsClosable (H.Out.state disk.old) book.now schema.now }
+    requires unspoiled { NoneSpoiled book.now }
+    ensures told { (w : World) (h : Held) → (H.state host.old).world ≡ Some w → (H.Out.state disk.old).held ≡ Some h → IsShut h.image
+        → FinishTold schema.now params.now book.now w (H.state host.new).world (Some h) (H.Out.state disk.new).held result }
+    ensures order { KeepsOrder (H.Out.state disk.old).held (H.Out.state disk.new).held }
+    ensures cause { FailsOnEither (H.Out.state disk.new) (H.state host.old) (H.state host.new) result }
+    ensures rest { LeavesOut 0 (H.state host.old) (H.state host.new) }
+    ensures asked { (H.state host.new).asked ≡ (H.state host.old).asked }
+{
+    let order = book.order(alloc)?;
+    let line = order_line(alloc, &order)?;
+    print_all(host, Stream::ToOut, &line)?;
+    close(alloc, disk, book, schema, params)?;
+    Ok(())
+}
+
+/// Runs the contexts on the disk of a file that was begun, gives the texts back, and finishes the file.
+fn fill<R, H, G>(
+    rt: &R,
+    alloc: Global,
+    host: &mut H,
+    disk: H::Out,
+    book: Book,
+    schema: &Schema,
+    fields: &Fields,
+    params: &Params,
+    texts: Vec<H::Text>,
+    gate: &G,
+) -> (H::Out, Result<(), StoreError>)
+where
+    R: Threads + Wait + Sync,
+    H: Host,
+    H::Text: Send,
+    H::Out: Send,
+    <H::Out as nt_outside::Disk>::Pen: Send,
+    <H::Out as nt_outside::Disk>::Ext: Send,
+    G: Gate + Sync,
+    requires ready { IsReady (members_view fields.now) params.now schema.now book (H.Out.state disk) (length texts.items) }
+    requires within { passed_by_begin params.now.limits schema.now ≡ None }
+    ensures told { (w : World) (ts : List (List ℕ)) → (H.state host.old).world ≡ Some w → TellTexts (map H.Text.state texts.items) ts
+        → (H.Out.state disk).held ≡ Some (as_begun schema.now)
+        → FileTold (members_view fields.now) params.now ts w (H.state host.new).world (H.Out.state result.0).held result.1 }
+    ensures order { IsInOrderFrom (as_begun schema.now) (H.Out.state disk).held (H.Out.state result.0).held }
+    ensures cause { FailsOnEither (H.Out.state result.0) (H.state host.old) (H.state host.new) result.1 }
+    ensures rest { TakesTextsBack (length texts.items) (H.state host.old) (H.state host.new) }
+{
+    let Ended {
+        disk,
+        book,
+        sources,
+        ended,
+    } = run_contexts(rt, alloc, disk, book, schema, fields, params, texts, gate);
+    put_texts(host, sources);
+    book.keeps();
+    chunks_in_files();
+    match ended {
+        Ok(()) => {
+            let mut disk = disk;
+            let finished = finish(alloc, host, &mut disk, &book, schema, params);
+            (disk, finished)
+        }
+        Err(error) => (disk, Err(StoreError::from(error))),
+    }
+}
+
+/// Writes the file of these fields and texts on an empty disk. The texts go back to the host, and the disk to the caller.
+fn write_file<R, H, G>(
+    rt: &R,
+    alloc: Global,
+    host: &mut H,
+    disk: H::Out,
+    fields: &Fields,
+    texts: Vec<H::Text>,
+    params: &Params,
+    gate: &G,
+) -> (H::Out, Result<(), StoreError>)
+where
+    R: Threads + Wait + Sync,
+    H: Host,
+    H::Text: Send,
+    H::Out: Send,
+    <H::Out as nt_outside::Disk>::Pen: Send,
+    <H::Out as nt_outside::Disk>::Ext: Send,
+    G: Gate + Sync,
+    requires fields { AreFields (members_view fields.now) }
+    requires number { IsFromTo 1 64 (length texts.items) }
+    requires empty { IsEmptyDisk (H.Out.state disk) }
+    ensures told { (w : World) (ts : List (List ℕ)) → (H.state host.old).world ≡ Some w → TellTexts (map H.Text.state texts.items) ts
+        → (H.Out.state disk).held ≡ Some nothing_held
+        → FileTold (members_view fields.now) params.now ts w (H.state host.new).world (H.Out.state result.0).held result.1 }
+    ensures order { IsInOrderFrom nothing_held (H.Out.state disk).held (H.Out.state result.0).held }
+    ensures cause { FailsOnEither (H.Out.state result.0) (H.state host.old) (H.state host.new) result.1 }
+    ensures rest { TakesTextsBack (length texts.items) (H.state host.old) (H.state host.new) }
+{
+    let mut disk = disk;
+    match begin(alloc, &mut disk, fields, params) {
+        Ok((book, schema)) => fill(
+            rt, alloc, host, disk, book, &schema, fields, params, texts, gate,
+        ),
+        Err(error) => {
+            put_texts(host, texts);
+            (disk, Err(StoreError::from(error)))
+        }
+    }
+}
+
+/// Writes a file from texts of a host: reads the schema text, opens the inputs in order, makes the disk, begins the file, runs a
+/// context for each input beside the others, tells the order of their clusters on out, and closes the file.
+///
+/// # Errors
+///
+/// `Schema` and `Line` name the first fault of a text, `Limit` a limit that the file would pass. After these and after `Memory` the
+/// file can't pass for finished. `Outside` comes only where the host's count rose.
+pub fn store<R, H, G>(
+    rt: &R,
+    alloc: Global,
+    host: &mut H,
+    names: Names<'_>,
+    params: &Params,
+    gate: &G,
+) -> Result<(), StoreError>
+where
+    R: Threads + Wait + Sync,
+    H: Host,
+    H::Text: Send,
+    H::Out: Send,
+    <H::Out as nt_outside::Disk>::Pen: Send,
+    <H::Out as nt_outside::Disk>::Ext: Send,
+    G: Gate + Sync,
+    requires { IsFromTo 1 64 (length names.inputs.now) }
+    ensures { Stores names.entry.out.now names.entry.schema.now (map (λ name. name.now) names.entry.inputs.now) params.now
+        (H.state host.old) (H.state host.new) result }
+{
+    let fields = read_schema(alloc, host, names.schema)?;
+    let texts = open_texts(alloc, host, names.inputs)?;
+    match host.create(names.out) {
+        Ok(disk) => {
+            let (disk, written) = write_file(rt, alloc, host, disk, &fields, texts, params, gate);
+            host.put_disk(disk);
+            written
+        }
+        Err(refused) => {
+            put_texts(host, texts);
+            Err(StoreError::from(refused))
+        }
+    }
+}
