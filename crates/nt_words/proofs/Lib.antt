@@ -1,0 +1,5 @@
+pub mod Kept
+pub mod Found
+pub mod Numbers
+pub mod Spoken
+pub mod Single

@@ -1,0 +1,76 @@
+-- Words say at most one command.
+use Rattle.std.proofs.Common.{◌≡◌, ◌∙◌, ap, sym, subst, refl, ℕ, ◌≤◌, ◌^◌, Bool, List, codes, Option, Some, None}
+use Rattle.std.specs.Coded.{×_prop, le_prop}
+use Rattle.nt_book.specs.declared.limits.Limits.{Limits}
+use Rattle.nt_book.specs.declared.params.Params.{Params}
+use Rattle.nt_book.specs.Ranges.{IsFromTo}
+use Rattle.nt_words.specs.CommandLine.{IsEntries, IsSchemaCommand}
+use Rattle.nt_words.specs.WriteWords.{AreLimitsSaid, AreParamsSaid, IsWrite}
+
+some_is : (x y : List ℕ) → Some x ≡ Some y → x ≡ y
+some_is x y e = cc
+
+-- limits of these numbers, which lie in their ranges
+abbrev limits : (r f c : ℕ) → r ≤ 2 ^ 30 → f ≤ 2 ^ 56 → Limits
+limits r f c a b = record { range = r; file = f; clusters = c; range_bound = a; file_bound = b }
+
+any_bounds : (r f c : ℕ) (a a' : r ≤ 2 ^ 30) (b b' : f ≤ 2 ^ 56) → limits r f c a b ≡ limits r f c a' b'
+any_bounds r f c a a' b b' = ap (λ (x : r ≤ 2 ^ 30). limits r f c x b) (le_prop a a') ∙ ap (λ (x : f ≤ 2 ^ 56). limits r f c a' x) (le_prop b b')
+
+same_limits : (l m : Limits) → l.range ≡ m.range → l.file ≡ m.file → l.clusters ≡ m.clusters → l ≡ m
+same_limits l m range file clusters =
+    subst (λ (r : ℕ). (x : r ≤ 2 ^ 30) → l ≡ limits r m.file m.clusters x m.file_bound) range
+    (subst (λ (f : ℕ). (y : f ≤ 2 ^ 56) (x : l.range ≤ 2 ^ 30) → l ≡ limits l.range f m.clusters x y) file
+    (λ y x. any_bounds l.range l.file l.clusters l.range_bound x l.file_bound y
+    ∙ ap (λ (c : ℕ). limits l.range l.file c x y) clusters) m.file_bound) m.range_bound
+
+-- parameters of these numbers, which lie in their ranges
+abbrev params : (c p g : ℕ) (plain : Bool) (l : Limits) → IsFromTo 1 1000000 c → IsFromTo 1 1048576 p → IsFromTo 1 10000 g → Params
+params c p g plain l x y z =
+    record { cluster = c; page = p; group = g; plain = plain; limits = l; cluster_range = x; page_range = y; group_range = z }
+
+any_ranges : (c p g : ℕ) (plain : Bool) (l : Limits) (x x' : IsFromTo 1 1000000 c) (y y' : IsFromTo 1 1048576 p) (z z' : IsFromTo 1 10000 g)
+    → params c p g plain l x y z ≡ params c p g plain l x' y' z'
+any_ranges c p g plain l x x' y y' z z' =
+    ap (λ (v : IsFromTo 1 1000000 c). params c p g plain l v y z) (×_prop le_prop le_prop x x')
+    ∙ ap (λ (v : IsFromTo 1 1048576 p). params c p g plain l x' v z) (×_prop le_prop le_prop y y')
+    ∙ ap (λ (v : IsFromTo 1 10000 g). params c p g plain l x' y' v) (×_prop le_prop le_prop z z')
+
+same_params : (words : List (List ℕ)) (p q : Params) → AreParamsSaid words p → AreParamsSaid words q → p ≡ q
+same_params words p q one other =
+    let same : p.limits ≡ q.limits =
+    same_limits p.limits q.limits (one.limits.range ∙ sym other.limits.range) (one.limits.file ∙ sym other.limits.file)
+    (one.limits.clusters ∙ sym other.limits.clusters) in
+    subst (λ (c : ℕ). (x : IsFromTo 1 1000000 c) → p ≡ params c q.page q.group q.plain q.limits x q.page_range q.group_range)
+    (one.cluster ∙ sym other.cluster)
+    (subst (λ (n : ℕ). (y : IsFromTo 1 1048576 n) (x : IsFromTo 1 1000000 p.cluster)
+    → p ≡ params p.cluster n q.group q.plain q.limits x y q.group_range) (one.page ∙ sym other.page)
+    (subst (λ (n : ℕ). (z : IsFromTo 1 10000 n) (y : IsFromTo 1 1048576 p.page) (x : IsFromTo 1 1000000 p.cluster)
+    → p ≡ params p.cluster p.page n q.plain q.limits x y z) (one.group ∙ sym other.group)
+    (λ z y x. any_ranges p.cluster p.page p.group p.plain p.limits p.cluster_range x p.page_range y p.group_range z
+    ∙ ap (λ (b : Bool). params p.cluster p.page p.group b p.limits x y z) (one.plain ∙ sym other.plain)
+    ∙ ap (λ (l : Limits). params p.cluster p.page p.group q.plain l x y z) same) q.group_range) q.page_range) q.cluster_range
+
+-- what holds of one reading of the words of `write` holds of another
+pub same_write : (P : List ℕ → List ℕ → List (List ℕ) → Params → Type 0) (words : List (List ℕ)) (o s o' s' : List ℕ)
+    (is is' : List (List ℕ)) (p p' : Params) → IsWrite words o s is p → IsWrite words o' s' is' p' → P o s is p → P o' s' is' p'
+same_write P words o s o' s' is is' p p' one other holds =
+    let out : o ≡ o' = some_is o o' (sym one.names.out_is ∙ other.names.out_is) in
+    let schema : s ≡ s' = some_is s s' (sym one.names.schema_is ∙ other.names.schema_is) in
+    let inputs : is ≡ is' = one.names.inputs_are ∙ sym other.names.inputs_are in
+    let params : p ≡ p' = same_params words p p' one.params other.params in
+    subst (λ (l : List ℕ). P l s' is' p') out (subst (λ (l : List ℕ). P o l is' p') schema
+    (subst (λ (l : List (List ℕ)). P o s l p') inputs (subst (P o s is) params holds)))
+
+-- and so of `entries`
+pub same_entries : (P : Option ℕ → Option ℕ → List ℕ → Type 0) (words : List (List ℕ)) (f c f' c' : Option ℕ) (n n' : List ℕ)
+    → IsEntries words f c n → IsEntries words f' c' n' → P f c n → P f' c' n'
+same_entries P words f c f' c' n n' one other holds =
+    let from : f ≡ f' = one.from_is ∙ sym other.from_is in
+    let count : c ≡ c' = one.count_is ∙ sym other.count_is in
+    let name : n ≡ n' = some_is n n' (sym one.file_is ∙ other.file_is) in
+    subst (λ (o : Option ℕ). P o c' n') from (subst (λ (o : Option ℕ). P f o n') count (subst (P f c) name holds))
+
+-- and of `schema`
+pub same_schema : (P : List ℕ → Type 0) (words : List (List ℕ)) (n n' : List ℕ) → IsSchemaCommand words n → IsSchemaCommand words n' → P n → P n'
+same_schema P words n n' one other holds = subst P (some_is n n' (sym one.file_is ∙ other.file_is)) holds

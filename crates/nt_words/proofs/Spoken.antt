@@ -1,0 +1,183 @@
+-- What is said of words, from what clap found in them.
+use Rattle.std.proofs.Common.{◌≡◌, ◌⊎◌, ◌∙◌, inl, inr, ap, sym, subst, refl, ℕ, suc, ◌<◌, Bool, true, false, ◌&&◌, ◌||◌, List, [], ◌∷◌, length, arith, codes, Option, Some, None}
+use Rattle.std.specs.Prelude.{IfSome, String, get_or, ◌≤◌, option_map, unwrap_or}
+use Rattle.std.specs.Borrow.{Bor}
+use Rattle.std.specs.List.{list_any}
+use Rattle.std.specs.Str.{bytes_eq}
+use Rattle.std.specs.String.{string_bytes}
+use Rattle.std.specs.declared.alloc.Global.{Global}
+use Rattle.clap.specs.Words.{App, rows_of, found_of, first_of, all_of, first_value, matched_of, raw_values, matches_of, is_simple, is_simple_and_free}
+use Rattle.clap.specs.declared.parser.matches.ArgMatches.{ArgMatches}
+use Rattle.clap.proofs.WalkLemmas.{first_value-rows, raw_values-rows}
+use Rattle.nt_words.specs.CommandLine.{texts, app, operand, entries_rules, entries_app, schema_app, is_true_word, number_said, number_found, is_flag_found, Begins, IsTaken, word_found, words_found}
+use Rattle.nt_words.specs.WriteWords.{write_rules, write_app, NamesOfWrite, AreApart, IsWrongWrite, is_among}
+use Rattle.nt_words.specs.Commands.{names_of, IsNoCommand, IsWrong}
+use Rattle.nt_words.specs.Arguments.{ReadsWords}
+
+and_first : (a b : Bool) → (a && b) ≡ true → a ≡ true
+and_first true b p = refl
+and_first false b p = p
+
+pub simple_of : (a : App) → is_simple_and_free a ≡ true → is_simple a ≡ true
+simple_of a both = and_first (is_simple a) _ both
+
+-- what an option holds has what all that it holds has
+pub held : (P : ArgMatches → Type 0) (o : Option ArgMatches) (m : ArgMatches) → o ≡ Some m → IfSome o P → P m
+held P o m is has = subst (λ (x : Option ArgMatches). IfSome x P) is has
+
+-- the reading of matches that were found
+pub reads_of : (a a' : App) (words : List (List ℕ)) (o : Option ArgMatches) (m : ArgMatches) → a ≡ a' → o ≡ Some m → ReadsWords a words o → IsTaken a' words × (rows_of (found_of m) ≡ matches_of a' words)
+reads_of a a' words o m same is reads =
+    subst (λ (x : App). ReadsWords x words (Some m)) same (subst (ReadsWords a words) is reads)
+
+-- the reading of a refusal
+pub refused_of : (a a' : App) (words : List (List ℕ)) (o : Option ArgMatches) → a ≡ a' → o ≡ None → ReadsWords a words o → IsTaken a' words → ⊥
+refused_of a a' words o same is reads =
+    subst (λ (x : App). ReadsWords x words None) same (subst (ReadsWords a words) is reads)
+
+-- the value under a name is what clap finds
+pub found_by : (a : App) (words : List (List ℕ)) (m : ArgMatches) (id value : List ℕ) → rows_of (found_of m) ≡ matches_of a words → first_value (found_of m) id ≡ Some value → word_found a words id ≡ Some value
+found_by a words m id value rows is =
+    sym (first_value-rows (found_of m) id ∙ ap (first_of id) rows) ∙ is
+
+-- and so are all values
+pub all_by : (a : App) (words : List (List ℕ)) (m : ArgMatches) (id : List ℕ) (values : List (List ℕ)) → rows_of (found_of m) ≡ matches_of a words
+    → values ≡ unwrap_or (option_map raw_values (matched_of (found_of m) id)) [] → values ≡ unwrap_or (words_found a words id) []
+all_by a words m id values rows is =
+    is ∙ ap (λ (o : Option (List (List ℕ))). unwrap_or o []) (raw_values-rows (found_of m) id ∙ ap (all_of id) rows)
+
+-- and the number
+pub number_by : (a : App) (words : List (List ℕ)) (m : ArgMatches) (id : List ℕ) (n : Option ℕ) → rows_of (found_of m) ≡ matches_of a words → n ≡ option_map number_said (first_value (found_of m) id) → n ≡ number_found a words id
+number_by a words m id n rows is =
+    is ∙ ap (λ (o : Option (List ℕ)). option_map number_said o) (first_value-rows (found_of m) id ∙ ap (first_of id) rows)
+
+-- and the flag
+pub flag_by : (a : App) (words : List (List ℕ)) (m : ArgMatches) (id : List ℕ) (b : Bool) → rows_of (found_of m) ≡ matches_of a words → b ≡ is_true_word (first_value (found_of m) id) → b ≡ is_flag_found a words id
+flag_by a words m id b rows is = is ∙ ap is_true_word (first_value-rows (found_of m) id ∙ ap (first_of id) rows)
+
+-- a number in its range, or another there
+pub in_range_or : (low high : ℕ) (o : Option ℕ) (other r : ℕ) → r ≡ unwrap_or o other → IfSome o (λ n. (low ≤ n) × (n ≤ high)) → low ≤ other → other ≤ high → (low ≤ r) × (r ≤ high)
+in_range_or low high None other r is within from to = (subst (λ (n : ℕ). low ≤ n) (sym is) from, subst (λ (n : ℕ). n ≤ high) (sym is) to)
+in_range_or low high (Some n) other r is within from to = (subst (λ (k : ℕ). low ≤ k) (sym is) within.0, subst (λ (k : ℕ). k ≤ high) (sym is) within.1)
+
+-- words that begin with `write` and are wrong
+pub wrong_write : (words : List (List ℕ)) → Begins words (codes "write") → IsWrongWrite words → IsWrong words
+wrong_write words begins why = record {
+  write = λ auto. why;
+  entries = λ other taken. let bad = sym begins ∙ other in cc;
+  schema = λ other taken. let bad = sym begins ∙ other in cc;
+}
+
+-- words that begin with `entries` and are wrong
+pub wrong_entries : (words : List (List ℕ)) → Begins words (codes "entries") → (IsTaken entries_app words → ⊥) → IsWrong words
+wrong_entries words begins why = record {
+  write = λ other. let bad = sym begins ∙ other in cc;
+  entries = λ auto. why;
+  schema = λ other taken. let bad = sym begins ∙ other in cc;
+}
+
+-- words that begin with `schema` and are wrong
+pub wrong_schema : (words : List (List ℕ)) → Begins words (codes "schema") → (IsTaken schema_app words → ⊥) → IsWrong words
+wrong_schema words begins why = record {
+  write = λ other. let bad = sym begins ∙ other in cc;
+  entries = λ other taken. let bad = sym begins ∙ other in cc;
+  schema = λ auto. why;
+}
+
+-- words that begin with none of them
+pub wrong_first : (words : List (List ℕ)) → (Begins words (codes "write") → ⊥) → (Begins words (codes "entries") → ⊥) → (Begins words (codes "schema") → ⊥) → IsWrong words
+wrong_first words no-write no-entries no-schema = record {
+  write = λ begins. absurd (no-write begins);
+  entries = λ begins taken. no-entries begins;
+  schema = λ begins taken. no-schema begins;
+}
+
+-- the first of some words
+pub begins_by : (words : List (String Global)) (first : String Global) (name : List ℕ) → 1 ≤ length words → first ≡ get_or words 0 first → string_bytes first ≡ name → Begins (texts words) name
+begins_by [] first name some is same = absurd (omega arith)
+begins_by (x ∷ words) first name some is same = ap (λ (s : String Global). Some (string_bytes s)) (sym is) ∙ ap (λ (t : List ℕ). Some t) same
+
+same_some : (o : Option (List ℕ)) (x y : List ℕ) → o ≡ Some x → o ≡ Some y → x ≡ y
+same_some o x y one two = ap (λ (p : Option (List ℕ)). unwrap_or p x) (sym one ∙ two)
+
+-- words that are wrong are no command
+pub wrong_is_none : (words : List (List ℕ)) → IsWrong words → IsNoCommand words
+wrong_is_none words wrong = record {
+  no_write = λ out schema inputs p is.
+      elim (wrong.write is.begins) [
+        | inl refuses ↦ refuses is.taken
+        | inr clash ↦
+            let out-is = same_some _ _ _ clash.names.out_is is.names.out_is in
+            let schema-is = same_some _ _ _ clash.names.schema_is is.names.schema_is in
+            let inputs-are = clash.names.inputs_are ∙ sym is.names.inputs_are in
+            clash.clash (subst (λ (o : List ℕ). AreApart o clash.schema clash.inputs) (sym out-is) (subst (λ (s : List ℕ). AreApart out s clash.inputs) (sym schema-is) (subst (λ (l : List (List ℕ)). AreApart out schema l) (sym inputs-are) is.apart)))
+      ];
+  no_entries = λ from count file is. wrong.entries is.begins is.taken;
+  no_schema = λ file is. wrong.schema is.begins is.taken;
+}
+
+-- a name among names, as they were found
+pub among_found : (names : List (Bor (List ℕ))) (name : List ℕ) → list_any (λ other. bytes_eq other.now name) names ≡ is_among name (names_of names)
+among_found [] name = refl
+among_found (x ∷ names) name = ap (λ (b : Bool). bytes_eq x.now name || b) (among_found names name)
+
+names_length : (names : List (Bor (List ℕ))) → length (names_of names) ≡ length names
+names_length [] = refl
+names_length (x ∷ names) = ap suc (names_length names)
+
+-- names that may be those of `write`
+pub apart_by : (out schema : List ℕ) (inputs : List (Bor (List ℕ))) → 1 ≤ length inputs → length inputs ≤ 64 → bytes_eq schema out ≡ false → is_among out (names_of inputs) ≡ false → AreApart out schema (names_of inputs)
+apart_by out schema inputs some few differ none = record {
+  some = subst (λ (n : ℕ). 1 ≤ n) (sym (names_length inputs)) some;
+  few = subst (λ (n : ℕ). n ≤ 64) (sym (names_length inputs)) few;
+  apart = ap (λ (b : Bool). b || is_among out (names_of inputs)) differ ∙ none;
+}
+
+-- too few or too many
+pub number_wrong : (out schema : List ℕ) (inputs : List (Bor (List ℕ))) → (length inputs ≡ 0) ⊎ (64 < length inputs) → AreApart out schema (names_of inputs) → ⊥
+number_wrong out schema inputs (inl none) is =
+    let some = is.some in
+    let same = names_length inputs in
+    omega arith
+number_wrong out schema inputs (inr lots) is =
+    let few = is.few in
+    let same = names_length inputs in
+    omega arith
+
+-- OUT is SCHEMA, or an input
+pub schema_wrong : (out schema : List ℕ) (inputs : List (List ℕ)) → bytes_eq schema out ≡ true → AreApart out schema inputs → ⊥
+schema_wrong out schema inputs same is =
+    let bad : true ≡ false = sym (ap (λ (b : Bool). b || is_among out inputs) same) ∙ is.apart in
+    cc
+
+or_right : (a b : Bool) → b ≡ true → (a || b) ≡ true
+or_right true b is = refl
+or_right false b is = is
+
+pub input_wrong : (out schema : List ℕ) (inputs : List (List ℕ)) → is_among out inputs ≡ true → AreApart out schema inputs → ⊥
+input_wrong out schema inputs same is =
+    let bad : true ≡ false = sym (or_right (bytes_eq schema out) (is_among out inputs) same) ∙ is.apart in
+    cc
+
+-- the commands, opened
+pub write_is : app (codes "write") write_rules ≡ write_app
+unfolding write_app
+write_is = refl
+
+-- the names that clap found
+pub names_by : (words : List (List ℕ)) (m : ArgMatches) (out schema : List ℕ) (inputs : List (List ℕ)) → rows_of (found_of m) ≡ matches_of write_app words
+    → first_value (found_of m) (codes "OUT") ≡ Some out → first_value (found_of m) (codes "SCHEMA") ≡ Some schema
+    → inputs ≡ unwrap_or (option_map raw_values (matched_of (found_of m) (codes "IN"))) [] → NamesOfWrite words out schema inputs
+names_by words m out schema inputs rows out-is schema-is inputs-are = record {
+  out_is = found_by write_app words m (codes "OUT") out rows out-is;
+  schema_is = found_by write_app words m (codes "SCHEMA") schema rows schema-is;
+  inputs_are = all_by write_app words m (codes "IN") inputs rows inputs-are;
+}
+
+pub entries_is : app (codes "entries") entries_rules ≡ entries_app
+unfolding entries_app
+entries_is = refl
+
+pub schema_is : app (codes "schema") (operand (codes "FILE") ∷ []) ≡ schema_app
+unfolding schema_app
+schema_is = refl

@@ -1,0 +1,4 @@
+pub mod CommandLine
+pub mod WriteWords
+pub mod Commands
+pub mod Arguments

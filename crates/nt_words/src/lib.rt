@@ -1,0 +1,21 @@
+//! The words of the command line: which command they say, its names and its numbers, as clap reads them.
+//!
+//! Start at `command.rt` (`command_of`). `write.rt` has the words of `write`, `show.rt` those of `entries` and `schema`, and
+//! `arguments.rt` what they share: arguments and commands of clap's, and what it finds.
+//!
+//! Words: what clap *finds* under a name is what its matches have there; it *takes* the words of a command that it doesn't refuse.
+//!
+//! Proved: words are the command that `command_of` answers exactly as clap's definition of simple commands reads them, and `Unknown`
+//! only where the first word is no command, clap refuses the others for another cause than memory, `write` has no or too many
+//! inputs, or its OUT has the name of a text that is read.
+//!
+//! A choice that binds nobody else: that there are no inputs is looked at once more, though clap refuses that by itself.
+#![tactic(auto)]
+
+mod arguments;
+mod command;
+mod show;
+mod write;
+
+pub use command::{Command, command_of, wrong_words_are_no_command};
+pub use write::WriteWords;
