@@ -1,131 +1,29 @@
 -- A command and the message after it, joined.
-use Rattle.std.proofs.Common.{◌≡◌, ◌⊎◌, ◌∙◌, inl, inr, ap, sym, subst, refl, ℕ, ◌≤◌, List, [], ◌∷◌, ◌++◌, length, take, Option, Some, None, Result, Ok, arith}
-use Rattle.std.proofs.lemmas.List.{append-nil}
-use Rattle.nt_outside.specs.Faults.{Rose}
-use Rattle.nt_outside.specs.World.{World, Asked, Text, Out, HostState, file}
-use Rattle.nt_app.specs.CommandLine.{IsWrite}
-use Rattle.nt_types.specs.ShapeData.{MemberData}
-use Rattle.nt_types.specs.declared.fault.SchemaFault.{SchemaFault}
-use Rattle.nt_app.specs.declared.status.TextFault.{TextFault}
-use Rattle.nt_app.specs.declared.status.TextFault.TheVariants.{NotYet, Schema}
-use Rattle.nt_app.specs.Schemas.{x_of_u64, IsSchemaText, IsNoSchemaBy}
-use Rattle.nt_app.specs.Events.{IsEventText}
-use Rattle.nt_app.specs.Stops.{IsThereWith, IsNoInputBy}
-use Rattle.nt_app.specs.Statuses.{message_of}
-use Rattle.nt_app.specs.Writes.{WriteTold, AsksAsDone, WritesFile}
-use Rattle.nt_app.proofs.InOrder.{nothing_made, reported_in_order}
-use Rattle.nt_app.specs.Runs.{Reports, RefusesWords, RunsWrite}
+use Rattle.std.proofs.Common.{◌≡◌, ◌⊎◌, ◌∙◌, inl, inr, ap, sym, subst, refl, ℕ, List, codes, Option, Result, Ok, Err}
+use Rattle.nt_outside.specs.World.{HostState}
+use Rattle.nt_book.specs.declared.params.Params.{Params}
+use Rattle.nt_show.specs.Shown.{entries_shown, fields_shown}
+use Rattle.nt_words.specs.CommandLine.{Begins, IsEntries, IsSchemaCommand}
+use Rattle.nt_words.specs.WriteWords.{IsWrite}
+use Rattle.nt_words.specs.Commands.{IsWrong}
+use Rattle.nt_words.proofs.Spoken.{wrong_is_none}
+use Rattle.nt_store.specs.declared.error.StoreError.{StoreError}
+use Rattle.nt_store.specs.declared.error.StoreError.TheVariants as store
 use Rattle.nt_app.specs.declared.status.Status.{Status}
 use Rattle.nt_app.specs.declared.status.Status.TheVariants as status
-
-ok_is : (x y : List MemberData) → ◌≡◌ {A = Result (List MemberData) SchemaFault} (Ok x) (Ok y) → x ≡ y
-ok_is x y e = cc
-
-some_is : (x y : List ℕ) → Some x ≡ Some y → x ≡ y
-some_is x y e = cc
-
--- words that are `write` with some names are so with no others
-pub same_write : (words : List (List ℕ)) (o s i o' s' i' : List ℕ) (old new : HostState) (answer : Status) → IsWrite words o s i → IsWrite words o' s' i' → WritesFile o s i old new answer → WritesFile o' s' i' old new answer
-same_write words o s i o' s' i' old new answer one other writes =
-    let out-is : o ≡ o' = some_is o o' (sym one.names.out_is ∙ other.names.out_is) in
-    let schema-is : s ≡ s' = some_is s s' (sym one.names.schema_is ∙ other.names.schema_is) in
-    let input-is : i ≡ i' = some_is i i' (sym one.names.input_is ∙ other.names.input_is) in
-    subst (λ (l : List ℕ). WritesFile l s' i' old new answer) out-is (subst (λ (l : List ℕ). WritesFile o l i' old new answer) schema-is (subst (λ (l : List ℕ). WritesFile o s l old new answer) input-is writes))
-
--- want of memory for the words leaves all as it was
-pub memory_writes : (o s i : List ℕ) (state : HostState) → WritesFile o s i state state status.Memory
-memory_writes o s i state = record {
-  told = λ w is. (w, is, refl, λ other differs. refl, (inl (refl, refl), (0, sym (append-nil w.out))));
-  order = nothing_made o state.world;
-  asked = (0, sym (append-nil state.asked));
-  later = omega arith;
-  failed = λ outside. absurd (cc);
-  err_faults = refl;
-  opened = refl;
-}
-
--- a command that is one never says that the words are none
-pub write_is_command : (o s i : List ℕ) (old new : HostState) (answer : Status) → WritesFile o s i old new answer → answer ≡ status.Usage → ⊥
-write_is_command o s i old new answer writes is = subst (AsksAsDone (Text s ∷ Text i ∷ Out o ∷ []) old.asked new.asked) is writes.asked
-
-pub either_after : (old mid new : HostState) (n : ℕ) (message : List ℕ) → mid.err_faults ≡ old.err_faults → (length message ≤ n) ⊎ Rose mid.err_faults new.err_faults → (length message ≤ n) ⊎ Rose old.err_faults new.err_faults
-either_after old mid new n message same either =
-    elim either [ inl whole ↦ inl whole | inr rose ↦ inr (subst (λ (m : ℕ). Rose m new.err_faults) same rose) ]
-
--- what a print on err leaves of a command's doing
-write_told_after : (o s i : List ℕ) (w v : World) (err : List ℕ) (answer : Status) → WriteTold o s i w v answer → WriteTold o s i w (record v { err = err }) answer
-write_told_after o s i w v err status.Done told =
-    (told.0, record { numbers = told.1.numbers; input_is = told.1.input_is; made = told.1.made; file_is = told.1.file_is; printed = told.1.printed })
-write_told_after o s i w v err status.Usage told = told
-write_told_after o s i w v err (status.File fault) told = told
-write_told_after o s i w v err status.Outside (inl left) = inl left
-write_told_after o s i w v err status.Outside (inr told) =
-    inr (told.0, record { numbers = told.1.numbers; input_is = told.1.input_is; made = told.1.made; file_is = told.1.file_is; printed = told.1.printed })
-write_told_after o s i w v err (status.Text None line kind) told = told
-write_told_after o s i w v err (status.Text (Some number) line kind) told = told
-write_told_after o s i w v err status.Memory told = told
-
--- a text can't have a form and not have it
-pub not_there_both : (P Q : List ℕ → Type 0) (found : Option (List ℕ)) → ((text : List ℕ) → P text → Q text → ⊥) → IsThereWith P found → IsThereWith Q found → ⊥
-not_there_both P Q None differ one other = one
-not_there_both P Q (Some text) differ one other = differ text one other
-
-no_schema_both : (line : ℕ) (kind : TextFault) (text : List ℕ) → IsSchemaText text → IsNoSchemaBy line kind text → ⊥
-no_schema_both line NotYet text one (at, (fields, spelled, differ)) = differ (ok_is fields (x_of_u64 ∷ []) (sym spelled ∙ one))
-no_schema_both line (Schema kind) text one other = let both = sym one ∙ other in cc
-
-no_input_both : (line : ℕ) (kind : TextFault) (numbers text : List ℕ) → IsEventText text numbers → IsNoInputBy line kind text → ⊥
-no_input_both line NotYet numbers text one (at, none) = none numbers one
-no_input_both line (Schema kind) numbers text one other = other
-
-write_ends : (o s i : List ℕ) (w v : World) (numbers : List ℕ) (answer : Status) → WriteTold o s i w v answer → IsThereWith IsSchemaText (file w s) → IsThereWith (λ text. IsEventText text numbers) (file w i) → (answer ≡ status.Outside → ⊥) → (answer ≡ status.Done) ⊎ (answer ≡ status.Memory)
-write_ends o s i w v numbers status.Done told schema events served = inl refl
-write_ends o s i w v numbers status.Usage told schema events served = absurd told
-write_ends o s i w v numbers (status.File fault) told schema events served = absurd told
-write_ends o s i w v numbers status.Outside told schema events served = absurd (served refl)
-write_ends o s i w v numbers (status.Text None line kind) told schema events served =
-    absurd (not_there_both IsSchemaText (IsNoSchemaBy line kind) (file w s) (no_schema_both line kind) schema told.0)
-write_ends o s i w v numbers (status.Text (Some number) line kind) told schema events served =
-    absurd (not_there_both (λ text. IsEventText text numbers) (IsNoInputBy line kind) (file w i) (no_input_both line kind numbers) events told.2)
-write_ends o s i w v numbers status.Memory told schema events served = inr refl
-
--- a schema that is no such text has its fault named
-write_refused : (o s i : List ℕ) (w v : World) (answer : Status) → WriteTold o s i w v answer → IsThereWith (λ text. IsSchemaText text → ⊥) (file w s) → (answer ≡ status.Outside → ⊥) → ((line : ℕ) × (kind : TextFault) × (answer ≡ status.Text None line kind)) ⊎ (answer ≡ status.Memory)
-write_refused o s i w v status.Done told other served = absurd (not_there_both IsSchemaText (λ text. IsSchemaText text → ⊥) (file w s) (λ text one no. no one) told.0 other)
-write_refused o s i w v status.Usage told other served = absurd told
-write_refused o s i w v (status.File fault) told other served = absurd told
-write_refused o s i w v status.Outside told other served = absurd (served refl)
-write_refused o s i w v (status.Text None line kind) told other served = inl (line, kind, refl)
-write_refused o s i w v (status.Text (Some number) line kind) told other served =
-    absurd (not_there_both IsSchemaText (λ text. IsSchemaText text → ⊥) (file w s) (λ text one no. no one) told.1 other)
-write_refused o s i w v status.Memory told other served = inr refl
-
--- `write`, and then its message
-pub run_write : (o s i : List ℕ) (old mid new : HostState) (answer : Status) → WritesFile o s i old mid answer → Reports (message_of answer) mid new → RunsWrite o s i old new answer
-run_write o s i old mid new answer writes reports = record {
-  told = λ w is.
-      let done = writes.told w is in
-      let said = reports.told done.0 done.1 in (
-        _,
-        said.1,
-        (said.0, ap (λ (l : List ℕ). l ++ take said.0 (message_of answer)) done.2, either_after old mid new said.0 (message_of answer) writes.err_faults said.2),
-        done.3,
-        write_told_after o s i w done.0 (done.0.err ++ take said.0 (message_of answer)) answer done.4,
-      );
-  order = reported_in_order o (message_of answer) old.world mid.world new.world (λ w is. let done = writes.told w is in (done.0, done.1)) writes.order (λ w is. let said = reports.told w is in (said.0, said.1));
-  asked = subst (λ (l : List Asked). AsksAsDone (Text s ∷ Text i ∷ Out o ∷ []) old.asked l answer) (sym reports.asked) writes.asked;
-  failed = λ is. subst (λ (n : ℕ). Rose old.faults n) (sym reports.faults) (writes.failed is);
-  opened = reports.opened ∙ writes.opened;
-  complete = λ w numbers is schema events served.
-      let done = writes.told w is in
-      write_ends o s i w done.0 numbers answer done.4 schema events (λ outside. served (subst (λ (n : ℕ). Rose old.faults n) (sym reports.faults) (writes.failed outside)));
-  refused = λ w is other served.
-      let done = writes.told w is in
-      write_refused o s i w done.0 answer done.4 other (λ outside. served (subst (λ (n : ℕ). Rose old.faults n) (sym reports.faults) (writes.failed outside)));
-}
+use Rattle.nt_app.specs.Statuses.{message_of}
+use Rattle.nt_app.specs.Reports.{Reports}
+use Rattle.nt_app.specs.Shows.{IsAnswerOfReading, ShowsNamed}
+use Rattle.nt_app.specs.Writes.{status_of_store, WritesNamed}
+use Rattle.nt_app.specs.Runs.{RefusesWords, SayWriting, SayReading, range_said, IsAnswerTo, Obeys, Runs}
+use Rattle.nt_app.proofs.Joined.{either_after}
+use Rattle.nt_words.proofs.Single.{same_write, same_entries, same_schema}
+use Rattle.nt_app.proofs.Writing.{memory_writes, run_write}
+use Rattle.nt_app.proofs.Shown.{memory_shows, run_shows}
 
 -- no command, and then its message
-pub run_usage : (old mid new : HostState) (answer : Status) → (answer ≡ status.Usage) ⊎ (answer ≡ status.Memory) → mid ≡ old → Reports (message_of answer) mid new → RefusesWords old new answer
+run_usage : (old mid new : HostState) (answer : Status) → (answer ≡ status.Usage) ⊎ (answer ≡ status.Memory) → mid ≡ old
+    → Reports (message_of answer) mid new → RefusesWords old new answer
 run_usage old mid new answer is same reports = record {
   answer_is = is;
   told = λ w told-is.
@@ -134,4 +32,107 @@ run_usage old mid new answer is same reports = record {
   asked = reports.asked ∙ ap (λ (h : HostState). h.asked) same;
   faults = reports.faults ∙ ap (λ (h : HostState). h.faults) same;
   opened = reports.opened ∙ ap (λ (h : HostState). h.opened) same;
+}
+
+-- what the words say was done, and then its message printed
+pub runs : (words : List (List ℕ)) (old mid new : HostState) (answer : Status) → Obeys words old mid answer → Reports (message_of answer) mid new
+    → Runs words old new answer
+runs words old mid new answer obeys reports = record {
+  write = λ o s is p said. run_write o s is p old mid new answer (obeys.write o s is p said) reports;
+  entries = λ from count name said. run_shows (entries_shown (range_said from count)) name old mid new answer (obeys.entries from count name said) reports;
+  schema = λ name said. run_shows fields_shown name old mid new answer (obeys.schema name said) reports;
+  usage = λ none. let refused = obeys.usage none in run_usage old mid new answer refused.0 refused.1 reports;
+  answers = obeys.answers;
+}
+
+-- the same, of words and of a host that are known to be those
+pub runs_after : (words' words : List (List ℕ)) (one old mid new : HostState) (answer : Status) → words' ≡ words → one ≡ old → Obeys words' one mid answer
+    → Reports (message_of answer) mid new → Runs words old new answer
+runs_after words' words one old mid new answer same stays obeys reports =
+    runs words old mid new answer (subst (λ (h : HostState). Obeys words h mid answer) stays (subst (λ (l : List (List ℕ)). Obeys l one mid answer) same obeys)) reports
+
+-- want of memory for the words
+pub no_memory : (words : List (List ℕ)) (state : HostState) → Obeys words state state status.Memory
+no_memory words state = record {
+  write = λ o s is p said. memory_writes o s is p state;
+  entries = λ from count name said. memory_shows (entries_shown (range_said from count)) name state;
+  schema = λ name said. memory_shows fields_shown name state;
+  usage = λ none. (inr refl, refl);
+  answers = tt;
+}
+
+-- wrong words
+pub wrong_words : (words : List (List ℕ)) (state : HostState) → IsWrong words → Obeys words state state status.Usage
+wrong_words words state wrong =
+    let none = wrong_is_none words wrong in
+    record {
+      write = λ o s is p said. absurd (none.no_write o s is p said);
+      entries = λ from count name said. absurd (none.no_entries from count name said);
+      schema = λ name said. absurd (none.no_schema name said);
+      usage = λ auto. (inl refl, refl);
+      answers = wrong;
+    }
+
+writing_answers : (words : List (List ℕ)) (stored : Result Unit StoreError) → SayWriting words → IsAnswerTo words (status_of_store stored)
+writing_answers words (Ok done) said = inl said
+writing_answers words (Err store.Outside) said = inl said
+writing_answers words (Err store.Memory) said = tt
+writing_answers words (Err (store.Schema line kind)) said = said
+writing_answers words (Err (store.Line input line kind)) said = said
+writing_answers words (Err (store.Limit reached limit)) said = said
+
+reading_answers : (words : List (List ℕ)) (answer : Status) → IsAnswerOfReading answer → SayReading words → IsAnswerTo words answer
+reading_answers words status.Done is said = inr said
+reading_answers words status.Usage is said = absurd is
+reading_answers words (status.File fault) is said = said
+reading_answers words status.Outside is said = inr said
+reading_answers words (status.Limit reached limit) is said = absurd is
+reading_answers words (status.Text input number kind) is said = absurd is
+reading_answers words status.Memory is said = tt
+
+-- the first word is one
+one_first : (words : List (List ℕ)) (name other : List ℕ) → Begins words name → Begins words other → name ≡ other
+one_first words name other one two = let both = sym one ∙ two in cc
+
+not_entries : (words : List (List ℕ)) → Begins words (codes "write") → Begins words (codes "entries") → ⊥
+not_entries words one two = let bad = one_first words _ _ one two in cc
+
+not_schema : (words : List (List ℕ)) → Begins words (codes "write") → Begins words (codes "schema") → ⊥
+not_schema words one two = let bad = one_first words _ _ one two in cc
+
+entries_not_schema : (words : List (List ℕ)) → Begins words (codes "entries") → Begins words (codes "schema") → ⊥
+entries_not_schema words one two = let bad = one_first words _ _ one two in cc
+
+-- `write`
+pub written_words : (words : List (List ℕ)) (o s : List ℕ) (is : List (List ℕ)) (p : Params) (old new : HostState) (answer : Status)
+    → IsWrite words o s is p → WritesNamed o s is p old new answer → Obeys words old new answer
+written_words words o s is p old new answer said writes = record {
+  write = λ o' s' is' p' other. same_write (λ a b c d. WritesNamed a b c d old new answer) words o s o' s' is is' p p' said other writes;
+  entries = λ from count name other. absurd (not_entries words said.begins other.begins);
+  schema = λ name other. absurd (not_schema words said.begins other.begins);
+  usage = λ none. absurd (none.no_write o s is p said);
+  answers = subst (IsAnswerTo words) (sym writes.answer_is) (writing_answers words writes.stored (o, s, is, p, said));
+}
+
+-- `entries`
+pub listed_words : (words : List (List ℕ)) (from count : Option ℕ) (name : List ℕ) (old new : HostState) (answer : Status)
+    → IsEntries words from count name → ShowsNamed (entries_shown (range_said from count)) name old new answer → Obeys words old new answer
+listed_words words from count name old new answer said shows = record {
+  write = λ o s is p other. absurd (not_entries words other.begins said.begins);
+  entries = λ from' count' name' other.
+      same_entries (λ f c n. ShowsNamed (entries_shown (range_said f c)) n old new answer) words from count from' count' name name' said other shows;
+  schema = λ name' other. absurd (entries_not_schema words said.begins other.begins);
+  usage = λ none. absurd (none.no_entries from count name said);
+  answers = reading_answers words answer shows.answer_is (inl (from, count, name, said));
+}
+
+-- `schema`
+pub outlined_words : (words : List (List ℕ)) (name : List ℕ) (old new : HostState) (answer : Status) → IsSchemaCommand words name
+    → ShowsNamed fields_shown name old new answer → Obeys words old new answer
+outlined_words words name old new answer said shows = record {
+  write = λ o s is p other. absurd (not_schema words other.begins said.begins);
+  entries = λ from count name' other. absurd (entries_not_schema words other.begins said.begins);
+  schema = λ name' other. same_schema (λ n. ShowsNamed fields_shown n old new answer) words name name' said other shows;
+  usage = λ none. absurd (none.no_schema name said);
+  answers = reading_answers words answer shows.answer_is (inr (name, said));
 }

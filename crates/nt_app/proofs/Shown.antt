@@ -1,27 +1,23 @@
 -- The commands that show a file, and the message after them.
-use Rattle.std.proofs.Common.{◌≡◌, ◌⊎◌, ◌∙◌, inl, inr, ap, sym, subst, refl, ℕ, ◌≤◌, List, [], ◌∷◌, ◌++◌, length, take, Option, Some, None, Result, Ok, Err, arith}
-use Rattle.std.specs.Prelude.{IsErrOf, IsSome, min, ◌+◌, ◌-◌, ◌^◌}
+use Rattle.std.proofs.Common.{◌≡◌, ◌⊎◌, ◌∙◌, inl, inr, ap, sym, subst, refl, ℕ, ◌≤◌, List, [], ◌∷◌, ◌++◌, take, Option, Some, None, Result, Ok, Err, arith}
+use Rattle.std.specs.Prelude.{IsErrOf, ◌+◌, ◌-◌}
 use Rattle.std.proofs.lemmas.List.{append-nil}
 use Rattle.nt_num.specs.declared.fault.ReadError.{ReadError}
 use Rattle.nt_outside.specs.declared.fault.Refused.{Refused}
 use Rattle.nt_outside.specs.declared.fault.Refused.TheVariants as refused
-use Rattle.nt_outside.specs.declared.stream.Stream.TheVariants.{ToOut}
 use Rattle.nt_outside.specs.Faults.{Rose, TakesIn}
 use Rattle.nt_outside.specs.File.{FileState}
-use Rattle.nt_outside.specs.World.{World, Asked, File, HostState, file, prints, Asks, Opens, IsOpenFile, TakesBack}
+use Rattle.nt_outside.specs.World.{World, Asked, File, HostState, file, Asks, Opens, IsOpenFile, TakesBack}
 use Rattle.nt_tfile.specs.declared.failure.ReadFailure.{ReadFailure}
 use Rattle.nt_tfile.specs.declared.failure.ReadFailure.TheVariants as failure
-use Rattle.nt_show.specs.Gathering.{OnlyPrints}
-use Rattle.nt_show.specs.Shown.{Shown, shown_text, PrintsFrontOf, Printed, ShowsFile}
+use Rattle.nt_show.specs.Shown.{Shown, Printed, ShowsFile}
 use Rattle.nt_app.specs.Statuses.{message_of}
-use Rattle.nt_app.specs.Stops.{IsThereWith, AsksFirst}
-use Rattle.nt_app.specs.Writes.{KeepsFiles, AsksAsDone}
-use Rattle.nt_app.specs.Runs.{Reports, SaysOnErr, Served}
-use Rattle.nt_app.specs.Shows.{status_of_refusal, status_of_shown, shown_of, GainsFront, ShownTold, IsAnswerOfReading, ShowsNamed, Shows}
+use Rattle.nt_store.specs.Worlds.{IsThereWith, KeepsFiles}
+use Rattle.nt_app.specs.Reports.{Reports}
+use Rattle.nt_app.specs.Shows.{AsksAsDone, status_of_refusal, status_of_shown, shown_of, GainsFront, ShownTold, IsAnswerOfReading, ShowsNamed, Shows}
 use Rattle.nt_app.specs.declared.status.Status.{Status}
 use Rattle.nt_app.specs.declared.status.Status.TheVariants as status
-use Rattle.nt_app.proofs.Asking.{there_is}
-use Rattle.nt_app.proofs.Running.{either_after, not_there_both}
+use Rattle.nt_app.proofs.Joined.{either_after, not_there_both, there_is}
 
 there : (P : List ℕ → Type 0) (found : Option (List ℕ)) (bytes : List ℕ) → found ≡ Some bytes → P bytes → IsThereWith P found
 there P found bytes is has = subst (IsThereWith P) (sym is) has
@@ -150,11 +146,6 @@ memory_shows s name state = record {
   opened = refl;
 }
 
--- such a command never says that the words are none
-pub show_is_command : {V : Type 0} (s : Shown V) (name : List ℕ) (old new : HostState) (answer : Status)
-    → ShowsNamed s name old new answer → answer ≡ status.Usage → ⊥
-show_is_command s name old new answer shows is = subst IsAnswerOfReading is shows.answer_is
-
 -- what a print on err leaves of what out gained
 told_after : {V : Type 0} (s : Shown V) (found : Option (List ℕ)) (w v : World) (err : List ℕ) (answer : Status)
     → ShownTold s found w v answer → ShownTold s found w (record v { err = err }) answer
@@ -162,6 +153,7 @@ told_after s found w v err status.Done told = told
 told_after s found w v err status.Usage told = told
 told_after s found w v err (status.File fault) told = told
 told_after s found w v err status.Outside told = told
+told_after s found w v err (status.Limit reached limit) told = told
 told_after s found w v err (status.Text input line kind) told = told
 told_after s found w v err status.Memory told = told
 
@@ -180,6 +172,7 @@ ends_done s found w v read (status.File e) told reads served =
         let bad = sym one ∙ other in
         cc
 ends_done s found w v read status.Outside told reads served = absurd (served refl)
+ends_done s found w v read (status.Limit reached limit) told reads served = absurd told
 ends_done s found w v read (status.Text input line kind) told reads served = absurd told
 ends_done s found w v read status.Memory told reads served = inr refl
 
@@ -200,6 +193,7 @@ ends_faulty {V} s (Some bytes) w v e (status.File d) told reads served =
     err_is : (x y : ReadError) → ◌≡◌ {A = Result V ReadError} (Err x) (Err y) → x ≡ y
     err_is x y is = cc
 ends_faulty {V} s (Some bytes) w v e status.Outside told reads served = absurd (served refl)
+ends_faulty {V} s (Some bytes) w v e (status.Limit reached limit) told reads served = absurd told
 ends_faulty {V} s (Some bytes) w v e (status.Text input line kind) told reads served = absurd told
 ends_faulty {V} s (Some bytes) w v e status.Memory told reads served = inr refl
 

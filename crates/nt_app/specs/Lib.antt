@@ -1,10 +1,5 @@
-pub mod Events
 pub mod Statuses
-pub mod CommandLine
-pub mod Commands
-pub mod Writing
-pub mod Stops
-pub mod Schemas
+pub mod Reports
+pub mod Shows
 pub mod Writes
 pub mod Runs
-pub mod Shows

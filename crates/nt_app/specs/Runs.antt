@@ -1,32 +1,19 @@
 -- What the program does to a host, whole: the command, and then its message on err.
-use Rattle.std.specs.Prelude.{◌≡◌, ◌⊎◌, ℕ, ◌≤◌, List, [], ◌∷◌, ◌++◌, length, take, Some, None}
-use Rattle.nt_outside.specs.declared.stream.Stream.TheVariants.{ToErr}
-use Rattle.nt_outside.specs.Faults.{Rose}
-use Rattle.nt_outside.specs.World.{World, Text, Out, HostState, file, prints}
-use Rattle.nt_app.specs.Schemas.{IsSchemaText}
-use Rattle.nt_app.specs.Events.{IsEventText}
-use Rattle.nt_app.specs.Stops.{IsThereWith}
-use Rattle.nt_app.specs.Statuses.{message_of}
-use Rattle.nt_app.specs.Writes.{KeepsFiles, OthersStay, WriteTold, WritesInOrder, AsksAsDone}
-use Rattle.nt_app.specs.declared.status.TextFault.{TextFault}
+use Rattle.std.specs.Prelude.{⊤, ◌≡◌, ◌⊎◌, ℕ, List, Option, Some, unwrap_or}
+use Rattle.nt_outside.specs.World.{World, HostState}
+use Rattle.nt_book.specs.declared.params.Params.{Params}
+use Rattle.nt_show.specs.declared.entry_range.EntryRange.{EntryRange}
+use Rattle.nt_show.specs.Shown.{entries_shown, fields_shown}
+use Rattle.nt_words.specs.CommandLine.{IsEntries, IsSchemaCommand}
+use Rattle.nt_words.specs.WriteWords.{IsWrite}
+use Rattle.nt_words.specs.Commands.{IsNoCommand, IsWrong}
+use Rattle.nt_store.specs.Worlds.{KeepsFiles}
 use Rattle.nt_app.specs.declared.status.Status.{Status}
 use Rattle.nt_app.specs.declared.status.Status.TheVariants as status
-
--- err gained the message, or its front where a print on err failed
-abbrev pub SaysOnErr : List ℕ → HostState → HostState → World → World → Type 0
-SaysOnErr message old new w w' =
-    (n : ℕ) × (w'.err ≡ w.err ++ take n message) × ((length message ≤ n) ⊎ Rose old.err_faults new.err_faults)
-
--- a message was printed on err, and nothing else happened
-pub record Reports (message : List ℕ) (old new : HostState) : Type 0 where
-  pub told : (w : World) → old.world ≡ Some w → (n : ℕ) × (new.world ≡ Some (prints ToErr (take n message) w)) × ((length message ≤ n) ⊎ Rose old.err_faults new.err_faults)
-  pub asked : new.asked ≡ old.asked
-  pub faults : new.faults ≡ old.faults
-  pub opened : new.opened ≡ old.opened
-
--- a fault that isn't there: the outside served throughout
-abbrev pub Served : HostState → HostState → Type 0
-Served old new = Rose old.faults new.faults → ⊥
+use Rattle.nt_app.specs.Statuses.{message_of}
+use Rattle.nt_app.specs.Reports.{SaysOnErr}
+use Rattle.nt_app.specs.Shows.{ShowsNamed, Shows}
+use Rattle.nt_app.specs.Writes.{WritesNamed, RunsWrite}
 
 -- the words were no command, which is said unless memory runs out: nothing was asked for, no disk was made, and no file changed
 pub record RefusesWords (old new : HostState) (answer : Status) : Type 0 where
@@ -36,19 +23,50 @@ pub record RefusesWords (old new : HostState) (answer : Status) : Type 0 where
   pub faults : new.faults ≡ old.faults
   pub opened : new.opened ≡ old.opened
 
--- the words were `write OUT SCHEMA IN`
-pub record RunsWrite (out schema input : List ℕ) (old new : HostState) (answer : Status) : Type 0 where
-  -- where the host tells what it holds
-  pub told : (w : World) → old.world ≡ Some w → (w' : World) × (new.world ≡ Some w') × SaysOnErr (message_of answer) old new w w' × OthersStay out w w' × WriteTold out schema input w w' answer
-  -- where the file was begun, its first byte came only when all the rest stayed
-  pub order : WritesInOrder out old.world new.world
-  -- what was asked for: all three names where the file is whole, and else the first of them
-  pub asked : AsksAsDone (Text schema ∷ Text input ∷ Out out ∷ []) old.asked new.asked answer
-  -- the outside is blamed only where it failed
-  pub failed : answer ≡ status.Outside → Rose old.faults new.faults
-  -- each object that was opened came back
-  pub opened : new.opened ≡ old.opened
-  -- where both texts are of the right form and the outside serves, the file is whole unless memory runs out
-  pub complete : (w : World) (numbers : List ℕ) → old.world ≡ Some w → IsThereWith IsSchemaText (file w schema) → IsThereWith (λ text. IsEventText text numbers) (file w input) → Served old new → (answer ≡ status.Done) ⊎ (answer ≡ status.Memory)
-  -- and any other SCHEMA has its fault named
-  pub refused : (w : World) → old.world ≡ Some w → IsThereWith (λ text. IsSchemaText text → ⊥) (file w schema) → Served old new → ((line : ℕ) × (kind : TextFault) × (answer ≡ status.Text None line kind)) ⊎ (answer ≡ status.Memory)
+-- which entries are shown: from the first on and all, where the words don't say it
+abbrev pub range_said : Option ℕ → Option ℕ → EntryRange
+range_said from count = record { from = unwrap_or from 0; count = count }
+
+-- the words were `entries [--from A] [--count C] FILE`: read is what the file means, a schema and the entries of its clusters
+abbrev pub RunsEntries : Option ℕ → Option ℕ → List ℕ → HostState → HostState → Status → Type 0
+RunsEntries from count name old new answer = Shows (entries_shown (range_said from count)) name old new answer
+
+-- the words were `schema FILE`: read is the outline of the file
+abbrev pub RunsSchema : List ℕ → HostState → HostState → Status → Type 0
+RunsSchema name old new answer = Shows fields_shown name old new answer
+
+-- the words are `write ..`
+abbrev pub SayWriting : List (List ℕ) → Type 0
+SayWriting words = (out schema : List ℕ) × (inputs : List (List ℕ)) × (p : Params) × IsWrite words out schema inputs p
+
+-- the words are `entries ..` or `schema ..`
+abbrev pub SayReading : List (List ℕ) → Type 0
+SayReading words =
+    ((from count : Option ℕ) × (name : List ℕ) × IsEntries words from count name) ⊎ ((name : List ℕ) × IsSchemaCommand words name)
+
+-- each answer comes of some commands alone, and `Usage` of words that are wrong
+abbrev pub IsAnswerTo : List (List ℕ) → Status → Type 0
+IsAnswerTo words status.Done = SayWriting words ⊎ SayReading words
+IsAnswerTo words status.Usage = IsWrong words
+IsAnswerTo words (status.File fault) = SayReading words
+IsAnswerTo words status.Outside = SayWriting words ⊎ SayReading words
+IsAnswerTo words (status.Limit reached limit) = SayWriting words
+IsAnswerTo words (status.Text input number kind) = SayWriting words
+IsAnswerTo words status.Memory = ⊤
+
+-- what the words say was done, before a message is printed
+pub record Obeys (words : List (List ℕ)) (old new : HostState) (answer : Status) : Type 0 where
+  pub write : (out schema : List ℕ) (inputs : List (List ℕ)) (p : Params) → IsWrite words out schema inputs p → WritesNamed out schema inputs p old new answer
+  pub entries : (from count : Option ℕ) (name : List ℕ) → IsEntries words from count name
+      → ShowsNamed (entries_shown (range_said from count)) name old new answer
+  pub schema : (name : List ℕ) → IsSchemaCommand words name → ShowsNamed fields_shown name old new answer
+  pub usage : IsNoCommand words → ((answer ≡ status.Usage) ⊎ (answer ≡ status.Memory)) × (new ≡ old)
+  pub answers : IsAnswerTo words answer
+
+-- what the words say was done, and its message printed
+pub record Runs (words : List (List ℕ)) (old new : HostState) (answer : Status) : Type 0 where
+  pub write : (out schema : List ℕ) (inputs : List (List ℕ)) (p : Params) → IsWrite words out schema inputs p → RunsWrite out schema inputs p old new answer
+  pub entries : (from count : Option ℕ) (name : List ℕ) → IsEntries words from count name → RunsEntries from count name old new answer
+  pub schema : (name : List ℕ) → IsSchemaCommand words name → RunsSchema name old new answer
+  pub usage : IsNoCommand words → RefusesWords old new answer
+  pub answers : IsAnswerTo words answer

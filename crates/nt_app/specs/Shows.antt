@@ -4,15 +4,13 @@ use Rattle.nt_num.specs.declared.fault.ReadError.{ReadError}
 use Rattle.nt_outside.specs.declared.fault.Refused.{Refused}
 use Rattle.nt_outside.specs.declared.fault.Refused.TheVariants as refused
 use Rattle.nt_outside.specs.Faults.{Rose}
-use Rattle.nt_outside.specs.World.{World, File, HostState, file}
+use Rattle.nt_outside.specs.World.{World, Asked, File, HostState, file}
 use Rattle.nt_tfile.specs.declared.failure.ReadFailure.{ReadFailure}
 use Rattle.nt_tfile.specs.declared.failure.ReadFailure.TheVariants as failure
-use Rattle.nt_show.specs.declared.entry_range.EntryRange.{EntryRange}
-use Rattle.nt_show.specs.Shown.{Shown, shown_text, entries_shown, fields_shown}
+use Rattle.nt_show.specs.Shown.{Shown, shown_text}
+use Rattle.nt_store.specs.Worlds.{IsThereWith, AsksFirst, KeepsFiles}
 use Rattle.nt_app.specs.Statuses.{message_of}
-use Rattle.nt_app.specs.Stops.{IsThereWith}
-use Rattle.nt_app.specs.Writes.{KeepsFiles, AsksAsDone}
-use Rattle.nt_app.specs.Runs.{SaysOnErr, Served}
+use Rattle.nt_app.specs.Reports.{SaysOnErr, Served}
 use Rattle.nt_app.specs.declared.status.Status.{Status}
 use Rattle.nt_app.specs.declared.status.Status.TheVariants as status
 
@@ -47,6 +45,11 @@ ShownTold s found w w' (status.File e) =
 ShownTold s found w w' status.Outside = GainsFront (shown_of s found) w w'
 ShownTold s found w w' status.Memory = GainsFront (shown_of s found) w w'
 ShownTold s found w w' other = ⊥
+
+-- what such a command asks for: all of it where it is done, and else the first of it
+abbrev pub AsksAsDone : List Asked → List Asked → List Asked → Status → Type 0
+AsksAsDone objects old new status.Done = new ≡ old ++ objects
+AsksAsDone objects old new other = AsksFirst objects old new
 
 -- the answers of such a command
 abbrev pub IsAnswerOfReading : Status → Type 0
@@ -87,11 +90,3 @@ pub record Shows {V : Type 0} (s : Shown V) (name : List ℕ) (old new : HostSta
   -- and any other has its first fault told
   pub refused : (w : World) (e : ReadError) → old.world ≡ Some w → IsThereWith (λ bytes. s.reading bytes ≡ Err e) (file w name)
       → Served old new → (answer ≡ status.File e) ⊎ (answer ≡ status.Memory)
-
--- the words were `entries [--from A] [--count C] FILE`: read is what the file means, a schema and the entries of its clusters
-abbrev pub RunsEntries : EntryRange → List ℕ → HostState → HostState → Status → Type 0
-RunsEntries range name old new answer = Shows (entries_shown range) name old new answer
-
--- the words were `schema FILE`: read is the outline of the file
-abbrev pub RunsSchema : List ℕ → HostState → HostState → Status → Type 0
-RunsSchema name old new answer = Shows fields_shown name old new answer

@@ -5,46 +5,63 @@ use Rattle.nt_num.specs.declared.fault.ReadError.{ReadError}
 use Rattle.nt_app.specs.declared.status.Status.{Status}
 use Rattle.nt_app.specs.declared.status.Status.TheVariants as status
 use Rattle.nt_app.specs.declared.status.TextFault.{TextFault}
-use Rattle.nt_app.specs.declared.status.TextFault.TheVariants.{NotYet, Schema}
+use Rattle.nt_app.specs.declared.status.TextFault.TheVariants.{Schema, Line}
 use Rattle.nt_types.specs.declared.fault.SchemaKind.{SchemaKind}
-use Rattle.nt_types.specs.declared.fault.SchemaKind.TheVariants.{TooLong, BadName, Repeated, BadType, TooDeep, TooMany, Empty}
+use Rattle.nt_types.specs.declared.fault.SchemaKind.TheVariants as schema
+use Rattle.nt_event.specs.declared.fault.TextKind.{TextKind}
+use Rattle.nt_event.specs.declared.fault.TextKind.TheVariants as line
 
+-- the exit code of an answer
 abbrev pub status_code : Status → ℕ
 status_code status.Done = 0
 status_code status.Usage = 2
 status_code (status.File fault) = 3
 status_code status.Outside = 4
-status_code (status.Text input line kind) = 6
+status_code (status.Limit reached limit) = 5
+status_code (status.Text input number kind) = 6
 status_code status.Memory = 7
 
 -- the name of a schema text's fault
 abbrev pub schema_fault_name : SchemaKind → List ℕ
-schema_fault_name TooLong = codes "TooLong"
-schema_fault_name BadName = codes "BadName"
-schema_fault_name Repeated = codes "Repeated"
-schema_fault_name BadType = codes "BadType"
-schema_fault_name TooDeep = codes "TooDeep"
-schema_fault_name TooMany = codes "TooMany"
-schema_fault_name Empty = codes "Empty"
+schema_fault_name schema.TooLong = codes "TooLong"
+schema_fault_name schema.BadName = codes "BadName"
+schema_fault_name schema.Repeated = codes "Repeated"
+schema_fault_name schema.BadType = codes "BadType"
+schema_fault_name schema.TooDeep = codes "TooDeep"
+schema_fault_name schema.TooMany = codes "TooMany"
+schema_fault_name schema.Empty = codes "Empty"
+
+-- the name of a line's fault
+abbrev pub line_fault_name : TextKind → List ℕ
+line_fault_name line.TooLong = codes "TooLong"
+line_fault_name line.NotJson = codes "NotJson"
+line_fault_name line.NotArray = codes "NotArray"
+line_fault_name line.Count = codes "Count"
+line_fault_name line.Misfit = codes "Misfit"
 
 -- the name of a text's fault
 abbrev pub fault_name : TextFault → List ℕ
-fault_name NotYet = codes "NotYet"
 fault_name (Schema kind) = schema_fault_name kind
+fault_name (Line kind) = line_fault_name kind
 
 -- the first fault of a file
 abbrev pub file_message : ReadError → List ℕ
 file_message fault =
     codes "ntuple: file: " ++ decimal fault.code ++ codes " " ++ name_of fault.code ++ codes " at " ++ decimal fault.at ++ codes "\n"
 
+-- a limit that is passed
+abbrev pub limit_message : ℕ → ℕ → List ℕ
+limit_message reached limit = codes "ntuple: limit: " ++ decimal reached ++ codes " over " ++ decimal limit ++ codes "\n"
+
 -- which text a fault is in
 abbrev pub text_name : Option ℕ → List ℕ
 text_name None = codes "schema"
 text_name (Some input) = codes "input " ++ decimal input
 
+-- the first fault of the texts
 abbrev pub text_message : Option ℕ → ℕ → TextFault → List ℕ
-text_message input line kind =
-    codes "ntuple: text: " ++ text_name input ++ codes " line " ++ decimal line ++ codes ": " ++ fault_name kind ++ codes "\n"
+text_message input number kind =
+    codes "ntuple: text: " ++ text_name input ++ codes " line " ++ decimal number ++ codes ": " ++ fault_name kind ++ codes "\n"
 
 -- what is printed on err
 abbrev pub message_of : Status → List ℕ
@@ -52,5 +69,6 @@ message_of status.Done = []
 message_of status.Usage = codes "ntuple: usage\n"
 message_of (status.File fault) = file_message fault
 message_of status.Outside = codes "ntuple: outside\n"
-message_of (status.Text input line kind) = text_message input line kind
+message_of (status.Limit reached limit) = limit_message reached limit
+message_of (status.Text input number kind) = text_message input number kind
 message_of status.Memory = codes "ntuple: memory\n"

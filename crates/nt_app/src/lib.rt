@@ -1,25 +1,22 @@
-//! The commands of the program over any host: `write` makes an RNTuple file of a schema and of event lines, `entries` prints the
+//! The commands of the program over any host: `write` makes an RNTuple file of a schema text and event texts, `entries` prints the
 //! entries of any file, and `schema` its fields. All that is promised of the program is said of the one call `run`.
 //!
-//! Start at `program.rt`. `words.rt` reads the words, `write.rt` and `show.rt` are the commands, `writing.rt` the steps of a file
-//! that grows, `status.rt` and `message.rt` the answers and their lines. What is read of a file and shown stands in nt_show. The
-//! bytes of the file that is written stand in nt_onefield, as scaffold.
+//! Start at `program.rt`: `run`, and `run_alone` of those commands that wait for nobody. `write.rt` and `show.rt` are the commands,
+//! `status.rt` and `message.rt` the answers and their lines. The words are read by nt_words, a file is written by nt_store, and what
+//! is read of one is shown by nt_show.
+//!
+//! Words: `run` *reports* an answer where it prints its line on err; a status is *an answer to* words that may be answered so
+//! (`specs/Runs.antt`).
 //!
 //! Proved: all that `docs/PROOFS.md` lists of the program, as clauses of `run`. Tested, over memory in nt_rows: whole files, each
 //! answer with its line, and each call of the outside failing in turn.
 #![tactic(auto)]
 
-mod events;
 mod message;
 mod program;
 mod show;
 mod status;
-mod stop;
-mod texts;
-mod words;
 mod write;
-mod writing;
 
-pub use program::run;
+pub use program::{run, run_alone};
 pub use status::{Status, TextFault};
-pub use words::wrong_words_are_no_command;

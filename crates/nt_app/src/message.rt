@@ -2,11 +2,12 @@
 
 ghost use Rattle.std.specs.Prelude.{◌≡◌, ◌+◌, ◌≤◌, ◌<◌, ◌++◌, length, decimal};
 ghost use Rattle.arrayvec.specs.ArrayString.{array_string_len};
-ghost use Rattle.nt_app.specs.Statuses.{message_of, file_message, text_name, text_message, fault_name, schema_fault_name};
+ghost use Rattle.nt_app.specs.Statuses.{message_of, file_message, limit_message, text_name, text_message, fault_name, schema_fault_name, line_fault_name};
 
 use crate::status::{Status, TextFault};
 use arrayvec::ArrayString;
 use itoa::Buffer;
+use nt_event::TextKind;
 use nt_num::ReadError;
 use nt_types::SchemaKind;
 
@@ -25,6 +26,7 @@ pub fn message_of(status: &Status) -> Line
         Status::Usage => line("ntuple: usage\n"),
         Status::File(fault) => file_message(fault),
         Status::Outside => line("ntuple: outside\n"),
+        Status::Limit { reached, limit } => limit_message(*reached, *limit),
         Status::Text { input, line, kind } => text_message(*input, *line, *kind),
         Status::Memory => line("ntuple: memory\n"),
     }
@@ -64,6 +66,18 @@ fn file_message(fault: &ReadError) -> Line
     line
 }
 
+/// The line of a limit that is passed.
+fn limit_message(reached: u64, limit: u64) -> Line
+    ensures { result.bytes ≡ limit_message reached limit }
+{
+    let mut line = line("ntuple: limit: ");
+    push_number(&mut line, reached);
+    line.push_str(" over ");
+    push_number(&mut line, limit);
+    line.push_str("\n");
+    line
+}
+
 /// Adds which text a fault is in.
 fn push_text_name(line: &mut Line, input: Option<u32>)
     requires { array_string_len line.old ≤ 20 }
@@ -85,8 +99,8 @@ fn fault_name(kind: TextFault) -> &'static str
     ensures len { length result.now ≤ 10 }
 {
     match kind {
-        TextFault::NotYet => "NotYet",
         TextFault::Schema(kind) => schema_fault_name(kind),
+        TextFault::Line(kind) => line_fault_name(kind),
     }
 }
 
@@ -103,6 +117,20 @@ fn schema_fault_name(kind: SchemaKind) -> &'static str
         SchemaKind::TooDeep => "TooDeep",
         SchemaKind::TooMany => "TooMany",
         SchemaKind::Empty => "Empty",
+    }
+}
+
+/// The name of a line's fault.
+fn line_fault_name(kind: TextKind) -> &'static str
+    ensures name { result.now ≡ line_fault_name kind }
+    ensures len { length result.now ≤ 10 }
+{
+    match kind {
+        TextKind::TooLong => "TooLong",
+        TextKind::NotJson => "NotJson",
+        TextKind::NotArray => "NotArray",
+        TextKind::Count => "Count",
+        TextKind::Misfit => "Misfit",
     }
 }
 

@@ -2,16 +2,17 @@
 
 ghost use Rattle.std.specs.Prelude.{◌≡◌};
 
+use nt_event::TextKind;
 use nt_num::ReadError;
 use nt_types::SchemaKind;
 
 /// What is wrong with a text.
 #[derive(Clone, Copy, Debug, PartialEq, Eq)]
 pub enum TextFault {
-    /// It isn't of the form that is written so far.
-    NotYet,
     /// It is no schema text.
     Schema(SchemaKind),
+    /// A line of it is no entry of the fields.
+    Line(TextKind),
 }
 
 /// How a command ended.
@@ -24,7 +25,12 @@ pub enum Status {
     File(ReadError),
     /// The outside failed.
     Outside,
-    /// The first fault of the texts: of the input of this number, or of the schema where there is none.
+    /// What is written reaches so much, above a limit.
+    Limit {
+        reached: u64,
+        limit: u64,
+    },
+    /// The first fault of the texts: of the input of this number, from 0, or of the schema where there is none.
     Text {
         input: Option<u32>,
         line: u64,
@@ -46,6 +52,7 @@ impl Status {
             Status::Usage => 2,
             Status::File(_) => 3,
             Status::Outside => 4,
+            Status::Limit { .. } => 5,
             Status::Text { .. } => 6,
             Status::Memory => 7,
         }

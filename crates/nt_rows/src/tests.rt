@@ -1,19 +1,23 @@
 //! The program over memory.
 
 mod data;
-mod events;
 mod failing;
 mod files;
 mod foreign;
 mod gates;
+mod limits;
 mod schemas;
 mod shown;
+mod texts;
 mod words;
+mod written;
 
 use nt_app::{Status, run};
 use nt_memory::MemHost;
 use nt_outside::{Gate, NoGate};
 use std::alloc::{AllocError, Global};
+use std::sync::Wait;
+use std::thread::Threads;
 
 /// What a run answered, and what it left.
 #[derive(Drop)]
@@ -30,7 +34,8 @@ fn words_of(alloc: Global, words: &[&str]) -> Result<Vec<String>, AllocError> {
     Ok(list)
 }
 
-fn run_gated<G: Gate>(
+fn run_gated<R: Threads + Wait + Sync, G: Gate + Sync>(
+    rt: &R,
     alloc: Global,
     host: MemHost,
     words: &[&str],
@@ -38,30 +43,59 @@ fn run_gated<G: Gate>(
 ) -> Result<Ran, AllocError> {
     let mut host = host;
     let words = words_of(alloc, words)?;
-    let status = run(&(), alloc, words, &mut host, gate);
+    let status = run(rt, alloc, words, &mut host, gate);
     Ok(Ran { status, host })
 }
 
-fn run_words(alloc: Global, host: MemHost, words: &[&str]) -> Result<Ran, AllocError> {
-    run_gated(alloc, host, words, &NoGate)
+fn run_words<R: Threads + Wait + Sync>(
+    rt: &R,
+    alloc: Global,
+    host: MemHost,
+    words: &[&str],
+) -> Result<Ran, AllocError> {
+    run_gated(rt, alloc, host, words, &NoGate)
 }
 
-/// A run of `write o s a` over these texts.
-fn write_of(alloc: Global, schema: &[u8], input: &[u8]) -> Result<Ran, AllocError> {
+/// The names of inputs.
+const INPUTS: [&str; 3] = ["a", "b", "c"];
+
+/// A run of `write` with these options, of a schema text and at most three event texts, to the file `f`.
+fn write_of<R: Threads + Wait + Sync>(
+    rt: &R,
+    alloc: Global,
+    options: &[&str],
+    schema: &[u8],
+    inputs: &[&[u8]],
+) -> Result<Ran, AllocError> {
     let mut host = MemHost::new(alloc);
+    let mut words = Vec::new(alloc);
+    words.push("write")?;
+    words.extend_from_slice(options)?;
+    words.extend_from_slice(&["f", "s"])?;
     host.add("s", schema)?;
-    host.add("a", input)?;
-    run_words(alloc, host, &["write", "o", "s", "a"])
+    for (name, text) in INPUTS.iter().zip(inputs.iter()) {
+        host.add(*name, *text)?;
+        words.push(*name)?;
+    }
+    run_words(rt, alloc, host, &words)
 }
 
 /// A run of a command over this file, under the name `f`.
-fn run_over(alloc: Global, file: &[u8], words: &[&str]) -> Result<Ran, AllocError> {
+fn run_over<R: Threads + Wait + Sync>(
+    rt: &R,
+    alloc: Global,
+    file: &[u8],
+    words: &[&str],
+) -> Result<Ran, AllocError> {
     let mut host = MemHost::new(alloc);
     host.add("f", file)?;
-    run_words(alloc, host, words)
+    run_words(rt, alloc, host, words)
 }
 
-/// A run of `entries f` over this file.
-fn entries_of(alloc: Global, file: &[u8]) -> Result<Ran, AllocError> {
-    run_over(alloc, file, &["entries", "f"])
+/// The file `f` that a run left; empty where there is none.
+fn file_of(ran: &Ran) -> &[u8] {
+    match ran.host.file("f") {
+        Some(file) => file,
+        None => b"".as_slice(),
+    }
 }

@@ -21,7 +21,7 @@ fn other_files_have_their_first_fault(rt: HostRuntime) -> Result<(), Fail> {
         (b"root".as_slice(), no_header),
     ] {
         for command in ["entries", "schema"] {
-            let ran = run_over(rt.alloc(), file, &[command, "f"])?;
+            let ran = run_over(&rt, rt.alloc(), file, &[command, "f"])?;
             assert_eq!(rt; ran.status.code(), 3);
             assert_eq!(rt; ran.host.err(), line);
             assert_eq!(rt; ran.host.out(), b"".as_slice());
@@ -34,7 +34,7 @@ fn other_files_have_their_first_fault(rt: HostRuntime) -> Result<(), Fail> {
 fn a_file_that_is_cut_is_refused(rt: HostRuntime) -> Result<(), Fail> {
     let file = file_of_two(rt.alloc())?;
     for len in 0..file.len() {
-        let ran = run_over(rt.alloc(), &file[..len], &["entries", "f"])?;
+        let ran = run_over(&rt, rt.alloc(), &file[..len], &["entries", "f"])?;
         assert_eq!(rt; ran.status.code(), 3, "cut to {len}");
         // where the file ends stands in its header
         let told = ran.host.err() == b"ntuple: file: 3 BadFileHeader at 12\n".as_slice();

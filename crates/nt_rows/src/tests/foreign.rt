@@ -116,7 +116,7 @@ const SHOWN: [(&[&str], &[u8]); 3] = [
 #[test]
 fn a_foreign_file_is_shown(rt: HostRuntime) -> Result<(), Fail> {
     for (words, lines) in SHOWN {
-        let ran = run_over(rt.alloc(), &FOREIGN, words)?;
+        let ran = run_over(&rt, rt.alloc(), &FOREIGN, words)?;
         assert_eq!(rt; ran.status, Status::Done, "{words:?}");
         assert_eq!(rt; ran.host.out(), lines, "{words:?}");
         assert_eq!(rt; ran.host.err(), b"".as_slice());

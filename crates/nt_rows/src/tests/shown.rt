@@ -31,7 +31,7 @@ const SHOWN: [(&[&str], &[u8]); 9] = [
 fn entries_and_fields_are_printed(rt: HostRuntime) -> Result<(), Fail> {
     let file = file_of_two(rt.alloc())?;
     for (words, lines) in SHOWN {
-        let ran = run_over(rt.alloc(), &file, words)?;
+        let ran = run_over(&rt, rt.alloc(), &file, words)?;
         assert_eq!(rt; ran.status, Status::Done, "{words:?}");
         assert_eq!(rt; ran.host.out(), lines, "{words:?}");
         assert_eq!(rt; ran.host.err(), b"".as_slice());
@@ -49,7 +49,7 @@ fn a_page_is_checked_whatever_is_shown(rt: HostRuntime) -> Result<(), Fail> {
         &["entries", "--count", "0", "f"],
         &["entries", "--from", "2", "f"],
     ] {
-        let ran = run_over(rt.alloc(), &file, words)?;
+        let ran = run_over(&rt, rt.alloc(), &file, words)?;
         assert_eq!(rt;
             ran.host.err(),
             b"ntuple: file: 21 BadPage at 487\n".as_slice()
@@ -57,7 +57,7 @@ fn a_page_is_checked_whatever_is_shown(rt: HostRuntime) -> Result<(), Fail> {
         assert_eq!(rt; (ran.status.code(), ran.host.out()), (3, b"".as_slice()));
     }
     // no page is read for the fields
-    let ran = run_over(rt.alloc(), &file, &["schema", "f"])?;
+    let ran = run_over(&rt, rt.alloc(), &file, &["schema", "f"])?;
     assert_eq!(rt; ran.status, Status::Done);
     Ok(())
 }
@@ -66,7 +66,7 @@ fn a_page_is_checked_whatever_is_shown(rt: HostRuntime) -> Result<(), Fail> {
 fn what_stands_behind_the_file_is_not_looked_at(rt: HostRuntime) -> Result<(), Fail> {
     let mut file = file_of_one(rt.alloc())?;
     file.push(0)?;
-    let ran = run_over(rt.alloc(), &file, &["entries", "f"])?;
+    let ran = run_over(&rt, rt.alloc(), &file, &["entries", "f"])?;
     assert_eq!(rt; ran.status, Status::Done);
     assert_eq!(rt; ran.host.out(), b"[7]\n".as_slice());
     Ok(())

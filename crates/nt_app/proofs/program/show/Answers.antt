@@ -1,0 +1,16 @@
+use Rattle.std.proofs.Common.{subst}
+use Rattle.nt_show.specs.Shown.{entries_shown}
+use Rattle.nt_words.specs.CommandLine.{texts}
+use Rattle.nt_words.specs.Commands.{Says}
+use Rattle.nt_app.specs.Shows.{ShowsNamed}
+use Rattle.nt_app.proofs.Running.{no_memory, listed_words}
+use Rattle.nt_app.proofs.program.show.Goals as goal
+
+pub returns-in_default : goal.returns-in_default
+returns-in_default g c = no_memory _ _
+
+pub returns-in-Entries : goal.returns-in-Entries
+returns-in-Entries g c =
+    listed_words _ c.in-Entries.from c.in-Entries.count c.in-Entries.file.now _ _ _ (subst (Says (texts c.args.words.now)) c.in-Entries.is c.in-Ok.ensures)
+    (subst (λ n. ShowsNamed (entries_shown (record { from = n; count = c.in-Entries.count })) c.in-Entries.file.now (g.H.Host.state c.args.host.now)
+    (g.H.Host.state c.entries.new.host) c.entries.result) c.unwrap_or-from.ensures c.entries.ensures)

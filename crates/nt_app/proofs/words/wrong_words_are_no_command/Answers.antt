@@ -1,5 +1,0 @@
-use Rattle.nt_app.proofs.Spoken.{wrong_is_none}
-use Rattle.nt_app.proofs.words.wrong_words_are_no_command.Goals as goal
-
-pub returns : goal.returns
-returns c = wrong_is_none

@@ -1,0 +1,133 @@
+//! Lines of event texts that are taken, and those that are refused.
+
+use super::{file_of, run_over, write_of};
+use nt_app::Status;
+use std::test::*;
+
+/// A schema text, an event text, and what is printed of its entries.
+const TAKEN: [(&[u8], &[u8], &[u8]); 6] = [
+    (b"x u64", b"[1]", b"[1]\n"),
+    (
+        b"x u64",
+        b"[1]\n\n[2]\r\n \t\n [ 3 ] \n",
+        b"[1]\n[2]\n[3]\n",
+    ),
+    (b"x u64", b"\n\n", b""),
+    (
+        b"t string",
+        b"[{\"hex\":\"FF00\"}]",
+        b"[{\"hex\":\"ff00\"}]\n",
+    ),
+    (b"t string", b"[{\"hex\":\"6869\"}]", b"[\"hi\"]\n"),
+    (b"t string", b"[\"\\u0041\\/\"]", b"[\"A/\"]\n"),
+];
+
+#[test]
+fn lines_are_read_as_json(rt: HostRuntime) -> Result<(), Fail> {
+    for (schema, text, lines) in TAKEN {
+        let ran = write_of(&rt, rt.alloc(), &[], schema, &[text])?;
+        assert_eq!(rt; ran.status, Status::Done, "{text:?}");
+        let listed = run_over(&rt, rt.alloc(), file_of(&ran), &["entries", "f"])?;
+        assert_eq!(rt; listed.host.out(), lines, "{text:?}");
+    }
+    Ok(())
+}
+
+/// A schema text, inputs, and what is said of them.
+const REFUSED: [(&[u8], &[&[u8]], &[u8]); 17] = [
+    (
+        b"x u64",
+        &[b"[1.0]"],
+        b"ntuple: text: input 0 line 1: Misfit\n",
+    ),
+    (
+        b"x u64",
+        &[b"[18446744073709551616]"],
+        b"ntuple: text: input 0 line 1: Misfit\n",
+    ),
+    (
+        b"x u64",
+        &[b"[-1]"],
+        b"ntuple: text: input 0 line 1: Misfit\n",
+    ),
+    (
+        b"x u64",
+        &[b"[\"1\"]"],
+        b"ntuple: text: input 0 line 1: Misfit\n",
+    ),
+    (
+        b"x u64",
+        &[b"[1,2]"],
+        b"ntuple: text: input 0 line 1: Count\n",
+    ),
+    (b"x u64", &[b"[]"], b"ntuple: text: input 0 line 1: Count\n"),
+    (
+        b"x u64",
+        &[b"{}"],
+        b"ntuple: text: input 0 line 1: NotArray\n",
+    ),
+    (
+        b"x u64",
+        &[b"1"],
+        b"ntuple: text: input 0 line 1: NotArray\n",
+    ),
+    (
+        b"x u64",
+        &[b"["],
+        b"ntuple: text: input 0 line 1: NotJson\n",
+    ),
+    (
+        b"x u64",
+        &[b"[01]"],
+        b"ntuple: text: input 0 line 1: NotJson\n",
+    ),
+    (
+        b"x u64",
+        &[b"[1] x"],
+        b"ntuple: text: input 0 line 1: NotJson\n",
+    ),
+    (
+        b"t string",
+        &[b"[{\"hex\":\"f\"}]"],
+        b"ntuple: text: input 0 line 1: Misfit\n",
+    ),
+    (
+        b"v var<u8,string>",
+        &[b"[null]\n[[3,1]]"],
+        b"ntuple: text: input 0 line 2: Misfit\n",
+    ),
+    (
+        b"x u8",
+        &[b"[1]", b"[2]\n[300]"],
+        b"ntuple: text: input 1 line 2: Misfit\n",
+    ),
+    // blank lines count, and what stands behind the first bad line doesn't
+    (
+        b"x u64",
+        &[b"[1]\n\n\r\n[x]\n[]"],
+        b"ntuple: text: input 0 line 4: NotJson\n",
+    ),
+    // of inputs with a bad line the lowest number is told
+    (
+        b"x u64",
+        &[b"[1]\n[2]\n{}", b"[]"],
+        b"ntuple: text: input 0 line 3: NotArray\n",
+    ),
+    (
+        b"x u64",
+        &[b"", b"[1]", b"\n[]"],
+        b"ntuple: text: input 2 line 2: Count\n",
+    ),
+];
+
+#[test]
+fn other_lines_are_refused(rt: HostRuntime) -> Result<(), Fail> {
+    for (schema, inputs, message) in REFUSED {
+        let ran = write_of(&rt, rt.alloc(), &[], schema, inputs)?;
+        assert_eq!(rt; ran.status.code(), 6, "{inputs:?}");
+        assert_eq!(rt; ran.host.err(), message);
+        assert_eq!(rt; ran.host.out(), b"".as_slice());
+        assert_eq!(rt; file_of(&ran).first(), Some(&0), "{inputs:?}");
+    }
+    Ok(())
+}
