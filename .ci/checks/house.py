@@ -17,9 +17,6 @@ LAYERS = ["definitions", "codecs", "data", "plans", "threads", "whole files", "p
 # Names that several crates may define: those of a type's own model.
 SHARED = set("state_of".split())
 
-# The file of one field, which goes once the program stands on the container, the page lists and the reader.
-SCAFFOLD = "crates/nt_onefield/specs/"
-
 DOCUMENTS = ["README.md"] + sorted("docs/" + name for name in os.listdir("docs") if name.endswith(".md"))
 
 
@@ -96,7 +93,7 @@ def check_names(files):
     pattern = re.compile(r"(?:abbrev |unfoldable )*pub (?:record |data |abbrev |mutual )*([\w'◌<>=-]+)")
     for path in files:
         inside = re.match(r"crates/(\w+)/specs/", path)
-        if not inside or path.startswith(SCAFFOLD):
+        if not inside:
             continue
         for line in lines_of(path):
             found = pattern.match(line)

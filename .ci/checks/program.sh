@@ -24,17 +24,25 @@ fail() {
     failures=$((failures + 1))
 }
 
+# is_open FILE: it can't pass for finished
+is_open() {
+    [ ! -s "$1" ] || [ "$(head -c 1 "$1" | od -An -tx1)" = ' 00' ]
+}
+
 # same FILE FILE: both have the same bytes
 same() {
     cmp "$1" "$2" || fail "$1 differs from $2"
 }
 
-cp "$top"/examples/*.txt .
+printf 'x u64\n' >schema.txt
+printf '[1]\n[18446744073709551615]\n' >events.txt
+printf '[7]\n' >one.txt
+two=$top/crates/nt_tool/data/two.root
 
 # two lines, written and printed again
-expect 0 '' write two.root schema.txt events.txt
+expect 0 '' write --plain two.root schema.txt events.txt
 printf 'order 0\n' | cmp - out || fail 'no order line'
-same two.root "$top/crates/nt_tool/data/two.root"
+same two.root "$two"
 expect 0 '' entries two.root
 same out events.txt
 expect 0 '' entries --from 1 --count 1 two.root
@@ -42,30 +50,75 @@ tail -n 1 events.txt | cmp - out || fail 'not the second line alone'
 expect 0 '' schema two.root
 printf '[0,0,"x","std::uint64_t",0,[10],true]\n' | cmp - out || fail 'no line of the field'
 
+# the same by planes of bytes, over a file that is there
+expect 0 '' write two.root schema.txt events.txt
+[ "$(wc -c <two.root)" -eq 1137 ] || fail 'a split file has another size than a plain one'
+expect 0 '' entries two.root
+same out events.txt
+expect 0 '' schema two.root
+printf '[0,0,"x","std::uint64_t",0,[22],true]\n' | cmp - out || fail 'the column is not split'
+
 # one line, over a longer file
 expect 0 '' write two.root schema.txt one.txt
 [ "$(wc -c <two.root)" -eq 1129 ] || fail 'a file that was there is not emptied first'
 expect 0 '' entries two.root
 same out one.txt
+expect 0 '' write --plain two.root schema.txt events.txt
+
+# the example
+expect 0 '' write example.root "$top/examples/schema.txt" "$top/examples/events.txt"
+printf 'order 0\n' | cmp - out || fail 'no order line of the example'
+expect 0 '' entries example.root
+same out "$top/examples/events.txt"
+expect 0 '' schema example.root
+[ "$(wc -l <out)" -eq 8 ] || fail 'the example has not eight fields'
+
+# inputs without entries, and more than one
+: >nothing.txt
+expect 0 '' write none.root schema.txt nothing.txt
+printf 'order\n' | cmp - out || fail 'clusters of no entries'
+[ "$(wc -c <none.root)" -eq 857 ] || fail 'a file without entries has another size'
+expect 0 '' entries none.root
+[ ! -s out ] || fail 'entries of none'
+printf '[1]\n\n[2] \r\n[3]' >three.txt
+expect 0 '' write --cluster 2 --page 1 --group 1 three.root schema.txt three.txt nothing.txt
+printf 'order 0 0\n' | cmp - out || fail 'other clusters than two of the first input'
+expect 0 '' entries three.root
+printf '[1]\n[2]\n[3]\n' | cmp - out || fail 'not the three entries'
 
 # words that are no command
 expect 2 'ntuple: usage'
+expect 2 'ntuple: usage' write out.root schema.txt
 expect 2 'ntuple: usage' write out.root schema.txt out.root
+expect 2 'ntuple: usage' write out.root schema.txt events.txt out.root
+expect 2 'ntuple: usage' write out.root out.root events.txt
+expect 2 'ntuple: usage' write out.root schema.txt $(yes events.txt | head -n 65)
+for option in '--cluster 0' '--cluster 1000001' '--page 0' '--page 1048577' '--group 0' '--group 10001' '--max-range 1023' \
+    '--max-range 1073741825' '--max-file 1023' '--max-file 72057594037927937' '--cluster -1' '--cluster many' '--cluster' '--other 1'; do
+    expect 2 'ntuple: usage' write $option out.root schema.txt events.txt
+done
 expect 2 'ntuple: usage' entries
 expect 2 'ntuple: usage' entries $'\xff.root'
 expect 2 'ntuple: usage' entries --help
 expect 2 'ntuple: usage' entries --from -1 two.root
 expect 2 'ntuple: usage' schema
-expect 2 'ntuple: usage' write --plain out.root schema.txt events.txt
+expect 2 'ntuple: usage' schema --plain two.root
 [ ! -e out.root ] || fail 'words that are no command made a file'
+expect 0 '' write --cluster 1000000 --page 1048576 --group 10000 --max-range 1073741824 --max-file 72057594037927936 \
+    most.root schema.txt events.txt
+expect 0 '' write --cluster 1 --page 1 --group 1 --max-range 1024 --max-file 2048 least.root schema.txt events.txt
+expect 0 '' write many.root schema.txt $(yes one.txt | head -n 64)
+expect 0 '' entries many.root
+[ "$(sort -u out)" = '[7]' ] && [ "$(wc -l <out)" -eq 64 ] || fail 'not an entry of each of 64 inputs'
 
 # what follows `--` is no option
 cp schema.txt ./-schema.txt
-expect 0 '' write dash.root -- -schema.txt events.txt
-same dash.root "$top/crates/nt_tool/data/two.root"
+expect 0 '' write --plain dash.root -- -schema.txt events.txt
+same dash.root "$two"
 
 # what the outside refuses
 expect 4 'ntuple: outside' write new.root schema.txt missing.txt
+expect 4 'ntuple: outside' write new.root schema.txt events.txt missing.txt
 expect 4 'ntuple: outside' write new.root missing.txt events.txt
 [ ! -e new.root ] || fail 'a missing input made a file'
 expect 4 'ntuple: outside' write no/such.root schema.txt events.txt
@@ -78,48 +131,78 @@ expect 4 'ntuple: outside' entries .
 # OUT may be a link to a file that isn't there yet
 mkdir linked
 ln -s linked/there.root far.root
-expect 0 '' write far.root schema.txt events.txt
-same linked/there.root "$top/crates/nt_tool/data/two.root"
+expect 0 '' write --plain far.root schema.txt events.txt
+same linked/there.root "$two"
 
 # OUT is never an input, under whatever name
-for input in schema.txt events.txt; do
+for input in schema.txt events.txt one.txt; do
     cp "$input" kept
     ln -s "$input" "link-$input"
     ln "$input" "hard-$input"
     for out in "./$input" "$work/$input" "link-$input" "hard-$input"; do
-        expect 4 'ntuple: outside' write "$out" schema.txt events.txt
+        expect 4 'ntuple: outside' write "$out" schema.txt events.txt one.txt
         same "$input" kept
         [ ! -s out ] || fail "an order line, though OUT is $input: $out"
     done
 done
 ln -s linked.root link.root
-expect 0 '' write link.root schema.txt events.txt
-same linked.root "$top/crates/nt_tool/data/two.root"
+expect 0 '' write --plain link.root schema.txt events.txt
+same linked.root "$two"
 mkdir folder
-expect 0 '' write folder/two.root schema.txt events.txt
-same folder/two.root "$top/crates/nt_tool/data/two.root"
+expect 0 '' write --plain folder/two.root schema.txt events.txt
+same folder/two.root "$two"
 
 # a file that can't grow is left with byte 0 zero
 (ulimit -f 1 && trap '' XFSZ && "$program" write small.root schema.txt events.txt >out 2>err)
 [ $? -eq 4 ] || fail 'a file that cannot grow is no status 4'
-[ "$(head -c 1 small.root | od -An -tx1)" = ' 00' ] || [ ! -s small.root ] || fail 'an unfinished file looks finished'
+is_open small.root || fail 'an unfinished file looks finished'
 
-# texts of another form
+# limits
+seq 1000 | sed 's/.*/[&]/' >thousand.txt
+expect 5 'ntuple: limit: 8495 over 4096' write --max-file 4096 large.root schema.txt thousand.txt
+[ ! -s out ] || fail 'an order line of clusters that passed a limit'
+expect 3 'ntuple: file: 1 Unfinished at 0' entries large.root
+expect 5 'ntuple: limit: 8050 over 1024' write --max-range 1024 large.root schema.txt thousand.txt
+is_open large.root || fail 'a file whose cluster passed a limit looks finished'
+expect 5 'ntuple: limit: 1137 over 1100' write --max-file 1100 large.root schema.txt events.txt
+printf 'order 0\n' | cmp - out || fail 'no order line before the file is closed'
+is_open large.root || fail 'a file that passed a limit at its end looks finished'
+
+# texts with a fault
 printf '[1]\n[01]\n' >bad.txt
-expect 6 'ntuple: text: input 0 line 0: NotYet' write bad.root schema.txt bad.txt
-[ "$(head -c 1 bad.root | od -An -tx1)" = ' 00' ] || fail 'byte 0 of an unfinished file is not zero'
-printf 'y u64\n' >other.txt
-expect 6 'ntuple: text: schema line 0: NotYet' write other.root other.txt events.txt
-[ ! -e other.root ] || fail 'a schema of another form made a file'
-printf 'x u64\nx u8\n' >twice.txt
-expect 6 'ntuple: text: schema line 2: Repeated' write twice.root twice.txt events.txt
+expect 6 'ntuple: text: input 0 line 2: NotJson' write bad.root schema.txt bad.txt
+is_open bad.root || fail 'a file of a faulty text looks finished'
+[ ! -s out ] || fail 'an order line of a faulty text'
+printf '\n[300]\n' >large.txt
+printf 'x u8\n' >byte.txt
+expect 6 'ntuple: text: input 1 line 2: Misfit' write bad.root byte.txt one.txt large.txt
+while read -r kind line; do
+    printf '%s\n' "$line" >line.txt
+    expect 6 "ntuple: text: input 0 line 1: $kind" write bad.root schema.txt line.txt
+done <<'EOF'
+NotJson [
+NotArray {}
+Count [1,2]
+Misfit [1.0]
+Misfit [18446744073709551616]
+EOF
+head -c 16777217 /dev/zero | tr '\0' ' ' >wide.txt
+expect 6 'ntuple: text: input 0 line 1: TooLong' write bad.root schema.txt wide.txt
+while read -r fault schema; do
+    printf "$schema" >other.txt
+    expect 6 "ntuple: text: schema line ${fault/\%/ }" write other.root other.txt events.txt
+done <<'EOF'
+2:%Repeated x u64\nx u8\n
+2:%BadName \n\tx u64\n
+1:%BadType v var<rec{a:u8}>\n
+0:%Empty \n
+EOF
 head -c 2000000 /dev/zero | tr '\0' '\n' >long.txt
-expect 6 'ntuple: text: schema line 0: TooLong' write long.root long.txt events.txt
-printf '\n\tx u64\n' >blank.txt
-expect 6 'ntuple: text: schema line 2: BadName' write blank.root blank.txt events.txt
+expect 6 'ntuple: text: schema line 0: TooLong' write other.root long.txt events.txt
+[ ! -e other.root ] || fail 'a faulty schema made a file'
 printf '\n \t\nx\tu64 \t\r\n' >blanks.txt
-expect 0 '' write blanks.root blanks.txt events.txt
-same blanks.root "$top/crates/nt_tool/data/two.root"
+expect 0 '' write --plain blanks.root blanks.txt events.txt
+same blanks.root "$two"
 
 # files of another form
 : >empty.root
@@ -128,7 +211,7 @@ expect 3 'ntuple: file: 1 Unfinished at 0' entries bad.root
 printf 'PK' >zip.root
 expect 3 'ntuple: file: 2 NotRoot at 0' entries zip.root
 expect 3 'ntuple: file: 2 NotRoot at 0' schema zip.root
-head -c 1100 "$top/crates/nt_tool/data/two.root" >cut.root
+head -c 1100 "$two" >cut.root
 expect 3 'ntuple: file: 3 BadFileHeader at 12' entries cut.root
 
 [ "$failures" -eq 0 ]

@@ -1,0 +1,124 @@
+"""Runs the built program over real files, and ends with 1 where something is amiss.
+
+- RUNS times eight small inputs are written, in clusters, pages and groups of other sizes each time, and printed again. The order line deals
+  out the chunks of each input, whole, once and in their order, and the lines that are printed are just these chunks.
+- An input of 100000 events is written with the defaults, listed, and printed again; what is printed is written again as the same file.
+"""
+import os
+import subprocess
+import sys
+import tempfile
+import time
+
+RUNS = 200
+SCHEMA = "context u8\nnumber i32\nnames vec<string>\nhit var<u8,vec<u16>>\n"
+LENGTHS = [40, 1, 17, 0, 23, 6, 31, 12]
+LONG_SCHEMA = "run u32\nids vec<u32>\ntag string\n"
+LONG_FIELDS = '[0,0,"run","std::uint32_t",0,[20],true]\n[1,1,"ids","std::vector<std::uint32_t>",1,[27],true]\n' \
+    '[2,2,"tag","std::string",0,[27,2],true]\n[3,1,"_0","std::uint32_t",0,[20],true]\n'
+
+
+class Amiss(Exception):
+    """What is amiss."""
+
+
+def call(program, *words):
+    """What a command that is done prints."""
+    done = subprocess.run([program, *words], capture_output=True)
+    if done.returncode != 0 or done.stderr:
+        raise Amiss(f"status {done.returncode}, err {done.stderr!r}: {' '.join(words)}")
+    return done.stdout.decode()
+
+
+def save(name, text):
+    with open(name, "w", encoding="utf-8") as file:
+        file.write(text)
+
+
+def bytes_of(name):
+    with open(name, "rb") as file:
+        return file.read()
+
+
+def small_lines(context, count):
+    hits = ["null", "[1,7]", "[2,[]]", f"[2,[{context},65535]]"]
+    names = ['""', '"a"', '"\u00e4\\n"']
+    return [f"[{context},{k - 5},[{','.join(names[:k % 4])}],{hits[k % 4]}]\n" for k in range(count)]
+
+
+def dealt(order, chunks):
+    """The lines of the chunks, one by one in the order; each context's in their order."""
+    left = [list(of) for of in chunks]
+    lines = []
+    for context in order:
+        if context >= len(left) or not left[context]:
+            raise Amiss(f"the order has too many chunks of context {context}: {order}")
+        lines += left[context].pop(0)
+    if any(left):
+        raise Amiss(f"the order lacks chunks: {order}")
+    return "".join(lines)
+
+
+def order_of(printed):
+    words = printed.split(" ")
+    if not printed.endswith("\n") or words[0].strip() != "order":
+        raise Amiss(f"no order line: {printed!r}")
+    return [int(word) for word in words[1:]]
+
+
+def small_run(program, run, texts):
+    """Writes the inputs in one way and prints them again; the order."""
+    cluster = 1 + run % 7
+    options = ["--cluster", str(cluster), "--page", str(1 + run % 5), "--group", str(1 + run % 3)] + ["--plain"] * (run % 4 == 3)
+    inputs = [f"small-{context}" for context in range(len(texts))]
+    order = order_of(call(program, "write", *options, "small.root", "small.schema", *inputs))
+    chunks = [[text[at:at + cluster] for at in range(0, len(text), cluster)] for text in texts]
+    if call(program, "entries", "small.root") != dealt(order, chunks):
+        raise Amiss(f"run {run}: the entries aren't the chunks in the order {order}")
+    return order
+
+
+def small_runs(program):
+    texts = [small_lines(context, count) for context, count in enumerate(LENGTHS)]
+    save("small.schema", SCHEMA)
+    for context, text in enumerate(texts):
+        save(f"small-{context}", "".join(text))
+    orders = {(run % 7, tuple(small_run(program, run, texts))) for run in range(RUNS)}
+    return len(orders)
+
+
+def long_run(program):
+    lines = [f'[{k % 1000},[{",".join(str(k * j % 1000000) for j in range(k % 4))}],"t{k % 10}"]\n' for k in range(100000)]
+    save("long.schema", LONG_SCHEMA)
+    save("long", "".join(lines))
+    for text, out in (("long", "first.root"), ("again", "second.root")):
+        if call(program, "write", out, "long.schema", text) != "order" + " 0" * 10 + "\n":
+            raise Amiss(f"{out}: another order line than that of ten clusters")
+        if call(program, "schema", out) != LONG_FIELDS:
+            raise Amiss(f"{out}: other fields")
+        save("again", call(program, "entries", out))
+        if bytes_of("again") != bytes_of("long"):
+            raise Amiss(f"{out}: the entries aren't the events")
+    if bytes_of("first.root") != bytes_of("second.root"):
+        raise Amiss("the entries, written again, are another file")
+
+
+def main():
+    program = os.path.abspath(sys.argv[1])
+    begun = time.monotonic()
+    with tempfile.TemporaryDirectory() as folder:
+        os.chdir(folder)
+        try:
+            orders = small_runs(program)
+            long_run(program)
+        except Amiss as fault:
+            print(f"amiss: {fault}", file=sys.stderr)
+            return 1
+        finally:
+            os.chdir("/")
+    print(f"runs: {RUNS} of eight inputs in {orders} orders, and a long one, in {time.monotonic() - begun:.1f} seconds")
+    return 0
+
+
+if __name__ == "__main__":
+    sys.exit(main())
