@@ -16,6 +16,9 @@ use std::alloc::{AllocError, Global};
 /// How deep arrays nest in that of a line.
 const DEEPEST: usize = 126;
 
+/// How many items a list has room for at once, so that it seldom grows.
+const FEW: usize = 16;
+
 /// Passes an opening bracket, where arrays may nest so deep; how deep they may nest behind it.
 fn open(text: &[u8], at: usize, deep: usize) -> Option<(usize, usize)>
     ensures bracket { IfSome result (λ r. StandsFrom (91 ∷ []) text.now at r.0) }
@@ -93,13 +96,13 @@ fn items(
     ensures good { IfOk result (λ found. IfSome found
         (λ r. AllGood deep (shape_view of.now) (map tree_view r.0.items))) }
 {
-    let mut list = Vec::new(alloc);
     if let Some(end) = after(text, at, b']') {
-        return Ok(Some((list, end)));
+        return Ok(Some((Vec::new(alloc), end)));
     }
     let Some((first, mut i)) = value(alloc, of, text, at, deep)? else {
         return Ok(None);
     };
+    let mut list = Vec::with_capacity(alloc, FEW)?;
     list.push(first)?;
     while let Some(next) = comma(text, i) {
         let Some((item, end)) = value(alloc, of, text, next, deep)? else {

@@ -49,7 +49,7 @@ items-loop-next-init t c =
     let i = c.in-Some-2.i in
     let item : ReadsValue deep k (tree_view first) text at i =
     subst (λ o. IfSome o (λ r. ReadsValue deep k (tree_view r.0) text at r.1)) c.in-Some-2.is c.in_ok-first.ensures in
-    let more = c.in_ok-push.ensures.items ∙ ap (λ (l : List Tree). l ++ first ∷ []) c.new-list.ensures.items in
+    let more = c.in_ok-push.ensures.items ∙ ap (λ (l : List Tree). l ++ first ∷ []) c.in_ok-list.ensures.items in
     let views = ap (map tree_view) more in
     record {
       some = omega (arith, ap length more);
@@ -63,7 +63,7 @@ pub items-returns-in-Some-clause-stands : goal.items-returns-in-Some-clause-stan
 items-returns-in-Some-clause-stands t c =
     let text = c.args.text.now in
     let at = c.args.at in
-    subst (λ (vs : List Tree). ItemsStand (jsons_of (trees_of (map tree_view vs))) text at c.in-Some.end) (sym c.new-list.ensures.items)
+    subst (λ (vs : List Tree). ItemsStand (jsons_of (trees_of (map tree_view vs))) text at c.in-Some.end) (sym c.new.ensures.items)
     (open-end text at at c.in-Some.end [] (omega arith) refl c.in-Some.ensures)
 
 pub items-returns-in-Some-after-clause-stands : goal.items-returns-in-Some-after-clause-stands
