@@ -43,7 +43,12 @@ fn put_unsigned(n: u64, out: &mut Vec<u8>) -> Result<(), AllocError>
     ensures kept { take (length out.old.items) out.new.items ≡ out.old.items }
 {
     let mut digits = Buffer::new();
-    out.extend_from_slice(digits.format(n).as_bytes())
+    // Most numbers are short, and 32 bits are printed faster than 64.
+    if n < 1 << 32 {
+        out.extend_from_slice(digits.format(n as u32).as_bytes())
+    } else {
+        out.extend_from_slice(digits.format(n).as_bytes())
+    }
 }
 
 /// Appends a number, with its sign if it is below zero.
