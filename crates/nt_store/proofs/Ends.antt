@@ -22,12 +22,12 @@ use Rattle.nt_store.specs.Errors.{error_of_refusal, IsRefusal}
 use Rattle.nt_store.specs.Orders.{order_line, GainsOrderFront}
 use Rattle.nt_store.specs.Schemas.{TellsSchema}
 use Rattle.nt_store.specs.Texts.{AreTexts}
-use Rattle.nt_store.specs.Worlds.{IsThereWith, OthersStay, IsLeftOpen, IsNeverBegun, IsWrittenInOrder, WritesInOrder}
+use Rattle.nt_store.specs.Worlds.{IsThereWith, OthersStay, MakesDisk, IsLeftOpen, IsNeverBegun, IsWrittenInOrder, WritesInOrder}
 use Rattle.nt_store.specs.Stored.{StoresWhole, StoreTold}
 use Rattle.nt_store.specs.Writing.{NeverBegan, EndsWhole, FileTold, IsInOrderFrom}
 
 -- a disk that came back is found under its name
-stored_kept : (files : Files) (name : List ℕ) (s : Stored) → map.get (map.insert files name s) name ≡ Some s
+pub stored_kept : (files : Files) (name : List ℕ) (s : Stored) → map.get (map.insert files name s) name ≡ Some s
 stored_kept files name s = grind (arith, gets)
 
 -- and leaves every other
@@ -161,7 +161,7 @@ module _ (out schema : List ℕ) (inputs : List (List ℕ)) (p : Params) (fields
     out_told (Err (Schema line kind)) told = absurd told
 
     -- the name whose disk is out
-    left_world : (result : Result Unit StoreError) → FileTold fields p texts (creates out w) world held result
+    pub left_world : (result : Result Unit StoreError) → FileTold fields p texts (creates out w) world held result
         → (u : World) × (world ≡ Some u) × (u.creating ≡ Some out)
     left_world (Ok value) ends = (_, ends.printed, refl)
     left_world (Err Outside) (inr ends) = (_, ends.printed, refl)
@@ -194,11 +194,15 @@ world_is : (a b : World) → ◌≡◌ {A = Option World} (Some a) (Some b) → 
 world_is a b e = cc
 
 -- where nothing changed no disk was made
-pub nothing_made : (name : List ℕ) (old new : Option World) → new ≡ old → WritesInOrder name old new
-nothing_made name old new stays w w' is is' made =
+pub none_made : (name : List ℕ) (old new : Option World) → new ≡ old → (w w' : World) → old ≡ Some w → new ≡ Some w'
+    → MakesDisk name w w' → ⊥
+none_made name old new stays w w' is is' made =
     let same : w ≡ w' = world_is w w' (sym is ∙ (sym stays ∙ is')) in
     let none : w'.created ≡ w'.created ++ name ∷ [] = subst (λ (v : World). w'.created ≡ v.created ++ name ∷ []) same made in
-    absurd (omega (arith, ap (λ (l : List (List ℕ)). length l) none, length-append w'.created (name ∷ [])))
+    omega (arith, ap (λ (l : List (List ℕ)). length l) none, length-append w'.created (name ∷ []))
+
+pub nothing_made : (name : List ℕ) (old new : Option World) → new ≡ old → WritesInOrder name old new
+nothing_made name old new stays w w' is is' made = absurd (none_made name old new stays w w' is is' made)
 
 -- nothing is printed
 gains_none : (w : World) → GainsOrderFront w w

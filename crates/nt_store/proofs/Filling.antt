@@ -16,7 +16,9 @@ use Rattle.nt_book.specs.declared.params.Params.{Params}
 use Rattle.nt_book.specs.declared.limits.LimitError.TheVariants as limit
 use Rattle.nt_book.specs.Books.{BookData}
 use Rattle.nt_book.specs.Kept.{IsBookKept}
+use Rattle.nt_machine.specs.Legal.{IsLegal}
 use Rattle.nt_layout.specs.Headers.{header_blob, file_begun}
+use Rattle.nt_crash.specs.Fillings.{IsFilled}
 use Rattle.nt_close.specs.declared.error.BeginError.{BeginError}
 use Rattle.nt_close.specs.declared.error.BeginError.TheVariants as begin
 use Rattle.nt_close.specs.Beginning.{new_book, IsNotBegun}
@@ -111,6 +113,7 @@ pub record IsDealtShut (fields : List MemberData) (p : Params) (texts : List (Li
     pub ranges : List (List ℕ)
     pub holds : HoldsChunks fields p texts t book ranges
     pub image : h.image ≡ file_begun t ++ concat ranges
+    pub filled : IsFilled t ranges h.log
 
 pub dealt_from : (fields : List MemberData) (p : Params) (texts : List (List ℕ)) (t : Table) (book : BookData) (old new : Option Held) (h
     : Held) → AreFields fields → Rows fields p.plain t
@@ -124,6 +127,14 @@ dealt_from fields p texts t book old new h rules rows within kept book_on sound 
       ranges = dealt.ranges;
       holds = record { rules = rules; rows = rows; within = within; kept = kept; book_on = book_on; sound = sound; are = dealt.are };
       image = subst (λ (k : Held). k.image ≡ file_begun t ++ concat dealt.ranges) same (left.2.stand (begun_known t));
+      filled = subst (λ (k : Held). IsFilled t dealt.ranges k.log) same (record {
+        filling = record {
+          history = left.2.fills.history;
+          legal = subst (λ (n : ℕ). IsLegal n left.2.fills.history) book_on.begin left.2.fills.legal;
+          is = left.2.fills.log;
+        };
+        settled = left.2.settled;
+      });
     }
   where
     held_is : (a b : Held) → ◌≡◌ {A = Option Held} (Some a) (Some b) → a ≡ b

@@ -47,7 +47,7 @@ whole_printed book w new is = (commit_order book, order_line (commit_order book)
 held_is : (a b : Held) → ◌≡◌ {A = Option Held} (Some a) (Some b) → a ≡ b
 held_is a b e = cc
 
-none_spoiled : (book : BookData) (cluster faults : ℕ) → NoneSpoiled book → IsFirstSpoiled book cluster faults → ⊥
+pub none_spoiled : (book : BookData) (cluster faults : ℕ) → NoneSpoiled book → IsFirstSpoiled book cluster faults → ⊥
 none_spoiled book cluster faults none first = subst IsUnspoiled first.spoiled (none cluster first.inside)
 
 module _ (t : Table) (p : Params) (book : BookData) (begin : book.begin ≡ clusters_place t) where

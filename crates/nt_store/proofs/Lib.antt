@@ -9,4 +9,6 @@ pub mod Passing
 pub mod Finishing
 pub mod Filling
 pub mod Ends
+pub mod Crashing
+pub mod Crashed
 pub mod Asking

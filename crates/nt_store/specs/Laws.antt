@@ -7,7 +7,14 @@ use Rattle.nt_grammar.specs.Rows.{Rows}
 use Rattle.nt_book.specs.declared.params.Params.{Params}
 use Rattle.nt_book.specs.Books.{BookData}
 use Rattle.nt_book.specs.Kept.{IsBookKept}
-use Rattle.nt_layout.specs.Finished.{finished}
+use Rattle.nt_outside.specs.Log.{Step}
+use Rattle.nt_outside.specs.Held.{Held, nothing_held}
+use Rattle.nt_container.specs.Spelling.{begun}
+use Rattle.nt_layout.specs.Headers.{header_blob}
+use Rattle.nt_layout.specs.Finished.{finished, tail, front}
+use Rattle.nt_close.specs.Steps.{closed_on, IsBegunSoFar, IsClosedSoFar}
+use Rattle.nt_crash.specs.Cuts.{LeavesUnfinished, LeavesUnfinishedOr, LeavesOnly}
+use Rattle.nt_crash.specs.Fillings.{IsFilling, IsFilled}
 use Rattle.nt_close.specs.Beginning.{new_book}
 use Rattle.nt_close.specs.Passing.{passed_by_begin, passed_by_close}
 use Rattle.nt_close.specs.Closing.{AreRangesOf, StaysWithin}
@@ -15,7 +22,7 @@ use Rattle.nt_dealing.specs.Dealt.{AreChunksDealt, commit_order}
 use Rattle.nt_dealing.specs.Texts.{AreSound, chunks_of, all_chunks}
 use Rattle.nt_dealing.specs.Limits.{IsOver}
 use Rattle.nt_contexts.specs.Contexts.{IsBookOn}
-use Rattle.nt_store.specs.Stored.{IsStored}
+use Rattle.nt_store.specs.Whole.{IsStored}
 use Rattle.nt_store.specs.Writing.{IsPassedAs}
 
 -- a file was begun for these fields, and its clusters are the chunks of sound texts, dealt out
@@ -49,3 +56,15 @@ PassedAreOver =
     : ℕ)
     → HoldsChunks fields p texts t book ranges → IsPassedAs (passed_by_close p t book) reached most
     → IsOver t p (all_chunks p.cluster fields texts) reached most
+
+-- what a crash leaves of such a file, and of one that is only begun or has ranges of its contexts
+pub record CrashesLeave : Type 0 where
+  pub beginning : (t : Table) (left : Held) → IsBegunSoFar (begun 0 0 0) (header_blob t) nothing_held left → LeavesUnfinished left.log
+  pub filling : (t : Table) (log : List Step) → IsFilling t log → LeavesUnfinished log
+  pub closing : (fields : List MemberData) (p : Params) (texts : List (List ℕ)) (t : Table) (book : BookData) (ranges : List (List ℕ))
+      (h left : Held) → HoldsChunks fields p texts t book ranges → StaysWithin t p book → IsFilled t ranges h.log
+      → IsClosedSoFar (tail t book p.group) (front t book p.group) h left
+      → LeavesUnfinishedOr (IsStored p fields texts (commit_order book)) left.log
+  pub closed : (fields : List MemberData) (p : Params) (texts : List (List ℕ)) (t : Table) (book : BookData) (ranges : List (List ℕ))
+      (h : Held) → HoldsChunks fields p texts t book ranges → StaysWithin t p book → IsFilled t ranges h.log
+      → LeavesOnly (IsStored p fields texts (commit_order book)) (closed_on (tail t book p.group) (front t book p.group) h).log

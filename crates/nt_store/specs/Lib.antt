@@ -3,6 +3,8 @@ pub mod Orders
 pub mod Schemas
 pub mod Worlds
 pub mod Texts
-pub mod Stored
+pub mod Whole
 pub mod Writing
+pub mod Crashes
+pub mod Stored
 pub mod Laws

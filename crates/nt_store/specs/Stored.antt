@@ -1,16 +1,11 @@
 -- What the writing of a file from texts leaves of a host.
 use Rattle.std.specs.Prelude.{◌≡◌, ◌⊎◌, ℕ, List, [], ◌∷◌, ◌++◌, map, Some, Result, Ok, Err}
 use Rattle.nt_types.specs.ShapeData.{MemberData}
-use Rattle.nt_types.specs.TreeData.{TreesData}
 use Rattle.nt_types.specs.Schema.{schema_text, at_line}
 use Rattle.nt_event.specs.declared.fault.TextKind.{TextKind}
 use Rattle.nt_grammar.specs.Table.{Table}
 use Rattle.nt_grammar.specs.Rows.{Rows}
-use Rattle.nt_machine.specs.Deal.{Uses, IsDeal}
 use Rattle.nt_book.specs.declared.params.Params.{Params}
-use Rattle.nt_layout.specs.Laid.{IsLaid}
-use Rattle.nt_files.specs.Files.{Means}
-use Rattle.nt_close.specs.Passing.{measures_of}
 use Rattle.nt_outside.specs.World.{World, Asked, Text, Out, HostState, file}
 use Rattle.nt_store.specs.declared.error.StoreError.{StoreError}
 use Rattle.nt_store.specs.declared.error.StoreError.TheVariants.{Outside, Memory, Schema, Line, Limit}
@@ -18,19 +13,10 @@ use Rattle.nt_store.specs.Orders.{order_line, GainsOrderFront}
 use Rattle.nt_store.specs.Worlds.{IsThereWith, AsksFor, HasStoreCause, LeavesOut, KeepsFiles, OthersStay, MakesDisk, LeavesOpen}
 use Rattle.nt_store.specs.Worlds.{IsLeftByFailure, IsLeftByMemory, WritesInOrder}
 use Rattle.nt_store.specs.Texts.{AreTexts}
-use Rattle.nt_dealing.specs.Texts.{AreSound, IsFirstBad, chunks_of, all_chunks}
+use Rattle.nt_store.specs.Whole.{IsStored}
+use Rattle.nt_store.specs.Crashes.{CrashTold}
+use Rattle.nt_dealing.specs.Texts.{IsFirstBad, all_chunks}
 use Rattle.nt_dealing.specs.Limits.{IsOver}
-
--- a file means the schema of these fields and the chunks of these texts, dealt out in an order of commits, and is laid out for them
-pub record IsStored (p : Params) (fields : List MemberData) (texts : List (List ℕ)) (order bytes : List ℕ) : Type 0 where
-  pub sound : AreSound fields texts
-  pub uses : Uses order (chunks_of p.cluster fields texts)
-  pub dealt : List (List TreesData)
-  pub is_deal : IsDeal (chunks_of p.cluster fields texts) order dealt
-  pub table : Table
-  pub rows : Rows fields p.plain table
-  pub laid : IsLaid bytes table dealt (measures_of p)
-  pub means : Means bytes table dealt
 
 -- the file is whole, and out gained the line of its order
 pub record StoresWhole (out schema : List ℕ) (inputs : List (List ℕ)) (p : Params) (w w' : World) : Type 0 where
@@ -84,6 +70,8 @@ pub record Stores (out schema : List ℕ) (inputs : List (List ℕ)) (p : Params
       → (w' : World) × (new.world ≡ Some w') × (w'.err ≡ w.err) × OthersStay out w w' × StoreTold out schema inputs p w w' result
   -- where the file was begun, its first byte came only when all the rest stayed
   pub order : WritesInOrder out old.world new.world
+  -- and a crash leaves it unfinished or whole
+  pub crash : CrashTold out schema inputs p old.world new.world result
   pub asked : AsksFor (asked_for out schema inputs) old.asked new.asked result
   pub cause : HasStoreCause old.faults new.faults result
   -- each object that was opened came back

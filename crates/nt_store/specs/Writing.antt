@@ -26,7 +26,7 @@ use Rattle.nt_store.specs.declared.error.StoreError.TheVariants.{Outside, Memory
 use Rattle.nt_store.specs.Orders.{order_line}
 use Rattle.nt_dealing.specs.Texts.{IsFirstBad, all_chunks}
 use Rattle.nt_dealing.specs.Limits.{IsOver}
-use Rattle.nt_store.specs.Stored.{IsStored}
+use Rattle.nt_store.specs.Whole.{IsStored}
 
 -- a fact of what a disk holds now
 abbrev pub HoldsNow : Option Held → (Held → Type 0) → Type 0
@@ -107,6 +107,12 @@ pub record IsEmptyDisk (disk : DiskState) : Type 0 where
   pub held : WhereHeld disk.held (λ h. h ≡ nothing_held)
   pub end : disk.end ≡ 0
   pub out : disk.out ≡ []
+
+-- nothing was asked for, as many objects are out, and no print on err failed
+pub record AsksNothing (old new : HostState) : Type 0 where
+  pub asked : new.asked ≡ old.asked
+  pub err_faults : new.err_faults ≡ old.err_faults
+  pub opened : new.opened ≡ old.opened
 
 -- nothing was asked for, and so many texts that were out came back
 pub record TakesTextsBack (texts : ℕ) (old new : HostState) : Type 0 where

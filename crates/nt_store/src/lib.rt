@@ -3,14 +3,17 @@
 //! Start at `storing.rt` (`store`). `texts.rt` reads the schema text, opens the inputs and gives them back; `orders.rt` makes the
 //! line of the commit order; `laws.rt` joins what the crates below say of finished files; `error.rt` is why a file isn't written.
 //!
-//! Words: a file is *stored* that is whole, laid out for the chunks of its texts and means them (`specs/Stored.antt`); it is *left
-//! open* where it can't pass for finished (`specs/Worlds.antt`).
+//! Words: a file is *stored* that is whole, laid out for the chunks of its texts and means them (`specs/Whole.antt`); it is *left
+//! open* where it can't pass for finished (`specs/Worlds.antt`); what a crash *leaves* is nt_outside's, and what of that is
+//! *unfinished* nt_crash's (`specs/Crashes.antt`).
 //!
 //! Proved: after `Ok` the file is stored, and out has the line of its order; a schema fault is the text's first one, a bad line the
 //! first of the lowest input, and a limit one that the chunks pass in whatever order they are committed; after these and after
 //! `Memory` the file is left open, and after `Outside` too, unless it is stored or its first append failed. The first byte is
-//! written over only when all the rest stays. `Outside` comes only where the host's count rose, and each object that was opened
-//! comes back. Nothing is only tested.
+//! written over only when all the rest stays. So wherever a crash comes behind the first sync, it leaves a file that is refused as
+//! unfinished, or, where the first byte was written over before, the stored file, in the order whose line out has; behind all steps
+//! of `Ok` just that, and of an answer but `Ok` and `Outside` only what is unfinished. `Outside` comes only where the host's count
+//! rose, and each object that was opened comes back. Nothing is only tested.
 #![tactic(auto)]
 
 mod error;

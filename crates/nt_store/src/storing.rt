@@ -8,16 +8,16 @@ ghost use Rattle.nt_outside.specs.World.{World};
 ghost use Rattle.nt_close.specs.Closing.{IsClosable};
 ghost use Rattle.nt_close.specs.Spoiled.{NoneSpoiled};
 ghost use Rattle.nt_close.specs.Passing.{passed_by_begin};
-ghost use Rattle.nt_store.specs.Worlds.{LeavesOut};
 ghost use Rattle.nt_close.specs.Laws.{IsShut};
 ghost use Rattle.nt_contexts.specs.Contexts.{IsReady, TellTexts};
 ghost use Rattle.nt_book.specs.Ranges.{IsFromTo};
 ghost use Rattle.nt_store.specs.Writing.{as_begun, FinishTold, FileTold, KeepsOrder, IsInOrderFrom, FailsOnEither, IsEmptyDisk};
-ghost use Rattle.nt_store.specs.Writing.{TakesTextsBack};
+ghost use Rattle.nt_store.specs.Writing.{AsksNothing, TakesTextsBack};
+ghost use Rattle.nt_store.specs.Crashes.{FinishSteps, CrashesTo};
 ghost use Rattle.nt_store.specs.Stored.{Stores};
 
 use crate::error::StoreError;
-use crate::laws::chunks_in_files;
+use crate::laws::{chunks_in_files, crashes_leave_chunks_or_none};
 use crate::orders::order_line;
 use crate::texts::{open_texts, put_texts, read_schema};
 use nt_book::{Book, Params};
@@ -52,9 +52,10 @@ fn finish<H: Host>(
     ensures told { (w : World) (h : Held) → (H.state host.old).world ≡ Some w → (H.Out.state disk.old).held ≡ Some h → IsShut h.image
         → FinishTold schema.now params.now book.now w (H.state host.new).world (Some h) (H.Out.state disk.new).held result }
     ensures order { KeepsOrder (H.Out.state disk.old).held (H.Out.state disk.new).held }
+    ensures steps { (w : World) (h : Held) → (H.state host.old).world ≡ Some w → (H.Out.state disk.old).held ≡ Some h
+        → FinishSteps schema.now params.now book.now w (H.state host.new).world h (H.Out.state disk.new).held result }
     ensures cause { FailsOnEither (H.Out.state disk.new) (H.state host.old) (H.state host.new) result }
-    ensures rest { LeavesOut 0 (H.state host.old) (H.state host.new) }
-    ensures asked { (H.state host.new).asked ≡ (H.state host.old).asked }
+    ensures rest { AsksNothing (H.state host.old) (H.state host.new) }
 {
     let order = book.order(alloc)?;
     let line = order_line(alloc, &order)?;
@@ -90,6 +91,9 @@ where
         → (H.Out.state disk).held ≡ Some (as_begun schema.now)
         → FileTold (members_view fields.now) params.now ts w (H.state host.new).world (H.Out.state result.0).held result.1 }
     ensures order { IsInOrderFrom (as_begun schema.now) (H.Out.state disk).held (H.Out.state result.0).held }
+    ensures crash { (w : World) (ts : List (List ℕ)) → (H.state host.old).world ≡ Some w → TellTexts (map H.Text.state texts.items) ts
+        → (H.Out.state disk).held ≡ Some (as_begun schema.now)
+        → CrashesTo (members_view fields.now) params.now ts w (H.state host.new).world (H.Out.state result.0).held result.1 }
     ensures cause { FailsOnEither (H.Out.state result.0) (H.state host.old) (H.state host.new) result.1 }
     ensures rest { TakesTextsBack (length texts.items) (H.state host.old) (H.state host.new) }
 {
@@ -102,6 +106,7 @@ where
     put_texts(host, sources);
     book.keeps();
     chunks_in_files();
+    crashes_leave_chunks_or_none();
     match ended {
         Ok(()) => {
             let mut disk = disk;
@@ -138,10 +143,14 @@ where
         → (H.Out.state disk).held ≡ Some nothing_held
         → FileTold (members_view fields.now) params.now ts w (H.state host.new).world (H.Out.state result.0).held result.1 }
     ensures order { IsInOrderFrom nothing_held (H.Out.state disk).held (H.Out.state result.0).held }
+    ensures crash { (w : World) (ts : List (List ℕ)) → (H.state host.old).world ≡ Some w → TellTexts (map H.Text.state texts.items) ts
+        → (H.Out.state disk).held ≡ Some nothing_held
+        → CrashesTo (members_view fields.now) params.now ts w (H.state host.new).world (H.Out.state result.0).held result.1 }
     ensures cause { FailsOnEither (H.Out.state result.0) (H.state host.old) (H.state host.new) result.1 }
     ensures rest { TakesTextsBack (length texts.items) (H.state host.old) (H.state host.new) }
 {
     let mut disk = disk;
+    crashes_leave_chunks_or_none();
     match begin(alloc, &mut disk, fields, params) {
         Ok((book, schema)) => fill(
             rt, alloc, host, disk, book, &schema, fields, params, texts, gate,

@@ -4,6 +4,7 @@ use Rattle.nt_book.specs.Books.{BookData}
 use Rattle.nt_layout.specs.Headers.{clusters_place}
 use Rattle.nt_contexts.specs.Contexts.{IsBookOn}
 use Rattle.nt_store.proofs.Filling.{filled_from, run_err, run_ok, run_fails, dealt_from, finish_told}
+use Rattle.nt_store.proofs.Crashing.{run_crashes, finish_crashes}
 use Rattle.nt_store.proofs.storing.fill.Goals as goal
 
 pub finish-finished-requires-clause-closable : goal.finish-finished-requires-clause-closable
@@ -57,3 +58,23 @@ returns-clause-cause g c = record {
   failed = λ is. run_fails _ c.in-Err.error _ _ _ _ _ _ c.in-Err.is c.run_contexts-disk.ensures.failed c.put_texts.ensures.failed (cc
       (c.from.ensures, is));
 }
+
+pub returns-in-Ok-clause-crash : goal.returns-in-Ok-clause-crash
+returns-in-Ok-clause-crash g c w ts is tell held =
+    let run = c.run_contexts-disk.ensures in
+    let some : 0 < clusters_place c.args.schema.now = omega arith in
+    let filled = filled_from c.args.schema.now _ _ _ (omega (arith, some, c.requires.ready.end)) held run.held in
+    let told = run_ok _ c.args.schema.now _ c.args.params.now ts (g.H.Out.Disk.state c.args.disk) (g.H.Out.Disk.state
+    c.run_contexts-disk.result.disk) _ c.in-Ok.is (run.told ts tell) in
+    let dealt = dealt_from (members_view c.args.fields.now) c.args.params.now ts c.args.schema.now c.run_contexts-disk.result.book
+    (g.H.Out.Disk.state c.args.disk).held (g.H.Out.Disk.state c.run_contexts-disk.result.disk).held filled.h c.requires.ready.rules
+    c.requires.ready.rows c.requires.within c.keeps.ensures
+    (subst (λ (b : BookData). IsBookOn b c.run_contexts-disk.result.book) c.requires.ready.book_is run.book_on) told.0 told.1 held
+    filled.is in
+    finish_crashes c.crashes_leave_chunks_or_none.ensures _ _ ts _ _ w _ filled.h _ dealt _
+    (c.finish-finished.ensures.steps w filled.h (c.put_texts.ensures.world ∙ is) filled.is)
+
+pub returns-clause-crash : goal.returns-clause-crash
+returns-clause-crash g c w ts is tell held =
+    rw c.from.ensures (run_crashes c.crashes_leave_chunks_or_none.ensures _ c.args.params.now ts c.args.schema.now _ _ _ w _ _
+    c.requires.ready.end held c.run_contexts-disk.ensures.held)

@@ -3,6 +3,7 @@ use Rattle.std.proofs.lemmas.Result.{err_from_is_err_and}
 use Rattle.nt_dealing.specs.Dealt.{commit_order}
 use Rattle.nt_store.specs.Orders.{order_line}
 use Rattle.nt_store.proofs.Begun.{shut_open}
+use Rattle.nt_store.proofs.Crashing.{close_steps}
 use Rattle.nt_store.proofs.Finishing.{none_printed, front_printed, line_printed, close_told, close_order, close_fails, told_becomes}
 use Rattle.nt_store.proofs.storing.finish.Goals as goal
 
@@ -66,3 +67,12 @@ returns-in_err-close-clause-cause g c =
       failed = λ is. inl (close_fails c.args.book.now _ _ _ (g.H.Out.Disk.state c.args.disk.now) (g.H.Out.Disk.state c.close.new.disk)
           c.in_err-close.field-0.0 c.requires.unspoiled c.in_err-close.ensures.cause c.in_err-close.ensures.left (cc (p.1, p.2, is)));
     }
+
+pub returns-in_err-close-clause-steps : goal.returns-in_err-close-clause-steps
+returns-in_err-close-clause-steps g c w h is held =
+    let p = err_from_is_err_and c.from_residual-in_err-close.result c.from_residual-in_err-close.ensures.1 in
+    let line = c.deref-2.ensures.value ∙ (c.in_ok-line.ensures ∙ ap order_line (c.deref.ensures.value ∙ c.in_ok-order.ensures)) in
+    rw (p.1, p.2) (close_steps c.args.schema.now c.args.params.now c.args.book.now c.in_err-close.field-0.0 w _ h
+    (g.H.Out.Disk.state c.args.disk.now) (g.H.Out.Disk.state c.close.new.disk)
+    (line_printed c.args.book.now c.deref-2.result.now w _ line (c.in_ok-print_all.ensures.ok w is)) held c.requires.unspoiled
+    c.in_err-close.ensures.cause c.in_err-close.ensures.left)

@@ -5,6 +5,7 @@ use Rattle.nt_store.proofs.Opening.{map_length}
 use Rattle.nt_store.proofs.Ends.{out_told, back_in_order, nothing_made, refused_told, schema_told, refusal_is, refused_outside}
 use Rattle.nt_store.proofs.Asking.{schema_asked, texts_asked, all_asked, disk_refused, texts_told, texts_counted, cause_back, cause_first}
 use Rattle.nt_store.proofs.Asking.{cause_next}
+use Rattle.nt_store.proofs.Crashed.{none_left, back_safe}
 use Rattle.nt_store.proofs.storing.store.Goals as goal
 
 pub write_file-disk-requires-clause-fields : goal.write_file-disk-requires-clause-fields
@@ -26,6 +27,7 @@ returns-in_err-fields g c =
       told = λ w is. schema_told _ _ _ _ w _ c.in_err-fields.field-0.0 (c.in_err-fields.ensures.told w is) (c.read_schema.ensures.world
           ∙ is);
       order = nothing_made _ _ _ c.read_schema.ensures.world;
+      crash = none_left _ _ _ _ _ _ _ c.read_schema.ensures.world;
       asked = schema_asked _ _ _ _ _ c.in_err-fields.ensures.asked;
       cause = cause_first c.in_err-fields.field-0.0 _ _ c.in_err-fields.ensures.cause;
       back = c.read_schema.ensures.rest;
@@ -38,6 +40,7 @@ returns-in_err-texts g c =
       told = λ w is. refused_told _ _ _ _ w _ c.in_err-texts.field-0.0 c.in_err-texts.ensures.refused (c.open_texts.ensures.world
           ∙ c.read_schema.ensures.world ∙ is);
       order = nothing_made _ _ _ (c.open_texts.ensures.world ∙ c.read_schema.ensures.world);
+      crash = none_left _ _ _ _ _ _ _ (c.open_texts.ensures.world ∙ c.read_schema.ensures.world);
       asked = texts_asked _ _ _ _ _ _ c.in_ok-fields.ensures.asked c.in_err-texts.ensures.asked;
       cause = cause_next c.in_err-texts.field-0.0 _ _ _ c.read_schema.ensures.cause.later c.in_err-texts.ensures.cause;
       back = record {
@@ -73,6 +76,15 @@ returns-in-Ok g c =
           (record { schema_is = c.in_ok-fields.ensures.told w is; inputs_are = tell.are }) _ _ _ c.put_disk.ensures.world _ _
           c.write_file-disk.result.1 empty wrote.order
           (wrote.told (creates c.args.names.out.now w) tell.texts (made.ok w at_texts) tell.tell empty) w w' is is';
+      crash = λ w w' is is' made-disk.
+          let at_texts = c.open_texts.ensures.world ∙ c.read_schema.ensures.world ∙ is in
+          let open_at = c.read_schema.ensures.world ∙ is in
+          let tell = texts_told w _ names (map st c.in_ok-texts.texts.items) open_at c.in_ok-texts.ensures.texts in
+          let empty = c.in-Ok.ensures.disk.held w at_texts in
+          back_safe c.args.names.out.now c.args.names.schema.now names c.args.params.now _ tell.texts w
+          (record { schema_is = c.in_ok-fields.ensures.told w is; inputs_are = tell.are }) _ _ _ c.put_disk.ensures.world
+          c.write_file-disk.result.1 (wrote.told (creates c.args.names.out.now w) tell.texts (made.ok w at_texts) tell.tell empty)
+          (wrote.crash (creates c.args.names.out.now w) tell.texts (made.ok w at_texts) tell.tell empty) w' is';
       asked = all_asked _ _ _ _ c.write_file-disk.result.1 _ _ _ _ c.in_ok-fields.ensures.asked c.in_ok-texts.ensures.asked made.asks.ok
           (c.put_disk.ensures.back.asked ∙ wrote.rest.asked);
       cause = cause_back _ _ _ _ _ c.write_file-disk.result.1 (omega (
@@ -111,6 +123,7 @@ returns g c =
     record {
       told = λ w is. rw c.from.ensures (refused_told _ _ _ _ w _ _ (refusal_is c.in-Err.refused) (stays ∙ is));
       order = nothing_made _ _ _ stays;
+      crash = none_left _ _ _ _ _ _ _ stays;
       asked = disk_refused _ _ _ _ _ c.in-Err.refused _ _ _ _ c.in_ok-fields.ensures.asked c.in_ok-texts.ensures.asked made.asks.failed
           made.asks.memory back.asked;
       cause = record {

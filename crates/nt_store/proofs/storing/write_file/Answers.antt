@@ -1,6 +1,7 @@
 use Rattle.std.proofs.Common.{◌∙◌, inl}
 use Rattle.nt_outside.specs.Held.{nothing_held}
 use Rattle.nt_store.proofs.Filling.{begin_told, begin_order, begin_fails}
+use Rattle.nt_store.proofs.Crashing.{begin_crashes}
 use Rattle.nt_store.proofs.storing.write_file.Goals as goal
 
 pub fill-requires-clause-ready : goal.fill-requires-clause-ready
@@ -35,3 +36,11 @@ returns-in-Err-clause-cause g c = record {
   failed = λ is. inl (begin_fails c.in-Err.error _ c.args.params.now (g.H.Out.Disk.state c.args.disk) _ c.in-Err.ensures.refused (cc
       (c.from.ensures, is)));
 }
+
+pub returns-in-Ok-clause-crash : goal.returns-in-Ok-clause-crash
+returns-in-Ok-clause-crash g c w ts is tell held = c.fill.ensures.crash w ts is tell (c.in-Ok.ensures.begun.held nothing_held held)
+
+pub returns-in-Err-clause-crash : goal.returns-in-Err-clause-crash
+returns-in-Err-clause-crash g c w ts is tell held =
+    rw c.from.ensures (begin_crashes c.crashes_leave_chunks_or_none.ensures _ c.args.params.now ts c.in-Err.error
+    (g.H.Out.Disk.state c.args.disk) _ w _ c.in-Err.ensures.refused held)
