@@ -1,4 +1,5 @@
 pub mod Joined
+pub mod Reported
 pub mod Writing
 pub mod Shown
 pub mod Running

@@ -1,5 +1,5 @@
 -- The command `write`, and the message after it.
-use Rattle.std.proofs.Common.{◌≡◌, ◌⊎◌, ◌∙◌, inl, inr, ap, sym, subst, refl, ℕ, zero, suc, ◌<◌, List, [], ◌∷◌, ◌++◌, length, map, take, slice_get, Option, Some, None, Result, Ok, Err, arith, length-append}
+use Rattle.std.proofs.Common.{◌≡◌, ◌⊎◌, ◌∙◌, inl, inr, ap, sym, subst, refl, ℕ, zero, suc, ◌<◌, List, [], ◌∷◌, ◌++◌, map, take, slice_get, Option, Some, None, Result, Ok, Err, arith}
 use Rattle.std.specs.Prelude.{IsErrOf}
 use Rattle.std.proofs.lemmas.List.{append-nil}
 use Rattle.nt_types.specs.ShapeData.{MemberData}
@@ -8,9 +8,8 @@ use Rattle.nt_types.specs.declared.fault.SchemaFault.{SchemaFault}
 use Rattle.nt_types.specs.declared.fault.SchemaKind.{SchemaKind}
 use Rattle.nt_event.specs.declared.fault.TextKind.{TextKind}
 use Rattle.nt_grammar.specs.Rows.{Rows}
-use Rattle.nt_outside.specs.declared.stream.Stream.TheVariants.{ToErr}
 use Rattle.nt_outside.specs.Faults.{Rose}
-use Rattle.nt_outside.specs.World.{World, Asked, HostState, file, prints}
+use Rattle.nt_outside.specs.World.{World, Asked, HostState, file}
 use Rattle.nt_book.specs.declared.params.Params.{Params}
 use Rattle.nt_dealing.specs.EventText.{BadLine}
 use Rattle.nt_dealing.specs.Texts.{events_of, AreSound, IsFirstBad, all_chunks}
@@ -18,7 +17,7 @@ use Rattle.nt_dealing.specs.Limits.{IsOver}
 use Rattle.nt_store.specs.declared.error.StoreError.{StoreError}
 use Rattle.nt_store.specs.declared.error.StoreError.TheVariants as store
 use Rattle.nt_store.specs.Orders.{order_line, GainsOrderFront}
-use Rattle.nt_store.specs.Worlds.{IsThereWith, AsksFor, IsLeftByFailure, IsWrittenInOrder, WritesInOrder}
+use Rattle.nt_store.specs.Worlds.{IsThereWith, AsksFor, IsLeftByFailure}
 use Rattle.nt_store.specs.Texts.{AreTexts}
 use Rattle.nt_store.specs.Stored.{StoresWhole, IsTooLarge, StoreTold, asked_for}
 use Rattle.nt_app.specs.declared.status.Status.{Status}
@@ -27,17 +26,10 @@ use Rattle.nt_app.specs.declared.status.TextFault.TheVariants as fault
 use Rattle.nt_app.specs.Statuses.{message_of}
 use Rattle.nt_app.specs.Reports.{Reports}
 use Rattle.nt_app.specs.Writes.{status_of_store, WritesNamed, FitsLimits, AnswersTexts, RunsWrite}
+use Rattle.nt_store.proofs.Ends.{nothing_made}
+use Rattle.nt_store.proofs.Crashed.{none_left}
 use Rattle.nt_app.proofs.Joined.{either_after, not_there_both}
-
-some_is : (a b : World) → ◌≡◌ {A = Option World} (Some a) (Some b) → a ≡ b
-some_is a b e = cc
-
--- where nothing changed no disk was made
-nothing_made : (name : List ℕ) (world : Option World) → WritesInOrder name world world
-nothing_made name world w w' is is' made =
-    let same : w ≡ w' = some_is w w' (sym is ∙ is') in
-    let none : w'.created ≡ w'.created ++ name ∷ [] = subst (λ (v : World). w'.created ≡ v.created ++ name ∷ []) same made in
-    absurd (omega (arith, ap (λ (l : List (List ℕ)). length l) none, length-append w'.created (name ∷ [])))
+use Rattle.nt_app.proofs.Reported.{reported, ordered_after, safe_after}
 
 nothing_gained : (w : World) → GainsOrderFront w w
 nothing_gained w = record { order = []; printed = []; left = order_line []; out = sym (append-nil w.out); line = refl }
@@ -49,23 +41,13 @@ memory_writes o s is p state = record {
   answer_is = refl;
   stores = record {
     told = λ w at. (w, at, refl, λ other differs. refl, (inl (refl, refl), nothing_gained w));
-    order = nothing_made o state.world;
+    order = nothing_made o state.world state.world refl;
+    crash = none_left o s is p state.world state.world (Err store.Memory) refl;
     asked = (0, sym (append-nil state.asked));
     cause = record { later = omega arith; failed = λ outside. absurd (cc) };
     back = record { err_faults = refl; opened = omega arith };
   };
 }
-
--- what is printed on err makes no disk
-reported_in_order : (name message : List ℕ) (old mid new : Option World) (told : (w : World) → old ≡ Some w → (w' : World) × (mid ≡ Some w'))
-    → WritesInOrder name old mid → ((w : World) → mid ≡ Some w → (n : ℕ) × (new ≡ Some (prints ToErr (take n message) w)))
-    → WritesInOrder name old new
-reported_in_order name message old mid new told order said w w' is is' made =
-    let done = told w is in
-    let printed = said done.0 done.1 in
-    let same : prints ToErr (take printed.0 message) done.0 ≡ w' = some_is _ _ (sym printed.1 ∙ is') in
-    let before = order w done.0 is done.1 (subst (λ (v : World). v.created ≡ w.created ++ name ∷ []) (sym same) made) in
-    subst (IsWrittenInOrder name) same (record { at = before.at; log = before.log; there = before.there; steps = before.steps; order = before.order })
 
 -- a message on err changes nothing of what a command left
 gained_after : (w v : World) (err : List ℕ) → GainsOrderFront w v → GainsOrderFront w (record v { err = err })
@@ -265,6 +247,8 @@ pub run_write : (o s : List ℕ) (is : List (List ℕ)) (p : Params) (old mid ne
     → Reports (message_of answer) mid new → RunsWrite o s is p old new answer
 run_write o s is p old mid new answer writes reports =
     let stores = writes.stores in
+    let before = reported o (message_of answer) old.world mid.world new.world (λ w at. let done = stores.told w at in (done.0, done.1))
+    (λ w at. let said = reports.told w at in (said.0, said.1)) in
     record {
       stored = writes.stored;
       answer_is = writes.answer_is;
@@ -281,8 +265,8 @@ run_write o s is p old mid new answer writes reports =
             done.3,
             told_after o s is p w done.0 (done.0.err ++ take said.0 (message_of answer)) writes.stored done.4,
           );
-      order = reported_in_order o (message_of answer) old.world mid.world new.world (λ w at. let done = stores.told w at in (done.0, done.1)) stores.order
-          (λ w at. let said = reports.told w at in (said.0, said.1));
+      order = λ w w' at at' made. ordered_after o old.world mid.world w w' stores.order at (before w w' at at' made);
+      crash = λ w w' at at' made. safe_after o s is p old.world mid.world w w' writes.stored stores.crash at (before w w' at at' made);
       asked = subst (λ (l : List Asked). AsksFor (asked_for o s is) old.asked l writes.stored) (sym reports.asked) stores.asked;
       failed = λ outside. subst (λ (n : ℕ). Rose old.faults n) (sym reports.faults) (stores.cause.failed (outside_of writes.stored answer writes.answer_is outside));
       opened = reports.opened ∙ stores.back.opened ∙ omega arith;

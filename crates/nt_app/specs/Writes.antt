@@ -15,6 +15,7 @@ use Rattle.nt_store.specs.declared.error.StoreError.{StoreError}
 use Rattle.nt_store.specs.declared.error.StoreError.TheVariants as store
 use Rattle.nt_store.specs.Worlds.{IsThereWith, AsksFor, OthersStay, WritesInOrder}
 use Rattle.nt_store.specs.Texts.{AreTexts}
+use Rattle.nt_store.specs.Crashes.{CrashTold}
 use Rattle.nt_store.specs.Stored.{StoreTold, Stores, asked_for}
 use Rattle.nt_app.specs.declared.status.Status.{Status}
 use Rattle.nt_app.specs.declared.status.Status.TheVariants as status
@@ -63,6 +64,8 @@ pub record RunsWrite (out schema : List ℕ) (inputs : List (List ℕ)) (p : Par
   pub told : (w : World) → old.world ≡ Some w → (w' : World) × (new.world ≡ Some w') × SaysOnErr (message_of answer) old new w w' × OthersStay out w w' × StoreTold out schema inputs p w w' stored
   -- where the file was begun, its first byte came only when all the rest stayed
   pub order : WritesInOrder out old.world new.world
+  -- and wherever a crash comes behind the first sync, it leaves a file that is refused as unfinished, or the whole one
+  pub crash : CrashTold out schema inputs p old.world new.world stored
   -- what was asked for: all names where the file is whole, and else the first of them
   pub asked : AsksFor (asked_for out schema inputs) old.asked new.asked stored
   -- the outside is blamed only where it failed
