@@ -100,7 +100,7 @@ module _ {M : Type 0} where
           ∙ sym (ap (λ (t : Bool). if t then map place_of before else place_of d ∷ without (place_of c) (map place_of before)) differ)
       both false differ is = is
 
-  len-handed_back : (i n : ℕ) (fate : Fate) (c : Cluster M) → (handed_back i n fate c).len ≡ c.len
+  pub len-handed_back : (i n : ℕ) (fate : Fate) (c : Cluster M) → (handed_back i n fate c).len ≡ c.len
   len-handed_back i n fate c = at (c.context == i && c.number == n && is_out c.state)
     where
       at : (b : Bool) → (cond b (record c { state = fate }) c).len ≡ c.len

@@ -3,5 +3,6 @@ mod Ending
 mod Following
 mod Handed
 mod Holding
+mod Short
 mod Stepping
 mod Telling

@@ -2,6 +2,7 @@
 use Rattle.std.proofs.Common.{◌≡◌, ◌∙◌, ap, sym, refl, ℕ, ◌+◌, ◌^◌, ◌<◌, ◌≤◌, List, [], ◌∷◌, ◌++◌, length, Option, Some, None, arith, subst, append-nil}
 use Rattle.std.specs.Prelude.{Result, Ok, Err, Contains, false}
 use Rattle.std.specs.Result.{IsErrAnd}
+use Rattle.std.specs.List.{AllByRecursion}
 use Rattle.nt_outside.specs.Log.{Step, Reserve, Settle}
 use Rattle.nt_outside.specs.Held.{Held, BecomesSome, IsReserved, IsRangeSettled}
 use Rattle.nt_outside.specs.declared.range.Range.{Range}
@@ -12,6 +13,7 @@ use Rattle.nt_machine.specs.declared.entry.Entry.{Entry}
 use Rattle.nt_machine.specs.declared.entry.EntryKind.TheVariants as entry
 use Rattle.nt_machine.specs.History.{Settled, Spoiled, ranges_of}
 use Rattle.nt_machine.specs.Legal.{AreAsLong, IsOut, end_after}
+use Rattle.nt_book.specs.declared.limits.Limits.{Limits}
 use Rattle.nt_book.specs.declared.limits.LimitError.{LimitError}
 use Rattle.nt_book.specs.declared.meta.ClusterMeta.{ClusterMeta}
 use Rattle.nt_book.specs.Books.{BookData, book_clusters, book_end}
@@ -28,6 +30,7 @@ use Rattle.nt_commit.specs.Locked.{LockedState, place_of, Follows, IsInStep, his
 use Rattle.nt_logged.specs.Steps.{bytes_where_told, told_history}
 use Rattle.nt_commit.proofs.Claimed.{claim_out}
 use Rattle.nt_commit.proofs.Handed.{contains_out}
+use Rattle.nt_commit.proofs.Short.{IsShort, ReservesShort, short-snoc}
 use Rattle.nt_commit.proofs.Following.{risen, Follows-same, Follows-commit, Follows-back, Follows-fault}
 use Rattle.nt_commit.proofs.Telling.{told_entry, told_history-snoc, steps_are_counted, told_out, told_end, told_count}
 
@@ -92,6 +95,10 @@ module _ {D : Type 0} (state : D → DiskState) (begun d : D) (contexts : ℕ) (
       let fits = limit_error-none b.limits (book_end b) (length (book_clusters b)) len (sym is) in
       omega (arith, fits.1, b.limits.file_bound, end_is, was.follows.end)
 
+  -- no range of these entries is longer than the limits let it be
+  abbrev AreShort : List (Entry ClusterMeta) → Type 0
+  AreShort entries = AllByRecursion (IsShort b.limits.range) (ranges_of entries)
+
   -- the claim that a commit hands out
   pub new_claim : {X : Type 0} (tell : X → ExtState) (n len : ℕ) (ext : X) → n ≡ length (book_clusters b) → IsNewExt len (state d) (tell ext)
       → IsNewClaim tell (state begun).held (locked_count state old) (locked_end state old) len (record { cluster = n; ext = ext })
@@ -126,12 +133,22 @@ module _ {D : Type 0} (state : D → DiskState) (begun d : D) (contexts : ℕ) (
     abbrev pub HasHistory : List (Entry ClusterMeta) → ℕ → Type 0
     HasHistory entries spare = b' ≡ record b { history = entries; spare = spare }
 
-    new_step : (entries : List (Entry ClusterMeta)) (spare : ℕ) → HasHistory entries spare → Follows (state begun) (state d') contexts (history_of_locked state new) → IsStep state old new
-    new_step entries spare is follows =
+    new_step : (entries : List (Entry ClusterMeta)) (spare : ℕ) → HasHistory entries spare
+        → Follows (state begun) (state d') contexts (history_of_locked state new) → AreShort (history_of_locked state new)
+        → IsStep state old new
+    new_step entries spare is follows short =
         record {
           birth = ap (λ (x : BookData). (locked_of begun d' contexts x).birth) is;
           before = was;
-          after = record { begin = ap (λ (x : BookData). x.begin) is ∙ was.begin; limits = refl; columns = refl; firsts = refl; follows = follows };
+          after = record {
+            begin = ap (λ (x : BookData). x.begin) is ∙ was.begin;
+            limits = refl;
+            columns = refl;
+            firsts = refl;
+            follows = follows;
+            short = subst (λ (l : Limits). AllByRecursion (IsShort l.range) (ranges_of (history_of_locked state new)))
+                (sym (ap (λ (x : BookData). x.limits) is)) short;
+          };
         }
 
     -- a history that grows by an entry of the book, and its steps
@@ -146,11 +163,15 @@ module _ {D : Type 0} (state : D → DiskState) (begun d : D) (contexts : ℕ) (
     grows_to : (e e' : Entry ClusterMeta) (spare : ℕ) (steps : List Step) → HasHistory (b.history ++ e ∷ []) spare
         → BecomesSome (state d).held (state d').held (λ h h'. h'.log ≡ h.log ++ steps)
         → told_entry (state begun).held e steps ≡ e'
-        → Follows (state begun) (state d') contexts (history ++ e' ∷ [])
+        → Follows (state begun) (state d') contexts (history ++ e' ∷ []) → ReservesShort b.limits.range e'.kind
         → IsStep state old new × (history_of_locked state new ≡ history ++ e' ∷ [])
-    grows_to e e' spare steps is log told follows =
-        let all = grown e spare steps is log ∙ ap (λ (x : Entry ClusterMeta). history ++ x ∷ []) told in
-        (new_step (b.history ++ e ∷ []) spare is (subst (λ (l : List (Entry ClusterMeta)). Follows (state begun) (state d') contexts l) (sym all) follows), all)
+    grows_to e e' spare steps is log told follows low =
+        let all = grown e spare steps is log ∙ ap (λ (x : Entry ClusterMeta). history ++ x ∷ []) told in (
+          new_step (b.history ++ e ∷ []) spare is
+              (subst (λ (l : List (Entry ClusterMeta)). Follows (state begun) (state d') contexts l) (sym all) follows)
+              (subst AreShort (sym all) (short-snoc b.limits.range history e' low was.short)),
+          all,
+        )
 
     -- nothing was entered
     pub same_history : (spare : ℕ) → HasHistory b.history spare → KeepsPlace (state d) (state d') → (state d).faults ≤ (state d').faults
@@ -159,7 +180,8 @@ module _ {D : Type 0} (state : D → DiskState) (begun d : D) (contexts : ℕ) (
         let all : history_of_locked state new ≡ history =
         ap (λ (x : BookData). told_history (state begun).held (state d').held x.history) is ∙ ap (λ (o : Option Held). told_history (state begun).held o b.history) place.held in (
           new_step b.history spare is (subst (λ (l : List (Entry ClusterMeta)). Follows (state begun) (state d') contexts l) (sym all)
-              (Follows-same (state begun) (state d) (state d') contexts history was.follows place.held place.end place.out later)),
+              (Follows-same (state begun) (state d) (state d') contexts history was.follows place.held place.end place.out later))
+              (subst AreShort (sym all) was.short),
           all ∙ sym (append-nil history),
         )
 
@@ -170,18 +192,21 @@ module _ {D : Type 0} (state : D → DiskState) (begun d : D) (contexts : ℕ) (
     faulted i faults spare is context place later rose count fits =
         let done = grows_to (faulted_entry i faults) (faulted_entry i faults) spare [] is (λ h was. (h, place.held ∙ was, sym (append-nil h.log))) (told-faulted (state begun).held i faults [])
         (Follows-fault (state begun) (state d) (state d') contexts history was.follows i faults context place.held place.end place.out
-        (risen (state d).faults faults (omega (arith, later, count)) (subst (λ (n : ℕ). Rose (state d).faults n) (sym count) rose) fits) (omega (arith, count))) in
+        (risen (state d).faults faults (omega (arith, later, count)) (subst (λ (n : ℕ). Rose (state d).faults n) (sym count) rose) fits) (omega (arith, count))) tt in
         (done.0, done.1 ∙ ap (λ (n : ℕ). history ++ faulted_entry i n ∷ []) count)
 
     -- a range was reserved for a cluster, which was entered
     pub committed : (n spare : ℕ) (meta : ClusterMeta) → HasHistory (b.history ++ committed_entry n (book_end b) meta ∷ []) spare → n ≡ length (book_clusters b)
-        → meta.context ≤ contexts → 42 ≤ meta.len → BecomesSome (state d).held (state d').held (IsReserved (state d).end meta.len) → (state d').end ≡ (state d).end + meta.len
+        → None ≡ limit_error b.limits (book_end b) (length (book_clusters b)) meta.len → meta.context ≤ contexts → 42 ≤ meta.len
+        → BecomesSome (state d).held (state d').held (IsReserved (state d).end meta.len) → (state d').end ≡ (state d).end + meta.len
         → (state d').out ≡ (state d).out ++ record { start = (state d).end; len = meta.len } ∷ [] → (state d).faults ≤ (state d').faults
         → IsStep state old new × (history_of_locked state new ≡ history ++ committed_entry (locked_count state old) (locked_end state old) meta ∷ [])
-    committed n spare meta is number context room log end out later =
+    committed n spare meta is number limits context room log end out later =
         let done = grows_to (committed_entry n (book_end b) meta) (committed_entry n (book_end b) meta) spare (Reserve (state d).end meta.len ∷ []) is
         (λ h was. let next = log h was in (next.0, next.1, next.2.log)) (told-committed (state begun).held meta.context n (book_end b) meta.len meta (Reserve (state d).end meta.len ∷ []))
-        (Follows-commit (state begun) (state d) (state d') contexts history was.follows meta.context n (book_end b) meta.len meta (number ∙ count_is) end_is context room log end out later) in (
+        (Follows-commit (state begun) (state d) (state d') contexts history was.follows meta.context n (book_end b) meta.len meta
+        (number ∙ count_is) end_is context room log end out later)
+        (limit_error-none b.limits (book_end b) (length (book_clusters b)) meta.len (sym limits)).0 in (
           done.0,
           done.1 ∙ (ap (λ (m : ℕ). history ++ committed_entry m (book_end b) meta ∷ []) (number ∙ count_is)
               ∙ ap (λ (m : ℕ). history ++ committed_entry (locked_count state old) m meta ∷ []) end_is),
@@ -209,7 +234,7 @@ module _ {D : Type 0} (state : D → DiskState) (begun d : D) (contexts : ℕ) (
               ∙ (ap (λ (m : ℕ). h.log ++ Settle out.cluster.start m ext.content ∷ []) len
               ∙ ap (λ (o : Option (List ℕ)). h.log ++ Settle out.cluster.start out.cluster.len o ∷ []) same)),
         ))
-        end (gone ∙ ap (λ (r : Range). without r (state d).out) (sym range)) (λ h. absurd h) (omega (arith, faults)))
+        end (gone ∙ ap (λ (r : Range). without r (state d).out) (sym range)) (λ h. absurd h) (omega (arith, faults))) tt
       where
         long_where : (held : Option Held) (content : Option (List ℕ)) → AreAsLong content ext.range.len → AreAsLong (bytes_where_told held content) ext.range.len
         long_where None content long = tt
@@ -236,7 +261,7 @@ module _ {D : Type 0} (state : D → DiskState) (begun d : D) (contexts : ℕ) (
               ∙ ap (λ (o : Option (List ℕ)). h.log ++ Settle out.cluster.start out.cluster.len o ∷ []) empty)),
         ))
         end (gone ∙ ap (λ (r : Range). without r (state d).out) (sym range))
-        (λ h. risen (state d).faults faults (omega (arith, later, count)) (subst (λ (n : ℕ). Rose (state d).faults n) (sym count) rose) fits) (omega (arith, count))) in
+        (λ h. risen (state d).faults faults (omega (arith, later, count)) (subst (λ (n : ℕ). Rose (state d).faults n) (sym count) rose) fits) (omega (arith, count))) tt in
         (done.0, done.1 ∙ ap (λ (m : ℕ). history ++ spoiled_entry i n m ∷ []) count)
 
     module _ {X : Type 0} (tell : X → ExtState) (i : ℕ) (claim : Claim X) (own : IsClaimOf tell (ranges_of history) i claim) (context : i ≤ contexts)

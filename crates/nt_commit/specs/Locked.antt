@@ -67,3 +67,5 @@ module _ {D : Type 0} (state : D → DiskState) where
     pub columns : length locked.book.firsts ≡ locked.birth.columns
     pub firsts : locked.book.firsts ≡ locked.birth.firsts
     pub follows : Follows (state locked.birth.begun) (state locked.disk) locked.birth.contexts (history_of_locked locked)
+    -- no range is longer than the limits let it be
+    pub short : AllByRecursion (λ (c : Cluster ClusterMeta). c.len ≤ locked.birth.limits.range) (ranges_of (history_of_locked locked))

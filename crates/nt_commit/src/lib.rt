@@ -13,7 +13,7 @@
 //! isn't filled; its limits are those of the history that the pass has then seen; a fault only where the disk's count rose in this
 //! hold, with that count in the own list; the key of the place stands in the image (`commits`, `image`). `settle` adds the bytes of
 //! the extent (`settles`), `spoil` the disk's count, which rose (`spoils`). `finish` gives one history with each pass's own entries
-//! (`closes`), of which disk and book are made (`in_step`).
+//! (`closes`), of which disk and book are made, and none of its ranges is longer than the limits let it be (`in_step`).
 //!
 //! Neither proved nor promised: that a pass ever gets the turn, or that two contexts run beside each other.
 #![tactic(auto)]

@@ -1,7 +1,7 @@
 -- Disk and book of a committer that ended, by what its first pass keeps.
 use Rattle.std.proofs.Common.{◌≡◌, ◌⊎◌, inl, inr, ℕ, zero, suc, ◌-◌, ◌^◌, ◌<◌, ◌≤◌, List, [], ◌∷◌, length, map, Option, Some, None, refl, sym, ap, ◌∙◌, arith}
 use Rattle.std.specs.Prelude.{slice_get, slice_index_or}
-use Rattle.std.specs.List.{AllZip}
+use Rattle.std.specs.List.{AllZip, AllByRecursion}
 use Rattle.nt_types.specs.TreeData.{TreesData}
 use Rattle.nt_grammar.specs.Table.{Table}
 use Rattle.nt_outside.specs.Held.{Held}
@@ -19,7 +19,7 @@ use Rattle.nt_machine.proofs.Dealing.{deals}
 use Rattle.nt_machine.proofs.Rising.{rose}
 use Rattle.nt_machine.proofs.Untelling.{same, same_end}
 use Rattle.nt_book.specs.declared.meta.ClusterMeta.{ClusterMeta}
-use Rattle.nt_book.specs.Books.{BookData, book_end, no_cluster}
+use Rattle.nt_book.specs.Books.{BookData, book_clusters, book_end, no_cluster}
 use Rattle.nt_logged.specs.Steps.{told_history}
 use Rattle.nt_commit.specs.declared.locked.Birth.{Birth}
 use Rattle.nt_commit.specs.Locked.{IsInStep, birth_of, context_of, history_of_locked, locked_by}
@@ -74,6 +74,17 @@ none-spoiled IsBlobOf (x ∷ xs) (c ∷ cs) (d ∷ ds) h is (suc k) less =
     let rest : map untold cs ≡ map untold ds = cc in
     none-spoiled IsBlobOf xs cs ds h.1 rest k (omega arith)
 
+-- clusters that are the same but for their bytes are as long
+short-untold : (most : ℕ) (cs ds : List (Cluster ClusterMeta)) → map untold cs ≡ map untold ds
+    → AllByRecursion (λ (c : Cluster ClusterMeta). c.len ≤ most) cs → AllByRecursion (λ (c : Cluster ClusterMeta). c.len ≤ most) ds
+short-untold most cs [] is short = tt
+short-untold most [] (d ∷ ds) is short = cc
+short-untold most (c ∷ cs) (d ∷ ds) is short =
+    let one : untold c ≡ untold d = cc in
+    let rest : map untold cs ≡ map untold ds = cc in
+    let same : c.len ≡ d.len = ap (λ (e : Cluster ClusterMeta). e.len) one in
+    (omega (arith, same, short.0), short-untold most cs ds rest short.1)
+
 same-ranges : (begun now : Option Held) (history : List (Entry ClusterMeta))
     → map untold (ranges_of (told_history begun now history)) ≡ map untold (ranges_of history)
 same-ranges None now history = refl
@@ -111,6 +122,11 @@ module _ {D : Type 0} (state : D → DiskState) (birth : Birth D) (disk : D) (bo
   end-is =
       step.follows.end ∙ (same-end (state birth.begun).end (state birth.begun).held (state disk).held book.history
       ∙ ap (λ (n : ℕ). end_after n (ranges_of book.history)) (sym step.begin))
+
+  pub short-is : AllByRecursion (λ (c : Cluster ClusterMeta). c.len ≤ birth.limits.range) (book_clusters book)
+  short-is =
+      short-untold birth.limits.range (ranges_of history) (ranges_of book.history)
+      (same-ranges (state birth.begun).held (state disk).held book.history) step.short
 
   pub unspoiled : (t : Table) (page : ℕ) (chunks : List (List (List TreesData)))
       → HaveWritten (state birth.begun).held t page chunks first.number first.own first.kept → NoneSpoiled book

@@ -1,5 +1,6 @@
 -- What contexts did to the disk, the book and their sources, by what the first pass keeps of them.
 use Rattle.std.proofs.Common.{◌≡◌, ◌⊎◌, inl, inr, ℕ, ◌+◌, ◌≤◌, List, [], ◌∷◌, length, take, refl, sym, ap, ◌∙◌, subst, append-nil, arith, replicate, Result, Ok, Err}
+use Rattle.std.specs.List.{AllByRecursion}
 use Rattle.std.proofs.lemmas.List.{length-replicate}
 use Rattle.std.proofs.lemmas.Slice.Zip.{AllZip-long}
 use Rattle.nt_types.specs.ShapeData.{MemberData}
@@ -11,10 +12,13 @@ use Rattle.nt_outside.specs.Disk.{DiskState}
 use Rattle.nt_outside.specs.Faults.{Rose}
 use Rattle.nt_outside.specs.Source.{SourceState}
 use Rattle.nt_turn.specs.Pass.{TurnState, first_pass}
+use Rattle.nt_machine.specs.History.{Cluster}
+use Rattle.nt_book.specs.declared.meta.ClusterMeta.{ClusterMeta}
 use Rattle.nt_book.specs.declared.params.Params.{Params}
+use Rattle.nt_book.specs.declared.limits.Limits.{Limits}
 use Rattle.nt_book.specs.declared.limits.LimitError.{LimitError}
 use Rattle.nt_book.specs.declared.limits.LimitError.TheVariants as limit
-use Rattle.nt_book.specs.Books.{BookData, book_end}
+use Rattle.nt_book.specs.Books.{BookData, book_clusters, book_end}
 use Rattle.nt_commit.specs.declared.locked.Birth.{Birth}
 use Rattle.nt_layout.specs.Headers.{clusters_place}
 use Rattle.nt_close.specs.Beginning.{new_book}
@@ -67,6 +71,8 @@ module _ {D : Type 0} (state : D → DiskState) (fields : List MemberData) (t : 
     book_on = record { begin = ended.begin ∙ born.end; limits = ended.limits ∙ born.limits; firsts = ended.firsts ∙ firsts };
     end = ended.end;
     out = ended.out;
+    short = subst (λ (l : Limits). AllByRecursion (λ (c : Cluster ClusterMeta). c.len ≤ l.range) (book_clusters book)) born.limits
+        ended.short;
   }
     where
       blame : SomeRose sources sources' ⊎ KeepsFaults first → Rose begun.faults (state disk).faults ⊎ SomeRose sources sources'
@@ -98,6 +104,8 @@ runs-nothing fields t p disk book sources n ready = record {
   book_on = record { begin = refl; limits = refl; firsts = refl };
   end = ready.end ∙ begins;
   out = ready.out;
+  short = subst (λ (b : BookData). AllByRecursion (λ (c : Cluster ClusterMeta). c.len ≤ book.limits.range) (book_clusters b)) (sym
+      ready.book_is) tt;
 }
   where
     whole : (l : List ℕ) → take (length l) l ≡ l

@@ -1,6 +1,6 @@
 -- What the contexts of a writer leave, which run beside each other: one for each source.
 use Rattle.std.specs.Prelude.{⊤, ◌≡◌, ◌⊎◌, ℕ, ◌≤◌, List, [], ◌∷◌, map, length, Some, Result, Ok, Err}
-use Rattle.std.specs.List.{AllZip}
+use Rattle.std.specs.List.{AllZip, AllByRecursion}
 use Rattle.nt_types.specs.ShapeData.{MemberData}
 use Rattle.nt_grammar.specs.Table.{Table}
 use Rattle.nt_grammar.specs.Rows.{Rows}
@@ -9,8 +9,10 @@ use Rattle.nt_outside.specs.Faults.{Rose}
 use Rattle.nt_outside.specs.Source.{SourceState}
 use Rattle.nt_outside.specs.Held.{BecomesSome}
 use Rattle.nt_outside.specs.Disk.{DiskState}
+use Rattle.nt_machine.specs.History.{Cluster}
+use Rattle.nt_book.specs.declared.meta.ClusterMeta.{ClusterMeta}
 use Rattle.nt_book.specs.declared.params.Params.{Params}
-use Rattle.nt_book.specs.Books.{BookData, book_end}
+use Rattle.nt_book.specs.Books.{BookData, book_clusters, book_end}
 use Rattle.nt_layout.specs.Headers.{clusters_place}
 use Rattle.nt_close.specs.Beginning.{new_book}
 use Rattle.nt_close.specs.Spoiled.{NoneSpoiled}
@@ -77,3 +79,5 @@ pub record RunsContexts (t : Table) (fields : List MemberData) (p : Params) (dis
   pub book_on : IsBookOn book book'
   pub end : disk'.end ≡ book_end book'
   pub out : disk'.out ≡ []
+  -- no cluster is longer than a range may get
+  pub short : AllByRecursion (λ (c : Cluster ClusterMeta). c.len ≤ book.limits.range) (book_clusters book')

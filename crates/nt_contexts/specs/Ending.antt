@@ -1,5 +1,6 @@
 -- What a committer hands back once its contexts were joined.
 use Rattle.std.specs.Prelude.{◌≡◌, ℕ, ◌≤◌, List, [], Some, slice_get, slice_index_or}
+use Rattle.std.specs.List.{AllByRecursion}
 use mathlib.Core.List.{IsPrefix}
 use Rattle.nt_types.specs.ShapeData.{MemberData}
 use Rattle.nt_types.specs.TreeData.{TreesData}
@@ -10,10 +11,11 @@ use Rattle.nt_outside.specs.Disk.{DiskState}
 use Rattle.nt_outside.specs.Faults.{Rose}
 use Rattle.nt_outside.specs.Held.{BecomesSome}
 use Rattle.nt_machine.specs.declared.entry.Entry.{Entry}
+use Rattle.nt_machine.specs.History.{Cluster}
 use Rattle.nt_book.specs.declared.meta.ClusterMeta.{ClusterMeta}
 use Rattle.nt_book.specs.declared.params.Params.{Params}
 use Rattle.nt_book.specs.declared.limits.LimitError.{LimitError}
-use Rattle.nt_book.specs.Books.{BookData, book_end}
+use Rattle.nt_book.specs.Books.{BookData, book_clusters, book_end}
 use Rattle.nt_commit.specs.declared.locked.Birth.{Birth}
 use Rattle.nt_layout.specs.Headers.{clusters_place}
 use Rattle.nt_close.specs.Spoiled.{NoneSpoiled}
@@ -50,3 +52,4 @@ module _ {D : Type 0} (state : D → DiskState) (birth : Birth D) where
     pub firsts : book.firsts ≡ birth.firsts
     pub end : (state disk).end ≡ book_end book
     pub out : (state disk).out ≡ []
+    pub short : AllByRecursion (λ (c : Cluster ClusterMeta). c.len ≤ birth.limits.range) (book_clusters book)

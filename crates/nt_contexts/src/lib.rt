@@ -11,8 +11,8 @@
 //! are the chunks of all texts, dealt out in the order of the commits, with their blobs on the disk (`told`), none of them spoiled
 //! (`unspoiled`); a bad line is the first of its text, and no text of a lower number has one; a limit is one that the file of all
 //! chunks passes, in whatever order they come; the outside is blamed only where the count of the disk or of a source rose
-//! (`failed`). Whatever the answer: the disk tells the steps of one legal history behind what it held (`held`), no range is out, the
-//! book begins where it did, and the sources come back in their order.
+//! (`failed`). Whatever the answer: the disk tells the steps of one legal history behind what it held (`held`), no range is out, no
+//! cluster is longer than a range may get (`short`), the book begins where it did, and the sources come back in their order.
 //!
 //! Neither proved nor promised: that contexts run at the same time, or that one ever gets its turn.
 #![tactic(auto)]

@@ -1,7 +1,7 @@
 -- What the writing of a file leaves on its disk, by what its parts say.
 use Rattle.std.proofs.Common.{◌≡◌, ◌⊎◌, ◌∙◌, inl, inr, sym, subst, refl, ℕ, ◌<◌, List, [], ◌∷◌, ◌++◌, Option, Some, None, Result, Ok, Err}
-use Rattle.std.proofs.Common.{arith}
-use Rattle.std.specs.List.{concat}
+use Rattle.std.proofs.Common.{◌≤◌, arith}
+use Rattle.std.specs.List.{AllByRecursion, concat}
 use Rattle.nt_types.specs.ShapeData.{MemberData}
 use Rattle.nt_types.specs.Rules.{AreFields}
 use Rattle.nt_outside.specs.Faults.{Rose}
@@ -12,9 +12,11 @@ use Rattle.nt_outside.specs.Source.{SourceState}
 use Rattle.nt_outside.specs.World.{World}
 use Rattle.nt_grammar.specs.Table.{Table}
 use Rattle.nt_grammar.specs.Rows.{Rows}
+use Rattle.nt_machine.specs.History.{Cluster}
+use Rattle.nt_book.specs.declared.meta.ClusterMeta.{ClusterMeta}
 use Rattle.nt_book.specs.declared.params.Params.{Params}
 use Rattle.nt_book.specs.declared.limits.LimitError.TheVariants as limit
-use Rattle.nt_book.specs.Books.{BookData}
+use Rattle.nt_book.specs.Books.{BookData, book_clusters}
 use Rattle.nt_book.specs.Kept.{IsBookKept}
 use Rattle.nt_machine.specs.Legal.{IsLegal}
 use Rattle.nt_layout.specs.Headers.{header_blob, file_begun}
@@ -115,17 +117,29 @@ pub record IsDealtShut (fields : List MemberData) (p : Params) (texts : List (Li
     pub image : h.image ≡ file_begun t ++ concat ranges
     pub filled : IsFilled t ranges h.log
 
-pub dealt_from : (fields : List MemberData) (p : Params) (texts : List (List ℕ)) (t : Table) (book : BookData) (old new : Option Held) (h
-    : Held) → AreFields fields → Rows fields p.plain t
-    → passed_by_begin p.limits t ≡ None → IsBookKept book → IsBookOn (new_book t p.limits) book → AreSound fields texts
+pub dealt_from : (fields : List MemberData) (p : Params) (texts : List (List ℕ)) (t : Table) (given book : BookData) (old new : Option Held)
+    (h : Held) → AreFields fields → Rows fields p.plain t → passed_by_begin p.limits t ≡ None → given ≡ new_book t p.limits
+    → IsBookKept book → IsBookOn given book
+    → AllByRecursion (λ (c : Cluster ClusterMeta). c.len ≤ given.limits.range) (book_clusters book) → AreSound fields texts
     → IsDealtOut t p.page (chunks_of p.cluster fields texts) book old new → old ≡ Some (as_begun t) → new ≡ Some h
     → IsDealtShut fields p texts t book h
-dealt_from fields p texts t book old new h rules rows within kept book_on sound dealt begun is =
+dealt_from fields p texts t given book old new h rules rows within given_is kept on short sound dealt begun is =
+    let book_on : IsBookOn (new_book t p.limits) book = subst (λ (b : BookData). IsBookOn b book) given_is on in
     let left = dealt.stand (as_begun t) begun in
     let same : left.0 ≡ h = held_is left.0 h (sym left.1 ∙ is) in
     record {
       ranges = dealt.ranges;
-      holds = record { rules = rules; rows = rows; within = within; kept = kept; book_on = book_on; sound = sound; are = dealt.are };
+      holds = record {
+        rules = rules;
+        rows = rows;
+        within = within;
+        kept = kept;
+        book_on = book_on;
+        short = subst (λ (b : BookData). AllByRecursion (λ (c : Cluster ClusterMeta). c.len ≤ b.limits.range) (book_clusters book)) given_is
+            short;
+        sound = sound;
+        are = dealt.are;
+      };
       image = subst (λ (k : Held). k.image ≡ file_begun t ++ concat dealt.ranges) same (left.2.stand (begun_known t));
       filled = subst (λ (k : Held). IsFilled t dealt.ranges k.log) same (record {
         filling = record {

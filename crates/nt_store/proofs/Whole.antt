@@ -86,5 +86,6 @@ stored_whole books mean fields p texts t book ranges bytes holds stays is =
       table = t;
       rows = holds.rows;
       laid = laid;
+      short = holds.short;
       means = mean fields p.plain bytes t holds.are.dealt (measures_of p) holds.rules holds.rows (measures p) laid;
     }

@@ -1,11 +1,14 @@
 -- What the laws of files say of one whose clusters are the chunks of texts.
-use Rattle.std.specs.Prelude.{◌≡◌, ℕ, List, None}
+use Rattle.std.specs.Prelude.{◌≡◌, ℕ, ◌≤◌, List, None}
+use Rattle.std.specs.List.{AllByRecursion}
 use Rattle.nt_types.specs.ShapeData.{MemberData}
 use Rattle.nt_types.specs.Rules.{AreFields}
 use Rattle.nt_grammar.specs.Table.{Table}
 use Rattle.nt_grammar.specs.Rows.{Rows}
+use Rattle.nt_machine.specs.History.{Cluster}
+use Rattle.nt_book.specs.declared.meta.ClusterMeta.{ClusterMeta}
 use Rattle.nt_book.specs.declared.params.Params.{Params}
-use Rattle.nt_book.specs.Books.{BookData}
+use Rattle.nt_book.specs.Books.{BookData, book_clusters}
 use Rattle.nt_book.specs.Kept.{IsBookKept}
 use Rattle.nt_outside.specs.Log.{Step}
 use Rattle.nt_outside.specs.Held.{Held, nothing_held}
@@ -33,6 +36,7 @@ pub record HoldsChunks (fields : List MemberData) (p : Params) (texts : List (Li
   pub within : passed_by_begin p.limits t ≡ None
   pub kept : IsBookKept book
   pub book_on : IsBookOn (new_book t p.limits) book
+  pub short : AllByRecursion (λ (c : Cluster ClusterMeta). c.len ≤ p.limits.range) (book_clusters book)
   pub sound : AreSound fields texts
   pub are : AreChunksDealt t p.page (chunks_of p.cluster fields texts) book ranges
 

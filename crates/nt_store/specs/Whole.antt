@@ -1,11 +1,15 @@
 -- The whole file of texts.
-use Rattle.std.specs.Prelude.{ℕ, List}
+use Rattle.std.specs.Prelude.{ℕ, ◌≤◌, List}
+use Rattle.std.specs.List.{AllByRecursion}
 use Rattle.nt_types.specs.ShapeData.{MemberData}
 use Rattle.nt_types.specs.TreeData.{TreesData}
 use Rattle.nt_grammar.specs.Table.{Table}
 use Rattle.nt_grammar.specs.Rows.{Rows}
 use Rattle.nt_machine.specs.Deal.{Uses, IsDeal}
+use Rattle.nt_machine.specs.History.{Cluster}
+use Rattle.nt_book.specs.declared.meta.ClusterMeta.{ClusterMeta}
 use Rattle.nt_book.specs.declared.params.Params.{Params}
+use Rattle.nt_book.specs.Books.{book_clusters}
 use Rattle.nt_layout.specs.Laid.{IsLaid}
 use Rattle.nt_files.specs.Files.{Means}
 use Rattle.nt_close.specs.Passing.{measures_of}
@@ -20,4 +24,6 @@ pub record IsStored (p : Params) (fields : List MemberData) (texts : List (List 
   pub table : Table
   pub rows : Rows fields p.plain table
   pub laid : IsLaid bytes table dealt (measures_of p)
+  -- no cluster is longer than a range may get
+  pub short : AllByRecursion (λ (c : Cluster ClusterMeta). c.len ≤ p.limits.range) (book_clusters laid.book)
   pub means : Means bytes table dealt

@@ -3,8 +3,8 @@
 //! Start at `storing.rt` (`store`). `texts.rt` reads the schema text, opens the inputs and gives them back; `orders.rt` makes the
 //! line of the commit order; `laws.rt` joins what the crates below say of finished files; `error.rt` is why a file isn't written.
 //!
-//! Words: a file is *stored* that is whole, laid out for the chunks of its texts and means them (`specs/Whole.antt`); it is *left
-//! open* where it can't pass for finished (`specs/Worlds.antt`); what a crash *leaves* is nt_outside's, and what of that is
+//! Words: a file is *stored* that is whole, laid out within the limits for the chunks of its texts and means them (`specs/Whole.antt`);
+//! it is *left open* where it can't pass for finished (`specs/Worlds.antt`); what a crash *leaves* is nt_outside's, and what of that is
 //! *unfinished* nt_crash's (`specs/Crashes.antt`).
 //!
 //! Proved: after `Ok` the file is stored, and out has the line of its order; a schema fault is the text's first one, a bad line the

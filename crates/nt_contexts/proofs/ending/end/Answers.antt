@@ -1,5 +1,5 @@
 use Rattle.std.proofs.Common.{◌<◌, ◌^◌, arith}
-use Rattle.nt_contexts.proofs.Finished.{faults-later, faults-rose, end-is, unspoiled}
+use Rattle.nt_contexts.proofs.Finished.{faults-later, faults-rose, end-is, short-is, unspoiled}
 use Rattle.nt_contexts.proofs.ending.end.Goals as goal
 
 pub returns : goal.returns
@@ -29,4 +29,5 @@ returns g c =
       firsts = step.firsts;
       end = end-is state birth disk book first closes step;
       out = c.finish-disk.ensures.out;
+      short = short-is state birth disk book first closes step;
     }

@@ -1,8 +1,7 @@
-use Rattle.std.proofs.Common.{◌∙◌, ◌<◌, ap, subst, arith}
+use Rattle.std.proofs.Common.{◌∙◌, ◌<◌, ap, arith}
 use Rattle.nt_types.specs.Views.{members_view}
 use Rattle.nt_book.specs.Books.{BookData}
 use Rattle.nt_layout.specs.Headers.{clusters_place}
-use Rattle.nt_contexts.specs.Contexts.{IsBookOn}
 use Rattle.nt_store.proofs.Filling.{filled_from, run_err, run_ok, run_fails, dealt_from, finish_told}
 use Rattle.nt_store.proofs.Crashing.{run_crashes, finish_crashes}
 use Rattle.nt_store.proofs.storing.fill.Goals as goal
@@ -21,11 +20,10 @@ returns-in-Ok-clause-told g c w ts is tell held =
     let filled = filled_from c.args.schema.now _ _ _ (omega (arith, some, c.requires.ready.end)) held run.held in
     let told = run_ok _ c.args.schema.now _ c.args.params.now ts (g.H.Out.Disk.state c.args.disk) (g.H.Out.Disk.state
     c.run_contexts-disk.result.disk) _ c.in-Ok.is (run.told ts tell) in
-    let dealt = dealt_from (members_view c.args.fields.now) c.args.params.now ts c.args.schema.now c.run_contexts-disk.result.book
-    (g.H.Out.Disk.state c.args.disk).held (g.H.Out.Disk.state c.run_contexts-disk.result.disk).held filled.h c.requires.ready.rules
-    c.requires.ready.rows c.requires.within c.keeps.ensures
-    (subst (λ (b : BookData). IsBookOn b c.run_contexts-disk.result.book) c.requires.ready.book_is run.book_on) told.0 told.1 held
-    filled.is in
+    let dealt = dealt_from (members_view c.args.fields.now) c.args.params.now ts c.args.schema.now c.args.book
+    c.run_contexts-disk.result.book (g.H.Out.Disk.state c.args.disk).held (g.H.Out.Disk.state c.run_contexts-disk.result.disk).held
+    filled.h c.requires.ready.rules c.requires.ready.rows c.requires.within c.requires.ready.book_is c.keeps.ensures run.book_on run.short
+    told.0 told.1 held filled.is in
     finish_told c.chunks_in_files.ensures.lengths c.chunks_in_files.ensures.stored c.chunks_in_files.ensures.over _ _ ts _ _ w _ filled.h
     _ dealt filled.shut _
     (c.finish-finished.ensures.told w filled.h (c.put_texts.ensures.world ∙ is) filled.is filled.shut)
@@ -66,11 +64,10 @@ returns-in-Ok-clause-crash g c w ts is tell held =
     let filled = filled_from c.args.schema.now _ _ _ (omega (arith, some, c.requires.ready.end)) held run.held in
     let told = run_ok _ c.args.schema.now _ c.args.params.now ts (g.H.Out.Disk.state c.args.disk) (g.H.Out.Disk.state
     c.run_contexts-disk.result.disk) _ c.in-Ok.is (run.told ts tell) in
-    let dealt = dealt_from (members_view c.args.fields.now) c.args.params.now ts c.args.schema.now c.run_contexts-disk.result.book
-    (g.H.Out.Disk.state c.args.disk).held (g.H.Out.Disk.state c.run_contexts-disk.result.disk).held filled.h c.requires.ready.rules
-    c.requires.ready.rows c.requires.within c.keeps.ensures
-    (subst (λ (b : BookData). IsBookOn b c.run_contexts-disk.result.book) c.requires.ready.book_is run.book_on) told.0 told.1 held
-    filled.is in
+    let dealt = dealt_from (members_view c.args.fields.now) c.args.params.now ts c.args.schema.now c.args.book
+    c.run_contexts-disk.result.book (g.H.Out.Disk.state c.args.disk).held (g.H.Out.Disk.state c.run_contexts-disk.result.disk).held
+    filled.h c.requires.ready.rules c.requires.ready.rows c.requires.within c.requires.ready.book_is c.keeps.ensures run.book_on run.short
+    told.0 told.1 held filled.is in
     finish_crashes c.crashes_leave_chunks_or_none.ensures _ _ ts _ _ w _ filled.h _ dealt _
     (c.finish-finished.ensures.steps w filled.h (c.put_texts.ensures.world ∙ is) filled.is)
 

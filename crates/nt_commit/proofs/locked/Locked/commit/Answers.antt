@@ -15,7 +15,8 @@ invariant_of-self-in-Ok g c =
     let book = c.append-cluster.ensures.book ∙ ap (λ (x : BookData). record x { history = x.history ++ committed_entry c.append-cluster.result (book_end x) meta ∷ []; spare = c.room.new.self.spare - 1 }) room in
     let number = c.append-cluster.ensures.number ∙ ap (λ (x : BookData). length (book_clusters x)) room in
     let context : meta.context ≤ c.self.inside.contexts = omega (arith, ap (λ v. v.birth.contexts) c.self.view_is, c.requires.context) in
-    (committed g.D.Disk.state _ _ _ _ c.self.invariant _ _ c.append-cluster.result _ meta book number context c.requires.room reserved.ok reserved.end reserved.out reserved.cause.later).0.after
+    (committed g.D.Disk.state _ _ _ _ c.self.invariant _ _ c.append-cluster.result _ meta book number c.in_ok-check.ensures
+    context c.requires.room reserved.ok reserved.end reserved.out reserved.cause.later).0.after
 
 pub invariant_of-self-in-Err-Memory : goal.invariant_of-self-in-Err-Memory
 invariant_of-self-in-Err-Memory g c =
@@ -53,7 +54,8 @@ returns-in-Ok-clause-step g c =
     let book = c.append-cluster.ensures.book ∙ ap (λ (x : BookData). record x { history = x.history ++ committed_entry c.append-cluster.result (book_end x) meta ∷ []; spare = c.room.new.self.spare - 1 }) room in
     let number = c.append-cluster.ensures.number ∙ ap (λ (x : BookData). length (book_clusters x)) room in
     let context : meta.context ≤ c.self.inside.contexts = omega (arith, ap (λ v. v.birth.contexts) c.self.view_is, c.requires.context) in
-    let done = committed g.D.Disk.state _ _ _ _ c.self.invariant _ _ c.append-cluster.result _ meta book number context c.requires.room reserved.ok reserved.end reserved.out reserved.cause.later in
+    let done = committed g.D.Disk.state _ _ _ _ c.self.invariant _ _ c.append-cluster.result _ meta book number c.in_ok-check.ensures
+    context c.requires.room reserved.ok reserved.end reserved.out reserved.cause.later in
     step_from g.D.Disk.state _ _ _ c.self.view_is done.0
 
 pub returns-in-Ok-clause-commits : goal.returns-in-Ok-clause-commits
@@ -64,7 +66,8 @@ returns-in-Ok-clause-commits g c =
     let book = c.append-cluster.ensures.book ∙ ap (λ (x : BookData). record x { history = x.history ++ committed_entry c.append-cluster.result (book_end x) meta ∷ []; spare = c.room.new.self.spare - 1 }) room in
     let number = c.append-cluster.ensures.number ∙ ap (λ (x : BookData). length (book_clusters x)) room in
     let context : meta.context ≤ c.self.inside.contexts = omega (arith, ap (λ v. v.birth.contexts) c.self.view_is, c.requires.context) in
-    let done = committed g.D.Disk.state _ _ _ _ c.self.invariant _ _ c.append-cluster.result _ meta book number context c.requires.room reserved.ok reserved.end reserved.out reserved.cause.later in
+    let done = committed g.D.Disk.state _ _ _ _ c.self.invariant _ _ c.append-cluster.result _ meta book number c.in_ok-check.ensures
+    context c.requires.room reserved.ok reserved.end reserved.out reserved.cause.later in
     commits_from g.D.Disk.state _ _ _ c.self.view_is g.D.Ext.Ext.state meta _ (record {
       limits = limits_are g.D.Disk.state _ _ _ _ c.self.invariant meta.len _ c.in_ok-check.ensures;
       added = _;
