@@ -3,6 +3,7 @@
 - RUNS times eight small inputs are written, in clusters, pages and groups of other sizes each time, and printed again. The order line deals
   out the chunks of each input, whole, once and in their order, and the lines that are printed are just these chunks.
 - An input of 100000 events is written with the defaults, listed, and printed again; what is printed is written again as the same file.
+- Eight inputs of 100000 drawn events each are written with the defaults: ten clusters of each, dealt out in the order that is told.
 """
 import os
 import subprocess
@@ -103,6 +104,34 @@ def long_run(program):
         raise Amiss("the entries, written again, are another file")
 
 
+def drawn_lines(number):
+    """100000 events, by draws that multiply the number before by 48271, modulo 2^31 - 1."""
+    lines = []
+    for _ in range(100000):
+        number = number * 48271 % 2147483647
+        run, drawn = number % 1000, []
+        number = number * 48271 % 2147483647
+        for _ in range(number % 4):
+            number = number * 48271 % 2147483647
+            drawn.append(str(number % 1000000))
+        number = number * 48271 % 2147483647
+        lines.append(f'[{run},[{",".join(drawn)}],"t{number % 10}"]\n')
+    return lines
+
+
+def eight_long(program):
+    texts = [drawn_lines(1 + context) for context in range(8)]
+    for context, text in enumerate(texts):
+        save(f"drawn-{context}", "".join(text))
+    inputs = [f"drawn-{context}" for context in range(8)]
+    order = order_of(call(program, "write", "drawn.root", "long.schema", *inputs))
+    if sorted(order) != [context for context in range(8) for _ in range(10)]:
+        raise Amiss(f"not ten clusters of each: {order}")
+    chunks = [[text[at:at + 10000] for at in range(0, len(text), 10000)] for text in texts]
+    if call(program, "entries", "drawn.root") != dealt(order, chunks):
+        raise Amiss(f"the entries aren't the chunks in the order {order}")
+
+
 def main():
     program = os.path.abspath(sys.argv[1])
     begun = time.monotonic()
@@ -111,12 +140,13 @@ def main():
         try:
             orders = small_runs(program)
             long_run(program)
+            eight_long(program)
         except Amiss as fault:
             print(f"amiss: {fault}", file=sys.stderr)
             return 1
         finally:
             os.chdir("/")
-    print(f"runs: {RUNS} of eight inputs in {orders} orders, and a long one, in {time.monotonic() - begun:.1f} seconds")
+    print(f"runs: {RUNS} of eight inputs in {orders} orders, a long one, and eight long ones, in {time.monotonic() - begun:.1f} seconds")
     return 0
 
 
