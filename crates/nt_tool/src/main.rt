@@ -9,6 +9,8 @@
 //!
 //! Choices that bind nobody else:
 //! - `room` of a real disk takes no memory: the system has what a write takes.
+//! - One large block is taken and given back at once, before anything else: the C library learns from it to keep freed memory for the
+//!   next cluster, which would else be asked of the system again, page by page.
 //! - After a failed append a real disk goes on at the length that it keeps itself, behind the bytes that were written: the
 //!   contract allows any number of unknown bytes up to those that were asked for.
 //! - Where the system has no memory to open a file the answer is `Memory`, and no fault is counted.
@@ -37,6 +39,9 @@ use std::env;
 use std::io::ErrorKind;
 use std::process::ExitCode;
 
+/// The bytes of the largest block that is given back.
+const KEPT: usize = 16 << 20;
+
 /// The words after the program's name. Where one isn't UTF-8 there are none, which are no command either.
 fn words_of(rt: &HostRuntime) -> Result<Vec<String>, AllocError> {
     match env::args(rt) {
@@ -54,7 +59,14 @@ fn without_words<H: Host>(host: &mut H) -> Status
     Status::Memory
 }
 
+/// Has the C library keep the memory that one cluster took for the next: it gives back to the system only what is more than twice the
+/// largest block that it once gave back whole. The block is never written, so it takes no pages.
+fn keep_memory(rt: &HostRuntime) {
+    let _block: Result<Vec<u8>, AllocError> = Vec::with_capacity(rt.alloc(), KEPT);
+}
+
 fn main(rt: HostRuntime) -> ExitCode {
+    keep_memory(&rt);
     let mut host = RealHost::new(rt);
     let status = match words_of(&rt) {
         Ok(words) => run(&rt, rt.alloc(), words, &mut host, &NoGate),
