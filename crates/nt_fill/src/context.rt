@@ -15,7 +15,7 @@ use nt_book::Params;
 use nt_column::ColumnSet;
 use nt_commit::{CommitError, Committer, CommitterOf, Locked};
 use nt_outside::Disk;
-use nt_pages::{ClusterImage, build};
+use nt_pages::{ClusterImage, build_in};
 use nt_schema::{Schema, described_fields_are_open};
 use nt_turn::{Logged, Pass};
 use std::alloc::{AllocError, Global};
@@ -45,11 +45,18 @@ pub(crate) struct Store {
     pub(crate) cluster: u32,
     /// The most elements of a page.
     pub(crate) page: u32,
+    /// Memory for the next image.
+    pub(crate) spare: Vec<u8>,
 }
 
 impl Store {
-    /// The image of the cluster of all entries.
-    pub(crate) fn image(&self, schema: &Schema, context: u32) -> Result<ClusterImage, CommitError>
+    /// The image of the cluster of all entries, in memory that an earlier image had.
+    pub(crate) fn image(
+        &self,
+        memory: Vec<u8>,
+        schema: &Schema,
+        context: u32,
+    ) -> Result<ClusterImage, CommitError>
         requires page { IsFromTo 1 max_page self.now.page }
         requires columns { AreDescribed (columns_of self.now.columns) schema.now.columns }
         ensures bytes { IfOk result (λ i. i.bytes ≡ image self.now.page (columns_of self.now.columns)) }
@@ -58,7 +65,8 @@ impl Store {
         ensures err { IfErr result (λ e. e ≡ Memory) }
     {
         let entries = u64::from(self.entries);
-        match build(
+        match build_in(
+            memory,
             self.alloc,
             &self.columns,
             schema,
@@ -153,6 +161,7 @@ impl<'a, D: Disk> FillContext<'a, D> {
                     entries: 0,
                     cluster: params.cluster,
                     page: params.page,
+                    spare: Vec::new(alloc),
                 },
             }),
             Err(error) => Err((pass, pen, error)),

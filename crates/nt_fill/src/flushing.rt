@@ -10,6 +10,7 @@ use crate::writing::write_image;
 use nt_commit::CommitError;
 use nt_outside::{Disk, Gate};
 use nt_plans::columns_have_types;
+use std::mem;
 use std::sync::Wait;
 
 impl<'a, D: Disk> FillContext<'a, D> {
@@ -29,7 +30,8 @@ impl<'a, D: Disk> FillContext<'a, D> {
             return Ok(());
         }
         columns_have_types();
-        let mut image = self.store.image(self.schema, self.pass.number())?;
+        let memory = mem::replace(&mut self.store.spare, Vec::new(self.store.alloc));
+        let mut image = self.store.image(memory, self.schema, self.pass.number())?;
         write_image(
             rt,
             gate,
@@ -38,6 +40,7 @@ impl<'a, D: Disk> FillContext<'a, D> {
             &mut self.pen,
             &mut image,
         )?;
+        self.store.spare = image.bytes.into_vec();
         self.store.columns.clear();
         self.store.entries = 0;
         Ok(())

@@ -22,8 +22,8 @@
 //! gets the turn.
 //!
 //! Choices that bind nobody else:
-//! - Columns keep their memory from flush to flush. The image is made anew for each cluster, in one
-//!   piece of its exact size, and let go before the next entry is gathered.
+//! - Columns and image keep their memory from flush to flush; an image takes what it lacks in one
+//!   piece. After a refused flush the next image takes its memory anew.
 //! - After a pen's failure the gathered entries stay, and nothing can be done with them: a context
 //!   that isn't alive takes no entry and no flush.
 //! - That the texts of an entry are bytes is read off the columns that hold them (`in_range`), which

@@ -1,12 +1,10 @@
 -- The bytes of a cluster: its columns one after the other, each cut into pages.
 -- RNTuple Binary Format Specification 1.0.0.0, sections Pages and Clusters.
-use Rattle.std.specs.Prelude.{ℕ, ◌^◌, List, ◌++◌, map, replicate}
+use Rattle.std.specs.Prelude.{ℕ, ◌^◌, List, ◌++◌, replicate}
 use Rattle.std.specs.List.{flat_map}
 use Rattle.std.specs.Int.{w64, to_le_bytes}
 use Rattle.nt_types.specs.declared.column_type.ColumnType.{ColumnType}
-use Rattle.nt_types.specs.ColumnTable.{code_of}
 use Rattle.nt_xxh3.specs.Sum.{xxh3}
-use Rattle.nt_grammar.specs.declared.rows.ColumnRow.{ColumnRow}
 use Rattle.nt_column.specs.Elements.{Element, page_of}
 use Rattle.nt_lists.specs.Chunks.{chunks}
 use Rattle.nt_column.specs.Column.{Column}

@@ -33,9 +33,40 @@ pub fn build(
     ensures meta { IfOk result
         (λ r. r.meta ≡ cluster_meta page context entries (columns_of columns.now)) }
 {
+    build_in(
+        Vec::new(alloc),
+        alloc,
+        columns,
+        schema,
+        page,
+        context,
+        entries,
+    )
+}
+
+/// The same in memory that an earlier image had, whose bytes are lost. What is lacking is taken at
+/// once.
+pub fn build_in(
+    memory: Vec<u8>,
+    alloc: Global,
+    columns: &ColumnSet,
+    schema: &Schema,
+    page: u32,
+    context: u32,
+    entries: u64,
+) -> Result<ClusterImage, AllocError>
+    requires some { 0 < page }
+    requires most { page ≤ max_page }
+    requires columns { AreDescribed (columns_of columns.now) schema.now.columns }
+    ensures bytes { IfOk result (λ r. r.bytes ≡ image page (columns_of columns.now)) }
+    ensures meta { IfOk result
+        (λ r. r.meta ≡ cluster_meta page context entries (columns_of columns.now)) }
+{
     let count = schema.columns();
     let size = image_size(columns, count, page).ok_or(AllocError)?;
-    let mut image = Vec::with_capacity(alloc, size as usize)?;
+    let mut image = memory;
+    image.clear();
+    image.reserve_exact(size as usize)?;
     image.resize(ROOM, 0)?;
     let lists = put_columns(alloc, columns, count, page, &mut image)?;
     Ok(ClusterImage {
