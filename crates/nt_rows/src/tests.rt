@@ -68,16 +68,19 @@ fn write_of<R: Threads + Wait + Sync>(
     inputs: &[&[u8]],
 ) -> Result<Ran, AllocError> {
     let mut host = MemHost::new(alloc);
-    let mut words = Vec::new(alloc);
-    words.push("write")?;
-    words.extend_from_slice(options)?;
-    words.extend_from_slice(&["f", "s"])?;
+    let mut words = words_of(alloc, &["write"])?;
+    for option in options {
+        words.push(String::from_str(alloc, option)?)?;
+    }
+    words.push(String::from_str(alloc, "f")?)?;
+    words.push(String::from_str(alloc, "s")?)?;
     host.add("s", schema)?;
     for (name, text) in INPUTS.iter().zip(inputs.iter()) {
-        host.add(*name, *text)?;
-        words.push(*name)?;
+        host.add(name, text)?;
+        words.push(String::from_str(alloc, name)?)?;
     }
-    run_words(rt, alloc, host, &words)
+    let status = run(rt, alloc, words, &mut host, &NoGate);
+    Ok(Ran { status, host })
 }
 
 /// A run of a command over this file, under the name `f`.
