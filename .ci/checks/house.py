@@ -4,6 +4,7 @@
 - A crate stands on crates of its own layer or of a lower one.
 - Each path that a document names is there.
 - No name of a definition stands in the specs of two crates, but for those of SHARED.
+- No line of specs or proofs has more than 140 characters.
 - Bodies of functions over 40 lines and files over 250 are named; they are no failure.
 """
 import collections
@@ -104,6 +105,14 @@ def check_names(files):
             yield f"specs: {name} is defined in {', '.join(sorted(crates))}"
 
 
+def long_lines(files):
+    for path in files:
+        if path.endswith(".antt"):
+            for number, line in enumerate(lines_of(path), 1):
+                if len(line) > 140:
+                    yield f"{path}:{number}: a line of {len(line)} characters"
+
+
 def long_bodies(files):
     for path in files:
         if not path.endswith((".rt", ".antt")) or "/proofs/" in path:
@@ -130,7 +139,7 @@ def main():
     layers = layers_of("docs/ARCHITECTURE.md")
     for note in long_bodies(files):
         print("long: " + note)
-    amiss = [*check_crates(crates, layers), *check_paths(crates, files), *check_names(files)]
+    amiss = [*check_crates(crates, layers), *check_paths(crates, files), *check_names(files), *long_lines(files)]
     for fault in amiss:
         print("amiss: " + fault, file=sys.stderr)
     return 1 if amiss else 0

@@ -28,28 +28,33 @@ run_usage old mid new answer is same reports = record {
   answer_is = is;
   told = λ w told-is.
       let said = reports.told w (ap (λ (h : HostState). h.world) same ∙ told-is) in
-      (_, said.1, (refl, refl), refl, (said.0, refl, either_after old mid new said.0 (message_of answer) (ap (λ (h : HostState). h.err_faults) same) said.2));
+      (_, said.1, (refl, refl), refl, (said.0, refl, either_after old mid new said.0 (message_of answer)
+          (ap (λ (h : HostState). h.err_faults) same) said.2));
   asked = reports.asked ∙ ap (λ (h : HostState). h.asked) same;
   faults = reports.faults ∙ ap (λ (h : HostState). h.faults) same;
   opened = reports.opened ∙ ap (λ (h : HostState). h.opened) same;
 }
 
 -- what the words say was done, and then its message printed
-pub runs : (words : List (List ℕ)) (old mid new : HostState) (answer : Status) → Obeys words old mid answer → Reports (message_of answer) mid new
+pub runs : (words : List (List ℕ)) (old mid new : HostState) (answer : Status) → Obeys words old mid answer
+    → Reports (message_of answer) mid new
     → Runs words old new answer
 runs words old mid new answer obeys reports = record {
   write = λ o s is p said. run_write o s is p old mid new answer (obeys.write o s is p said) reports;
-  entries = λ from count name said. run_shows (entries_shown (range_said from count)) name old mid new answer (obeys.entries from count name said) reports;
+  entries = λ from count name said. run_shows (entries_shown (range_said from count)) name old mid new answer
+      (obeys.entries from count name said) reports;
   schema = λ name said. run_shows fields_shown name old mid new answer (obeys.schema name said) reports;
   usage = λ none. let refused = obeys.usage none in run_usage old mid new answer refused.0 refused.1 reports;
   answers = obeys.answers;
 }
 
 -- the same, of words and of a host that are known to be those
-pub runs_after : (words' words : List (List ℕ)) (one old mid new : HostState) (answer : Status) → words' ≡ words → one ≡ old → Obeys words' one mid answer
+pub runs_after : (words' words : List (List ℕ)) (one old mid new : HostState) (answer : Status) → words' ≡ words → one ≡ old
+    → Obeys words' one mid answer
     → Reports (message_of answer) mid new → Runs words old new answer
 runs_after words' words one old mid new answer same stays obeys reports =
-    runs words old mid new answer (subst (λ (h : HostState). Obeys words h mid answer) stays (subst (λ (l : List (List ℕ)). Obeys l one mid answer) same obeys)) reports
+    runs words old mid new answer (subst (λ (h : HostState). Obeys words h mid answer) stays
+        (subst (λ (l : List (List ℕ)). Obeys l one mid answer) same obeys)) reports
 
 -- want of memory for the words
 pub no_memory : (words : List (List ℕ)) (state : HostState) → Obeys words state state status.Memory
@@ -120,7 +125,8 @@ pub listed_words : (words : List (List ℕ)) (from count : Option ℕ) (name : L
 listed_words words from count name old new answer said shows = record {
   write = λ o s is p other. absurd (not_entries words other.begins said.begins);
   entries = λ from' count' name' other.
-      same_entries (λ f c n. ShowsNamed (entries_shown (range_said f c)) n old new answer) words from count from' count' name name' said other shows;
+      same_entries (λ f c n. ShowsNamed (entries_shown (range_said f c)) n old new answer) words from count from' count' name name'
+          said other shows;
   schema = λ name' other. absurd (entries_not_schema words said.begins other.begins);
   usage = λ none. absurd (none.no_entries from count name said);
   answers = reading_answers words answer shows.answer_is (inl (from, count, name, said));

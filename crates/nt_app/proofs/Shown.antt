@@ -1,5 +1,6 @@
 -- The commands that show a file, and the message after them.
-use Rattle.std.proofs.Common.{◌≡◌, ◌⊎◌, ◌∙◌, inl, inr, ap, sym, subst, refl, ℕ, ◌≤◌, List, [], ◌∷◌, ◌++◌, take, Option, Some, None, Result, Ok, Err, arith}
+use Rattle.std.proofs.Common.{◌≡◌, ◌⊎◌, ◌∙◌, inl, inr, ap, sym, subst, refl, ℕ, ◌≤◌, List, [], ◌∷◌, ◌++◌, take, Option, Some, None, Result}
+use Rattle.std.proofs.Common.{Ok, Err, arith}
 use Rattle.std.specs.Prelude.{IsErrOf, ◌+◌, ◌-◌}
 use Rattle.std.proofs.lemmas.List.{append-nil}
 use Rattle.nt_num.specs.declared.fault.ReadError.{ReadError}
@@ -14,7 +15,8 @@ use Rattle.nt_show.specs.Shown.{Shown, Printed, ShowsFile}
 use Rattle.nt_app.specs.Statuses.{message_of}
 use Rattle.nt_store.specs.Worlds.{IsThereWith, KeepsFiles}
 use Rattle.nt_app.specs.Reports.{Reports}
-use Rattle.nt_app.specs.Shows.{AsksAsDone, status_of_refusal, status_of_shown, shown_of, GainsFront, ShownTold, IsAnswerOfReading, ShowsNamed, Shows}
+use Rattle.nt_app.specs.Shows.{AsksAsDone, status_of_refusal, status_of_shown, shown_of, GainsFront, ShownTold, IsAnswerOfReading}
+use Rattle.nt_app.specs.Shows.{ShowsNamed, Shows}
 use Rattle.nt_app.specs.declared.status.Status.{Status}
 use Rattle.nt_app.specs.declared.status.Status.TheVariants as status
 use Rattle.nt_app.proofs.Joined.{either_after, not_there_both, there_is}

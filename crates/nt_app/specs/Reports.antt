@@ -11,7 +11,8 @@ SaysOnErr message old new w w' =
 
 -- a message was printed on err, and nothing else happened
 pub record Reports (message : List ℕ) (old new : HostState) : Type 0 where
-  pub told : (w : World) → old.world ≡ Some w → (n : ℕ) × (new.world ≡ Some (prints ToErr (take n message) w)) × ((length message ≤ n) ⊎ Rose old.err_faults new.err_faults)
+  pub told : (w : World) → old.world ≡ Some w → (n : ℕ) × (new.world ≡ Some (prints ToErr (take n message) w))
+      × ((length message ≤ n) ⊎ Rose old.err_faults new.err_faults)
   pub asked : new.asked ≡ old.asked
   pub faults : new.faults ≡ old.faults
   pub opened : new.opened ≡ old.opened

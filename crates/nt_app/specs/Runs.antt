@@ -18,7 +18,8 @@ use Rattle.nt_app.specs.Writes.{WritesNamed, RunsWrite}
 -- the words were no command, which is said unless memory runs out: nothing was asked for, no disk was made, and no file changed
 pub record RefusesWords (old new : HostState) (answer : Status) : Type 0 where
   pub answer_is : (answer ≡ status.Usage) ⊎ (answer ≡ status.Memory)
-  pub told : (w : World) → old.world ≡ Some w → (w' : World) × (new.world ≡ Some w') × KeepsFiles w w' × (w'.out ≡ w.out) × SaysOnErr (message_of answer) old new w w'
+  pub told : (w : World) → old.world ≡ Some w → (w' : World) × (new.world ≡ Some w') × KeepsFiles w w' × (w'.out ≡ w.out)
+      × SaysOnErr (message_of answer) old new w w'
   pub asked : new.asked ≡ old.asked
   pub faults : new.faults ≡ old.faults
   pub opened : new.opened ≡ old.opened
@@ -56,7 +57,8 @@ IsAnswerTo words status.Memory = ⊤
 
 -- what the words say was done, before a message is printed
 pub record Obeys (words : List (List ℕ)) (old new : HostState) (answer : Status) : Type 0 where
-  pub write : (out schema : List ℕ) (inputs : List (List ℕ)) (p : Params) → IsWrite words out schema inputs p → WritesNamed out schema inputs p old new answer
+  pub write : (out schema : List ℕ) (inputs : List (List ℕ)) (p : Params) → IsWrite words out schema inputs p
+      → WritesNamed out schema inputs p old new answer
   pub entries : (from count : Option ℕ) (name : List ℕ) → IsEntries words from count name
       → ShowsNamed (entries_shown (range_said from count)) name old new answer
   pub schema : (name : List ℕ) → IsSchemaCommand words name → ShowsNamed fields_shown name old new answer
@@ -65,7 +67,8 @@ pub record Obeys (words : List (List ℕ)) (old new : HostState) (answer : Statu
 
 -- what the words say was done, and its message printed
 pub record Runs (words : List (List ℕ)) (old new : HostState) (answer : Status) : Type 0 where
-  pub write : (out schema : List ℕ) (inputs : List (List ℕ)) (p : Params) → IsWrite words out schema inputs p → RunsWrite out schema inputs p old new answer
+  pub write : (out schema : List ℕ) (inputs : List (List ℕ)) (p : Params) → IsWrite words out schema inputs p
+      → RunsWrite out schema inputs p old new answer
   pub entries : (from count : Option ℕ) (name : List ℕ) → IsEntries words from count name → RunsEntries from count name old new answer
   pub schema : (name : List ℕ) → IsSchemaCommand words name → RunsSchema name old new answer
   pub usage : IsNoCommand words → RefusesWords old new answer

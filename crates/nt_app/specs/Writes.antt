@@ -61,7 +61,8 @@ pub record RunsWrite (out schema : List ℕ) (inputs : List (List ℕ)) (p : Par
   pub stored : Result Unit StoreError
   pub answer_is : answer ≡ status_of_store stored
   -- where the host tells what it holds
-  pub told : (w : World) → old.world ≡ Some w → (w' : World) × (new.world ≡ Some w') × SaysOnErr (message_of answer) old new w w' × OthersStay out w w' × StoreTold out schema inputs p w w' stored
+  pub told : (w : World) → old.world ≡ Some w → (w' : World) × (new.world ≡ Some w') × SaysOnErr (message_of answer) old new w w'
+      × OthersStay out w w' × StoreTold out schema inputs p w w' stored
   -- where the file was begun, its first byte came only when all the rest stayed
   pub order : WritesInOrder out old.world new.world
   -- and wherever a crash comes behind the first sync, it leaves a file that is refused as unfinished, or the whole one

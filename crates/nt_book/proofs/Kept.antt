@@ -16,11 +16,15 @@ use Rattle.nt_book.specs.declared.event.EventKind.TheVariants.{Committed, Settle
 use Rattle.nt_book.specs.declared.state.RangeState.{RangeState}
 use Rattle.nt_book.specs.declared.state.RangeState.TheVariants as state
 use Rattle.nt_book.specs.declared.row.ClusterRow.{ClusterRow}
-use Rattle.nt_book.specs.Entries.{fate_of, row_cluster, row_clusters, entry_of_kind, history_of, committed_by, committed_entry, faulted_entry}
-use Rattle.nt_book.specs.Books.{BookData, book_clusters, book_end, cluster_at, no_cluster, entry_count, elements_before, column_offset, first_entry}
+use Rattle.nt_book.specs.Entries.{fate_of, row_cluster, row_clusters, entry_of_kind, history_of, committed_by, committed_entry}
+use Rattle.nt_book.specs.Entries.{faulted_entry}
+use Rattle.nt_book.specs.Books.{BookData, book_clusters, book_end, cluster_at, no_cluster, entry_count, elements_before, column_offset}
+use Rattle.nt_book.specs.Books.{first_entry}
 use Rattle.nt_book.specs.Limiting.{limit_error}
 use Rattle.nt_book.specs.Keeping.{IsKindOf, IsHistory, with_state}
-use Rattle.nt_book.proofs.Rows.{row_clusters-append, length-row_clusters, row_clusters-at, row_clusters-with_state, slice_get-row_clusters, inside-slice_get, Some-same, Out-fate_of, order-row_clusters, history_of-with_state, history_of-append, history_of-snoc, row-new, length-with_state}
+use Rattle.nt_book.proofs.Rows.{row_clusters-append, length-row_clusters, row_clusters-at, row_clusters-with_state, slice_get-row_clusters}
+use Rattle.nt_book.proofs.Rows.{inside-slice_get, Some-same, Out-fate_of, order-row_clusters, history_of-with_state, history_of-append}
+use Rattle.nt_book.proofs.Rows.{history_of-snoc, row-new, length-with_state}
 
 from_zero : (n : ℕ) → 0 + n ≡ n
 from_zero n = omega arith
@@ -40,7 +44,8 @@ module _ (begin : ℕ) (rows : List ClusterRow) (events : List Event) (h : IsHis
   IsKindOf-more n (Spoiled faults) known = tt
   IsKindOf-more n (Faulted faults) known = tt
 
-  AllByRecursion-more : (es : List Event) → AllByRecursion (λ (e : Event). IsKindOf (length rows) e.cluster e.kind) es → AllByRecursion (λ (e : Event). IsKindOf (length rows + 1) e.cluster e.kind) es
+  AllByRecursion-more : (es : List Event) → AllByRecursion (λ (e : Event). IsKindOf (length rows) e.cluster e.kind) es
+      → AllByRecursion (λ (e : Event). IsKindOf (length rows + 1) e.cluster e.kind) es
   AllByRecursion-more [] known = tt
   AllByRecursion-more (e ∷ es) known = (IsKindOf-more e.cluster e.kind known.0, AllByRecursion-more es known.1)
 
@@ -51,24 +56,31 @@ module _ (begin : ℕ) (rows : List ClusterRow) (events : List Event) (h : IsHis
     abbrev event : Event
     event = record { context = meta.context; kind = Committed; cluster = length rows }
 
-    pub history-committed : history_of (rows ++ row ∷ []) (events ++ event ∷ []) ≡ history_of rows events ++ committed_entry (length rows) start meta ∷ []
+    pub history-committed : history_of (rows ++ row ∷ []) (events ++ event ∷ []) ≡ history_of rows events
+        ++ committed_entry (length rows) start meta ∷ []
     history-committed =
         history_of-snoc (rows ++ row ∷ []) events event
-        ∙ (ap (λ (l : List (Entry ClusterMeta)). l ++ entry_of_kind (rows ++ row ∷ []) meta.context (length rows) Committed ∷ []) (history_of-append rows row events h.named)
+        ∙ (ap (λ (l : List (Entry ClusterMeta)). l ++ entry_of_kind (rows ++ row ∷ []) meta.context (length rows) Committed ∷ [])
+            (history_of-append rows row events h.named)
         ∙ ap (λ (r : ClusterRow). history_of rows events ++ committed_by meta.context (length rows) r.start r.meta ∷ []) (row-new rows row))
 
     pub IsHistory-committed : IsHistory begin (rows ++ row ∷ []) (events ++ event ∷ [])
     IsHistory-committed =
-        let allowed : IsAllowed begin (ranges_of (history_of rows events)) (committed_entry (length rows) start meta) = (sym length-ranges, at ∙ sym end-ranges) in
+        let allowed : IsAllowed begin (ranges_of (history_of rows events)) (committed_entry (length rows) start meta) =
+                (sym length-ranges, at ∙ sym end-ranges) in
         record {
-          legal = subst (λ (l : List (Entry ClusterMeta)). IsLegal begin l) (sym history-committed) (IsLegalAfter-snoc begin [] (history_of rows events) (committed_entry (length rows) start meta) h.legal allowed);
+          legal = subst (λ (l : List (Entry ClusterMeta)). IsLegal begin l) (sym history-committed)
+              (IsLegalAfter-snoc begin [] (history_of rows events) (committed_entry (length rows) start meta) h.legal allowed);
           clusters =
               row_clusters-append 0 rows row
               ∙ (ap (λ (m : ℕ). row_clusters 0 rows ++ row_cluster m row ∷ []) (from_zero (length rows))
               ∙ (ap (λ (l : List (Cluster ClusterMeta)). l ++ row_cluster (length rows) row ∷ []) h.clusters
-              ∙ (sym (ranges_of-snoc (history_of rows events) (committed_entry (length rows) start meta)) ∙ ap (λ (l : List (Entry ClusterMeta)). ranges_of l) (sym history-committed))));
-          named = subst (λ (m : ℕ). AllByRecursion (λ (x : Event). IsKindOf m x.cluster x.kind) (events ++ event ∷ [])) (sym (length-append rows (row ∷ [])))
-              (AllByRecursion-append (λ (x : Event). IsKindOf (length rows + 1) x.cluster x.kind) events (event ∷ []) (AllByRecursion-more events h.named) (omega arith, tt));
+              ∙ (sym (ranges_of-snoc (history_of rows events) (committed_entry (length rows) start meta))
+                  ∙ ap (λ (l : List (Entry ClusterMeta)). ranges_of l) (sym history-committed))));
+          named = subst (λ (m : ℕ). AllByRecursion (λ (x : Event). IsKindOf m x.cluster x.kind) (events ++ event ∷ []))
+              (sym (length-append rows (row ∷ [])))
+              (AllByRecursion-append (λ (x : Event). IsKindOf (length rows + 1) x.cluster x.kind) events (event ∷ [])
+                  (AllByRecursion-more events h.named) (omega arith, tt));
         }
 
   -- a range that is handed back
@@ -83,31 +95,39 @@ module _ (begin : ℕ) (rows : List ClusterRow) (events : List Event) (h : IsHis
     -- whose state is out
     pub row-out : (d : ClusterRow) → (slice_index_or rows n d).state ≡ state.Out
     row-out d =
-        let same : Some (row_cluster n (slice_index_or rows n d)) ≡ Some is.cluster = ap (λ (m : ℕ). Some (row_cluster m (slice_index_or rows n d))) (sym (from_zero n)) ∙ (sym (slice_get-row_clusters 0 rows n d row-inside) ∙ at_row) in
+        let same : Some (row_cluster n (slice_index_or rows n d)) ≡ Some is.cluster =
+                ap (λ (m : ℕ). Some (row_cluster m (slice_index_or rows n d))) (sym (from_zero n))
+                  ∙ (sym (slice_get-row_clusters 0 rows n d row-inside) ∙ at_row) in
         Out-fate_of (slice_index_or rows n d).state (ap (λ (c : Cluster ClusterMeta). c.state) (Some-same same) ∙ is.out)
 
     module _ (s : RangeState) (kind : EventKind) (e : Entry ClusterMeta) (known : IsKindOf (length rows) n kind)
-        (names : (some_rows : List ClusterRow) → entry_of_kind some_rows i n kind ≡ e) (allowed : IsAllowed begin (ranges_of (history_of rows events)) e)
-        (leaves : after_entry (ranges_of (history_of rows events)) e ≡ map (handed_back i n (fate_of s)) (ranges_of (history_of rows events))) where
+        (names : (some_rows : List ClusterRow) → entry_of_kind some_rows i n kind ≡ e)
+            (allowed : IsAllowed begin (ranges_of (history_of rows events)) e)
+        (leaves : after_entry (ranges_of (history_of rows events)) e
+            ≡ map (handed_back i n (fate_of s)) (ranges_of (history_of rows events))) where
       abbrev back : Event
       back = record { context = i; kind = kind; cluster = n }
 
       pub history-back : history_of (with_state rows n s) (events ++ back ∷ []) ≡ history_of rows events ++ e ∷ []
       history-back =
           history_of-snoc (with_state rows n s) events back
-          ∙ (ap (λ (l : List (Entry ClusterMeta)). l ++ entry_of_kind (with_state rows n s) i n kind ∷ []) (history_of-with_state rows n s events row-inside)
+          ∙ (ap (λ (l : List (Entry ClusterMeta)). l ++ entry_of_kind (with_state rows n s) i n kind ∷ [])
+              (history_of-with_state rows n s events row-inside)
           ∙ ap (λ (x : Entry ClusterMeta). history_of rows events ++ x ∷ []) (names (with_state rows n s)))
 
       pub IsHistory-back : IsHistory begin (with_state rows n s) (events ++ back ∷ [])
       IsHistory-back = record {
-        legal = subst (λ (l : List (Entry ClusterMeta)). IsLegal begin l) (sym history-back) (IsLegalAfter-snoc begin [] (history_of rows events) e h.legal allowed);
+        legal = subst (λ (l : List (Entry ClusterMeta)). IsLegal begin l) (sym history-back)
+            (IsLegalAfter-snoc begin [] (history_of rows events) e h.legal allowed);
         clusters =
             row_clusters-with_state 0 rows n s is.cluster at_row
             ∙ (ap (λ (l : List (Cluster ClusterMeta)). slice_set l n (record is.cluster { state = fate_of s })) h.clusters
             ∙ (sym (ranges_of-back begin i n (fate_of s) (history_of rows events) h.legal is)
-            ∙ (sym leaves ∙ (sym (ranges_of-snoc (history_of rows events) e) ∙ ap (λ (l : List (Entry ClusterMeta)). ranges_of l) (sym history-back)))));
+            ∙ (sym leaves ∙ (sym (ranges_of-snoc (history_of rows events) e) ∙ ap (λ (l : List (Entry ClusterMeta)). ranges_of l)
+                (sym history-back)))));
         named = AllByRecursion-append (λ (x : Event). IsKindOf (length (with_state rows n s)) x.cluster x.kind) events (back ∷ [])
-            (subst (λ (m : ℕ). AllByRecursion (λ (x : Event). IsKindOf m x.cluster x.kind) events) (sym (length-with_state rows n s)) h.named)
+            (subst (λ (m : ℕ). AllByRecursion (λ (x : Event). IsKindOf m x.cluster x.kind) events)
+                (sym (length-with_state rows n s)) h.named)
             (subst (λ (m : ℕ). IsKindOf m n kind) (sym (length-with_state rows n s)) known, tt);
       }
 
@@ -121,8 +141,10 @@ module _ (begin : ℕ) (rows : List ClusterRow) (events : List Event) (h : IsHis
 
     pub IsHistory-fault : IsHistory begin rows (events ++ fault ∷ [])
     IsHistory-fault = record {
-      legal = subst (λ (l : List (Entry ClusterMeta)). IsLegal begin l) (sym history-fault) (IsLegalAfter-snoc begin [] (history_of rows events) (faulted_entry i faults) h.legal tt);
-      clusters = h.clusters ∙ (sym (ranges_of-snoc (history_of rows events) (faulted_entry i faults)) ∙ ap (λ (l : List (Entry ClusterMeta)). ranges_of l) (sym history-fault));
+      legal = subst (λ (l : List (Entry ClusterMeta)). IsLegal begin l) (sym history-fault)
+          (IsLegalAfter-snoc begin [] (history_of rows events) (faulted_entry i faults) h.legal tt);
+      clusters = h.clusters ∙ (sym (ranges_of-snoc (history_of rows events) (faulted_entry i faults))
+          ∙ ap (λ (l : List (Entry ClusterMeta)). ranges_of l) (sym history-fault));
       named = AllByRecursion-append (λ (x : Event). IsKindOf (length rows) x.cluster x.kind) events (fault ∷ []) h.named (tt, tt);
     }
 
@@ -136,7 +158,8 @@ module _ (begin : ℕ) (rows : List ClusterRow) (events : List Event) (h : IsHis
 
     pub end-book : book.begin ≡ begin → book_end book ≡ end_after begin (row_clusters 0 rows)
     end-book same =
-        ap (λ (b : ℕ). end_after b (book_clusters book)) same ∙ ap (λ (l : List (Cluster ClusterMeta)). end_after begin l) (sym same_clusters)
+        ap (λ (b : ℕ). end_after b (book_clusters book)) same ∙ ap (λ (l : List (Cluster ClusterMeta)). end_after begin l)
+            (sym same_clusters)
 
     pub cluster_at-book : (k : ℕ) (d : ClusterRow) → k < length rows → cluster_at book k ≡ row_cluster k (slice_index_or rows k d)
     cluster_at-book k d less = ap (λ (l : List (Cluster ClusterMeta)). slice_index_or l k no_cluster) (sym same_clusters)
@@ -157,7 +180,8 @@ module _ (begin : ℕ) (rows : List ClusterRow) (events : List Event) (h : IsHis
         ap (λ (fs : List ℕ). slice_index fs column + elements_before (take k (book_clusters book)) column) same
         ∙ ap (λ (l : List (Cluster ClusterMeta)). slice_index firsts column + elements_before (take k l) column) (sym same_clusters)
 
-    pub limit-book : (limits : Limits) (end len : ℕ) → limits ≡ book.limits → book.begin ≡ begin → end ≡ end_after begin (row_clusters 0 rows)
+    pub limit-book : (limits : Limits) (end len : ℕ) → limits ≡ book.limits → book.begin ≡ begin
+        → end ≡ end_after begin (row_clusters 0 rows)
         → limit_error book.limits (book_end book) (length (book_clusters book)) len ≡ limit_error limits end (length rows) len
     limit-book limits end len same begins ends =
         ap (λ (l : Limits). limit_error l (book_end book) (length (book_clusters book)) len) (sym same)

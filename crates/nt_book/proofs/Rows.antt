@@ -15,7 +15,8 @@ use Rattle.nt_book.specs.declared.row.ClusterRow.{ClusterRow}
 use Rattle.nt_book.specs.Entries.{fate_of, committed_by, no_row, row_cluster, row_clusters, entry_of_kind, history_of}
 use Rattle.nt_book.specs.Keeping.{IsKindOf, with_state}
 
-pub row_clusters-append : (n : ℕ) (rows : List ClusterRow) (row : ClusterRow) → row_clusters n (rows ++ row ∷ []) ≡ row_clusters n rows ++ row_cluster (n + length rows) row ∷ []
+pub row_clusters-append : (n : ℕ) (rows : List ClusterRow) (row : ClusterRow) → row_clusters n (rows ++ row ∷ [])
+    ≡ row_clusters n rows ++ row_cluster (n + length rows) row ∷ []
 row_clusters-append n [] row = ap (λ (m : ℕ). row_cluster m row ∷ []) (omega arith)
 row_clusters-append n (r ∷ rows) row =
     ap (λ (l : List (Cluster ClusterMeta)). row_cluster n r ∷ l)
@@ -54,11 +55,13 @@ Out-fate_of state.Settled is = cc
 Out-fate_of (state.Spoiled faults) is = cc
 
 -- a view of clusters that sees neither number nor state, as the commit order does
-pub order-row_clusters : (n : ℕ) (rows : List ClusterRow) → map (λ (c : Cluster ClusterMeta). c.context) (row_clusters n rows) ≡ map (λ (row : ClusterRow). row.meta.context) rows
+pub order-row_clusters : (n : ℕ) (rows : List ClusterRow) → map (λ (c : Cluster ClusterMeta). c.context) (row_clusters n rows)
+    ≡ map (λ (row : ClusterRow). row.meta.context) rows
 order-row_clusters n [] = refl
 order-row_clusters n (row ∷ rows) = ap (λ (l : List ℕ). row.meta.context ∷ l) (order-row_clusters (n + 1) rows)
 
-pub row_clusters-with_state : (n : ℕ) (rows : List ClusterRow) (k : ℕ) (s : RangeState) (c : Cluster ClusterMeta) → slice_get (row_clusters n rows) k ≡ Some c
+pub row_clusters-with_state : (n : ℕ) (rows : List ClusterRow) (k : ℕ) (s : RangeState) (c : Cluster ClusterMeta)
+    → slice_get (row_clusters n rows) k ≡ Some c
     → row_clusters n (with_state rows k s) ≡ slice_set (row_clusters n rows) k (record c { state = fate_of s })
 row_clusters-with_state n [] k s c at = cc
 row_clusters-with_state n (row ∷ rows) zero s c at =
@@ -98,13 +101,15 @@ entry-with_state rows k s context n Settled less = refl
 entry-with_state rows k s context n (Spoiled faults) less = refl
 entry-with_state rows k s context n (Faulted faults) less = refl
 
-pub history_of-with_state : (rows : List ClusterRow) (k : ℕ) (s : RangeState) (events : List Event) → k < length rows → history_of (with_state rows k s) events ≡ history_of rows events
+pub history_of-with_state : (rows : List ClusterRow) (k : ℕ) (s : RangeState) (events : List Event) → k < length rows
+    → history_of (with_state rows k s) events ≡ history_of rows events
 history_of-with_state rows k s [] less = refl
 history_of-with_state rows k s (e ∷ es) less =
     ap (λ (x : Entry ClusterMeta). x ∷ history_of (with_state rows k s) es) (entry-with_state rows k s e.context e.cluster e.kind less)
     ∙ ap (λ (l : List (Entry ClusterMeta)). entry_of_kind rows e.context e.cluster e.kind ∷ l) (history_of-with_state rows k s es less)
 
-row-append : (rows : List ClusterRow) (row : ClusterRow) (n : ℕ) → n < length rows → slice_index_or (rows ++ row ∷ []) n no_row ≡ slice_index_or rows n no_row
+row-append : (rows : List ClusterRow) (row : ClusterRow) (n : ℕ) → n < length rows → slice_index_or (rows ++ row ∷ []) n no_row
+    ≡ slice_index_or rows n no_row
 row-append [] row n less = absurd (omega arith)
 row-append (r ∷ rows) row zero less = refl
 row-append (r ∷ rows) row (suc n) less = row-append rows row n (omega arith)
@@ -115,18 +120,21 @@ row-new (r ∷ rows) row = row-new rows row
 
 entry-append : (rows : List ClusterRow) (row : ClusterRow) (context n : ℕ) (kind : EventKind) → IsKindOf (length rows) n kind
     → entry_of_kind (rows ++ row ∷ []) context n kind ≡ entry_of_kind rows context n kind
-entry-append rows row context n Committed known = ap (λ (r : ClusterRow). committed_by context n r.start r.meta) (row-append rows row n known)
+entry-append rows row context n Committed known = ap (λ (r : ClusterRow). committed_by context n r.start r.meta)
+    (row-append rows row n known)
 entry-append rows row context n Settled known = refl
 entry-append rows row context n (Spoiled faults) known = refl
 entry-append rows row context n (Faulted faults) known = refl
 
 -- a new row changes no entry
-pub history_of-append : (rows : List ClusterRow) (row : ClusterRow) (events : List Event) → AllByRecursion (λ (e : Event). IsKindOf (length rows) e.cluster e.kind) events
+pub history_of-append : (rows : List ClusterRow) (row : ClusterRow) (events : List Event)
+    → AllByRecursion (λ (e : Event). IsKindOf (length rows) e.cluster e.kind) events
     → history_of (rows ++ row ∷ []) events ≡ history_of rows events
 history_of-append rows row [] known = refl
 history_of-append rows row (e ∷ es) known =
     ap (λ (x : Entry ClusterMeta). x ∷ history_of (rows ++ row ∷ []) es) (entry-append rows row e.context e.cluster e.kind known.0)
     ∙ ap (λ (l : List (Entry ClusterMeta)). entry_of_kind rows e.context e.cluster e.kind ∷ l) (history_of-append rows row es known.1)
 
-pub history_of-snoc : (rows : List ClusterRow) (events : List Event) (e : Event) → history_of rows (events ++ e ∷ []) ≡ history_of rows events ++ entry_of_kind rows e.context e.cluster e.kind ∷ []
+pub history_of-snoc : (rows : List ClusterRow) (events : List Event) (e : Event) → history_of rows (events ++ e ∷ [])
+    ≡ history_of rows events ++ entry_of_kind rows e.context e.cluster e.kind ∷ []
 history_of-snoc rows events e = map-append (λ (d : Event). entry_of_kind rows d.context d.cluster d.kind) events (e ∷ [])

@@ -53,7 +53,8 @@ row_clusters n (row ∷ rows) = row_cluster n row ∷ row_clusters (n + 1) rows
 
 -- the entry of an event, whose cluster is one of these rows
 abbrev pub entry_of_kind : List ClusterRow → ℕ → ℕ → Happening → Entry ClusterMeta
-entry_of_kind rows context n event.Committed = committed_by context n (slice_index_or rows n no_row).start (slice_index_or rows n no_row).meta
+entry_of_kind rows context n event.Committed = committed_by context n (slice_index_or rows n no_row).start
+    (slice_index_or rows n no_row).meta
 entry_of_kind rows context n event.Settled = settled_entry context n
 entry_of_kind rows context n (event.Spoiled faults) = spoiled_entry context n faults
 entry_of_kind rows context n (event.Faulted faults) = faulted_entry context faults

@@ -26,11 +26,13 @@ module _ (ps : List MemberData) (p : Params) (t : Table) (rows : Rows ps p.plain
       ∙ ap (λ (k : ℕ). record { begin = clusters_place t; limits = p.limits; firsts = replicate k 0; history = []; spare = 0 }) long)
 
   -- all steps were taken on a disk for which there was room
-  pub begun-is : (bytes blob : List ℕ) (len columns steps more : ℕ) (book : BookData) (old mid new : DiskState) (room : Result (Unit {0}) AllocError)
+  pub begun-is : (bytes blob : List ℕ) (len columns steps more : ℕ) (book : BookData) (old mid new : DiskState)
+      (room : Result (Unit {0}) AllocError)
       → book ≡ record { begin = 226 + len; limits = p.limits; firsts = replicate columns 0; history = []; spare = 0 }
       → len ≡ length bytes → 226 + length bytes ≡ clusters_place t → columns ≡ length t.columns → blob ≡ bytes → bytes ≡ header_blob t
       → TakesRoom steps more old mid room → old.end ≡ 0
-      → Becomes mid.held new.held (begun_on (begun 0 0 0) blob) → new.end ≡ mid.end + 226 + length blob → new.out ≡ mid.out → mid.faults ≤ new.faults
+      → Becomes mid.held new.held (begun_on (begun 0 0 0) blob) → new.end ≡ mid.end + 226 + length blob → new.out
+          ≡ mid.out → mid.faults ≤ new.faults
       → IsBegun ps p old new book t
   begun-is bytes blob len columns steps more book old mid new room is len-is place long same header takes empty ok end out later = record {
     rows = rows;

@@ -17,7 +17,8 @@ use Rattle.nt_grammar.specs.Table.{Table}
 use Rattle.nt_book.specs.declared.meta.ClusterMeta.{ClusterMeta}
 use Rattle.nt_book.specs.Books.{BookData, book_clusters, book_end}
 use Rattle.nt_layout.specs.Headers.{header_object, header_blob, file_begun, clusters_place}
-use Rattle.nt_layout.specs.Finished.{list_blobs, footer_object, footer_place, footer_blob, blobs, anchor_of_file, anchor_start, keys_start, free_start, file_len, tail, front, finished}
+use Rattle.nt_layout.specs.Finished.{list_blobs, footer_object, footer_place, footer_blob, blobs, anchor_of_file, anchor_start, keys_start}
+use Rattle.nt_layout.specs.Finished.{free_start, file_len, tail, front, finished}
 use Rattle.nt_close.specs.Steps.{first_byte, closed_on}
 use Rattle.nt_close.specs.Closing.{AreRangesOf}
 use Rattle.nt_close.proofs.Groups.{blob_length}
@@ -27,16 +28,19 @@ pub first_and_others : (xs : List ℕ) (n : ℕ) → length xs ≡ suc n → (x 
 first_and_others [] n long = absurd (omega arith)
 first_and_others (x ∷ xs) n long = (x, xs, refl, omega arith)
 
-put_behind_first : (x : ℕ) (others rest over : List ℕ) → length others ≡ length over → drop 1 (put_at ((x ∷ others) ++ rest) 1 over) ≡ over ++ rest
+put_behind_first : (x : ℕ) (others rest over : List ℕ) → length others ≡ length over
+    → drop 1 (put_at ((x ∷ others) ++ rest) 1 over) ≡ over ++ rest
 put_behind_first x others rest over same =
     let next : 1 + length over ≡ suc (length others) = omega arith in
     ap (λ (n : ℕ). over ++ drop n ((x ∷ others) ++ rest)) next ∙ ap (λ (l : List ℕ). over ++ l) (drop-append_seam others rest)
 
 -- the bytes behind the first one of a head are put in place, and then the first
-put_over : (head rest over : List ℕ) (b : ℕ) → length head ≡ suc (length over) → put_at (put_at (head ++ rest) 1 over) 0 (b ∷ []) ≡ b ∷ (over ++ rest)
+put_over : (head rest over : List ℕ) (b : ℕ) → length head ≡ suc (length over) → put_at (put_at (head ++ rest) 1 over) 0 (b ∷ [])
+    ≡ b ∷ (over ++ rest)
 put_over head rest over b long =
     let parts = first_and_others head (length over) long in
-    ap (λ (l : List ℕ). b ∷ drop 1 (put_at (l ++ rest) 1 over)) parts.2 ∙ ap (λ (l : List ℕ). b ∷ l) (put_behind_first parts.0 parts.1 rest over parts.3)
+    ap (λ (l : List ℕ). b ∷ drop 1 (put_at (l ++ rest) 1 over)) parts.2
+        ∙ ap (λ (l : List ℕ). b ∷ l) (put_behind_first parts.0 parts.1 rest over parts.3)
 
 -- the file header begins with the byte that is written last
 header_begins : (end free : ℕ) → header_part end free ≡ 0x72 ∷ drop 1 (header_part end free)
@@ -45,10 +49,12 @@ header_begins end free = refl
 
 length-front : (end free keys : ℕ) → length (drop 1 (header_part end free) ++ record_part keys) ≡ 225
 length-front end free keys =
-    omega (arith, ap length (header_begins end free), header-len end free, file_record-len keys, length-append (drop 1 (header_part end free)) (record_part keys))
+    omega (arith, ap length (header_begins end free), header-len end free, file_record-len keys,
+        length-append (drop 1 (header_part end free)) (record_part keys))
 
 -- file header and record, with what follows them
-front_apart : (end free keys : ℕ) (rest : List ℕ) → header_part end free ++ (record_part keys ++ rest) ≡ 0x72 ∷ ((drop 1 (header_part end free) ++ record_part keys) ++ rest)
+front_apart : (end free keys : ℕ) (rest : List ℕ) → header_part end free ++ (record_part keys ++ rest) ≡ 0x72
+    ∷ ((drop 1 (header_part end free) ++ record_part keys) ++ rest)
 front_apart end free keys rest =
     ap (λ (l : List ℕ). l ++ (record_part keys ++ rest)) (header_begins end free)
     ∙ ap (λ (l : List ℕ). 0x72 ∷ l) (sym (append_assoc (drop 1 (header_part end free)) (record_part keys) rest))
@@ -57,19 +63,26 @@ module _ (t : Table) (book : BookData) (most : ℕ) where
   -- anchor and lists behind so many bytes
   behind_is : (n : ℕ) → 226 + n ≡ anchor_start t book most
       → concat (parts_behind n (anchor_of_file t book most))
-      ≡ anchor_part (anchor_start t book most) (anchor_of_file t book most) ++ (key_list_part (keys_start t book most) (anchor_start t book most) ++ free_list_part (free_start t book most) (file_len t book most))
+      ≡ anchor_part (anchor_start t book most) (anchor_of_file t book most)
+          ++ (key_list_part (keys_start t book most) (anchor_start t book most) ++ free_list_part (free_start t book most)
+            (file_len t book most))
   behind_is n is =
       let keys : 360 + n ≡ keys_start t book most = omega (arith, is) in
       let free : 473 + n ≡ free_start t book most = omega (arith, is) in
       let end : 544 + n ≡ file_len t book most = omega (arith, is) in
-      ap (λ (l : List ℕ). anchor_part (226 + n) (anchor_of_file t book most) ++ (key_list_part (360 + n) (226 + n) ++ l)) (append-nil (free_list_part (473 + n) (544 + n)))
+      ap (λ (l : List ℕ). anchor_part (226 + n) (anchor_of_file t book most) ++ (key_list_part (360 + n) (226 + n) ++ l))
+          (append-nil (free_list_part (473 + n) (544 + n)))
       ∙ (ap (λ (p : ℕ). anchor_part p (anchor_of_file t book most) ++ (key_list_part (360 + n) p ++ free_list_part (473 + n) (544 + n))) is
-      ∙ (ap (λ (p : ℕ). anchor_part (anchor_start t book most) (anchor_of_file t book most) ++ (key_list_part p (anchor_start t book most) ++ free_list_part (473 + n) (544 + n))) keys
-      ∙ (ap (λ (p : ℕ). anchor_part (anchor_start t book most) (anchor_of_file t book most) ++ (key_list_part (keys_start t book most) (anchor_start t book most) ++ free_list_part p (544 + n))) free
-      ∙ ap (λ (p : ℕ). anchor_part (anchor_start t book most) (anchor_of_file t book most) ++ (key_list_part (keys_start t book most) (anchor_start t book most) ++ free_list_part (free_start t book most) p)) end)))
+      ∙ (ap (λ (p : ℕ). anchor_part (anchor_start t book most) (anchor_of_file t book most)
+          ++ (key_list_part p (anchor_start t book most) ++ free_list_part (473 + n) (544 + n))) keys
+      ∙ (ap (λ (p : ℕ). anchor_part (anchor_start t book most) (anchor_of_file t book most)
+          ++ (key_list_part (keys_start t book most) (anchor_start t book most) ++ free_list_part p (544 + n))) free
+      ∙ ap (λ (p : ℕ). anchor_part (anchor_start t book most) (anchor_of_file t book most)
+          ++ (key_list_part (keys_start t book most) (anchor_start t book most) ++ free_list_part (free_start t book most) p)) end)))
 
   -- header, ranges, page lists and footer, one behind the other
-  middle_is : (ranges : List (List ℕ)) → concat (blobs t book most ranges) ≡ header_blob t ++ (concat ranges ++ (concat (list_blobs t book most) ++ footer_blob t book most))
+  middle_is : (ranges : List (List ℕ)) → concat (blobs t book most ranges) ≡ header_blob t
+      ++ (concat ranges ++ (concat (list_blobs t book most) ++ footer_blob t book most))
   middle_is ranges =
       ap (λ (l : List ℕ). header_blob t ++ l)
       (concat-append ranges (list_blobs t book most ++ footer_blob t book most ∷ [])
@@ -79,10 +92,12 @@ module _ (t : Table) (book : BookData) (most : ℕ) where
   -- the ranges end where the last one does
   length-ranges : (ranges : List (List ℕ)) → AreRangesOf book ranges → book.begin + length (concat ranges) ≡ book_end book
   length-ranges ranges are =
-      ap (λ (k : ℕ). book.begin + k) (length-concat ranges ∙ (ap sum are ∙ sum-map (λ (c : Cluster ClusterMeta). c.len) (book_clusters book)))
+      ap (λ (k : ℕ). book.begin + k) (length-concat ranges
+          ∙ (ap sum are ∙ sum-map (λ (c : Cluster ClusterMeta). c.len) (book_clusters book)))
 
   -- and the anchor begins behind the footer
-  anchor_behind : (ranges : List (List ℕ)) → book.begin ≡ clusters_place t → AreRangesOf book ranges → 226 + length (concat (blobs t book most ranges)) ≡ anchor_start t book most
+  anchor_behind : (ranges : List (List ℕ)) → book.begin ≡ clusters_place t → AreRangesOf book ranges
+      → 226 + length (concat (blobs t book most ranges)) ≡ anchor_start t book most
   unfolding anchor_start footer_place
   anchor_behind ranges begins are =
       let lists = concat (list_blobs t book most) in
@@ -100,12 +115,15 @@ module _ (t : Table) (book : BookData) (most : ℕ) where
 
   -- what stands behind file header and directory
   behind_record : (ranges : List (List ℕ)) (n : ℕ) → 226 + n ≡ anchor_start t book most
-      → concat (blobs t book most ranges ++ parts_behind n (anchor_of_file t book most)) ≡ header_blob t ++ (concat ranges ++ tail t book most)
+      → concat (blobs t book most ranges ++ parts_behind n (anchor_of_file t book most)) ≡ header_blob t
+          ++ (concat ranges ++ tail t book most)
   unfolding tail
   behind_record ranges n is =
       let lists = concat (list_blobs t book most) in
       let foot = footer_blob t book most in
-      let last = anchor_part (anchor_start t book most) (anchor_of_file t book most) ++ (key_list_part (keys_start t book most) (anchor_start t book most) ++ free_list_part (free_start t book most) (file_len t book most)) in
+      let last = anchor_part (anchor_start t book most) (anchor_of_file t book most)
+              ++ (key_list_part (keys_start t book most) (anchor_start t book most) ++ free_list_part (free_start t book most)
+                (file_len t book most)) in
       concat-append (blobs t book most ranges) (parts_behind n (anchor_of_file t book most))
       ∙ (ap (λ (l : List ℕ). l ++ concat (parts_behind n (anchor_of_file t book most))) (middle_is ranges)
       ∙ (ap (λ (l : List ℕ). (header_blob t ++ (concat ranges ++ (lists ++ foot))) ++ l) (behind_is n is)
@@ -115,7 +133,8 @@ module _ (t : Table) (book : BookData) (most : ℕ) where
 
   -- the finished file, by its parts
   finished_parts : (ranges : List (List ℕ)) → let n = length (concat (blobs t book most ranges)) in
-      finished t book most ranges ≡ header_part (544 + n) (473 + n) ++ (record_part (360 + n) ++ concat (blobs t book most ranges ++ parts_behind n (anchor_of_file t book most)))
+      finished t book most ranges ≡ header_part (544 + n) (473 + n)
+          ++ (record_part (360 + n) ++ concat (blobs t book most ranges ++ parts_behind n (anchor_of_file t book most)))
   unfolding finished_file
   finished_parts ranges = refl
 
@@ -133,7 +152,8 @@ module _ (t : Table) (book : BookData) (most : ℕ) where
       let end : 544 + n ≡ file_len t book most = omega (arith, is) in
       let rest = header_blob t ++ (concat ranges ++ tail t book most) in
       finished_parts ranges
-      ∙ (ap (λ (k : ℕ). header_part (544 + k) (473 + k) ++ (record_part (360 + k) ++ concat (blobs t book most ranges ++ parts_behind k (anchor_of_file t book most)))) (sym long)
+      ∙ (ap (λ (k : ℕ). header_part (544 + k) (473 + k) ++ (record_part (360 + k)
+          ++ concat (blobs t book most ranges ++ parts_behind k (anchor_of_file t book most)))) (sym long)
       ∙ (ap (λ (l : List ℕ). header_part (544 + n) (473 + n) ++ (record_part (360 + n) ++ l)) (behind_record ranges n is)
       ∙ (ap (λ (k : ℕ). header_part k (473 + n) ++ (record_part (360 + n) ++ rest)) end
       ∙ (ap (λ (k : ℕ). header_part (file_len t book most) k ++ (record_part (360 + n) ++ rest)) free
@@ -141,13 +161,15 @@ module _ (t : Table) (book : BookData) (most : ℕ) where
       ∙ front_apart (file_len t book most) (free_start t book most) (keys_start t book most) rest)))))
 
   -- what the last steps make of a file that was begun and holds its ranges
-  pub closed-is : (ranges : List (List ℕ)) (h : Held) → book.begin ≡ clusters_place t → AreRangesOf book ranges → h.image ≡ file_begun t ++ concat ranges
+  pub closed-is : (ranges : List (List ℕ)) (h : Held) → book.begin ≡ clusters_place t → AreRangesOf book ranges
+      → h.image ≡ file_begun t ++ concat ranges
       → (closed_on (tail t book most) (front t book most) h).image ≡ finished t book most ranges
   closed-is ranges h begins are was =
       let rest = header_blob t ++ (concat ranges ++ tail t book most) in
       let joined : h.image ++ tail t book most ≡ begun 0 0 0 ++ rest =
       ap (λ (l : List ℕ). l ++ tail t book most) was
-      ∙ (append_assoc (begun 0 0 0 ++ header_blob t) (concat ranges) (tail t book most) ∙ append_assoc (begun 0 0 0) (header_blob t) (concat ranges ++ tail t book most)) in
+      ∙ (append_assoc (begun 0 0 0 ++ header_blob t) (concat ranges) (tail t book most) ∙ append_assoc (begun 0 0 0) (header_blob t)
+          (concat ranges ++ tail t book most)) in
       ap (λ (l : List ℕ). put_at (put_at l 1 (front t book most)) 0 first_byte) joined
       ∙ (put_over (begun 0 0 0) rest (front t book most) 0x72 (omega (arith, begin-len 0 0 0, front_len))
       ∙ sym (finished_is ranges (length (concat (blobs t book most ranges))) refl (anchor_behind ranges begins are)))

@@ -5,10 +5,12 @@ use Rattle.nt_outside.specs.Log.{Append, FailedAppend, Write, Sync}
 use Rattle.nt_outside.specs.Held.{Held, nothing_held, appended}
 use Rattle.nt_outside.specs.Order.{FirstByteLast, BeginsOpen}
 use Rattle.nt_outside.specs.Reads.{Reads}
-use Rattle.nt_outside.proofs.Order.{append_follows, first_append_follows, torn_append_follows, write_follows, torn_write_follows, sync_follows, first_byte_follows, torn_first_byte_follows}
+use Rattle.nt_outside.proofs.Order.{append_follows, first_append_follows, torn_append_follows, write_follows, torn_write_follows}
+use Rattle.nt_outside.proofs.Order.{sync_follows, first_byte_follows, torn_first_byte_follows}
 use Rattle.nt_container.specs.Spelling.{begun}
 use Rattle.nt_container.proofs.Gate.{begin-len, begin-shut}
-use Rattle.nt_close.specs.Steps.{IsBegunSoFar, torn_head, torn_blob, not_kept, begun_whole, first_byte, closed_on, IsClosedSoFar, torn_tail, torn_front, not_kept_shut, torn_first, not_kept_open, closed_whole}
+use Rattle.nt_close.specs.Steps.{IsBegunSoFar, torn_head, torn_blob, not_kept, begun_whole, first_byte, closed_on, IsClosedSoFar, torn_tail}
+use Rattle.nt_close.specs.Steps.{torn_front, not_kept_shut, torn_first, not_kept_open, closed_whole}
 use Rattle.nt_close.specs.Laws.{IsShut}
 use Rattle.nt_close.proofs.Finishing.{first_and_others}
 
@@ -27,7 +29,8 @@ zero_appended xs ys image zero is = (zero.0 ++ ys, is ∙ ap (λ (l : List ℕ).
 zero_behind : (xs over image : List ℕ) → IsShut xs → image ≡ put_at xs 1 over → IsShut image
 zero_behind xs over image zero is = (over ++ drop (1 + length over) (0 ∷ zero.0), is ∙ ap (λ (l : List ℕ). put_at l 1 over) zero.1)
 
-pub begins_shut : (blob : List ℕ) (left : Held) → IsBegunSoFar (begun 0 0 0) blob nothing_held left → IsShut left.image ⊎ ((n : ℕ) × (left.log ≡ FailedAppend n ∷ []))
+pub begins_shut : (blob : List ℕ) (left : Held) → IsBegunSoFar (begun 0 0 0) blob nothing_held left
+    → IsShut left.image ⊎ ((n : ℕ) × (left.log ≡ FailedAppend n ∷ []))
 begins_shut blob left (torn_head torn) = inr (length torn.junk, torn.log)
 begins_shut blob left (torn_blob torn) = inl (zero_appended (begun 0 0 0) torn.junk left.image begun_zero torn.image)
 begins_shut blob left (not_kept is) = inl (zero_appended (begun 0 0 0) blob left.image begun_zero (ap (λ (k : Held). k.image) is))
@@ -39,7 +42,8 @@ closes_shut tail front h left zero (torn_tail torn) = inl (zero_appended h.image
 closes_shut tail front h left zero (torn_front torn) =
     inl (zero_behind (h.image ++ tail) torn.junk left.image (zero_appended h.image tail (h.image ++ tail) zero refl) torn.image)
 closes_shut tail front h left zero (not_kept_shut is) =
-    inl (zero_behind (h.image ++ tail) front left.image (zero_appended h.image tail (h.image ++ tail) zero refl) (ap (λ (k : Held). k.image) is))
+    inl (zero_behind (h.image ++ tail) front left.image (zero_appended h.image tail (h.image ++ tail) zero refl)
+        (ap (λ (k : Held). k.image) is))
 closes_shut tail front h left zero (torn_first torn) =
     elim (torn.single refl) [
       | inl same ↦ inl (zero_behind (h.image ++ tail) front left.image (zero_appended h.image tail (h.image ++ tail) zero refl) same)
@@ -53,7 +57,8 @@ begins_first = first_append_follows (begun 0 0 0) (subst BeginsOpen (sym begun_z
 
 begins_next : (blob : List ℕ) → FirstByteLast (Append (begun 0 0 0) ∷ Append blob ∷ [])
 begins_next blob =
-    subst (λ (l : List ℕ). FirstByteLast (Append l ∷ Append blob ∷ [])) (sym begun_zero.1) ((λ none. refl), ((λ none. absurd (cc none)), tt))
+    subst (λ (l : List ℕ). FirstByteLast (Append l ∷ Append blob ∷ [])) (sym begun_zero.1)
+        ((λ none. refl), ((λ none. absurd (cc none)), tt))
 
 pub begins_in_order : (blob : List ℕ) (left : Held) → IsBegunSoFar (begun 0 0 0) blob nothing_held left → FirstByteLast left.log
 begins_in_order blob left (torn_head torn) = torn_append_follows (length (begun 0 0 0)) nothing_held left torn tt

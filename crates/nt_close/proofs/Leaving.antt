@@ -19,19 +19,22 @@ module _ (t : Table) (book : BookData) (most : ℕ) where
   front_is bytes f is = ap front_with is.fields_are
 
   -- all steps were taken on a disk for which there was room
-  pub closed : (bytes : List ℕ) (f : FileFields) (old mid new : DiskState) → IsEnding t book most bytes f → mid.held ≡ old.held → mid.faults ≡ old.faults
+  pub closed : (bytes : List ℕ) (f : FileFields) (old mid new : DiskState) → IsEnding t book most bytes f → mid.held ≡ old.held
+      → mid.faults ≡ old.faults
       → Becomes mid.held new.held (closed_on bytes (front_with f)) → new.out ≡ [] → mid.faults ≤ new.faults
       → IsClosed (tail t book most) (front t book most) old new
   closed bytes f old mid new is held faults ok out later = record {
     held = λ h was.
         ok h (held ∙ was)
-        ∙ (ap (λ (l : List ℕ). Some (closed_on l (front_with f) h)) is.bytes_are ∙ ap (λ (l : List ℕ). Some (closed_on (tail t book most) l h)) (front_is bytes f is));
+        ∙ (ap (λ (l : List ℕ). Some (closed_on l (front_with f) h)) is.bytes_are
+            ∙ ap (λ (l : List ℕ). Some (closed_on (tail t book most) l h)) (front_is bytes f is));
     out = out;
     later = subst (λ (n : ℕ). n ≤ new.faults) faults later;
   }
 
   -- a step failed
-  pub cut : (bytes : List ℕ) (f : FileFields) (old mid new : DiskState) → IsEnding t book most bytes f → mid.held ≡ old.held → mid.faults ≡ old.faults
+  pub cut : (bytes : List ℕ) (f : FileFields) (old mid new : DiskState) → IsEnding t book most bytes f → mid.held ≡ old.held
+      → mid.faults ≡ old.faults
       → BecomesSome mid.held new.held (IsClosedSoFar bytes (front_with f)) → new.out ≡ [] → Rose mid.faults new.faults
       → IsCloseCut (tail t book most) (front t book most) old new
   cut bytes f old mid new is held faults left out rose = record {

@@ -15,11 +15,13 @@ use Rattle.nt_layout.specs.Finished.{spans, footer_object, file_len}
 use Rattle.nt_close.specs.Passing.{first_passed, passed_by_close}
 use Rattle.nt_close.specs.Closing.{StaysWithin}
 
-not_above : (most n : ℕ) (b : Bool) (l : LimitError) (more : Option LimitError) → nat_lt most n ≡ b → (if b then Some l else more) ≡ None → (n ≤ most) × (more ≡ None)
+not_above : (most n : ℕ) (b : Bool) (l : LimitError) (more : Option LimitError) → nat_lt most n ≡ b → (if b then Some l else more)
+    ≡ None → (n ≤ most) × (more ≡ None)
 not_above most n true l more above none = absurd (cc none)
 not_above most n false l more above none = (grind (arith, nat_tests, above), none)
 
-within_all : {X : Type 0} (f : X → ℕ) (limits : Limits) (xs : List X) (more : List ℕ) (end : ℕ) → first_passed limits (map f xs ++ more) end ≡ None
+within_all : {X : Type 0} (f : X → ℕ) (limits : Limits) (xs : List X) (more : List ℕ) (end : ℕ)
+    → first_passed limits (map f xs ++ more) end ≡ None
     → AllByRecursion (λ (x : X). f x ≤ limits.range) xs × (first_passed limits more end ≡ None)
 within_all f limits [] more end none = (tt, none)
 within_all f limits (x ∷ xs) more end none =
@@ -30,7 +32,10 @@ within_all f limits (x ∷ xs) more end none =
 -- all blobs and the file are within the limits, if the header's blob is
 pub within : (t : Table) (p : Params) (book : BookData) → passed_by_close p t book ≡ None → StaysWithin t p book
 within t p book none header =
-    let lists = within_all (list_len (header_sum t) book) p.limits (spans book p.group) (blob_len (length (footer_object t book p.group)) ∷ []) (file_len t book p.group) none in
-    let foot = not_above p.limits.range (blob_len (length (footer_object t book p.group))) (nat_lt p.limits.range (blob_len (length (footer_object t book p.group)))) _ (first_passed p.limits [] (file_len t book p.group)) refl lists.1 in
+    let lists = within_all (list_len (header_sum t) book) p.limits (spans book p.group)
+            (blob_len (length (footer_object t book p.group)) ∷ []) (file_len t book p.group) none in
+    let foot = not_above p.limits.range (blob_len (length (footer_object t book p.group)))
+            (nat_lt p.limits.range (blob_len (length (footer_object t book p.group)))) _
+              (first_passed p.limits [] (file_len t book p.group)) refl lists.1 in
     let file = not_above p.limits.file (file_len t book p.group) (nat_lt p.limits.file (file_len t book p.group)) _ None refl foot.1 in
     record { header = header; lists = lists.0; footer = foot.0; file = file.0 }

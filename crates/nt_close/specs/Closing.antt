@@ -28,7 +28,8 @@ pub record IsClosable (disk : DiskState) (book : BookData) (t : Table) : Type 0 
   pub end : disk.end ≡ book_end book
   pub out : disk.out ≡ []
 
--- the cause of an answer, in this order: the lowest spoiled range; a limit, the first that is passed; a step that failed. Want of memory has none
+-- the cause of an answer, in this order: the lowest spoiled range; a limit, the first that is passed; a step that failed. Want of
+-- memory has none
 abbrev pub HasCloseCause : BookData → Option LimitError → Result Unit CloseError → Type 0
 HasCloseCause book passed (Ok done) = NoneSpoiled book × (passed ≡ None)
 HasCloseCause book passed (Err (Spoiled cluster faults)) = IsFirstSpoiled book cluster faults

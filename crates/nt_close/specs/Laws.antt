@@ -23,13 +23,16 @@ ClosedIsFinished =
 abbrev pub IsShut : List ℕ → Type 0
 IsShut image = (rest : List ℕ) × (image ≡ 0 ∷ rest)
 
--- until all steps are taken the first byte is 0: of a file that is begun, unless nothing is known of it but that its first append failed; of one that is closed, unless all of it stands there
+-- until all steps are taken the first byte is 0: of a file that is begun, unless nothing is known of it but that its first append
+-- failed; of one that is closed, unless all of it stands there
 pub record FirstByteIsLast : Type 0 where
-  pub begins : (blob : List ℕ) (left : Held) → IsBegunSoFar (begun 0 0 0) blob nothing_held left → IsShut left.image ⊎ ((n : ℕ) × (left.log ≡ FailedAppend n ∷ []))
+  pub begins : (blob : List ℕ) (left : Held) → IsBegunSoFar (begun 0 0 0) blob nothing_held left
+      → IsShut left.image ⊎ ((n : ℕ) × (left.log ≡ FailedAppend n ∷ []))
   pub closes : (tail front : List ℕ) (h left : Held) → IsShut h.image → IsClosedSoFar tail front h left
       → IsShut left.image ⊎ (left.image ≡ (closed_on tail front h).image)
 
 -- all that is written stays before the first byte is written over
 pub record StepsStayInOrder : Type 0 where
   pub begins : (blob : List ℕ) (left : Held) → IsBegunSoFar (begun 0 0 0) blob nothing_held left → FirstByteLast left.log
-  pub closes : (tail front : List ℕ) (h left : Held) → 0 < length h.image → Reads h.log h.image → FirstByteLast h.log → IsClosedSoFar tail front h left → FirstByteLast left.log
+  pub closes : (tail front : List ℕ) (h left : Held) → 0 < length h.image → Reads h.log h.image → FirstByteLast h.log
+      → IsClosedSoFar tail front h left → FirstByteLast left.log

@@ -49,7 +49,8 @@ pub record AreHeaderFacts (t : Table) (facts : HeaderFacts) : Type 0 where
   pub sum : facts.sum ≡ header_sum t
   pub len : facts.len ≡ length (header_object t)
 
--- the blob of the page list of these clusters stands behind the bytes that begin at the end of the ranges, and their group behind the others
+-- the blob of the page list of these clusters stands behind the bytes that begin at the end of the ranges, and their group behind
+-- the others
 pub record AddsList (sum : ℕ) (book : BookData) (s : ClusterSpan) (old new : List ℕ) (groups more : List Group) : Type 0 where
   pub bytes : new ≡ old ++ blob (book_end book + length old) (list_object sum book s)
   pub group : more ≡ groups ++ span_group sum book (book_end book + length old) s ∷ []

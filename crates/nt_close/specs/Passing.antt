@@ -12,7 +12,8 @@ use Rattle.nt_layout.specs.Groups.{list_len}
 use Rattle.nt_layout.specs.Finished.{spans, footer_object, file_len}
 use Rattle.nt_layout.specs.Laid.{Measures}
 
--- the first blob, of these lengths in the order of the file, that is longer than a range may get; or else the end of the file, if it may not end there
+-- the first blob, of these lengths in the order of the file, that is longer than a range may get; or else the end of the file, if
+-- it may not end there
 abbrev pub first_passed : Limits → List ℕ → ℕ → Option LimitError
 first_passed limits [] end = if nat_lt limits.file end then Some (FileTooLarge end limits.file) else None
 first_passed limits (len ∷ lens) end =

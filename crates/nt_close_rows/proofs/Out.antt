@@ -21,7 +21,8 @@ ranges_after : (h : List (Entry ClusterMeta)) (e : Entry ClusterMeta) → ranges
 ranges_after h e = fold-append after_entry [] h (e ∷ [])
 
 -- the range of a cluster that a book just appended
-pub out_behind : (h now : List (Entry ClusterMeta)) (n start context : ℕ) (meta : ClusterMeta) → now ≡ h ++ committed_entry n start meta ∷ []
+pub out_behind : (h now : List (Entry ClusterMeta)) (n start context : ℕ) (meta : ClusterMeta)
+    → now ≡ h ++ committed_entry n start meta ∷ []
     → n ≡ length (ranges_of h) → meta.context ≡ context → IsOut (ranges_of now) context n
 out_behind h now n start context meta is number own =
     subst (λ (l : List (Entry ClusterMeta)). IsOut (ranges_of l) context n) (sym is)

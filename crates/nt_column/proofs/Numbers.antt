@@ -1,5 +1,6 @@
 -- The numbers and tags of elements.
-use Rattle.std.proofs.Common.{◌≡◌, ℕ, zero, suc, ◌+◌, ◌-◌, ◌%◌, ◌^◌, ◌<◌, ◌≤◌, Bool, List, [], ◌∷◌, ◌++◌, length, map, take, drop, get_or, replicate, true, false, refl, sym, ◌∙◌, ap, arith, Fits, w8}
+use Rattle.std.proofs.Common.{◌≡◌, ℕ, zero, suc, ◌+◌, ◌-◌, ◌%◌, ◌^◌, ◌<◌, ◌≤◌, Bool, List, [], ◌∷◌, ◌++◌, length, map, take, drop, get_or}
+use Rattle.std.proofs.Common.{replicate, true, false, refl, sym, ◌∙◌, ap, arith, Fits, w8}
 use Rattle.std.specs.List.{slice_range}
 use Rattle.std.specs.Int.{from_bool}
 use Rattle.std.proofs.lemmas.List.{take-map, drop-map, length-map, get_or_read, get_or-map, map_push}

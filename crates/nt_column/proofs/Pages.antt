@@ -1,5 +1,6 @@
 -- Pages of elements.
-use Rattle.std.proofs.Common.{◌≡◌, ◌≢◌, ℕ, zero, suc, ◌-◌, ◌*◌, ◌/◌, ◌%◌, ◌^◌, ◌<◌, Bool, true, false, List, length, map, take, drop, get_or, replicate, refl, sym, ◌∙◌, ap, arith, Fits, w8}
+use Rattle.std.proofs.Common.{◌≡◌, ◌≢◌, ℕ, zero, suc, ◌-◌, ◌*◌, ◌/◌, ◌%◌, ◌^◌, ◌<◌, Bool, true, false, List, length, map, take, drop}
+use Rattle.std.proofs.Common.{get_or, replicate, refl, sym, ◌∙◌, ap, arith, Fits, w8}
 use Rattle.std.specs.Prelude.{nat_lt, if◌then◌else◌}
 use Rattle.std.specs.List.{slice_range}
 use Rattle.std.proofs.lemmas.List.{take-map, drop-map, length-replicate, ext_get_or}

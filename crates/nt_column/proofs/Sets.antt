@@ -1,10 +1,12 @@
 -- What is seen of the columns of a set.
-use Rattle.std.proofs.Common.{◌≡◌, ℕ, zero, suc, ◌+◌, ◌<◌, List, [], ◌∷◌, ◌++◌, length, map, take, drop, get_or, slice_get, Some, refl, sym, ◌∙◌, ap, subst, inl, inr, arith}
+use Rattle.std.proofs.Common.{◌≡◌, ℕ, zero, suc, ◌+◌, ◌<◌, List, [], ◌∷◌, ◌++◌, length, map, take, drop, get_or, slice_get, Some, refl, sym}
+use Rattle.std.proofs.Common.{◌∙◌, ap, subst, inl, inr, arith}
 use Rattle.std.proofs.lemmas.Bool.{cases_lt}
 use Rattle.std.proofs.Math.ListN.{set}
 use Rattle.nt_types.specs.declared.column_type.ColumnType.{ColumnType}
 use Rattle.nt_column.specs.Elements.{AreElementsOf}
-use Rattle.std.proofs.lemmas.List.{map-set, length-map, length-append, take-append-drop, length-take-le, drop_more, get_or_at, set_at, append_assoc, map_more, get_or-map, get_or_default}
+use Rattle.std.proofs.lemmas.List.{map-set, length-map, length-append, take-append-drop, length-take-le, drop_more, get_or_at, set_at}
+use Rattle.std.proofs.lemmas.List.{append_assoc, map_more, get_or-map, get_or_default}
 use Rattle.std.specs.Option.{option_map}
 use Rattle.std.proofs.lemmas.Option.{slice_get-map}
 use Rattle.nt_column.specs.Column.{Column, Buffer, empty, changed, columns_of, elements_at, kind_at, IsInRange}

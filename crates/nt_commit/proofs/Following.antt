@@ -1,5 +1,6 @@
 -- A disk that follows a history, and one entry more.
-use Rattle.std.proofs.Common.{◌≡◌, ◌∙◌, ap, sym, refl, ℕ, zero, suc, ◌+◌, ◌-◌, ◌^◌, ◌<◌, ◌≤◌, false, List, [], ◌∷◌, ◌++◌, length, map, Option, Some, arith, subst, append_assoc, append-nil, inl, inr}
+use Rattle.std.proofs.Common.{◌≡◌, ◌∙◌, ap, sym, refl, ℕ, zero, suc, ◌+◌, ◌-◌, ◌^◌, ◌<◌, ◌≤◌, false, List, [], ◌∷◌, ◌++◌, length, map}
+use Rattle.std.proofs.Common.{Option, Some, arith, subst, append_assoc, append-nil, inl, inr}
 use Rattle.std.specs.Prelude.{slice_get, ◌⊎◌}
 use Rattle.std.specs.List.{AllByRecursion}
 use Rattle.nt_outside.specs.Log.{Step, Reserve, Settle}
@@ -44,20 +45,24 @@ module _ {M : Type 0} where
   rise_first least count (entry.Spoiled n faults) le rises = (λ h. later_risen least count faults le (rises h), omega arith)
   rise_first least count (entry.Faulted faults) le rises = (λ h. later_risen least count faults le (rises h), omega arith)
 
-  FaultsRise-snoc : (least : ℕ) (es : List (Entry M)) (count : ℕ) (e : Entry M) → FaultsRise least es count → (HasFaults e.kind → HasRisen count (faults_after count e.kind))
+  FaultsRise-snoc : (least : ℕ) (es : List (Entry M)) (count : ℕ) (e : Entry M) → FaultsRise least es count
+      → (HasFaults e.kind → HasRisen count (faults_after count e.kind))
       → FaultsRise least (es ++ e ∷ []) (faults_after count e.kind)
   FaultsRise-snoc least [] count e rise rises = rise_first least count e.kind rise rises
   FaultsRise-snoc least (d ∷ ds) count e rise rises = (rise.0, FaultsRise-snoc (faults_after least d.kind) ds count e rise.1 rises)
 
-  FaultsRise-later : (least : ℕ) (es : List (Entry M)) (count later : ℕ) → FaultsRise least es count → count ≤ later → FaultsRise least es later
+  FaultsRise-later : (least : ℕ) (es : List (Entry M)) (count later : ℕ) → FaultsRise least es count → count ≤ later
+      → FaultsRise least es later
   FaultsRise-later least [] count later rise le = omega (arith, rise, le)
   FaultsRise-later least (d ∷ ds) count later rise le = (rise.0, FaultsRise-later (faults_after least d.kind) ds count later rise.1 le)
 
   module _ (begun d d' : DiskState) (contexts : ℕ) (history : List (Entry M)) (follows : Follows begun d contexts history) where
     -- one entry more, and what it does to the disk
-    pub Follows-snoc : (e : Entry M) → IsAllowed begun.end (ranges_of history) e → e.context ≤ contexts → AllByRecursion IsRoomy (after_entry (ranges_of history) e)
+    pub Follows-snoc : (e : Entry M) → IsAllowed begun.end (ranges_of history) e → e.context ≤ contexts
+        → AllByRecursion IsRoomy (after_entry (ranges_of history) e)
         → d'.end ≡ end_after begun.end (after_entry (ranges_of history) e) → d'.out ≡ ranges_out (after_entry (ranges_of history) e)
-        → ((h : Held) → begun.held ≡ Some h → BecomesSome d.held d'.held (λ h h'. h'.log ≡ h.log ++ map logged_step (disk_steps_of (ranges_of history) e.kind)))
+        → ((h : Held) → begun.held ≡ Some h → BecomesSome d.held d'.held (λ h h'. h'.log ≡ h.log
+            ++ map logged_step (disk_steps_of (ranges_of history) e.kind)))
         → (HasFaults e.kind → HasRisen d.faults (faults_after d.faults e.kind)) → faults_after d.faults e.kind ≤ d'.faults
         → Follows begun d' contexts (history ++ e ∷ [])
     Follows-snoc e allowed context roomy end out log rises later =
@@ -75,9 +80,11 @@ module _ {M : Type 0} where
                 second.0,
                 second.1,
                 second.2 ∙ (ap (λ (l : List Step). l ++ steps) first.2
-                    ∙ (append_assoc h.log (steps_of_history history) steps ∙ ap (λ (l : List Step). h.log ++ l) (sym (steps_of_history-snoc history e)))),
+                    ∙ (append_assoc h.log (steps_of_history history) steps
+                        ∙ ap (λ (l : List Step). h.log ++ l) (sym (steps_of_history-snoc history e)))),
               );
-          rise = FaultsRise-later begun.faults (history ++ e ∷ []) (faults_after d.faults e.kind) d'.faults (FaultsRise-snoc begun.faults history d.faults e follows.rise rises) later;
+          rise = FaultsRise-later begun.faults (history ++ e ∷ []) (faults_after d.faults e.kind) d'.faults
+              (FaultsRise-snoc begun.faults history d.faults e follows.rise rises) later;
         }
 
     -- the same history over a disk that only counted faults
@@ -94,8 +101,10 @@ module _ {M : Type 0} where
         }
 
     -- a range was reserved for a cluster
-    pub Follows-commit : (i n start len : ℕ) (meta : M) → n ≡ length (ranges_of history) → start ≡ end_after begun.end (ranges_of history) → i ≤ contexts → 42 ≤ len
-        → BecomesSome d.held d'.held (IsReserved d.end len) → d'.end ≡ d.end + len → d'.out ≡ d.out ++ record { start = d.end; len = len } ∷ [] → d.faults ≤ d'.faults
+    pub Follows-commit : (i n start len : ℕ) (meta : M) → n ≡ length (ranges_of history)
+        → start ≡ end_after begun.end (ranges_of history) → i ≤ contexts → 42 ≤ len
+        → BecomesSome d.held d'.held (IsReserved d.end len) → d'.end ≡ d.end + len → d'.out ≡ d.out ++ record { start = d.end; len =
+            len } ∷ [] → d.faults ≤ d'.faults
         → Follows begun d' contexts (history ++ record { context = i; kind = entry.Committed n start len meta } ∷ [])
     Follows-commit i n start len meta number place context roomy log end out later =
         let c : Cluster M = record { context = i; number = n; start = start; len = len; meta = meta; state = Out } in
@@ -110,11 +119,13 @@ module _ {M : Type 0} where
         (λ h. absurd h) later
 
     -- a range was handed back
-    pub Follows-back : (i n : ℕ) (fate : Fate) (k : EntryKind M) (bytes : Option (List ℕ)) → (is : IsOut (ranges_of history) i n) → is_out fate ≡ false
+    pub Follows-back : (i n : ℕ) (fate : Fate) (k : EntryKind M) (bytes : Option (List ℕ)) → (is : IsOut (ranges_of history) i n)
+        → is_out fate ≡ false
         → after_kind (ranges_of history) i k ≡ map (handed_back i n fate) (ranges_of history)
         → disk_steps_of (ranges_of history) k ≡ settle_at (slice_get (ranges_of history) n) bytes
         → IsKindAllowed begun.end (ranges_of history) i k → i ≤ contexts
-        → ((h : Held) → begun.held ≡ Some h → BecomesSome d.held d'.held (λ h h'. h'.log ≡ h.log ++ Settle is.cluster.start is.cluster.len bytes ∷ []))
+        → ((h : Held) → begun.held ≡ Some h → BecomesSome d.held d'.held (λ h h'. h'.log ≡ h.log
+            ++ Settle is.cluster.start is.cluster.len bytes ∷ []))
         → d'.end ≡ d.end → d'.out ≡ without (place_of is.cluster) d.out
         → (HasFaults k → HasRisen d.faults (faults_after d.faults k)) → faults_after d.faults k ≤ d'.faults
         → Follows begun d' contexts (history ++ record { context = i; kind = k } ∷ [])
@@ -126,15 +137,18 @@ module _ {M : Type 0} where
         ap (λ (l : List DiskStep). map logged_step l) steps ∙ ap (λ (o : Option (Cluster M)). map logged_step (settle_at o bytes)) is.at in
         Follows-snoc (record { context = i; kind = k }) allowed context
         (subst (λ (l : List (Cluster M)). AllByRecursion IsRoomy l) (sym after) (roomy-handed_back i n fate old follows.roomy))
-        (end ∙ (follows.end ∙ (sym (end_after-handed_back begun.end i n fate old) ∙ ap (λ (l : List (Cluster M)). end_after begun.end l) (sym after))))
+        (end ∙ (follows.end ∙ (sym (end_after-handed_back begun.end i n fate old)
+            ∙ ap (λ (l : List (Cluster M)). end_after begun.end l) (sym after))))
         (out ∙ (ap (λ (l : List _). without (place_of is.cluster) l) follows.out
         ∙ (sym (ranges_out-set begun.end (end_after begun.end old) old n is.cluster fate apart follows.roomy is.at is.out back)
         ∙ (ap (λ (l : List (Cluster M)). ranges_out l) (sym put) ∙ ap (λ (l : List (Cluster M)). ranges_out l) (sym after)))))
-        (λ begins told h was. let next = log begins told h was in (next.0, next.1, next.2 ∙ ap (λ (l : List Step). h.log ++ l) (sym logged)))
+        (λ begins told h was. let next = log begins told h was in
+            (next.0, next.1, next.2 ∙ ap (λ (l : List Step). h.log ++ l) (sym logged)))
         rises later
 
     -- the disk failed, and that was entered
-    pub Follows-fault : (i faults : ℕ) → i ≤ contexts → d'.held ≡ d.held → d'.end ≡ d.end → d'.out ≡ d.out → HasRisen d.faults faults → faults ≤ d'.faults
+    pub Follows-fault : (i faults : ℕ) → i ≤ contexts → d'.held ≡ d.held → d'.end ≡ d.end → d'.out ≡ d.out
+        → HasRisen d.faults faults → faults ≤ d'.faults
         → Follows begun d' contexts (history ++ record { context = i; kind = entry.Faulted faults } ∷ [])
     Follows-fault i faults context held end out rises later =
         Follows-snoc (record { context = i; kind = entry.Faulted faults }) tt context follows.roomy (end ∙ follows.end) (out ∙ follows.out)

@@ -21,13 +21,15 @@ use Rattle.nt_commit.specs.declared.error.CommitError.{CommitError}
 use Rattle.nt_commit.specs.declared.error.CommitError.TheVariants.{RangeTooLarge, FileTooLarge, TooManyClusters, Memory, Fault}
 use Rattle.nt_commit.specs.declared.locked.Birth.{Birth}
 use Rattle.nt_commit.specs.Claims.{IsClaimOf, CommitAdds, PenAdds, settled_with}
-use Rattle.nt_commit.specs.Holds.{IsPassOf, IsCommittable, IsStep, GrowsBy, OpensPen, SettlesRange, Spoils, IsHold, AddsInHold, OpensInHold, RefusesPen, LeavesAfter}
+use Rattle.nt_commit.specs.Holds.{IsPassOf, IsCommittable, IsStep, GrowsBy, OpensPen, SettlesRange, Spoils, IsHold, AddsInHold, OpensInHold}
+use Rattle.nt_commit.specs.Holds.{RefusesPen, LeavesAfter}
 use Rattle.nt_commit.specs.Locked.{LockedState, birth_of, context_of, history_of_locked}
 use Rattle.nt_logged.specs.Steps.{bytes_where_told}
 use Rattle.nt_commit.proofs.Claimed.{claim_in}
 
 -- the entries of an answer are of the context
-pub own_commit : {X : Type 0} (tell : X → ExtState) (held : Option Held) (was is n start : ℕ) (meta : ClusterMeta) (result : Result (Claim X) CommitError) (added : List (Entry ClusterMeta))
+pub own_commit : {X : Type 0} (tell : X → ExtState) (held : Option Held) (was is n start : ℕ) (meta : ClusterMeta)
+    (result : Result (Claim X) CommitError) (added : List (Entry ClusterMeta))
     → CommitAdds tell held was is n start meta result added → AllByRecursion (λ (e : Entry ClusterMeta). e.context ≡ meta.context) added
 own_commit tell held was is n start meta (Ok claim) added adds = rw adds.1 (refl, tt)
 own_commit tell held was is n start meta (Err (RangeTooLarge len most)) added adds = rw adds tt
@@ -42,8 +44,10 @@ own_pen was is context (Ok pen) added adds = rw adds tt
 own_pen was is context (Err refused.Memory) added adds = rw adds tt
 own_pen was is context (Err refused.Failed) added adds = rw adds.1 (refl, tt)
 
-module _ {D : Type 0} (state : D → DiskState) (committer : TurnState (Birth D)) (old held : PassState (Entry ClusterMeta) (Birth D)) (taken : LockedState D)
-    (of : IsPassOf committer old) (held_is : held ≡ after_taking old (history_of_locked state taken)) (took : Took (history_of_locked state) birth_of context_of old taken) where
+module _ {D : Type 0} (state : D → DiskState) (committer : TurnState (Birth D)) (old held : PassState (Entry ClusterMeta) (Birth D))
+    (taken : LockedState D)
+    (of : IsPassOf committer old) (held_is : held ≡ after_taking old (history_of_locked state taken))
+        (took : Took (history_of_locked state) birth_of context_of old taken) where
   -- the pass doesn't hold the turn
   pub free : IsFree committer old
   free = record { turn_is = of.turn; free = of.free }
@@ -57,14 +61,16 @@ module _ {D : Type 0} (state : D → DiskState) (committer : TurnState (Birth D)
 
   -- it holds it now
   pub holder : IsHolder committer held
-  holder = record { turn_is = ap (λ (p : PassState (Entry ClusterMeta) (Birth D)). p.turn) held_is ∙ of.turn; held = ap (λ (p : PassState (Entry ClusterMeta) (Birth D)). p.holds) held_is }
+  holder = record { turn_is = ap (λ (p : PassState (Entry ClusterMeta) (Birth D)). p.turn) held_is ∙ of.turn; held =
+      ap (λ (p : PassState (Entry ClusterMeta) (Birth D)). p.holds) held_is }
 
   -- its context is one of so many
   pub context_fits : (context : ℕ) → context ≡ old.number → context ≤ taken.birth.contexts
   context_fits context is = omega (arith, is, of.number, ap (λ (b : Birth D). b.contexts) birth_is)
 
   -- a cluster may be committed by what never changes
-  pub committable : (meta : ClusterMeta) → IsCommittable committer.birth.columns committer.birth.contexts meta → IsCommittable taken.birth.columns taken.birth.contexts meta
+  pub committable : (meta : ClusterMeta) → IsCommittable committer.birth.columns committer.birth.contexts meta
+      → IsCommittable taken.birth.columns taken.birth.contexts meta
   committable meta is = subst (λ (b : Birth D). IsCommittable b.columns b.contexts meta) (sym birth_is) is
 
   -- an own claim is one of what was taken
@@ -73,42 +79,52 @@ module _ {D : Type 0} (state : D → DiskState) (committer : TurnState (Birth D)
   claim_taken tell claim own = claim_in tell old.own (history_of_locked state taken) old.number claim took.own own
 
   -- the entry of a settled range, by the pass and the committer
-  pub settles_by : (given : LockedState D) (context n : ℕ) (ext : ExtState) → context ≡ old.number → SettlesRange state context n ext taken given
+  pub settles_by : (given : LockedState D) (context n : ℕ) (ext : ExtState) → context ≡ old.number
+      → SettlesRange state context n ext taken given
       → GrowsBy state taken given (settled_with old.number n (bytes_where_told (state committer.birth.begun).held ext.content) ∷ [])
   settles_by given context n ext is settles =
-      settles.grows ∙ (ap (λ (i : ℕ). history_of_locked state taken ++ settled_with i n (bytes_where_told (state taken.birth.begun).held ext.content) ∷ []) is
-      ∙ ap (λ (b : Birth D). history_of_locked state taken ++ settled_with old.number n (bytes_where_told (state b.begun).held ext.content) ∷ []) birth_is)
+      settles.grows ∙ (ap (λ (i : ℕ). history_of_locked state taken
+          ++ settled_with i n (bytes_where_told (state taken.birth.begun).held ext.content) ∷ []) is
+      ∙ ap (λ (b : Birth D). history_of_locked state taken
+          ++ settled_with old.number n (bytes_where_told (state b.begun).held ext.content) ∷ []) birth_is)
 
   -- the entry of a spoiled range
   pub spoils_by : (given : LockedState D) (context n : ℕ) → context ≡ old.number → Spoils state context n taken given
       → GrowsBy state taken given (spoiled_entry old.number n (state given.disk).faults ∷ [])
-  spoils_by given context n is spoils = spoils.grows ∙ ap (λ (i : ℕ). history_of_locked state taken ++ spoiled_entry i n (state given.disk).faults ∷ []) is
+  spoils_by given context n is spoils = spoils.grows
+      ∙ ap (λ (i : ℕ). history_of_locked state taken ++ spoiled_entry i n (state given.disk).faults ∷ []) is
 
   -- a pen of the pass
-  pub opens_by : {P : Type 0} (given : LockedState D) (context : ℕ) (result : Result P Refused) → context ≡ old.number → OpensPen state context taken given result
+  pub opens_by : {P : Type 0} (given : LockedState D) (context : ℕ) (result : Result P Refused) → context ≡ old.number
+      → OpensPen state context taken given result
       → OpensPen state old.number taken given result
   opens_by given context result is opens = subst (λ (i : ℕ). OpensPen state i taken given result) is opens
 
-  module _ (given : LockedState D) (added : List (Entry ClusterMeta)) (step : IsStep state taken given) (grows : GrowsBy state taken given added)
+  module _ (given : LockedState D) (added : List (Entry ClusterMeta)) (step : IsStep state taken given)
+      (grows : GrowsBy state taken given added)
       (ours : AllByRecursion (λ (e : Entry ClusterMeta). e.context ≡ old.number) added) where
     -- what is given may be given
     pub adds : Adds context_of held (history_of_locked state given)
     adds = record {
       more = added;
-      whole = grows ∙ ap (λ (l : List (Entry ClusterMeta)). l ++ added) (sym (ap (λ (p : PassState (Entry ClusterMeta) (Birth D)). p.seen) held_is));
-      ours = subst (λ (n : ℕ). AllByRecursion (λ (e : Entry ClusterMeta). e.context ≡ n) added) (sym (ap (λ (p : PassState (Entry ClusterMeta) (Birth D)). p.number) held_is)) ours;
+      whole = grows ∙ ap (λ (l : List (Entry ClusterMeta)). l ++ added)
+          (sym (ap (λ (p : PassState (Entry ClusterMeta) (Birth D)). p.seen) held_is));
+      ours = subst (λ (n : ℕ). AllByRecursion (λ (e : Entry ClusterMeta). e.context ≡ n) added)
+          (sym (ap (λ (p : PassState (Entry ClusterMeta) (Birth D)). p.number) held_is)) ours;
     }
 
     pub given_birth : held.birth ≡ Some given.birth
     given_birth = ap (λ (p : PassState (Entry ClusterMeta) (Birth D)). p.birth) held_is ∙ (took.birth ∙ ap Some (sym step.birth))
 
     -- the hold, once it was given
-    pub hold : (new : PassState (Entry ClusterMeta) (Birth D)) → new ≡ after_giving context_of held (history_of_locked state given) → IsHold state committer taken given added old new
+    pub hold : (new : PassState (Entry ClusterMeta) (Birth D)) → new ≡ after_giving context_of held (history_of_locked state given)
+        → IsHold state committer taken given added old new
     hold new gave =
         let log = history_of_locked state given in
         let own : entries_of context_of log old.number ≡ old.own ++ added =
         ap (λ (l : List (Entry ClusterMeta)). entries_of context_of l old.number) grows
-        ∙ (entries_of-own context_of old.number (history_of_locked state taken) added ours ∙ ap (λ (l : List (Entry ClusterMeta)). l ++ added) (sym took.own)) in
+        ∙ (entries_of-own context_of old.number (history_of_locked state taken) added ours
+            ∙ ap (λ (l : List (Entry ClusterMeta)). l ++ added) (sym took.own)) in
         record {
           birth = birth_is;
           step = step;
@@ -119,7 +135,8 @@ module _ {D : Type 0} (state : D → DiskState) (committer : TurnState (Birth D)
               ∙ ap (λ (b : Bool). record old { holds = b; seen = log; own = old.own ++ added }) (sym of.free)));
         }
 
-no_pen : (P : Type 0) (was is context : ℕ) (e : Refused) (added : List (Entry ClusterMeta)) → PenAdds {P = P} was is context (Err e) added → PenAdds {P = Unit {0}} was is context (Err e) added
+no_pen : (P : Type 0) (was is context : ℕ) (e : Refused) (added : List (Entry ClusterMeta)) → PenAdds {P =
+    P} was is context (Err e) added → PenAdds {P = Unit {0}} was is context (Err e) added
 no_pen P was is context refused.Memory added is_none = is_none
 no_pen P was is context refused.Failed added is_one = is_one
 
@@ -138,26 +155,32 @@ kept_from {D = D} old new is same kept = subst (λ (p : PassState (Entry Cluster
 
 module _ {D : Type 0} (state : D → DiskState) (committer : TurnState (Birth D)) where
   -- a pen was made, so nothing was added
-  pub opened : {P : Type 0} (old new : PassState (Entry ClusterMeta) (Birth D)) (pen : P) → OpensInHold state committer old new (Ok pen) → AddsInHold state committer [] old new
+  pub opened : {P : Type 0} (old new : PassState (Entry ClusterMeta) (Birth D)) (pen : P)
+      → OpensInHold state committer old new (Ok pen) → AddsInHold state committer [] old new
   opened old new pen o =
-      record { taken = o.taken; given = o.given; hold = subst (λ (l : List (Entry ClusterMeta)). IsHold state committer o.taken o.given l old new) o.opens.adds o.hold }
+      record { taken = o.taken; given = o.given; hold = subst (λ (l : List (Entry ClusterMeta)). IsHold state committer o.taken
+          o.given l old new) o.opens.adds o.hold }
 
   -- no pen was to be had
-  pub unopened : (P : Type 0) (old new : PassState (Entry ClusterMeta) (Birth D)) (e : Refused) → OpensInHold state {P = P} committer old new (Err e) → RefusesPen state committer old new e
+  pub unopened : (P : Type 0) (old new : PassState (Entry ClusterMeta) (Birth D)) (e : Refused) → OpensInHold state {P =
+      P} committer old new (Err e) → RefusesPen state committer old new e
   unopened P old new e o =
       record {
         taken = o.taken;
         given = o.given;
-        opens = record { added = o.opens.added; grows = o.opens.grows; adds = no_pen P (state o.taken.disk).faults (state o.given.disk).faults old.number e o.opens.added o.opens.adds };
+        opens = record { added = o.opens.added; grows = o.opens.grows; adds =
+            no_pen P (state o.taken.disk).faults (state o.given.disk).faults old.number e o.opens.added o.opens.adds };
         hold = o.hold;
       }
 
   -- what the first pass has seen after a hold that added nothing
-  pub kept_by : (old new : PassState (Entry ClusterMeta) (Birth D)) → AddsInHold state committer [] old new → (new ≡ record old { seen = new.seen }) × IsPrefix old.seen new.seen
+  pub kept_by : (old new : PassState (Entry ClusterMeta) (Birth D)) → AddsInHold state committer [] old new
+      → (new ≡ record old { seen = new.seen }) × IsPrefix old.seen new.seen
   kept_by old new a =
       let h = a.hold in
       let seen : new.seen ≡ history_of_locked state a.given = ap (λ (p : PassState (Entry ClusterMeta) (Birth D)). p.seen) h.now in
-      let more : history_of_locked state a.given ≡ history_of_locked state a.taken = h.grows ∙ append-nil (history_of_locked state a.taken) in (
+      let more : history_of_locked state a.given ≡ history_of_locked state a.taken =
+              h.grows ∙ append-nil (history_of_locked state a.taken) in (
         h.now ∙ (ap (λ (l : List (Entry ClusterMeta)). record old { seen = history_of_locked state a.given; own = l }) (append-nil old.own)
             ∙ ap (λ (l : List (Entry ClusterMeta)). record old { seen = l }) (sym seen)),
         subst (λ (l : List (Entry ClusterMeta)). IsPrefix old.seen l) (sym (seen ∙ more)) h.begins,
@@ -165,7 +188,8 @@ module _ {D : Type 0} (state : D → DiskState) (committer : TurnState (Birth D)
 
 module _ {D : Type 0} where
   -- the pass of a context was joined
-  pub left_by : (old first pass new : PassState (Entry ClusterMeta) (Birth D)) → first ≡ record old { seen = first.seen } → IsPrefix old.seen first.seen → new ≡ after_joining first pass
+  pub left_by : (old first pass new : PassState (Entry ClusterMeta) (Birth D)) → first ≡ record old { seen = first.seen }
+      → IsPrefix old.seen first.seen → new ≡ after_joining first pass
       → IsPrefix first.seen new.seen → IsPrefix pass.seen new.seen → LeavesAfter old pass new
   left_by old first pass new kept seen joined both told =
       let all = longer first.seen pass.seen in
@@ -173,6 +197,7 @@ module _ {D : Type 0} where
       record {
         seen = prefix_on old.seen first.seen new.seen seen both;
         told = told;
-        now = joined ∙ (ap (λ (p : PassState (Entry ClusterMeta) (Birth D)). record p { seen = all; kept = p.kept ++ (pass.number, pass.own) ∷ [] }) kept
+        now = joined ∙ (ap (λ (p : PassState (Entry ClusterMeta) (Birth D)). record p { seen = all; kept =
+            p.kept ++ (pass.number, pass.own) ∷ [] }) kept
             ∙ ap (λ (l : List (Entry ClusterMeta)). record old { seen = l; kept = old.kept ++ (pass.number, pass.own) ∷ [] }) (sym is));
       }

@@ -1,5 +1,6 @@
 -- What a disk's log tells of a history with one entry more.
-use Rattle.std.proofs.Common.{◌≡◌, ◌∙◌, ap, sym, refl, ℕ, zero, suc, ◌+◌, ◌≤◌, List, [], ◌∷◌, ◌++◌, length, map, drop, Option, Some, None, arith, append_assoc, append-nil}
+use Rattle.std.proofs.Common.{◌≡◌, ◌∙◌, ap, sym, refl, ℕ, zero, suc, ◌+◌, ◌≤◌, List, [], ◌∷◌, ◌++◌, length, map, drop, Option, Some, None}
+use Rattle.std.proofs.Common.{arith, append_assoc, append-nil}
 use Rattle.std.specs.Prelude.{slice_get}
 use Rattle.std.specs.List.{fold}
 use Rattle.std.proofs.lemmas.List.{map-append, length-append, length-map, drop-append-le}
@@ -40,9 +41,11 @@ module _ {M : Type 0} where
   length-told_bytes [] steps = refl
   length-told_bytes (e ∷ es) steps =
       let rest = told_bytes es (drop (step_count e.kind) steps) in
-      omega (arith, length-append (told_first e.kind steps) rest, length-told_first e.kind steps, length-told_bytes es (drop (step_count e.kind) steps))
+      omega (arith, length-append (told_first e.kind steps) rest, length-told_first e.kind steps,
+          length-told_bytes es (drop (step_count e.kind) steps))
 
-  told_first-append : (k : EntryKind M) (steps new : List Step) → step_count k ≤ length steps → told_first k (steps ++ new) ≡ told_first k steps
+  told_first-append : (k : EntryKind M) (steps new : List Step) → step_count k ≤ length steps → told_first k (steps ++ new)
+      ≡ told_first k steps
   told_first-append (entry.Committed n start len meta) steps new le = refl
   told_first-append (entry.Settled n bytes) [] new le = absurd (omega (arith, le))
   told_first-append (entry.Settled n bytes) (step ∷ steps) new le = refl
@@ -58,7 +61,8 @@ module _ {M : Type 0} where
       let le : k ≤ length steps = omega (arith, long) in
       ap (λ (l : List (Option (List ℕ))). l ++ told_bytes (ds ++ e ∷ []) (drop k (steps ++ new))) (told_first-append d.kind steps new le)
       ∙ (ap (λ (l : List Step). told_first d.kind steps ++ told_bytes (ds ++ e ∷ []) l) (drop-append-le k steps new le)
-      ∙ (ap (λ (l : List (Option (List ℕ))). told_first d.kind steps ++ l) (told_bytes-snoc ds e (drop k steps) new (length_rest k (steps_count ds) steps long))
+      ∙ (ap (λ (l : List (Option (List ℕ))). told_first d.kind steps ++ l)
+          (told_bytes-snoc ds e (drop k steps) new (length_rest k (steps_count ds) steps long))
       ∙ sym (append_assoc (told_first d.kind steps) (told_bytes ds (drop k steps)) (told_first e.kind new))))
 
   -- an entry with what its steps tell
@@ -66,8 +70,10 @@ module _ {M : Type 0} where
   told_entry None e steps = e
   told_entry (Some h) e steps = record { context = e.context; kind = with_first e.kind (told_first e.kind steps) }
 
-  with_bytes-snoc : (es : List (Entry M)) (i : ℕ) (k : EntryKind M) (told : List (Option (List ℕ))) (steps : List Step) → length told ≡ settled_count es
-      → with_bytes (es ++ record { context = i; kind = k } ∷ []) (told ++ told_first k steps) ≡ with_bytes es told ++ record { context = i; kind = with_first k (told_first k steps) } ∷ []
+  with_bytes-snoc : (es : List (Entry M)) (i : ℕ) (k : EntryKind M) (told : List (Option (List ℕ))) (steps : List Step)
+      → length told ≡ settled_count es
+      → with_bytes (es ++ record { context = i; kind = k } ∷ []) (told ++ told_first k steps) ≡ with_bytes es told
+          ++ record { context = i; kind = with_first k (told_first k steps) } ∷ []
   with_bytes-snoc es i (entry.Committed n start len meta) told steps long =
       let e : Entry M = record { context = i; kind = entry.Committed n start len meta } in
       ap (λ (l : List (Option (List ℕ))). with_bytes (es ++ e ∷ []) l) (append-nil told) ∙ with_bytes-other es e told refl
@@ -106,20 +112,24 @@ module _ {M : Type 0} where
       ∙ (told_more h first.0 second.0 history all e steps first.2 long second.2
       ∙ ap (λ (o : Option Held). told_history (Some h) o history ++ told_entry (Some h) e steps ∷ []) (sym first.1))
 
-  length-settle_at : (ranges : List (Cluster M)) (i n : ℕ) (bytes : Option (List ℕ)) → IsOut ranges i n → length (settle_at (slice_get ranges n) bytes) ≡ 1
+  length-settle_at : (ranges : List (Cluster M)) (i n : ℕ) (bytes : Option (List ℕ)) → IsOut ranges i n
+      → length (settle_at (slice_get ranges n) bytes) ≡ 1
   length-settle_at ranges i n bytes is = ap (λ (o : Option (Cluster M)). length (settle_at o bytes)) is.at
 
-  length-disk_steps_of : (place : ℕ) (ranges : List (Cluster M)) (i : ℕ) (k : EntryKind M) → IsKindAllowed place ranges i k → length (disk_steps_of ranges k) ≡ step_count k
+  length-disk_steps_of : (place : ℕ) (ranges : List (Cluster M)) (i : ℕ) (k : EntryKind M) → IsKindAllowed place ranges i k
+      → length (disk_steps_of ranges k) ≡ step_count k
   length-disk_steps_of place ranges i (entry.Committed n start len meta) ok = refl
   length-disk_steps_of place ranges i (entry.Settled n bytes) ok = length-settle_at ranges i n bytes ok.0
   length-disk_steps_of place ranges i (entry.Spoiled n faults) ok = length-settle_at ranges i n None ok
   length-disk_steps_of place ranges i (entry.Faulted faults) ok = refl
 
-  length-log_after : (place : ℕ) (ranges : List (Cluster M)) (es : List (Entry M)) → IsLegalAfter place ranges es → length (log_after ranges es) ≡ steps_count es
+  length-log_after : (place : ℕ) (ranges : List (Cluster M)) (es : List (Entry M)) → IsLegalAfter place ranges es
+      → length (log_after ranges es) ≡ steps_count es
   length-log_after place ranges [] ok = refl
   length-log_after place ranges (e ∷ es) ok =
       let rest = log_after (after_entry ranges e) es in
-      omega (arith, length-append (disk_steps_of ranges e.kind) rest, length-disk_steps_of place ranges e.context e.kind ok.0, length-log_after place (after_entry ranges e) es ok.1)
+      omega (arith, length-append (disk_steps_of ranges e.kind) rest, length-disk_steps_of place ranges e.context e.kind ok.0,
+          length-log_after place (after_entry ranges e) es ok.1)
 
   step_count-told : (k : EntryKind M) (told : List (Option (List ℕ))) → step_count (with_first k told) ≡ step_count k
   step_count-told (entry.Committed n start len meta) told = refl
@@ -133,7 +143,8 @@ module _ {M : Type 0} where
   steps_count-with_bytes (e ∷ es) told =
       omega (arith, step_count-told e.kind told, steps_count-with_bytes es (without_first (settles e.kind) told))
 
-  steps_count-told : (begun now : Option Held) (history : List (Entry M)) → steps_count (told_history begun now history) ≡ steps_count history
+  steps_count-told : (begun now : Option Held) (history : List (Entry M)) → steps_count (told_history begun now history)
+      ≡ steps_count history
   steps_count-told None now history = refl
   steps_count-told (Some h) None history = refl
   steps_count-told (Some h) (Some h') history = steps_count-with_bytes history (told_bytes history (drop (length h.log) h'.log))
@@ -142,36 +153,45 @@ module _ {M : Type 0} where
   pub steps_are_counted : (place : ℕ) (begun now : Option Held) (history : List (Entry M)) → IsLegal place (told_history begun now history)
       → length (steps_of_history (told_history begun now history)) ≡ steps_count history
   steps_are_counted place begun now history ok =
-      length-map (log_of (told_history begun now history)) logged_step ∙ (length-log_after place [] (told_history begun now history) ok ∙ steps_count-told begun now history)
+      length-map (log_of (told_history begun now history)) logged_step
+          ∙ (length-log_after place [] (told_history begun now history) ok ∙ steps_count-told begun now history)
 
   -- the ranges of a told history are out, end and are as many as without the bytes
-  pub told_out : (begun now : Option Held) (history : List (Entry M)) (i n : ℕ) → IsOut (ranges_of (told_history begun now history)) i n → IsOut (ranges_of history) i n
+  pub told_out : (begun now : Option Held) (history : List (Entry M)) (i n : ℕ)
+      → IsOut (ranges_of (told_history begun now history)) i n → IsOut (ranges_of history) i n
   told_out None now history i n is = is
   told_out (Some h) None history i n is = is
   told_out (Some h) (Some h') history i n is = same_out history (told_bytes history (drop (length h.log) h'.log)) i n is
 
-  pub told_end : (place : ℕ) (begun now : Option Held) (history : List (Entry M)) → end_after place (ranges_of (told_history begun now history)) ≡ end_after place (ranges_of history)
+  pub told_end : (place : ℕ) (begun now : Option Held) (history : List (Entry M))
+      → end_after place (ranges_of (told_history begun now history)) ≡ end_after place (ranges_of history)
   told_end place None now history = refl
   told_end place (Some h) None history = refl
   told_end place (Some h) (Some h') history = same_end place history (told_bytes history (drop (length h.log) h'.log))
 
-  count-with_bytes : (history : List (Entry M)) (told : List (Option (List ℕ))) → length (ranges_of (with_bytes history told)) ≡ length (ranges_of history)
+  count-with_bytes : (history : List (Entry M)) (told : List (Option (List ℕ))) → length (ranges_of (with_bytes history told))
+      ≡ length (ranges_of history)
   count-with_bytes history told =
-      sym (length-map (ranges_of (with_bytes history told)) untold) ∙ (ap (λ (l : List (Cluster M)). length l) (same history told) ∙ length-map (ranges_of history) untold)
+      sym (length-map (ranges_of (with_bytes history told)) untold) ∙ (ap (λ (l : List (Cluster M)). length l) (same history told)
+          ∙ length-map (ranges_of history) untold)
 
-  pub told_count : (begun now : Option Held) (history : List (Entry M)) → length (ranges_of (told_history begun now history)) ≡ length (ranges_of history)
+  pub told_count : (begun now : Option Held) (history : List (Entry M)) → length (ranges_of (told_history begun now history))
+      ≡ length (ranges_of history)
   told_count None now history = refl
   told_count (Some h) None history = refl
   told_count (Some h) (Some h') history = count-with_bytes history (told_bytes history (drop (length h.log) h'.log))
 
-  log_after-snoc : (ranges : List (Cluster M)) (es : List (Entry M)) (e : Entry M) → log_after ranges (es ++ e ∷ []) ≡ log_after ranges es ++ disk_steps_of (fold after_entry ranges es) e.kind
+  log_after-snoc : (ranges : List (Cluster M)) (es : List (Entry M)) (e : Entry M) → log_after ranges (es ++ e ∷ [])
+      ≡ log_after ranges es ++ disk_steps_of (fold after_entry ranges es) e.kind
   log_after-snoc ranges [] e = append-nil (disk_steps_of ranges e.kind)
   log_after-snoc ranges (d ∷ ds) e =
       ap (λ (l : List DiskStep). disk_steps_of ranges d.kind ++ l) (log_after-snoc (after_entry ranges d) ds e)
-      ∙ sym (append_assoc (disk_steps_of ranges d.kind) (log_after (after_entry ranges d) ds) (disk_steps_of (fold after_entry (after_entry ranges d) ds) e.kind))
+      ∙ sym (append_assoc (disk_steps_of ranges d.kind) (log_after (after_entry ranges d) ds)
+          (disk_steps_of (fold after_entry (after_entry ranges d) ds) e.kind))
 
   -- the steps of a history with one entry more
   pub steps_of_history-snoc : (history : List (Entry M)) (e : Entry M)
       → steps_of_history (history ++ e ∷ []) ≡ steps_of_history history ++ map logged_step (disk_steps_of (ranges_of history) e.kind)
   steps_of_history-snoc history e =
-      ap (λ (l : List DiskStep). map logged_step l) (log_after-snoc [] history e) ∙ map-append logged_step (log_of history) (disk_steps_of (ranges_of history) e.kind)
+      ap (λ (l : List DiskStep). map logged_step l) (log_after-snoc [] history e) ∙ map-append logged_step (log_of history)
+          (disk_steps_of (ranges_of history) e.kind)

@@ -47,8 +47,10 @@ RefusalAdds was is context Memory added = added ≡ []
 RefusalAdds was is context Fault added = Rose was is × (added ≡ faulted_entry context is ∷ [])
 
 -- what an answer adds: the one cluster, of which the claim is, or what the refusal does
-abbrev pub CommitAdds : {X : Type 0} → (X → ExtState) → Option Held → ℕ → ℕ → ℕ → ℕ → ClusterMeta → Result (Claim X) CommitError → List (Entry ClusterMeta) → Type 0
-CommitAdds tell held was is n start meta (Ok claim) added = IsNewClaim tell held n start meta.len claim × (added ≡ committed_entry n start meta ∷ [])
+abbrev pub CommitAdds : {X : Type 0} → (X → ExtState) → Option Held → ℕ → ℕ → ℕ → ℕ → ClusterMeta → Result (Claim X) CommitError
+    → List (Entry ClusterMeta) → Type 0
+CommitAdds tell held was is n start meta (Ok claim) added =
+    IsNewClaim tell held n start meta.len claim × (added ≡ committed_entry n start meta ∷ [])
 CommitAdds tell held was is n start meta (Err e) added = RefusalAdds was is meta.context e added
 
 -- what the making of a pen adds: after a fault its count, which rose; else nothing

@@ -77,11 +77,13 @@ module _ {D : Type 0} (state : D → DiskState) where
   GrowsBy old new added = history_of_locked state new ≡ history_of_locked state old ++ added
 
   -- a cluster was committed behind all others, or refused: for a limit exactly where the cluster passes it
-  pub record Commits {X : Type 0} (tell : X → ExtState) (meta : ClusterMeta) (old new : LockedState D) (result : Result (Claim X) CommitError) : Type 0 where
+  pub record Commits {X : Type 0} (tell : X → ExtState) (meta : ClusterMeta) (old new : LockedState D)
+      (result : Result (Claim X) CommitError) : Type 0 where
     pub limits : limit_error old.birth.limits (locked_end old) (locked_count old) meta.len ≡ limit_answered result
     pub added : List (Entry ClusterMeta)
     pub grows : GrowsBy old new added
-    pub adds : CommitAdds tell (state old.birth.begun).held (state old.disk).faults (state new.disk).faults (locked_count old) (locked_end old) meta result added
+    pub adds : CommitAdds tell (state old.birth.begun).held (state old.disk).faults (state new.disk).faults (locked_count old)
+        (locked_end old) meta result added
 
   -- a pen was made, or refused
   pub record OpensPen {P : Type 0} (context : ℕ) (old new : LockedState D) (result : Result P Refused) : Type 0 where
@@ -103,7 +105,8 @@ module _ {D : Type 0} (state : D → DiskState) where
     pub same : GrowsBy old new []
 
   -- one hold of the turn: the pass had seen a beginning of the history, which then grew by these entries of its number
-  pub record IsHold (committer : TurnState (Birth D)) (taken given : LockedState D) (added : List (Entry ClusterMeta)) (old new : PassState (Entry ClusterMeta) (Birth D)) : Type 0 where
+  pub record IsHold (committer : TurnState (Birth D)) (taken given : LockedState D) (added : List (Entry ClusterMeta))
+      (old new : PassState (Entry ClusterMeta) (Birth D)) : Type 0 where
     pub birth : taken.birth ≡ committer.birth
     pub step : IsStep taken given
     pub grows : GrowsBy taken given added
@@ -111,13 +114,15 @@ module _ {D : Type 0} (state : D → DiskState) where
     pub now : new ≡ record old { seen = history_of_locked state given; own = old.own ++ added }
 
   -- a hold in which these entries were added
-  pub record AddsInHold (committer : TurnState (Birth D)) (added : List (Entry ClusterMeta)) (old new : PassState (Entry ClusterMeta) (Birth D)) : Type 0 where
+  pub record AddsInHold (committer : TurnState (Birth D)) (added : List (Entry ClusterMeta))
+      (old new : PassState (Entry ClusterMeta) (Birth D)) : Type 0 where
     pub taken : LockedState D
     pub given : LockedState D
     pub hold : IsHold committer taken given added old new
 
   -- a hold in which a cluster was committed, or refused
-  pub record CommitsInHold {X : Type 0} (tell : X → ExtState) (committer : TurnState (Birth D)) (meta : ClusterMeta) (old new : PassState (Entry ClusterMeta) (Birth D))
+  pub record CommitsInHold {X : Type 0} (tell : X → ExtState) (committer : TurnState (Birth D)) (meta : ClusterMeta)
+      (old new : PassState (Entry ClusterMeta) (Birth D))
       (result : Result (Claim X) CommitError) : Type 0 where
     pub taken : LockedState D
     pub given : LockedState D
@@ -132,18 +137,21 @@ module _ {D : Type 0} (state : D → DiskState) where
     pub hold : IsHold committer taken given (spoiled_entry old.number n (state given.disk).faults ∷ []) old new
 
   -- a hold in which a pen was made, or refused
-  pub record OpensInHold {P : Type 0} (committer : TurnState (Birth D)) (old new : PassState (Entry ClusterMeta) (Birth D)) (result : Result P Refused) : Type 0 where
+  pub record OpensInHold {P : Type 0} (committer : TurnState (Birth D)) (old new : PassState (Entry ClusterMeta) (Birth D))
+      (result : Result P Refused) : Type 0 where
     pub taken : LockedState D
     pub given : LockedState D
     pub opens : OpensPen old.number taken given result
     pub hold : IsHold committer taken given opens.added old new
 
   -- a hold in which no pen was to be had
-  abbrev pub RefusesPen : TurnState (Birth D) → PassState (Entry ClusterMeta) (Birth D) → PassState (Entry ClusterMeta) (Birth D) → Refused → Type 0
+  abbrev pub RefusesPen : TurnState (Birth D) → PassState (Entry ClusterMeta) (Birth D) → PassState (Entry ClusterMeta) (Birth D)
+      → Refused → Type 0
   RefusesPen committer old new e = OpensInHold {P = Unit {0}} committer old new (Err e)
 
   -- a context entered: after a hold in which its pen was made, its pass was split off
-  pub record EntersAfter {P : Type 0} (pen_state : P → PenState) (committer : TurnState (Birth D)) (old new pass : PassState (Entry ClusterMeta) (Birth D)) (pen : P) : Type 0 where
+  pub record EntersAfter {P : Type 0} (pen_state : P → PenState) (committer : TurnState (Birth D))
+      (old new pass : PassState (Entry ClusterMeta) (Birth D)) (pen : P) : Type 0 where
     pub held : PassState (Entry ClusterMeta) (Birth D)
     pub opens : AddsInHold committer [] old held
     pub first : new ≡ record held { splits = old.splits + 1 }

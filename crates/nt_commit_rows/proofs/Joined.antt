@@ -15,7 +15,8 @@ module _ {D : Type 0} (committer : TurnState (Birth D)) where
   Kept = List (ℕ × List (Entry ClusterMeta))
 
   -- the same pass, with more seen and other entries
-  of-hold : (old : Seat D) (seen own : List (Entry ClusterMeta)) → IsPassOf committer old → IsPassOf committer (record old { seen = seen; own = own })
+  of-hold : (old : Seat D) (seen own : List (Entry ClusterMeta)) → IsPassOf committer old
+      → IsPassOf committer (record old { seen = seen; own = own })
   of-hold old seen own is = record { turn = is.turn; free = is.free; birth = is.birth; number = is.number; seats = is.seats }
 
   -- nothing was split off or joined
@@ -27,17 +28,22 @@ module _ {D : Type 0} (committer : TurnState (Birth D)) where
   back-itself old first = record { first = first; since = same-since old old refl refl; back = λ b. b }
 
   -- a context entered, others came and went, and it left
-  pub back-around : (old mid between new pass done : Seat D) → IsEntered committer old mid pass → HasAllBack committer mid between → done.number ≡ pass.number
+  pub back-around : (old mid between new pass done : Seat D) → IsEntered committer old mid pass → HasAllBack committer mid between
+      → done.number ≡ pass.number
       → HasLeft committer between done new → HasAllBack committer old new
   back-around old mid between new pass done entered around number left =
-      let since = joins_since (record mid { splits = old.splits }) mid between new done.number done.own (ap (λ (n : ℕ). record mid { splits = n }) entered.splits) around.since
+      let since = joins_since (record mid { splits = old.splits }) mid between new done.number done.own
+              (ap (λ (n : ℕ). record mid { splits = n }) entered.splits) around.since
       (number ∙ entered.number) left.splits left.kept in
       record {
         first = left.first;
-        since = record { each = λ n less none. let e = since.each n less none in (e.0, subst (λ (l : Kept). HasNone l n) entered.kept e.1) };
+        since = record { each = λ n less none. let e = since.each n less none in
+            (e.0, subst (λ (l : Kept). HasNone l n) entered.kept e.1) };
         back = λ b. left.back (around.back (entered.back b));
       }
 
   -- a context entered and left
-  pub back-alone : (old mid new pass done : Seat D) → IsEntered committer old mid pass → done.number ≡ pass.number → HasLeft committer mid done new → HasAllBack committer old new
-  back-alone old mid new pass done entered number left = back-around old mid mid new pass done entered (back-itself mid entered.first) number left
+  pub back-alone : (old mid new pass done : Seat D) → IsEntered committer old mid pass → done.number ≡ pass.number
+      → HasLeft committer mid done new → HasAllBack committer old new
+  back-alone old mid new pass done entered number left =
+      back-around old mid mid new pass done entered (back-itself mid entered.first) number left

@@ -9,7 +9,8 @@ use Rattle.nt_commit.specs.declared.claim.Claim.{Claim}
 use Rattle.nt_commit.specs.Locked.{place_of}
 
 -- the claim is of the last range of a context's entries, so many bytes long, and no other range of theirs is out
-pub record IsSoleClaim {X : Type 0} (tell : X → ExtState) (entries : List (Entry ClusterMeta)) (context len : ℕ) (claim : Claim X) : Type 0 where
+pub record IsSoleClaim {X : Type 0} (tell : X → ExtState) (entries : List (Entry ClusterMeta)) (context len : ℕ)
+    (claim : Claim X) : Type 0 where
   pub before : List (Cluster ClusterMeta)
   pub last : Cluster ClusterMeta
   pub are : ranges_of entries ≡ before ++ last ∷ []

@@ -1,5 +1,6 @@
 -- What is written first, and the byte that shuts it.
-use Rattle.std.proofs.Common.{◌≡◌, ℕ, suc, take, ◌+◌, List, [], ◌∷◌, ◌++◌, length, get_or, set, Err, Some, refl, sym, ap, ◌∙◌, append_assoc, arith}
+use Rattle.std.proofs.Common.{◌≡◌, ℕ, suc, take, ◌+◌, List, [], ◌∷◌, ◌++◌, length, get_or, set, Err, Some, refl, sym, ap, ◌∙◌, append_assoc}
+use Rattle.std.proofs.Common.{arith}
 use Rattle.std.proofs.lemmas.List.{length-append, length-set, append-nil}
 use Rattle.nt_format.specs.Pieces.{piece}
 use Rattle.nt_num.specs.Codes.{unfinished}
@@ -39,7 +40,8 @@ begin-shut end free keys rest =
     let first = first_byte end free keys in
     shut_first (header_part end free ++ record_part keys) first.0 rest first.1
 
-pub begin-opened : (end free keys : ℕ) (rest : List ℕ) → set (begun end free keys ++ rest) 0 0x72 ≡ header_part end free ++ (record_part keys ++ rest)
+pub begin-opened : (end free keys : ℕ) (rest : List ℕ) → set (begun end free keys ++ rest) 0 0x72 ≡ header_part end free
+    ++ (record_part keys ++ rest)
 unfolding begun
 begin-opened end free keys rest =
     let first = first_byte end free keys in
@@ -48,10 +50,13 @@ begin-opened end free keys rest =
 pub begin-len : (end free keys : ℕ) → length (begun end free keys) ≡ 226
 unfolding begun
 begin-len end free keys =
-    length-set (header_part end free ++ record_part keys) 0 0 ∙ omega (arith, length-append (header_part end free) (record_part keys), header-len end free, file_record-len keys)
+    length-set (header_part end free ++ record_part keys) 0 0
+        ∙ omega (arith, length-append (header_part end free) (record_part keys), header-len end free, file_record-len keys)
 
 pub blob_found : (file object : List ℕ) (at : ℕ) → piece file at (42 + length object) ≡ Some (blob_key (length object) at ++ object)
     → piece file (at + 42) (length object) ≡ Some object
 blob_found file object at e =
-    inside_at file (blob_key (length object) at ++ object) (blob_key (length object) at) object [] at (42 + length object) (at + 42) (length object) e
-    (ap (λ (l : List ℕ). blob_key (length object) at ++ l) (sym (append-nil object))) (ap (λ (k : ℕ). at + k) (blob_key-len (length object) at)) refl
+    inside_at file (blob_key (length object) at ++ object) (blob_key (length object) at) object [] at (42 + length object) (at + 42)
+        (length object) e
+    (ap (λ (l : List ℕ). blob_key (length object) at ++ l) (sym (append-nil object)))
+        (ap (λ (k : ℕ). at + k) (blob_key-len (length object) at)) refl

@@ -27,7 +27,8 @@ fields_size = 64
 -- the anchor's object is stored as it is, and has the length of one
 unfoldable pub is_plain : Key → Result (Unit {0}) ReadError
 is_plain key = do
-  plain ← demand (nat_eq key.len (key.header_len + key.object_len)) (with_values key.object_len (key.len - key.header_len) (fault compressed key.place))
+  plain ← demand (nat_eq key.len (key.header_len + key.object_len))
+      (with_values key.object_len (key.len - key.header_len) (fault compressed key.place))
   demand (nat_eq key.object_len object_size) (with_values object_size key.object_len (fault bad_anchor key.place))
 
 -- the object behind its key's header
@@ -54,7 +55,8 @@ envelopes_at here = do
   footer ← big w64 header_len.1
   footer_size ← big w64 footer.1
   footer_len ← big w64 footer_size.1
-  Ok (record { header = header.0; header_size = header_size.0; header_len = header_len.0; footer = footer.0; footer_size = footer_size.0; footer_len = footer_len.0 }, footer_len.1)
+  Ok (record { header = header.0; header_size = header_size.0; header_len = header_len.0; footer = footer.0; footer_size =
+      footer_size.0; footer_len = footer_len.0 }, footer_len.1)
 
 -- the anchor in those bytes: epoch 1 with any other version numbers (own profile), and where header and footer stand
 unfoldable pub anchor_in : ℕ → At → Result Anchor ReadError

@@ -21,7 +21,8 @@ abbrev pub first_of_class : List (Key × List ℕ) → Option Key
 first_of_class [] = None
 first_of_class (one ∷ others) = if bytes_eq one.1 anchor_class then Some one.0 else first_of_class others
 
--- the directory's list of keys begins with its own key; behind that key's header stands how many keys there are, and then their headers, the anchor's the first of its class
+-- the directory's list of keys begins with its own key; behind that key's header stands how many keys there are, and then their
+-- headers, the anchor's the first of its class
 pub record Lists (file : List ℕ) (directory : Directory) (key : Key) : Type 0 where
   pub list : List ℕ
   pub own : Key × List ℕ
@@ -33,7 +34,8 @@ pub record Lists (file : List ℕ) (directory : Directory) (key : Key) : Type 0 
   pub listed : StandsAt (KeysText count) list (own.0.header_len + 4) keys
   pub first : first_of_class keys ≡ Some key
 
--- an anchor's object: byte count and class version; epoch 1 and other version numbers, where the envelopes stand, and the largest key; and the checksum of these fields
+-- an anchor's object: byte count and class version; epoch 1 and other version numbers, where the envelopes stand, and the largest
+-- key; and the checksum of these fields
 pub record AnchorText (text : List ℕ) (anchor : Anchor) : Type 0 where
   pub head : List ℕ
   pub fields : List ℕ

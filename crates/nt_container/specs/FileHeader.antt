@@ -1,6 +1,7 @@
 -- ROOT's TFile: the file header and the directory, as far as a reader follows them. In a file header version 1000000 and above has
 -- places of 8 bytes, in a directory version 1001 and above.
-use Rattle.std.specs.Prelude.{ℕ, ◌+◌, Bool, List, length, take, codes, slice_index, nat_eq, nat_le, nat_lt, ◌&&◌, ◌||◌, if◌then◌else◌, Result, Ok, Err}
+use Rattle.std.specs.Prelude.{ℕ, ◌+◌, Bool, List, length, take, codes, slice_index, nat_eq, nat_le, nat_lt, ◌&&◌, ◌||◌, if◌then◌else◌}
+use Rattle.std.specs.Prelude.{Result, Ok, Err}
 use Rattle.std.specs.Int.{w16, w32}
 use Rattle.std.specs.Str.{bytes_eq}
 use Rattle.nt_num.specs.Place.{At}

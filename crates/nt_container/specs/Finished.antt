@@ -26,7 +26,8 @@ parts_before n = header_part (end_place n) (free_place n) ∷ record_part (keys_
 
 -- anchor, list of keys and list of free pieces behind so many bytes
 abbrev pub parts_behind : ℕ → Anchor → List (List ℕ)
-parts_behind n a = anchor_part (anchor_place n) a ∷ key_list_part (keys_place n) (anchor_place n) ∷ free_list_part (free_place n) (end_place n) ∷ []
+parts_behind n a = anchor_part (anchor_place n) a ∷ key_list_part (keys_place n) (anchor_place n)
+    ∷ free_list_part (free_place n) (end_place n) ∷ []
 
 -- the parts of a file
 abbrev pub file_parts : Anchor → List (List ℕ) → List (List ℕ)

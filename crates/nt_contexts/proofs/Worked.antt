@@ -1,5 +1,6 @@
 -- All contexts were joined: what the first pass keeps of them, and what is known by the answer.
-use Rattle.std.proofs.Common.{◌≡◌, ◌⊎◌, inl, inr, ℕ, ◌≤◌, List, [], ◌++◌, length, map, refl, sym, ap, ◌∙◌, subst, arith, Option, Some, Result, Ok, Err}
+use Rattle.std.proofs.Common.{◌≡◌, ◌⊎◌, inl, inr, ℕ, ◌≤◌, List, [], ◌++◌, length, map, refl, sym, ap, ◌∙◌, subst, arith, Option, Some}
+use Rattle.std.proofs.Common.{Result, Ok, Err}
 use Rattle.std.proofs.lemmas.List.{length-map}
 use Rattle.std.specs.Prelude.{slice_get}
 use Rattle.std.specs.List.{AllByRecursion}
@@ -30,7 +31,8 @@ use Rattle.nt_contexts.specs.Seating.{kept_by, all_kept, seat_sources, HasBeenSe
 use Rattle.nt_contexts.specs.Working.{KeepsFaults, WorkTold, HasWorked, HaveRun}
 use Rattle.nt_contexts.specs.Working.KeepsFaults.{of_first, of_kept}
 use Rattle.nt_contexts.proofs.Opens.{same-later}
-use Rattle.nt_contexts.proofs.Ran.{AreNumbered, numbered-joined, SomeFaulty, run-numbered, run-none_out, run-later, run-count, run-blamed, run-wrote, run-committed, run-sound, run-bad, run-passes, new-numbered, new-none_out, new-later}
+use Rattle.nt_contexts.proofs.Ran.{AreNumbered, numbered-joined, SomeFaulty, run-numbered, run-none_out, run-later, run-count, run-blamed}
+use Rattle.nt_contexts.proofs.Ran.{run-wrote, run-committed, run-sound, run-bad, run-passes, new-numbered, new-none_out, new-later}
 
 abbrev Kept : Type 0
 Kept = List (ℕ × List (Entry ClusterMeta))

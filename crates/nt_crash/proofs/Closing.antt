@@ -7,7 +7,8 @@ use Rattle.nt_outside.specs.Log.{Step, Write, FailedWrite, Append, FailedAppend}
 use Rattle.nt_outside.specs.Held.{Held, written, synced}
 use Rattle.nt_outside.specs.Reads.{Known, exactly, IsKnown}
 use Rattle.nt_outside.specs.Crash.{crash_of, MayLeave}
-use Rattle.nt_close.specs.Steps.{first_byte, IsClosedSoFar, torn_tail, torn_front, not_kept_shut, torn_first, not_kept_open, closed_whole, shut_on, closed_on}
+use Rattle.nt_close.specs.Steps.{first_byte, IsClosedSoFar, torn_tail, torn_front, not_kept_shut, torn_first, not_kept_open, closed_whole}
+use Rattle.nt_close.specs.Steps.{shut_on, closed_on}
 use Rattle.nt_crash.proofs.Opening.{known_of-push, done, torn-cut, open-cut, done-cut}
 use Rattle.nt_crash.proofs.Orders.{Spared, spared-push, Cut, cut-spared}
 

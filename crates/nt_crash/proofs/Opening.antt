@@ -1,11 +1,13 @@
 -- What a crash leaves where the first byte is written over, behind a sync.
-use Rattle.std.proofs.Common.{◌≡◌, ◌∙◌, ap, sym, subst, refl, ℕ, ◌==◌, Bool, true, false, List, [], ◌∷◌, ◌++◌, length, take, drop, map, get_or, arith, append_assoc, eqb-true, inl, inr}
+use Rattle.std.proofs.Common.{◌≡◌, ◌∙◌, ap, sym, subst, refl, ℕ, ◌==◌, Bool, true, false, List, [], ◌∷◌, ◌++◌, length, take, drop, map}
+use Rattle.std.proofs.Common.{get_or, arith, append_assoc, eqb-true, inl, inr}
 use Rattle.std.specs.Prelude.{◌⊎◌, ◌||◌, IsTrue}
 use Rattle.std.specs.List.{list_any}
 use Rattle.std.proofs.lemmas.List.{take_all}
 use Rattle.nt_lists.proofs.Bools.{and_true, both_true}
 use Rattle.nt_outside.specs.Log.{Step, Write, FailedWrite, Append, FailedAppend, Reserve, Settle, Sync}
-use Rattle.nt_outside.specs.Reads.{Known, Anything, OneOf, exactly, or_also, after_step, known_from, known_of, allows, all_allowed, Reads, IsKnown}
+use Rattle.nt_outside.specs.Reads.{Known, Anything, OneOf, exactly, or_also, after_step, known_from, known_of, allows, all_allowed, Reads}
+use Rattle.nt_outside.specs.Reads.{IsKnown}
 use Rattle.nt_outside.specs.Crash.{Crash, no_crash, crash_after, crash_from, crash_of, MayLeave}
 use Rattle.nt_outside.proofs.Known.{known_once}
 use Rattle.nt_outside.proofs.Crashes.{left_by_sync, overwrites}

@@ -1,5 +1,6 @@
 -- Logs that are cut off, and those whose first byte is written over only right behind a sync.
-use Rattle.std.proofs.Common.{◌≡◌, ap, sym, subst, refl, ℕ, zero, suc, List, [], ◌∷◌, ◌++◌, take, get_or, arith, append_assoc, append-nil, inl, inr}
+use Rattle.std.proofs.Common.{◌≡◌, ap, sym, subst, refl, ℕ, zero, suc, List, [], ◌∷◌, ◌++◌, take, get_or, arith, append_assoc, append-nil}
+use Rattle.std.proofs.Common.{inl, inr}
 use Rattle.std.specs.Prelude.{◌⊎◌}
 use Rattle.nt_outside.specs.Log.{Step, Write, FailedWrite, Append, FailedAppend, Reserve, Settle, Sync}
 use Rattle.nt_outside.specs.Order.{EndsInSync, MayFollow, MayAllFollow, FirstByteLast}

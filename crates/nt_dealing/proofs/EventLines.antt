@@ -6,7 +6,8 @@ use Rattle.nt_event.specs.Lines.{HasNoLf}
 use Rattle.nt_dealing.specs.EventText.{text_lines}
 
 -- a byte of a line stands in front of it
-pub text_lines-other : (byte : ℕ) (bytes : List ℕ) (b : Bool) → (byte == 10) ≡ b → byte ≢ 10 → text_lines (byte ∷ bytes) ≡ onto_first byte (text_lines bytes)
+pub text_lines-other : (byte : ℕ) (bytes : List ℕ) (b : Bool) → (byte == 10) ≡ b → byte ≢ 10 → text_lines (byte ∷ bytes)
+    ≡ onto_first byte (text_lines bytes)
 text_lines-other byte bytes true is not = absurd (not (eqb-true byte 10 is))
 text_lines-other byte bytes false is not = ap (λ (b : Bool). cond b ([] ∷ text_lines bytes) (onto_first byte (text_lines bytes))) is
 

@@ -1,5 +1,6 @@
 -- How long a finished file is.
-use Rattle.std.proofs.Common.{◌≡◌, ℕ, zero, suc, ◌+◌, ◌-◌, ◌*◌, ◌<◌, ◌≤◌, min, Bool, true, false, List, [], ◌∷◌, ◌++◌, length, map, take, drop, refl, sym, ap, ◌∙◌, sum_by, arith}
+use Rattle.std.proofs.Common.{◌≡◌, ℕ, zero, suc, ◌+◌, ◌-◌, ◌*◌, ◌<◌, ◌≤◌, min, Bool, true, false, List, [], ◌∷◌, ◌++◌, length, map, take}
+use Rattle.std.proofs.Common.{drop, refl, sym, ap, ◌∙◌, sum_by, arith}
 use Rattle.std.specs.Prelude.{slice_index_or, nat_lt}
 use Rattle.std.specs.Int.{w64, to_le_bytes, div_ceil}
 use Rattle.std.specs.List.{range_with_len, concat}
@@ -35,13 +36,15 @@ length-groups_from sum book place [] = refl
 length-groups_from sum book place (s ∷ ss) = ap suc (length-groups_from sum book (place + list_len sum book s) ss)
 
 length-group_texts : (gs : List Group) → length (group_texts gs) ≡ record_len 40 * length gs
-length-group_texts gs = length-flat_map group_text gs ∙ (sum_by-each (λ (g : Group). length (group_text g)) (λ (g : Group). record_len 40) gs length-group ∙ sum_by-same (record_len 40) gs)
+length-group_texts gs = length-flat_map group_text gs
+    ∙ (sum_by-each (λ (g : Group). length (group_text g)) (λ (g : Group). record_len 40) gs length-group ∙ sum_by-same (record_len 40) gs)
 
 length-spans_of : (most n : ℕ) → length (spans_of most n) ≡ div_ceil n most
 length-spans_of most n = length-map-range_with_len (cluster_span most n) 0 (div_ceil n most)
 
 -- the footer
-pub length-footer_object : (t : Table) (book : BookData) (most : ℕ) → blob_len (length (footer_object t book most)) ≡ footer_len t (group_count most (length (book_clusters book)))
+pub length-footer_object : (t : Table) (book : BookData) (most : ℕ) → blob_len (length (footer_object t book most))
+    ≡ footer_len t (group_count most (length (book_clusters book)))
 unfolding footer_object footer_text
 length-footer_object t book most =
     let gs : List Group = groups t book most in
@@ -50,7 +53,8 @@ length-footer_object t book most =
     let listed = list_frame (length gs) (group_texts gs) in
     let count : length gs ≡ div_ceil (length (book_clusters book)) most =
     length-groups_from sum book (book_end book) (spans book most) ∙ length-spans_of most (length (book_clusters book)) in
-    let texts : length (group_texts gs) ≡ record_len 40 * div_ceil (length (book_clusters book)) most = length-group_texts gs ∙ ap (λ (n : ℕ). record_len 40 * n) count in
+    let texts : length (group_texts gs) ≡ record_len 40 * div_ceil (length (book_clusters book)) most =
+            length-group_texts gs ∙ ap (λ (n : ℕ). record_len 40 * n) count in
     omega (
       arith,
       length-envelope footer_kind (footer_text sum t gs),
@@ -63,13 +67,15 @@ length-footer_object t book most =
     )
 
 -- page lists, one behind the other
-length-lists_from : (sum : ℕ) (book : BookData) (place : ℕ) (ss : List ClusterSpan) → length (concat (lists_from sum book place ss)) ≡ sum_by (list_len sum book) ss
+length-lists_from : (sum : ℕ) (book : BookData) (place : ℕ) (ss : List ClusterSpan) → length (concat (lists_from sum book place ss))
+    ≡ sum_by (list_len sum book) ss
 length-lists_from sum book place [] = refl
 length-lists_from sum book place (s ∷ ss) =
     let rest = concat (lists_from sum book (place + list_len sum book s) ss) in
     length-append (blob place (list_object sum book s)) rest
     ∙ (ap (λ (n : ℕ). n + length rest) (length-blob place (list_object sum book s))
-    ∙ (ap (λ (n : ℕ). list_len sum book s + n) (length-lists_from sum book (place + list_len sum book s) ss) ∙ sym (sum_by-cons (list_len sum book) s ss)))
+    ∙ (ap (λ (n : ℕ). list_len sum book s + n) (length-lists_from sum book (place + list_len sum book s) ss)
+        ∙ sym (sum_by-cons (list_len sum book) s ss)))
 
 take-nil : {A : Type 0} (n : ℕ) → ◌≡◌ {A = List A} (take n []) []
 take-nil zero = refl
@@ -81,16 +87,19 @@ metas cs = map (λ (c : Cluster ClusterMeta). c.meta) cs
 
 module _ (sum : ℕ) (book : BookData) (most : ℕ) where
   -- group i
-  length-span : (i : ℕ) → list_len sum book (cluster_span most (length (book_clusters book)) i) ≡ page_list_len (metas (chunk most (book_clusters book) i))
+  length-span : (i : ℕ) → list_len sum book (cluster_span most (length (book_clusters book)) i)
+      ≡ page_list_len (metas (chunk most (book_clusters book) i))
   length-span i = at (nat_lt (length (book_clusters book)) (i * most)) refl
     where
       at : (b : Bool) → nat_lt (length (book_clusters book)) (i * most) ≡ b
-          → list_len sum book (cluster_span most (length (book_clusters book)) i) ≡ page_list_len (metas (chunk most (book_clusters book) i))
+          → list_len sum book (cluster_span most (length (book_clusters book)) i)
+              ≡ page_list_len (metas (chunk most (book_clusters book) i))
       at true e =
           let cs = book_clusters book in
           let behind : length cs < i * most = ltb-true (length cs) (i * most) e in
           let none : min most (length cs - i * most) ≡ 0 = omega arith in
-          let empty : chunk most cs i ≡ [] = ap (λ (l : List (Cluster ClusterMeta)). take (i * most + most - i * most) l) (drop_all (i * most) cs (omega arith)) ∙ take-nil (i * most + most - i * most) in
+          let empty : chunk most cs i ≡ [] = ap (λ (l : List (Cluster ClusterMeta)). take (i * most + most - i * most) l)
+                  (drop_all (i * most) cs (omega arith)) ∙ take-nil (i * most + most - i * most) in
           ap (λ (k : ℕ). list_len sum book (record { from = i * most; count = k })) none
           ∙ (length-no_list book sum (i * most) ∙ sym (ap (λ (l : List (Cluster ClusterMeta)). page_list_len (metas l)) empty))
       at false e =
@@ -99,33 +108,42 @@ module _ (sum : ℕ) (book : BookData) (most : ℕ) where
           let ds = drop (i * most) cs in
           let size : i * most + most - i * most ≡ most = omega arith in
           let same : take (min most (length cs - i * most)) ds ≡ chunk most cs i =
-          ap (λ (n : ℕ). take (min most n) ds) (sym (length-drop (i * most) cs)) ∙ (take_min most ds ∙ sym (ap (λ (n : ℕ). take n ds) size)) in
-          length-list_object book sum (cluster_span most (length cs) i) (omega arith) ∙ ap (λ (l : List (Cluster ClusterMeta)). page_list_len (metas l)) same
+          ap (λ (n : ℕ). take (min most n) ds) (sym (length-drop (i * most) cs))
+              ∙ (take_min most ds ∙ sym (ap (λ (n : ℕ). take n ds) size)) in
+          length-list_object book sum (cluster_span most (length cs) i) (omega arith)
+              ∙ ap (λ (l : List (Cluster ClusterMeta)). page_list_len (metas l)) same
 
   -- all groups
-  length-all_lists : (place : ℕ) → 0 < most → length (concat (lists_from sum book place (spans book most))) ≡ page_lists_len most (metas (book_clusters book))
+  length-all_lists : (place : ℕ) → 0 < most → length (concat (lists_from sum book place (spans book most)))
+      ≡ page_lists_len most (metas (book_clusters book))
   length-all_lists place some =
       let cs = book_clusters book in
       let places = range_with_len 0 (div_ceil (length cs) most) in
-      let f : List (Cluster ClusterMeta) → ℕ = λ (c : List (Cluster ClusterMeta)). sum_by (λ (d : Cluster ClusterMeta). listed_cluster_len d.meta) c in
+      let f : List (Cluster ClusterMeta) → ℕ = λ (c : List (Cluster ClusterMeta)).
+              sum_by (λ (d : Cluster ClusterMeta). listed_cluster_len d.meta) c in
       let each : sum_by (list_len sum book) (spans book most) ≡ sum_by (λ (i : ℕ). page_list_len [] + f (chunk most cs i)) places =
       sum_by-mapped (list_len sum book) (cluster_span most (length cs)) places
-      ∙ sum_by-each (λ (i : ℕ). list_len sum book (cluster_span most (length cs) i)) (λ (i : ℕ). page_list_len [] + f (chunk most cs i)) places
+      ∙ sum_by-each (λ (i : ℕ). list_len sum book (cluster_span most (length cs) i)) (λ (i : ℕ). page_list_len []
+          + f (chunk most cs i)) places
       (λ i. omega (arith, length-span i, sum_by-mapped listed_cluster_len (λ (d : Cluster ClusterMeta). d.meta) (chunk most cs i))) in
       let joined : sum_by (λ (i : ℕ). f (chunk most cs i)) places ≡ sum_by listed_cluster_len (metas cs) =
       sym (sum_by-mapped f (chunk most cs) places)
       ∙ (sym (sum_by-joined (λ (d : Cluster ClusterMeta). listed_cluster_len d.meta) (chunks most cs))
-      ∙ (ap (λ (l : List (Cluster ClusterMeta)). sum_by (λ (d : Cluster ClusterMeta). listed_cluster_len d.meta) l) (chunks-joined most cs some)
+      ∙ (ap (λ (l : List (Cluster ClusterMeta)). sum_by (λ (d : Cluster ClusterMeta). listed_cluster_len d.meta) l)
+          (chunks-joined most cs some)
       ∙ sym (sum_by-mapped listed_cluster_len (λ (d : Cluster ClusterMeta). d.meta) cs))) in
-      let groups_are : div_ceil (length cs) most ≡ div_ceil (length (metas cs)) most = ap (λ (n : ℕ). div_ceil n most) (sym (length-map cs (λ (d : Cluster ClusterMeta). d.meta))) in
+      let groups_are : div_ceil (length cs) most ≡ div_ceil (length (metas cs)) most =
+              ap (λ (n : ℕ). div_ceil n most) (sym (length-map cs (λ (d : Cluster ClusterMeta). d.meta))) in
       length-lists_from sum book place (spans book most)
       ∙ (each
       ∙ (sum_by-plus (page_list_len []) (λ (i : ℕ). f (chunk most cs i)) places
-      ∙ (ap (λ (n : ℕ). page_list_len [] * n + sum_by (λ (i : ℕ). f (chunk most cs i)) places) (length-range_with_len 0 (div_ceil (length cs) most) ∙ groups_are)
+      ∙ (ap (λ (n : ℕ). page_list_len [] * n + sum_by (λ (i : ℕ). f (chunk most cs i)) places)
+          (length-range_with_len 0 (div_ceil (length cs) most) ∙ groups_are)
       ∙ ap (λ (n : ℕ). page_list_len [] * div_ceil (length (metas cs)) most + n) joined)))
 
 -- the ranges are as long as what is kept of them says
-ranges-told : (cs : List (Cluster ClusterMeta)) → ((k : ℕ) → k < length cs → (slice_index_or cs k no_cluster).len ≡ (slice_index_or cs k no_cluster).meta.len)
+ranges-told : (cs : List (Cluster ClusterMeta)) → ((k : ℕ) → k < length cs → (slice_index_or cs k no_cluster).len
+    ≡ (slice_index_or cs k no_cluster).meta.len)
     → sum_by (λ (c : Cluster ClusterMeta). c.len) cs ≡ sum_by (λ (m : ClusterMeta). m.len) (metas cs)
 ranges-told [] h = refl
 ranges-told (c ∷ cs) h =
@@ -138,7 +156,8 @@ ranges-told (c ∷ cs) h =
     )
 
 -- the whole file
-pub length-file : (t : Table) (book : BookData) (most : ℕ) → IsBookOf t book → 0 < most → file_len t book most ≡ whole_len t most (metas (book_clusters book))
+pub length-file : (t : Table) (book : BookData) (most : ℕ) → IsBookOf t book → 0 < most
+    → file_len t book most ≡ whole_len t most (metas (book_clusters book))
 unfolding anchor_start footer_place
 length-file t book most is some =
     let cs = book_clusters book in

@@ -1,5 +1,6 @@
 -- Parts of lists by their places, and sums over them.
-use Rattle.std.proofs.Common.{◌≡◌, ℕ, zero, suc, ◌+◌, ◌*◌, ◌≤◌, List, [], ◌∷◌, length, map, take, drop, drop-cons, refl, sym, ap, ◌∙◌, sum_by, arith}
+use Rattle.std.proofs.Common.{◌≡◌, ℕ, zero, suc, ◌+◌, ◌*◌, ◌≤◌, List, [], ◌∷◌, length, map, take, drop, drop-cons, refl, sym, ap, ◌∙◌}
+use Rattle.std.proofs.Common.{sum_by, arith}
 use Rattle.std.specs.Prelude.{slice_index_or}
 use Rattle.std.specs.List.{range_with_len, flat_map}
 use Rattle.std.proofs.lemmas.List.Sums.{sum_by-cons, sum_by-append}
@@ -16,7 +17,8 @@ module _ {A : Type 0} where
       ∙ sym (ap (λ (l : List A). take (suc n) l) (more ∙ ap (λ (k : ℕ). slice_index_or xs from d ∷ drop k xs) next))
 
   -- a sum over a list of lists
-  pub sum_by-joined : (f : A → ℕ) (xss : List (List A)) → sum_by f (flat_map (λ (xs : List A). xs) xss) ≡ sum_by (λ (xs : List A). sum_by f xs) xss
+  pub sum_by-joined : (f : A → ℕ) (xss : List (List A)) → sum_by f (flat_map (λ (xs : List A). xs) xss)
+      ≡ sum_by (λ (xs : List A). sum_by f xs) xss
   sum_by-joined f [] = refl
   sum_by-joined f (xs ∷ xss) =
       sum_by-append f xs (flat_map (λ (ys : List A). ys) xss)
@@ -45,4 +47,5 @@ module _ {A : Type 0} where
   -- a sum of sums
   pub sum_by-both : (f g : A → ℕ) (xs : List A) → sum_by (λ (x : A). f x + g x) xs ≡ sum_by f xs + sum_by g xs
   sum_by-both f g [] = omega arith
-  sum_by-both f g (x ∷ xs) = omega (arith, sum_by-cons (λ (y : A). f y + g y) x xs, sum_by-cons f x xs, sum_by-cons g x xs, sum_by-both f g xs)
+  sum_by-both f g (x ∷ xs) = omega (arith, sum_by-cons (λ (y : A). f y + g y) x xs, sum_by-cons f x xs, sum_by-cons g x xs,
+      sum_by-both f g xs)

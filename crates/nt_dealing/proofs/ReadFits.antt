@@ -9,10 +9,12 @@ use Rattle.serde_json.specs.Read.{read}
 use Rattle.nt_types.specs.ShapeData.{ShapeData, ShapesData, MembersData, no_kinds, kind, no_parts, part}
 use Rattle.nt_types.specs.ShapeData as kinds
 use Rattle.nt_types.specs.TreeData.{TreeData, TreesData, flag, num, text, items, parts, pick, nothing, no_trees, tree}
-use Rattle.nt_types.specs.Fits.{is_int, all_trees, fits_flag, fits_number, fits_text, fits_items, fits_parts, fits_pick, fits_next, are_no_trees, fits, fit_parts, fit_kinds, fits_one}
+use Rattle.nt_types.specs.Fits.{is_int, all_trees, fits_flag, fits_number, fits_text, fits_items, fits_parts, fits_pick, fits_next}
+use Rattle.nt_types.specs.Fits.{are_no_trees, fits, fit_parts, fit_kinds, fits_one}
 use Rattle.nt_event.specs.declared.fault.TextKind.TheVariants.{TooLong, NotJson, Count}
 use Rattle.nt_event.specs.Limits.{max_line}
-use Rattle.nt_event.specs.Line.{text_read, int_if, int_read, all_read, next_read, none_read, tag_read, pick_read, choice_read, array_read, tree_read, parts_read, kinds_read, one_read}
+use Rattle.nt_event.specs.Line.{text_read, int_if, int_read, all_read, next_read, none_read, tag_read, pick_read, choice_read, array_read}
+use Rattle.nt_event.specs.Line.{tree_read, parts_read, kinds_read, one_read}
 use Rattle.nt_event.specs.Entry.{parts_len, or_misfit, json_entry, entry_of}
 
 -- what is made of something that is there
@@ -50,7 +52,8 @@ int_fits f d t h =
         subst (λ (u : TreeData). fits_number f u ≡ true) same e
     at z false e k = let none : int_if f z ≡ None = ap (λ (b : Bool). if b then Some (num z) else None) e in cc
 
-all_fit : (f : Data → Option TreeData) (p : TreeData → Bool) → ((d : Data) (t : TreeData) → f d ≡ Some t → p t ≡ true) → (ds : Items) (ts : TreesData)
+all_fit : (f : Data → Option TreeData) (p : TreeData → Bool) → ((d : Data) (t : TreeData) → f d ≡ Some t → p t ≡ true)
+    → (ds : Items) (ts : TreesData)
     → all_read f ds ≡ Some ts → all_trees p ts ≡ true
 all_fit f p each no_items ts h = let same : no_trees ≡ ts = cc in subst (λ (us : TreesData). all_trees p us ≡ true) same refl
 all_fit f p each (item d ds) ts h =
@@ -60,7 +63,8 @@ all_fit f p each (item d ds) ts h =
     (both (p a.from) (all_trees p b.from) (each d a.from a.is) (all_fit f p each ds b.from b.is))
 
 next_fits : (f : Data → Option TreeData) (g : Items → Option TreesData) (p : TreeData → Bool) (q : TreesData → Bool)
-    → ((d : Data) (t : TreeData) → f d ≡ Some t → p t ≡ true) → ((ds : Items) (ts : TreesData) → g ds ≡ Some ts → q ts ≡ true) → (ds : Items) (ts : TreesData)
+    → ((d : Data) (t : TreeData) → f d ≡ Some t → p t ≡ true) → ((ds : Items) (ts : TreesData) → g ds ≡ Some ts → q ts ≡ true)
+        → (ds : Items) (ts : TreesData)
     → next_read f g ds ≡ Some ts → fits_next p q ts ≡ true
 next_fits f g p q each others no_items ts h = cc
 next_fits f g p q each others (item d ds) ts h =
@@ -72,7 +76,8 @@ none_fits : (ds : Items) (ts : TreesData) → none_read ds ≡ Some ts → are_n
 none_fits no_items ts h = let same : no_trees ≡ ts = cc in subst (λ (us : TreesData). are_no_trees us ≡ true) same refl
 none_fits (item d ds) ts h = cc
 
-pick_fits : (f : ℕ → Data → Option TreeData) (p : ℕ → TreeData → Bool) → ((tag : ℕ) (d : Data) (t : TreeData) → f tag d ≡ Some t → p tag t ≡ true)
+pick_fits : (f : ℕ → Data → Option TreeData) (p : ℕ → TreeData → Bool) → ((tag : ℕ) (d : Data) (t : TreeData) → f tag d ≡ Some t
+    → p tag t ≡ true)
     → (ds : Items) (t : TreeData) → pick_read f ds ≡ Some t → fits_pick p t ≡ true
 pick_fits f p each no_items t h = cc
 pick_fits f p each (item tag no_items) t h = cc
@@ -82,7 +87,8 @@ pick_fits f p each (item tag (item d no_items)) t h =
     subst (λ (u : TreeData). fits_pick p u ≡ true) b.made (each a.from d b.from b.is)
 pick_fits f p each (item tag (item d (item e ds))) t h = cc
 
-choice_fits : (f : ℕ → Data → Option TreeData) (p : ℕ → TreeData → Bool) → ((tag : ℕ) (d : Data) (t : TreeData) → f tag d ≡ Some t → p tag t ≡ true)
+choice_fits : (f : ℕ → Data → Option TreeData) (p : ℕ → TreeData → Bool) → ((tag : ℕ) (d : Data) (t : TreeData) → f tag d ≡ Some t
+    → p tag t ≡ true)
     → (d : Data) (t : TreeData) → choice_read f d ≡ Some t → fits_pick p t ≡ true
 choice_fits f p each null t h = let same : nothing ≡ t = cc in subst (λ (u : TreeData). fits_pick p u ≡ true) same refl
 choice_fits f p each (array ds) t h = pick_fits f p each ds t h
@@ -91,14 +97,16 @@ choice_fits f p each (number n) t h = cc
 choice_fits f p each (string s) t h = cc
 choice_fits f p each (object ms) t h = cc
 
-items_fit : (f : Items → Option TreesData) (q : TreesData → Bool) → ((ds : Items) (ts : TreesData) → f ds ≡ Some ts → q ts ≡ true) → (d : Data) (t : TreeData)
+items_fit : (f : Items → Option TreesData) (q : TreesData → Bool) → ((ds : Items) (ts : TreesData) → f ds ≡ Some ts → q ts ≡ true)
+    → (d : Data) (t : TreeData)
     → array_read f items d ≡ Some t → fits_items q t ≡ true
 items_fit f q each d t h =
     let a = then_of (as_array d) (λ ds. option_map items (f ds)) t h in
     let b = made_of (f a.from) items t a.then_is in
     subst (λ (u : TreeData). fits_items q u ≡ true) b.made (each a.from b.from b.is)
 
-parts_fit : (f : Items → Option TreesData) (q : TreesData → Bool) → ((ds : Items) (ts : TreesData) → f ds ≡ Some ts → q ts ≡ true) → (d : Data) (t : TreeData)
+parts_fit : (f : Items → Option TreesData) (q : TreesData → Bool) → ((ds : Items) (ts : TreesData) → f ds ≡ Some ts → q ts ≡ true)
+    → (d : Data) (t : TreeData)
     → array_read f parts d ≡ Some t → fits_parts q t ≡ true
 parts_fit f q each d t h =
     let a = then_of (as_array d) (λ ds. option_map parts (f ds)) t h in
@@ -118,7 +126,8 @@ mutual
   tree_fits kinds.byte d t h = int_fits (is_int 8 false) d t h
   tree_fits (kinds.int bits signed) d t h = int_fits (is_int bits signed) d t h
   tree_fits kinds.text d t h = text_fits (text_read d) t h
-  tree_fits (kinds.list k) d t h = items_fit (all_read (tree_read k)) (all_trees (fits k)) (all_fit (tree_read k) (fits k) (tree_fits k)) d t h
+  tree_fits (kinds.list k) d t h = items_fit (all_read (tree_read k)) (all_trees (fits k))
+      (all_fit (tree_read k) (fits k) (tree_fits k)) d t h
   tree_fits (kinds.fields ps) d t h = parts_fit (parts_read ps) (fit_parts ps) (members_fit ps) d t h
   tree_fits (kinds.tuple ks) d t h = parts_fit (kinds_read ks) (fit_kinds ks) (shapes_fit ks) d t h
   tree_fits (kinds.choice ks) d t h = choice_fits (one_read ks) (fits_one ks) (alternative_fits ks) d t h
@@ -137,11 +146,14 @@ mutual
   alternative_fits (kind k ks) (suc zero) d t h = tree_fits k d t h
   alternative_fits (kind k ks) (suc (suc n)) d t h = alternative_fits ks (suc n) d t h
 
-misfit_fits : (F : MembersData) (ds : Items) (o : Option TreesData) (ts : TreesData) → parts_read F ds ≡ o → or_misfit o ≡ Ok ts → fit_parts F ts ≡ true
+misfit_fits : (F : MembersData) (ds : Items) (o : Option TreesData) (ts : TreesData) → parts_read F ds ≡ o → or_misfit o ≡ Ok ts
+    → fit_parts F ts ≡ true
 misfit_fits F ds None ts is h = cc
-misfit_fits F ds (Some us) ts is h = let same : us ≡ ts = cc in subst (λ (vs : TreesData). fit_parts F vs ≡ true) same (members_fit F ds us is)
+misfit_fits F ds (Some us) ts is h = let same : us ≡ ts =
+                                             cc in subst (λ (vs : TreesData). fit_parts F vs ≡ true) same (members_fit F ds us is)
 
-counted_fits : (F : MembersData) (ds : Items) (ts : TreesData) (b : Bool) → (if b then or_misfit (parts_read F ds) else Err Count) ≡ Ok ts → fit_parts F ts ≡ true
+counted_fits : (F : MembersData) (ds : Items) (ts : TreesData) (b : Bool) → (if b then or_misfit (parts_read F ds) else Err Count)
+    ≡ Ok ts → fit_parts F ts ≡ true
 counted_fits F ds ts true h = misfit_fits F ds (parts_read F ds) ts refl h
 counted_fits F ds ts false h = cc
 
@@ -154,7 +166,8 @@ data_fits F (Some (string s)) ts h = cc
 data_fits F (Some (array ds)) ts h = counted_fits F ds ts (items_len ds == parts_len F) h
 data_fits F (Some (object ms)) ts h = cc
 
-line_fits : (F : MembersData) (b c : Bool) (o : Option Data) (ts : TreesData) → (if b then Err TooLong else (if c then json_entry F o else Err NotJson)) ≡ Ok ts → fit_parts F ts ≡ true
+line_fits : (F : MembersData) (b c : Bool) (o : Option Data) (ts : TreesData)
+    → (if b then Err TooLong else (if c then json_entry F o else Err NotJson)) ≡ Ok ts → fit_parts F ts ≡ true
 line_fits F true c o ts h = cc
 line_fits F false true o ts h = data_fits F o ts h
 line_fits F false false o ts h = cc

@@ -1,5 +1,6 @@
 -- What fits the fields of a schema text fits the rows that describe them.
-use Rattle.std.proofs.Common.{◌≡◌, ℕ, zero, suc, ◌+◌, ◌<◌, ◌==◌, Bool, true, false, List, [], ◌∷◌, ◌++◌, length, map, Option, Some, None, refl, sym, ap, ◌∙◌, subst, arith}
+use Rattle.std.proofs.Common.{◌≡◌, ℕ, zero, suc, ◌+◌, ◌<◌, ◌==◌, Bool, true, false, List, [], ◌∷◌, ◌++◌, length, map, Option, Some, None}
+use Rattle.std.proofs.Common.{refl, sym, ap, ◌∙◌, subst, arith}
 use Rattle.std.specs.Prelude.{◌&&◌, slice_get, option_map, option_and_then, if◌then◌else◌}
 use borrow.Author.Tests.{eqb-true}
 use Rattle.std.proofs.lemmas.List.{length-append, map-append}
@@ -21,7 +22,8 @@ all_same : (p q : TreeData → Bool) → ((t : TreeData) → p t ≡ q t) → (t
 all_same p q same no_trees = refl
 all_same p q same (tree t ts) = ap (λ (b : Bool). b && all_trees p ts) (same t) ∙ ap (λ (b : Bool). q t && b) (all_same p q same ts)
 
-next_same : (p q : TreeData → Bool) (f g : TreesData → Bool) → ((t : TreeData) → p t ≡ q t) → ((ts : TreesData) → f ts ≡ g ts) → (ts : TreesData)
+next_same : (p q : TreeData → Bool) (f g : TreesData → Bool) → ((t : TreeData) → p t ≡ q t) → ((ts : TreesData) → f ts ≡ g ts)
+    → (ts : TreesData)
     → fits_next p f ts ≡ fits_next q g ts
 next_same p q f g one others no_trees = refl
 next_same p q f g one others (tree t ts) = ap (λ (b : Bool). b && f ts) (one t) ∙ ap (λ (b : Bool). q t && b) (others ts)
@@ -61,18 +63,21 @@ mutual
   as_read-fits kinds.byte t = refl
   as_read-fits (kinds.int bits signed) t = refl
   as_read-fits kinds.text t = refl
-  as_read-fits (kinds.list k) t = items_same (all_trees (fits (as_read k))) (all_trees (fits k)) (all_same (fits (as_read k)) (fits k) (as_read-fits k)) t
+  as_read-fits (kinds.list k) t = items_same (all_trees (fits (as_read k))) (all_trees (fits k))
+      (all_same (fits (as_read k)) (fits k) (as_read-fits k)) t
   as_read-fits (kinds.fields ps) t = parts_same (fit_parts (parts_as_read ps)) (fit_parts ps) (parts_as_read-fit ps) t
   as_read-fits (kinds.tuple ks) t = parts_same (fit_parts (places_as_read 0 ks)) (fit_kinds ks) (places_as_read-fit 0 ks) t
   as_read-fits (kinds.choice ks) t = pick_same (fits_one (kinds_as_read ks)) (fits_one ks) (kinds_as_read-fit ks) t
 
   parts_as_read-fit : (ps : MembersData) (ts : TreesData) → fit_parts (parts_as_read ps) ts ≡ fit_parts ps ts
   parts_as_read-fit no_parts ts = refl
-  parts_as_read-fit (part n k ps) ts = next_same (fits (as_read k)) (fits k) (fit_parts (parts_as_read ps)) (fit_parts ps) (as_read-fits k) (parts_as_read-fit ps) ts
+  parts_as_read-fit (part n k ps) ts = next_same (fits (as_read k)) (fits k) (fit_parts (parts_as_read ps)) (fit_parts ps)
+      (as_read-fits k) (parts_as_read-fit ps) ts
 
   places_as_read-fit : (i : ℕ) (ks : ShapesData) (ts : TreesData) → fit_parts (places_as_read i ks) ts ≡ fit_kinds ks ts
   places_as_read-fit i no_kinds ts = refl
-  places_as_read-fit i (kind k ks) ts = next_same (fits (as_read k)) (fits k) (fit_parts (places_as_read (i + 1) ks)) (fit_kinds ks) (as_read-fits k) (places_as_read-fit (i + 1) ks) ts
+  places_as_read-fit i (kind k ks) ts = next_same (fits (as_read k)) (fits k) (fit_parts (places_as_read (i + 1) ks)) (fit_kinds ks)
+      (as_read-fits k) (places_as_read-fit (i + 1) ks) ts
 
   kinds_as_read-fit : (ks : ShapesData) (n : ℕ) (t : TreeData) → fits_one (kinds_as_read ks) n t ≡ fits_one ks n t
   kinds_as_read-fit no_kinds n t = refl
@@ -119,7 +124,8 @@ inside-all id (q ∷ front) (m ∷ ms) e =
     let same : length (inside id q.of) ≡ length (inside id m.of) = ap (λ (n : NodeData). length (inside id n.of)) (sym d.0) in
     let place : id + 1 + length (front ++ inside id q.of) ≡ id + suc (length front) + length (inside id m.of) =
     omega (arith, length-append front (inside id q.of), same) in
-    inside-join (id + suc (length front)) (inside id m.of) (all_inside (id + 1) ms) (inside-shape id (id + suc (length front)) m.of (omega arith))
+    inside-join (id + suc (length front)) (inside id m.of) (all_inside (id + 1) ms)
+        (inside-shape id (id + suc (length front)) m.of (omega arith))
     (subst (λ (n : ℕ). AreInside n (all_inside (id + 1) ms)) place later)
 
 below-other : (a b : ℕ) → a < b → (a == b) ≡ false
@@ -135,7 +141,8 @@ module _ (fs : List FieldRow) (cs : List ColumnRow) where
   none_at_top id [] h = refl
   none_at_top id (n ∷ ns) h =
       let closed : top_shape fs cs id (field_row n) ≡ None =
-      ap (λ (b : Bool). if b then option_map (λ (p : MemberData). p.of) (open_field most_levels fs cs true id) else None) (below-other n.parent id h.0) in
+      ap (λ (b : Bool). if b then option_map (λ (p : MemberData). p.of) (open_field most_levels fs cs true id) else None)
+          (below-other n.parent id h.0) in
       ap (λ (o : Option ShapeData). some_shapes (o ∷ open_shapes fs cs (id + 1) (map field_row ns))) closed ∙ none_at_top (id + 1) ns h.1
 
   -- the row of a field at the top level
@@ -151,7 +158,8 @@ module _ (fs : List FieldRow) (cs : List ColumnRow) where
       ap (λ (n : ℕ). fit_kinds (some_shapes (open_shapes fs cs n rest)) ts) (sym here) ∙ ap (λ (k : ShapesData). fit_kinds k ts) none
   tops_fit id (p ∷ ps) rest ts each none =
       let here : id + 0 ≡ id = omega arith in
-      let first : top_shape fs cs id (row_at id p) ≡ Some (as_read p.of) = subst (λ (n : ℕ). top_shape fs cs n (row_at n p) ≡ Some (as_read p.of)) here (each 0 p refl) in
+      let first : top_shape fs cs id (row_at id p) ≡ Some (as_read p.of) =
+              subst (λ (n : ℕ). top_shape fs cs n (row_at n p) ≡ Some (as_read p.of)) here (each 0 p refl) in
       let others = open_shapes fs cs (id + 1) (map field_row (at_top (id + 1) ps) ++ rest) in
       let behind : id + suc (length ps) ≡ id + 1 + length ps = omega arith in
       ap (λ (o : Option ShapeData). fit_kinds (some_shapes (o ∷ others)) ts) first
@@ -178,17 +186,21 @@ length-at_top id (p ∷ ps) = ap suc (length-at_top (id + 1) ps)
 
 -- one tree for each field fits the rows that describe the fields
 pub table_fits : (fields : List MemberData) (plain : Bool) (t : Table) (ts : TreesData) → Rows fields plain t
-    → ((id : ℕ) (p : MemberData) → slice_get fields id ≡ Some p → open_shape t id ≡ Some (as_read p.of)) → fits_entry t ts ≡ fit_parts (parts_of fields) ts
+    → ((id : ℕ) (p : MemberData) → slice_get fields id ≡ Some p → open_shape t id ≡ Some (as_read p.of)) → fits_entry t ts
+        ≡ fit_parts (parts_of fields) ts
 table_fits fields plain t ts rows opens =
     let inner : List FieldRow = map field_row (all_inside 0 rows.nodes) in
     let rows_are : t.fields ≡ map field_row (at_top 0 fields) ++ inner =
-    rows.field_rows ∙ (ap (λ (l : List NodeData). map field_row l) rows.order ∙ map-append field_row (at_top 0 fields) (all_inside 0 rows.nodes)) in
+    rows.field_rows ∙ (ap (λ (l : List NodeData). map field_row l) rows.order ∙ map-append field_row (at_top 0 fields)
+        (all_inside 0 rows.nodes)) in
     let below : AreInside (0 + length fields) (all_inside 0 rows.nodes) =
-    subst (λ (n : ℕ). AreInside (0 + n) (all_inside 0 rows.nodes)) (length-at_top 0 fields) (inside-all 0 (at_top 0 fields) rows.nodes rows.order) in
+    subst (λ (n : ℕ). AreInside (0 + n) (all_inside 0 rows.nodes)) (length-at_top 0 fields)
+        (inside-all 0 (at_top 0 fields) rows.nodes rows.order) in
     ap (λ (l : List FieldRow). fit_kinds (some_shapes (open_shapes t.fields t.columns 0 l)) ts) rows_are
     ∙ tops_fit t.fields t.columns 0 fields inner ts
     (λ j p is.
-    let row : slice_get t.fields j ≡ Some (row_at t.fields t.columns (0 + j) p) = ap (λ (l : List FieldRow). slice_get l j) rows_are ∙ top_row t.fields t.columns 0 fields inner j p is in
+    let row : slice_get t.fields j ≡ Some (row_at t.fields t.columns (0 + j) p) =
+            ap (λ (l : List FieldRow). slice_get l j) rows_are ∙ top_row t.fields t.columns 0 fields inner j p is in
     let zero_place : j ≡ 0 + j = omega arith in
     subst (λ (n : ℕ). top_shape t.fields t.columns n (row_at t.fields t.columns (0 + j) p) ≡ Some (as_read p.of)) zero_place
     (sym (ap (λ (o : Option FieldRow). option_and_then (top_shape t.fields t.columns j) o) row) ∙ opens j p is))

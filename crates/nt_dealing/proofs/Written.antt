@@ -57,14 +57,17 @@ module _ (begun : Option Held) (t : Table) (page : ℕ) (history : List (Entry C
           subst (λ (l : List (Entry ClusterMeta)). IsIdle l) (sym (others differ)) tt
 
   -- each context wrote its chunks in the history
-  pub each_wrote : (chunks : List (List (List TreesData))) (number : ℕ) (own : List (Entry ClusterMeta)) (kept : List (ℕ × List (Entry ClusterMeta)))
+  pub each_wrote : (chunks : List (List (List TreesData))) (number : ℕ) (own : List (Entry ClusterMeta))
+      (kept : List (ℕ × List (Entry ClusterMeta)))
       → HaveWritten begun t page chunks number own kept → AreKept kept → (i : ℕ) → i < length chunks
       → WroteChunks begun t page i (slice_index_or chunks i []) (mine_of history i)
   each_wrote chunks number own kept have are i less =
-      subst (λ (n : ℕ). WroteChunks begun t page n (slice_index_or chunks i []) (mine_of history n)) (omega arith) (wrote_at 0 chunks kept have.each are i less)
+      subst (λ (n : ℕ). WroteChunks begun t page n (slice_index_or chunks i []) (mine_of history n)) (omega arith)
+          (wrote_at 0 chunks kept have.each are i less)
 
   -- and no other pass wrote
-  pub others_idle : (chunks : List (List (List TreesData))) (number : ℕ) (own : List (Entry ClusterMeta)) (kept : List (ℕ × List (Entry ClusterMeta)))
+  pub others_idle : (chunks : List (List (List TreesData))) (number : ℕ) (own : List (Entry ClusterMeta))
+      (kept : List (ℕ × List (Entry ClusterMeta)))
       → HaveWritten begun t page chunks number own kept → own ≡ mine_of history number
       → ((n : ℕ) → n ≢ number → HasNone kept n → mine_of history n ≡ []) → (i : ℕ) → length chunks ≤ i → IsIdle (mine_of history i)
   others_idle chunks number own kept have is others i behind =

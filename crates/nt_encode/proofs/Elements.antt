@@ -1,8 +1,10 @@
 -- Elements of a type.
-use Rattle.std.proofs.Common.{◌≡◌, ◌≢◌, ℕ, suc, ◌-◌, ◌^◌, ◌<◌, ◌≤◌, List, [], ◌∷◌, ◌++◌, length, map, get_or, replicate, refl, sym, ap, ◌∙◌, inl, inr, arith}
+use Rattle.std.proofs.Common.{◌≡◌, ◌≢◌, ℕ, suc, ◌-◌, ◌^◌, ◌<◌, ◌≤◌, List, [], ◌∷◌, ◌++◌, length, map, get_or, replicate, refl, sym, ap, ◌∙◌}
+use Rattle.std.proofs.Common.{inl, inr, arith}
 use Rattle.std.specs.List.{zip}
 use Rattle.std.proofs.lemmas.Bool.{cases_lt}
-use Rattle.std.proofs.lemmas.List.{length-map, length-append, length-replicate, get_or-map, get_or-replicate, get_or_append_left, get_or-append_right, get_or_default}
+use Rattle.std.proofs.lemmas.List.{length-map, length-append, length-replicate, get_or-map, get_or-replicate, get_or_append_left}
+use Rattle.std.proofs.lemmas.List.{get_or-append_right, get_or_default}
 use Rattle.std.proofs.lemmas.Nat.{pow_pos}
 use Rattle.std.proofs.lemmas.Slice.Zip.{length-zip, get_or-zip}
 use Rattle.nt_types.specs.declared.column_type.ColumnType.{ColumnType}
@@ -65,7 +67,8 @@ zeros-are_elements kind n k d h =
     rw (get_or-replicate n k (plain 0) d within) (zero-is_element kind)
 
 -- one list behind another
-pub both-are_elements : (kind : ColumnType) (es fs : List Element) → AreElementsOf kind es → AreElementsOf kind fs → AreElementsOf kind (es ++ fs)
+pub both-are_elements : (kind : ColumnType) (es fs : List Element) → AreElementsOf kind es → AreElementsOf kind fs
+    → AreElementsOf kind (es ++ fs)
 both-are_elements kind es fs left right k d h =
     elim (cases_lt k (length es)) [
       | inl low ↦ rw (get_or_append_left es fs d k low) (left k d low)
@@ -156,6 +159,7 @@ values-are_elements kind n bytes other fits =
 
 pub page_elements-are : (kind : ColumnType) (n : ℕ) (bytes : List ℕ) → AreBytes bytes → AreElementsOf kind (page_elements kind n bytes)
 page_elements-are Switch n bytes fits =
-    pairs-are_elements (switch_indices n bytes) (switch_tags n bytes) (length-list_of n (switch_tag bytes) ∙ sym (length-list_of n (switch_index bytes)))
+    pairs-are_elements (switch_indices n bytes) (switch_tags n bytes) (length-list_of n (switch_tag bytes)
+        ∙ sym (length-list_of n (switch_index bytes)))
     (λ i h. indices-fit n bytes fits i 0 h) (λ i h. tags-fit n bytes fits i 0 h)
 page_elements-are kind n bytes fits = values-are_elements kind n bytes (λ same. cc same) fits

@@ -1,5 +1,6 @@
 -- The values of a page fit its type.
-use Rattle.std.proofs.Common.{◌≡◌, ◌≢◌, ℕ, zero, suc, ◌+◌, ◌*◌, ◌%◌, ◌^◌, ◌<◌, List, length, get_or, take, refl, sym, ap, ◌∙◌, inl, inr, arith, add-one}
+use Rattle.std.proofs.Common.{◌≡◌, ◌≢◌, ℕ, zero, suc, ◌+◌, ◌*◌, ◌%◌, ◌^◌, ◌<◌, List, length, get_or, take, refl, sym, ap, ◌∙◌, inl, inr}
+use Rattle.std.proofs.Common.{arith, add-one}
 use Rattle.std.specs.List.{sum}
 use Rattle.std.proofs.lemmas.Bool.{cases_lt}
 use Rattle.std.specs.Prelude.{All}
@@ -8,7 +9,10 @@ use Rattle.std.proofs.lemmas.List.{length-map, get_or-map, get_or_default, get_o
 use Rattle.std.proofs.lemmas.Nat.{pow_pos}
 use Rattle.std.proofs.Math.Nat.{mod-lt, zero-mod}
 use Rattle.nt_types.specs.declared.column_type.ColumnType.{ColumnType}
-use Rattle.nt_types.specs.declared.column_type.ColumnType.TheVariants.{Bit, Byte, Char, Int8, UInt8, Int16, UInt16, Int32, UInt32, Int64, UInt64, Index32, Index64, Switch, SplitInt16, SplitUInt16, SplitInt32, SplitUInt32, SplitInt64, SplitUInt64, SplitIndex32, SplitIndex64}
+use Rattle.nt_types.specs.declared.column_type.ColumnType.TheVariants.{Bit, Byte, Char, Int8, UInt8, Int16, UInt16, Int32, UInt32, Int64}
+use Rattle.nt_types.specs.declared.column_type.ColumnType.TheVariants.{UInt64, Index32, Index64, Switch, SplitInt16, SplitUInt16}
+use Rattle.nt_types.specs.declared.column_type.ColumnType.TheVariants.{SplitInt32, SplitUInt32, SplitInt64, SplitUInt64, SplitIndex32}
+use Rattle.nt_types.specs.declared.column_type.ColumnType.TheVariants.{SplitIndex64}
 use Rattle.nt_types.specs.ColumnTable.{bits_of}
 use Rattle.nt_encode.specs.Digits.{list_of, number_of}
 use Rattle.nt_encode.specs.Bits.{bit_value, bit_values}
@@ -113,8 +117,10 @@ length-page_values SplitInt32 n bytes = length-map (split_values 4 n bytes) (zig
 length-page_values SplitUInt32 n bytes = length-list_of n (split_value 4 n bytes)
 length-page_values SplitInt64 n bytes = length-map (split_values 8 n bytes) (zigzag_value 64) ∙ length-list_of n (split_value 8 n bytes)
 length-page_values SplitUInt64 n bytes = length-list_of n (split_value 8 n bytes)
-length-page_values SplitIndex32 n bytes = length-list_of (length (split_values 4 n bytes)) (delta_value 32 (split_values 4 n bytes)) ∙ length-list_of n (split_value 4 n bytes)
-length-page_values SplitIndex64 n bytes = length-list_of (length (split_values 8 n bytes)) (delta_value 64 (split_values 8 n bytes)) ∙ length-list_of n (split_value 8 n bytes)
+length-page_values SplitIndex32 n bytes = length-list_of (length (split_values 4 n bytes)) (delta_value 32 (split_values 4 n bytes))
+    ∙ length-list_of n (split_value 4 n bytes)
+length-page_values SplitIndex64 n bytes = length-list_of (length (split_values 8 n bytes)) (delta_value 64 (split_values 8 n bytes))
+    ∙ length-list_of n (split_value 8 n bytes)
 
 -- value i of a page fits
 pub value-fits : (kind : ColumnType) (n : ℕ) (bytes : List ℕ) (i : ℕ) → kind ≢ Switch → AreBytes bytes → i < n

@@ -1,5 +1,6 @@
 -- Digits from a place on.
-use Rattle.std.proofs.Common.{◌≡◌, nat_le, true, ℕ, ◌+◌, ◌-◌, ◌*◌, ◌^◌, ◌<◌, ◌≤◌, List, [], ◌∷◌, ◌++◌, length, take, drop, get_or, decimal, refl, sym, ap, ◌∙◌, arith, subst, length-drop, length-take-le, get_or-drop}
+use Rattle.std.proofs.Common.{◌≡◌, nat_le, true, ℕ, ◌+◌, ◌-◌, ◌*◌, ◌^◌, ◌<◌, ◌≤◌, List, [], ◌∷◌, ◌++◌, length, take, drop, get_or, decimal}
+use Rattle.std.proofs.Common.{refl, sym, ap, ◌∙◌, arith, subst, length-drop, length-take-le, get_or-drop}
 use Rattle.std.proofs.lemmas.List.{take_more, get_or-take}
 use Rattle.std.proofs.lemmas.Bool.{and_parts, leb-true}
 use Rattle.std.proofs.lemmas.Str.{digit_value_digit}

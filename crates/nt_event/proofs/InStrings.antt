@@ -1,12 +1,14 @@
 -- Inside a JSON string.
-use Rattle.std.proofs.Common.{◌≡◌, ℕ, ◌+◌, ◌*◌, ◌<◌, ◌≤◌, ◌==◌, ◌&&◌, Bool, true, false, cond, List, [], ◌∷◌, ◌++◌, length, drop, get_or, Option, Some, None, IfSome, option_and_then, refl, sym, ap, ◌∙◌, arith, subst, append_assoc}
+use Rattle.std.proofs.Common.{◌≡◌, ℕ, ◌+◌, ◌*◌, ◌<◌, ◌≤◌, ◌==◌, ◌&&◌, Bool, true, false, cond, List, [], ◌∷◌, ◌++◌, length, drop, get_or}
+use Rattle.std.proofs.Common.{Option, Some, None, IfSome, option_and_then, refl, sym, ap, ◌∙◌, arith, subst, append_assoc}
 use Rattle.std.proofs.lemmas.Bool.{ne_eqb, le-ltb, false≢true, and_parts}
 use Rattle.std.proofs.lemmas.List.{drop_more, append-nil}
 use Rattle.std.proofs.lemmas.List.Folds.{drop_split}
 use Rattle.std.specs.List.{slice_range}
 use Rattle.std.specs.Char.{digit_value, is_digit, encode_utf8}
 use Rattle.json.specs.Word.{is_operator, is_space}
-use Rattle.json.specs.Text.{code_unit, short_escape, is_high_surrogate, is_low_surrogate, surrogate_pair, content, plain, after_backslash, after_u, after_high, prepend}
+use Rattle.json.specs.Text.{code_unit, short_escape, is_high_surrogate, is_low_surrogate, surrogate_pair, content, plain, after_backslash}
+use Rattle.json.specs.Text.{after_u, after_high, prepend}
 use Rattle.json.specs.Lex.{Lexeme, Mode, lex, lex_byte, between, in_string, in_escape, operator, space, other}
 use Rattle.nt_event.specs.Plain.{Plain, AllPlain, StandsFor, EscapeStands, EndsString}
 use Rattle.nt_event.specs.Standing.{StandsFrom}

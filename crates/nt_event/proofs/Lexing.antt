@@ -1,11 +1,13 @@
 -- Marks, words and strings, as the lexer finds them.
-use Rattle.std.proofs.Common.{◌≡◌, ℕ, ◌≤◌, ◌<◌, List, [], ◌∷◌, length, drop, get_or, Bool, true, false, cond, Some, refl, sym, ap, ap₂, ◌∙◌, arith, subst, inl, inr, ◌⊎◌, ◌+◌}
+use Rattle.std.proofs.Common.{◌≡◌, ℕ, ◌≤◌, ◌<◌, List, [], ◌∷◌, length, drop, get_or, Bool, true, false, cond, Some, refl, sym, ap, ap₂, ◌∙◌}
+use Rattle.std.proofs.Common.{arith, subst, inl, inr, ◌⊎◌, ◌+◌}
 use Rattle.std.proofs.lemmas.Bool.{false≢true}
 use Rattle.std.proofs.lemmas.List.{drop_more}
 use Rattle.json.specs.Token.{begin_array, end_array, string, number, boolean, null, bad}
 use Rattle.json.specs.Word.{ends_word, word}
 use Rattle.json.specs.Text.{content, plain}
-use Rattle.json.specs.Lex.{lex, between, in_string, token, string_token, Lexeme, Place, fresh, after_value, after_comma, after_key, may_begin, begins_colon, punctuate}
+use Rattle.json.specs.Lex.{lex, between, in_string, token, string_token, Lexeme, Place, fresh, after_value, after_comma, after_key}
+use Rattle.json.specs.Lex.{may_begin, begins_colon, punctuate}
 use Rattle.json.specs.Json as json
 use Rattle.json.specs.Print.{IsNumber}
 use Rattle.json.proofs.Printed.Numbers.{lex-number, in_word-ended}

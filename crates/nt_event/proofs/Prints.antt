@@ -1,5 +1,6 @@
 -- What is appended, a piece at a time.
-use Rattle.std.proofs.Common.{arith, take, take-take, length-append, length, ◌≡◌, ℕ, ◌≤◌, List, [], ◌∷◌, ◌++◌, Bool, true, false, if◌then◌else◌, refl, sym, ap, ◌∙◌, subst, append_assoc, append-nil, drop, get_or, ◌<◌, ◌+◌}
+use Rattle.std.proofs.Common.{arith, take, take-take, length-append, length, ◌≡◌, ℕ, ◌≤◌, List, [], ◌∷◌, ◌++◌, Bool, true, false}
+use Rattle.std.proofs.Common.{if◌then◌else◌, refl, sym, ap, ◌∙◌, subst, append_assoc, append-nil, drop, get_or, ◌<◌, ◌+◌}
 use Rattle.std.proofs.lemmas.List.{take-append-le, length-take, drop_more, drop_all}
 use Rattle.std.specs.Str.{IsUtf8, is_utf8}
 use Rattle.std.proofs.lemmas.Str.{is_utf8-from_IsUtf8, IsUtf8-from_is_utf8}

@@ -1,5 +1,6 @@
 -- What is printed for an entry is read as its data.
-use Rattle.std.proofs.Common.{◌≡◌, ℕ, ◌≤◌, ℤ, pos, negsuc, List, [], Bool, true, false, Some, option_map, option_and_then, if◌then◌else◌, refl, sym, ap, ◌∙◌, arith, append-nil}
+use Rattle.std.proofs.Common.{◌≡◌, ℕ, ◌≤◌, ℤ, pos, negsuc, List, [], Bool, true, false, Some, option_map, option_and_then, if◌then◌else◌}
+use Rattle.std.proofs.Common.{refl, sym, ap, ◌∙◌, arith, append-nil}
 use Rattle.std.specs.Str.{is_utf8}
 use Rattle.json.specs.Lex.{tokens}
 use Rattle.json.specs.Json as json
@@ -15,7 +16,8 @@ use Rattle.serde_json.specs.Written.{number_text, outline, items_outline, compac
 use Rattle.serde_json.proofs.Numbers.{number_of-decimal, number_of-negative}
 use Rattle.serde_json.proofs.Texts.{print-outline}
 use Rattle.nt_types.specs.TreeData.{TreeData, TreesData, flag, num, text, items, parts, pick, nothing, no_trees, tree}
-use Rattle.nt_event.specs.Json.{num_data, hex_data, data_of, datas_of, line_of, data_with, datas_with, text_data, InWord, InRange, AllInRange}
+use Rattle.nt_event.specs.Json.{num_data, hex_data, data_of, datas_of, line_of, data_with, datas_with, text_data, InWord, InRange}
+use Rattle.nt_event.specs.Json.{AllInRange}
 
 number_read : (z : ℤ) → InWord z → option_map number (number_of (number_text (num_data z))) ≡ Some (number (num_data z))
 number_read (pos n) h = ap (option_map number) (number_of-decimal n h)

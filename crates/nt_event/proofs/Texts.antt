@@ -1,5 +1,6 @@
 -- Values that stand one after the other.
-use Rattle.std.proofs.Common.{arith, ◌≡◌, ℕ, zero, suc, ◌+◌, ◌^◌, ◌≤◌, ◌<◌, List, [], ◌∷◌, ◌++◌, length, drop, get_or, Bool, true, false, refl, sym, ap, ◌∙◌, append_assoc, append-nil, decimal, ℤ}
+use Rattle.std.proofs.Common.{arith, ◌≡◌, ℕ, zero, suc, ◌+◌, ◌^◌, ◌≤◌, ◌<◌, List, [], ◌∷◌, ◌++◌, length, drop, get_or, Bool, true, false}
+use Rattle.std.proofs.Common.{refl, sym, ap, ◌∙◌, append_assoc, append-nil, decimal, ℤ}
 use Rattle.std.proofs.Math.Nat.{max-le}
 use Rattle.std.proofs.lemmas.List.{drop_all}
 use Rattle.json.specs.Token.{Token, begin_array, end_array}
@@ -17,7 +18,8 @@ use Rattle.serde_json.specs.Written.{compact_text, number_text}
 use Rattle.nt_event.specs.Json.{data_of, num_data, InWord, AllInRange}
 use Rattle.nt_types.specs.TreeData.{trees_of}
 use Rattle.nt_types.specs.ShapeData.{kinds_of}
-use Rattle.nt_event.specs.Standing.{StandsFrom, tokens_from, EndsValue, ValueStands, ItemsStand, CommaStands, MayStand, BlanksStand, json_of, jsons_of, Good, ReadsValue, AllGood, EachGood, kinds_in}
+use Rattle.nt_event.specs.Standing.{StandsFrom, tokens_from, EndsValue, ValueStands, ItemsStand, CommaStands, MayStand, BlanksStand}
+use Rattle.nt_event.specs.Standing.{json_of, jsons_of, Good, ReadsValue, AllGood, EachGood, kinds_in}
 use Rattle.nt_event.proofs.Lexing.{opens, closes-fresh, closes-value, ends-at, number-stands, true-stands, false-stands, null-stands}
 use Rattle.nt_event.proofs.ReadBack.{number_is}
 

@@ -1,5 +1,6 @@
 -- The data of a tree is that tree, for a shape that it fits.
-use Rattle.std.proofs.Common.{◌≡◌, ℕ, ◌^◌, ◌<◌, zero, suc, ℤ, pos, negsuc, List, Bool, true, false, Option, Some, None, option_map, option_and_then, if◌then◌else◌, refl, ap, ◌∙◌}
+use Rattle.std.proofs.Common.{◌≡◌, ℕ, ◌^◌, ◌<◌, zero, suc, ℤ, pos, negsuc, List, Bool, true, false, Option, Some, None, option_map}
+use Rattle.std.proofs.Common.{option_and_then, if◌then◌else◌, refl, ap, ◌∙◌}
 use Rattle.std.proofs.lemmas.Bool.{and_parts, false≢true, lt-ltb}
 use Rattle.std.specs.Str.{is_utf8}
 use Rattle.hex.specs.Hex.{IsBytes}

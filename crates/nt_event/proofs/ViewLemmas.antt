@@ -1,5 +1,6 @@
 -- What is seen of trees and shapes.
-use Rattle.std.proofs.Common.{rules, Vec, Box, Global, ◌≡◌, ℕ, List, map, not, length, nat_eq, get_or, take, ◌<◌, ◌+◌, ◌++◌, zero, suc, refl, sym, ap, ◌∙◌, arith, [], ◌∷◌}
+use Rattle.std.proofs.Common.{rules, Vec, Box, Global, ◌≡◌, ℕ, List, map, not, length, nat_eq, get_or, take, ◌<◌, ◌+◌, ◌++◌, zero, suc}
+use Rattle.std.proofs.Common.{refl, sym, ap, ◌∙◌, arith, [], ◌∷◌}
 use Rattle.std.proofs.lemmas.Bool.{ne_eqb}
 use Rattle.nt_types.specs.TreeData.{trees_of, items, parts}
 use Rattle.nt_types.specs.TreeViews.{tree_view}

@@ -27,11 +27,13 @@ opened_ok : (place kind : ℕ) (bytes : List ℕ) (r : Result (List ℕ) Envelop
 opened_ok place kind bytes (Ok payload) is e = (payload, refl, ok_is {E = ReadError} (sealed kind payload) is e)
 opened_ok place kind bytes (Err f) is e = absurd cc
 
-opening : (place kind : ℕ) (bytes : List ℕ) → kind < 2 ^ 16 → IsBytes bytes → Agrees (opened_envelope place kind bytes (payload_of kind bytes)) (IsSealed kind bytes)
+opening : (place kind : ℕ) (bytes : List ℕ) → kind < 2 ^ 16 → IsBytes bytes
+    → Agrees (opened_envelope place kind bytes (payload_of kind bytes)) (IsSealed kind bytes)
 opening place kind bytes low fits = record {
   reads = λ is h.
       let small : length is.payload + 16 < 2 ^ 48 = h.small in
-      ap (λ (r : Result (List ℕ) EnvelopeFault). opened_envelope place kind bytes r) (ap (λ (l : List ℕ). payload_of kind l) h.all ∙ payload_again kind is.payload low h.small)
+      ap (λ (r : Result (List ℕ) EnvelopeFault). opened_envelope place kind bytes r) (ap (λ (l : List ℕ). payload_of kind l) h.all
+          ∙ payload_again kind is.payload low h.small)
       ∙ ap (λ (s : Sealed). Ok s) (sealed_is kind is h.sum);
   finds = λ is e.
       let o = opened_ok place kind bytes (payload_of kind bytes) is e in
@@ -40,14 +42,18 @@ opening place kind bytes low fits = record {
 }
 
 Steps : List ℕ → ℕ → Block → Sealed → Type 0
-Steps file kind block = With (Passes (eqb block.size block.len)) λ u. With (IsThere (piece file block.place block.size)) λ bytes. IsSealed kind bytes
+Steps file kind block = With (Passes (eqb block.size block.len)) λ u. With (IsThere (piece file block.place block.size)) λ bytes.
+    IsSealed kind bytes
 
-steps : (file : List ℕ) (kind : ℕ) (block : Block) → kind < 2 ^ 16 → IsBytes file → Agrees (envelope_of file kind block) (Steps file kind block)
+steps : (file : List ℕ) (kind : ℕ) (block : Block) → kind < 2 ^ 16 → IsBytes file
+    → Agrees (envelope_of file kind block) (Steps file kind block)
 unfolding envelope_of Steps
 steps file kind block low fits =
-    bind _ (test _ _) λ u p. bind _ (there _ _) λ bytes t. opening block.place kind bytes low (piece_bytes file bytes block.place block.size fits t)
+    bind _ (test _ _) λ u p. bind _ (there _ _) λ bytes t. opening block.place kind bytes low
+        (piece_bytes file bytes block.place block.size fits t)
 
-pub envelope_is : (file : List ℕ) (kind : ℕ) (block : Block) → kind < 2 ^ 16 → IsBytes file → Agrees (envelope_of file kind block) (IsEnvelope file kind block)
+pub envelope_is : (file : List ℕ) (kind : ℕ) (block : Block) → kind < 2 ^ 16 → IsBytes file
+    → Agrees (envelope_of file kind block) (IsEnvelope file kind block)
 unfolding Steps
 envelope_is file kind block low fits = in_words
     (λ is w. record {

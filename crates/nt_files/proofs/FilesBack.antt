@@ -15,7 +15,8 @@ use Rattle.nt_files.specs.Holds.{HoldsCluster, HoldsClusters, no_cluster, and_cl
 use Rattle.nt_files.proofs.OutlinesBack.{outlined}
 use Rattle.nt_files.proofs.ClustersBack.{cluster}
 
-clusters : (file : List ℕ) (t : Table) (number : ℕ) (ks : List ClusterList) → Agrees (entries_from file t number ks) (HoldsClusters file t ks)
+clusters : (file : List ℕ) (t : Table) (number : ℕ) (ks : List ClusterList)
+    → Agrees (entries_from file t number ks) (HoldsClusters file t ks)
 clusters file t number [] = in_words
     (λ es is. subst (λ (l : List (List TreesData)). HoldsClusters file t [] l) (sym is) no_cluster)
     (λ es h. none es h)
@@ -24,12 +25,15 @@ clusters file t number [] = in_words
     none : (es : List (List TreesData)) → HoldsClusters file t [] es → es ≡ []
     none es no_cluster = refl
 clusters file t number (k ∷ ks) = in_words
-    (λ es w. subst (λ (l : List (List TreesData)). HoldsClusters file t (k ∷ ks) l) (sym w.second.second) (and_cluster w.first w.second.first))
+    (λ es w. subst (λ (l : List (List TreesData)). HoldsClusters file t (k ∷ ks) l) (sym w.second.second)
+        (and_cluster w.first w.second.first))
     (λ es h. some es h)
     (bind _ (cluster file t number k) λ first f. bind _ (clusters file t (number + 1) ks) λ others o. exactly (first ∷ others))
   where
-    some : (es : List (List TreesData)) → HoldsClusters file t (k ∷ ks) es → With (HoldsCluster file t k) (λ first. With (HoldsClusters file t ks) (λ others. Is (first ∷ others))) es
-    some es (and_cluster {entries = one} {others = others} first more) = record { middle = one; first = first; second = record { middle = others; first = more; second = refl } }
+    some : (es : List (List TreesData)) → HoldsClusters file t (k ∷ ks) es
+        → With (HoldsCluster file t k) (λ first. With (HoldsClusters file t ks) (λ others. Is (first ∷ others))) es
+    some es (and_cluster {entries = one} {others = others} first more) =
+        record { middle = one; first = first; second = record { middle = others; first = more; second = refl } }
 
 Steps : List ℕ → Table × List (List TreesData) → Type 0
 Steps file = With (HasOutline file) λ o. With (HoldsClusters file o.table o.clusters) λ ks. Is (o.table, ks)
@@ -63,7 +67,8 @@ one_meaning file t u ks ls m n =
 pub one_defect : (file : List ℕ) (e f : ReadError) → HasDefect file e → HasDefect file f → e ≡ f
 one_defect file e f d g = err_is {A = Table × List (List TreesData)} e f (sym d ∙ g)
 
-pub means_or_defect : (file : List ℕ) → ((t : Table) × (ks : List (List TreesData)) × Means file t ks) ⊎ ((e : ReadError) × HasDefect file e)
+pub means_or_defect : (file : List ℕ) → ((t : Table) × (ks : List (List TreesData)) × Means file t ks)
+    ⊎ ((e : ReadError) × HasDefect file e)
 means_or_defect file = by (read_file file) refl
   where
     by : (r : Result (Table × List (List TreesData)) ReadError) → read_file file ≡ r
@@ -72,4 +77,5 @@ means_or_defect file = by (read_file file) refl
     by (Err e) is = inr (e, is)
 
 pub never_both : (file : List ℕ) (t : Table) (ks : List (List TreesData)) (e : ReadError) → Means file t ks → HasDefect file e → ⊥
-never_both file t ks e m d = let same : ◌≡◌ {A = Result (Table × List (List TreesData)) ReadError} (Ok (t, ks)) (Err e) = sym m ∙ d in absurd cc
+never_both file t ks e m d = let same : ◌≡◌ {A = Result (Table × List (List TreesData)) ReadError} (Ok (t, ks)) (Err e) =
+                                     sym m ∙ d in absurd cc

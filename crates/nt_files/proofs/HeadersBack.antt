@@ -15,7 +15,8 @@ use Rattle.nt_pagelists.proofs.Parts.{back-below}
 use Rattle.nt_pagelists.proofs.FootersBack.{flags-read}
 use Rattle.nt_files.specs.Headers.{header_payload_at, ntuple_name, writer_name, header_text}
 
-chain : (place : ℕ) (read : Table) (a b c d e x y z rest : List ℕ) → ReadsAs feature_flags_at a 0 → ReadsAs text_at b x → ReadsAs text_at c y → ReadsAs text_at d z
+chain : (place : ℕ) (read : Table) (a b c d e x y z rest : List ℕ) → ReadsAs feature_flags_at a 0 → ReadsAs text_at b x
+    → ReadsAs text_at c y → ReadsAs text_at d z
     → ReadsAs (description_at Header no_rows) e read → header_payload_at (standing place (a ++ (b ++ (c ++ (d ++ (e ++ rest)))))) ≡ Ok read
 unfolding header_payload_at text_at
 chain place read a b c d e x y z rest p q r s t =
@@ -27,7 +28,8 @@ chain place read a b c d e x y z rest p q r s t =
       t (place + length a + length b + length c + length d) rest,
     ) refl
 
-pub header-reads : (t : Table) (place : ℕ) (rest : List ℕ) → IsDescribed t → length t.fields < 2 ^ 32 → length t.columns < 2 ^ 32 → length (header_text t) < 2 ^ 63
+pub header-reads : (t : Table) (place : ℕ) (rest : List ℕ) → IsDescribed t → length t.fields < 2 ^ 32 → length t.columns < 2 ^ 32
+    → length (header_text t) < 2 ^ 63
     → header_payload_at (standing place (header_text t ++ rest)) ≡ Ok (up_to Header t)
 unfolding header_text
 header-reads t place rest is fields columns short =
@@ -37,7 +39,9 @@ header-reads t place rest is fields columns short =
     let d = string writer_name in
     let e = description (part_fields Header t) (part_columns Header t) in
     let grouped : (a ++ (b ++ (c ++ (d ++ e)))) ++ rest ≡ a ++ (b ++ (c ++ (d ++ (e ++ rest)))) = simp append_assoc in
-    let e_short : length e < 2 ^ 63 = back-below d e (2 ^ 63) (back-below c (d ++ e) (2 ^ 63) (back-below b (c ++ (d ++ e)) (2 ^ 63) (back-below a (b ++ (c ++ (d ++ e))) (2 ^ 63) short))) in
+    let e_short : length e < 2 ^ 63 = back-below d e (2 ^ 63)
+            (back-below c (d ++ e) (2 ^ 63) (back-below b (c ++ (d ++ e)) (2 ^ 63) (back-below a (b ++ (c ++ (d ++ e))) (2 ^ 63) short))) in
     ap (λ (l : List ℕ). header_payload_at (standing place l)) grouped
-    ∙ chain place (up_to Header t) a b c d e ntuple_name [] writer_name rest flags-read (text-reads ntuple_name (omega arith)) (text-reads [] (omega arith))
+    ∙ chain place (up_to Header t) a b c d e ntuple_name [] writer_name rest flags-read (text-reads ntuple_name (omega arith))
+        (text-reads [] (omega arith))
     (text-reads writer_name (omega arith)) (λ at after. part-reads Header t at after is fields columns e_short)

@@ -1,7 +1,8 @@
 -- The entries of a cluster: its open columns, read from their pages, and the trees that these give; or the first fault in the order of the
 -- columns and their pages, and then of the values (RNTuple Binary Format Specification 1.0.0.0, sections Pages, Column Description and
 -- Mapping of C++ Types to Fields and Columns).
-use Rattle.std.specs.Prelude.{ℕ, ◌+◌, Bool, ◌&&◌, ◌||◌, ◌==◌, not, nat_le, nat_lt, nat_eq, List, [], ◌∷◌, ◌++◌, map, find, length, take, drop, replicate, slice_index_or, Option, Some, None, Result, Ok, Err, if◌then◌else◌, pos}
+use Rattle.std.specs.Prelude.{ℕ, ◌+◌, Bool, ◌&&◌, ◌||◌, ◌==◌, not, nat_le, nat_lt, nat_eq, List, [], ◌∷◌, ◌++◌, map, find, length, take}
+use Rattle.std.specs.Prelude.{drop, replicate, slice_index_or, Option, Some, None, Result, Ok, Err, if◌then◌else◌, pos}
 use Rattle.std.specs.Int.{w64, from_le_bytes}
 use Rattle.std.specs.List.{range_with_len}
 use Rattle.nt_num.specs.Codes.{compressed, out_of_file, bad_page, bad_value}
@@ -14,7 +15,10 @@ use Rattle.nt_format.specs.Pieces.{piece}
 use Rattle.nt_types.specs.TreeData.{TreesData}
 use Rattle.nt_types.specs.ColumnTable.{code_of}
 use Rattle.nt_types.specs.declared.column_type.ColumnType.{ColumnType}
-use Rattle.nt_types.specs.declared.column_type.ColumnType.TheVariants.{Bit, Byte, Char, Int8, UInt8, Int16, UInt16, Int32, UInt32, Int64, UInt64, Index32, Index64, Switch, SplitInt16, SplitUInt16, SplitInt32, SplitUInt32, SplitInt64, SplitUInt64, SplitIndex32, SplitIndex64}
+use Rattle.nt_types.specs.declared.column_type.ColumnType.TheVariants.{Bit, Byte, Char, Int8, UInt8, Int16, UInt16, Int32, UInt32, Int64}
+use Rattle.nt_types.specs.declared.column_type.ColumnType.TheVariants.{UInt64, Index32, Index64, Switch, SplitInt16, SplitUInt16}
+use Rattle.nt_types.specs.declared.column_type.ColumnType.TheVariants.{SplitInt32, SplitUInt32, SplitInt64, SplitUInt64, SplitIndex32}
+use Rattle.nt_types.specs.declared.column_type.ColumnType.TheVariants.{SplitIndex64}
 use Rattle.nt_encode.specs.Pages.{page_size}
 use Rattle.nt_encode.specs.Elements.{Element, page_elements}
 use Rattle.nt_grammar.specs.Table.{Table}
@@ -34,7 +38,8 @@ use Rattle.nt_files.specs.Outlines.{known_column}
 -- the types of columns whose values can be read
 abbrev pub column_kinds : List ColumnType
 column_kinds =
-    Bit ∷ Byte ∷ Char ∷ Int8 ∷ UInt8 ∷ Int16 ∷ UInt16 ∷ Int32 ∷ UInt32 ∷ Int64 ∷ UInt64 ∷ Index32 ∷ Index64 ∷ Switch ∷ SplitInt16 ∷ SplitUInt16 ∷ SplitInt32 ∷ SplitUInt32 ∷ SplitInt64 ∷ SplitUInt64 ∷ SplitIndex32 ∷ SplitIndex64 ∷ []
+    Bit ∷ Byte ∷ Char ∷ Int8 ∷ UInt8 ∷ Int16 ∷ UInt16 ∷ Int32 ∷ UInt32 ∷ Int64 ∷ UInt64 ∷ Index32 ∷ Index64 ∷ Switch ∷ SplitInt16
+        ∷ SplitUInt16 ∷ SplitInt32 ∷ SplitUInt32 ∷ SplitInt64 ∷ SplitUInt64 ∷ SplitIndex32 ∷ SplitIndex64 ∷ []
 
 -- the type with this code; every open column has one
 abbrev pub kind_of_code : ℕ → Option ColumnType
@@ -59,7 +64,8 @@ sum_fault p stored = with_values (kept_sum p.size stored) (xxh3 (take p.size sto
 -- the elements of a page of a column, in a cluster
 unfoldable pub page_of_column : List ℕ → ℕ → ℕ → ColumnType → PageItem → Result (List Element) ReadError
 page_of_column file number id kind p = do
-  plain ← demand (nat_eq p.size (page_size kind p.count)) (in_column number id (with_values (page_size kind p.count) p.size (fault compressed p.place)))
+  plain ← demand (nat_eq p.size (page_size kind p.count))
+      (in_column number id (with_values (page_size kind p.count) p.size (fault compressed p.place)))
   stored ← found_or (in_column number id (fault out_of_file p.place)) (piece file p.place (stored_len p))
   checked ← demand (is_checked p stored) (in_column number id (sum_fault p stored))
   Ok (page_elements kind p.count (take p.size stored))
@@ -94,14 +100,16 @@ zero_elements n = replicate n (0, 0)
 -- the elements of a column in a cluster: of a closed one none, of one that begins behind its entries zeros, else those of its pages
 abbrev pub column_elements : List ℕ → ℕ → ClusterList → ℕ → KnownColumn → ℕ → Result (List Element) ReadError
 column_elements file number k id c code =
-    if c.is_open then (if begins_behind k c then Ok (zero_elements k.entries) else pages_of_kind file number id (kind_of_code code) (pages_listed k id))
+    if c.is_open then (if begins_behind k c then Ok (zero_elements k.entries) else pages_of_kind file number id (kind_of_code code)
+        (pages_listed k id))
     else Ok []
 
 -- the elements of columns whose ids go on from this one
 abbrev pub columns_from : List ℕ → ℕ → ClusterList → Table → ℕ → List ColumnRow → Result (List (List Element)) ReadError
 columns_from file number k t id [] = Ok []
 columns_from file number k t id (c ∷ cs) =
-    column_elements file number k id (known_column (need_of t id) c) c.code >>= λ first. columns_from file number k t (id + 1) cs >>= λ others. Ok (first ∷ others)
+    column_elements file number k id (known_column (need_of t id) c) c.code >>= λ first. columns_from file number k t (id + 1) cs
+        >>= λ others. Ok (first ∷ others)
 
 -- columns by their ids
 abbrev pub columns_by_id : List (List Element) → Cols

@@ -27,7 +27,8 @@ abbrev pub DescribesClusters : List ℕ → ℕ → List KnownColumn → Group �
 DescribesClusters payload sum columns g before ks after = page_list_at sum g columns before (standing 0 payload) ≡ Ok (ks, after)
 
 -- the link of a group leads to its page list, which lists these clusters
-pub record ListsGroup (file : List ℕ) (sum : ℕ) (columns : List KnownColumn) (g : Group) (before : ProgressCounts) (ks : List ClusterList) (after : ProgressCounts) : Type 0 where
+pub record ListsGroup (file : List ℕ) (sum : ℕ) (columns : List KnownColumn) (g : Group) (before : ProgressCounts)
+    (ks : List ClusterList) (after : ProgressCounts) : Type 0 where
   pub list : Sealed
   pub inside : List ClusterList
   pub there : IsEnvelope file page_list_kind (list_block g.link) list
@@ -38,7 +39,8 @@ pub record ListsGroup (file : List ℕ) (sum : ℕ) (columns : List KnownColumn)
 pub data ListsGroups (file : List ℕ) (sum : ℕ) (columns : List KnownColumn) : List Group → ProgressCounts → List ClusterList → Type 0 where
   no_more : {p : ProgressCounts} → ListsGroups file sum columns [] p []
   and_more : {g : Group} {gs : List Group} {p q : ProgressCounts} {ks others : List ClusterList}
-      → ListsGroup file sum columns g p ks q → ListsGroups file sum columns gs q others → ListsGroups file sum columns (g ∷ gs) p (ks ++ others)
+      → ListsGroup file sum columns g p ks q → ListsGroups file sum columns gs q others → ListsGroups file sum columns
+          (g ∷ gs) p (ks ++ others)
 
 -- a file has this outline
 pub record HasOutline (file : List ℕ) (o : Outline) : Type 0 where

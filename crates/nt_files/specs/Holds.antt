@@ -16,7 +16,8 @@ use Rattle.nt_pagelists.specs.declared.page.PageItem.{PageItem}
 use Rattle.nt_pagelists.specs.declared.cluster.ClusterList.{ClusterList}
 use Rattle.nt_files.specs.Outlines.{Outline, known_column}
 use Rattle.nt_files.specs.Describes.{HasOutline}
-use Rattle.nt_files.specs.Clusters.{stored_len, is_checked, kind_of_code, pages_listed, begins_behind, zero_elements, columns_by_id, entries_of_columns}
+use Rattle.nt_files.specs.Clusters.{stored_len, is_checked, kind_of_code, pages_listed, begins_behind, zero_elements, columns_by_id}
+use Rattle.nt_files.specs.Clusters.{entries_of_columns}
 
 -- a page stands in the file where its item says, has the size of its elements and its checksum, and gives these elements
 pub record HoldsPage (file : List ℕ) (kind : ColumnType) (p : PageItem) (es : List Element) : Type 0 where
@@ -37,7 +38,8 @@ pub data HoldsColumn (file : List ℕ) (k : ClusterList) (id : ℕ) (c : KnownCo
   -- a closed column isn't read
   closed : c.is_open ≡ false → HoldsColumn file k id c code []
   -- a column that begins behind the entries of the cluster has zeros
-  not_begun : c.is_open ≡ true → begins_behind k c ≡ true → {es : List Element} → es ≡ zero_elements k.entries → HoldsColumn file k id c code es
+  not_begun : c.is_open ≡ true → begins_behind k c ≡ true → {es : List Element} → es ≡ zero_elements k.entries
+      → HoldsColumn file k id c code es
   -- nor is one whose type is none of those that can be; no open column has such a type
   untyped : c.is_open ≡ true → begins_behind k c ≡ false → kind_of_code code ≡ None → HoldsColumn file k id c code []
   -- any other has the elements of its pages

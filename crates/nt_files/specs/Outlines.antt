@@ -72,7 +72,8 @@ abbrev pub clusters_of_block : Block → List ClusterList → List ClusterList
 clusters_of_block block ks = map (moved_cluster (block.place + payload_start)) ks
 
 -- the clusters of a group behind what was read so far
-unfoldable pub group_clusters : List ℕ → ℕ → List KnownColumn → Group → ProgressCounts → Result (List ClusterList × ProgressCounts) ReadError
+unfoldable pub group_clusters : List ℕ → ℕ → List KnownColumn → Group → ProgressCounts
+    → Result (List ClusterList × ProgressCounts) ReadError
 group_clusters file sum columns g p = do
   list ← envelope_of file page_list_kind (list_block g.link)
   read ← inside_of (list_block g.link) (page_list_at sum g columns p (standing 0 list.payload))

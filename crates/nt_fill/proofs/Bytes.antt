@@ -1,5 +1,6 @@
 -- Trees that were added to columns in memory have texts of bytes, since their elements are of the columns' types.
-use Rattle.std.proofs.Common.{◌≡◌, ◌∙◌, ap, subst, ℕ, zero, suc, ◌<◌, ◌^◌, true, List, [], ◌∷◌, ◌++◌, length, map, Some, arith, append_assoc}
+use Rattle.std.proofs.Common.{◌≡◌, ◌∙◌, ap, subst, ℕ, zero, suc, ◌<◌, ◌^◌, true, List, [], ◌∷◌, ◌++◌, length, map, Some, arith}
+use Rattle.std.proofs.Common.{append_assoc}
 use Rattle.std.proofs.lemmas.Bool.{and_parts, false≢true}
 use Rattle.std.specs.Option.{option_map}
 use Rattle.std.specs.Prelude.{Option, slice_get}
@@ -21,19 +22,22 @@ use Rattle.nt_trees.proofs.Stable.{put_each-extends, put_tree-extends, put_trees
 use Rattle.nt_shred.specs.Frame.{Frame, IsPlain, Takes, AllTake, set_frame}
 
 -- the elements of a text in a list that holds them
-text_small : (before : List Element) (s : List ℕ) (after : List Element) → ((i : ℕ) → i < length (before ++ (map plain s ++ after)) → number_at (before ++ (map plain s ++ after)) i < 256) → AreBytes s
+text_small : (before : List Element) (s : List ℕ) (after : List Element) → ((i : ℕ) → i < length (before ++ (map plain s ++ after))
+    → number_at (before ++ (map plain s ++ after)) i < 256) → AreBytes s
 text_small [] [] after small i = omega arith
 text_small [] (b ∷ s) after small zero = small 0 (omega arith)
 text_small [] (b ∷ s) after small (suc i) = text_small [] s after (λ j h. small (suc j) (omega (arith, h))) i
 text_small (e ∷ before) s after small i = text_small before s after (λ j h. small (suc j) (omega (arith, h))) i
 
-kind_framed : (bs : List Buffer) (k : ℕ) (c : ColumnType) (z : ℕ) → slice_get (set_frame bs) k ≡ Some (c, z) → kind_at (columns_of bs) k ≡ Some c
+kind_framed : (bs : List Buffer) (k : ℕ) (c : ColumnType) (z : ℕ) → slice_get (set_frame bs) k ≡ Some (c, z)
+    → kind_at (columns_of bs) k ≡ Some c
 kind_framed [] k c z at = absurd (cc)
 kind_framed (b ∷ bs) zero c z at = ap (λ (o : Option (ColumnType × ℕ)). option_map (λ (f : ColumnType × ℕ). f.0) o) at
 kind_framed (b ∷ bs) (suc k) c z at = kind_framed bs k c z at
 
 -- elements of types of 8 bits are below 256
-pub small_of : (bs : List Buffer) → ((k : ℕ) (kind : ColumnType) → kind_at (columns_of bs) k ≡ Some kind → AreElementsOf kind (elements_at (columns_of bs) k))
+pub small_of : (bs : List Buffer) → ((k : ℕ) (kind : ColumnType) → kind_at (columns_of bs) k ≡ Some kind
+    → AreElementsOf kind (elements_at (columns_of bs) k))
     → (k : ℕ) → IsPlain (set_frame bs) k 8 → (i : ℕ) → i < length (cols_of bs k) → number_at (cols_of bs k) i < 256
 small_of bs in_range k plain i less =
     let one = in_range k plain.0 (kind_framed bs k plain.0 0 plain.1) i (0, 0) less in
@@ -42,16 +46,19 @@ small_of bs in_range k plain i less =
 -- columns of 8 bits have numbers below 256
 module _ (fr : Frame) (new : Cols) (small : (k : ℕ) → IsPlain fr k 8 → (i : ℕ) → i < length (new k) → number_at (new k) i < 256) where
   -- each of these trees
-  each_bytes : (p : PlanData) → ((t : TreeData) (cols : Cols) → fits_plan p t ≡ true → Extends (put_tree p t cols) new → HasBytes t) → (ts : TreesData) (cols : Cols)
+  each_bytes : (p : PlanData) → ((t : TreeData) (cols : Cols) → fits_plan p t ≡ true → Extends (put_tree p t cols) new → HasBytes t)
+      → (ts : TreesData) (cols : Cols)
       → all_trees (fits_plan p) ts ≡ true → Extends (put_each (put_tree p) ts cols) new → AllHaveBytes ts
   each_bytes p each no_trees cols h x = tt
   each_bytes p each (tree t ts) cols h x =
       let q = and_parts (fits_plan p t) (all_trees (fits_plan p) ts) h in
       let mid = put_tree p t cols in
-      (each t cols q.0 (then-extends mid (put_each (put_tree p) ts mid) new (put_each-extends (put_tree p) (put_tree-extends p) ts mid) x), each_bytes p each ts mid q.1 x)
+      (each t cols q.0 (then-extends mid (put_each (put_tree p) ts mid) new
+          (put_each-extends (put_tree p) (put_tree-extends p) ts mid) x), each_bytes p each ts mid q.1 x)
 
   mutual
-    pub tree_bytes : (p : PlanData) (t : TreeData) (cols : Cols) → Takes p fr → fits_plan p t ≡ true → Extends (put_tree p t cols) new → HasBytes t
+    pub tree_bytes : (p : PlanData) (t : TreeData) (cols : Cols) → Takes p fr → fits_plan p t ≡ true
+        → Extends (put_tree p t cols) new → HasBytes t
     tree_bytes (bool k) (flag b) cols takes h x = tt
     tree_bytes (number k bits signed) (num z) cols takes h x = tt
     tree_bytes (text e c) (trees.text s) cols takes h x =
@@ -66,19 +73,23 @@ module _ (fr : Frame) (new : Cols) (small : (k : ℕ) → IsPlain fr k 8 → (i 
     tree_bytes (record_of ps) (parts ts) cols takes h x = all_bytes ps ts cols takes.1 h x
     tree_bytes (choice k ps) nothing cols takes h x = tt
     tree_bytes (choice k ps) (pick tag t) cols takes h x =
-        one_bytes ps tag t cols takes.1 h (then-extends (put_one ps tag t cols) (put_tree (choice k ps) (pick tag t) cols) new (add_to-extends k _ _) x)
+        one_bytes ps tag t cols takes.1 h (then-extends (put_one ps tag t cols) (put_tree (choice k ps) (pick tag t) cols) new
+            (add_to-extends k _ _) x)
     tree_bytes _ _ cols takes h x = absurd (false≢true h)
 
-    pub all_bytes : (ps : PlansData) (ts : TreesData) (cols : Cols) → AllTake ps fr → fit_plans ps ts ≡ true → Extends (put_trees ps ts cols) new → AllHaveBytes ts
+    pub all_bytes : (ps : PlansData) (ts : TreesData) (cols : Cols) → AllTake ps fr → fit_plans ps ts ≡ true
+        → Extends (put_trees ps ts cols) new → AllHaveBytes ts
     all_bytes no_plans no_trees cols takes h x = tt
     all_bytes no_plans (tree t ts) cols takes h x = absurd (false≢true h)
     all_bytes (plan p ps) no_trees cols takes h x = absurd (false≢true h)
     all_bytes (plan p ps) (tree t ts) cols takes h x =
         let q = and_parts (fits_plan p t) (fit_plans ps ts) h in
         let mid = put_tree p t cols in
-        (tree_bytes p t cols takes.0 q.0 (then-extends mid (put_trees ps ts mid) new (put_trees-extends ps ts mid) x), all_bytes ps ts mid takes.1 q.1 x)
+        (tree_bytes p t cols takes.0 q.0 (then-extends mid (put_trees ps ts mid) new (put_trees-extends ps ts mid) x),
+            all_bytes ps ts mid takes.1 q.1 x)
 
-    one_bytes : (ps : PlansData) (tag : ℕ) (t : TreeData) (cols : Cols) → AllTake ps fr → fits_alternative ps tag t ≡ true → Extends (put_one ps tag t cols) new → HasBytes t
+    one_bytes : (ps : PlansData) (tag : ℕ) (t : TreeData) (cols : Cols) → AllTake ps fr → fits_alternative ps tag t ≡ true
+        → Extends (put_one ps tag t cols) new → HasBytes t
     one_bytes no_plans tag t cols takes h x = absurd (false≢true h)
     one_bytes (plan p ps) zero t cols takes h x = absurd (false≢true h)
     one_bytes (plan p ps) (suc zero) t cols takes h x = tree_bytes p t cols takes.0 h x

@@ -42,7 +42,8 @@ no_elements [] k = refl
 no_elements (c ∷ cs) zero = refl
 no_elements (c ∷ cs) (suc k) = no_elements cs k
 
-same_codes : (cs : List Column) → map (λ (c : Column). code_of c.kind) (map (λ (c : Column). empty c.kind) cs) ≡ map (λ (c : Column). code_of c.kind) cs
+same_codes : (cs : List Column) → map (λ (c : Column). code_of c.kind) (map (λ (c : Column). empty c.kind) cs)
+    ≡ map (λ (c : Column). code_of c.kind) cs
 same_codes [] = refl
 same_codes (c ∷ cs) = ap (λ l. code_of c.kind ∷ l) (same_codes cs)
 
@@ -75,6 +76,7 @@ if_ok P Q (Ok x) f h = f x h
 if_ok P Q (Err e) f h = h
 
 -- new columns of these types give none
-pub new_gives : (t : Table) (cs : List Column) (kinds : List ColumnType) → cs ≡ map empty kinds → map code_of kinds ≡ map (λ (r : ColumnRow). r.code) t.columns → Gives t cs []
+pub new_gives : (t : Table) (cs : List Column) (kinds : List ColumnType) → cs ≡ map empty kinds
+    → map code_of kinds ≡ map (λ (r : ColumnRow). r.code) t.columns → Gives t cs []
 new_gives t cs kinds is codes =
     subst (λ (l : List Column). Gives t l []) (emptied_again kinds ∙ sym is) (emptied_gives t (map empty kinds) (codes_kept kinds ∙ codes))

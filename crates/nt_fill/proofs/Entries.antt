@@ -39,16 +39,19 @@ module _ {E B P : Type 0} where
   gathered_length c = entries_count c.table c.columns c.entries
 
 -- an entry was added to columns
-module _ (t : Table) (ts : TreesData) (old new : List Buffer) (n : ℕ) (added : cols_of new ≡ put_trees (open_plans t) ts (cols_of old)) (sound : AllSound (open_plans t) (cols_of old) n)
+module _ (t : Table) (ts : TreesData) (old new : List Buffer) (n : ℕ) (added : cols_of new
+    ≡ put_trees (open_plans t) ts (cols_of old)) (sound : AllSound (open_plans t) (cols_of old) n)
     (last : IsLast (open_plans t) ts n (cols_of new)) (bytes : AllHaveBytes ts) where
   pub entries_more : entries_given t (columns_of new) (n + 1) ≡ entries_given t (columns_of old) n ++ ts ∷ []
   entries_more =
       map-range_with_len_more (each_at (open_plans t) (cols_of new)) 0 n n (omega arith)
       ∙ ap₂ (λ xs x. xs ++ x ∷ []) (map_same (each_at (open_plans t) (cols_of new)) (each_at (open_plans t) (cols_of old)) n
-      (λ i h. ap (λ cols. each_at (open_plans t) cols i) added ∙ each_at-stays (open_plans t) (cols_of old) (put_trees (open_plans t) ts (cols_of old)) n i (put_trees-extends (open_plans t) ts (cols_of old)) sound h)) (last.entry bytes)
+      (λ i h. ap (λ cols. each_at (open_plans t) cols i) added ∙ each_at-stays (open_plans t) (cols_of old)
+          (put_trees (open_plans t) ts (cols_of old)) n i (put_trees-extends (open_plans t) ts (cols_of old)) sound h)) (last.entry bytes)
 
 -- sound columns give their entries
-pub gives_of : (t : Table) (columns : List Column) (n : ℕ) → IsSetOf t.columns columns → ((k : ℕ) (kind : ColumnType) → kind_at columns k ≡ Some kind → AreElementsOf kind (elements_at columns k))
+pub gives_of : (t : Table) (columns : List Column) (n : ℕ) → IsSetOf t.columns columns
+    → ((k : ℕ) (kind : ColumnType) → kind_at columns k ≡ Some kind → AreElementsOf kind (elements_at columns k))
     → AllSound (open_plans t) (elements_at columns) n → Gives t columns (entries_given t columns n)
 gives_of t columns n set in_range sound =
     let count = entries_count t columns n in

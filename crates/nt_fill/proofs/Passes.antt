@@ -1,5 +1,6 @@
 -- What a pass knows after its holds of the turn.
-use Rattle.std.proofs.Common.{◌≡◌, ◌∙◌, ap, sym, refl, ℕ, ◌-◌, ◌≤◌, true, List, [], ◌∷◌, ◌++◌, length, drop, Option, Some, None, subst, append_assoc, append-nil, arith}
+use Rattle.std.proofs.Common.{◌≡◌, ◌∙◌, ap, sym, refl, ℕ, ◌-◌, ◌≤◌, true, List, [], ◌∷◌, ◌++◌, length, drop, Option, Some, None, subst}
+use Rattle.std.proofs.Common.{append_assoc, append-nil, arith}
 use Rattle.std.proofs.lemmas.Bool.{false≢true}
 use Rattle.std.proofs.lemmas.List.{length-append, length-drop}
 use Rattle.std.specs.Prelude.{Result, Ok, Err, OnOk, is_ok, slice_get}
@@ -38,7 +39,8 @@ pub prefix_then : (xs ys zs : List (Entry ClusterMeta)) → IsPrefix xs ys → I
 prefix_then xs ys zs p q = subst (λ (l : List (Entry ClusterMeta)). IsPrefix xs l) q.1 (prefix_more xs ys q.0 p)
 
 -- the bytes that an extent tells, where the disk told what it held
-pub told_bytes : (held : Option Held) (content : Option (List ℕ)) (bytes : List ℕ) → WhereHeld held (λ h. content ≡ Some bytes) → bytes_where_told held content ≡ bytes_where_told held (Some bytes)
+pub told_bytes : (held : Option Held) (content : Option (List ℕ)) (bytes : List ℕ) → WhereHeld held (λ h. content ≡ Some bytes)
+    → bytes_where_told held content ≡ bytes_where_told held (Some bytes)
 told_bytes None content bytes told = refl
 told_bytes (Some h) content bytes told = told h refl
 
@@ -48,17 +50,20 @@ when_ok (Ok x) is h = h
 when_ok (Err e) is h = absurd (false≢true is)
 
 -- a key takes the place of the room for it
-pub keyed_length : (bytes : List ℕ) (place : ℕ) → key_room ≤ length bytes → length (blob_key (length bytes - key_room) place ++ drop key_room bytes) ≡ length bytes
+pub keyed_length : (bytes : List ℕ) (place : ℕ) → key_room ≤ length bytes
+    → length (blob_key (length bytes - key_room) place ++ drop key_room bytes) ≡ length bytes
 keyed_length bytes place room =
     length-append (blob_key (length bytes - key_room) place) (drop key_room bytes)
     ∙ omega (arith, blob_key-len (length bytes - key_room) place, length-drop key_room bytes, room)
 
 module _ {D : Type 0} where
   -- two gains are one
-  pub gains_twice : (one two : List (Entry ClusterMeta)) (old mid new : Pass D) → Gains one old mid → Gains two mid new → Gains (one ++ two) old new
+  pub gains_twice : (one two : List (Entry ClusterMeta)) (old mid new : Pass D) → Gains one old mid → Gains two mid new
+      → Gains (one ++ two) old new
   gains_twice one two old mid new g h = record {
     seen = prefix_then old.seen mid.seen new.seen g.seen h.seen;
-    now = h.now ∙ (ap (λ (p : Pass D). gained p new.seen two) g.now ∙ ap (λ (l : List (Entry ClusterMeta)). record old { seen = new.seen; own = l }) (append_assoc old.own one two));
+    now = h.now ∙ (ap (λ (p : Pass D). gained p new.seen two) g.now ∙ ap (λ (l : List (Entry ClusterMeta)). record old { seen =
+        new.seen; own = l }) (append_assoc old.own one two));
   }
 
   pub own_after : (added : List (Entry ClusterMeta)) (old new : Pass D) → Gains added old new → new.own ≡ old.own ++ added
@@ -67,7 +72,8 @@ module _ {D : Type 0} where
   pub number_after : (added : List (Entry ClusterMeta)) (old new : Pass D) → Gains added old new → new.number ≡ old.number
   number_after added old new g = ap (λ (p : Pass D). p.number) g.now
 
-  pub none_after : (added : List (Entry ClusterMeta)) (old new : Pass D) → Gains added old new → HasNoneOut (old.own ++ added) → HasNoneOut new.own
+  pub none_after : (added : List (Entry ClusterMeta)) (old new : Pass D) → Gains added old new → HasNoneOut (old.own ++ added)
+      → HasNoneOut new.own
   none_after added old new g none = subst (λ (l : List (Entry ClusterMeta)). HasNoneOut l) (sym (own_after added old new g)) none
 
   -- a fault leaves no range out
@@ -81,21 +87,26 @@ module _ {D : Type 0} where
   kept_in old new none g = none_after [] old new g (subst (λ (l : List (Entry ClusterMeta)). HasNoneOut l) (sym (append-nil old.own)) none)
 
 module _ {D : Type 0} (state : D → DiskState) (committer : TurnState (Birth D)) where
-  pub gains_by : (taken given : LockedState D) (added : List (Entry ClusterMeta)) (old new : Pass D) → IsHold state committer taken given added old new → Gains added old new
+  pub gains_by : (taken given : LockedState D) (added : List (Entry ClusterMeta)) (old new : Pass D)
+      → IsHold state committer taken given added old new → Gains added old new
   gains_by taken given added old new h =
       let seen : new.seen ≡ history_of_locked state given = ap (λ (p : Pass D). p.seen) h.now in
       record {
-        seen = subst (λ (l : List (Entry ClusterMeta)). IsPrefix old.seen l) (sym (seen ∙ h.grows)) (prefix_more old.seen (history_of_locked state taken) added h.begins);
+        seen = subst (λ (l : List (Entry ClusterMeta)). IsPrefix old.seen l) (sym (seen ∙ h.grows))
+            (prefix_more old.seen (history_of_locked state taken) added h.begins);
         now = h.now ∙ ap (λ (l : List (Entry ClusterMeta)). record old { seen = l; own = old.own ++ added }) (sym seen);
       }
 
-  pub pass_after : (added : List (Entry ClusterMeta)) (old new : Pass D) → Gains added old new → IsPassOf committer old → IsPassOf committer new
+  pub pass_after : (added : List (Entry ClusterMeta)) (old new : Pass D) → Gains added old new → IsPassOf committer old
+      → IsPassOf committer new
   pass_after added old new g of =
-      subst (λ (p : Pass D). IsPassOf committer p) (sym g.now) (record { turn = of.turn; free = of.free; birth = of.birth; number = of.number; seats = of.seats })
+      subst (λ (p : Pass D). IsPassOf committer p) (sym g.now) (record { turn = of.turn; free = of.free; birth = of.birth; number =
+          of.number; seats = of.seats })
 
   module _ {X : Type 0} (tell : X → ExtState) (meta : ClusterMeta) (old mid : Pass D) where
     -- the limit of a commit, by what never changes
-    pub names : (answer : Result (Claim X) CommitError) (c : CommitsInHold state tell committer meta old mid answer) (result : Result Unit CommitError) → limit_answered answer ≡ limit_answered result
+    pub names : (answer : Result (Claim X) CommitError) (c : CommitsInHold state tell committer meta old mid answer)
+        (result : Result Unit CommitError) → limit_answered answer ≡ limit_answered result
         → (new : Pass D) → IsPrefix mid.seen new.seen → NamesLimit state committer meta.len old new result
     names answer c result same new on =
         let history = history_of_locked state c.taken in
@@ -104,14 +115,16 @@ module _ {D : Type 0} (state : D → DiskState) (committer : TurnState (Birth D)
           history = history;
           later = c.hold.begins;
           seen = prefix_then history mid.seen new.seen (c.commits.added, sym seen) on;
-          limits = subst (λ (b : Birth D). limit_error b.limits (end_after (state b.begun).end (ranges_of history)) (length (ranges_of history)) meta.len ≡ limit_answered answer) c.hold.birth c.commits.limits ∙ same;
+          limits = subst (λ (b : Birth D). limit_error b.limits (end_after (state b.begun).end (ranges_of history))
+              (length (ranges_of history)) meta.len ≡ limit_answered answer) c.hold.birth c.commits.limits ∙ same;
         }
 
     -- the disk failed
     pub fault_by : CommitsInHold state tell committer meta old mid (Err Fault) → meta.context ≡ old.number → MeetsFault old mid
     fault_by c is = record {
       faults = (state c.given.disk).faults;
-      gains = subst (λ (l : List (Entry ClusterMeta)). Gains l old mid) (c.commits.adds.1 ∙ ap (λ (i : ℕ). faulted_entry i (state c.given.disk).faults ∷ []) is)
+      gains = subst (λ (l : List (Entry ClusterMeta)). Gains l old mid) (c.commits.adds.1
+          ∙ ap (λ (i : ℕ). faulted_entry i (state c.given.disk).faults ∷ []) is)
           (gains_by c.taken c.given c.commits.added old mid c.hold);
     }
 
@@ -123,18 +136,21 @@ module _ {D : Type 0} (state : D → DiskState) (committer : TurnState (Birth D)
       commits_one : Gains (committed_by old.number claim.cluster start meta ∷ []) old mid
       commits_one =
           subst (λ (l : List (Entry ClusterMeta)). Gains l old mid)
-          (c.commits.adds.1 ∙ (ap (λ (n : ℕ). committed_entry n start meta ∷ []) (sym c.commits.adds.0.number) ∙ ap (λ (i : ℕ). committed_by i claim.cluster start meta ∷ []) is))
+          (c.commits.adds.1 ∙ (ap (λ (n : ℕ). committed_entry n start meta ∷ []) (sym c.commits.adds.0.number)
+              ∙ ap (λ (i : ℕ). committed_by i claim.cluster start meta ∷ []) is))
           (gains_by c.taken c.given c.commits.added old mid c.hold)
 
       pub claim_is : IsClaimOf tell (ranges_of mid.own) mid.number claim
       claim_is =
           let range = new_range old.number claim.cluster start meta.len meta in
           let ranges : ranges_of mid.own ≡ ranges_of old.own ++ range ∷ [] =
-          ap (λ (l : List (Entry ClusterMeta)). ranges_of l) (own_after _ old mid commits_one) ∙ ranges-committed old.own old.number claim.cluster start meta.len meta in
+          ap (λ (l : List (Entry ClusterMeta)). ranges_of l) (own_after _ old mid commits_one)
+              ∙ ranges-committed old.own old.number claim.cluster start meta.len meta in
           record {
             place = length (ranges_of old.own);
             cluster = range;
-            at = ap (λ (l : List (Cluster ClusterMeta)). slice_get l (length (ranges_of old.own))) ranges ∙ last_got (ranges_of old.own) range;
+            at = ap (λ (l : List (Cluster ClusterMeta)). slice_get l (length (ranges_of old.own))) ranges
+                ∙ last_got (ranges_of old.own) range;
             own = sym (number_after _ old mid commits_one);
             number = refl;
             out = refl;
@@ -142,17 +158,21 @@ module _ {D : Type 0} (state : D → DiskState) (committer : TurnState (Birth D)
           }
 
       -- it was filled and settled
-      pub writes : (image : ClusterImage) (bytes : List ℕ) (new : Pass D) → image.meta ≡ meta → bytes ≡ blob_key (length image.bytes - key_room) (tell claim.ext).range.start ++ drop key_room image.bytes
-          → AddsInHold state committer (settled_with mid.number claim.cluster (bytes_where_told (state committer.birth.begun).held (Some bytes)) ∷ []) mid new → WritesImage state committer image old new
+      pub writes : (image : ClusterImage) (bytes : List ℕ) (new : Pass D) → image.meta ≡ meta
+          → bytes ≡ blob_key (length image.bytes - key_room) (tell claim.ext).range.start ++ drop key_room image.bytes
+          → AddsInHold state committer (settled_with mid.number claim.cluster
+              (bytes_where_told (state committer.birth.begun).held (Some bytes)) ∷ []) mid new → WritesImage state committer image old new
       writes image bytes new same are a =
           let told = bytes_where_told (state committer.birth.begun).held (Some bytes) in
-          let settled = subst (λ (i : ℕ). Gains (settled_with i claim.cluster told ∷ []) mid new) (number_after _ old mid commits_one) (gains_by a.taken a.given _ mid new a.hold) in
+          let settled = subst (λ (i : ℕ). Gains (settled_with i claim.cluster told ∷ []) mid new)
+                  (number_after _ old mid commits_one) (gains_by a.taken a.given _ mid new a.hold) in
           let place : (tell claim.ext).range.start ≡ start = ap (λ (r : Range). r.start) c.commits.adds.0.range in
           record {
             written = record { number = claim.cluster; start = start; len = meta.len; meta = meta; bytes = told };
             meta = sym same;
             len = ap (λ (m : ClusterMeta). m.len) (sym same);
-            bytes = ap (λ (l : List ℕ). bytes_where_told (state committer.birth.begun).held (Some l)) (are ∙ ap (λ (n : ℕ). blob_key (length image.bytes - key_room) n ++ drop key_room image.bytes) place);
+            bytes = ap (λ (l : List ℕ). bytes_where_told (state committer.birth.begun).held (Some l))
+                (are ∙ ap (λ (n : ℕ). blob_key (length image.bytes - key_room) n ++ drop key_room image.bytes) place);
             gains = gains_twice _ _ old mid new commits_one settled;
           }
 
@@ -160,14 +180,18 @@ module _ {D : Type 0} (state : D → DiskState) (committer : TurnState (Birth D)
       pub spoils : (new : Pass D) → SpoilsInHold state committer claim.cluster mid new → SpoilsRange meta old new
       spoils new s =
           let faults = (state s.given.disk).faults in
-          let spoiled = subst (λ (i : ℕ). Gains (spoiled_entry i claim.cluster faults ∷ []) mid new) (number_after _ old mid commits_one) (gains_by s.taken s.given _ mid new s.hold) in
+          let spoiled = subst (λ (i : ℕ). Gains (spoiled_entry i claim.cluster faults ∷ []) mid new)
+                  (number_after _ old mid commits_one) (gains_by s.taken s.given _ mid new s.hold) in
           record { cluster = claim.cluster; start = start; faults = faults; gains = gains_twice _ _ old mid new commits_one spoiled }
 
   -- no range is out once an image was written
-  pub writes_in : (image : ClusterImage) (old new : Pass D) → HasNoneOut old.own → WritesImage state committer image old new → HasNoneOut new.own
-  writes_in image old new none w = none_after _ old new w.gains (settled_in old.own old.number w.written.number w.written.start w.written.len w.written.meta w.written.bytes none)
+  pub writes_in : (image : ClusterImage) (old new : Pass D) → HasNoneOut old.own → WritesImage state committer image old new
+      → HasNoneOut new.own
+  writes_in image old new none w = none_after _ old new w.gains (settled_in old.own old.number w.written.number w.written.start
+      w.written.len w.written.meta w.written.bytes none)
 
-  pub adds_seen : (added : List (Entry ClusterMeta)) (old new : Pass D) → AddsInHold state committer added old new → IsPrefix old.seen new.seen
+  pub adds_seen : (added : List (Entry ClusterMeta)) (old new : Pass D) → AddsInHold state committer added old new
+      → IsPrefix old.seen new.seen
   adds_seen added old new a = (gains_by a.taken a.given added old new a.hold).seen
 
   pub spoils_seen : (n : ℕ) (old new : Pass D) → SpoilsInHold state committer n old new → IsPrefix old.seen new.seen

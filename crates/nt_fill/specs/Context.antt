@@ -22,7 +22,8 @@ use Rattle.nt_commit.specs.declared.locked.Birth.{Birth}
 use Rattle.nt_commit.specs.Holds.{IsPassOf, HasNoneOut}
 use Rattle.nt_layout.specs.Laid.{Gives}
 
--- a context: its committer and schema, the most entries of a cluster and elements of a page, its pass, its pen while it is alive, and its columns with so many entries in them
+-- a context: its committer and schema, the most entries of a cluster and elements of a page, its pass, its pen while it is alive,
+-- and its columns with so many entries in them
 pub record FillState (E B P : Type 0) : Type 0 where
   pub committer : TurnState B
   pub table : Table

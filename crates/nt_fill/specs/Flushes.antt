@@ -22,7 +22,8 @@ abbrev pub DiskContext : Type 0 → Type 0 → Type 0
 DiskContext D P = FillState (Entry ClusterMeta) (Birth D) P
 
 -- bytes and metadata are the blob of these entries at a place; the bytes are told where the disk told what it held at the beginning
-pub record IsWrittenAs (held : Option Held) (t : Table) (page : ℕ) (entries : List TreesData) (place : ℕ) (told : Option (List ℕ)) (meta : ClusterMeta) : Type 0 where
+pub record IsWrittenAs (held : Option Held) (t : Table) (page : ℕ) (entries : List TreesData) (place : ℕ) (told : Option (List ℕ))
+    (meta : ClusterMeta) : Type 0 where
   pub bytes : List ℕ
   pub blob : IsBlobOfEntries t page entries place bytes meta
   pub told_are : told ≡ bytes_where_told held (Some bytes)
@@ -46,7 +47,8 @@ module _ {D P : Type 0} where
     pub record WritesCluster (old new : DiskContext D P) : Type 0 where
       pub written : WrittenChunk ClusterMeta
       pub len : written.len ≡ written.meta.len
-      pub blob : IsWrittenAs (state old.committer.birth.begun).held old.table old.page (gathered old) written.start written.bytes written.meta
+      pub blob : IsWrittenAs (state old.committer.birth.begun).held old.table old.page (gathered old) written.start
+          written.bytes written.meta
       pub gains : Gains (entries_of old.pass.number written) old.pass new.pass
       pub alive : IsSome new.pen
       pub now : new ≡ record old { pass = new.pass; pen = new.pen; columns = new.columns; entries = 0 }

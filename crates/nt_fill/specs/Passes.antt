@@ -19,7 +19,8 @@ use Rattle.nt_commit.specs.Claims.{limit_answered}
 
 module _ {D : Type 0} where
   -- the pass has seen this, and its own list gained these entries
-  abbrev pub gained : PassState (Entry ClusterMeta) (Birth D) → List (Entry ClusterMeta) → List (Entry ClusterMeta) → PassState (Entry ClusterMeta) (Birth D)
+  abbrev pub gained : PassState (Entry ClusterMeta) (Birth D) → List (Entry ClusterMeta) → List (Entry ClusterMeta)
+      → PassState (Entry ClusterMeta) (Birth D)
   gained pass seen added = record pass { seen = seen; own = pass.own ++ added }
 
   -- the pass has seen more, and its own list gained these entries
@@ -50,7 +51,8 @@ module _ {D : Type 0} where
       pub history : List (Entry ClusterMeta)
       pub later : IsPrefix old.seen history
       pub seen : IsPrefix history new.seen
-      pub limits : limit_error committer.birth.limits (end_after (state committer.birth.begun).end (ranges_of history)) (length (ranges_of history)) len ≡ limit_answered result
+      pub limits : limit_error committer.birth.limits (end_after (state committer.birth.begun).end (ranges_of history))
+          (length (ranges_of history)) len ≡ limit_answered result
 
     -- the image was written with the key of its place, and its bytes are told where the disk told what it held at the beginning
     pub record WritesImage (image : ClusterImage) (old new : PassState (Entry ClusterMeta) (Birth D)) : Type 0 where

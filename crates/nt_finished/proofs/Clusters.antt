@@ -1,5 +1,6 @@
 -- The clusters of a finished file are read as their entries.
-use Rattle.std.proofs.Common.{◌≡◌, ℕ, zero, suc, ◌+◌, ◌<◌, ◌≤◌, Bool, true, false, cond, List, [], ◌∷◌, ◌++◌, map, length, Option, Some, None, Ok, refl, sym, ap, subst, ◌∙◌, append-nil, arith}
+use Rattle.std.proofs.Common.{◌≡◌, ℕ, zero, suc, ◌+◌, ◌<◌, ◌≤◌, Bool, true, false, cond, List, [], ◌∷◌, ◌++◌, map, length, Option, Some}
+use Rattle.std.proofs.Common.{None, Ok, refl, sym, ap, subst, ◌∙◌, append-nil, arith}
 use Rattle.std.specs.Prelude.{slice_index_or, is_some}
 use Rattle.std.specs.List.{AllByRecursion, concat, range_with_len}
 use Rattle.nt_types.specs.TreeData.{TreesData}
@@ -143,7 +144,8 @@ module _ (file : List ℕ) (t : Table) (needs : HaveNeeds t) (page : ℕ) (some 
   entries_read book n k place clusters ranges cs [] (and_blob first more) lists all at follow told there =
       absurd (omega (arith, all, lists))
   entries_read book n k place clusters ranges cs (l ∷ ls)
-      (and_blob {entries = entries} {others = others} {range = range} {ranges = left} {c = c} {cs = ds} first more) lists all at follow told there =
+      (and_blob {entries = entries} {others = others} {range = range} {ranges = left} {c = c} {cs = ds} first more) lists all at
+          follow told there =
       let same : k + 0 ≡ k = omega arith in
       let here : cluster_at book k ≡ c = ap (λ (j : ℕ). cluster_at book j) (sym same) ∙ sym (at 0 (omega arith)) in
       let listed : IsListOf c l = subst (λ (x : Cluster ClusterMeta). IsListOf x l) here lists.0 in

@@ -30,7 +30,8 @@ use Rattle.nt_layout.specs.Headers.{header_object, header_sum, header_blob}
 use Rattle.nt_layout.specs.Groups.{ClusterSpan, list_len}
 use Rattle.nt_layout.specs.Finished.{spans, list_blobs, groups, footer_object, footer_place, footer_blob, anchor_of_file, blobs, finished}
 use Rattle.nt_layout.specs.Laid.{AreBlobsOf, Measures, AreMeasures, IsWithin, IsBookOf}
-use Rattle.nt_finished.proofs.Standing.{StandsThere, front_stands, back_stands, middle_stands, object_stands, length-blob, length-envelope, opened}
+use Rattle.nt_finished.proofs.Standing.{StandsThere, front_stands, back_stands, middle_stands, object_stands, length-blob, length-envelope}
+use Rattle.nt_finished.proofs.Standing.{opened}
 use Rattle.nt_finished.proofs.Lengths.{blobs-are, footer_place-is, anchor_start-is, clusters_told, ranges-len, ranges-end, length-finished}
 use Rattle.nt_finished.proofs.Spans.{spans_in_order, order-le, groups_told, length-groups}
 use Rattle.nt_finished.proofs.Counts.{few_fields}

@@ -1,5 +1,6 @@
 -- How long a finished file is.
-use Rattle.std.proofs.Common.{◌≡◌, ℕ, suc, ◌+◌, ◌<◌, List, [], ◌∷◌, ◌++◌, length, map, replicate, sum, refl, sym, ap, ◌∙◌, append-nil, arith}
+use Rattle.std.proofs.Common.{◌≡◌, ℕ, suc, ◌+◌, ◌<◌, List, [], ◌∷◌, ◌++◌, length, map, replicate, sum, refl, sym, ap, ◌∙◌, append-nil}
+use Rattle.std.proofs.Common.{arith}
 use Rattle.std.specs.Prelude.{slice_index_or}
 use Rattle.std.specs.List.{concat, AllByRecursion}
 use Rattle.std.proofs.lemmas.List.{length-append, length-replicate}
@@ -16,7 +17,8 @@ use Rattle.nt_pages.specs.Image.{payload, image}
 use Rattle.nt_column.specs.Column.{Column}
 use Rattle.nt_layout.specs.Blobs.{blob_len}
 use Rattle.nt_layout.specs.Headers.{header_object, header_blob, clusters_place}
-use Rattle.nt_layout.specs.Finished.{list_blobs, footer_object, footer_place, footer_blob, anchor_of_file, blobs, finished, anchor_start, file_len}
+use Rattle.nt_layout.specs.Finished.{list_blobs, footer_object, footer_place, footer_blob, anchor_of_file, blobs, finished, anchor_start}
+use Rattle.nt_layout.specs.Finished.{file_len}
 use Rattle.nt_layout.specs.Laid.{IsBlobOfEntries, AreBlobsOf, none_left, and_blob}
 use Rattle.nt_finished.proofs.Standing.{length-blob}
 

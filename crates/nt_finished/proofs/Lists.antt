@@ -1,5 +1,6 @@
 -- The page lists of a book are read as its clusters.
-use Rattle.std.proofs.Common.{◌≡◌, ℕ, zero, suc, ◌+◌, ◌<◌, ◌≤◌, ◌^◌, List, [], ◌∷◌, ◌++◌, map, length, replicate, Ok, refl, sym, ap, subst, ◌∙◌, append-nil, arith}
+use Rattle.std.proofs.Common.{◌≡◌, ℕ, zero, suc, ◌+◌, ◌<◌, ◌≤◌, ◌^◌, List, [], ◌∷◌, ◌++◌, map, length, replicate, Ok, refl, sym, ap, subst}
+use Rattle.std.proofs.Common.{◌∙◌, append-nil, arith}
 use Rattle.std.specs.Prelude.{slice_index_or}
 use Rattle.std.specs.List.{concat, AllByRecursion, range_with_len}
 use Rattle.std.proofs.lemmas.List.FromFn.{length-map-range_with_len, get_or-map-range_with_len}
@@ -16,7 +17,8 @@ use Rattle.nt_pagelists.specs.Books.{listed_column, listed_cluster, listed_clust
 use Rattle.nt_pagelists.specs.SoundBooks.{HasSoundClusters}
 use Rattle.nt_pagelists.proofs.BooksBack.{book-reads}
 use Rattle.nt_files.specs.Envelopes.{Sealed, page_list_kind, payload_start, sealed, envelope_of}
-use Rattle.nt_files.specs.Outlines.{list_block, moved_column, moved_cluster, clusters_of_block, group_clusters, groups_clusters, no_progress}
+use Rattle.nt_files.specs.Outlines.{list_block, moved_column, moved_cluster, clusters_of_block, group_clusters, groups_clusters}
+use Rattle.nt_files.specs.Outlines.{no_progress}
 use Rattle.nt_files.specs.Clusters.{no_list}
 use Rattle.nt_layout.specs.Blobs.{blob, object_place}
 use Rattle.nt_layout.specs.Groups.{ClusterSpan, list_object, list_len, lists_from, span_group, groups_from}

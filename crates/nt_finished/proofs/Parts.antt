@@ -10,7 +10,8 @@ use Rattle.nt_container.specs.declared.anchor.Anchor.{Anchor}
 use Rattle.nt_container.specs.Spelling.{header_words, header_part, record_part, anchor_part, key_list_part, free_list_part}
 use Rattle.nt_container.specs.Finished.{finished_file, parts_behind, keys_place, free_place, end_place}
 use Rattle.nt_layout.specs.Headers.{header_blob, clusters_place}
-use Rattle.nt_layout.specs.Finished.{list_blobs, footer_blob, anchor_of_file, blobs, finished, anchor_start, keys_start, free_start, file_len, tail, front}
+use Rattle.nt_layout.specs.Finished.{list_blobs, footer_blob, anchor_of_file, blobs, finished, anchor_start, keys_start, free_start}
+use Rattle.nt_layout.specs.Finished.{file_len, tail, front}
 use Rattle.nt_finished.proofs.Lengths.{blobs-are, length-blobs}
 
 -- a file header begins with its first byte

@@ -1,5 +1,6 @@
 -- The groups of a book's clusters go on from one another, and footers can hold them.
-use Rattle.std.proofs.Common.{◌≡◌, ℕ, zero, suc, ◌+◌, ◌-◌, ◌*◌, ◌<◌, ◌≤◌, ◌^◌, min, List, [], ◌∷◌, map, length, refl, sym, ap, subst, arith, suc-mul, add-one, mul-le-mul_right}
+use Rattle.std.proofs.Common.{◌≡◌, ℕ, zero, suc, ◌+◌, ◌-◌, ◌*◌, ◌<◌, ◌≤◌, ◌^◌, min, List, [], ◌∷◌, map, length, refl, sym, ap, subst, arith}
+use Rattle.std.proofs.Common.{suc-mul, add-one, mul-le-mul_right}
 use Rattle.std.specs.Int.{div_ceil}
 use Rattle.std.specs.List.{concat, AllByRecursion, range_with_len}
 use Rattle.std.proofs.lemmas.Grind.{div_ceil_times}
@@ -79,9 +80,11 @@ list-behind sum book place s ss =
     )
 
 -- footers can hold these groups
-pub groups_told : (sum : ℕ) (book : BookData) (n : ℕ) → IsBookKept book → n ≤ length (book_clusters book) → (place k : ℕ) (ss : List ClusterSpan)
+pub groups_told : (sum : ℕ) (book : BookData) (n : ℕ) → IsBookKept book → n ≤ length (book_clusters book)
+    → (place k : ℕ) (ss : List ClusterSpan)
     → AreInOrder k n ss
-    → AllByRecursion (λ (s : ClusterSpan). list_len sum book s ≤ 2 ^ 30) ss → place + length (concat (lists_from sum book place ss)) ≤ 2 ^ 56
+    → AllByRecursion (λ (s : ClusterSpan). list_len sum book s ≤ 2 ^ 30) ss → place
+        + length (concat (lists_from sum book place ss)) ≤ 2 ^ 56
     → AreGroups (first_entry book k) k (groups_from sum book place ss)
 groups_told sum book n kept inside place k [] order short low = tt
 groups_told sum book n kept inside place k (s ∷ ss) order short low =

@@ -10,7 +10,8 @@ use Rattle.nt_files.specs.Clusters.{pages_listed}
 -- a cluster is listed with its entries, and each of its pages where it lies in the file
 pub record IsListOf (c : Cluster ClusterMeta) (l : ClusterList) : Type 0 where
   pub entries : l.entries ≡ c.meta.entries
-  pub pages : (id : ℕ) → id < length c.meta.pages → pages_listed l id ≡ map (page_item (payload_place c)) (slice_index_or c.meta.pages id [])
+  pub pages : (id : ℕ) → id < length c.meta.pages → pages_listed l id
+      ≡ map (page_item (payload_place c)) (slice_index_or c.meta.pages id [])
 
 -- the clusters of a book from this number to before that one are listed, in order
 abbrev pub AreListsOf : BookData → ℕ → ℕ → List ClusterList → Type 0

@@ -1,7 +1,9 @@
 -- Numbers: what is read is spelled so, and what is spelled is read.
 use Rattle.std.proofs.Common.{◌≡◌, ℕ, ◌+◌, ◌^◌, ◌<◌, List, ◌++◌, length, Ok, refl, sym, ap, ◌∙◌, arith}
 use Rattle.std.specs.Int.{w16, w32, w64, from_le_bytes, to_le_bytes, from_be_bytes, to_be_bytes}
-use Rattle.std.proofs.lemmas.Nat.{le_bytes_2, le_bytes_4, le_bytes_8, be_bytes_2, be_bytes_4, be_bytes_8, from_le_bytes-to_le_bytes_2, from_le_bytes-to_le_bytes_4, from_le_bytes-to_le_bytes_8, from_be_bytes-to_be_bytes_2, from_be_bytes-to_be_bytes_4, from_be_bytes-to_be_bytes_8}
+use Rattle.std.proofs.lemmas.Nat.{le_bytes_2, le_bytes_4, le_bytes_8, be_bytes_2, be_bytes_4, be_bytes_8, from_le_bytes-to_le_bytes_2}
+use Rattle.std.proofs.lemmas.Nat.{from_le_bytes-to_le_bytes_4, from_le_bytes-to_le_bytes_8, from_be_bytes-to_be_bytes_2}
+use Rattle.std.proofs.lemmas.Nat.{from_be_bytes-to_be_bytes_4, from_be_bytes-to_be_bytes_8}
 use Rattle.nt_num.specs.Place.{At}
 use Rattle.nt_num.specs.Cursor.{next}
 use Rattle.nt_format.specs.Reading.{standing, IsBytes, Takes, Spells}
@@ -63,7 +65,8 @@ big_64 = record {
 }
 
 pub number_again : (size limit : ℕ) (from : List ℕ → ℕ) (to : ℕ → List ℕ) → IsCode size limit from to
-    → (n place : ℕ) (rest : List ℕ) → n < limit → next from size (standing place (to n ++ rest)) ≡ Ok (n, standing (place + length (to n)) rest)
+    → (n place : ℕ) (rest : List ℕ) → n < limit → next from size (standing place (to n ++ rest))
+        ≡ Ok (n, standing (place + length (to n)) rest)
 number_again size limit from to code n place rest lt =
     next_again from size place (to n) rest (code.len n)
     ∙ ap (λ (k : ℕ). Ok (k, standing (place + size) rest)) (code.again n lt)
@@ -76,5 +79,7 @@ number_takes size limit from to code here after n bytes e =
     let text_is : t.0 ≡ to n = sym (code.back t.0 t.1 t.2) ∙ ap to t.3 in
     (rw (← text_is) t.4, rw (← t.3) (code.below t.0 t.2))
 
-pub number_spells : (size limit : ℕ) (from : List ℕ → ℕ) (to : ℕ → List ℕ) → IsCode size limit from to → Spells (next from size) to (λ n. n < limit)
-number_spells size limit from to code = record { reads = number_again size limit from to code; finds = number_takes size limit from to code }
+pub number_spells : (size limit : ℕ) (from : List ℕ → ℕ) (to : ℕ → List ℕ) → IsCode size limit from to
+    → Spells (next from size) to (λ n. n < limit)
+number_spells size limit from to code = record { reads = number_again size limit from to code; finds =
+    number_takes size limit from to code }

@@ -26,7 +26,8 @@ signed_code w size code = record {
   below = λ bytes fits. to_z-Fits w (from_le_bytes w bytes) (record { fits = code.below bytes fits });
 }
 
-pub signed_spells : (w : Width) (size : ℕ) → IsSignedCode w size → Spells (next (λ bytes. cast_signed w (from_le_bytes w bytes)) size) (signed w) (FitsSigned w)
+pub signed_spells : (w : Width) (size : ℕ) → IsSignedCode w size
+    → Spells (next (λ bytes. cast_signed w (from_le_bytes w bytes)) size) (signed w) (FitsSigned w)
 signed_spells w size code = record {
   reads = λ z place rest fits.
       next_again (λ bytes. cast_signed w (from_le_bytes w bytes)) size place (signed w z) rest (code.len z)

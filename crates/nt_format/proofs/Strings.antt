@@ -11,7 +11,8 @@ use Rattle.nt_lists.proofs.Chaining.{bind_ok, refused_as_ok}
 use Rattle.nt_format.proofs.Steps.{Takes-then, next_takes, next_again}
 use Rattle.nt_format.proofs.Numbers.{little_32, number_again, number_takes}
 
-string_again : (text : List ℕ) (place : ℕ) (rest : List ℕ) → length text < 2 ^ 32 → string_at (standing place (string text ++ rest)) ≡ Ok (text, standing (place + length (string text)) rest)
+string_again : (text : List ℕ) (place : ℕ) (rest : List ℕ) → length text < 2 ^ 32 → string_at (standing place (string text ++ rest))
+    ≡ Ok (text, standing (place + length (string text)) rest)
 unfolding string_at
 string_again text place rest lt =
     let size = number_again 4 (2 ^ 32) (from_le_bytes w32) (to_le_bytes w32) little_32 (length text) place (text ++ rest) lt in
@@ -19,7 +20,8 @@ string_again text place rest lt =
     let end : place + 4 + length text ≡ place + length (string text) = omega (arith, length-append (to_le_bytes w32 (length text)) text) in
     ap (λ (b : List ℕ). string_at (standing place b)) (append_assoc (to_le_bytes w32 (length text)) text rest) ∙ rw (size, inside, end) refl
 
-string_takes : (here after : At) (text : List ℕ) → IsBytes here.left → string_at here ≡ Ok (text, after) → Takes here (string text) after × (length text < 2 ^ 32)
+string_takes : (here after : At) (text : List ℕ) → IsBytes here.left → string_at here ≡ Ok (text, after)
+    → Takes here (string text) after × (length text < 2 ^ 32)
 unfolding string_at
 string_takes here after text bytes e =
     let whole = refused_as_ok here.place (little w32 here >>= λ size. next (λ text. text) size.0 size.1) (text, after) e in

@@ -1,10 +1,12 @@
 -- What holds of all fields that are listed.
-use Rattle.std.proofs.Common.{ℕ, Bool, true, false, ◌≡◌, ◌<◌, ◌≤◌, ◌+◌, ◌^◌, List, [], ◌∷◌, ◌++◌, length, map, refl, sym, subst, if◌then◌else◌, arith}
+use Rattle.std.proofs.Common.{ℕ, Bool, true, false, ◌≡◌, ◌<◌, ◌≤◌, ◌+◌, ◌^◌, List, [], ◌∷◌, ◌++◌, length, map, refl, sym, subst}
+use Rattle.std.proofs.Common.{if◌then◌else◌, arith}
 use Rattle.std.proofs.lemmas.Bool.Decides.{nat_tests}
 use Rattle.std.proofs.lemmas.Fmt.{length-decimal-le}
 use Rattle.std.specs.List.{list_all}
 use Rattle.std.specs.Fmt.{decimal}
-use Rattle.nt_types.specs.ShapeData.{ShapeData, ShapesData, MembersData, MemberData, bool, char, byte, int, text, list, fields, tuple, choice, no_kinds, kind, no_parts, part, parts_of}
+use Rattle.nt_types.specs.ShapeData.{ShapeData, ShapesData, MembersData, MemberData, bool, char, byte, int, text, list, fields, tuple}
+use Rattle.nt_types.specs.ShapeData.{choice, no_kinds, kind, no_parts, part, parts_of}
 use Rattle.nt_types.specs.Words.{is_name}
 use Rattle.nt_types.specs.Spelling.{IsType, AreKinds, AreMoreKinds, AreParts, AreMoreParts}
 use Rattle.nt_types.specs.Schema.{field_count, parts_count, kinds_count}
@@ -92,7 +94,8 @@ inside-fields within id (fields ps) t h = members-fields id ps (more_parts ps t.
 inside-fields within id (tuple ks) t h = parts-fields within id 0 ks (more_kinds within ks t) (omega arith)
 inside-fields within id (choice ks) t h = parts-fields true id 0 ks (more_kinds true ks t.1) (omega arith)
 
-top-fields : (id : ℕ) (ps : List MemberData) → AreMoreParts (parts_of ps) → parts_count (parts_of ps) ≤ 4096 → AllNodes IsField (at_top id ps)
+top-fields : (id : ℕ) (ps : List MemberData) → AreMoreParts (parts_of ps) → parts_count (parts_of ps) ≤ 4096
+    → AllNodes IsField (at_top id ps)
 top-fields id [] t h = tt
 top-fields id (p ∷ ps) t h =
     (record { named = name-length p.name t.0; within = false; typed = t.1; few = omega arith }, top-fields (id + 1) ps t.2 (omega arith))

@@ -1,10 +1,12 @@
 -- Described fields are open.
-use Rattle.std.proofs.Common.{ℕ, zero, suc, Bool, true, false, ◌≡◌, ◌<◌, ◌≤◌, ◌+◌, ◌⊎◌, inl, inr, List, [], ◌∷◌, ◌++◌, length, map, drop, max, Option, Some, slice_get, ◌==◌, refl, sym, ap, ◌∙◌, subst, zero-add, add-zero, append-nil, arith}
+use Rattle.std.proofs.Common.{ℕ, zero, suc, Bool, true, false, ◌≡◌, ◌<◌, ◌≤◌, ◌+◌, ◌⊎◌, inl, inr, List, [], ◌∷◌, ◌++◌, length, map, drop}
+use Rattle.std.proofs.Common.{max, Option, Some, slice_get, ◌==◌, refl, sym, ap, ◌∙◌, subst, zero-add, add-zero, append-nil, arith}
 use Rattle.std.proofs.lemmas.Bool.Decides.{nat_tests}
 use Rattle.std.proofs.lemmas.List.Elements.{filter-append}
 use Rattle.std.proofs.lemmas.Option.{slice_get-map}
 use Rattle.std.specs.Prelude.{option_map}
-use Rattle.nt_types.specs.ShapeData.{ShapeData, ShapesData, MembersData, MemberData, bool, char, byte, int, text, list, fields, tuple, choice, no_kinds, kind, no_parts, part, kinds_of, parts_of}
+use Rattle.nt_types.specs.ShapeData.{ShapeData, ShapesData, MembersData, MemberData, bool, char, byte, int, text, list, fields, tuple}
+use Rattle.nt_types.specs.ShapeData.{choice, no_kinds, kind, no_parts, part, kinds_of, parts_of}
 use Rattle.nt_types.specs.Spelling.{IsType, is_width, depth, deepest_kind, deepest_part}
 use Rattle.nt_types.specs.Schema.{part_under}
 use Rattle.nt_types.specs.Rules.{AreFields}
@@ -14,7 +16,8 @@ use Rattle.nt_grammar.specs.declared.rows.ColumnRow.{ColumnRow}
 use Rattle.nt_grammar.specs.Types.{int_name}
 use Rattle.nt_grammar.specs.Columns.{column_types, int_type}
 use Rattle.nt_grammar.specs.Table.{Table}
-use Rattle.nt_grammar.specs.Rows.{NodeData, AreNodes, Rows, inside, members_in, places_in, at_top, all_inside, place_name, field_row, column_row, column_rows}
+use Rattle.nt_grammar.specs.Rows.{NodeData, AreNodes, Rows, inside, members_in, places_in, at_top, all_inside, place_name, field_row}
+use Rattle.nt_grammar.specs.Rows.{column_row, column_rows}
 use Rattle.nt_grammar.specs.Open.{ids_inside, columns_of_field, all_some, leaf_shape, shape_by_role, open_field, open_shape}
 use Rattle.nt_grammar.specs.AsRead.{as_read, parts_as_read, places_as_read, kinds_as_read}
 use Rattle.nt_grammar.proofs.AllNodes.{AllNodes, IsField, all-fields}

@@ -1,5 +1,6 @@
 -- The fields inside of a field, of rows one behind the other.
-use Rattle.std.proofs.Common.{ℕ, suc, ◌≡◌, ◌<◌, ◌+◌, List, [], ◌∷◌, ◌++◌, length, take, sym, ap, ◌∙◌, ◌==◌, if◌then◌else◌, append_assoc, add-one, add-zero, zero-add, arith}
+use Rattle.std.proofs.Common.{ℕ, suc, ◌≡◌, ◌<◌, ◌+◌, List, [], ◌∷◌, ◌++◌, length, take, sym, ap, ◌∙◌, ◌==◌, if◌then◌else◌, append_assoc}
+use Rattle.std.proofs.Common.{add-one, add-zero, zero-add, arith}
 use Rattle.std.proofs.lemmas.List.{length-take-le, append-nil}
 use Rattle.std.proofs.Math.Seq.{take-suc}
 use Rattle.std.proofs.Math.ListN.{get_or}

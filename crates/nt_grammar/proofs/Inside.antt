@@ -1,11 +1,13 @@
 -- Where the fields inside a described field stand.
-use Rattle.std.proofs.Common.{ℕ, zero, suc, Bool, true, false, ◌≡◌, ◌<◌, ◌≤◌, ◌+◌, ◌-◌, List, [], ◌∷◌, ◌++◌, length, map, take, drop, Some, slice_get, nat_le, ◌==◌, refl, sym, ap, ◌∙◌, subst, append_assoc, append-nil, zero-add, add-one, arith}
+use Rattle.std.proofs.Common.{ℕ, zero, suc, Bool, true, false, ◌≡◌, ◌<◌, ◌≤◌, ◌+◌, ◌-◌, List, [], ◌∷◌, ◌++◌, length, map, take, drop, Some}
+use Rattle.std.proofs.Common.{slice_get, nat_le, ◌==◌, refl, sym, ap, ◌∙◌, subst, append_assoc, append-nil, zero-add, add-one, arith}
 use Rattle.std.proofs.lemmas.Bool.Decides.{nat_tests}
 use Rattle.std.proofs.lemmas.List.{length-map, length-take-le, length-drop, take-append-drop}
 use Rattle.std.proofs.lemmas.Option.{slice_get_within, get_or_from_slice_get}
 use Rattle.std.proofs.Math.Seq.{drop-cons}
 use Rattle.std.specs.Prelude.{◌&&◌, not}
-use Rattle.nt_types.specs.ShapeData.{ShapeData, ShapesData, MembersData, MemberData, bool, char, byte, int, text, list, fields, tuple, choice, no_kinds, kind, no_parts, part}
+use Rattle.nt_types.specs.ShapeData.{ShapeData, ShapesData, MembersData, MemberData, bool, char, byte, int, text, list, fields, tuple}
+use Rattle.nt_types.specs.ShapeData.{choice, no_kinds, kind, no_parts, part}
 use Rattle.nt_grammar.specs.Rows.{NodeData, AreNodes, inside, members_in, places_in, all_inside, at_top, field_row}
 use Rattle.nt_grammar.specs.Listing.{weight}
 use Rattle.nt_grammar.specs.Open.{ids_inside}
@@ -140,7 +142,8 @@ cut ps nodes i e h = e ∙ (ap (λ (z : List NodeData). at_top 0 ps ++ z) (all_i
     ∙ sym (append_assoc (at_top 0 ps) (all_inside 0 (take i nodes)) (all_inside i (drop i nodes))))
 
 -- the fields inside of one stand behind it
-not_before : (ps : List MemberData) (nodes : List NodeData) (i : ℕ) → AreNodes ps nodes → i < length nodes → length (before ps nodes i) ≤ i → ⊥
+not_before : (ps : List MemberData) (nodes : List NodeData) (i : ℕ) → AreNodes ps nodes → i < length nodes
+    → length (before ps nodes i) ≤ i → ⊥
 not_before ps nodes i e h k =
     let s : ℕ = length (before ps nodes i) in
     let rest : drop s nodes ≡ all_inside i (drop i nodes) = ap (drop s) (cut ps nodes i e (omega arith))
@@ -153,7 +156,8 @@ not_before ps nodes i e h k =
     let some : length (drop i nodes) ≡ length nodes - i = length-drop i nodes in
     omega arith
 
-pub start-behind : (ps : List MemberData) (nodes : List NodeData) (i : ℕ) → AreNodes ps nodes → i < length nodes → i < length (before ps nodes i)
+pub start-behind : (ps : List MemberData) (nodes : List NodeData) (i : ℕ) → AreNodes ps nodes → i < length nodes
+    → i < length (before ps nodes i)
 start-behind ps nodes i e h = cases (nat_le (length (before ps nodes i)) i) refl
   where
     cases : (b : Bool) → nat_le (length (before ps nodes i)) i ≡ b → i < length (before ps nodes i)

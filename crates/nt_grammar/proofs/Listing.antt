@@ -1,10 +1,12 @@
 -- Fields that are listed, and those that are left.
-use Rattle.std.proofs.Common.{ℕ, suc, Bool, ◌≡◌, ◌<◌, ◌≤◌, ◌+◌, ◌-◌, List, [], ◌∷◌, ◌++◌, length, take, drop, map, refl, sym, ◌∙◌, ap, append_assoc, zero-add, add-zero, add-one, arith}
+use Rattle.std.proofs.Common.{ℕ, suc, Bool, ◌≡◌, ◌<◌, ◌≤◌, ◌+◌, ◌-◌, List, [], ◌∷◌, ◌++◌, length, take, drop, map, refl, sym, ◌∙◌, ap}
+use Rattle.std.proofs.Common.{append_assoc, zero-add, add-zero, add-one, arith}
 use Rattle.std.proofs.lemmas.Grind.{common_steps}
 use Rattle.std.proofs.lemmas.List.{take-append-le, drop-append-le, length-take-le, append-nil, length-append, take_all, length-drop}
 use Rattle.std.proofs.Math.Seq.{drop-cons, take-suc}
 use Rattle.std.proofs.Math.ListN.{get_or}
-use Rattle.nt_types.specs.ShapeData.{ShapeData, ShapesData, MembersData, MemberData, bool, char, byte, int, text, list, fields, tuple, choice, no_kinds, kind, no_parts, part, parts_of}
+use Rattle.nt_types.specs.ShapeData.{ShapeData, ShapesData, MembersData, MemberData, bool, char, byte, int, text, list, fields, tuple}
+use Rattle.nt_types.specs.ShapeData.{choice, no_kinds, kind, no_parts, part, parts_of}
 use Rattle.nt_types.specs.Schema.{field_count, parts_count, kinds_count}
 use Rattle.nt_grammar.specs.Rows.{NodeData, AreNodes, inside, members_in, places_in, all_inside, at_top, field_row, column_rows, Rows}
 use Rattle.nt_grammar.specs.Table.{Table, table_of}
@@ -108,7 +110,8 @@ AreListed-first ps nodes e = record {
 }
 
 -- where none is left, these are all fields
-pub AreListed-all : (ps : List MemberData) (nodes : List NodeData) (next : ℕ) → length nodes ≤ next → AreListed ps next nodes → AreNodes ps nodes
+pub AreListed-all : (ps : List MemberData) (nodes : List NodeData) (next : ℕ) → length nodes ≤ next → AreListed ps next nodes
+    → AreNodes ps nodes
 AreListed-all ps nodes next h l = l.order ∙ ap (λ (z : List NodeData). at_top 0 ps ++ all_inside 0 z) (take_all next nodes h)
 
 -- there are no more than the parts count

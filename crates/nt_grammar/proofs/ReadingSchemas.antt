@@ -1,9 +1,11 @@
 -- The rows of fields that are described are in range.
-use Rattle.std.proofs.Common.{◌≡◌, ℕ, suc, ◌+◌, ◌<◌, ◌≤◌, ◌^◌, Bool, true, List, [], ◌∷◌, ◌++◌, length, take, drop, map, refl, sym, ap, subst, ◌∙◌, arith}
+use Rattle.std.proofs.Common.{◌≡◌, ℕ, suc, ◌+◌, ◌<◌, ◌≤◌, ◌^◌, Bool, true, List, [], ◌∷◌, ◌++◌, length, take, drop, map, refl, sym, ap}
+use Rattle.std.proofs.Common.{subst, ◌∙◌, arith}
 use Rattle.std.specs.List.{AllByRecursion}
 use Rattle.std.proofs.lemmas.Bool.Decides.{nat_tests}
 use Rattle.std.proofs.lemmas.List.{take_all, length-map}
-use Rattle.nt_types.specs.ShapeData.{ShapeData, ShapesData, MembersData, MemberData, bool, char, byte, int, text, list, fields, tuple, choice, no_kinds, kind, no_parts, part, parts_of}
+use Rattle.nt_types.specs.ShapeData.{ShapeData, ShapesData, MembersData, MemberData, bool, char, byte, int, text, list, fields, tuple}
+use Rattle.nt_types.specs.ShapeData.{choice, no_kinds, kind, no_parts, part, parts_of}
 use Rattle.nt_types.specs.Schema.{parts_count}
 use Rattle.nt_types.specs.Rules.{AreFields}
 use Rattle.nt_types.specs.ColumnTable.{code_of, bits_of}
@@ -14,7 +16,8 @@ use Rattle.nt_grammar.specs.declared.rows.ColumnRow.{ColumnRow}
 use Rattle.nt_grammar.specs.Table.{Table, is_short}
 use Rattle.nt_grammar.specs.Types.{role_of}
 use Rattle.nt_grammar.specs.Columns.{column_types}
-use Rattle.nt_grammar.specs.Rows.{NodeData, AreNodes, inside, members_in, places_in, all_inside, at_top, field_row, column_row, column_rows, Rows}
+use Rattle.nt_grammar.specs.Rows.{NodeData, AreNodes, inside, members_in, places_in, all_inside, at_top, field_row, column_row, column_rows}
+use Rattle.nt_grammar.specs.Rows.{Rows}
 use Rattle.nt_grammar.specs.Listing.{weight}
 use Rattle.nt_grammar.specs.ReadingBack.{AreFieldRows, IsColumnRow, IsDescribed}
 use Rattle.nt_grammar.proofs.Listing.{weight-append, weight-at_top, weight-all_inside, all_inside-self, uncons, regrouped}

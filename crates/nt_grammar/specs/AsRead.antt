@@ -1,6 +1,7 @@
 -- What described fields are read as.
 use Rattle.std.specs.Prelude.{ℕ, ◌+◌}
-use Rattle.nt_types.specs.ShapeData.{ShapeData, ShapesData, MembersData, bool, char, byte, int, text, list, fields, tuple, choice, no_kinds, kind, no_parts, part}
+use Rattle.nt_types.specs.ShapeData.{ShapeData, ShapesData, MembersData, bool, char, byte, int, text, list, fields, tuple, choice, no_kinds}
+use Rattle.nt_types.specs.ShapeData.{kind, no_parts, part}
 use Rattle.nt_grammar.specs.Rows.{place_name}
 
 -- a tuple is read as a record, whose members are named by their places

@@ -3,7 +3,9 @@
 use Rattle.std.specs.Prelude.{ℕ, Bool, List, [], ◌∷◌, ◌==◌, if◌then◌else◌}
 use Rattle.nt_types.specs.ShapeData.{ShapeData, bool, char, byte, int, text, list, fields, tuple, choice}
 use Rattle.nt_types.specs.declared.column_type.ColumnType.{ColumnType}
-use Rattle.nt_types.specs.declared.column_type.ColumnType.TheVariants.{Bit, Byte, Char, Int8, UInt8, Int16, UInt16, Int32, UInt32, Int64, UInt64, Index64, Switch, SplitInt16, SplitUInt16, SplitInt32, SplitUInt32, SplitInt64, SplitUInt64, SplitIndex64}
+use Rattle.nt_types.specs.declared.column_type.ColumnType.TheVariants.{Bit, Byte, Char, Int8, UInt8, Int16, UInt16, Int32, UInt32, Int64}
+use Rattle.nt_types.specs.declared.column_type.ColumnType.TheVariants.{UInt64, Index64, Switch, SplitInt16, SplitUInt16, SplitInt32}
+use Rattle.nt_types.specs.declared.column_type.ColumnType.TheVariants.{SplitUInt32, SplitInt64, SplitUInt64, SplitIndex64}
 
 -- an integer column; plain columns keep the bytes of an element together
 abbrev pub int_type : Bool → ℕ → Bool → ColumnType

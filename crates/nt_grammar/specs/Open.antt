@@ -2,7 +2,8 @@
 -- A field at the top level is open where it and all fields inside it follow this table, and closed otherwise
 -- (RNTuple Binary Format Specification 1.0.0.0, sections Field Description, Column Description and Mapping of C++ Types to Fields
 -- and Columns).
-use Rattle.std.specs.Prelude.{ℕ, zero, suc, ◌+◌, Bool, true, false, List, [], ◌∷◌, ◌++◌, map, filter, find, Option, Some, None, option_map, option_and_then, slice_get, nat_le, nat_lt, ◌==◌, ◌&&◌, ◌||◌, not, codes, if◌then◌else◌}
+use Rattle.std.specs.Prelude.{ℕ, zero, suc, ◌+◌, Bool, true, false, List, [], ◌∷◌, ◌++◌, map, filter, find, Option, Some, None, option_map}
+use Rattle.std.specs.Prelude.{option_and_then, slice_get, nat_le, nat_lt, ◌==◌, ◌&&◌, ◌||◌, not, codes, if◌then◌else◌}
 use Rattle.std.specs.List.{list_any}
 use Rattle.std.specs.Str.{bytes_eq}
 use Rattle.nt_types.specs.ShapeData.{ShapeData, MemberData, bool, char, byte, int, text, list, fields, choice, kinds_of, parts_of}
@@ -12,7 +13,8 @@ use Rattle.nt_types.specs.declared.column_type.ColumnType.{ColumnType}
 use Rattle.nt_types.specs.declared.column_type.ColumnType.TheVariants.{Char, Index32, Index64, SplitIndex32, SplitIndex64, Switch}
 use Rattle.nt_grammar.specs.declared.rows.FieldRow.{FieldRow}
 use Rattle.nt_grammar.specs.declared.rows.ColumnRow.{ColumnRow}
-use Rattle.nt_grammar.specs.Codes.{leaf_role, collection_role, record_role, variant_role, checksum_flag, deferred_flag, suppressed, most_levels}
+use Rattle.nt_grammar.specs.Codes.{leaf_role, collection_role, record_role, variant_role, checksum_flag, deferred_flag, suppressed}
+use Rattle.nt_grammar.specs.Codes.{most_levels}
 use Rattle.nt_grammar.specs.Table.{Table}
 use Rattle.nt_grammar.specs.Types.{cpp_name}
 use Rattle.nt_grammar.specs.Columns.{column_types}

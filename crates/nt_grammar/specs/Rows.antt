@@ -2,7 +2,8 @@
 -- (RNTuple Binary Format Specification 1.0.0.0, sections Field Description and Column Description).
 use Rattle.std.specs.Prelude.{ℕ, ◌≡◌, ◌+◌, Bool, List, [], ◌∷◌, ◌++◌, map, length}
 use Rattle.std.specs.Fmt.{decimal}
-use Rattle.nt_types.specs.ShapeData.{ShapeData, ShapesData, MembersData, MemberData, bool, char, byte, int, text, list, fields, tuple, choice, no_kinds, kind, no_parts, part}
+use Rattle.nt_types.specs.ShapeData.{ShapeData, ShapesData, MembersData, MemberData, bool, char, byte, int, text, list, fields, tuple}
+use Rattle.nt_types.specs.ShapeData.{choice, no_kinds, kind, no_parts, part}
 use Rattle.nt_types.specs.ColumnTable.{code_of, bits_of}
 use Rattle.nt_types.specs.declared.column_type.ColumnType.{ColumnType}
 use Rattle.nt_grammar.specs.declared.rows.FieldRow.{FieldRow}

@@ -7,7 +7,8 @@ use Rattle.nt_machine.specs.declared.entry.EntryKind.TheVariants as entry
 use Rattle.nt_machine.specs.History.{Fate, Cluster}
 use Rattle.nt_machine.specs.History as history
 use Rattle.nt_machine.specs.Legal.{end_after}
-use Rattle.nt_machine.specs.Machine.{Mark, Out, Settled, Spoiled, Empty, ChunkRange, MachineState, ContextStep, Reserve, Write, WriteFail, Settle, chunks_of}
+use Rattle.nt_machine.specs.Machine.{Mark, Out, Settled, Spoiled, Empty, ChunkRange, MachineState, ContextStep, Reserve, Write, WriteFail}
+use Rattle.nt_machine.specs.Machine.{Settle, chunks_of}
 
 -- how the machine marks what became of a range
 abbrev pub mark_of_fate : Fate → Mark

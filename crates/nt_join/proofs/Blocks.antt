@@ -1,5 +1,6 @@
 -- Sweeps over a Switch, one for each block of tags.
-use Rattle.std.proofs.Common.{◌≡◌, ℕ, suc, ◌<◌, ◌≤◌, ◌⊎◌, inl, inr, ◌==◌, nat_le, true, false, List, [], ◌∷◌, length, take, Option, refl, ap, sym, ◌∙◌, subst, arith}
+use Rattle.std.proofs.Common.{◌≡◌, ℕ, suc, ◌<◌, ◌≤◌, ◌⊎◌, inl, inr, ◌==◌, nat_le, true, false, List, [], ◌∷◌, length, take, Option, refl}
+use Rattle.std.proofs.Common.{ap, sym, ◌∙◌, subst, arith}
 use Rattle.std.proofs.lemmas.Bool.{le-leb, eq-eqb, and_from, or_left, or_right, cases_eq, cases_lt}
 use Rattle.nt_column.specs.Elements.{Element}
 use Rattle.nt_plans.specs.Plan.{PlanData, plans_of}

@@ -22,7 +22,8 @@ use Rattle.nt_layout.specs.Headers.{header_object, header_sum, clusters_place}
 use Rattle.nt_layout.specs.Groups.{ClusterSpan, list_len}
 use Rattle.nt_layout.specs.Finished.{spans, footer_object, finished, file_len}
 
--- the columns of a schema give these entries: their elements are of their types, they are sound, and of each entry they have the trees of the
+-- the columns of a schema give these entries: their elements are of their types, they are sound, and of each entry they have the
+-- trees of the
 -- open fields
 pub record Gives (t : Table) (columns : List Column) (entries : List TreesData) : Type 0 where
   pub set : IsSetOf t.columns columns
@@ -31,7 +32,8 @@ pub record Gives (t : Table) (columns : List Column) (entries : List TreesData) 
   pub trees : entries ≡ map (each_at (open_plans t) (elements_at columns)) (range_with_len 0 (length entries))
 
 -- the bytes are the blob of these entries at a place, on pages of at most so many elements, and this is kept of it
-pub record IsBlobOfEntries (t : Table) (page : ℕ) (entries : List TreesData) (place : ℕ) (bytes : List ℕ) (meta : ClusterMeta) : Type 0 where
+pub record IsBlobOfEntries (t : Table) (page : ℕ) (entries : List TreesData) (place : ℕ) (bytes : List ℕ)
+    (meta : ClusterMeta) : Type 0 where
   pub columns : List Column
   pub gives : Gives t columns entries
   pub bytes_are : bytes ≡ blob place (payload page columns)

@@ -1,5 +1,6 @@
 -- The groups of a list.
-use Rattle.std.proofs.Common.{◌≡◌, ℕ, zero, suc, ◌+◌, ◌-◌, ◌*◌, ◌<◌, ◌≤◌, min, List, [], ◌++◌, length, map, drop, get_or, refl, sym, ◌∙◌, ap, arith, add-one, add-zero, zero-add}
+use Rattle.std.proofs.Common.{◌≡◌, ℕ, zero, suc, ◌+◌, ◌-◌, ◌*◌, ◌<◌, ◌≤◌, min, List, [], ◌++◌, length, map, drop, get_or, refl, sym, ◌∙◌}
+use Rattle.std.proofs.Common.{ap, arith, add-one, add-zero, zero-add}
 use Rattle.std.specs.Int.{div_ceil}
 use Rattle.std.specs.List.{range_with_len, flat_map, slice_range}
 use Rattle.std.proofs.lemmas.List.{length-map, length-take, length-drop, drop_all, drop-drop, take-append-drop, take_min}

@@ -1,5 +1,6 @@
 -- What a log tells of the ranges of a history.
-use Rattle.std.proofs.Common.{◌≡◌, ◌∙◌, ap, sym, refl, ℕ, zero, suc, ◌+◌, ◌-◌, List, [], ◌∷◌, ◌++◌, length, map, take, drop, replicate, Option, Some, None, arith, subst, append_assoc, append-nil}
+use Rattle.std.proofs.Common.{◌≡◌, ◌∙◌, ap, sym, refl, ℕ, zero, suc, ◌+◌, ◌-◌, List, [], ◌∷◌, ◌++◌, length, map, take, drop, replicate}
+use Rattle.std.proofs.Common.{Option, Some, None, arith, subst, append_assoc, append-nil}
 use Rattle.std.specs.List.{AllZip, fold, flat_map}
 use Rattle.std.proofs.lemmas.List.{map-append, length-map, length-replicate, take-map, drop-map}
 use Rattle.std.proofs.Math.Seq.{take-append-add, drop-append-add, drop-append_seam}
@@ -58,13 +59,16 @@ known_over cells new m =
     ∙ sym (map-append known_byte (take m cells) (new ++ drop (m + length new) cells)))))
 
 -- the steps behind a front, whatever it is
-known_behind : (front : List Known) (blank cells : Cells) (steps : List DiskStep) → length blank ≡ length front → IsFrom (length front) steps
-    → known_from (front ++ known_all cells) (map logged_step steps) ≡ front ++ known_all (drop (length blank) (fold after_disk_step (blank ++ cells) steps))
+known_behind : (front : List Known) (blank cells : Cells) (steps : List DiskStep) → length blank ≡ length front
+    → IsFrom (length front) steps
+    → known_from (front ++ known_all cells) (map logged_step steps) ≡ front
+        ++ known_all (drop (length blank) (fold after_disk_step (blank ++ cells) steps))
 known_behind front blank cells [] same h = ap (λ (l : Cells). front ++ known_all l) (sym (drop-append_seam blank cells))
 known_behind front blank cells (ReserveRange start len ∷ steps) same h =
     let more : Cells = replicate len None in
     ap (λ (l : List Known). known_from l (map logged_step steps))
-    (append_assoc front (known_all cells) (unknown len) ∙ ap (λ (l : List Known). front ++ l) (ap (λ (l : List Known). known_all cells ++ l) (known_none len) ∙ sym (map-append known_byte cells more)))
+    (append_assoc front (known_all cells) (unknown len) ∙ ap (λ (l : List Known). front ++ l)
+        (ap (λ (l : List Known). known_all cells ++ l) (known_none len) ∙ sym (map-append known_byte cells more)))
     ∙ (known_behind front blank (cells ++ more) steps same h.1
     ∙ ap (λ (l : Cells). front ++ known_all (drop (length blank) (fold after_disk_step l steps))) (sym (append_assoc blank cells more)))
 known_behind front blank cells (SettleRange start len bytes ∷ steps) same h =
@@ -77,7 +81,8 @@ known_behind front blank cells (SettleRange start len bytes ∷ steps) same h =
     ∙ (ap (λ (l : List Known). laid (front ++ known_all cells) start l) (known_settled len bytes)
     ∙ (over_front front (known_all cells) (known_all new) start m here ∙ ap (λ (l : List Known). front ++ l) (known_over cells new m))))
     ∙ (known_behind front blank (laid cells m new) steps same h.1
-    ∙ ap (λ (l : Cells). front ++ known_all (drop (length blank) (fold after_disk_step l steps))) (sym (over_front blank cells new start m there)))
+    ∙ ap (λ (l : Cells). front ++ known_all (drop (length blank) (fold after_disk_step l steps)))
+        (sym (over_front blank cells new start m there)))
 
 known_from-append : (known : List Known) (one two : List Step) → known_from known (one ++ two) ≡ known_from (known_from known one) two
 known_from-append known [] two = refl
@@ -98,8 +103,10 @@ all_told log history ok =
     ∙ ap (λ (l : Cells). front ++ known_all l) (drop-append_seam blank (flat_map cluster_cells (ranges_of history)))))))
 
 -- all ranges are settled
-pub all_read : {M : Type 0} (log : List Step) (front image : List ℕ) (history : List (Entry M)) (parts : List (List ℕ)) → IsKnown log front → IsLegal (length front) history
-    → AllZip (λ part (c : Cluster M). c.state ≡ Settled (Some part)) parts (ranges_of history) → Reads (log ++ steps_of_history history) image
+pub all_read : {M : Type 0} (log : List Step) (front image : List ℕ) (history : List (Entry M)) (parts : List (List ℕ))
+    → IsKnown log front → IsLegal (length front) history
+    → AllZip (λ part (c : Cluster M). c.state ≡ Settled (Some part)) parts (ranges_of history)
+        → Reads (log ++ steps_of_history history) image
     → image ≡ front ++ flat_map (λ part. part) parts
 all_read log front image history parts known ok settled reads =
     let long : length (known_of log) ≡ length front = ap (λ (l : List Known). length l) known ∙ length-map front exactly in

@@ -1,5 +1,6 @@
 -- Each entry of a history in its steps, and its faults in the count.
-use Rattle.std.proofs.Common.{◌≡◌, sym, ℕ, zero, suc, ◌-◌, ◌^◌, ◌<◌, ◌≤◌, ◌==◌, Bool, true, false, cond, List, [], ◌∷◌, Some, arith, subst, inl, inr}
+use Rattle.std.proofs.Common.{◌≡◌, sym, ℕ, zero, suc, ◌-◌, ◌^◌, ◌<◌, ◌≤◌, ◌==◌, Bool, true, false, cond, List, [], ◌∷◌, Some, arith, subst}
+use Rattle.std.proofs.Common.{inl, inr}
 use Rattle.std.specs.Prelude.{slice_get, ◌⊎◌}
 use Rattle.nt_outside.specs.Faults.{Rose}
 use Rattle.nt_machine.specs.declared.entry.Entry.{Entry}
@@ -37,11 +38,14 @@ module _ {M : Type 0} where
   counted least [] count h i k e at faulty = cc
   counted least (d ∷ ds) count h i k e at faulty =
       here (d.context == i) k at
-      (λ m at. rose_later least (faults_after least d.kind) count (faults_after-least least d.kind h.0) (counted (faults_after least d.kind) ds count h.1 i m e at faulty))
+      (λ m at. rose_later least (faults_after least d.kind) count (faults_after-least least d.kind h.0)
+          (counted (faults_after least d.kind) ds count h.1 i m e at faulty))
     where
-      here : (b : Bool) (k : ℕ) → slice_get (cond b (d ∷ mine_of ds i) (mine_of ds i)) k ≡ Some e → ((m : ℕ) → slice_get (mine_of ds i) m ≡ Some e → Rose least count) → Rose least count
+      here : (b : Bool) (k : ℕ) → slice_get (cond b (d ∷ mine_of ds i) (mine_of ds i)) k ≡ Some e
+          → ((m : ℕ) → slice_get (mine_of ds i) m ≡ Some e → Rose least count) → Rose least count
       here false k at later = later k at
       here true zero at later =
           let same : d ≡ e = cc in
-          rose_by least (faults_after least d.kind) count (h.0 (subst (λ (x : Entry M). HasFaults x.kind) (sym same) faulty)) (rise-least (faults_after least d.kind) ds count h.1)
+          rose_by least (faults_after least d.kind) count (h.0 (subst (λ (x : Entry M). HasFaults x.kind) (sym same) faulty))
+              (rise-least (faults_after least d.kind) ds count h.1)
       here true (suc k) at later = later k at

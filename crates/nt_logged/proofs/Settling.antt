@@ -1,5 +1,6 @@
 -- Each entry of a settled range has its step.
-use Rattle.std.proofs.Common.{arith, ◌≡◌, ◌∙◌, refl, ap, sym, subst, ℕ, zero, suc, ◌+◌, ◌&&◌, ◌==◌, Bool, true, false, cond, List, [], ◌∷◌, ◌++◌, map, length, Option, Some}
+use Rattle.std.proofs.Common.{arith, ◌≡◌, ◌∙◌, refl, ap, sym, subst, ℕ, zero, suc, ◌+◌, ◌&&◌, ◌==◌, Bool, true, false, cond, List, [], ◌∷◌}
+use Rattle.std.proofs.Common.{◌++◌, map, length, Option, Some}
 use Rattle.std.specs.Prelude.{slice_get}
 use Rattle.std.specs.List.{fold}
 use Rattle.nt_lists.proofs.Variants.{some_is}
@@ -51,7 +52,8 @@ module _ {M : Type 0} where
       at true = refl
       at false = refl
 
-  placed-handed : (i m : ℕ) (state : Fate) (ranges : List (Cluster M)) (n start len : ℕ) → IsPlaced ranges n start len → IsPlaced (map (handed_back i m state) ranges) n start len
+  placed-handed : (i m : ℕ) (state : Fate) (ranges : List (Cluster M)) (n start len : ℕ) → IsPlaced ranges n start len
+      → IsPlaced (map (handed_back i m state) ranges) n start len
   placed-handed i m state ranges n start len p = record {
     range = handed_back i m state p.range;
     at = get-map (handed_back i m state) ranges n p.range p.at;
@@ -59,16 +61,19 @@ module _ {M : Type 0} where
     len_is = len-kept i m state p.range ∙ p.len_is;
   }
 
-  placed-after : (ranges : List (Cluster M)) (i : ℕ) (kind : EntryKind M) (n start len : ℕ) → IsPlaced ranges n start len → IsPlaced (after_kind ranges i kind) n start len
+  placed-after : (ranges : List (Cluster M)) (i : ℕ) (kind : EntryKind M) (n start len : ℕ) → IsPlaced ranges n start len
+      → IsPlaced (after_kind ranges i kind) n start len
   placed-after ranges i (entry.Committed m at more meta) n start len p =
       record { range = p.range; at = get-append ranges _ n p.range p.at; start_is = p.start_is; len_is = p.len_is }
   placed-after ranges i (entry.Settled m bytes) n start len p = placed-handed i m _ ranges n start len p
   placed-after ranges i (entry.Spoiled m faults) n start len p = placed-handed i m _ ranges n start len p
   placed-after ranges i (entry.Faulted faults) n start len p = p
 
-  placed-all : (ranges : List (Cluster M)) (es : List (Entry M)) (n start len : ℕ) → IsPlaced ranges n start len → IsPlaced (fold after_entry ranges es) n start len
+  placed-all : (ranges : List (Cluster M)) (es : List (Entry M)) (n start len : ℕ) → IsPlaced ranges n start len
+      → IsPlaced (fold after_entry ranges es) n start len
   placed-all ranges [] n start len p = p
-  placed-all ranges (e ∷ es) n start len p = placed-all (after_entry ranges e) es n start len (placed-after ranges e.context e.kind n start len p)
+  placed-all ranges (e ∷ es) n start len p = placed-all (after_entry ranges e) es n start len
+      (placed-after ranges e.context e.kind n start len p)
 
   -- what is found of an entry of a settled range
   record IsFound (ranges : List (Cluster M)) (es : List (Entry M)) (n : ℕ) (bytes : Option (List ℕ)) : Type 0 where
@@ -94,7 +99,8 @@ module _ {M : Type 0} where
             start = is.cluster.start;
             len = is.cluster.len;
             placed = placed-all (after_entry ranges settled) es n _ _
-                (placed-after ranges i (entry.Settled n bytes) n _ _ (record { range = is.cluster; at = is.at; start_is = refl; len_is = refl }));
+                (placed-after ranges i (entry.Settled n bytes) n _ _ (record { range = is.cluster; at = is.at; start_is =
+                    refl; len_is = refl }));
             step = 0;
             logged = ap (λ (o : Option (Cluster M)). slice_get (settle_at o bytes ++ log_after (after_entry ranges settled) es) 0) is.at;
           }
@@ -117,5 +123,6 @@ module _ {M : Type 0} where
         at = f.placed.at;
         step = f.step;
         logged = get-map logged_step (log_of history) f.step _ f.logged
-            ∙ (ap (λ (s : ℕ). Some (Settle s f.len bytes)) (sym f.placed.start_is) ∙ ap (λ (l : ℕ). Some (Settle f.placed.range.start l bytes)) (sym f.placed.len_is));
+            ∙ (ap (λ (s : ℕ). Some (Settle s f.len bytes)) (sym f.placed.start_is)
+                ∙ ap (λ (l : ℕ). Some (Settle f.placed.range.start l bytes)) (sym f.placed.len_is));
       }

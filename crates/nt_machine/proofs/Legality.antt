@@ -1,5 +1,6 @@
 -- What holds of the clusters of a legal history.
-use Rattle.std.proofs.Common.{◌≡◌, ℕ, zero, suc, ◌+◌, ◌<◌, ◌==◌, ◌&&◌, Bool, true, false, cond, List, [], ◌∷◌, ◌++◌, length, map, Some, refl, sym, ap, ◌∙◌, subst, arith}
+use Rattle.std.proofs.Common.{◌≡◌, ℕ, zero, suc, ◌+◌, ◌<◌, ◌==◌, ◌&&◌, Bool, true, false, cond, List, [], ◌∷◌, ◌++◌, length, map, Some}
+use Rattle.std.proofs.Common.{refl, sym, ap, ◌∙◌, subst, arith}
 use Rattle.std.specs.Prelude.{slice_get}
 use Rattle.std.specs.List.{fold, sum}
 use Rattle.std.proofs.Math.ListN.{set}
@@ -31,25 +32,29 @@ module _ {M : Type 0} where
   abbrev IsApart : ℕ → List (Cluster M) → Type 0
   IsApart place cs = IsDisjoint place (spans_of cs) (end_after place cs)
 
-  end_after-back : (place i n : ℕ) (state : Fate) (cs : List (Cluster M)) → end_after place (map (handed_back i n state) cs) ≡ end_after place cs
+  end_after-back : (place i n : ℕ) (state : Fate) (cs : List (Cluster M)) → end_after place (map (handed_back i n state) cs)
+      ≡ end_after place cs
   end_after-back place i n state cs =
       ap (λ (s : ℕ). place + s) (sym (sum-map (λ (c : Cluster M). c.len) (map (handed_back i n state) cs))
       ∙ (ap sum (handed_back-same (λ (c : Cluster M). c.len) (λ c s. refl) i n state cs) ∙ sum-map (λ (c : Cluster M). c.len) cs))
 
   IsApart-back : (place i n : ℕ) (state : Fate) (cs : List (Cluster M)) → IsApart place cs → IsApart place (map (handed_back i n state) cs)
   IsApart-back place i n state cs h =
-      let ranges : spans_of (map (handed_back i n state) cs) ≡ spans_of cs = handed_back-same (λ (c : Cluster M). record { start = c.start; len = c.len }) (λ c s. refl) i n state cs in
+      let ranges : spans_of (map (handed_back i n state) cs) ≡ spans_of cs =
+              handed_back-same (λ (c : Cluster M). record { start = c.start; len = c.len }) (λ c s. refl) i n state cs in
       subst (λ (l : List Span). IsDisjoint place l (end_after place (map (handed_back i n state) cs))) (sym ranges)
       (subst (λ (e : ℕ). IsDisjoint place (spans_of cs) e) (sym (end_after-back place i n state cs)) h)
 
   pub end_after-snoc : (place : ℕ) (cs : List (Cluster M)) (c : Cluster M) → end_after place (cs ++ c ∷ []) ≡ end_after place cs + c.len
   end_after-snoc place cs c = omega (arith, sum_by-append (λ (d : Cluster M). d.len) cs (c ∷ []))
 
-  IsApart-after_entry : (place : ℕ) (cs : List (Cluster M)) (i : ℕ) (k : EntryKind M) → IsKindAllowed place cs i k → IsApart place cs → IsApart place (after_kind cs i k)
+  IsApart-after_entry : (place : ℕ) (cs : List (Cluster M)) (i : ℕ) (k : EntryKind M) → IsKindAllowed place cs i k
+      → IsApart place cs → IsApart place (after_kind cs i k)
   IsApart-after_entry place cs i (entry.Committed n start len meta) ok h =
       let c : Cluster M = record { context = i; number = n; start = start; len = len; meta = meta; state = Out } in
       let grown = IsDisjoint-snoc place (spans_of cs) (end_after place cs) (record { start = start; len = len }) h (omega arith) in
-      let ranges : spans_of (cs ++ c ∷ []) ≡ spans_of cs ++ record { start = start; len = len } ∷ [] = map-append (λ (d : Cluster M). record { start = d.start; len = d.len }) cs (c ∷ []) in
+      let ranges : spans_of (cs ++ c ∷ []) ≡ spans_of cs ++ record { start = start; len = len } ∷ [] =
+              map-append (λ (d : Cluster M). record { start = d.start; len = d.len }) cs (c ∷ []) in
       let end : start + len ≡ end_after place (cs ++ c ∷ []) = ap (λ (s : ℕ). s + len) ok.1 ∙ sym (end_after-snoc place cs c) in
       subst (λ (l : List Span). IsDisjoint place l (end_after place (cs ++ c ∷ []))) (sym ranges)
       (subst (λ (e : ℕ). IsDisjoint place (spans_of cs ++ record { start = start; len = len } ∷ []) e) end grown)
@@ -57,12 +62,14 @@ module _ {M : Type 0} where
   IsApart-after_entry place cs i (entry.Spoiled n faults) ok h = IsApart-back place i n (Spoiled faults) cs h
   IsApart-after_entry place cs i (entry.Faulted faults) ok h = h
 
-  pub IsApart-fold : (place : ℕ) (cs : List (Cluster M)) (history : List (Entry M)) → IsLegalAfter place cs history → IsApart place cs → IsApart place (fold after_entry cs history)
+  pub IsApart-fold : (place : ℕ) (cs : List (Cluster M)) (history : List (Entry M)) → IsLegalAfter place cs history
+      → IsApart place cs → IsApart place (fold after_entry cs history)
   IsApart-fold place cs [] ok h = h
   IsApart-fold place cs (e ∷ es) ok h = IsApart-fold place (after_entry cs e) es ok.1 (IsApart-after_entry place cs e.context e.kind ok.0 h)
 
   -- one entry more
-  pub IsLegalAfter-snoc : (place : ℕ) (cs : List (Cluster M)) (history : List (Entry M)) (e : Entry M) → IsLegalAfter place cs history → IsAllowed place (fold after_entry cs history) e → IsLegalAfter place cs (history ++ e ∷ [])
+  pub IsLegalAfter-snoc : (place : ℕ) (cs : List (Cluster M)) (history : List (Entry M)) (e : Entry M)
+      → IsLegalAfter place cs history → IsAllowed place (fold after_entry cs history) e → IsLegalAfter place cs (history ++ e ∷ [])
   IsLegalAfter-snoc place cs [] e ok allowed = (allowed, tt)
   IsLegalAfter-snoc place cs (d ∷ ds) e ok allowed = (ok.0, IsLegalAfter-snoc place (after_entry cs d) ds e ok.1 allowed)
 
@@ -71,30 +78,36 @@ module _ {M : Type 0} where
   IsNumbered n [] = Unit {0}
   IsNumbered n (c ∷ cs) = (c.number ≡ n) × IsNumbered (suc n) cs
 
-  IsNumbered-snoc : (n : ℕ) (cs : List (Cluster M)) (c : Cluster M) → IsNumbered n cs → c.number ≡ n + length cs → IsNumbered n (cs ++ c ∷ [])
+  IsNumbered-snoc : (n : ℕ) (cs : List (Cluster M)) (c : Cluster M) → IsNumbered n cs → c.number ≡ n + length cs
+      → IsNumbered n (cs ++ c ∷ [])
   IsNumbered-snoc n [] c h is = (omega arith, tt)
   IsNumbered-snoc n (d ∷ cs) c h is = (h.0, IsNumbered-snoc (suc n) cs c h.1 (omega arith))
 
   IsNumbered-back : (m i n : ℕ) (state : Fate) (cs : List (Cluster M)) → IsNumbered m cs → IsNumbered m (map (handed_back i n state) cs)
   IsNumbered-back m i n state [] h = tt
-  IsNumbered-back m i n state (c ∷ cs) h = (at (c.context == i && c.number == n && is_out c.state), IsNumbered-back (suc m) i n state cs h.1)
+  IsNumbered-back m i n state (c ∷ cs) h = (at (c.context == i && c.number == n && is_out c.state),
+      IsNumbered-back (suc m) i n state cs h.1)
     where
       at : (b : Bool) → (cond b (record c { state = state }) c).number ≡ m
       at true = h.0
       at false = h.0
 
-  pub IsNumbered-after_entry : (place : ℕ) (cs : List (Cluster M)) (i : ℕ) (k : EntryKind M) → IsKindAllowed place cs i k → IsNumbered 0 cs → IsNumbered 0 (after_kind cs i k)
+  pub IsNumbered-after_entry : (place : ℕ) (cs : List (Cluster M)) (i : ℕ) (k : EntryKind M) → IsKindAllowed place cs i k
+      → IsNumbered 0 cs → IsNumbered 0 (after_kind cs i k)
   IsNumbered-after_entry place cs i (entry.Committed n start len meta) ok h = IsNumbered-snoc 0 cs _ h (omega arith)
   IsNumbered-after_entry place cs i (entry.Settled n bytes) ok h = IsNumbered-back 0 i n (Settled bytes) cs h
   IsNumbered-after_entry place cs i (entry.Spoiled n faults) ok h = IsNumbered-back 0 i n (Spoiled faults) cs h
   IsNumbered-after_entry place cs i (entry.Faulted faults) ok h = h
 
-  IsNumbered-fold : (place : ℕ) (cs : List (Cluster M)) (history : List (Entry M)) → IsLegalAfter place cs history → IsNumbered 0 cs → IsNumbered 0 (fold after_entry cs history)
+  IsNumbered-fold : (place : ℕ) (cs : List (Cluster M)) (history : List (Entry M)) → IsLegalAfter place cs history → IsNumbered 0 cs
+      → IsNumbered 0 (fold after_entry cs history)
   IsNumbered-fold place cs [] ok h = h
-  IsNumbered-fold place cs (e ∷ es) ok h = IsNumbered-fold place (after_entry cs e) es ok.1 (IsNumbered-after_entry place cs e.context e.kind ok.0 h)
+  IsNumbered-fold place cs (e ∷ es) ok h = IsNumbered-fold place (after_entry cs e) es ok.1
+      (IsNumbered-after_entry place cs e.context e.kind ok.0 h)
 
   handed_back-number : (i n : ℕ) (state : Fate) (c : Cluster M) → (c.number ≡ n → ⊥) → handed_back i n state c ≡ c
-  handed_back-number i n state c differ = ap (λ (b : Bool). cond (c.context == i && b && is_out c.state) (record c { state = state }) c) (not-eqb c.number n differ) ∙ at (c.context == i)
+  handed_back-number i n state c differ = ap (λ (b : Bool). cond (c.context == i && b && is_out c.state) (record c { state =
+      state }) c) (not-eqb c.number n differ) ∙ at (c.context == i)
     where
       at : (b : Bool) → cond (b && false && is_out c.state) (record c { state = state }) c ≡ c
       at true = refl
@@ -106,8 +119,10 @@ module _ {M : Type 0} where
       ap (λ (d : Cluster M). d ∷ map (handed_back i n state) cs) (handed_back-number i n state c (λ is. omega (arith, is, h.0)))
       ∙ ap (λ (l : List (Cluster M)). c ∷ l) (handed_back-higher (suc m) i n state cs h.1 (omega arith))
 
-  pub handed_back-here : (i n : ℕ) (state : Fate) (c : Cluster M) → c.context ≡ i → c.number ≡ n → c.state ≡ Out → handed_back i n state c ≡ record c { state = state }
-  handed_back-here i n state c own is out = at (c.context == i) (c.number == n) (is_out c.state) (eq-eqb c.context i own) (eq-eqb c.number n is) (ap is_out out)
+  pub handed_back-here : (i n : ℕ) (state : Fate) (c : Cluster M) → c.context ≡ i → c.number ≡ n → c.state ≡ Out
+      → handed_back i n state c ≡ record c { state = state }
+  handed_back-here i n state c own is out = at (c.context == i) (c.number == n) (is_out c.state) (eq-eqb c.context i own)
+      (eq-eqb c.number n is) (ap is_out out)
     where
       at : (x y z : Bool) → x ≡ true → y ≡ true → z ≡ true → cond (x && y && z) (record c { state = state }) c ≡ record c { state = state }
       at true true true p q r = refl
@@ -122,7 +137,8 @@ module _ {M : Type 0} where
   map-handed_back m i state (d ∷ cs) zero n c h is at own out =
       let same : d ≡ c = cc in
       let number : d.number ≡ n = omega (arith, h.0) in
-      ap (λ (e : Cluster M). e ∷ map (handed_back i n state) cs) (handed_back-here i n state d (ap (λ (e : Cluster M). e.context) same ∙ own) number (ap (λ (e : Cluster M). e.state) same ∙ out))
+      ap (λ (e : Cluster M). e ∷ map (handed_back i n state) cs)
+          (handed_back-here i n state d (ap (λ (e : Cluster M). e.context) same ∙ own) number (ap (λ (e : Cluster M). e.state) same ∙ out))
       ∙ (ap (λ (l : List (Cluster M)). record d { state = state } ∷ l) (handed_back-higher (suc m) i n state cs h.1 (omega arith))
       ∙ ap (λ (e : Cluster M). record e { state = state } ∷ cs) same)
   map-handed_back m i state (d ∷ cs) (suc k) n c h is at own out =
@@ -139,10 +155,12 @@ module _ {M : Type 0} where
   IsNumbered-at m (d ∷ cs) (suc n) c h at = let rest = IsNumbered-at (suc m) cs n c h.1 at in omega arith
 
   -- in a legal history a cluster changes in its place
-  pub ranges_of-back : (place i n : ℕ) (state : Fate) (history : List (Entry M)) → IsLegal place history → (is : IsOut (clusters_of history) i n)
+  pub ranges_of-back : (place i n : ℕ) (state : Fate) (history : List (Entry M)) → IsLegal place history
+      → (is : IsOut (clusters_of history) i n)
       → map (handed_back i n state) (clusters_of history) ≡ set (clusters_of history) n (record is.cluster { state = state })
   ranges_of-back place i n state history ok is =
-      map-handed_back 0 i state (clusters_of history) n n is.cluster (IsNumbered-fold place [] history ok tt) (omega arith) is.at is.own is.out
+      map-handed_back 0 i state (clusters_of history) n n is.cluster (IsNumbered-fold place [] history ok tt) (omega arith)
+          is.at is.own is.out
 
   pub ranges_of-snoc : (history : List (Entry M)) (e : Entry M) → clusters_of (history ++ e ∷ []) ≡ after_entry (clusters_of history) e
   ranges_of-snoc history e = fold-append after_entry [] history (e ∷ [])

@@ -1,5 +1,6 @@
 -- An entry with faults shows in the count.
-use Rattle.std.proofs.Common.{◌≡◌, ℕ, zero, suc, ◌-◌, ◌^◌, ◌<◌, ◌≤◌, ◌==◌, Bool, true, false, cond, List, [], ◌∷◌, sym, subst, arith, ◌⊎◌, inl, inr}
+use Rattle.std.proofs.Common.{◌≡◌, ℕ, zero, suc, ◌-◌, ◌^◌, ◌<◌, ◌≤◌, ◌==◌, Bool, true, false, cond, List, [], ◌∷◌, sym, subst, arith, ◌⊎◌}
+use Rattle.std.proofs.Common.{inl, inr}
 use Rattle.std.specs.Prelude.{Some, slice_get}
 use Rattle.nt_machine.specs.declared.entry.Entry.{Entry}
 use Rattle.nt_machine.specs.declared.entry.EntryKind.{EntryKind}
@@ -41,11 +42,14 @@ module _ {M : Type 0} where
   rose least [] count h last i k e at faulty = cc
   rose least (d ∷ ds) count h last i k e at faulty =
       here (d.context == i) k at
-      (λ m at. HasRisen-later least (faults_after least d.kind) count (faults_after-le least d.kind h.0) (rose (faults_after least d.kind) ds count h.1 last i m e at faulty))
+      (λ m at. HasRisen-later least (faults_after least d.kind) count (faults_after-le least d.kind h.0)
+          (rose (faults_after least d.kind) ds count h.1 last i m e at faulty))
     where
-      here : (b : Bool) (k : ℕ) → slice_get (cond b (d ∷ mine_of ds i) (mine_of ds i)) k ≡ Some e → ((m : ℕ) → slice_get (mine_of ds i) m ≡ Some e → HasRisen least count) → HasRisen least count
+      here : (b : Bool) (k : ℕ) → slice_get (cond b (d ∷ mine_of ds i) (mine_of ds i)) k ≡ Some e
+          → ((m : ℕ) → slice_get (mine_of ds i) m ≡ Some e → HasRisen least count) → HasRisen least count
       here false k at later = later k at
       here true zero at later =
           let same : d ≡ e = cc in
-          HasRisen-more least (faults_after least d.kind) count (h.0 (subst (λ (x : Entry M). HasFaults x.kind) (sym same) faulty)) (FaultsRise-le (faults_after least d.kind) ds count h.1) last
+          HasRisen-more least (faults_after least d.kind) count (h.0 (subst (λ (x : Entry M). HasFaults x.kind) (sym same) faulty))
+              (FaultsRise-le (faults_after least d.kind) ds count h.1) last
       here true (suc k) at later = later k at

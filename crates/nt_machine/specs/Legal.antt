@@ -44,6 +44,7 @@ module _ {M : Type 0} where
   IsLegalAfter place ranges [] = Unit {0}
   IsLegalAfter place ranges (e ∷ es) = IsAllowed place ranges e × IsLegalAfter place (after_entry ranges e) es
 
-  -- ranges are numbered in order, each starts where the one before it ends, the first at `place`, and its context settles or spoils each at most once
+  -- ranges are numbered in order, each starts where the one before it ends, the first at `place`, and its context settles or spoils
+  -- each at most once
   abbrev pub IsLegal : ℕ → List (Entry M) → Type 0
   IsLegal place history = IsLegalAfter place [] history

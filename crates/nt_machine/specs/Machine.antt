@@ -1,5 +1,6 @@
 -- Many contexts write one file: the steps they take, in whatever order.
-use Rattle.std.specs.Prelude.{◌≡◌, ◌≢◌, ℕ, zero, suc, ◌+◌, ◌<◌, ◌≤◌, ◌==◌, Bool, true, false, cond, List, [], ◌∷◌, ◌++◌, map, length, take, Contains, Some, slice_get, slice_index_or}
+use Rattle.std.specs.Prelude.{◌≡◌, ◌≢◌, ℕ, zero, suc, ◌+◌, ◌<◌, ◌≤◌, ◌==◌, Bool, true, false, cond, List, [], ◌∷◌, ◌++◌, map, length, take}
+use Rattle.std.specs.Prelude.{Contains, Some, slice_get, slice_index_or}
 use Rattle.std.specs.List.{AllByRecursion, AllZip, fold, range_with_len}
 use Rattle.nt_machine.specs.Deal.{times, IsDeal}
 use Rattle.nt_machine.specs.Spans.{Span}
@@ -51,7 +52,8 @@ pub data ContextStep : Type 0 where
 
 -- no range, and a file that ends at `place`
 abbrev pub first_state : ℕ → MachineState
-first_state place = record { contexts = λ i. record { reserved = 0; published = false; ended = false }; end = place; ranges = []; order = []; closed = false }
+first_state place = record { contexts = λ i. record { reserved = 0; published = false; ended = false }; end = place; ranges =
+    []; order = []; closed = false }
 
 -- the contexts, one of them in this state
 abbrev pub with_context : (ℕ → ContextState) → ℕ → ContextState → ℕ → ContextState
@@ -117,7 +119,8 @@ module _ (staged : Bool) (blob : ℕ → ℕ → ℕ → List ℕ) where
         ranges = s.ranges ++ record { context = i; chunk = k; start = start; len = len; mark = Out; content = Empty } ∷ [];
         order = cond staged s.order (s.order ++ (i, k) ∷ []);
       }
-  after_context_step s (Write i r) = record s { ranges = with_changed r (λ x. record x { content = Bytes (blob x.context x.chunk x.start) }) s.ranges }
+  after_context_step s (Write i r) = record s { ranges =
+      with_changed r (λ x. record x { content = Bytes (blob x.context x.chunk x.start) }) s.ranges }
   after_context_step s (WriteFail i r) = record s { ranges = with_changed r (λ x. record x { content = Failed }) s.ranges }
   after_context_step s (Settle i r) = record s { ranges = with_changed r (λ x. record x { mark = mark_of x.content }) s.ranges }
   after_context_step s (Publish i) =
@@ -159,7 +162,8 @@ module _ {C : Type 0} (staged : Bool) (chunks : List (List C)) where
   IsStep s (WriteFail i r) = (out : IsRangeOut s.ranges i r) × (out.range.content ≡ Empty)
   IsStep s (Settle i r) = (out : IsRangeOut s.ranges i r) × (out.range.content ≢ Empty)
   IsStep s (Publish i) =
-      (staged ≡ true) × ((s.contexts i).ended ≡ false) × ((s.contexts i).published ≡ false) × AllByRecursion (λ (r : ChunkRange). r.context ≡ i → r.mark ≡ Settled) s.ranges
+      (staged ≡ true) × ((s.contexts i).ended ≡ false) × ((s.contexts i).published ≡ false)
+          × AllByRecursion (λ (r : ChunkRange). r.context ≡ i → r.mark ≡ Settled) s.ranges
   IsStep s (End i) = ((s.contexts i).ended ≡ false) × AllByRecursion (λ (r : ChunkRange). r.context ≡ i → r.mark ≢ Out) s.ranges
   IsStep s Close = IsDone s
 

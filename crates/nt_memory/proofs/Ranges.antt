@@ -1,5 +1,6 @@
 -- The ranges that are out of a disk in memory.
-use Rattle.std.proofs.Common.{◌≡◌, ◌∙◌, ap, sym, refl, ℕ, zero, suc, ◌+◌, ◌==◌, ◌<◌, ◌≤◌, ◌&&◌, Bool, true, false, List, [], ◌∷◌, ◌++◌, length, take, drop, arith, eq-eqb, eqb-true, subst, Some, Option, length-take, length-drop}
+use Rattle.std.proofs.Common.{◌≡◌, ◌∙◌, ap, sym, refl, ℕ, zero, suc, ◌+◌, ◌==◌, ◌<◌, ◌≤◌, ◌&&◌, Bool, true, false, List, [], ◌∷◌, ◌++◌}
+use Rattle.std.proofs.Common.{length, take, drop, arith, eq-eqb, eqb-true, subst, Some, Option, length-take, length-drop}
 use Rattle.std.specs.Prelude.{All, Contains, sum_by, slice_index_or, if◌then◌else◌}
 use Rattle.std.specs.List.{AllByRecursion, remove}
 use Rattle.std.proofs.lemmas.List.Sums.{sum_by-cons}
@@ -17,24 +18,30 @@ use Rattle.nt_memory.specs.Ext.{content_of, extent}
 use Rattle.nt_memory.proofs.Allowed.{reads-settle, reads-unfilled, put_at_same}
 
 -- the ranges lie inside a longer file too
-pub within_more : (out : List Range) (n m : ℕ) → All (λ (r : Range). r.start + r.len ≤ n) out → n ≤ m → All (λ (r : Range). r.start + r.len ≤ m) out
+pub within_more : (out : List Range) (n m : ℕ) → All (λ (r : Range). r.start + r.len ≤ n) out → n ≤ m
+    → All (λ (r : Range). r.start + r.len ≤ m) out
 within_more out n m all le = λ k d lt. omega (arith, all k d lt, le)
 
-pub within_push : (out out' : List Range) (n m : ℕ) (r : Range) → All (λ (r : Range). r.start + r.len ≤ n) out → n ≤ m → r.start + r.len ≤ m → out' ≡ out ++ r ∷ [] → All (λ (r : Range). r.start + r.len ≤ m) out'
+pub within_push : (out out' : List Range) (n m : ℕ) (r : Range) → All (λ (r : Range). r.start + r.len ≤ n) out → n ≤ m
+    → r.start + r.len ≤ m → out' ≡ out ++ r ∷ [] → All (λ (r : Range). r.start + r.len ≤ m) out'
 within_push out out' n m r all le last is =
     subst (All (λ (r : Range). r.start + r.len ≤ m)) (sym is)
-    (All-append (λ (r : Range). r.start + r.len ≤ m) out (r ∷ []) (within_more out n m all le) (All-from_recursion (λ (r : Range). r.start + r.len ≤ m) (r ∷ []) (last, tt)))
+    (All-append (λ (r : Range). r.start + r.len ≤ m) out (r ∷ []) (within_more out n m all le)
+        (All-from_recursion (λ (r : Range). r.start + r.len ≤ m) (r ∷ []) (last, tt)))
 
-pub within_one : (out : List Range) (n : ℕ) (r : Range) → All (λ (r : Range). r.start + r.len ≤ n) out → Contains out r → r.start + r.len ≤ n
+pub within_one : (out : List Range) (n : ℕ) (r : Range) → All (λ (r : Range). r.start + r.len ≤ n) out → Contains out r
+    → r.start + r.len ≤ n
 within_one out n r all h = subst (λ (x : Range). x.start + x.len ≤ n) h.2 (all h.0 r h.1)
 
-weight_cons : (b : Bool) (f : Range → ℕ) (x r : Range) (xs : List Range) → is_same_range x r ≡ b → sum_by f (without r xs) + f r ≤ sum_by f xs → sum_by f (without r (x ∷ xs)) + f r ≤ sum_by f (x ∷ xs)
+weight_cons : (b : Bool) (f : Range → ℕ) (x r : Range) (xs : List Range) → is_same_range x r ≡ b → sum_by f (without r xs)
+    + f r ≤ sum_by f xs → sum_by f (without r (x ∷ xs)) + f r ≤ sum_by f (x ∷ xs)
 weight_cons true f x r xs is le =
     omega (arith, ap (sum_by f) (without_here x r xs is), sum_by-cons f x xs, ap f (same_is x r is))
 weight_cons false f x r xs is le =
     omega (arith, ap (sum_by f) (without_next x r xs is), sum_by-cons f x xs, sum_by-cons f x (without r xs), le)
 
-weight_at : (f : Range → ℕ) (out : List Range) (k : ℕ) (r : Range) → k < length out → slice_index_or out k r ≡ r → sum_by f (without r out) + f r ≤ sum_by f out
+weight_at : (f : Range → ℕ) (out : List Range) (k : ℕ) (r : Range) → k < length out → slice_index_or out k r ≡ r
+    → sum_by f (without r out) + f r ≤ sum_by f out
 weight_at f [] k r lt e = absurd (omega arith)
 weight_at f (x ∷ xs) zero r lt e =
     let same : is_same_range x r ≡ true = ap (λ y. is_same_range y r) e ∙ is_same r in
@@ -46,7 +53,8 @@ weight_at f (x ∷ xs) (suc k) r lt e =
 pub weight_less : (f : Range → ℕ) (out : List Range) (r : Range) → Contains out r → sum_by f (without r out) + f r ≤ sum_by f out
 weight_less f out r h = weight_at f out h.0 r h.1 h.2
 
-pub few_bytes : (filled : Bool) (len : ℕ) (items : List ℕ) → (filled ≡ true → length items ≡ len) → (filled ≡ false → items ≡ []) → length items ≤ len
+pub few_bytes : (filled : Bool) (len : ℕ) (items : List ℕ) → (filled ≡ true → length items ≡ len) → (filled ≡ false → items ≡ [])
+    → length items ≤ len
 few_bytes true len items whole empty = omega (arith, whole refl)
 few_bytes false len items whole empty = omega (arith, ap length (empty refl))
 
@@ -54,11 +62,14 @@ few_bytes false len items whole empty = omega (arith, ap length (empty refl))
 put_at_none : (image : List ℕ) (at : ℕ) → put_at image at [] ≡ image
 put_at_none image at =
     let end : at + 0 ≡ at = omega arith in
-    ap (λ (n : ℕ). take at image ++ [] ++ drop n image) end ∙ (ap (λ (l : List ℕ). l ++ drop at image) (append-nil (take at image)) ∙ take-append-drop at image)
+    ap (λ (n : ℕ). take at image ++ [] ++ drop n image) end ∙ (ap (λ (l : List ℕ). l ++ drop at image) (append-nil (take at image))
+        ∙ take-append-drop at image)
 
-pub settle_reads : (filled : Bool) (log log' : List Step) (image image' bytes : List ℕ) (start len : ℕ) → Reads log image → (filled ≡ false → bytes ≡ []) → start + len ≤ length image
+pub settle_reads : (filled : Bool) (log log' : List Step) (image image' bytes : List ℕ) (start len : ℕ) → Reads log image
+    → (filled ≡ false → bytes ≡ []) → start + len ≤ length image
     → log' ≡ log ++ Settle start len (content_of filled bytes) ∷ [] → image' ≡ put_at image start bytes → Reads log' image'
-settle_reads true log log' image image' bytes start len reads empty inside log-is image-is = reads-settle log log' image image' bytes start len reads log-is image-is
+settle_reads true log log' image image' bytes start len reads empty inside log-is image-is =
+    reads-settle log log' image image' bytes start len reads log-is image-is
 settle_reads false log log' image image' bytes start len reads empty inside log-is image-is =
     let same : image ≡ image' = sym (image-is ∙ (ap (put_at image start) (empty refl) ∙ put_at_none image start)) in
     subst (λ (l : List ℕ). Reads log' l) same (reads-unfilled log log' image start len reads inside log-is)
@@ -66,9 +77,11 @@ settle_reads false log log' image image' bytes start len reads empty inside log-
 some_is : (x y : Held) → Some x ≡ Some y → x ≡ y
 some_is x y e = cc
 
-settled_by : (filled : Bool) (log log' : List Step) (image image' bytes : List ℕ) (start len : ℕ) → (filled ≡ true → length bytes ≡ len) → (filled ≡ false → bytes ≡ []) → start + len ≤ length image
+settled_by : (filled : Bool) (log log' : List Step) (image image' bytes : List ℕ) (start len : ℕ)
+    → (filled ≡ true → length bytes ≡ len) → (filled ≡ false → bytes ≡ []) → start + len ≤ length image
     → log' ≡ log ++ Settle start len (content_of filled bytes) ∷ [] → image' ≡ put_at image start bytes
-    → IsRangeSettled (extent (record { start = start; len = len }) filled bytes) (record { log = log; image = image }) (record { log = log'; image = image' })
+    → IsRangeSettled (extent (record { start = start; len = len }) filled bytes) (record { log = log; image = image })
+        (record { log = log'; image = image' })
 settled_by true log log' image image' bytes start len whole empty inside log-is image-is = record {
   bytes = bytes;
   whole = whole refl;
@@ -84,17 +97,21 @@ settled_by false log log' image image' bytes start len whole empty inside log-is
   image = image-is ∙ (ap (put_at image start) (empty refl) ∙ (put_at_none image start ∙ sym (put_at_same image start len inside)));
 }
 
-pub settle_holds : (filled : Bool) (log log' : List Step) (image image' bytes : List ℕ) (start len : ℕ) → (filled ≡ true → length bytes ≡ len) → (filled ≡ false → bytes ≡ []) → start + len ≤ length image
+pub settle_holds : (filled : Bool) (log log' : List Step) (image image' bytes : List ℕ) (start len : ℕ)
+    → (filled ≡ true → length bytes ≡ len) → (filled ≡ false → bytes ≡ []) → start + len ≤ length image
     → log' ≡ log ++ Settle start len (content_of filled bytes) ∷ [] → image' ≡ put_at image start bytes
-    → BecomesSome (Some (record { log = log; image = image })) (Some (record { log = log'; image = image' })) (IsRangeSettled (extent (record { start = start; len = len }) filled bytes))
+    → BecomesSome (Some (record { log = log; image = image })) (Some (record { log = log'; image = image' }))
+        (IsRangeSettled (extent (record { start = start; len = len }) filled bytes))
 settle_holds filled log log' image image' bytes start len whole empty inside log-is image-is = λ h is. (
   record { log = log'; image = image' },
   refl,
-  subst (λ (k : Held). IsRangeSettled (extent (record { start = start; len = len }) filled bytes) k (record { log = log'; image = image' })) (some_is (record { log = log; image = image }) h is)
+  subst (λ (k : Held). IsRangeSettled (extent (record { start = start; len = len }) filled bytes) k (record { log = log'; image =
+      image' })) (some_is (record { log = log; image = image }) h is)
       (settled_by filled log log' image image' bytes start len whole empty inside log-is image-is),
 )
 
-pub reserve_holds : (log log' : List Step) (image image' : List ℕ) (start len : ℕ) → start ≡ length image → log' ≡ log ++ Reserve start len ∷ [] → IsGrown len image image'
+pub reserve_holds : (log log' : List Step) (image image' : List ℕ) (start len : ℕ) → start ≡ length image
+    → log' ≡ log ++ Reserve start len ∷ [] → IsGrown len image image'
     → BecomesSome (Some (record { log = log; image = image })) (Some (record { log = log'; image = image' })) (IsReserved start len)
 reserve_holds log log' image image' start len place log-is grown = λ h is. (
   record { log = log'; image = image' },
@@ -103,7 +120,8 @@ reserve_holds log log' image image' start len place log-is grown = λ h is. (
       (record { junk = grown.more; whole = grown.whole; log = log-is; image = grown.is }),
 )
 
-all_without : (b : Bool) (P : Range → Type 0) (x r : Range) (xs : List Range) → is_same_range x r ≡ b → P x → AllByRecursion P xs → AllByRecursion P (without r xs) → AllByRecursion P (without r (x ∷ xs))
+all_without : (b : Bool) (P : Range → Type 0) (x r : Range) (xs : List Range) → is_same_range x r ≡ b → P x → AllByRecursion P xs
+    → AllByRecursion P (without r xs) → AllByRecursion P (without r (x ∷ xs))
 all_without true P x r xs is here all rest = subst (AllByRecursion P) (sym (without_here x r xs is)) all
 all_without false P x r xs is here all rest = subst (AllByRecursion P) (sym (without_next x r xs is)) (here, rest)
 
@@ -116,7 +134,8 @@ all_each P [] a = tt
 all_each P (x ∷ xs) a = (a 0 x (omega arith), all_each P xs (λ k d lt. a (suc k) d (omega (arith, lt))))
 
 -- the ranges that are left lie inside the file
-pub within_off : (out out' : List Range) (n m : ℕ) (r : Range) → All (λ (r : Range). r.start + r.len ≤ n) out → n ≤ m → out' ≡ without r out → All (λ (r : Range). r.start + r.len ≤ m) out'
+pub within_off : (out out' : List Range) (n m : ℕ) (r : Range) → All (λ (r : Range). r.start + r.len ≤ n) out → n ≤ m
+    → out' ≡ without r out → All (λ (r : Range). r.start + r.len ≤ m) out'
 within_off out out' n m r all le is =
     let P : Range → Type 0 = λ r. r.start + r.len ≤ n in
     within_more out' n m (subst (All P) (sym is) (All-from_recursion P (without r out) (all_off P r out (all_each P out all)))) le

@@ -20,7 +20,8 @@ state_of e = extent e.range e.filled e.bytes.items
 some_is : (x y : List ℕ) → Some x ≡ Some y → x ≡ y
 some_is x y e = cc
 
-sized_by : (range : Range) (filled : Bool) (items bytes : List ℕ) → (filled ≡ true → length items ≡ range.len) → content_of filled items ≡ Some bytes → IsSized (extent range filled items) bytes
+sized_by : (range : Range) (filled : Bool) (items bytes : List ℕ) → (filled ≡ true → length items ≡ range.len)
+    → content_of filled items ≡ Some bytes → IsSized (extent range filled items) bytes
 sized_by range true items bytes whole is = record {
   filled = refl;
   whole = subst (λ (l : List ℕ). length l ≡ range.len) (some_is items bytes is) (whole refl);

@@ -39,7 +39,8 @@ pub record FailsWhereListed {T : Type 0} (old new : Tally) (result : Result T Fa
   pub ok : OnOk result (new ≡ call_counted old)
   pub err : OnErr result (new ≡ failed old)
 
--- the call was counted, and, apart from want of memory, failed exactly where its number is listed or what it needs is missing; one that ran out of memory counts for nothing
+-- the call was counted, and, apart from want of memory, failed exactly where its number is listed or what it needs is missing; one
+-- that ran out of memory counts for nothing
 pub record FailsWhereListedOr {T : Type 0} (Missing : Type 0) (old new : Tally) (result : Result T Refused) : Type 0 where
   pub listed : IsListed old → IsErr result
   pub missing : Missing → IsErr result

@@ -1,4 +1,5 @@
--- What a cursor reads: numbers of a fixed width, as RNTuple and TFile store them (RNTuple Binary Format Specification 1.0.0.0, section Basic Types).
+-- What a cursor reads: numbers of a fixed width, as RNTuple and TFile store them (RNTuple Binary Format Specification 1.0.0.0,
+-- section Basic Types).
 use Rattle.std.specs.Prelude.{ℕ, ◌≡◌, ◌<◌, ◌≤◌, ℤ, List, length, take, nat_lt, if◌then◌else◌, Result, Ok, Err}
 use Rattle.std.specs.Int.{Width, byte_len, from_le_bytes, from_be_bytes, cast_signed}
 use Rattle.nt_num.specs.Place.{At, past}

@@ -1,5 +1,6 @@
 -- Rows by the field that they belong to.
-use Rattle.std.proofs.Common.{ℕ, zero, suc, Bool, true, false, ◌≡◌, ◌≢◌, ◌<◌, ◌+◌, List, [], ◌∷◌, ◌++◌, length, take, Vec, refl, sym, ap, ◌∙◌, ◌==◌, if◌then◌else◌, append-nil, append_assoc, add-one, add-zero, zero-add, arith}
+use Rattle.std.proofs.Common.{ℕ, zero, suc, Bool, true, false, ◌≡◌, ◌≢◌, ◌<◌, ◌+◌, List, [], ◌∷◌, ◌++◌, length, take, Vec, refl, sym, ap}
+use Rattle.std.proofs.Common.{◌∙◌, ◌==◌, if◌then◌else◌, append-nil, append_assoc, add-one, add-zero, zero-add, arith}
 use Rattle.std.proofs.lemmas.List.{length-take-le}
 use Rattle.std.proofs.lemmas.Bool.Decides.{nat_tests}
 use Rattle.std.proofs.lemmas.List.Elements.{filter-append}

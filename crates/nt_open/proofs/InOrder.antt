@@ -1,5 +1,6 @@
 -- Plans that are made one after the other.
-use Rattle.std.proofs.Common.{ℕ, suc, ◌≡◌, ◌<◌, ◌≤◌, ◌+◌, List, [], ◌∷◌, ◌++◌, length, map, drop, get_or, Option, Some, None, refl, sym, ap, ◌∙◌, drop-cons, add-one, add-zero}
+use Rattle.std.proofs.Common.{ℕ, suc, ◌≡◌, ◌<◌, ◌≤◌, ◌+◌, List, [], ◌∷◌, ◌++◌, length, map, drop, get_or, Option, Some, None, refl, sym, ap}
+use Rattle.std.proofs.Common.{◌∙◌, drop-cons, add-one, add-zero}
 use Rattle.std.proofs.lemmas.List.{get_or-drop, drop-drop, drop_all}
 use Rattle.std.specs.Prelude.{option_map, true}
 use Rattle.std.specs.Option.{option_or}
@@ -52,7 +53,8 @@ member_placed fs cs ms ids i m list p all h is made before =
     ∙ ap (λ (z : List ℕ). plan (plan_view p) (place_members fs cs (parts_of (map member_view (drop (i + 1) ms))) z)) (drop-drop 1 i ids)) in
     joined-snoc list p later ∙ (ap (joined (map plan_view list)) (sym step) ∙ before)
 
-pub members_placed : (fs : List FieldRow) (cs : List ColumnRow) (ms : List Member) (ids : List ℕ) (i : ℕ) (list : List Plan) (all : PlansData)
+pub members_placed : (fs : List FieldRow) (cs : List ColumnRow) (ms : List Member) (ids : List ℕ) (i : ℕ) (list : List Plan)
+    (all : PlansData)
     → length ms ≤ i
     → joined (map plan_view list) (place_members fs cs (parts_of (map member_view (drop i ms))) (drop i ids)) ≡ all
     → plans_of (map plan_view list) ≡ all

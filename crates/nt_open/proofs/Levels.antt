@@ -1,5 +1,6 @@
 -- The shapes of open fields, level by level and by id.
-use Rattle.std.proofs.Common.{ℕ, zero, suc, ◌≡◌, ◌+◌, List, [], ◌∷◌, map, Option, None, Some, slice_get, refl, sym, ap, ◌∙◌, add-zero, zero-add, arith, Bool, ◌<◌, ◌≤◌, ◌-◌, length}
+use Rattle.std.proofs.Common.{ℕ, zero, suc, ◌≡◌, ◌+◌, List, [], ◌∷◌, map, Option, None, Some, slice_get, refl, sym, ap, ◌∙◌, add-zero}
+use Rattle.std.proofs.Common.{zero-add, arith, Bool, ◌<◌, ◌≤◌, ◌-◌, length}
 use Rattle.std.proofs.lemmas.List.{length-map}
 use Rattle.std.proofs.lemmas.Option.{slice_get-map, slice_get_past, slice_get_read}
 use Rattle.std.specs.Prelude.{option_map, option_and_then}
@@ -62,7 +63,8 @@ open_field_row (suc depth) fs cs principal id r d h is =
     let down : suc depth - 1 ≡ depth = omega arith in
     rw (down, slice_get_read fs (length fs) id r refl h is) refl
 
-length-open_shapes : (fs : List FieldRow) (cs : List ColumnRow) (id : ℕ) (rows : List FieldRow) → length (open_shapes fs cs id rows) ≡ length rows
+length-open_shapes : (fs : List FieldRow) (cs : List ColumnRow) (id : ℕ) (rows : List FieldRow)
+    → length (open_shapes fs cs id rows) ≡ length rows
 length-open_shapes fs cs id [] = refl
 length-open_shapes fs cs id (r ∷ rs) = ap suc (length-open_shapes fs cs (id + 1) rs)
 

@@ -1,5 +1,6 @@
 -- What is noted of columns, a column at a time.
-use Rattle.std.proofs.Common.{ℕ, get_or, zero, suc, Bool, true, false, ◌≡◌, ◌≢◌, ◌<◌, ◌≤◌, List, [], ◌∷◌, ◌++◌, length, Option, Some, None, ◌==◌, refl, sym, ap, ◌∙◌, arith}
+use Rattle.std.proofs.Common.{ℕ, get_or, zero, suc, Bool, true, false, ◌≡◌, ◌≢◌, ◌<◌, ◌≤◌, List, [], ◌∷◌, ◌++◌, length, Option, Some, None}
+use Rattle.std.proofs.Common.{◌==◌, refl, sym, ap, ◌∙◌, arith}
 use Rattle.std.proofs.Math.ListN.{set}
 use Rattle.std.proofs.lemmas.List.{length-set}
 use Rattle.std.proofs.lemmas.Bool.{eq-eqb, ne_eqb, eqb-true, eqb-false, true≢false}
@@ -97,7 +98,8 @@ use_at-get (u ∷ us) zero = refl
 use_at-get (u ∷ us) (suc k) = use_at-get us k
 
 -- nothing is noted of a column
-pub noted_none : (us : List (Option ColumnUse)) (k : ℕ) (free : Bool) → is_some (get_or us k None) ≡ not free → free ≡ true → use_at us k ≡ None
+pub noted_none : (us : List (Option ColumnUse)) (k : ℕ) (free : Bool) → is_some (get_or us k None) ≡ not free → free ≡ true
+    → use_at us k ≡ None
 noted_none us k free e f = use_at-get us k ∙ one (get_or us k None) (e ∙ ap not f)
   where
     one : (o : Option ColumnUse) → is_some o ≡ false → option_map use_view o ≡ None
@@ -114,7 +116,8 @@ noted_some us k free e f = ap is_some (use_at-get us k) ∙ one (get_or us k Non
     one (Some u) h = refl
 
 -- what is kept of a column is read at its place
-pub use_at_there : (us : List (Option ColumnUse)) (k : ℕ) (o : Option ColumnUse) → o ≡ get_or us k None → use_at us k ≡ option_map use_view o
+pub use_at_there : (us : List (Option ColumnUse)) (k : ℕ) (o : Option ColumnUse) → o ≡ get_or us k None
+    → use_at us k ≡ option_map use_view o
 use_at_there us k o is = use_at-get us k ∙ ap (option_map use_view) (sym is)
 
 -- nothing is kept past the last column

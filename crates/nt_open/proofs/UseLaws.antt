@@ -1,5 +1,6 @@
 -- What is kept of a column is what its plans say.
-use Rattle.std.proofs.Common.{ℕ, suc, Bool, true, false, ◌≡◌, ◌<◌, ◌+◌, List, [], ◌∷◌, length, Option, Some, None, ◌==◌, ◌||◌, refl, sym, ap, ap₂, ◌∙◌, if◌then◌else◌}
+use Rattle.std.proofs.Common.{ℕ, suc, Bool, true, false, ◌≡◌, ◌<◌, ◌+◌, List, [], ◌∷◌, length, Option, Some, None, ◌==◌, ◌||◌, refl, sym}
+use Rattle.std.proofs.Common.{ap, ap₂, ◌∙◌, if◌then◌else◌}
 use Rattle.std.specs.Prelude.{option_map}
 use Rattle.std.specs.Option.{option_or, is_some}
 use Rattle.nt_types.specs.ShapeData.{ShapeData}
@@ -31,7 +32,8 @@ both : (a b : Option NeedData) (p q : Option Bool) → option_map of_entries a �
 both a b p q e f = map-or of_entries a b ∙ ap₂ (λ (x y : Option Bool). option_or x y) e f
 
 mutual
-  need-principal : (above : NeedData) (p : PlanData) (j : ℕ) → option_map of_entries (need_in above p j) ≡ principal_in (of_entries above) p j
+  need-principal : (above : NeedData) (p : PlanData) (j : ℕ) → option_map of_entries (need_in above p j)
+      ≡ principal_in (of_entries above) p j
   need-principal above (bool k) j = need-at above k j
   need-principal above (number k bits signed) j = need-at above k j
   need-principal above (text ends bytes) j =

@@ -1,5 +1,6 @@
 -- What each column is of, as the code keeps it.
-use Rattle.std.specs.Prelude.{ℕ, zero, suc, ◌+◌, ◌≡◌, ◌<◌, Bool, true, false, List, [], ◌∷◌, length, option_map, Option, Some, None, ◌==◌, if◌then◌else◌}
+use Rattle.std.specs.Prelude.{ℕ, zero, suc, ◌+◌, ◌≡◌, ◌<◌, Bool, true, false, List, [], ◌∷◌, length, option_map, Option, Some, None, ◌==◌}
+use Rattle.std.specs.Prelude.{if◌then◌else◌}
 use Rattle.std.specs.Option.{option_or}
 use Rattle.nt_types.specs.ShapeData.{ShapeData}
 use Rattle.nt_grammar.specs.declared.rows.FieldRow.{FieldRow}
@@ -67,6 +68,7 @@ pub record Marks (f : ℕ → Option Use) (old new : List (Option ColumnUse)) : 
   pub each : (k : ℕ) → k < length old → use_at new k ≡ option_or (use_at old k) (f k)
 
 -- of each column what it is of is kept
-pub record HaveUses (fs : List FieldRow) (cs : List ColumnRow) (shapes : List (Option ShapeData)) (uses : List (Option ColumnUse)) : Type 0 where
+pub record HaveUses (fs : List FieldRow) (cs : List ColumnRow) (shapes : List (Option ShapeData))
+    (uses : List (Option ColumnUse)) : Type 0 where
   pub count : length uses ≡ length cs
   pub each : (k : ℕ) → k < length cs → use_at uses k ≡ use_from fs cs 0 shapes k

@@ -1,5 +1,6 @@
 -- What a crash leaves after one more step.
-use Rattle.std.proofs.Common.{◌≡◌, ◌∙◌, ap, sym, subst, refl, ℕ, zero, suc, ◌+◌, ◌≤◌, ◌&&◌, Bool, true, false, List, [], ◌∷◌, ◌++◌, length, take, drop, arith, length-append, length-take, length-drop}
+use Rattle.std.proofs.Common.{◌≡◌, ◌∙◌, ap, sym, subst, refl, ℕ, zero, suc, ◌+◌, ◌≤◌, ◌&&◌, Bool, true, false, List, [], ◌∷◌, ◌++◌, length}
+use Rattle.std.proofs.Common.{take, drop, arith, length-append, length-take, length-drop}
 use Rattle.std.specs.Prelude.{IsTrue, min}
 use Rattle.std.proofs.lemmas.List.{take_all, length-replicate}
 use Rattle.nt_lists.specs.Places.{put_at}
@@ -34,11 +35,13 @@ known-crash_from c (s ∷ log) = known-crash_from (crash_after c s) log ∙ ap (
 known-crash_of : (log : List Step) → (crash_of log).known ≡ known_of log
 known-crash_of log = known-crash_from no_crash log
 
-synced_reads : (known : List Known) (bytes : List ℕ) → MayLeave (record { known = known; left = known; synced = length known }) bytes → IsTrue (all_allowed known bytes)
+synced_reads : (known : List Known) (bytes : List ℕ) → MayLeave (record { known = known; left = known; synced = length known })
+    bytes → IsTrue (all_allowed known bytes)
 synced_reads known bytes left =
     subst (λ (k : List Known). IsTrue (all_allowed k bytes)) (take_all (length bytes) known left.least) left.allowed
 
-reads_synced : (known : List Known) (bytes : List ℕ) → IsTrue (all_allowed known bytes) → MayLeave (record { known = known; left = known; synced = length known }) bytes
+reads_synced : (known : List Known) (bytes : List ℕ) → IsTrue (all_allowed known bytes)
+    → MayLeave (record { known = known; left = known; synced = length known }) bytes
 reads_synced known bytes reads =
     let long : length known ≡ length bytes = allowed-length known bytes reads in
     record {
@@ -60,7 +63,8 @@ sync_leaves log bytes reads =
 
 put_at-longer : (old items : List Known) (at : ℕ) → length old ≤ length (put_at old at items)
 put_at-longer old items at =
-    omega (arith, length-append (take at old ++ items) (drop (at + length items) old), length-append (take at old) items, length-take at old, length-drop (at + length items) old)
+    omega (arith, length-append (take at old ++ items) (drop (at + length items) old), length-append (take at old) items,
+        length-take at old, length-drop (at + length items) old)
 
 shaken-longer : (left : List Known) (step : Step) → length left ≤ length (shaken left step)
 shaken-longer left (Write at bytes) = put_at-longer left (torn bytes (drop at left)) at
@@ -100,7 +104,8 @@ both_parts : (a b : Bool) → a ≡ true → b ≡ true → (a && b) ≡ true
 both_parts true b p q = q
 both_parts false b p q = p
 
-allowed-take : (n : ℕ) (known : List Known) (bytes : List ℕ) → IsTrue (all_allowed known bytes) → IsTrue (all_allowed (take n known) (take n bytes))
+allowed-take : (n : ℕ) (known : List Known) (bytes : List ℕ) → IsTrue (all_allowed known bytes)
+    → IsTrue (all_allowed (take n known) (take n bytes))
 allowed-take zero known bytes h = refl
 allowed-take (suc n) [] [] h = refl
 allowed-take (suc n) [] (y ∷ bytes) h = absurd (cc)
@@ -108,7 +113,8 @@ allowed-take (suc n) (x ∷ known) [] h = absurd (cc)
 allowed-take (suc n) (x ∷ known) (y ∷ bytes) h =
     both_parts (allows x y) _ (first_part (allows x y) _ h) (allowed-take n known bytes (second_part (allows x y) _ h))
 
-take-front : (left more : List Known) (n least : ℕ) → least ≡ min (length left) n → take (length left) (take n (left ++ more)) ≡ take least left
+take-front : (left more : List Known) (n least : ℕ) → least ≡ min (length left) n → take (length left) (take n (left ++ more))
+    ≡ take least left
 take-front [] more n zero is = refl
 take-front [] more n (suc least) is = refl
 take-front (x ∷ left) more zero zero is = refl
@@ -117,7 +123,8 @@ take-front (x ∷ left) more (suc n) zero is = absurd (omega arith)
 take-front (x ∷ left) more (suc n) (suc least) is = ap (λ (l : List Known). x ∷ l) (take-front left more n least (omega arith))
 
 -- what stood before the old end is left as before
-reaches : (c : Crash) (known : List Known) (more : ℕ) (bytes : List ℕ) → c.synced ≤ length c.left → MayLeave (record { known = known; left = c.left ++ unknown more; synced = c.synced }) bytes → Reaches c more bytes
+reaches : (c : Crash) (known : List Known) (more : ℕ) (bytes : List ℕ) → c.synced ≤ length c.left
+    → MayLeave (record { known = known; left = c.left ++ unknown more; synced = c.synced }) bytes → Reaches c more bytes
 reaches c known more bytes h left =
     let old = length c.left in
     let long : length (take old bytes) ≡ min old (length bytes) = length-take old bytes in (
@@ -126,28 +133,35 @@ reaches c known more bytes h left =
         least = omega (arith, long, h, left.least);
         most = omega (arith, long);
         allowed =
-            subst (λ (k : List Known). IsTrue (all_allowed k (take old bytes))) (take-front c.left (unknown more) (length bytes) (length (take old bytes)) long)
+            subst (λ (k : List Known). IsTrue (all_allowed k (take old bytes)))
+                (take-front c.left (unknown more) (length bytes) (length (take old bytes)) long)
             (allowed-take old (take (length bytes) (c.left ++ unknown more)) bytes left.allowed);
       },
     )
 
-after : (log : List Step) (step : Step) (bytes : List ℕ) → MayLeave (crash_of (log ++ step ∷ [])) bytes → MayLeave (crash_after (crash_of log) step) bytes
+after : (log : List Step) (step : Step) (bytes : List ℕ) → MayLeave (crash_of (log ++ step ∷ [])) bytes
+    → MayLeave (crash_after (crash_of log) step) bytes
 after log step bytes left = subst (λ (c : Crash). MayLeave c bytes) (crash_of-push log step) left
 
-before : (log : List Step) (step : Step) (bytes : List ℕ) → MayLeave (crash_after (crash_of log) step) bytes → MayLeave (crash_of (log ++ step ∷ [])) bytes
+before : (log : List Step) (step : Step) (bytes : List ℕ) → MayLeave (crash_after (crash_of log) step) bytes
+    → MayLeave (crash_of (log ++ step ∷ [])) bytes
 before log step bytes left = subst (λ (c : Crash). MayLeave c bytes) (sym (crash_of-push log step)) left
 
 -- what a crash leaves doesn't depend on what is told of the file
-any_known : (known other left : List Known) (synced : ℕ) (bytes : List ℕ) → MayLeave (record { known = known; left = left; synced = synced }) bytes → MayLeave (record { known = other; left = left; synced = synced }) bytes
+any_known : (known other left : List Known) (synced : ℕ) (bytes : List ℕ) → MayLeave (record { known = known; left = left; synced =
+    synced }) bytes → MayLeave (record { known = other; left = left; synced = synced }) bytes
 any_known known other left synced bytes m = record { least = m.least; most = m.most; allowed = m.allowed }
 
 pub lengthens : (log : List Step) → Lengthens log
 lengthens log =
     let c = crash_of log in
     record {
-      append = λ more bytes left. reaches c (after_step c.known (Append more)) (length more) bytes (of-holds log) (after log (Append more) bytes left);
-      failed = λ more bytes left. reaches c (after_step c.known (FailedAppend more)) more bytes (of-holds log) (after log (FailedAppend more) bytes left);
-      reserve = λ start more bytes left. reaches c (after_step c.known (Reserve start more)) more bytes (of-holds log) (after log (Reserve start more) bytes left);
+      append = λ more bytes left. reaches c (after_step c.known (Append more)) (length more) bytes (of-holds log)
+          (after log (Append more) bytes left);
+      failed = λ more bytes left. reaches c (after_step c.known (FailedAppend more)) more bytes (of-holds log)
+          (after log (FailedAppend more) bytes left);
+      reserve = λ start more bytes left. reaches c (after_step c.known (Reserve start more)) more bytes (of-holds log)
+          (after log (Reserve start more) bytes left);
     }
 
 torn_longer : (more : List ℕ) (old : List Known) → 2 ≤ length more → torn more old ≡ unknown (length more)
@@ -159,13 +173,15 @@ pub overwrites : (log : List Step) → Overwrites log
 overwrites log =
     let c = crash_of log in
     record {
-      single = λ at byte bytes left. any_known (after_step c.known (Write at (byte ∷ []))) c.known _ c.synced bytes (after log (Write at (byte ∷ [])) bytes left);
+      single = λ at byte bytes left. any_known (after_step c.known (Write at (byte ∷ []))) c.known _ c.synced bytes
+          (after log (Write at (byte ∷ [])) bytes left);
       longer = λ at more bytes long left.
           subst (λ (k : List Known). MayLeave (over c at k) bytes) (torn_longer more (drop at c.left) long)
           (any_known (after_step c.known (Write at more)) c.known _ c.synced bytes (after log (Write at more) bytes left));
       failed = λ at more bytes left.
           before log (Write at more) bytes
-          (any_known (after_step c.known (FailedWrite at more)) (after_step c.known (Write at more)) _ c.synced bytes (after log (FailedWrite at more) bytes left));
+          (any_known (after_step c.known (FailedWrite at more)) (after_step c.known (Write at more)) _ c.synced bytes
+              (after log (FailedWrite at more) bytes left));
     }
 
 pub settling : (log : List Step) → Settling log

@@ -10,7 +10,8 @@ prints-append ToOut x y w = ap (λ (l : List ℕ). record w { out = l }) (append
 prints-append ToErr x y w = ap (λ (l : List ℕ). record w { err = l }) (append_assoc w.err x y)
 
 -- the front of a text and the next bytes are a longer front of it
-pub print_more : (stream : Stream) (o p q : Option World) (bytes piece : List ℕ) (at n : ℕ) → piece ≡ drop at bytes → Turns o p (prints stream (take at bytes)) → Turns p q (prints stream (take n piece)) → Turns o q (prints stream (take (at + n) bytes))
+pub print_more : (stream : Stream) (o p q : Option World) (bytes piece : List ℕ) (at n : ℕ) → piece ≡ drop at bytes
+    → Turns o p (prints stream (take at bytes)) → Turns p q (prints stream (take n piece)) → Turns o q (prints stream (take (at + n) bytes))
 print_more stream o p q bytes piece at n rest first second w is =
     let joined : take at bytes ++ take n piece ≡ take (at + n) bytes =
     ap (λ (l : List ℕ). take at bytes ++ take n l) rest ∙ sym (take-add at n bytes) in

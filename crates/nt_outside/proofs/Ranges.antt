@@ -1,5 +1,6 @@
 -- Ranges without the first that is a given one.
-use Rattle.std.proofs.Common.{◌≡◌, ◌∙◌, ap, refl, ℕ, zero, suc, ◌==◌, ◌<◌, ◌&&◌, Bool, true, false, List, [], ◌∷◌, ◌++◌, length, take, drop, arith, eq-eqb, eqb-true}
+use Rattle.std.proofs.Common.{◌≡◌, ◌∙◌, ap, refl, ℕ, zero, suc, ◌==◌, ◌<◌, ◌&&◌, Bool, true, false, List, [], ◌∷◌, ◌++◌, length, take, drop}
+use Rattle.std.proofs.Common.{arith, eq-eqb, eqb-true}
 use Rattle.std.specs.Prelude.{slice_index_or, if◌then◌else◌}
 use Rattle.std.specs.List.{remove}
 use Rattle.nt_outside.specs.Range.{Range, is_same_range, without}
@@ -32,6 +33,8 @@ drop_at (y ∷ ys) zero d lt = refl
 drop_at (y ∷ ys) (suc i) d lt = drop_at ys i d (omega (arith, lt))
 
 -- the search for a range found it
-pub found_at : (out : List Range) (i : ℕ) (d r : Range) → i < length out → is_same_range (slice_index_or out i d) r ≡ true → without r out ≡ take i out ++ without r (drop i out) → without r out ≡ remove out i
+pub found_at : (out : List Range) (i : ℕ) (d r : Range) → i < length out → is_same_range (slice_index_or out i d) r ≡ true
+    → without r out ≡ take i out ++ without r (drop i out) → without r out ≡ remove out i
 found_at out i d r lt same so_far =
-    so_far ∙ ap (λ (l : List Range). take i out ++ l) (ap (without r) (drop_at out i d lt) ∙ without_here (slice_index_or out i d) r (drop (suc i) out) same)
+    so_far ∙ ap (λ (l : List Range). take i out ++ l) (ap (without r) (drop_at out i d lt) ∙ without_here (slice_index_or out i d) r
+        (drop (suc i) out) same)

@@ -5,7 +5,8 @@ use Rattle.nt_outside.specs.declared.fault.Failed.{Failed}
 use Rattle.nt_outside.specs.declared.fault.Refused.{Refused}
 use Rattle.nt_outside.specs.Faults.{HasCause, RoseOnFailed, TakesIn}
 use Rattle.nt_outside.specs.Range.{Range, ExtState, without}
-use Rattle.nt_outside.specs.Held.{Held, IsTornAppend, IsTornWrite, IsReserved, IsRangeSettled, appended, written, synced, Becomes, BecomesSome, WhereHeld}
+use Rattle.nt_outside.specs.Held.{Held, IsTornAppend, IsTornWrite, IsReserved, IsRangeSettled, appended, written, synced, Becomes}
+use Rattle.nt_outside.specs.Held.{BecomesSome, WhereHeld}
 
 pub record DiskState : Type 0 where
   -- what the disk holds, where it tells it

@@ -19,5 +19,6 @@ pub record TellsSize (old new : FileState) (result : Result ℕ Failed) : Type 0
 pub record ReadsAt (at : ℕ) (old new : FileState) (buf : List ℕ) (result : Result ℕ Failed) : Type 0 where
   pub same : new.bytes ≡ old.bytes
   pub bound : IfOk result (λ n. n ≤ length buf)
-  pub bytes : IfOk result (λ n. (told : List ℕ) → old.bytes ≡ Some told → (n ≡ min (length buf) (length told - at)) × (take n buf ≡ take n (drop at told)))
+  pub bytes : IfOk result (λ n. (told : List ℕ) → old.bytes ≡ Some told → (n ≡ min (length buf) (length told - at))
+      × (take n buf ≡ take n (drop at told)))
   pub cause : HasCause old.faults new.faults result

@@ -17,14 +17,19 @@ Reaches c more bytes = (length bytes ≤ length c.left + more) × MayLeave c (ta
 pub record Lengthens (log : List Step) : Type 0 where
   pub append : (more bytes : List ℕ) → MayLeave (crash_of (log ++ Append more ∷ [])) bytes → Reaches (crash_of log) (length more) bytes
   pub failed : (more : ℕ) (bytes : List ℕ) → MayLeave (crash_of (log ++ FailedAppend more ∷ [])) bytes → Reaches (crash_of log) more bytes
-  pub reserve : (start more : ℕ) (bytes : List ℕ) → MayLeave (crash_of (log ++ Reserve start more ∷ [])) bytes → Reaches (crash_of log) more bytes
+  pub reserve : (start more : ℕ) (bytes : List ℕ) → MayLeave (crash_of (log ++ Reserve start more ∷ [])) bytes
+      → Reaches (crash_of log) more bytes
 
 -- a write over one byte, failed or not, leaves the old one or the new one; a longer one anything; and the rest as it was
 pub record Overwrites (log : List Step) : Type 0 where
-  pub single : (at byte : ℕ) (bytes : List ℕ) → MayLeave (crash_of (log ++ Write at (byte ∷ []) ∷ [])) bytes → MayLeave (over (crash_of log) at (map (or_also byte) (take 1 (drop at (crash_of log).left)))) bytes
-  pub longer : (at : ℕ) (more bytes : List ℕ) → 2 ≤ length more → MayLeave (crash_of (log ++ Write at more ∷ [])) bytes → MayLeave (over (crash_of log) at (unknown (length more))) bytes
-  pub failed : (at : ℕ) (more bytes : List ℕ) → MayLeave (crash_of (log ++ FailedWrite at more ∷ [])) bytes → MayLeave (crash_of (log ++ Write at more ∷ [])) bytes
+  pub single : (at byte : ℕ) (bytes : List ℕ) → MayLeave (crash_of (log ++ Write at (byte ∷ []) ∷ [])) bytes
+      → MayLeave (over (crash_of log) at (map (or_also byte) (take 1 (drop at (crash_of log).left)))) bytes
+  pub longer : (at : ℕ) (more bytes : List ℕ) → 2 ≤ length more → MayLeave (crash_of (log ++ Write at more ∷ [])) bytes
+      → MayLeave (over (crash_of log) at (unknown (length more))) bytes
+  pub failed : (at : ℕ) (more bytes : List ℕ) → MayLeave (crash_of (log ++ FailedWrite at more ∷ [])) bytes
+      → MayLeave (crash_of (log ++ Write at more ∷ [])) bytes
 
 -- settling leaves anything in the range, and the rest as it was
 abbrev pub Settling : List Step → Type 0
-Settling log = (start len : ℕ) (content : Option (List ℕ)) (bytes : List ℕ) → MayLeave (crash_of (log ++ Settle start len content ∷ [])) bytes → MayLeave (over (crash_of log) start (unknown len)) bytes
+Settling log = (start len : ℕ) (content : Option (List ℕ)) (bytes : List ℕ)
+    → MayLeave (crash_of (log ++ Settle start len content ∷ [])) bytes → MayLeave (over (crash_of log) start (unknown len)) bytes

@@ -12,7 +12,8 @@ abbrev pub BeginsOpen : List ℕ → Type 0
 BeginsOpen [] = Unit {0}
 BeginsOpen (byte ∷ bytes) = byte ≡ 0
 
--- a step may follow these: an empty file gets 0 for its first byte, no range begins there, and what is written over that byte comes right behind a sync
+-- a step may follow these: an empty file gets 0 for its first byte, no range begins there, and what is written over that byte comes
+-- right behind a sync
 abbrev pub MayFollow : List Step → Step → Type 0
 MayFollow log (Write at bytes) = at ≡ 0 → EndsInSync log
 MayFollow log (FailedWrite at bytes) = at ≡ 0 → EndsInSync log

@@ -1,5 +1,6 @@
 -- Ranges of a file that are written beside its other calls, their extents, and the pens that fill them.
-use Rattle.std.specs.Prelude.{◌≡◌, ◌⊎◌, ℕ, ◌+◌, ◌≤◌, ◌==◌, Bool, true, false, ◌&&◌, if◌then◌else◌, List, [], ◌∷◌, length, Option, Some, Result, OnOk, OnErr}
+use Rattle.std.specs.Prelude.{◌≡◌, ◌⊎◌, ℕ, ◌+◌, ◌≤◌, ◌==◌, Bool, true, false, ◌&&◌, if◌then◌else◌, List, [], ◌∷◌, length, Option, Some}
+use Rattle.std.specs.Prelude.{Result, OnOk, OnErr}
 use Rattle.nt_outside.specs.declared.fault.Failed.{Failed}
 use Rattle.nt_outside.specs.Faults.{HasCause}
 pub use Rattle.nt_outside.specs.declared.range.Range.{Range}

@@ -1,5 +1,6 @@
 -- What a host holds, what it was asked for, and what each call does to that.
-use Rattle.std.specs.Prelude.{◌≡◌, ◌⊎◌, ℕ, ◌+◌, ◌-◌, ◌<◌, ◌≤◌, List, [], ◌∷◌, ◌++◌, length, take, Option, Some, None, Result, OnOk, OnErr, IfOk, IsSome, IsErrOf}
+use Rattle.std.specs.Prelude.{◌≡◌, ◌⊎◌, ℕ, ◌+◌, ◌-◌, ◌<◌, ◌≤◌, List, [], ◌∷◌, ◌++◌, length, take, Option, Some, None, Result, OnOk, OnErr}
+use Rattle.std.specs.Prelude.{IfOk, IsSome, IsErrOf}
 use Rattle.std.specs.Option.{option_map}
 use Rattle.std.specs.Ordering.{nat_cmp}
 use Rattle.std.specs.Cmp.Lexicographic.{slice_cmp}
@@ -138,7 +139,8 @@ pub record TakesBack (faults : ℕ) (old new : HostState) : Type 0 where
 -- a disk came back: its name has the bytes that stand there, and its steps
 pub record KeepsDisk (disk : DiskState) (old new : HostState) : Type 0 where
   pub back : TakesBack disk.faults old new
-  pub world : (name : List ℕ) (h : Held) (w : World) → old.world ≡ Some w → w.creating ≡ Some name → disk.held ≡ Some h → new.world ≡ Some (keeps_disk name h w)
+  pub world : (name : List ℕ) (h : Held) (w : World) → old.world ≡ Some w → w.creating ≡ Some name → disk.held ≡ Some h
+      → new.world ≡ Some (keeps_disk name h w)
 
 -- the count of failures on a stream: those on out are among the host's faults
 abbrev pub counted : Stream → HostState → ℕ

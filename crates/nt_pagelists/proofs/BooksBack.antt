@@ -1,5 +1,6 @@
 -- What is written of a book's clusters is read back as these clusters.
-use Rattle.std.proofs.Common.{◌≡◌, ℕ, zero, suc, ◌+◌, ◌-◌, ◌<◌, ◌≤◌, ◌^◌, min, true, List, [], ◌∷◌, ◌++◌, length, take, drop, map, Ok, refl, sym, ap, subst, ◌∙◌, arith}
+use Rattle.std.proofs.Common.{◌≡◌, ℕ, zero, suc, ◌+◌, ◌-◌, ◌<◌, ◌≤◌, ◌^◌, min, true, List, [], ◌∷◌, ◌++◌, length, take, drop, map, Ok, refl}
+use Rattle.std.proofs.Common.{sym, ap, subst, ◌∙◌, arith}
 use Rattle.std.specs.Prelude.{slice_index_or}
 use Rattle.std.specs.List.{AllByRecursion, range_with_len, list_all}
 use Rattle.std.proofs.lemmas.List.{length-map, drop_all, get_or-map}
@@ -16,10 +17,12 @@ use Rattle.nt_pagelists.specs.declared.group.Group.{Group}
 use Rattle.nt_pagelists.specs.Columns.{unknown_column, paged_elements, is_sound_column}
 use Rattle.nt_pagelists.specs.PageLists.{ProgressCounts, with_group, page_list_at}
 use Rattle.nt_pagelists.specs.Writing.{ListedColumn, ListedCluster, page_list_text}
-use Rattle.nt_pagelists.specs.ReadingBack.{cluster_lists_from, first_cluster_place, with_listed, with_all_listed, listed_entries, IsListedColumn, AreListedColumns, IsListedCluster, AreListedClusters}
+use Rattle.nt_pagelists.specs.ReadingBack.{cluster_lists_from, first_cluster_place, with_listed, with_all_listed, listed_entries}
+use Rattle.nt_pagelists.specs.ReadingBack.{IsListedColumn, AreListedColumns, IsListedCluster, AreListedClusters}
 use Rattle.nt_pagelists.specs.Books.{payload_place, page_item, listed_column, listed_cluster, listed_clusters, progress_before}
 use Rattle.nt_pagelists.specs.SoundBooks.{IsSoundList, HasSoundClusters}
-use Rattle.nt_pagelists.proofs.SoundLists.{items-told, items-counted, none-left, column-sound, elements-fit, entries-fit, elements-more, entries-more, few-pages}
+use Rattle.nt_pagelists.proofs.SoundLists.{items-told, items-counted, none-left, column-sound, elements-fit, entries-fit, elements-more}
+use Rattle.nt_pagelists.proofs.SoundLists.{entries-more, few-pages}
 use Rattle.nt_pagelists.proofs.ClustersBack.{page-list-reads}
 
 -- a book's clusters, of which these columns are known
@@ -34,14 +37,18 @@ module _ (columns : List KnownColumn) (book : BookData) (from count : ℕ) (h : 
   as_many = sym (length-map columns (λ (c : KnownColumn). c.first)) ∙ ap length h.firsts
 
   -- a column's first element and its elements before a cluster
-  first-is : (column : ℕ) → column < length columns → slice_index_or book.firsts column 0 ≡ (slice_index_or columns column unknown_column).first
+  first-is : (column : ℕ) → column < length columns → slice_index_or book.firsts column 0
+      ≡ (slice_index_or columns column unknown_column).first
   first-is column less =
-      ap (λ (l : List ℕ). slice_index_or l column 0) (sym h.firsts) ∙ get_or-map (λ (c : KnownColumn). c.first) columns column unknown_column 0 less
+      ap (λ (l : List ℕ). slice_index_or l column 0) (sym h.firsts) ∙ get_or-map (λ (c : KnownColumn). c.first) columns column
+          unknown_column 0 less
 
   sum-is : (k column : ℕ) → column < length columns → slice_index_or (sums k) column 0 ≡ cells k column
-  sum-is k column less = get_or-map-range_with_len (cells k) 0 (length book.firsts) column column 0 (omega (arith, less, as_many)) (omega arith)
+  sum-is k column less = get_or-map-range_with_len (cells k) 0 (length book.firsts) column column 0
+      (omega (arith, less, as_many)) (omega arith)
 
-  offset-is : (k column : ℕ) → column < length columns → column_offset book k column ≡ (slice_index_or columns column unknown_column).first + slice_index_or (sums k) column 0
+  offset-is : (k column : ℕ) → column < length columns → column_offset book k column
+      ≡ (slice_index_or columns column unknown_column).first + slice_index_or (sums k) column 0
   offset-is k column less = omega (arith, first-is column less, sum-is k column less)
 
   low-first : (firsts : List ℕ) (column : ℕ) → AllByRecursion (λ first. first ≤ 2 ^ 60) firsts → slice_index_or firsts column 0 ≤ 2 ^ 60
@@ -76,21 +83,27 @@ module _ (columns : List KnownColumn) (book : BookData) (from count : ℕ) (h : 
         let is = h.each k column low high less in
         let counted = items-counted payload (pages column) in
         let offset = offset-is k column less in
-        let sound = column-sound summary c (slice_index_or (sums k) column 0) (map (page_item payload) (pages column)) is.begun (λ p. counted ∙ is.each p)
+        let sound = column-sound summary c (slice_index_or (sums k) column 0) (map (page_item payload) (pages column)) is.begun
+                (λ p. counted ∙ is.each p)
         (λ p n. none-left payload (pages column) is.filled (is.each p ∙ n)) in
         record {
-          items = items-told (cluster_at book k).meta payload (pages column) (omega (arith, kept.low, kept.short)) kept.short (paged (cluster_at book k).meta.pages column kept.paged.each) is.filled;
-          few = omega (arith, length-map (pages column) (page_item payload), few-pages (cluster_at book k).meta column kept.paged kept.short);
+          items = items-told (cluster_at book k).meta payload (pages column) (omega (arith, kept.low, kept.short)) kept.short
+              (paged (cluster_at book k).meta.pages column kept.paged.each) is.filled;
+          few = omega (arith, length-map (pages column) (page_item payload), few-pages (cluster_at book k).meta column
+              kept.paged kept.short);
           offset = omega (arith, low-first book.firsts column h.kept.firsts, elements-fit book k column h.kept);
-          sound = subst (λ (n : ℕ). is_sound_column summary c (slice_index_or (sums k) column 0) (map (page_item payload) (pages column)) n ≡ true) (sym offset) sound;
+          sound = subst (λ (n : ℕ). is_sound_column summary c (slice_index_or (sums k) column 0)
+              (map (page_item payload) (pages column)) n ≡ true) (sym offset) sound;
         }
 
-    columns-listed : (column n : ℕ) → column + n ≤ length columns → AreListedColumns summary columns (sums k) column (map (listed_column book k) (range_with_len column n))
+    columns-listed : (column n : ℕ) → column + n ≤ length columns
+        → AreListedColumns summary columns (sums k) column (map (listed_column book k) (range_with_len column n))
     columns-listed column zero most = tt
     columns-listed column (suc n) most =
         let next : column + 1 ≡ suc column = omega arith in (
           column-listed column (omega (arith, most)),
-          subst (λ (j : ℕ). AreListedColumns summary columns (sums k) j (map (listed_column book k) (range_with_len (column + 1) n))) next (columns-listed (column + 1) n (omega (arith, most))),
+          subst (λ (j : ℕ). AreListedColumns summary columns (sums k) j
+              (map (listed_column book k) (range_with_len (column + 1) n))) next (columns-listed (column + 1) n (omega (arith, most))),
         )
 
     lists-long : length (listed_cluster book k).columns ≡ length columns
@@ -98,7 +111,8 @@ module _ (columns : List KnownColumn) (book : BookData) (from count : ℕ) (h : 
 
     cluster-listed : IsListedCluster columns k (first_entry book k) (sums k) (listed_cluster book k)
     cluster-listed =
-        let all : drop (length (listed_cluster book k).columns) columns ≡ [] = drop_all (length (listed_cluster book k).columns) columns (omega (arith, lists-long)) in
+        let all : drop (length (listed_cluster book k).columns) columns ≡ [] =
+                drop_all (length (listed_cluster book k).columns) columns (omega (arith, lists-long)) in
         let entries = kept.paged.entries in
         record {
           numbered = refl;
@@ -111,14 +125,17 @@ module _ (columns : List KnownColumn) (book : BookData) (from count : ℕ) (h : 
         }
 
     -- the elements with this cluster
-    more-each : (column n : ℕ) → with_listed (map (cells k) (range_with_len column n)) (map (listed_column book k) (range_with_len column n)) ≡ map (cells (k + 1)) (range_with_len column n)
+    more-each : (column n : ℕ) → with_listed (map (cells k) (range_with_len column n))
+        (map (listed_column book k) (range_with_len column n)) ≡ map (cells (k + 1)) (range_with_len column n)
     more-each column zero = refl
     more-each column (suc n) =
         let counted = items-counted (payload_place (cluster_at book k)) (pages column) in
         let next = elements-more book k column there in
         let fits = elements-fit book (k + 1) column h.kept in
-        let sum : min (cells k column + paged_elements (listed_column book k column).pages) (2 ^ 64 - 1) ≡ cells (k + 1) column = omega (arith, counted, next, fits) in
-        ap (λ (m : ℕ). m ∷ with_listed (map (cells k) (range_with_len (column + 1) n)) (map (listed_column book k) (range_with_len (column + 1) n))) sum
+        let sum : min (cells k column + paged_elements (listed_column book k column).pages) (2 ^ 64 - 1) ≡ cells (k + 1) column =
+                omega (arith, counted, next, fits) in
+        ap (λ (m : ℕ). m ∷ with_listed (map (cells k) (range_with_len (column + 1) n))
+            (map (listed_column book k) (range_with_len (column + 1) n))) sum
         ∙ ap (λ (l : List ℕ). cells (k + 1) column ∷ l) (more-each (column + 1) n)
 
     sums-more : with_listed (sums k) (listed_cluster book k).columns ≡ sums (k + 1)
@@ -126,18 +143,22 @@ module _ (columns : List KnownColumn) (book : BookData) (from count : ℕ) (h : 
         ap (λ (n : ℕ). with_listed (sums k) (map (listed_column book k) (range_with_len 0 n))) kept.lists ∙ more-each 0 (length book.firsts)
 
   -- so many clusters
-  clusters-listed : (k n : ℕ) → from ≤ k → k + n ≤ from + count → AreListedClusters columns k (first_entry book k) (sums k) (listed_clusters book k n)
+  clusters-listed : (k n : ℕ) → from ≤ k → k + n ≤ from + count
+      → AreListedClusters columns k (first_entry book k) (sums k) (listed_clusters book k n)
   clusters-listed k zero low high = tt
   clusters-listed k (suc n) low high =
       let less : k < from + count = omega (arith, high) in
       let entries = entries-more book k (there k low less) in (
         cluster-listed k low less,
-        subst (λ (e : ℕ). AreListedClusters columns (k + 1) e (with_listed (sums k) (listed_cluster book k).columns) (listed_clusters book (k + 1) n)) entries
-            (subst (λ (es : List ℕ). AreListedClusters columns (k + 1) (first_entry book (k + 1)) es (listed_clusters book (k + 1) n)) (sym (sums-more k low less))
+        subst (λ (e : ℕ). AreListedClusters columns (k + 1) e (with_listed (sums k) (listed_cluster book k).columns)
+            (listed_clusters book (k + 1) n)) entries
+            (subst (λ (es : List ℕ). AreListedClusters columns (k + 1) (first_entry book (k + 1)) es
+                (listed_clusters book (k + 1) n)) (sym (sums-more k low less))
             (clusters-listed (k + 1) n (omega (arith, low)) (omega (arith, high)))),
       )
 
-  entries-listed : (k n : ℕ) → from ≤ k → k + n ≤ from + count → first_entry book k + listed_entries (listed_clusters book k n) ≡ first_entry book (k + n)
+  entries-listed : (k n : ℕ) → from ≤ k → k + n ≤ from + count → first_entry book k + listed_entries (listed_clusters book k n)
+      ≡ first_entry book (k + n)
   entries-listed k zero low high =
       let same : k ≡ k + 0 = omega arith in
       let last : first_entry book k ≡ first_entry book (k + 0) = ap (λ (j : ℕ). first_entry book j) same in
@@ -158,19 +179,25 @@ module _ (columns : List KnownColumn) (book : BookData) (from count : ℕ) (h : 
       ap (λ (es : List ℕ). with_all_listed es (listed_clusters book (k + 1) n)) (sums-more k low (omega (arith, high)))
       ∙ (sums-listed (k + 1) n (omega (arith, low)) (omega (arith, high)) ∙ ap (λ (j : ℕ). sums j) same)
 
-  pub book-reads : (sum : ℕ) (g : Group) (place : ℕ) (rest : List ℕ) → sum < 2 ^ 64 → g.clusters ≡ count → first_entry book from + g.span ≡ first_entry book (from + count)
+  pub book-reads : (sum : ℕ) (g : Group) (place : ℕ) (rest : List ℕ) → sum < 2 ^ 64 → g.clusters ≡ count
+      → first_entry book from + g.span ≡ first_entry book (from + count)
       → length (page_list_text sum (listed_clusters book from count)) < 2 ^ 63
-      → page_list_at sum g columns (progress_before book from) (standing place (page_list_text sum (listed_clusters book from count) ++ rest))
-      ≡ Ok (cluster_lists_from (first_cluster_place place (listed_clusters book from count)) (listed_clusters book from count), progress_before book (from + count))
+      → page_list_at sum g columns (progress_before book from)
+          (standing place (page_list_text sum (listed_clusters book from count) ++ rest))
+      ≡ Ok (cluster_lists_from (first_cluster_place place (listed_clusters book from count)) (listed_clusters book from count),
+          progress_before book (from + count))
   book-reads sum g place rest fits clusters span short =
       let ws = listed_clusters book from count in
       let long : length ws ≡ count = length-map-range_with_len (listed_cluster book) from count in
       let entries = entries-listed from count (omega arith) (omega arith) in
       let few : length columns < 2 ^ 32 = omega (arith, as_many, h.kept.columns) in
       let counted : with_group (progress_before book from) g (with_all_listed (sums from) ws) ≡ progress_before book (from + count) =
-      ap (λ (n : ℕ). record { clusters = from + n; entries = first_entry book from + g.span; elements = with_all_listed (sums from) ws }) clusters
+      ap (λ (n : ℕ). record { clusters = from + n; entries = first_entry book from + g.span; elements =
+          with_all_listed (sums from) ws }) clusters
       ∙ (ap (λ (n : ℕ). record { clusters = from + count; entries = n; elements = with_all_listed (sums from) ws }) span
-      ∙ ap (λ (l : List ℕ). record { clusters = from + count; entries = first_entry book (from + count); elements = l }) (sums-listed from count (omega arith) (omega arith))) in
-      page-list-reads sum g columns (progress_before book from) ws place rest fits few (omega (arith, long, h.inside, h.kept.few)) (clusters ∙ sym long) (omega (arith, entries, span))
+      ∙ ap (λ (l : List ℕ). record { clusters = from + count; entries = first_entry book (from + count); elements =
+          l }) (sums-listed from count (omega arith) (omega arith))) in
+      page-list-reads sum g columns (progress_before book from) ws place rest fits few (omega (arith, long, h.inside, h.kept.few))
+          (clusters ∙ sym long) (omega (arith, entries, span))
       (clusters-listed from count (omega arith) (omega arith)) short
       ∙ ap (λ (p : ProgressCounts). Ok (cluster_lists_from (first_cluster_place place ws) ws, p)) counted

@@ -1,5 +1,6 @@
 -- Pages of a book's clusters, and what they sum up to.
-use Rattle.std.proofs.Common.{◌≡◌, ℕ, zero, suc, ◌+◌, ◌-◌, ◌*◌, ◌<◌, ◌≤◌, ◌^◌, min, Bool, true, false, not, ◌&&◌, ◌||◌, cond, eqb, ltb, List, [], ◌∷◌, ◌++◌, length, take, drop, map, refl, sym, ap, subst, ◌∙◌, arith}
+use Rattle.std.proofs.Common.{◌≡◌, ℕ, zero, suc, ◌+◌, ◌-◌, ◌*◌, ◌<◌, ◌≤◌, ◌^◌, min, Bool, true, false, not, ◌&&◌, ◌||◌, cond, eqb, ltb}
+use Rattle.std.proofs.Common.{List, [], ◌∷◌, ◌++◌, length, take, drop, map, refl, sym, ap, subst, ◌∙◌, arith}
 use Rattle.std.specs.Prelude.{slice_index_or}
 use Rattle.std.specs.List.{AllByRecursion, sum_by, range_with_len}
 use Rattle.std.proofs.lemmas.Bool.Decides.{nat_tests}
@@ -21,41 +22,48 @@ use Rattle.nt_pagelists.specs.Books.{page_item}
 
 -- pages of a book can be told
 pub items-told : (meta : ClusterMeta) (payload : ℕ) (pages : List PageMeta) → payload + meta.len < 2 ^ 64 → meta.len ≤ 2 ^ 30
-    → AllByRecursion (IsPageOf meta) pages → AllByRecursion (λ (p : PageMeta). 0 < p.count) pages → ArePageItems (map (page_item payload) pages)
+    → AllByRecursion (IsPageOf meta) pages → AllByRecursion (λ (p : PageMeta). 0 < p.count) pages
+        → ArePageItems (map (page_item payload) pages)
 items-told meta payload [] low short h some = tt
 items-told meta payload (p ∷ ps) low short h some =
     let place = h.0.place in
-    (record { count = h.0.count; some = λ checked. some.0; size = omega (arith, place, short); place = omega (arith, place, low) }, items-told meta payload ps low short h.1 some.1)
+    (record { count = h.0.count; some = λ checked. some.0; size = omega (arith, place, short); place =
+        omega (arith, place, low) }, items-told meta payload ps low short h.1 some.1)
 
 pub items-counted : (payload : ℕ) (pages : List PageMeta) → paged_elements (map (page_item payload) pages) ≡ element_count pages
 items-counted payload [] = refl
 items-counted payload (p ∷ ps) = omega (arith, items-counted payload ps, sum_by-cons (λ (q : PageMeta). q.count) p ps)
 
 -- pages with elements are none where there are no elements
-pub none-left : (payload : ℕ) (pages : List PageMeta) → AllByRecursion (λ (p : PageMeta). 0 < p.count) pages → element_count pages ≡ 0 → no_pages (map (page_item payload) pages) ≡ true
+pub none-left : (payload : ℕ) (pages : List PageMeta) → AllByRecursion (λ (p : PageMeta). 0 < p.count) pages
+    → element_count pages ≡ 0 → no_pages (map (page_item payload) pages) ≡ true
 none-left payload [] some e = refl
 none-left payload (p ∷ ps) some e = absurd (omega (arith, some.0, e, sum_by-cons (λ (q : PageMeta). q.count) p ps))
 
 -- the tests of a column with its pages, on plain numbers
 principal-plain : (o none : Bool) (from n f els before : ℕ) → f ≤ from → els ≡ n → (n ≡ 0 → none ≡ true)
-    → (not (o && true && ltb from f && ltb f (from + n)) && ((not (o && true) || cond (eqb n 0 || ltb from f) none (eqb els n)) && (not o || eqb els 0 || eqb (f + before) (f + before)))) ≡ true
+    → (not (o && true && ltb from f && ltb f (from + n)) && ((not (o && true) || cond (eqb n 0 || ltb from f) none (eqb els n))
+        && (not o || eqb els 0 || eqb (f + before) (f + before)))) ≡ true
 principal-plain true none from n f els before le is empty = grind (arith, nat_tests, le, is, empty)
 principal-plain false none from n f els before le is empty = refl
 
 other-plain : (o none : Bool) (from n f els before : ℕ)
-    → (not (o && false && ltb from f && ltb f (from + n)) && ((not (o && false) || cond (eqb n 0 || ltb from f) none (eqb els n)) && (not o || eqb els 0 || eqb (f + before) (f + before)))) ≡ true
+    → (not (o && false && ltb from f && ltb f (from + n)) && ((not (o && false) || cond (eqb n 0 || ltb from f) none (eqb els n))
+        && (not o || eqb els 0 || eqb (f + before) (f + before)))) ≡ true
 other-plain true none from n f els before = grind (arith, nat_tests)
 other-plain false none from n f els before = refl
 
 plain-sound : (o p none : Bool) (from n f els before : ℕ) → (p ≡ true → f ≤ from) → (p ≡ true → els ≡ n) → (p ≡ true → n ≡ 0 → none ≡ true)
-    → (not (o && p && ltb from f && ltb f (from + n)) && ((not (o && p) || cond (eqb n 0 || ltb from f) none (eqb els n)) && (not o || eqb els 0 || eqb (f + before) (f + before)))) ≡ true
+    → (not (o && p && ltb from f && ltb f (from + n)) && ((not (o && p) || cond (eqb n 0 || ltb from f) none (eqb els n))
+        && (not o || eqb els 0 || eqb (f + before) (f + before)))) ≡ true
 plain-sound o true none from n f els before a b c = principal-plain o none from n f els before (a refl) (b refl) (c refl)
 plain-sound o false none from n f els before a b c = other-plain o none from n f els before
 
 pub column-sound : (k : ClusterSummary) (c : KnownColumn) (before : ℕ) (pages : List PageItem) → (c.is_principal ≡ true → c.first ≤ k.first)
     → (c.is_principal ≡ true → paged_elements pages ≡ k.entries) → (c.is_principal ≡ true → k.entries ≡ 0 → no_pages pages ≡ true)
     → is_sound_column k c before pages (c.first + before) ≡ true
-column-sound k c before pages a b e = plain-sound c.is_open c.is_principal (no_pages pages) k.first k.entries c.first (paged_elements pages) before a b e
+column-sound k c before pages a b e = plain-sound c.is_open c.is_principal (no_pages pages) k.first k.entries c.first
+    (paged_elements pages) before a b e
 
 -- sums over the clusters of a kept book
 
@@ -77,7 +85,8 @@ elements-le columns column (suc k) (c ∷ cs) h =
       sum_by-cons (λ (x : Cluster ClusterMeta). x.len) c cs,
     )
 
-entries-le : (columns k : ℕ) (cs : List (Cluster ClusterMeta)) → AllByRecursion (IsKeptCluster columns) cs → entry_count (take k cs) ≤ 8 * sum_by (λ (c : Cluster ClusterMeta). c.len) cs
+entries-le : (columns k : ℕ) (cs : List (Cluster ClusterMeta)) → AllByRecursion (IsKeptCluster columns) cs
+    → entry_count (take k cs) ≤ 8 * sum_by (λ (c : Cluster ClusterMeta). c.len) cs
 entries-le columns zero cs h = omega arith
 entries-le columns (suc k) [] h = omega arith
 entries-le columns (suc k) (c ∷ cs) h =
@@ -93,25 +102,31 @@ entries-le columns (suc k) (c ∷ cs) h =
 
 pub elements-fit : (book : BookData) (k column : ℕ) → IsBookKept book → elements_before (take k (book_clusters book)) column ≤ 2 ^ 59
 elements-fit book k column h =
-    omega (arith, h.end, elements-le (length book.firsts) column k (book_clusters book) (all-of (IsKeptCluster (length book.firsts)) (book_clusters book) no_cluster h.clusters))
+    omega (arith, h.end, elements-le (length book.firsts) column k (book_clusters book)
+        (all-of (IsKeptCluster (length book.firsts)) (book_clusters book) no_cluster h.clusters))
 
 pub entries-fit : (book : BookData) (k : ℕ) → IsBookKept book → first_entry book k ≤ 2 ^ 59
 entries-fit book k h =
-    omega (arith, h.end, entries-le (length book.firsts) k (book_clusters book) (all-of (IsKeptCluster (length book.firsts)) (book_clusters book) no_cluster h.clusters))
+    omega (arith, h.end, entries-le (length book.firsts) k (book_clusters book)
+        (all-of (IsKeptCluster (length book.firsts)) (book_clusters book) no_cluster h.clusters))
 
 -- one cluster more
 
 pub elements-more : (book : BookData) (k column : ℕ) → k < length (book_clusters book)
-    → elements_before (take (k + 1) (book_clusters book)) column ≡ elements_before (take k (book_clusters book)) column + listed_elements (cluster_at book k).meta column
+    → elements_before (take (k + 1) (book_clusters book)) column ≡ elements_before (take k (book_clusters book)) column
+        + listed_elements (cluster_at book k).meta column
 elements-more book k column less =
     let same : suc k ≡ k + 1 = omega arith in
-    ap (λ (l : List (Cluster ClusterMeta)). elements_before l column) (ap (λ (j : ℕ). take j (book_clusters book)) (sym same) ∙ take-suc (book_clusters book) k no_cluster less)
+    ap (λ (l : List (Cluster ClusterMeta)). elements_before l column) (ap (λ (j : ℕ). take j (book_clusters book)) (sym same)
+        ∙ take-suc (book_clusters book) k no_cluster less)
     ∙ sum_by_push (λ (c : Cluster ClusterMeta). listed_elements c.meta column) (take k (book_clusters book)) (cluster_at book k)
 
-pub entries-more : (book : BookData) (k : ℕ) → k < length (book_clusters book) → first_entry book (k + 1) ≡ first_entry book k + (cluster_at book k).meta.entries
+pub entries-more : (book : BookData) (k : ℕ) → k < length (book_clusters book) → first_entry book (k + 1) ≡ first_entry book k
+    + (cluster_at book k).meta.entries
 entries-more book k less =
     let same : suc k ≡ k + 1 = omega arith in
-    ap (λ (l : List (Cluster ClusterMeta)). entry_count l) (ap (λ (j : ℕ). take j (book_clusters book)) (sym same) ∙ take-suc (book_clusters book) k no_cluster less)
+    ap (λ (l : List (Cluster ClusterMeta)). entry_count l) (ap (λ (j : ℕ). take j (book_clusters book)) (sym same)
+        ∙ take-suc (book_clusters book) k no_cluster less)
     ∙ sum_by_push (λ (c : Cluster ClusterMeta). c.meta.entries) (take k (book_clusters book)) (cluster_at book k)
 
 -- few enough pages for a list frame

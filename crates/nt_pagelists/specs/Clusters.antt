@@ -1,6 +1,7 @@
 -- The clusters of a page list, read from bytes (RNTuple Binary Format Specification 1.0.0.0, sections Cluster Summary Record Frame and
 -- Page Locations).
-use Rattle.std.specs.Prelude.{ℕ, zero, suc, ◌+◌, ◌-◌, ◌^◌, min, ◌==◌, List, [], ◌∷◌, ◌++◌, length, drop, nat_lt, if◌then◌else◌, Result, Ok, Err}
+use Rattle.std.specs.Prelude.{ℕ, zero, suc, ◌+◌, ◌-◌, ◌^◌, min, ◌==◌, List, [], ◌∷◌, ◌++◌, length, drop, nat_lt, if◌then◌else◌, Result, Ok}
+use Rattle.std.specs.Prelude.{Err}
 use Rattle.std.specs.Int.{w64}
 use Rattle.nt_num.specs.Place.{At}
 use Rattle.nt_num.specs.Cursor.{little}
@@ -39,13 +40,16 @@ with_elements [] (l ∷ ls) = []
 with_elements (e ∷ es) (l ∷ ls) = min (e + paged_elements l.pages) (2 ^ 64 - 1) ∷ with_elements es ls
 
 -- the pages of these clusters behind these, with the elements of each column before them
-abbrev pub cluster_lists_on : List KnownColumn → List ClusterSummary → List ℕ → List ClusterList → At → Result (List ClusterList × List ℕ) ReadError
+abbrev pub cluster_lists_on : List KnownColumn → List ClusterSummary → List ℕ → List ClusterList → At
+    → Result (List ClusterList × List ℕ) ReadError
 cluster_lists_on columns [] elements lists here = Ok (lists, elements)
 cluster_lists_on columns (k ∷ ks) elements lists here =
-    cluster_list_at k columns elements here >>= λ list. cluster_lists_on columns ks (with_elements elements list.0.columns) (lists ++ list.0 ∷ []) list.1
+    cluster_list_at k columns elements here >>= λ list. cluster_lists_on columns ks (with_elements elements list.0.columns)
+        (lists ++ list.0 ∷ []) list.1
 
 -- the pages of these clusters, whose list begins here; as many as the group has
-unfoldable pub cluster_lists_at : Group → List KnownColumn → List ClusterSummary → List ℕ → At → Result (List ClusterList × List ℕ) ReadError
+unfoldable pub cluster_lists_at : Group → List KnownColumn → List ClusterSummary → List ℕ → At
+    → Result (List ClusterList × List ℕ) ReadError
 cluster_lists_at g columns ks elements here = do
   list ← placed (list_at here)
   if list.0.0 == g.clusters then cluster_lists_on columns ks elements [] list.0.1 else Err (fault bad_group here.place)

@@ -1,6 +1,7 @@
 -- What the pages of a column have to be in a cluster (RNTuple Binary Format Specification 1.0.0.0, sections Column Description and
 -- Page Locations). An open column is looked at; of a closed one nothing is required.
-use Rattle.std.specs.Prelude.{ℕ, ◌≡◌, ◌+◌, ◌-◌, ◌^◌, ◌≤◌, min, Bool, true, false, ◌==◌, ◌&&◌, ◌||◌, not, List, [], ◌∷◌, length, drop, slice_index_or, nat_le, nat_lt, if◌then◌else◌, Result, Ok, Err}
+use Rattle.std.specs.Prelude.{ℕ, ◌≡◌, ◌+◌, ◌-◌, ◌^◌, ◌≤◌, min, Bool, true, false, ◌==◌, ◌&&◌, ◌||◌, not, List, [], ◌∷◌, length, drop}
+use Rattle.std.specs.Prelude.{slice_index_or, nat_le, nat_lt, if◌then◌else◌, Result, Ok, Err}
 use Rattle.nt_num.specs.Codes.{bad_cluster, deferred_inside}
 use Rattle.nt_num.specs.Faults.{fault}
 use Rattle.nt_num.specs.declared.fault.ReadError.{ReadError}
@@ -34,7 +35,8 @@ begins_inside k c = c.is_open && c.is_principal && nat_lt k.first c.first && nat
 -- an open principal column has one element for each entry, or no page where it begins behind them all or where there is no entry
 abbrev pub has_its_elements : ClusterSummary → KnownColumn → List PageItem → Bool
 has_its_elements k c pages =
-    not (c.is_open && c.is_principal) || (if (k.entries == 0) || nat_lt k.first c.first then no_pages pages else paged_elements pages == k.entries)
+    not (c.is_open && c.is_principal) || (if (k.entries == 0) || nat_lt k.first c.first then no_pages pages else paged_elements
+        pages == k.entries)
 
 -- the elements of an open column, where it has some here, stand behind those of its earlier pages
 abbrev pub has_its_offset : KnownColumn → ℕ → List PageItem → ℕ → Bool

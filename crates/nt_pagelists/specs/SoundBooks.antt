@@ -8,7 +8,8 @@ use Rattle.nt_book.specs.Kept.{IsBookKept}
 use Rattle.nt_pagelists.specs.declared.column.KnownColumn.{KnownColumn}
 use Rattle.nt_pagelists.specs.Columns.{unknown_column}
 
--- the pages of a column in a cluster of so many entries from that one on: none is empty, and a principal column has begun, and has an element for each entry
+-- the pages of a column in a cluster of so many entries from that one on: none is empty, and a principal column has begun, and has
+-- an element for each entry
 pub record IsSoundList (entries first : ℕ) (c : KnownColumn) (pages : List PageMeta) : Type 0 where
   pub filled : AllByRecursion (λ (p : PageMeta). 0 < p.count) pages
   pub begun : c.is_principal ≡ true → c.first ≤ first

@@ -1,5 +1,6 @@
 -- How long pages are, one after the other.
-use Rattle.std.proofs.Common.{◌≡◌, ℕ, zero, suc, ◌+◌, ◌-◌, ◌*◌, ◌/◌, ◌%◌, ◌<◌, ◌≤◌, min, List, ◌∷◌, length, map, refl, sym, ◌∙◌, ap, arith, replicate, add-zero, zero-add, Option, None, Some}
+use Rattle.std.proofs.Common.{◌≡◌, ℕ, zero, suc, ◌+◌, ◌-◌, ◌*◌, ◌/◌, ◌%◌, ◌<◌, ◌≤◌, min, List, ◌∷◌, length, map, refl, sym, ◌∙◌, ap, arith}
+use Rattle.std.proofs.Common.{replicate, add-zero, zero-add, Option, None, Some}
 use Rattle.std.specs.Option.{SomeIff, IfSome}
 use Rattle.std.specs.Int.{w64, to_le_bytes, div_ceil}
 use Rattle.std.specs.List.{flat_map, range_with_len}

@@ -1,5 +1,6 @@
 -- The groups of a footer are read as what stands there.
-use Rattle.std.proofs.Common.{◌≡◌, ℕ, zero, suc, ◌+◌, ◌^◌, true, false, leb, ltb, eqb, List, [], ◌∷◌, ◌++◌, length, refl, sym, ap, subst, ◌∙◌, arith}
+use Rattle.std.proofs.Common.{◌≡◌, ℕ, zero, suc, ◌+◌, ◌^◌, true, false, leb, ltb, eqb, List, [], ◌∷◌, ◌++◌, length, refl, sym, ap, subst}
+use Rattle.std.proofs.Common.{◌∙◌, arith}
 use Rattle.std.specs.Int.{w32, w64, to_le_bytes}
 use Rattle.std.proofs.lemmas.Bool.{lt-leb, leb-false, ltb-true, lt-ltb, eqb-true, eq-eqb}
 use Rattle.std.proofs.lemmas.List.{append-nil}
@@ -10,7 +11,8 @@ use Rattle.nt_format.specs.Grammars.{Spelled}
 use Rattle.nt_format.specs.Relations.{Agrees, Stands}
 use Rattle.nt_format.specs.declared.locator.Link.{Link}
 use Rattle.nt_pagelists.specs.declared.group.Group.{Group}
-use Rattle.nt_pagelists.specs.ClusterGroups.{minimum_entry_at, entry_span_at, cluster_count_at, group_link_at, group_at, groups_on, groups_at}
+use Rattle.nt_pagelists.specs.ClusterGroups.{minimum_entry_at, entry_span_at, cluster_count_at, group_link_at, group_at, groups_on}
+use Rattle.nt_pagelists.specs.ClusterGroups.{groups_at}
 use Rattle.nt_pagelists.specs.ReadingBack.{IsGroup, AreGroups}
 use Rattle.nt_payloads.specs.Framed.{InRecord, InList, Series, no_item, and_item, Items}
 use Rattle.nt_payloads.specs.Footers.{GroupText}

@@ -1,11 +1,13 @@
 -- An open field lies in the rows: each part of its shape has its columns and fields there.
-use Rattle.std.proofs.Common.{ℕ, zero, suc, Bool, true, false, ◌≡◌, ◌≢◌, ◌<◌, inl, inr, List, [], ◌∷◌, Option, Some, None, length, drop, get_or, map, slice_get, ◌==◌, ◌||◌, refl, sym, subst, arith}
+use Rattle.std.proofs.Common.{ℕ, zero, suc, Bool, true, false, ◌≡◌, ◌≢◌, ◌<◌, inl, inr, List, [], ◌∷◌, Option, Some, None, length, drop}
+use Rattle.std.proofs.Common.{get_or, map, slice_get, ◌==◌, ◌||◌, refl, sym, subst, arith}
 use Rattle.std.proofs.lemmas.Bool.{and_parts, eqb-true, ne_eqb, true≢false}
 use Rattle.std.specs.Prelude.{◌&&◌, option_map, option_and_then, find, codes, if◌then◌else◌}
 use Rattle.std.specs.List.{AllByRecursion, list_any}
 use Rattle.std.specs.Str.{bytes_eq}
 use Rattle.nt_lists.proofs.Variants.{some_is}
-use Rattle.nt_types.specs.ShapeData.{ShapeData, ShapesData, MembersData, MemberData, bool, char, byte, int, text, list, fields, tuple, choice, no_kinds, kind, no_parts, part, kinds_of, parts_of}
+use Rattle.nt_types.specs.ShapeData.{ShapeData, ShapesData, MembersData, MemberData, bool, char, byte, int, text, list, fields, tuple}
+use Rattle.nt_types.specs.ShapeData.{choice, no_kinds, kind, no_parts, part, kinds_of, parts_of}
 use Rattle.nt_types.specs.Schema.{part_under}
 use Rattle.nt_types.specs.ColumnTable.{code_of, bits_of}
 use Rattle.nt_types.specs.Spelling.{is_width}
@@ -15,7 +17,9 @@ use Rattle.nt_grammar.specs.declared.rows.FieldRow.{FieldRow}
 use Rattle.nt_grammar.specs.declared.rows.ColumnRow.{ColumnRow}
 use Rattle.nt_grammar.specs.Codes.{leaf_role, collection_role, record_role, variant_role}
 use Rattle.nt_grammar.specs.Types.{cpp_name}
-use Rattle.nt_grammar.specs.Open.{ids_inside, columns_of_field, column_fits, one_column, index_types, text_columns, leaves, leaf_types, leaf_with, named_leaf, leaf_shape, list_shape, record_shape, choice_shape, flags_fit, is_leaf, no_column, shape_by_role, all_some, field_of_row, open_field}
+use Rattle.nt_grammar.specs.Open.{ids_inside, columns_of_field, column_fits, one_column, index_types, text_columns, leaves, leaf_types}
+use Rattle.nt_grammar.specs.Open.{leaf_with, named_leaf, leaf_shape, list_shape, record_shape, choice_shape, flags_fit, is_leaf, no_column}
+use Rattle.nt_grammar.specs.Open.{shape_by_role, all_some, field_of_row, open_field}
 use Rattle.nt_plans.specs.Place.{column_ids, first_column, second_column}
 use Rattle.nt_plans.specs.Types.{IsOfType, is_index_type, HasEnds, HasWidth}
 use Rattle.nt_plans.proofs.Options.{then_some, map_some, either, some_if, found_one}
@@ -80,7 +84,8 @@ fits-type : (P : ColumnType → Type 0) (up : Bool) (cs : List ColumnRow) (k : �
 fits-type P up cs k c types a is e = one-type P cs k c types a is (first_of_five (list_any (is_type c) types) _ _ _ _ e)
 
 -- the one column of a field
-one-own : (P : ColumnType → Type 0) (up : Bool) (cs : List ColumnRow) (x : ℕ) (ids : List ℕ) (own : List ColumnRow) (types : List ColumnType)
+one-own : (P : ColumnType → Type 0) (up : Bool) (cs : List ColumnRow) (x : ℕ) (ids : List ℕ) (own : List ColumnRow)
+    (types : List ColumnType)
     → AllByRecursion P types → AreOwn cs x ids own → one_column up types own ≡ true
     → Owns cs x (get_or ids 0 0) × ((t : ColumnType) × P t × IsOfType cs (get_or ids 0 0) t)
 one-own P up cs x ids [] types a o e = absurd (true≢false (sym e))
@@ -176,11 +181,13 @@ named-lies fs cs up id name k e =
     let found = then_some (find (λ (s : ShapeData). bytes_eq name (cpp_name s)) leaves) (leaf_with up own) k e in
     let test = some_if (one_column up (leaf_types found.0) own) (Some found.0) k found.2 in
     let lies : Lies fs cs found.0 id =
-    found_one (LiesAsLeaf fs cs up id) (λ (s : ShapeData). bytes_eq name (cpp_name s)) leaves found.0 (leaves-lie fs cs up id) found.1 test.0 in
+    found_one (LiesAsLeaf fs cs up id) (λ (s : ShapeData). bytes_eq name (cpp_name s)) leaves found.0 (leaves-lie fs cs up id)
+        found.1 test.0 in
     subst (λ (s : ShapeData). Lies fs cs s id) (some_is found.0 k test.1) lies
 
 -- the two columns of a text
-text-own : (up : Bool) (cs : List ColumnRow) (x : ℕ) (ids : List ℕ) (own : List ColumnRow) → AreOwn cs x ids own → text_columns up own ≡ true
+text-own : (up : Bool) (cs : List ColumnRow) (x : ℕ) (ids : List ℕ) (own : List ColumnRow) → AreOwn cs x ids own
+    → text_columns up own ≡ true
     → Owns cs x (get_or ids 0 0) × HasEnds cs (get_or ids 0 0) × Owns cs x (get_or ids 1 0) × IsOfType cs (get_or ids 1 0) Char
     × ((get_or ids 1 0 == get_or ids 0 0) ≡ false)
 unfolding IsIndex IsOne

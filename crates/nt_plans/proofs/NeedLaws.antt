@@ -1,5 +1,6 @@
 -- A column has a need, and a field at the top level, exactly where it is in a plan.
-use Rattle.std.proofs.Common.{ℕ, suc, Bool, true, false, ◌≡◌, ◌+◌, List, [], ◌∷◌, Option, Some, None, ◌==◌, ◌||◌, refl, ap₂, ◌∙◌, if◌then◌else◌}
+use Rattle.std.proofs.Common.{ℕ, suc, Bool, true, false, ◌≡◌, ◌+◌, List, [], ◌∷◌, Option, Some, None, ◌==◌, ◌||◌, refl, ap₂, ◌∙◌}
+use Rattle.std.proofs.Common.{if◌then◌else◌}
 use Rattle.std.specs.Option.{option_or, is_some}
 use Rattle.nt_types.specs.ShapeData.{ShapeData}
 use Rattle.nt_grammar.specs.declared.rows.FieldRow.{FieldRow}

@@ -1,8 +1,10 @@
 -- The columns of a plan are there with their types, and each is of a field inside the plan's, so no column stands twice.
-use Rattle.std.proofs.Common.{ℕ, Bool, true, false, ◌≡◌, ◌<◌, ◌+◌, ◌⊎◌, inl, inr, List, [], ◌∷◌, length, drop, get_or, ◌==◌, ◌||◌, refl, sym, ap, ◌∙◌, subst, arith}
+use Rattle.std.proofs.Common.{ℕ, Bool, true, false, ◌≡◌, ◌<◌, ◌+◌, ◌⊎◌, inl, inr, List, [], ◌∷◌, length, drop, get_or, ◌==◌, ◌||◌, refl}
+use Rattle.std.proofs.Common.{sym, ap, ◌∙◌, subst, arith}
 use Rattle.std.proofs.lemmas.Bool.{eqb-true, false_from_ne_true}
 use Rattle.nt_lists.proofs.Variants.{some_is}
-use Rattle.nt_types.specs.ShapeData.{ShapeData, ShapesData, MembersData, bool, char, byte, int, text, list, fields, tuple, choice, no_kinds, kind, no_parts, part}
+use Rattle.nt_types.specs.ShapeData.{ShapeData, ShapesData, MembersData, bool, char, byte, int, text, list, fields, tuple, choice, no_kinds}
+use Rattle.nt_types.specs.ShapeData.{kind, no_parts, part}
 use Rattle.nt_grammar.specs.declared.rows.FieldRow.{FieldRow}
 use Rattle.nt_grammar.specs.declared.rows.ColumnRow.{ColumnRow}
 use Rattle.nt_grammar.specs.Open.{ids_inside}
@@ -190,7 +192,8 @@ mutual
       let child : ℕ = get_or (ids_inside id 0 fs) 0 0 in
       let under : Under fs 1 id child = first-inside fs id (ids_inside id 0 fs) (ids-inside fs id) l.2 in (
         false_from_ne_true (has (place fs cs k child) (first_column cs id))
-            (λ h. own-apart fs cs top level id child (first_column cs id) t u under l.0 (place-owner fs cs k child (first_column cs id) l.3 h)),
+            (λ h. own-apart fs cs top level id child (first_column cs id) t u under l.0
+                (place-owner fs cs k child (first_column cs id) l.3 h)),
         place-differ fs cs top (1 + level) k child t (under-join fs 1 level (1 + level) id top child refl under u) l.3,
       )
   place-differ fs cs top level (fields ps) id t u l =

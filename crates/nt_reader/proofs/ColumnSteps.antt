@@ -1,5 +1,6 @@
 -- Columns of a cluster that are read one after the other.
-use Rattle.std.proofs.Common.{◌≡◌, ℕ, ◌+◌, ◌<◌, ◌≤◌, Bool, true, false, cond, List, [], ◌∷◌, ◌++◌, take, drop, length, slice_get, Option, Some, None, Result, Ok, Err, refl, sym, ap, ◌∙◌, arith}
+use Rattle.std.proofs.Common.{◌≡◌, ℕ, ◌+◌, ◌<◌, ◌≤◌, Bool, true, false, cond, List, [], ◌∷◌, ◌++◌, take, drop, length, slice_get, Option}
+use Rattle.std.proofs.Common.{Some, None, Result, Ok, Err, refl, sym, ap, ◌∙◌, arith}
 use Rattle.std.proofs.lemmas.Option.{get_or_from_slice_get}
 use Rattle.std.proofs.lemmas.List.{append_assoc, append-nil, drop_more, drop_all, take_all, length-map}
 use Rattle.nt_num.specs.declared.fault.ReadError.{ReadError}
@@ -15,7 +16,8 @@ use Rattle.nt_pagelists.specs.declared.column.KnownColumn.{KnownColumn}
 use Rattle.nt_pagelists.specs.declared.cluster.ClusterList.{ClusterList}
 use Rattle.nt_pagelists.specs.declared.page.PageItem.{PageItem}
 use Rattle.nt_files.specs.Outlines.{known_column}
-use Rattle.nt_files.specs.Clusters.{kind_of_code, pages_of_column, pages_of_kind, pages_listed, begins_behind, zero_elements, column_elements, columns_from}
+use Rattle.nt_files.specs.Clusters.{kind_of_code, pages_of_column, pages_of_kind, pages_listed, begins_behind, zero_elements}
+use Rattle.nt_files.specs.Clusters.{column_elements, columns_from}
 use Rattle.nt_tfile.specs.declared.failure.ReadFailure.{ReadFailure}
 use Rattle.nt_tfile.specs.declared.failure.ReadFailure.TheVariants.{Defect, Fault, Memory}
 use Rattle.nt_tfile.specs.Calls.{IsReadOrFails}

@@ -14,7 +14,8 @@ use Rattle.nt_format.specs.Reading.{placed}
 use Rattle.nt_format.specs.Frames.{record_at, list_at}
 use Rattle.nt_pagelists.specs.declared.group.Group.{Group}
 use Rattle.nt_grammar.specs.Table.{Table}
-use Rattle.nt_pagelists.specs.ClusterGroups.{minimum_entry_at, entry_span_at, cluster_count_at, group_link_at, group_at, groups_on, groups_at}
+use Rattle.nt_pagelists.specs.ClusterGroups.{minimum_entry_at, entry_span_at, cluster_count_at, group_link_at, group_at, groups_on}
+use Rattle.nt_pagelists.specs.ClusterGroups.{groups_at}
 use Rattle.nt_pagelists.specs.Footers.{feature_flags_at, extension_at, footer_at}
 use Rattle.nt_pagelists.specs.PageLists.{header_sum_at}
 use Rattle.nt_reader.specs.Steps.{CanBeCounted, AreCounted}

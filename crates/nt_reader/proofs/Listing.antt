@@ -15,7 +15,8 @@ use Rattle.nt_pagelists.specs.declared.column.KnownColumn.{KnownColumn}
 use Rattle.nt_pagelists.specs.declared.cluster.ClusterSummary.{ClusterSummary}
 use Rattle.nt_pagelists.specs.declared.cluster.ClusterList.{ClusterList}
 use Rattle.nt_pagelists.specs.declared.cluster.ColumnList.{ColumnList}
-use Rattle.nt_pagelists.specs.Clusters.{summary_at, summaries_on, summaries_at, cluster_list_at, with_elements, cluster_lists_on, cluster_lists_at}
+use Rattle.nt_pagelists.specs.Clusters.{summary_at, summaries_on, summaries_at, cluster_list_at, with_elements, cluster_lists_on}
+use Rattle.nt_pagelists.specs.Clusters.{cluster_lists_at}
 use Rattle.nt_pagelists.specs.PageLists.{ProgressCounts, with_group, header_sum_at, page_list_at}
 use Rattle.nt_reader.specs.Steps.{IsGroupCounted}
 

@@ -7,7 +7,8 @@ use Rattle.nt_tfile.specs.declared.failure.ReadFailure.{ReadFailure}
 use Rattle.nt_tfile.specs.declared.failure.ReadFailure.TheVariants.{Defect, Memory}
 use Rattle.nt_files.specs.Envelopes.{payload_start}
 
--- the failure is that of the payload of the envelope at this place, its fault counted from the file's beginning; a place past 2^64, which no
+-- the failure is that of the payload of the envelope at this place, its fault counted from the file's beginning; a place past 2^64,
+-- which no
 -- machine holds, is want of memory
 abbrev pub IsInPayload : ℕ → MetaError → ReadFailure → Type 0
 IsInPayload place (payload.Defect e) failure = (failure ≡ Defect (moved (place + payload_start) e)) ⊎ (failure ≡ Memory)

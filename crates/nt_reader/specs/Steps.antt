@@ -53,7 +53,8 @@ AreCounted entries clusters [] = Unit {0}
 AreCounted entries clusters (g ∷ gs) = CanBeCounted entries clusters g × AreCounted (entries + g.span) (clusters + g.clusters) gs
 
 -- a group was counted, and has as many clusters as it says
-pub record IsGroupCounted (g : Group) (p : ProgressCounts) (ks : List ClusterList) (q : ProgressCounts) (all : List ClusterList) : Type 0 where
+pub record IsGroupCounted (g : Group) (p : ProgressCounts) (ks : List ClusterList) (q : ProgressCounts)
+    (all : List ClusterList) : Type 0 where
   pub clusters : q.clusters ≡ p.clusters + g.clusters
   pub entries : q.entries ≡ p.entries + g.span
   pub columns : length q.elements ≡ length p.elements

@@ -4,7 +4,8 @@ use Rattle.std.proofs.Math.ListN.{get_or}
 use Rattle.nt_grammar.specs.declared.rows.FieldRow.{FieldRow}
 use Rattle.nt_grammar.specs.declared.rows.ColumnRow.{ColumnRow}
 use Rattle.nt_grammar.specs.Writing.{field_record, field_records, column_record, column_records}
-use Rattle.std.proofs.Common.{ℕ, suc, ◌+◌, ◌<◌, length, drop, add-one, ◌≡◌, List, [], ◌∷◌, ◌++◌, None, Some, ◌∙◌, sym, ap, append_assoc, Bool, true, take, ◌&&◌, arith}
+use Rattle.std.proofs.Common.{ℕ, suc, ◌+◌, ◌<◌, length, drop, add-one, ◌≡◌, List, [], ◌∷◌, ◌++◌, None, Some, ◌∙◌, sym, ap, append_assoc}
+use Rattle.std.proofs.Common.{Bool, true, take, ◌&&◌, arith}
 use Rattle.nt_frame.specs.Writing.{Written, Begun, bytes_added, frame_begun, frame_finished}
 use Rattle.nt_format.specs.Frames.{record_frame, list_frame}
 use Rattle.std.specs.List.{list_all}
@@ -24,14 +25,16 @@ four a b c d v w x y z e f g h =
     h ∙ (ap (bytes_added d) g ∙ (two c d x ∙ (ap (bytes_added (c ++ d)) f
     ∙ (two b (c ++ d) w ∙ (ap (bytes_added (b ++ (c ++ d))) e ∙ two a (b ++ (c ++ d)) v)))))
 
-pub five : (a b c d e : List ℕ) (u v w x y z : Written) → v ≡ bytes_added a u → w ≡ bytes_added b v → x ≡ bytes_added c w → y ≡ bytes_added d x
+pub five : (a b c d e : List ℕ) (u v w x y z : Written) → v ≡ bytes_added a u → w ≡ bytes_added b v → x ≡ bytes_added c w
+    → y ≡ bytes_added d x
     → z ≡ bytes_added e y
     → z ≡ bytes_added (a ++ (b ++ (c ++ (d ++ e)))) u
 five a b c d e u v w x y z f g h i j =
     four b c d e v w x y z g h i j ∙ (ap (bytes_added (b ++ (c ++ (d ++ e)))) f ∙ two a (b ++ (c ++ (d ++ e))) u)
 
 -- a record frame is begun, gets two pieces, and is finished
-pub record_of : (a b : List ℕ) (v w x y z : Written) → w ≡ frame_begun None v → x ≡ bytes_added a w → y ≡ bytes_added b x → z ≡ frame_finished y
+pub record_of : (a b : List ℕ) (v w x y z : Written) → w ≡ frame_begun None v → x ≡ bytes_added a w → y ≡ bytes_added b x
+    → z ≡ frame_finished y
     → z ≡ bytes_added (record_frame (a ++ b)) v
 record_of a b v w x y z e f g h =
     h ∙ ap frame_finished (g ∙ (ap (bytes_added b) f ∙ (two a b w ∙ ap (bytes_added (a ++ b)) e)))

@@ -1,5 +1,6 @@
 -- The clusters of a file before its first fault.
-use Rattle.std.proofs.Common.{◌≡◌, ◌∙◌, ap, sym, refl, subst, ℕ, ◌+◌, ◌<◌, ◌≤◌, true, false, List, [], ◌∷◌, ◌++◌, length, drop, Option, Some, None, Result, Ok, Err, append_assoc, length-append}
+use Rattle.std.proofs.Common.{◌≡◌, ◌∙◌, ap, sym, refl, subst, ℕ, ◌+◌, ◌<◌, ◌≤◌, true, false, List, [], ◌∷◌, ◌++◌, length, drop, Option}
+use Rattle.std.proofs.Common.{Some, None, Result, Ok, Err, append_assoc, length-append}
 use Rattle.std.specs.Prelude.{is_some}
 use Rattle.std.proofs.lemmas.List.{append-nil, drop_more, drop_all}
 use Rattle.std.proofs.lemmas.List.Concat.{flat_map-append}
@@ -15,7 +16,8 @@ use Rattle.nt_show.specs.declared.entry_range.EntryRange.{EntryRange}
 use Rattle.nt_show.specs.Ranges.{entry_lines, in_range, all_entries, range_lines, past_entries}
 use Rattle.nt_show.specs.Gathering.{Gathers, GathersPart}
 use Rattle.nt_show.specs.Listing.{before_others, sound_from, cluster_lines, ClusterTold, ClustersTold}
-use Rattle.nt_show.proofs.Ranges.{range_lines-append, range_lines-one, range_lines-cons, range_lines-nil, past_entries-past_entries, past_entries-nothing}
+use Rattle.nt_show.proofs.Ranges.{range_lines-append, range_lines-one, range_lines-cons, range_lines-nil, past_entries-past_entries}
+use Rattle.nt_show.proofs.Ranges.{past_entries-nothing}
 use Rattle.nt_show.proofs.Gathering.{gathers_then, gathers_nothing, part_then, part_more}
 
 -- what was read, and what is read of others behind it

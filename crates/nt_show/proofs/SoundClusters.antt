@@ -1,5 +1,6 @@
 -- Where a file has its first fault, and which clusters stand before it.
-use Rattle.std.proofs.Common.{◌≡◌, ◌∙◌, ◌⊎◌, inl, inr, ap, sym, refl, subst, ℕ, suc, ◌+◌, ◌<◌, Bool, true, false, cond, List, [], ◌∷◌, ◌++◌, length, take, Option, Some, None, Result, Ok, Err, arith}
+use Rattle.std.proofs.Common.{◌≡◌, ◌∙◌, ◌⊎◌, inl, inr, ap, sym, refl, subst, ℕ, suc, ◌+◌, ◌<◌, Bool, true, false, cond, List, [], ◌∷◌, ◌++◌}
+use Rattle.std.proofs.Common.{length, take, Option, Some, None, Result, Ok, Err, arith}
 use Rattle.std.specs.Prelude.{slice_index_or, nat_eq}
 use Rattle.nt_lists.specs.Chaining.{◌>>=◌}
 use Rattle.nt_lists.proofs.Chaining.{bind_ok}
@@ -21,7 +22,9 @@ use Rattle.nt_pagelists.specs.declared.column.KnownColumn.{KnownColumn}
 use Rattle.nt_pagelists.specs.declared.cluster.ClusterList.{ClusterList}
 use Rattle.nt_files.specs.Outlines.{Outline, outline_of, known_column}
 use Rattle.nt_plans.specs.Needs.{need_of}
-use Rattle.nt_files.specs.Clusters.{stored_len, is_checked, sum_fault, page_of_column, pages_of_column, pages_of_kind, column_elements, columns_from, value_fault, no_value_fault, begins_behind, zero_elements, kind_of_code, pages_listed, cluster_of}
+use Rattle.nt_files.specs.Clusters.{stored_len, is_checked, sum_fault, page_of_column, pages_of_column, pages_of_kind, column_elements}
+use Rattle.nt_files.specs.Clusters.{columns_from, value_fault, no_value_fault, begins_behind, zero_elements, kind_of_code, pages_listed}
+use Rattle.nt_files.specs.Clusters.{cluster_of}
 use Rattle.nt_files.specs.Files.{entries_from, read_file, Means, HasDefect}
 use Rattle.nt_reader.specs.Outlines.{unlisted_cluster, entries_in}
 use Rattle.nt_show.specs.Listing.{before_others, sound_from, sound_in, sound_clusters, IsClusterFault}

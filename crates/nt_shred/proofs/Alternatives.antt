@@ -25,7 +25,8 @@ IsNth (plan q qs) zero p = ⊥
 IsNth (plan q qs) (suc zero) p = q ≡ p
 IsNth (plan q qs) (suc (suc n)) p = IsNth qs (suc n) p
 
-pub nth-fits : (ps : PlansData) (tag : ℕ) (p : PlanData) (t : TreeData) → IsNth ps tag p → fits_alternative ps tag t ≡ true → fits_plan p t ≡ true
+pub nth-fits : (ps : PlansData) (tag : ℕ) (p : PlanData) (t : TreeData) → IsNth ps tag p → fits_alternative ps tag t ≡ true
+    → fits_plan p t ≡ true
 nth-fits no_plans tag p t n h = absurd n
 nth-fits (plan q qs) zero p t n h = absurd n
 nth-fits (plan q qs) (suc zero) p t n h = subst (λ x. fits_plan x t ≡ true) n h
@@ -43,19 +44,22 @@ nth-takes (plan q qs) zero p fr n h = absurd n
 nth-takes (plan q qs) (suc zero) p fr n h = subst (λ x. Takes x fr) n h.0
 nth-takes (plan q qs) (suc (suc tag)) p fr n h = nth-takes qs (suc tag) p fr n h.1
 
-pub nth-put : (ps : PlansData) (tag : ℕ) (p : PlanData) (t : TreeData) (cols : Cols) → IsNth ps tag p → put_one ps tag t cols ≡ put_tree p t cols
+pub nth-put : (ps : PlansData) (tag : ℕ) (p : PlanData) (t : TreeData) (cols : Cols) → IsNth ps tag p
+    → put_one ps tag t cols ≡ put_tree p t cols
 nth-put no_plans tag p t cols n = absurd n
 nth-put (plan q qs) zero p t cols n = absurd n
 nth-put (plan q qs) (suc zero) p t cols n = ap (λ x. put_tree x t cols) n
 nth-put (plan q qs) (suc (suc tag)) p t cols n = nth-put qs (suc tag) p t cols n
 
-pub nth-sound : (ps : PlansData) (before tag whole : ℕ) (p : PlanData) (es : List Element) (cols : Cols) → whole ≡ before + tag → IsNth ps tag p → EachSound before ps es cols → Sound p cols (count_tag whole es)
+pub nth-sound : (ps : PlansData) (before tag whole : ℕ) (p : PlanData) (es : List Element) (cols : Cols) → whole ≡ before + tag
+    → IsNth ps tag p → EachSound before ps es cols → Sound p cols (count_tag whole es)
 nth-sound no_plans before tag whole p es cols is n h = absurd n
 nth-sound (plan q qs) before zero whole p es cols is n h = absurd n
 nth-sound (plan q qs) before (suc zero) whole p es cols is n h =
     let same : suc before ≡ whole = omega arith in
     subst (λ w. Sound p cols (count_tag w es)) same (subst (λ x. Sound x cols (count_tag (suc before) es)) n h.0)
-nth-sound (plan q qs) before (suc (suc tag)) whole p es cols is n h = nth-sound qs (suc before) (suc tag) whole p es cols (omega arith) n h.1
+nth-sound (plan q qs) before (suc (suc tag)) whole p es cols is n h =
+    nth-sound qs (suc before) (suc tag) whole p es cols (omega arith) n h.1
 
 pub pick-some : (ps : PlansData) (tag : ℕ) (t : TreeData) → fits_alternative ps tag t ≡ true → 0 < tag
 pick-some no_plans tag t h = absurd (false≢true h)
@@ -74,7 +78,8 @@ nth-read (y ∷ l) zero x h is = ap plan_view (sym is)
 nth-read (y ∷ l) (suc i) x h is = nth-read l i x (omega arith) is
 
 -- the alternative that is read at a tag
-pub nth-at : (l : List Plan) (tag : ℕ) (x : Plan) (t : TreeData) → fits_alternative (plans_in l) tag t ≡ true → x ≡ get_or l (tag - 1) x → IsNth (plans_in l) tag (plan_view x)
+pub nth-at : (l : List Plan) (tag : ℕ) (x : Plan) (t : TreeData) → fits_alternative (plans_in l) tag t ≡ true
+    → x ≡ get_or l (tag - 1) x → IsNth (plans_in l) tag (plan_view x)
 nth-at l tag x t h is =
     let some = pick-some (plans_in l) tag t h in
     let among = pick-among l tag t h in
@@ -89,7 +94,8 @@ module _ (s : ℕ) (ps : PlansData) (tag : ℕ) (p : PlanData) (t : TreeData) (n
     differ = nth-differ ps tag p n r.differ.1;
     fitting = nth-fits ps tag p t n r.fitting;
     takes = nth-takes ps tag p (set_frame bs) n r.takes.1;
-    room = subst (FitsIn bs) (nth-put ps tag p t (cols_of bs) n) (less-room bs _ _ (add_to-extends s ((count_tag tag (cols_of bs s), tag) ∷ []) (put_one ps tag t (cols_of bs))) r.room);
+    room = subst (FitsIn bs) (nth-put ps tag p t (cols_of bs) n)
+        (less-room bs _ _ (add_to-extends s ((count_tag tag (cols_of bs s), tag) ∷ []) (put_one ps tag t (cols_of bs))) r.room);
   }
 
   module _ (old now : List Buffer) (g : Gains (put_tree p t) old now) (x : ℕ) (is : x ≡ count_tag tag (cols_of old s)) where

@@ -1,5 +1,6 @@
 -- Ends that the columns of ends can hold.
-use Rattle.std.proofs.Common.{◌≡◌, ℕ, zero, suc, ◌+◌, ◌<◌, ◌≤◌, ◌^◌, ◌||◌, Bool, true, false, List, [], ◌∷◌, length, drop, slice_get, Some, refl, sym, ◌∙◌, ap, subst, arith, inl, inr, ◌⊎◌}
+use Rattle.std.proofs.Common.{◌≡◌, ℕ, zero, suc, ◌+◌, ◌<◌, ◌≤◌, ◌^◌, ◌||◌, Bool, true, false, List, [], ◌∷◌, length, drop, slice_get, Some}
+use Rattle.std.proofs.Common.{refl, sym, ◌∙◌, ap, subst, arith, inl, inr, ◌⊎◌}
 use Rattle.std.proofs.lemmas.Bool.{cases_Bool, cases_lt, false≢true}
 use Rattle.nt_types.specs.declared.column_type.ColumnType.{ColumnType}
 use Rattle.nt_types.specs.declared.column_type.ColumnType.TheVariants.{Index32, Index64, SplitIndex32, SplitIndex64}
@@ -13,7 +14,9 @@ use Rattle.std.proofs.Math.ListN.{set}
 
 narrow-found : (fr : Frame) (k : ℕ) (c : ColumnType × ℕ) → slice_get fr k ≡ Some c → is_narrow c.0 ≡ true → has_narrow fr ≡ true
 narrow-found [] k c at is = absurd (cc)
-narrow-found (x ∷ fr) zero c at is = let same : x ≡ c = cc in let narrow : is_narrow x.0 ≡ true = ap (λ (y : ColumnType × ℕ). is_narrow y.0) same ∙ is in rw narrow refl
+narrow-found (x ∷ fr) zero c at is =
+    let same : x ≡ c = cc in
+    let narrow : is_narrow x.0 ≡ true = ap (λ (y : ColumnType × ℕ). is_narrow y.0) same ∙ is in rw narrow refl
 narrow-found (x ∷ fr) (suc k) c at is = or_true (is_narrow x.0) (has_narrow fr) (narrow-found fr k c at is)
   where
     or_true : (a b : Bool) → b ≡ true → (a || b) ≡ true
@@ -30,17 +33,20 @@ ends_below-wide fr n h = go (cases_Bool (has_narrow fr))
     go (inl is) = let low = ends_below-narrow fr n is h in omega (arith, low)
     go (inr not) = let same : ends_below fr ≡ 2 ^ 64 = rw not refl in omega (arith, h, same)
 
-end-fits : (fr : Frame) (c : ColumnType) (n : ℕ) → is_index_type c ≡ true → (is_narrow c ≡ true → has_narrow fr ≡ true) → n < ends_below fr → n < 2 ^ bits_of c
+end-fits : (fr : Frame) (c : ColumnType) (n : ℕ) → is_index_type c ≡ true → (is_narrow c ≡ true → has_narrow fr ≡ true)
+    → n < ends_below fr → n < 2 ^ bits_of c
 end-fits fr Index32 n index narrow h = ends_below-narrow fr n (narrow refl) h
 end-fits fr SplitIndex32 n index narrow h = ends_below-narrow fr n (narrow refl) h
 end-fits fr Index64 n index narrow h = ends_below-wide fr n h
 end-fits fr SplitIndex64 n index narrow h = ends_below-wide fr n h
 end-fits fr _ n index narrow h = absurd (false≢true index)
 
-pub end-fits-at : (bs : List Buffer) (k : ℕ) (b : Buffer) (n : ℕ) → IsEnds (set_frame bs) k → slice_get bs k ≡ Some b → n < ends_below (set_frame bs) → n < 2 ^ bits_of b.column.kind
+pub end-fits-at : (bs : List Buffer) (k : ℕ) (b : Buffer) (n : ℕ) → IsEnds (set_frame bs) k → slice_get bs k ≡ Some b
+    → n < ends_below (set_frame bs) → n < 2 ^ bits_of b.column.kind
 end-fits-at bs k b n e at h =
     let same = (framed bs k b e.0 0 at e.1).0 in
-    subst (λ c. n < 2 ^ bits_of c) (sym same) (end-fits (set_frame bs) e.0 n e.2 (λ narrow. narrow-found (set_frame bs) k (e.0, 0) e.1 narrow) h)
+    subst (λ c. n < 2 ^ bits_of c) (sym same) (end-fits (set_frame bs) e.0 n e.2
+        (λ narrow. narrow-found (set_frame bs) k (e.0, 0) e.1 narrow) h)
 
 -- ---- whether some are narrow, a column at a time
 
@@ -49,15 +55,18 @@ drop-get [] k b at = absurd (cc)
 drop-get (x ∷ bs) zero b at = let same : x ≡ b = cc in ap (λ (y : Buffer). y ∷ bs) same
 drop-get (x ∷ bs) (suc k) b at = drop-get bs k b at
 
-pub narrow-step : (bs : List Buffer) (k : ℕ) (b : Buffer) → slice_get bs k ≡ Some b → has_narrow (set_frame (drop k bs)) ≡ (is_narrow b.column.kind || has_narrow (set_frame (drop (k + 1) bs)))
+pub narrow-step : (bs : List Buffer) (k : ℕ) (b : Buffer) → slice_get bs k ≡ Some b → has_narrow (set_frame (drop k bs))
+    ≡ (is_narrow b.column.kind || has_narrow (set_frame (drop (k + 1) bs)))
 narrow-step bs k b at =
     let next : suc k ≡ k + 1 = omega arith in
     ap (λ l. has_narrow (set_frame l)) (drop-get bs k b at) ∙ ap (λ n. is_narrow b.column.kind || has_narrow (set_frame (drop n bs))) next
 
-pub narrow-here : (bs : List Buffer) (k : ℕ) (b : Buffer) → slice_get bs k ≡ Some b → is_narrow b.column.kind ≡ true → has_narrow (set_frame (drop k bs)) ≡ true
+pub narrow-here : (bs : List Buffer) (k : ℕ) (b : Buffer) → slice_get bs k ≡ Some b → is_narrow b.column.kind ≡ true
+    → has_narrow (set_frame (drop k bs)) ≡ true
 narrow-here bs k b at is = narrow-step bs k b at ∙ ap (λ x. x || has_narrow (set_frame (drop (k + 1) bs))) is
 
-pub narrow-later : (bs : List Buffer) (k : ℕ) (b : Buffer) → slice_get bs k ≡ Some b → is_narrow b.column.kind ≡ false → has_narrow (set_frame (drop k bs)) ≡ has_narrow (set_frame (drop (k + 1) bs))
+pub narrow-later : (bs : List Buffer) (k : ℕ) (b : Buffer) → slice_get bs k ≡ Some b → is_narrow b.column.kind ≡ false
+    → has_narrow (set_frame (drop k bs)) ≡ has_narrow (set_frame (drop (k + 1) bs))
 narrow-later bs k b at is = narrow-step bs k b at ∙ ap (λ x. x || has_narrow (set_frame (drop (k + 1) bs))) is
 
 -- ---- room that is made, a column at a time
@@ -68,7 +77,8 @@ pub record AreGrown (start now : List Buffer) (more n : ℕ) : Type 0 where
   pub memory : (k : ℕ) → k < n → length (cols_of now k) + more ≤ capacity_at now k
   pub ends : (k : ℕ) → k < n → length (cols_of now k) + more < ends_below (set_frame start)
 
-pub grown-next : (start now : List Buffer) (more n limit : ℕ) (b new : Buffer) → AreGrown start now more n → slice_get now n ≡ Some b → new.column ≡ b.column → more ≤ new.spare
+pub grown-next : (start now : List Buffer) (more n limit : ℕ) (b new : Buffer) → AreGrown start now more n
+    → slice_get now n ≡ Some b → new.column ≡ b.column → more ≤ new.spare
     → length b.column.elements + more ≤ limit → limit + 1 ≡ ends_below (set_frame start) → AreGrown start (set now n new) more (n + 1)
 grown-next start now more n limit b new g at is room low top = record {
   same = kept ∙ g.same;

@@ -34,7 +34,8 @@ pub record LeftEach (ps : PlansData) (all : TreesData) (qs : PlansData) (rest : 
 pub all-begins : (p : PlanData) (ts : TreesData) (bs : List Buffer) → ReadyAll p ts bs → LeftAll p ts ts bs bs
 all-begins p ts bs r = record { ready = r; columns = refl; frame = refl; room = λ k. omega arith }
 
-pub all-first : (p : PlanData) (all rest : TreesData) (t : TreeData) (start now : List Buffer) → LeftAll p all (tree t rest) start now → Ready p t now
+pub all-first : (p : PlanData) (all rest : TreesData) (t : TreeData) (start now : List Buffer)
+    → LeftAll p all (tree t rest) start now → Ready p t now
 all-first p all rest t start now l =
     let r = l.ready in
     let q = and_parts (fits_plan p t) (all_trees (fits_plan p) rest) r.fitting in
@@ -44,10 +45,12 @@ all-first p all rest t start now l =
       differ = r.differ;
       fitting = q.0;
       takes = r.takes;
-      room = less-room now (put_tree p t (cols_of now)) _ (put_each-extends (put_tree p) (put_tree-extends p) rest (put_tree p t (cols_of now))) r.room;
+      room = less-room now (put_tree p t (cols_of now)) _ (put_each-extends (put_tree p) (put_tree-extends p) rest
+          (put_tree p t (cols_of now))) r.room;
     }
 
-pub all-next : (p : PlanData) (all rest : TreesData) (t : TreeData) (start now new : List Buffer) → LeftAll p all (tree t rest) start now → Gains (put_tree p t) now new → LeftAll p all rest start new
+pub all-next : (p : PlanData) (all rest : TreesData) (t : TreeData) (start now new : List Buffer)
+    → LeftAll p all (tree t rest) start now → Gains (put_tree p t) now new → LeftAll p all rest start new
 all-next p all rest t start now new l g =
     let r = l.ready in
     let q = and_parts (fits_plan p t) (all_trees (fits_plan p) rest) r.fitting in
@@ -66,13 +69,15 @@ all-next p all rest t start now new l g =
       room = λ k. omega (arith, l.room k, g.room k);
     }
 
-pub all-ends : (p : PlanData) (all : TreesData) (start now : List Buffer) → LeftAll p all no_trees start now → Gains (put_each (put_tree p) all) start now
+pub all-ends : (p : PlanData) (all : TreesData) (start now : List Buffer) → LeftAll p all no_trees start now
+    → Gains (put_each (put_tree p) all) start now
 all-ends p all start now l = record { columns = l.columns; frame = l.frame; room = l.room }
 
 pub each-begins : (ps : PlansData) (ts : TreesData) (bs : List Buffer) → ReadyEach ps ts bs → LeftEach ps ts ps ts bs bs
 each-begins ps ts bs r = record { ready = r; columns = refl; frame = refl; room = λ k. omega arith }
 
-pub each-first : (ps : PlansData) (all : TreesData) (p : PlanData) (qs : PlansData) (t : TreeData) (rest : TreesData) (start now : List Buffer) → LeftEach ps all (plan p qs) (tree t rest) start now → Ready p t now
+pub each-first : (ps : PlansData) (all : TreesData) (p : PlanData) (qs : PlansData) (t : TreeData) (rest : TreesData)
+    (start now : List Buffer) → LeftEach ps all (plan p qs) (tree t rest) start now → Ready p t now
 each-first ps all p qs t rest start now l =
     let r = l.ready in
     let q = and_parts (fits_plan p t) (fit_plans qs rest) r.fitting in
@@ -85,11 +90,14 @@ each-first ps all p qs t rest start now l =
       room = less-room now (put_tree p t (cols_of now)) _ (put_trees-extends qs rest (put_tree p t (cols_of now))) r.room;
     }
 
-pub each-next : (ps : PlansData) (all : TreesData) (p : PlanData) (qs : PlansData) (t : TreeData) (rest : TreesData) (start now new : List Buffer) → LeftEach ps all (plan p qs) (tree t rest) start now → Gains (put_tree p t) now new → LeftEach ps all qs rest start new
+pub each-next : (ps : PlansData) (all : TreesData) (p : PlanData) (qs : PlansData) (t : TreeData) (rest : TreesData)
+    (start now new : List Buffer) → LeftEach ps all (plan p qs) (tree t rest) start now → Gains (put_tree p t) now new
+      → LeftEach ps all qs rest start new
 each-next ps all p qs t rest start now new l g =
     let r = l.ready in
     let q = and_parts (fits_plan p t) (fit_plans qs rest) r.fitting in
-    let sound = all_sound-agrees qs (cols_of now) (put_tree p t (cols_of now)) r.size (λ j i. put_tree-elsewhere p t (cols_of now) j (other_side (has p j) (has_any qs j) (r.differ.2 j) i)) r.sound.1 in
+    let sound = all_sound-agrees qs (cols_of now) (put_tree p t (cols_of now)) r.size
+            (λ j i. put_tree-elsewhere p t (cols_of now) j (other_side (has p j) (has_any qs j) (r.differ.2 j) i)) r.sound.1 in
     record {
       ready = record {
         size = r.size;
@@ -104,10 +112,12 @@ each-next ps all p qs t rest start now new l g =
       room = λ k. omega (arith, l.room k, g.room k);
     }
 
-pub each-ends : (ps : PlansData) (all rest : TreesData) (start now : List Buffer) → LeftEach ps all no_plans rest start now → Gains (put_trees ps all) start now
+pub each-ends : (ps : PlansData) (all rest : TreesData) (start now : List Buffer) → LeftEach ps all no_plans rest start now
+    → Gains (put_trees ps all) start now
 each-ends ps all rest start now l = record { columns = l.columns; frame = l.frame; room = l.room }
 
 -- there is a tree for each plan that is left
-pub tree-left : (ps : PlansData) (all : TreesData) (p : PlanData) (qs : PlansData) (ts : List Tree) (start now : List Buffer) → LeftEach ps all (plan p qs) (trees_in ts) start now → 1 ≤ length ts
+pub tree-left : (ps : PlansData) (all : TreesData) (p : PlanData) (qs : PlansData) (ts : List Tree) (start now : List Buffer)
+    → LeftEach ps all (plan p qs) (trees_in ts) start now → 1 ≤ length ts
 tree-left ps all p qs [] start now l = absurd (false≢true l.ready.fitting)
 tree-left ps all p qs (t ∷ ts) start now l = omega arith

@@ -1,5 +1,6 @@
 -- One column of a set is changed.
-use Rattle.std.proofs.Common.{◌≡◌, ℕ, zero, suc, ◌+◌, ◌<◌, ◌≤◌, ◌==◌, Bool, false, if◌then◌else◌, List, [], ◌∷◌, ◌++◌, length, map, slice_get, Some, refl, sym, ◌∙◌, ap, arith, append-nil, length-append, inl, inr, ◌⊎◌}
+use Rattle.std.proofs.Common.{◌≡◌, ℕ, zero, suc, ◌+◌, ◌<◌, ◌≤◌, ◌==◌, Bool, false, if◌then◌else◌, List, [], ◌∷◌, ◌++◌, length, map}
+use Rattle.std.proofs.Common.{slice_get, Some, refl, sym, ◌∙◌, ap, arith, append-nil, length-append, inl, inr, ◌⊎◌}
 use Rattle.std.proofs.Math.ListN.{set}
 use Rattle.std.proofs.lemmas.Bool.{ne_eqb, eq-eqb, cases_eq}
 use Rattle.std.proofs.lemmas.List.{length-map}
@@ -20,24 +21,31 @@ suc-same j k = go (cases_eq j k)
     go (inl e) = eq-eqb (suc j) (suc k) (ap suc e) ∙ sym (eq-eqb j k e)
     go (inr apart) = ne_eqb (suc j) (suc k) (λ e. apart (omega arith)) ∙ sym (ne_eqb j k apart)
 
-elements-set : (bs : List Buffer) (k : ℕ) (b new : Buffer) (es : List Element) → slice_get bs k ≡ Some b → new.column ≡ with_more b.column es
+elements-set : (bs : List Buffer) (k : ℕ) (b new : Buffer) (es : List Element) → slice_get bs k ≡ Some b
+    → new.column ≡ with_more b.column es
     → (j : ℕ) → elements_at (columns_of (set bs k new)) j ≡ elements_at (columns_of bs) j ++ (if j == k then es else [])
 elements-set [] k b new es at is j = absurd (cc)
 elements-set (x ∷ bs) zero b new es at is zero =
     let same : x ≡ b = cc in
     ap (λ (c : Column). c.elements) is ∙ ap (λ (y : Buffer). y.column.elements ++ es) (sym same)
-elements-set (x ∷ bs) zero b new es at is (suc j) = let no : (suc j == 0) ≡ false = ne_eqb (suc j) 0 (λ e. omega arith) in rw no (sym (append-nil (elements_at (columns_of bs) j)))
-elements-set (x ∷ bs) (suc k) b new es at is zero = let no : (0 == suc k) ≡ false = ne_eqb 0 (suc k) (λ e. omega arith) in rw no (sym (append-nil x.column.elements))
-elements-set (x ∷ bs) (suc k) b new es at is (suc j) = elements-set bs k b new es at is j ∙ ap (λ (t : Bool). elements_at (columns_of bs) j ++ (if t then es else [])) (sym (suc-same j k))
+elements-set (x ∷ bs) zero b new es at is (suc j) =
+    let no : (suc j == 0) ≡ false = ne_eqb (suc j) 0 (λ e. omega arith) in rw no (sym (append-nil (elements_at (columns_of bs) j)))
+elements-set (x ∷ bs) (suc k) b new es at is zero =
+    let no : (0 == suc k) ≡ false = ne_eqb 0 (suc k) (λ e. omega arith) in rw no (sym (append-nil x.column.elements))
+elements-set (x ∷ bs) (suc k) b new es at is (suc j) =
+    elements-set bs k b new es at is j ∙ ap (λ (t : Bool). elements_at (columns_of bs) j ++ (if t then es else [])) (sym (suc-same j k))
 
-frame-set : (bs : List Buffer) (k : ℕ) (b new : Buffer) (es : List Element) → slice_get bs k ≡ Some b → new.column ≡ with_more b.column es → set_frame (set bs k new) ≡ set_frame bs
+frame-set : (bs : List Buffer) (k : ℕ) (b new : Buffer) (es : List Element) → slice_get bs k ≡ Some b
+    → new.column ≡ with_more b.column es → set_frame (set bs k new) ≡ set_frame bs
 frame-set [] k b new es at is = refl
 frame-set (x ∷ bs) zero b new es at is =
     let same : x ≡ b = cc in
-    ap (λ (c : Column). (c.kind, c.zeros) ∷ set_frame bs) is ∙ ap (λ (y : Buffer). (y.column.kind, y.column.zeros) ∷ set_frame bs) (sym same)
+    ap (λ (c : Column). (c.kind, c.zeros) ∷ set_frame bs) is
+        ∙ ap (λ (y : Buffer). (y.column.kind, y.column.zeros) ∷ set_frame bs) (sym same)
 frame-set (x ∷ bs) (suc k) b new es at is = ap (λ l. (x.column.kind, x.column.zeros) ∷ l) (frame-set bs k b new es at is)
 
-capacity-set : (bs : List Buffer) (k : ℕ) (b new : Buffer) (es : List Element) → slice_get bs k ≡ Some b → new.column ≡ with_more b.column es → b.spare ≤ new.spare + length es
+capacity-set : (bs : List Buffer) (k : ℕ) (b new : Buffer) (es : List Element) → slice_get bs k ≡ Some b
+    → new.column ≡ with_more b.column es → b.spare ≤ new.spare + length es
     → (j : ℕ) → capacity_at bs j ≤ capacity_at (set bs k new) j
 capacity-set [] k b new es at is le j = omega arith
 capacity-set (x ∷ bs) zero b new es at is le zero =
@@ -49,7 +57,8 @@ capacity-set (x ∷ bs) zero b new es at is le (suc j) = omega arith
 capacity-set (x ∷ bs) (suc k) b new es at is le zero = omega arith
 capacity-set (x ∷ bs) (suc k) b new es at is le (suc j) = capacity-set bs k b new es at is le j
 
-pub gains : (bs : List Buffer) (k : ℕ) (b new : Buffer) (es : List Element) → slice_get bs k ≡ Some b → new.column ≡ with_more b.column es → b.spare ≤ new.spare + length es → Gains (add_to k es) bs (set bs k new)
+pub gains : (bs : List Buffer) (k : ℕ) (b new : Buffer) (es : List Element) → slice_get bs k ≡ Some b
+    → new.column ≡ with_more b.column es → b.spare ≤ new.spare + length es → Gains (add_to k es) bs (set bs k new)
 gains bs k b new es at is le = record {
   columns = λ i j. elements-set bs k b new es at is j i;
   frame = frame-set bs k b new es at is;
@@ -73,7 +82,8 @@ get-within [] k b at = absurd (cc)
 get-within (x ∷ bs) zero b at = omega arith
 get-within (x ∷ bs) (suc k) b at = omega (arith, get-within bs k b at)
 
-pub spare-at : (bs : List Buffer) (k : ℕ) (b : Buffer) (es : List Element) → slice_get bs k ≡ Some b → FitsIn bs (add_to k es (cols_of bs)) → length es ≤ b.spare
+pub spare-at : (bs : List Buffer) (k : ℕ) (b : Buffer) (es : List Element) → slice_get bs k ≡ Some b
+    → FitsIn bs (add_to k es (cols_of bs)) → length es ≤ b.spare
 spare-at bs k b es at r =
     let enough = r.memory k (get-within bs k b at) in
     let grown = ap length (add_to-here k es (cols_of bs)) ∙ length-append (cols_of bs k) es in
@@ -81,12 +91,14 @@ spare-at bs k b es at r =
 
 -- ---- by the frame
 
-pub framed : (bs : List Buffer) (k : ℕ) (b : Buffer) (c : ColumnType) (z : ℕ) → slice_get bs k ≡ Some b → slice_get (set_frame bs) k ≡ Some (c, z) → (b.column.kind ≡ c) × (b.column.zeros ≡ z)
+pub framed : (bs : List Buffer) (k : ℕ) (b : Buffer) (c : ColumnType) (z : ℕ) → slice_get bs k ≡ Some b → slice_get (set_frame bs) k
+    ≡ Some (c, z) → (b.column.kind ≡ c) × (b.column.zeros ≡ z)
 framed [] k b c z at is = absurd (cc)
 framed (x ∷ bs) zero b c z at is =
     let same : x ≡ b = cc in
     let both : (x.column.kind, x.column.zeros) ≡ (c, z) = cc in
-    (ap (λ (y : Buffer). y.column.kind) (sym same) ∙ ap (λ (p : ColumnType × ℕ). p.0) both, ap (λ (y : Buffer). y.column.zeros) (sym same) ∙ ap (λ (p : ColumnType × ℕ). p.1) both)
+    (ap (λ (y : Buffer). y.column.kind) (sym same) ∙ ap (λ (p : ColumnType × ℕ). p.0) both, ap (λ (y : Buffer). y.column.zeros)
+        (sym same) ∙ ap (λ (p : ColumnType × ℕ). p.1) both)
 framed (x ∷ bs) (suc k) b c z at is = framed bs k b c z at is
 
 pub frame-within : (bs : List Buffer) (k : ℕ) (f : ColumnType × ℕ) → slice_get (set_frame bs) k ≡ Some f → k < length bs
@@ -95,7 +107,8 @@ frame-within (x ∷ bs) zero f is = omega arith
 frame-within (x ∷ bs) (suc k) f is = omega (arith, frame-within bs k f is)
 
 pub same-length : (old new : List Buffer) → set_frame new ≡ set_frame old → length new ≡ length old
-same-length old new is = sym (length-map new (λ (b : Buffer). (b.column.kind, b.column.zeros))) ∙ ap length is ∙ length-map old (λ (b : Buffer). (b.column.kind, b.column.zeros))
+same-length old new is = sym (length-map new (λ (b : Buffer). (b.column.kind, b.column.zeros))) ∙ ap length is
+    ∙ length-map old (λ (b : Buffer). (b.column.kind, b.column.zeros))
 
 -- ---- room
 
@@ -110,7 +123,8 @@ less-room bs a b x r = record {
 }
 
 -- room stays while elements are added
-pub later-room : (old new : List Buffer) (cols : Cols) → set_frame new ≡ set_frame old → ((k : ℕ) → capacity_at old k ≤ capacity_at new k) → FitsIn old cols → FitsIn new cols
+pub later-room : (old new : List Buffer) (cols : Cols) → set_frame new ≡ set_frame old
+    → ((k : ℕ) → capacity_at old k ≤ capacity_at new k) → FitsIn old cols → FitsIn new cols
 later-room old new cols is le r = record {
   memory = λ k h. omega (arith, le k, r.memory k (omega (arith, h, same-length old new is)));
   ends = λ k h. omega (arith, ap ends_below is, r.ends k (omega (arith, h, same-length old new is)));
@@ -118,9 +132,11 @@ later-room old new cols is le r = record {
 
 -- ---- no column changes
 
-pub columns-kept : (bs : List Buffer) (k : ℕ) (b new : Buffer) → slice_get bs k ≡ Some b → new.column ≡ b.column → columns_of (set bs k new) ≡ columns_of bs
+pub columns-kept : (bs : List Buffer) (k : ℕ) (b new : Buffer) → slice_get bs k ≡ Some b → new.column ≡ b.column
+    → columns_of (set bs k new) ≡ columns_of bs
 columns-kept [] k b new at is = refl
-columns-kept (x ∷ bs) zero b new at is = let same : x ≡ b = cc in ap (λ (c : Column). c ∷ columns_of bs) (is ∙ ap (λ (y : Buffer). y.column) (sym same))
+columns-kept (x ∷ bs) zero b new at is = let same : x ≡ b = cc in
+    ap (λ (c : Column). c ∷ columns_of bs) (is ∙ ap (λ (y : Buffer). y.column) (sym same))
 columns-kept (x ∷ bs) (suc k) b new at is = ap (λ (cs : List Column). x.column ∷ cs) (columns-kept bs k b new at is)
 
 frame-columns : (bs : List Buffer) → set_frame bs ≡ map (λ (c : Column). (c.kind, c.zeros)) (columns_of bs)
@@ -134,7 +150,8 @@ pub cols-kept : (old new : List Buffer) → columns_of new ≡ columns_of old �
 cols-kept old new is = λ i k. elements_at (is i) k
 
 -- the capacity of a column that gets a new buffer, and of any other
-pub capacity-here : (bs : List Buffer) (k : ℕ) (new : Buffer) → k < length bs → capacity_at (set bs k new) k ≡ length new.column.elements + new.spare
+pub capacity-here : (bs : List Buffer) (k : ℕ) (new : Buffer) → k < length bs → capacity_at (set bs k new) k
+    ≡ length new.column.elements + new.spare
 capacity-here [] k new h = absurd (omega arith)
 capacity-here (x ∷ bs) zero new h = refl
 capacity-here (x ∷ bs) (suc k) new h = capacity-here bs k new (omega arith)

@@ -2,7 +2,10 @@
 use Rattle.std.proofs.Common.{◌≡◌, ℕ, zero, suc, ◌==◌, true, if◌then◌else◌, List, [], ◌∷◌, slice_get, Some, refl, sym, ◌∙◌, ap, arith}
 use Rattle.std.proofs.lemmas.Bool.{and_parts, eqb-true}
 use Rattle.nt_types.specs.declared.column_type.ColumnType.{ColumnType}
-use Rattle.nt_types.specs.declared.column_type.ColumnType.TheVariants.{Bit, Byte, Char, Int8, UInt8, Int16, UInt16, Int32, UInt32, Int64, UInt64, Index32, Index64, Switch, SplitInt16, SplitUInt16, SplitInt32, SplitUInt32, SplitInt64, SplitUInt64, SplitIndex32, SplitIndex64}
+use Rattle.nt_types.specs.declared.column_type.ColumnType.TheVariants.{Bit, Byte, Char, Int8, UInt8, Int16, UInt16, Int32, UInt32, Int64}
+use Rattle.nt_types.specs.declared.column_type.ColumnType.TheVariants.{UInt64, Index32, Index64, Switch, SplitInt16, SplitUInt16}
+use Rattle.nt_types.specs.declared.column_type.ColumnType.TheVariants.{SplitInt32, SplitUInt32, SplitInt64, SplitUInt64, SplitIndex32}
+use Rattle.nt_types.specs.declared.column_type.ColumnType.TheVariants.{SplitIndex64}
 use Rattle.nt_types.specs.ColumnTable.{code_of, bits_of}
 use Rattle.nt_column.specs.Column.{Buffer, columns_of}
 use Rattle.nt_grammar.specs.declared.rows.ColumnRow.{ColumnRow}
@@ -47,7 +50,8 @@ same-type : (c t : ColumnType) → code_of c ≡ code_of t → c ≡ t
 same-type c t is = sym (of_code-code c) ∙ ap of_code is ∙ of_code-code t
 
 -- the column of a row is of its type, and stored
-column-of : (bs : List Buffer) (rows : List ColumnRow) (k : ℕ) (row : ColumnRow) → AreDescribed (columns_of bs) rows → are_stored (columns_of bs) ≡ true → slice_get rows k ≡ Some row
+column-of : (bs : List Buffer) (rows : List ColumnRow) (k : ℕ) (row : ColumnRow) → AreDescribed (columns_of bs) rows
+    → are_stored (columns_of bs) ≡ true → slice_get rows k ≡ Some row
     → (c : ColumnType) × (slice_get (set_frame bs) k ≡ Some (c, 0)) × (code_of c ≡ row.code)
 column-of bs [] k row d s at = absurd (cc)
 column-of [] (r ∷ rows) k row d s at = absurd (cc)
@@ -72,7 +76,8 @@ module _ (bs : List Buffer) (rows : List ColumnRow) (d : AreDescribed (columns_o
     pub typed-takes : (p : PlanData) → HasTypes rows p → Takes p (set_frame bs)
     typed-takes (bool k) h = (Bit, typed k Bit h, (λ e. absurd (omega (arith, ap bits_of e))), refl)
     typed-takes (number k bits signed) h = ((h.of, typed k h.of h.type_is, h.no_tags, h.width), h.is_width)
-    typed-takes (text e c) h = ((h.0.of, typed e h.0.of h.0.type_is, h.0.is_index), (Char, typed c Char h.1, (λ e. absurd (omega (arith, ap bits_of e))), refl))
+    typed-takes (text e c) h = ((h.0.of, typed e h.0.of h.0.type_is, h.0.is_index),
+        (Char, typed c Char h.1, (λ e. absurd (omega (arith, ap bits_of e))), refl))
     typed-takes (list e p) h = ((h.0.of, typed e h.0.of h.0.type_is, h.0.is_index), typed-takes p h.1)
     typed-takes (record_of ps) h = (h.0, all-typed-take ps h.1)
     typed-takes (choice k ps) h = (typed k Switch h.0, all-typed-take ps h.2)

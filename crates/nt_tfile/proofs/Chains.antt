@@ -18,7 +18,8 @@ use Rattle.nt_tfile.specs.declared.failure.ReadFailure.TheVariants.{Defect, Faul
 use Rattle.nt_tfile.specs.Calls.{IsReadOrFails, anchor_at}
 
 -- what fails in a step fails in all
-fails : {U V W X : Type 0} (one : U → V) (all : W → X) (e : ReadFailure) (r : Result V ReadError) (f : V → Result X ReadError) → IsReadOrFails one (Err e) r → IsReadOrFails all (Err e) (r >>= f)
+fails : {U V W X : Type 0} (one : U → V) (all : W → X) (e : ReadFailure) (r : Result V ReadError) (f : V → Result X ReadError)
+    → IsReadOrFails one (Err e) r → IsReadOrFails all (Err e) (r >>= f)
 fails {V = V} one all (Defect d) r f h = ap (λ (s : Result V ReadError). s >>= f) h
 fails one all Fault r f h = tt
 fails one all Memory r f h = tt
@@ -33,7 +34,8 @@ header_done : (told : List ℕ) (h : FileHeader) → file_header_of told ≡ Ok 
 unfolding anchor_of after_header after_key
 header_done told h e = rw e refl
 
-directory_done : (told : List ℕ) (h : FileHeader) (d : Directory) → directory_of told (directory_place h) ≡ Ok d → after_header h told ≡ after_key d told
+directory_done : (told : List ℕ) (h : FileHeader) (d : Directory) → directory_of told (directory_place h) ≡ Ok d
+    → after_header h told ≡ after_key d told
 unfolding after_header after_key
 directory_done told h d e = rw e refl
 
@@ -41,28 +43,35 @@ key_done : (told : List ℕ) (d : Directory) (k : Key) → anchor_key_of told d 
 unfolding after_key
 key_done told d k e = rw e refl
 
-pub header-fails : (told : List ℕ) (e : ReadFailure) → IsReadOrFails {V = FileHeader} (λ h. h) (Err e) (file_header_of told) → IsReadOrFails {V = Anchor} (λ a. a) (Err e) (anchor_of told)
+pub header-fails : (told : List ℕ) (e : ReadFailure) → IsReadOrFails {V = FileHeader} (λ h. h) (Err e) (file_header_of told)
+    → IsReadOrFails {V = Anchor} (λ a. a) (Err e) (anchor_of told)
 unfolding anchor_of
 header-fails told e h = fails (λ h. h) (λ a. a) e (file_header_of told) _ h
 
-pub directory-fails : (told : List ℕ) (e : ReadFailure) (h : FileHeader) → file_header_of told ≡ Ok h → IsReadOrFails {V = Directory} (λ d. d) (Err e) (directory_of told (directory_place h))
+pub directory-fails : (told : List ℕ) (e : ReadFailure) (h : FileHeader) → file_header_of told ≡ Ok h → IsReadOrFails {V =
+    Directory} (λ d. d) (Err e) (directory_of told (directory_place h))
     → IsReadOrFails {V = Anchor} (λ a. a) (Err e) (anchor_of told)
 unfolding after_header
 directory-fails told e h one f = rw (header_done told h one) (fails (λ d. d) (λ a. a) e (directory_of told (directory_place h)) _ f)
 
-pub key-fails : (told : List ℕ) (e : ReadFailure) (h : FileHeader) (d : Directory) → file_header_of told ≡ Ok h → directory_of told (directory_place h) ≡ Ok d
+pub key-fails : (told : List ℕ) (e : ReadFailure) (h : FileHeader) (d : Directory) → file_header_of told ≡ Ok h
+    → directory_of told (directory_place h) ≡ Ok d
     → IsReadOrFails {V = Key} (λ k. k) (Err e) (anchor_key_of told d) → IsReadOrFails {V = Anchor} (λ a. a) (Err e) (anchor_of told)
 unfolding after_key
-key-fails told e h d one two f = rw (header_done told h one, directory_done told h d two) (fails (λ k. k) (λ a. a) e (anchor_key_of told d) _ f)
+key-fails told e h d one two f = rw (header_done told h one, directory_done told h d two)
+    (fails (λ k. k) (λ a. a) e (anchor_key_of told d) _ f)
 
-pub anchor-done : (told : List ℕ) (r : Result Anchor ReadFailure) (h : FileHeader) (d : Directory) (k : Key) → file_header_of told ≡ Ok h → directory_of told (directory_place h) ≡ Ok d → anchor_key_of told d ≡ Ok k
+pub anchor-done : (told : List ℕ) (r : Result Anchor ReadFailure) (h : FileHeader) (d : Directory) (k : Key)
+    → file_header_of told ≡ Ok h → directory_of told (directory_place h) ≡ Ok d → anchor_key_of told d ≡ Ok k
     → IsReadOrFails (λ a. a) r (anchor_at k told) → IsReadOrFails (λ a. a) r (anchor_of told)
 anchor-done told r h d k one two three f = rw (header_done told h one, directory_done told h d two, key_done told d k three) f
 
-pub list-fails : (told : List ℕ) (d : Directory) (e : ReadFailure) (out : ReadError) → out ≡ fault bad_key_list d.keys → IsReadOrFails {V = At} (λ l. l) (Err e) (piece_or out told d.keys d.keys_len)
+pub list-fails : (told : List ℕ) (d : Directory) (e : ReadFailure) (out : ReadError) → out ≡ fault bad_key_list d.keys
+    → IsReadOrFails {V = At} (λ l. l) (Err e) (piece_or out told d.keys d.keys_len)
     → IsReadOrFails {V = Key} (λ k. k) (Err e) (anchor_key_of told d)
 unfolding anchor_key_of
 list-fails told d e out named f =
-    fails (λ l. l) (λ k. k) e (piece_or (fault bad_key_list d.keys) told d.keys d.keys_len) _ (subst (λ (o : ReadError). IsReadOrFails {V = At} (λ l. l) (Err e) (piece_or o told d.keys d.keys_len)) named f)
+    fails (λ l. l) (λ k. k) e (piece_or (fault bad_key_list d.keys) told d.keys d.keys_len) _
+        (subst (λ (o : ReadError). IsReadOrFails {V = At} (λ l. l) (Err e) (piece_or o told d.keys d.keys_len)) named f)
 
 pub ruleset chain_steps = (header-fails, directory-fails, key-fails, anchor-done)

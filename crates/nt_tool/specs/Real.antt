@@ -26,7 +26,8 @@ abbrev pub ext_state : Range → Bool → ExtState
 ext_state range filled = record { range = range; filled = filled; content = None; tells = false }
 
 -- it tells nothing of its bytes
-pub unsized : (range : Range) (filled : Bool) (bytes : List ℕ) → (ext_state range filled).content ≡ Some bytes → IsSized (ext_state range filled) bytes
+pub unsized : (range : Range) (filled : Bool) (bytes : List ℕ) → (ext_state range filled).content ≡ Some bytes
+    → IsSized (ext_state range filled) bytes
 unsized range filled bytes is = absurd (cc)
 
 -- a disk knows its length and its ranges, and counts its faults; the system has the memory for its writes
@@ -41,7 +42,8 @@ disk_state end out faults = record {
 }
 
 -- it tells nothing of what it holds
-pub untold : (end : ℕ) (out : List Range) (faults : ℕ) (h : Held) → (disk_state end out faults).held ≡ Some h → (end ≡ length h.image) × Reads h.log h.image
+pub untold : (end : ℕ) (out : List Range) (faults : ℕ) (h : Held) → (disk_state end out faults).held ≡ Some h
+    → (end ≡ length h.image) × Reads h.log h.image
 untold end out faults h is = cc
 
 -- a host knows what it was asked for, and counts what is out and its faults, those of prints on err apart

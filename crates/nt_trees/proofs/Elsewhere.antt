@@ -1,5 +1,6 @@
 -- What isn't named stays, and what is sound rests on the columns that are named.
-use Rattle.std.proofs.Common.{◌≡◌, ℕ, zero, suc, ◌+◌, ◌<◌, ◌==◌, ◌||◌, List, [], ◌∷◌, ◌++◌, length, map, Bool, true, false, refl, sym, ap, ◌∙◌, arith, append-nil, subst}
+use Rattle.std.proofs.Common.{◌≡◌, ℕ, zero, suc, ◌+◌, ◌<◌, ◌==◌, ◌||◌, List, [], ◌∷◌, ◌++◌, length, map, Bool, true, false, refl, sym, ap}
+use Rattle.std.proofs.Common.{◌∙◌, arith, append-nil, subst}
 use Rattle.std.proofs.lemmas.Bool.{eq-eqb, ne_eqb, or_parts, false≢true, true≢false}
 use Rattle.nt_types.specs.TreeData.{TreeData, TreesData, flag, num, items, parts, pick, nothing, no_trees, tree}
 use Rattle.nt_types.specs.TreeData as trees
@@ -17,7 +18,8 @@ add_to-elsewhere k es cols j h = rw h (append-nil (cols j))
 pub add_to-here : (k : ℕ) (es : List Element) (cols : Cols) → add_to k es cols k ≡ cols k ++ es
 add_to-here k es cols = rw (eq-eqb k k refl) refl
 
-pub put_each-elsewhere : (f : TreeData → Cols → Cols) (j : ℕ) → ((t : TreeData) (cols : Cols) → f t cols j ≡ cols j) → (ts : TreesData) (cols : Cols) → put_each f ts cols j ≡ cols j
+pub put_each-elsewhere : (f : TreeData → Cols → Cols) (j : ℕ) → ((t : TreeData) (cols : Cols) → f t cols j ≡ cols j)
+    → (ts : TreesData) (cols : Cols) → put_each f ts cols j ≡ cols j
 put_each-elsewhere f j each no_trees cols = refl
 put_each-elsewhere f j each (tree t ts) cols = put_each-elsewhere f j each ts (f t cols) ∙ each t cols
 
@@ -27,10 +29,12 @@ mutual
   put_tree-elsewhere (number k bits signed) (num n) cols j h = add_to-elsewhere k (plain (twos_complement bits n) ∷ []) cols j h
   put_tree-elsewhere (text e c) (trees.text s) cols j h =
       let q = or_parts (j == e) (j == c) h in
-      add_to-elsewhere e (plain (last_end (cols e) + length s) ∷ []) (add_to c (map plain s) cols) j q.0 ∙ add_to-elsewhere c (map plain s) cols j q.1
+      add_to-elsewhere e (plain (last_end (cols e) + length s) ∷ []) (add_to c (map plain s) cols) j q.0
+          ∙ add_to-elsewhere c (map plain s) cols j q.1
   put_tree-elsewhere (list e p) (items ts) cols j h =
       let q = or_parts (j == e) (has p j) h in
-      add_to-elsewhere e (plain (last_end (cols e) + how_many_trees ts) ∷ []) (put_each (put_tree p) ts cols) j q.0 ∙ put_each-elsewhere (put_tree p) j (λ t cs. put_tree-elsewhere p t cs j q.1) ts cols
+      add_to-elsewhere e (plain (last_end (cols e) + how_many_trees ts) ∷ []) (put_each (put_tree p) ts cols) j q.0
+          ∙ put_each-elsewhere (put_tree p) j (λ t cs. put_tree-elsewhere p t cs j q.1) ts cols
   put_tree-elsewhere (record_of ps) (parts ts) cols j h = put_trees-elsewhere ps ts cols j h
   put_tree-elsewhere (choice s ps) nothing cols j h = add_to-elsewhere s ((0, 0) ∷ []) cols j (or_parts (j == s) (has_any ps j) h).0
   put_tree-elsewhere (choice s ps) (pick tag t) cols j h =
@@ -41,9 +45,11 @@ mutual
   pub put_trees-elsewhere : (ps : PlansData) (ts : TreesData) (cols : Cols) (j : ℕ) → has_any ps j ≡ false → put_trees ps ts cols j ≡ cols j
   put_trees-elsewhere no_plans ts cols j h = refl
   put_trees-elsewhere (plan p ps) no_trees cols j h = refl
-  put_trees-elsewhere (plan p ps) (tree t ts) cols j h = let q = or_parts (has p j) (has_any ps j) h in put_trees-elsewhere ps ts (put_tree p t cols) j q.1 ∙ put_tree-elsewhere p t cols j q.0
+  put_trees-elsewhere (plan p ps) (tree t ts) cols j h =
+      let q = or_parts (has p j) (has_any ps j) h in put_trees-elsewhere ps ts (put_tree p t cols) j q.1 ∙ put_tree-elsewhere p t cols j q.0
 
-  pub put_one-elsewhere : (ps : PlansData) (tag : ℕ) (t : TreeData) (cols : Cols) (j : ℕ) → has_any ps j ≡ false → put_one ps tag t cols j ≡ cols j
+  pub put_one-elsewhere : (ps : PlansData) (tag : ℕ) (t : TreeData) (cols : Cols) (j : ℕ) → has_any ps j ≡ false
+      → put_one ps tag t cols j ≡ cols j
   put_one-elsewhere no_plans tag t cols j h = refl
   put_one-elsewhere (plan p ps) zero t cols j h = refl
   put_one-elsewhere (plan p ps) (suc zero) t cols j h = put_tree-elsewhere p t cols j (or_parts (has p j) (has_any ps j) h).0
@@ -84,14 +90,16 @@ mutual
       (ap length at_e ∙ s.0, subst Rises (sym at_e) s.1, ap length at_c ∙ s.2 ∙ ap last_end (sym at_e))
   sound-agrees (list e p) old new n a s =
       let at_e = a e (or_left (e == e) (has p e) (same_key e)) in
-      (ap length at_e ∙ s.0, subst Rises (sym at_e) s.1, subst (λ es. Sound p new (last_end es)) (sym at_e) (sound-agrees p old new _ (λ j h. a j (or_right (j == e) (has p j) h)) s.2))
+      (ap length at_e ∙ s.0, subst Rises (sym at_e) s.1, subst (λ es. Sound p new (last_end es)) (sym at_e)
+          (sound-agrees p old new _ (λ j h. a j (or_right (j == e) (has p j) h)) s.2))
   sound-agrees (record_of ps) old new n a s = all_sound-agrees ps old new n a s
   sound-agrees (choice k ps) old new n a s =
       let at_k = a k (or_left (k == k) (has_any ps k) (same_key k)) in (
         ap length at_k ∙ s.0,
         subst (TagsUpTo (how_many_plans ps)) (sym at_k) s.1,
         subst IndicesCount (sym at_k) s.2,
-        subst (λ es. EachSound 0 ps es new) (sym at_k) (each_sound-agrees 0 ps _ _ old new (λ j h. a j (or_right (j == k) (has_any ps j) h)) (λ t h. refl) s.3),
+        subst (λ es. EachSound 0 ps es new) (sym at_k) (each_sound-agrees 0 ps _ _ old new
+            (λ j h. a j (or_right (j == k) (has_any ps j) h)) (λ t h. refl) s.3),
       )
 
   pub all_sound-agrees : (ps : PlansData) (old new : Cols) (n : ℕ) → Agree (has_any ps) old new → AllSound ps old n → AllSound ps new n
@@ -101,9 +109,11 @@ mutual
     all_sound-agrees ps old new n (λ j h. a j (or_right (has p j) (has_any ps j) h)) s.1,
   )
 
-  pub each_sound-agrees : (before : ℕ) (ps : PlansData) (es new_es : List Element) (old new : Cols) → Agree (has_any ps) old new → ((t : ℕ) → before < t → count_tag t new_es ≡ count_tag t es) → EachSound before ps es old → EachSound before ps new_es new
+  pub each_sound-agrees : (before : ℕ) (ps : PlansData) (es new_es : List Element) (old new : Cols) → Agree (has_any ps) old new
+      → ((t : ℕ) → before < t → count_tag t new_es ≡ count_tag t es) → EachSound before ps es old → EachSound before ps new_es new
   each_sound-agrees before no_plans es new_es old new a c s = tt
   each_sound-agrees before (plan p ps) es new_es old new a c s = (
-    subst (Sound p new) (sym (c (suc before) (omega arith))) (sound-agrees p old new _ (λ j h. a j (or_left (has p j) (has_any ps j) h)) s.0),
+    subst (Sound p new) (sym (c (suc before) (omega arith)))
+        (sound-agrees p old new _ (λ j h. a j (or_left (has p j) (has_any ps j) h)) s.0),
     each_sound-agrees (suc before) ps es new_es old new (λ j h. a j (or_right (has p j) (has_any ps j) h)) (λ t h. c t (omega arith)) s.1,
   )

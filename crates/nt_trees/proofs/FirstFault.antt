@@ -1,11 +1,13 @@
 -- The first fault of columns, in words.
-use Rattle.std.proofs.Common.{◌≡◌, ℕ, zero, suc, ◌<◌, ◌≤◌, ◌⊎◌, inl, inr, ◌==◌, nat_lt, Bool, true, false, List, length, Option, Some, None, refl, ap, sym, ◌∙◌, subst, arith}
+use Rattle.std.proofs.Common.{◌≡◌, ℕ, zero, suc, ◌<◌, ◌≤◌, ◌⊎◌, inl, inr, ◌==◌, nat_lt, Bool, true, false, List, length, Option, Some, None}
+use Rattle.std.proofs.Common.{refl, ap, sym, ◌∙◌, subst, arith}
 use Rattle.std.proofs.lemmas.Bool.{eq-eqb, ne_eqb, lt-ltb, le-ltb, cases_eq, cases_lt, cond-true, cond-false}
 use Rattle.nt_column.specs.Elements.{Element}
 use Rattle.nt_plans.specs.Plan.{PlanData, PlansData, bool, number, text, list, record_of, choice, no_plans, plan}
 use Rattle.nt_trees.specs.Columns.{Cols, last_end, count_tag}
 use Rattle.nt_trees.specs.Sound.{how_many_plans}
-use Rattle.nt_trees.specs.Faults.{Spot, Demand, free, rising, tagged, is_met, or_last, first_failing, spot_in, column_fault, lower, fault_in, fault_in_any, fault_under}
+use Rattle.nt_trees.specs.Faults.{Spot, Demand, free, rising, tagged, is_met, or_last, first_failing, spot_in, column_fault, lower}
+use Rattle.nt_trees.specs.Faults.{fault_in, fault_in_any, fault_under}
 use Rattle.nt_trees.specs.Required.{Required, IsKeptBy, IsRequired, IsRequiredOfAny, IsRequiredUnder, IsFaultOfAll}
 
 -- ---- of one column

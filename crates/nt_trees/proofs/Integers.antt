@@ -15,12 +15,14 @@ under a b h = grind arith
 not_under : (a b : ℕ) → b ≤ a → nat_lt a b ≡ false
 not_under a b h = grind arith
 
-pub integer_of-complement : (bits : ℕ) (signed : Bool) (z : ℤ) → is_int bits signed z ≡ true → integer_of bits signed (twos_complement bits z) ≡ z
+pub integer_of-complement : (bits : ℕ) (signed : Bool) (z : ℤ) → is_int bits signed z ≡ true
+    → integer_of bits signed (twos_complement bits z) ≡ z
 integer_of-complement bits false (pos n) h = refl
 integer_of-complement bits false (negsuc n) h = absurd (false≢true h)
 integer_of-complement bits true (pos n) h = rw h refl
 integer_of-complement bits true (negsuc n) h =
     let below : n < half bits = under n (half bits) h in
-    let no : nat_lt ((half bits + half bits) - suc n) (half bits) ≡ false = not_under ((half bits + half bits) - suc n) (half bits) (omega arith) in
+    let no : nat_lt ((half bits + half bits) - suc n) (half bits) ≡ false =
+            not_under ((half bits + half bits) - suc n) (half bits) (omega arith) in
     let back : (half bits + half bits) - suc ((half bits + half bits) - suc n) ≡ n = omega arith in
     rw no (ap negsuc back)

@@ -1,5 +1,6 @@
 -- Lists of elements that grow at their end.
-use Rattle.std.proofs.Common.{◌≡◌, ℕ, zero, suc, ◌+◌, ◌-◌, ◌<◌, ◌≤◌, ◌==◌, List, [], ◌∷◌, ◌++◌, length, take, drop, get_or, if◌then◌else◌, refl, sym, ap, ◌∙◌, arith, append-nil, append_assoc, length-append, subst, inl, inr, ◌⊎◌}
+use Rattle.std.proofs.Common.{◌≡◌, ℕ, zero, suc, ◌+◌, ◌-◌, ◌<◌, ◌≤◌, ◌==◌, List, [], ◌∷◌, ◌++◌, length, take, drop, get_or, if◌then◌else◌}
+use Rattle.std.proofs.Common.{refl, sym, ap, ◌∙◌, arith, append-nil, append_assoc, length-append, subst, inl, inr, ◌⊎◌}
 use Rattle.std.proofs.lemmas.List.{get_or_append_left, drop-append-le, take-append-le, length-drop}
 use Rattle.std.proofs.lemmas.Bool.{eq-eqb, ne_eqb, cases_eq}
 use Rattle.std.proofs.Math.Seq.{get_or-append_seam, take-append_seam}
@@ -52,13 +53,15 @@ begin_at-le-last es h i fits =
     let same : i + (length es - i) ≡ length es = omega arith in
     omega (arith, ap (begin_at es) same, rises-by es h i (length es - i) (omega arith))
 
-pub count_tag-before : (tag : ℕ) (es : List Element) (i : ℕ) → i < length es → tag_at es i ≡ tag → count_tag tag (take i es) < count_tag tag es
+pub count_tag-before : (tag : ℕ) (es : List Element) (i : ℕ) → i < length es → tag_at es i ≡ tag
+    → count_tag tag (take i es) < count_tag tag es
 count_tag-before tag [] i h is = absurd (omega arith)
 count_tag-before tag (e ∷ es) zero h is = rw (eq-eqb e.1 tag is) (omega arith)
 count_tag-before tag (e ∷ es) (suc i) h is = omega (arith, count_tag-before tag es i (omega arith) is)
 
 -- the index of an element is one of its alternative's
-pub index-within : (es : List Element) → IndicesCount es → (i : ℕ) → i < length es → 0 < tag_at es i → number_at es i < count_tag (tag_at es i) es
+pub index-within : (es : List Element) → IndicesCount es → (i : ℕ) → i < length es → 0 < tag_at es i
+    → number_at es i < count_tag (tag_at es i) es
 index-within es c i h some = subst (λ n. n < count_tag (tag_at es i) es) (sym (c i h some)) (count_tag-before (tag_at es i) es i h refl)
 
 -- ---- one more element
@@ -101,18 +104,21 @@ module _ (es : List Element) (x t : ℕ) where
       (omega (arith, new_tag))
 
   pub indices-more : IndicesCount es → (0 < t → x ≡ count_tag t es) → IndicesCount (es ++ (x, t) ∷ [])
-  indices-more c is = all-more (λ i. 0 < tag_at (es ++ (x, t) ∷ []) i → number_at (es ++ (x, t) ∷ []) i ≡ count_tag (tag_at (es ++ (x, t) ∷ []) i) (take i (es ++ (x, t) ∷ []))) old new
+  indices-more c is = all-more (λ i. 0 < tag_at (es ++ (x, t) ∷ []) i → number_at (es ++ (x, t) ∷ []) i
+      ≡ count_tag (tag_at (es ++ (x, t) ∷ []) i) (take i (es ++ (x, t) ∷ []))) old new
     where
       all : List Element
       all = es ++ (x, t) ∷ []
 
-      old : (i : ℕ) → i < length es → 0 < tag_at (es ++ (x, t) ∷ []) i → number_at (es ++ (x, t) ∷ []) i ≡ count_tag (tag_at (es ++ (x, t) ∷ []) i) (take i (es ++ (x, t) ∷ []))
+      old : (i : ℕ) → i < length es → 0 < tag_at (es ++ (x, t) ∷ []) i → number_at (es ++ (x, t) ∷ []) i
+          ≡ count_tag (tag_at (es ++ (x, t) ∷ []) i) (take i (es ++ (x, t) ∷ []))
       old i h some =
           let tag = tag_at-more es ((x, t) ∷ []) i h in
           let front = take-append-le i es ((x, t) ∷ []) (omega arith) in
           number_at-more es ((x, t) ∷ []) i h ∙ c i h (omega (arith, tag)) ∙ sym ((λ j. count_tag (tag j) (front j)))
 
-      new : 0 < tag_at (es ++ (x, t) ∷ []) (length es) → number_at (es ++ (x, t) ∷ []) (length es) ≡ count_tag (tag_at (es ++ (x, t) ∷ []) (length es)) (take (length es) (es ++ (x, t) ∷ []))
+      new : 0 < tag_at (es ++ (x, t) ∷ []) (length es) → number_at (es ++ (x, t) ∷ []) (length es)
+          ≡ count_tag (tag_at (es ++ (x, t) ∷ []) (length es)) (take (length es) (es ++ (x, t) ∷ []))
       new some =
           let front = take-append_seam es ((x, t) ∷ []) in
           new_number ∙ is (omega (arith, new_tag)) ∙ sym ((λ j. count_tag (new_tag j) (front j)))

@@ -1,11 +1,14 @@
 -- Columns in which nothing is wrong are sound.
-use Rattle.std.proofs.Common.{◌≡◌, ℕ, zero, suc, ◌<◌, ◌≤◌, ◌⊎◌, inl, inr, ◌==◌, nat_lt, nat_le, if◌then◌else◌, Bool, true, false, List, length, take, Option, Some, None, refl, ap, sym, ◌∙◌, arith, rules}
-use Rattle.std.proofs.lemmas.Bool.{leb-true, eqb-true, lt-ltb, le-ltb, and_parts, or_cases, cases_Bool, cases_eq, cases_lt, cond-true, cond-false}
+use Rattle.std.proofs.Common.{◌≡◌, ℕ, zero, suc, ◌<◌, ◌≤◌, ◌⊎◌, inl, inr, ◌==◌, nat_lt, nat_le, if◌then◌else◌, Bool, true, false, List}
+use Rattle.std.proofs.Common.{length, take, Option, Some, None, refl, ap, sym, ◌∙◌, arith, rules}
+use Rattle.std.proofs.lemmas.Bool.{leb-true, eqb-true, lt-ltb, le-ltb, and_parts, or_cases, cases_Bool, cases_eq, cases_lt, cond-true}
+use Rattle.std.proofs.lemmas.Bool.{cond-false}
 use Rattle.nt_column.specs.Elements.{Element}
 use Rattle.nt_plans.specs.Plan.{PlanData, PlansData, bool, number, text, list, record_of, choice, no_plans, plan}
 use Rattle.nt_trees.specs.Columns.{Cols, begin_at, number_at, tag_at, last_end, count_tag}
 use Rattle.nt_trees.specs.Sound.{how_many_plans, Rises, TagsUpTo, IndicesCount, Sound, AllSound, EachSound}
-use Rattle.nt_trees.specs.Faults.{Spot, Demand, free, rising, tagged, index_counts, is_met, or_last, first_failing, spot_in, column_fault, lower, fault_in, fault_in_any, fault_under}
+use Rattle.nt_trees.specs.Faults.{Spot, Demand, free, rising, tagged, index_counts, is_met, or_last, first_failing, spot_in, column_fault}
+use Rattle.nt_trees.specs.Faults.{lower, fault_in, fault_in_any, fault_under}
 
 -- ---- the first number at which a test fails
 

@@ -1,5 +1,6 @@
 -- Columns of zeros.
-use Rattle.std.proofs.Common.{◌≡◌, ℕ, zero, suc, ◌<◌, ◌==◌, nat_le, if◌then◌else◌, true, List, length, get_or, replicate, Some, None, refl, ap, ◌∙◌, arith}
+use Rattle.std.proofs.Common.{◌≡◌, ℕ, zero, suc, ◌<◌, ◌==◌, nat_le, if◌then◌else◌, true, List, length, get_or, replicate, Some, None, refl}
+use Rattle.std.proofs.Common.{ap, ◌∙◌, arith}
 use Rattle.std.proofs.lemmas.Bool.{le-leb, eq-eqb, ne_eqb, and_from, or_left}
 use Rattle.nt_column.specs.Elements.{Element, plain}
 use Rattle.nt_trees.specs.Columns.{Cols, begin_at, number_at, tag_at, last_end, count_tag}

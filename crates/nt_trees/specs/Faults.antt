@@ -1,6 +1,7 @@
 -- What is wrong with the columns of a cluster first, which sound columns have nothing of: by column, and in a column its length
 -- before its elements.
-use Rattle.std.specs.Prelude.{ℕ, zero, suc, ◌==◌, ◌&&◌, ◌||◌, nat_le, nat_lt, Bool, true, List, length, take, Option, Some, None, if◌then◌else◌}
+use Rattle.std.specs.Prelude.{ℕ, zero, suc, ◌==◌, ◌&&◌, ◌||◌, nat_le, nat_lt, Bool, true, List, length, take, Option, Some, None}
+use Rattle.std.specs.Prelude.{if◌then◌else◌}
 use Rattle.nt_column.specs.Elements.{Element}
 use Rattle.nt_plans.specs.Plan.{PlanData, PlansData, bool, number, text, list, record_of, choice, no_plans, plan}
 use Rattle.nt_trees.specs.Columns.{Cols, begin_at, number_at, tag_at, last_end, count_tag}

@@ -2,7 +2,8 @@
 use Rattle.std.specs.Prelude.{ℕ, zero, suc, Bool, false, List, [], ◌∷◌, Option, Some, None}
 use Rattle.nt_types.specs.ShapeData.{ShapeData, ShapesData, no_kinds, kind}
 use Rattle.nt_types.specs.TreeData.{TreeData, TreesData}
-use Rattle.nt_types.specs.Fits.{is_int, all_trees, fits_flag, fits_number, fits_text, fits_items, fits_parts, fits_pick, fits_next, are_no_trees, fit_kinds}
+use Rattle.nt_types.specs.Fits.{is_int, all_trees, fits_flag, fits_number, fits_text, fits_items, fits_parts, fits_pick, fits_next}
+use Rattle.nt_types.specs.Fits.{are_no_trees, fit_kinds}
 use Rattle.nt_grammar.specs.Table.{Table}
 use Rattle.nt_grammar.specs.Open.{open_shapes}
 use Rattle.nt_plans.specs.Plan.{PlanData, PlansData, bool, number, text, list, record_of, choice, no_plans, plan}

@@ -31,7 +31,8 @@ abbrev mutual
   Sound (text e c) cols n = (length (cols e) ≡ n) × Rises (cols e) × (length (cols c) ≡ last_end (cols e))
   Sound (list e p) cols n = (length (cols e) ≡ n) × Rises (cols e) × Sound p cols (last_end (cols e))
   Sound (record_of ps) cols n = AllSound ps cols n
-  Sound (choice s ps) cols n = (length (cols s) ≡ n) × TagsUpTo (how_many_plans ps) (cols s) × IndicesCount (cols s) × EachSound 0 ps (cols s) cols
+  Sound (choice s ps) cols n = (length (cols s) ≡ n) × TagsUpTo (how_many_plans ps) (cols s) × IndicesCount (cols s)
+      × EachSound 0 ps (cols s) cols
 
   -- so many of each plan's field
   pub AllSound : PlansData → Cols → ℕ → Type 0

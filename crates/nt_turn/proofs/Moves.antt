@@ -1,5 +1,6 @@
 -- Each step of a pass keeps the rule.
-use Rattle.std.proofs.Common.{◌≡◌, ◌≢◌, ⊎_elim, ℕ, ◌+◌, ◌%◌, ◌^◌, ◌<◌, ◌==◌, Bool, true, false, List, [], ◌∷◌, ◌++◌, set, refl, sym, ap, ◌∙◌, subst, append-nil, arith}
+use Rattle.std.proofs.Common.{◌≡◌, ◌≢◌, ⊎_elim, ℕ, ◌+◌, ◌%◌, ◌^◌, ◌<◌, ◌==◌, Bool, true, false, List, [], ◌∷◌, ◌++◌, set, refl, sym, ap}
+use Rattle.std.proofs.Common.{◌∙◌, subst, append-nil, arith}
 use Rattle.std.specs.Prelude.{slice_index, slice_set}
 use Rattle.std.specs.List.{AllByRecursion}
 use Rattle.std.proofs.lemmas.Bool.Decides.{nat_tests}
@@ -9,7 +10,8 @@ use mathlib.Core.Option.{Option as Maybe, some, none, some-injective, some-ne-no
 use mathlib.Core.List.{IsPrefix}
 use lib.ListN.{get_elem?}
 use prog.Atomic.{either}
-use Rattle.atomic_table.specs.Table.{State, Me, Act, Valid, Allows, Splits, Joins, step, keeps, takes, gives, homes_after, carried_after, rest}
+use Rattle.atomic_table.specs.Table.{State, Me, Act, Valid, Allows, Splits, Joins, step, keeps, takes, gives, homes_after, carried_after}
+use Rattle.atomic_table.specs.Table.{rest}
 use Rattle.atomic_table.proofs.Lists.{set_again}
 use Rattle.nt_turn.specs.declared.view.Stage.{Stage}
 use Rattle.nt_turn.specs.declared.view.Stage.TheVariants.{Idle, Waiting, Holding}
@@ -37,9 +39,11 @@ module _ {V E B : Type 0} (history : V → List E) (born : V → B) (context : E
   Rule s = InTurn history born context birth seats s.words s.homes s.views
 
   -- what the table may become, at these words
-  abbrev Goes : ℕ → Me (Option V) (View E B) → ℕ → (ℕ → ℕ) → (ℕ → Me (Option V) (View E B) → Type 0) → List (Maybe (Option V)) → List (View E B) → List ℕ → Type 0
+  abbrev Goes : ℕ → Me (Option V) (View E B) → ℕ → (ℕ → ℕ) → (ℕ → Me (Option V) (View E B) → Type 0) → List (Maybe (Option V))
+      → List (View E B) → List ℕ → Type 0
   Goes id me i f then homes views words =
-      (w : View E B) × (a : Act (Option V)) × Valid homes me.1 a × InTurn history born context birth seats (slice_set words i (f (slice_index words i))) (homes_after homes me.1 a) (slice_set views id w)
+      (w : View E B) × (a : Act (Option V)) × Valid homes me.1 a × InTurn history born context birth seats
+          (slice_set words i (f (slice_index words i))) (homes_after homes me.1 a) (slice_set views id w)
       × then (slice_index words i) (w, carried_after me.1 a)
 
   -- a change of the stage alone leads from stages to stages
@@ -47,12 +51,15 @@ module _ {V E B : Type 0} (history : V → List E) (born : V → B) (context : E
       → Ordered next serving homes (set (stages views) id w.stage) → Ordered next serving homes (stages (set views id w))
   restaged next serving homes views id w o = subst (λ (l : List Stage). Ordered next serving homes l) (sym (stages_set views id w)) o
 
-  module _ (slots id next serving : ℕ) (homes : List (Maybe (Option V))) (views : List (View E B)) (o : Ordered next serving homes (stages views)) (h : Histories history born context birth seats homes views) (v : View E B) (at : IsAt views id v) where
+  module _ (slots id next serving : ℕ) (homes : List (Maybe (Option V))) (views : List (View E B))
+      (o : Ordered next serving homes (stages views)) (h : Histories history born context birth seats homes views) (v : View E B)
+        (at : IsAt views id v) where
     knows : Knows context birth h.all v
     knows = h.each id v at
 
     draw_goes : (old : ℕ) → old + 1 < 2 ^ 64 → v.stage ≡ Idle → (b : Bool) → (next == old) ≡ b
-        → Goes id (v, []) 0 (λ n. either (n == old) (old + 1) n) (Drew (step slots 0 old (old + 1) none) (v, [])) homes views (next ∷ serving ∷ [])
+        → Goes id (v, []) 0 (λ n. either (n == old) (old + 1) n) (Drew (step slots 0 old (old + 1) none) (v, [])) homes views
+            (next ∷ serving ∷ [])
     draw_goes old room idle true is =
         let same : next ≡ old = grind (arith, nat_tests) in
         let fits : next + 1 < 2 ^ 64 = omega arith in
@@ -61,7 +68,8 @@ module _ {V E B : Type 0} (history : V → List E) (born : V → B) (context : E
         let said : Drew (step slots 0 old (old + 1) none) (v, []) next (w, []) = rw is refl in
         let idle_at : get_elem? (stages views) id ≡ some Idle = stage_at views id v at.0 ∙ ap some idle in
         let tickets = restaged (next + 1) serving homes views id w (drawn next serving homes (stages views) o id fits idle_at) in
-        let kept = moved history born context birth seats homes views h id v at w (record { live = refl; number = refl; own = refl; birth = refl; splits = refl; kept = refl }) knows.seen knows.told (λ t e. absurd (waits next t e)) homes (λ y e. e) in
+        let kept = moved history born context birth seats homes views h id v at w (record { live = refl; number = refl; own =
+                refl; birth = refl; splits = refl; kept = refl }) knows.seen knows.told (λ t e. absurd (waits next t e)) homes (λ y e. e) in
         (w, keeps, tt, (next + 1, serving, ap (λ (k : ℕ). k ∷ serving ∷ []) word, tickets, kept), said)
       where
         waits : (s t : ℕ) → Waiting s ≡ Holding t → ⊥
@@ -70,7 +78,8 @@ module _ {V E B : Type 0} (history : V → List E) (born : V → B) (context : E
         let word : either (next == old) (old + 1) next ≡ next = rw is refl in
         let stay : set views id v ≡ views = set_again views id v at.0 in
         let said : Drew (step slots 0 old (old + 1) none) (v, []) next (v, []) = rw is refl in
-        (v, keeps, tt, subst (InTurn history born context birth seats (either (next == old) (old + 1) next ∷ serving ∷ []) homes) (sym stay) (next, serving, ap (λ (k : ℕ). k ∷ serving ∷ []) word, o, h), said)
+        (v, keeps, tt, subst (InTurn history born context birth seats (either (next == old) (old + 1) next ∷ serving ∷ []) homes)
+            (sym stay) (next, serving, ap (λ (k : ℕ). k ∷ serving ∷ []) word, o, h), said)
 
     -- nobody else holds the value while this pass does
     alone : (t : ℕ) → v.stage ≡ Holding t → (by s : ℕ) (u : View E B) → by ≢ id → IsAt views by u → u.stage ≡ Holding s → ⊥
@@ -84,16 +93,21 @@ module _ {V E B : Type 0} (history : V → List E) (born : V → B) (context : E
         → Goes id (v, []) 1 (λ n. n) (Looked history born context (step slots 1 0 0 none) (v, [])) homes views (next ∷ serving ∷ [])
     look_goes t waits true is =
         let same : serving ≡ t = grind (arith, nat_tests) in
-        let own : get_elem? (stages views) id ≡ some (Waiting serving) = stage_at views id v at.0 ∙ (ap some waits ∙ ap (λ (k : ℕ). some (Waiting k)) (sym same)) in
+        let own : get_elem? (stages views) id ≡ some (Waiting serving) =
+                stage_at views id v at.0 ∙ (ap some waits ∙ ap (λ (k : ℕ). some (Waiting k)) (sym same)) in
         let home : IsHome homes = ⊎_elim (λ x. x) (λ x. absurd (clash x.1.0 x.1.1 own)) o.home in
         let x = h.home home.0 home.1 in
         let out : slice_set homes 0 none ≡ none ∷ [] = ap (λ (l : List (Maybe (Option V))). slice_set l 0 none) home.1 in
         let w : View E B = record v { stage = Holding serving; seen = history x.0 } in
-        let tickets : Ordered {A = Option V} next serving (none ∷ []) (stages (set views id w)) = restaged next serving (none ∷ []) views id w (taken next serving homes (stages views) o id home.0 home.1 own) in
+        let tickets : Ordered {A = Option V} next serving (none ∷ []) (stages (set views id w)) =
+                restaged next serving (none ∷ []) views id w (taken next serving homes (stages views) o id home.0 home.1 own) in
         let whole : IsPrefix (history x.0) h.all = ([], append-nil (history x.0) ∙ x.2) in
-        let kept = moved history born context birth seats homes views h id v at w (record { live = refl; number = refl; own = refl; birth = refl; splits = refl; kept = refl }) whole knows.told (λ s e. x.2) (none ∷ []) (λ y e. absurd (empty y e)) in
-        let both : Ordered next serving (slice_set homes 0 none) (stages (set views id w)) × Histories history born context birth seats (slice_set homes 0 none) (set views id w)
-        = subst (λ (l : List (Maybe (Option V))). Ordered next serving l (stages (set views id w)) × Histories history born context birth seats l (set views id w)) (sym out) (tickets, kept) in
+        let kept = moved history born context birth seats homes views h id v at w (record { live = refl; number = refl; own =
+                refl; birth = refl; splits = refl; kept = refl }) whole knows.told (λ s e. x.2) (none ∷ []) (λ y e. absurd (empty y e)) in
+        let both : Ordered next serving (slice_set homes 0 none) (stages (set views id w))
+                × Histories history born context birth seats (slice_set homes 0 none) (set views id w)
+        = subst (λ (l : List (Maybe (Option V))). Ordered next serving l (stages (set views id w))
+            × Histories history born context birth seats l (set views id w)) (sym out) (tickets, kept) in
         let ticket : ticket_of v.stage ≡ serving = ap ticket_of waits ∙ sym same in
         let found : (serving == ticket_of v.stage) ≡ true = ap (λ (k : ℕ). serving == k) (ap ticket_of waits) ∙ is in
         let told : Holds history born context (ticket_of v.stage) (v, []) (w, (0, home.0) ∷ []) = record {
@@ -111,44 +125,56 @@ module _ {V E B : Type 0} (history : V → List E) (born : V → B) (context : E
         clash : (by : ℕ) → get_elem? (stages views) by ≡ some (Holding serving) → get_elem? (stages views) id ≡ some (Waiting serving) → ⊥
         clash by e own =
             let same : by ≡ id = o.apart by id serving (Holding serving) (Waiting serving) e own refl refl in
-            let both : some (Holding serving) ≡ some (Waiting serving) = sym e ∙ (ap (get_elem? (stages views)) same ∙ own) in cc (some-injective _ _ both)
+            let both : some (Holding serving) ≡ some (Waiting serving) =
+                    sym e ∙ (ap (get_elem? (stages views)) same ∙ own) in cc (some-injective _ _ both)
 
         empty : (y : Option V) → none ∷ [] ≡ some y ∷ [] → ⊥
         empty y e = let both : none ≡ some y = cc e in some-ne-none y (sym both)
     look_goes t waits false is =
         let stay : set views id v ≡ views = set_again views id v at.0 in
         let said : Looked history born context (step slots 1 0 0 none) (v, []) serving (v, []) = rw (waits, is) refl in
-        (v, keeps, tt, subst (InTurn history born context birth seats (next ∷ serving ∷ []) homes) (sym stay) (next, serving, refl, o, h), said)
+        (v, keeps, tt, subst (InTurn history born context birth seats (next ∷ serving ∷ []) homes) (sym stay)
+            (next, serving, refl, o, h), said)
 
-    give_goes : (t : ℕ) → v.stage ≡ Holding t → (x : V) (more : List E) → history x ≡ v.seen ++ more → AllByRecursion (λ e. context e ≡ v.number) more → born x ≡ birth
-        → Goes id (v, (0, Some x) ∷ []) 1 (λ n. (n + 1) % 2 ^ 64) (Gave history context (step slots 1 1 0 none) (v, (0, Some x) ∷ [])) homes views (next ∷ serving ∷ [])
+    give_goes : (t : ℕ) → v.stage ≡ Holding t → (x : V) (more : List E) → history x ≡ v.seen ++ more
+        → AllByRecursion (λ e. context e ≡ v.number) more → born x ≡ birth
+        → Goes id (v, (0, Some x) ∷ []) 1 (λ n. (n + 1) % 2 ^ 64)
+            (Gave history context (step slots 1 1 0 none) (v, (0, Some x) ∷ [])) homes views (next ∷ serving ∷ [])
     give_goes t holds x more is ours birth_is =
         let held : get_elem? (stages views) id ≡ some (Holding t) = stage_at views id v at.0 ∙ ap some holds in
         let out = o.holding id t held in
         let own : get_elem? (stages views) id ≡ some (Holding serving) = held ∙ ap (λ (k : ℕ). some (Holding k)) out.0 in
-        let back : slice_set homes 0 (some (Some x)) ≡ some (Some x) ∷ [] = ap (λ (l : List (Maybe (Option V))). slice_set l 0 (some (Some x))) out.1 in
+        let back : slice_set homes 0 (some (Some x)) ≡ some (Some x) ∷ [] =
+                ap (λ (l : List (Maybe (Option V))). slice_set l 0 (some (Some x))) out.1 in
         let below = (o.range id serving (Holding serving) own refl).1 in
         let word : (serving + 1) % 2 ^ 64 ≡ serving + 1 = omega (arith, below, o.fits) in
         let w : View E B = record v { stage = Idle; seen = history x; own = entries_of context (history x) v.number } in
-        let tickets = restaged next (serving + 1) (some (Some x) ∷ []) views id w (given next serving homes (stages views) o id (Some x) own) in
+        let tickets = restaged next (serving + 1) (some (Some x) ∷ []) views id w
+                (given next serving homes (stages views) o id (Some x) own) in
         let kept = gave history born context birth seats homes views h id v at t holds x more is ours birth_is (alone t holds) w refl in
-        let both : Ordered next (serving + 1) (slice_set homes 0 (some (Some x))) (stages (set views id w)) × Histories history born context birth seats (slice_set homes 0 (some (Some x))) (set views id w)
-        = subst (λ (l : List (Maybe (Option V))). Ordered next (serving + 1) l (stages (set views id w)) × Histories history born context birth seats l (set views id w)) (sym back) (tickets, kept) in
+        let both : Ordered next (serving + 1) (slice_set homes 0 (some (Some x))) (stages (set views id w))
+                × Histories history born context birth seats (slice_set homes 0 (some (Some x))) (set views id w)
+        = subst (λ (l : List (Maybe (Option V))). Ordered next (serving + 1) l (stages (set views id w))
+            × Histories history born context birth seats l (set views id w)) (sym back) (tickets, kept) in
         (w, gives, tt, (next, serving + 1, ap (λ (k : ℕ). next ∷ k ∷ []) word, both.0, both.1), refl)
 
-    learn_goes : (s : Stage) → v.stage ≡ s → ((t : ℕ) → s ≡ Holding t → ⊥) → Goes id (v, []) 1 (λ n. n) (Learned (step slots 1 0 0 none) (v, [])) homes views (next ∷ serving ∷ [])
+    learn_goes : (s : Stage) → v.stage ≡ s → ((t : ℕ) → s ≡ Holding t → ⊥)
+        → Goes id (v, []) 1 (λ n. n) (Learned (step slots 1 0 0 none) (v, [])) homes views (next ∷ serving ∷ [])
     learn_goes s stage free =
         let long = prefix_longer v.seen v.told h.all knows.seen knows.told in
         let w : View E B = record v { seen = longer v.seen v.told; told = [] } in
         let again : set (stages views) id v.stage ≡ stages views = set_again (stages views) id v.stage (stage_at views id v at.0) in
         let tickets = restaged next serving homes views id w (subst (λ (l : List Stage). Ordered next serving homes l) (sym again) o) in
-        let kept = moved history born context birth seats homes views h id v at w (record { live = refl; number = refl; own = refl; birth = refl; splits = refl; kept = refl }) long.2 (prefix_none h.all) (λ t e. absurd (free t (sym stage ∙ e))) homes (λ y e. e) in
+        let kept = moved history born context birth seats homes views h id v at w (record { live = refl; number = refl; own =
+                refl; birth = refl; splits = refl; kept = refl }) long.2 (prefix_none h.all)
+                  (λ t e. absurd (free t (sym stage ∙ e))) homes (λ y e. e) in
         (w, keeps, tt, (next, serving, refl, tickets, kept), record { is = refl; seen = long.0; told = long.1 })
 
   pub draws : (slots id old : ℕ) (v : View E B) → v.live ≡ true → v.stage ≡ Idle → old + 1 < 2 ^ 64
       → Allows Rule slots id (v, []) 0 (λ n. either (n == old) (old + 1) n) (Drew (step slots 0 old (old + 1) none) (v, []))
   draws slots id old v live idle room s kept len at fits =
-      subst (Goes id (v, []) 0 (λ n. either (n == old) (old + 1) n) (Drew (step slots 0 old (old + 1) none) (v, [])) s.homes s.views) (sym kept.2)
+      subst (Goes id (v, []) 0 (λ n. either (n == old) (old + 1) n) (Drew (step slots 0 old (old + 1) none) (v, [])) s.homes
+          s.views) (sym kept.2)
       (draw_goes slots id kept.0 kept.1 s.homes s.views kept.3 kept.4 v (at, live) old room idle (kept.0 == old) refl)
 
   pub looks : (slots id t : ℕ) (v : View E B) → v.live ≡ true → v.stage ≡ Waiting t
@@ -157,13 +183,16 @@ module _ {V E B : Type 0} (history : V → List E) (born : V → B) (context : E
       subst (Goes id (v, []) 1 (λ n. n) (Looked history born context (step slots 1 0 0 none) (v, [])) s.homes s.views) (sym kept.2)
       (look_goes slots id kept.0 kept.1 s.homes s.views kept.3 kept.4 v (at, live) t waits (kept.1 == t) refl)
 
-  pub gives_back : (slots id t : ℕ) (v : View E B) (x : V) (more : List E) → v.live ≡ true → v.stage ≡ Holding t → history x ≡ v.seen ++ more
+  pub gives_back : (slots id t : ℕ) (v : View E B) (x : V) (more : List E) → v.live ≡ true → v.stage ≡ Holding t
+      → history x ≡ v.seen ++ more
       → AllByRecursion (λ e. context e ≡ v.number) more → v.birth ≡ Some (born x)
-      → Allows Rule slots id (v, (0, Some x) ∷ []) 1 (λ n. (n + 1) % 2 ^ 64) (Gave history context (step slots 1 1 0 none) (v, (0, Some x) ∷ []))
+      → Allows Rule slots id (v, (0, Some x) ∷ []) 1 (λ n. (n + 1) % 2 ^ 64)
+          (Gave history context (step slots 1 1 0 none) (v, (0, Some x) ∷ []))
   gives_back slots id t v x more live holds is ours birth_is s kept len at fits =
       let old : v.birth ≡ Some birth = (kept.4.each id v (at, live)).birth in
       let same : born x ≡ birth = cc (birth_is, old) in
-      subst (Goes id (v, (0, Some x) ∷ []) 1 (λ n. (n + 1) % 2 ^ 64) (Gave history context (step slots 1 1 0 none) (v, (0, Some x) ∷ [])) s.homes s.views) (sym kept.2)
+      subst (Goes id (v, (0, Some x) ∷ []) 1 (λ n. (n + 1) % 2 ^ 64)
+          (Gave history context (step slots 1 1 0 none) (v, (0, Some x) ∷ [])) s.homes s.views) (sym kept.2)
       (give_goes slots id kept.0 kept.1 s.homes s.views kept.3 kept.4 v (at, live) t holds x more is ours same)
 
   pub learns : (slots id : ℕ) (v : View E B) → v.live ≡ true → v.stage ≡ Idle
@@ -173,27 +202,36 @@ module _ {V E B : Type 0} (history : V → List E) (born : V → B) (context : E
       (learn_goes slots id kept.0 kept.1 s.homes s.views kept.3 kept.4 v (at, live) Idle idle (λ t e. cc e))
 
   -- a change that keeps the stage keeps the stages
-  same_stages : (views : List (View E B)) (id : ℕ) (v w : View E B) → get_elem? views id ≡ some v → w.stage ≡ v.stage → stages (set views id w) ≡ stages views
-  same_stages views id v w at same = stages_set views id w ∙ (ap (λ (t : Stage). set (stages views) id t) same ∙ set_again (stages views) id v.stage (stage_at views id v at))
+  same_stages : (views : List (View E B)) (id : ℕ) (v w : View E B) → get_elem? views id ≡ some v → w.stage ≡ v.stage
+      → stages (set views id w) ≡ stages views
+  same_stages views id v w at same = stages_set views id w
+      ∙ (ap (λ (t : Stage). set (stages views) id t) same ∙ set_again (stages views) id v.stage (stage_at views id v at))
 
-  pub splits : (id : ℕ) (v : View E B) → v.live ≡ true → v.number ≡ seats → v.splits < seats → Splits Rule id v (after_split v) (split_off v)
+  pub splits : (id : ℕ) (v : View E B) → v.live ≡ true → v.number ≡ seats → v.splits < seats
+      → Splits Rule id v (after_split v) (split_off v)
   splits id v live one room s kept at =
       let there : stages (set s.views id (after_split v)) ≡ stages s.views = same_stages s.views id v (after_split v) at refl in
-      let all : stages s.views ++ Idle ∷ [] ≡ stages (set s.views id (after_split v) ++ split_off v ∷ []) = ap (λ (l : List Stage). l ++ Idle ∷ []) (sym there) ∙ sym (stages_snoc (set s.views id (after_split v)) (split_off v)) in
-      let tickets = subst (λ (l : List Stage). Ordered kept.0 kept.1 s.homes l) all (widened kept.0 kept.1 s.homes (stages s.views) kept.3 0) in
+      let all : stages s.views ++ Idle ∷ [] ≡ stages (set s.views id (after_split v) ++ split_off v ∷ []) =
+              ap (λ (l : List Stage). l ++ Idle ∷ []) (sym there) ∙ sym (stages_snoc (set s.views id (after_split v)) (split_off v)) in
+      let tickets = subst (λ (l : List Stage). Ordered kept.0 kept.1 s.homes l) all
+              (widened kept.0 kept.1 s.homes (stages s.views) kept.3 0) in
       (kept.0, kept.1, kept.2, tickets, split history born context birth seats s.homes s.views kept.4 id v (at, live) one room)
 
-  pub joins : (id other : ℕ) (v w : View E B) → v.live ≡ true → w.live ≡ true → v.number ≡ seats → w.stage ≡ Idle → Joins Rule id v other w (joined v w) spent
+  pub joins : (id other : ℕ) (v w : View E B) → v.live ≡ true → w.live ≡ true → v.number ≡ seats → w.stage ≡ Idle
+      → Joins Rule id v other w (joined v w) spent
   joins id other v w live hers one idle s kept at off there =
       let first : stages (set s.views id (joined v w)) ≡ stages s.views = same_stages s.views id v (joined v w) at refl in
-      let all : stages (set (set s.views id (joined v w)) other spent) ≡ stages s.views = same_stages (set s.views id (joined v w)) other w spent there (sym idle) ∙ first in
+      let all : stages (set (set s.views id (joined v w)) other spent) ≡ stages s.views =
+              same_stages (set s.views id (joined v w)) other w spent there (sym idle) ∙ first in
       let tickets = subst (λ (l : List Stage). Ordered kept.0 kept.1 s.homes l) (sym all) kept.3 in
-      (kept.0, kept.1, kept.2, tickets, join history born context birth seats s.homes s.views kept.4 id v (at, live) one other w off (there, hers))
+      (kept.0, kept.1, kept.2, tickets, join history born context birth seats s.homes s.views kept.4 id v (at, live) one other w
+          off (there, hers))
 
   pub me_draws : (slots id old : ℕ) (me : Me (Option V) (View E B)) → IsIdle me → old + 1 < 2 ^ 64
       → Allows Rule slots id me 0 (λ n. either (n == old) (old + 1) n) (Drew (step slots 0 old (old + 1) none) me)
   me_draws slots id old me idle room =
-      subst (λ (m : Me (Option V) (View E B)). Allows Rule slots id m 0 (λ n. either (n == old) (old + 1) n) (Drew (step slots 0 old (old + 1) none) m))
+      subst (λ (m : Me (Option V) (View E B)). Allows Rule slots id m 0 (λ n. either (n == old) (old + 1) n)
+          (Drew (step slots 0 old (old + 1) none) m))
       (ap (λ (l : List (ℕ × Option V)). (me.0, l)) (sym idle.none)) (draws slots id old me.0 idle.live idle.stage room)
 
   pub me_looks : (slots id t : ℕ) (me : Me (Option V) (View E B)) → IsWaiting t me
@@ -202,28 +240,35 @@ module _ {V E B : Type 0} (history : V → List E) (born : V → B) (context : E
       subst (λ (m : Me (Option V) (View E B)). Allows Rule slots id m 1 (λ n. n) (Looked history born context (step slots 1 0 0 none) m))
       (ap (λ (l : List (ℕ × Option V)). (me.0, l)) (sym waits.none)) (looks slots id t me.0 waits.live waits.stage)
 
-  pub me_learns : (slots id : ℕ) (me : Me (Option V) (View E B)) → IsIdle me → Allows Rule slots id me 1 (λ n. n) (Learned (step slots 1 0 0 none) me)
+  pub me_learns : (slots id : ℕ) (me : Me (Option V) (View E B)) → IsIdle me
+      → Allows Rule slots id me 1 (λ n. n) (Learned (step slots 1 0 0 none) me)
   me_learns slots id me idle =
       subst (λ (m : Me (Option V) (View E B)). Allows Rule slots id m 1 (λ n. n) (Learned (step slots 1 0 0 none) m))
       (ap (λ (l : List (ℕ × Option V)). (me.0, l)) (sym idle.none)) (learns slots id me.0 idle.live idle.stage)
 
   -- what is asked of a pass that has put a value into its slot
-  pub put_gives : (slots id : ℕ) (turn : TableId) (old me : Me (Option V) (View E B)) (x : V) → IsHolding old → Adds context (pass_state turn old.0) (history x) → old.0.birth ≡ Some (born x)
+  pub put_gives : (slots id : ℕ) (turn : TableId) (old me : Me (Option V) (View E B)) (x : V) → IsHolding old
+      → Adds context (pass_state turn old.0) (history x) → old.0.birth ≡ Some (born x)
       → me ≡ (old.0, (0, Some x) ∷ rest old.1)
       → Allows Rule slots id me 1 (λ n. (n + 1) % 2 ^ 64) (Gave history context (step slots 1 1 0 none) me)
   put_gives slots id turn old me x holding adds birth_is is =
       let none_more : rest old.1 ≡ [] = ap rest holding.out in
       let at : me ≡ (old.0, (0, Some x) ∷ []) = is ∙ ap (λ (l : List (ℕ × Option V)). (old.0, (0, Some x) ∷ l)) none_more in
-      subst (λ (m : Me (Option V) (View E B)). Allows Rule slots id m 1 (λ n. (n + 1) % 2 ^ 64) (Gave history context (step slots 1 1 0 none) m)) (sym at)
+      subst (λ (m : Me (Option V) (View E B)). Allows Rule slots id m 1 (λ n. (n + 1) % 2 ^ 64)
+          (Gave history context (step slots 1 1 0 none) m)) (sym at)
       (gives_back slots id holding.ticket old.0 x adds.more holding.live holding.stage adds.whole adds.ours birth_is)
 
-  pub me_splits : (id : ℕ) (me : Me (Option V) (View E B)) → IsIdle me → me.0.number ≡ seats → me.0.splits < seats → Splits Rule id me.0 (after_split me.0) (split_off me.0)
+  pub me_splits : (id : ℕ) (me : Me (Option V) (View E B)) → IsIdle me → me.0.number ≡ seats → me.0.splits < seats
+      → Splits Rule id me.0 (after_split me.0) (split_off me.0)
   me_splits id me idle one room = splits id me.0 idle.live one room
 
-  pub me_joins : (id other : ℕ) (me her : Me (Option V) (View E B)) → IsIdle me → IsIdle her → me.0.number ≡ seats → Joins Rule id me.0 other her.0 (joined me.0 her.0) spent
+  pub me_joins : (id other : ℕ) (me her : Me (Option V) (View E B)) → IsIdle me → IsIdle her → me.0.number ≡ seats
+      → Joins Rule id me.0 other her.0 (joined me.0 her.0) spent
   me_joins id other me her idle hers one = joins id other me.0 her.0 idle.live hers.live one hers.stage
 
-  pub me_learns_joined : (slots id : ℕ) (old : Me (Option V) (View E B)) (w : View E B) (me : Me (Option V) (View E B)) → IsIdle old → me ≡ (joined old.0 w, old.1)
+  pub me_learns_joined : (slots id : ℕ) (old : Me (Option V) (View E B)) (w : View E B) (me : Me (Option V) (View E B)) → IsIdle old
+      → me ≡ (joined old.0 w, old.1)
       → Allows Rule slots id me 1 (λ n. n) (Learned (step slots 1 0 0 none) me)
   me_learns_joined slots id old w me idle is =
-      me_learns slots id me (subst (λ (m : Me (Option V) (View E B)). IsIdle m) (sym is) (record { live = idle.live; stage = idle.stage; none = idle.none }))
+      me_learns slots id me (subst (λ (m : Me (Option V) (View E B)). IsIdle m) (sym is) (record { live = idle.live; stage =
+          idle.stage; none = idle.none }))

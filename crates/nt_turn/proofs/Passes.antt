@@ -16,13 +16,16 @@ idle_by Idle out is free = (refl, is)
 idle_by (Waiting t) out is free = absurd is
 idle_by (Holding t) out is free = absurd (cc free)
 
-holding_by : {V : Type 0} (s : Stage) (out : List (ℕ × Option V)) → IsSettled s out → holds_turn s ≡ true → (t : ℕ) × (s ≡ Holding t) × (out ≡ (0, None) ∷ [])
+holding_by : {V : Type 0} (s : Stage) (out : List (ℕ × Option V)) → IsSettled s out → holds_turn s ≡ true
+    → (t : ℕ) × (s ≡ Holding t) × (out ≡ (0, None) ∷ [])
 holding_by Idle out is held = absurd (cc held)
 holding_by (Waiting t) out is held = absurd is
 holding_by (Holding t) out is held = (t, refl, is)
 
-module _ {V E B : Type 0} (id : TableId) (seats : ℕ) (birth : B) (turn : TurnState B) (turn_is : record { id = id; seats = seats; birth = birth } ≡ turn)
-    (table : TableId) (number splits : ℕ) (me : Me (Option V) (View E B)) (is : IsPass number splits me) (pass : PassState E B) (pass_is : pass_state table me.0 ≡ pass) where
+module _ {V E B : Type 0} (id : TableId) (seats : ℕ) (birth : B) (turn : TurnState B) (turn_is : record { id = id; seats =
+    seats; birth = birth } ≡ turn)
+    (table : TableId) (number splits : ℕ) (me : Me (Option V) (View E B)) (is : IsPass number splits me) (pass : PassState E B)
+        (pass_is : pass_state table me.0 ≡ pass) where
   of_turn : pass.turn ≡ turn.id → table ≡ id
   of_turn same = ap (λ (p : PassState E B). p.turn) pass_is ∙ (same ∙ sym (ap (λ (t : TurnState B). t.id) turn_is))
 
@@ -44,7 +47,8 @@ module _ {V E B : Type 0} (id : TableId) (seats : ℕ) (birth : B) (turn : TurnS
 
   -- a first pass that may be split has room
   pub room_of : pass.splits < turn.seats → me.0.splits < seats
-  room_of less = let splits_are = ap (λ (q : PassState E B). q.splits) pass_is in let seats_are = ap (λ (t : TurnState B). t.seats) turn_is in omega arith
+  room_of less = let splits_are = ap (λ (q : PassState E B). q.splits) pass_is in
+      let seats_are = ap (λ (t : TurnState B). t.seats) turn_is in omega arith
 
   -- the user of a pass that holds the turn has the value
   pub holder_of : IsHolder turn pass → (table ≡ id) × IsHolding me
@@ -53,6 +57,7 @@ module _ {V E B : Type 0} (id : TableId) (seats : ℕ) (birth : B) (turn : TurnS
       (of_turn p.turn_is, record { ticket = at.0; live = is.live; stage = at.1; out = at.2 })
 
 -- a history of the pass's own with at most one entry more
-pub adds_by : {E B : Type 0} (context : E → ℕ) (pass : PassState E B) (log : List E) (e : E) (done : Bool) → context e ≡ pass.number → MatchBool done (log ≡ pass.seen ++ e ∷ []) (log ≡ pass.seen) → Adds context pass log
+pub adds_by : {E B : Type 0} (context : E → ℕ) (pass : PassState E B) (log : List E) (e : E) (done : Bool) → context e ≡ pass.number
+    → MatchBool done (log ≡ pass.seen ++ e ∷ []) (log ≡ pass.seen) → Adds context pass log
 adds_by context pass log e true own is = record { more = e ∷ []; whole = is; ours = (own, tt) }
 adds_by context pass log e false own is = record { more = []; whole = is ∙ sym (append-nil pass.seen); ours = tt }

@@ -7,7 +7,8 @@ use Rattle.nt_turn.specs.declared.view.View.{View}
 use Rattle.nt_turn.specs.View.{stages}
 
 -- of a list with one more at its end
-pub at_end : {A : Type 0} (l : List A) (a b : A) (j : ℕ) → get_elem? (l ++ a ∷ []) j ≡ some b → (get_elem? l j ≡ some b) ⊎ ((j ≡ length l) × (a ≡ b))
+pub at_end : {A : Type 0} (l : List A) (a b : A) (j : ℕ) → get_elem? (l ++ a ∷ []) j ≡ some b → (get_elem? l j ≡ some b)
+    ⊎ ((j ≡ length l) × (a ≡ b))
 at_end [] a b zero e = inr (refl, some-injective a b e)
 at_end [] a b (suc j) e = absurd (some-ne-none b (sym e))
 at_end (x ∷ xs) a b zero e = inl e
@@ -29,7 +30,8 @@ module _ {E B : Type 0} where
   stage_at (x ∷ xs) (suc i) v e = stage_at xs i v e
 
   -- the view of a stage
-  pub view_at : (l : List (View E B)) (i : ℕ) (s : Stage) → get_elem? (stages l) i ≡ some s → (v : View E B) × (get_elem? l i ≡ some v) × (v.stage ≡ s)
+  pub view_at : (l : List (View E B)) (i : ℕ) (s : Stage) → get_elem? (stages l) i ≡ some s
+      → (v : View E B) × (get_elem? l i ≡ some v) × (v.stage ≡ s)
   view_at [] i s e = absurd (some-ne-none s (sym e))
   view_at (x ∷ xs) zero s e = (x, refl, some-injective x.stage s e)
   view_at (x ∷ xs) (suc i) s e = view_at xs i s e

@@ -1,5 +1,6 @@
 -- Each step keeps the order of tickets.
-use Rattle.std.proofs.Common.{◌≡◌, ◌≢◌, inl, inr, ⊎_elim, ℕ, zero, suc, ◌+◌, ◌^◌, ◌<◌, ◌≤◌, List, [], ◌∷◌, ◌++◌, set, refl, sym, ap, ◌∙◌, subst, arith}
+use Rattle.std.proofs.Common.{◌≡◌, ◌≢◌, inl, inr, ⊎_elim, ℕ, zero, suc, ◌+◌, ◌^◌, ◌<◌, ◌≤◌, List, [], ◌∷◌, ◌++◌, set, refl, sym, ap, ◌∙◌}
+use Rattle.std.proofs.Common.{subst, arith}
 use Rattle.std.proofs.lemmas.Bool.{cases_eq}
 use mathlib.Core.Option.{Option as Maybe, some, none, some-injective, some-ne-none}
 use lib.ListN.{get_elem?}
@@ -23,13 +24,16 @@ module _ {A : Type 0} (next serving : ℕ) (homes : List (Maybe A)) (views : Lis
   drawn room at = record {
     fits = room;
     order = omega (arith, h.order);
-    range = λ by t v e has. ⊎_elim (λ p. own t v p.1 has) (λ p. let r = h.range by t v p.1 has in (r.0, omega arith)) (at_set views id by (Waiting next) v e);
+    range = λ by t v e has. ⊎_elim (λ p. own t v p.1 has) (λ p. let r = h.range by t v p.1 has in (r.0, omega arith))
+        (at_set views id by (Waiting next) v e);
     apart = λ i j t v w e f hv hw. ⊎_elim
         (λ p. ⊎_elim (λ q. p.0 ∙ sym q.0) (λ q. absurd (new t v w j p.1 q.1 hv hw)) (at_set views id j (Waiting next) w f))
-        (λ p. ⊎_elim (λ q. absurd (new t w v i q.1 p.1 hw hv)) (λ q. h.apart i j t v w p.1 q.1 hv hw) (at_set views id j (Waiting next) w f))
+        (λ p. ⊎_elim (λ q. absurd (new t w v i q.1 p.1 hw hv)) (λ q. h.apart i j t v w p.1 q.1 hv hw)
+            (at_set views id j (Waiting next) w f))
         (at_set views id i (Waiting next) v e);
     holding = λ by t e. ⊎_elim (λ p. absurd (cc (p.1))) (λ p. h.holding by t p.1) (at_set views id by (Waiting next) (Holding t) e);
-    home = ⊎_elim (λ x. inl x) (λ x. inr (x.0, (x.1.0, set_else views id x.1.0 (Waiting next) (λ same. other x.1.0 x.1.1 same) ∙ x.1.1))) h.home;
+    home = ⊎_elim (λ x. inl x) (λ x. inr (x.0, (x.1.0, set_else views id x.1.0 (Waiting next) (λ same. other x.1.0 x.1.1 same)
+        ∙ x.1.1))) h.home;
   }
     where
       own : (t : ℕ) (v : Stage) → Waiting next ≡ v → HasTicket t v → (serving ≤ t) × (t < next + 1)
@@ -39,19 +43,25 @@ module _ {A : Type 0} (next serving : ℕ) (homes : List (Maybe A)) (views : Lis
       new t v w j is f hv hw = let e : t ≡ next = subst (HasTicket t) (sym is) hv in let r = h.range j t w f hw in omega (arith, r.1)
 
       other : (by : ℕ) → get_elem? views by ≡ some (Holding serving) → by ≡ id → ⊥
-      other by e same = let both : some (Holding serving) ≡ some Idle = sym e ∙ (ap (get_elem? views) same ∙ at) in cc (some-injective _ _ both)
+      other by e same = let both : some (Holding serving) ≡ some Idle =
+                                sym e ∙ (ap (get_elem? views) same ∙ at) in cc (some-injective _ _ both)
 
   -- a pass whose ticket is served takes the value
-  pub taken : (x : A) → homes ≡ some x ∷ [] → get_elem? views id ≡ some (Waiting serving) → Ordered {A = A} next serving (none ∷ []) (set views id (Holding serving))
+  pub taken : (x : A) → homes ≡ some x ∷ [] → get_elem? views id ≡ some (Waiting serving) → Ordered {A =
+      A} next serving (none ∷ []) (set views id (Holding serving))
   taken x is at = record {
     fits = h.fits;
     order = h.order;
-    range = λ by t v e has. ⊎_elim (λ p. h.range id t (Waiting serving) at (own t v p.1 has)) (λ p. h.range by t v p.1 has) (at_set views id by (Holding serving) v e);
+    range = λ by t v e has. ⊎_elim (λ p. h.range id t (Waiting serving) at (own t v p.1 has)) (λ p. h.range by t v p.1 has)
+        (at_set views id by (Holding serving) v e);
     apart = λ i j t v w e f hv hw. ⊎_elim
-        (λ p. ⊎_elim (λ q. p.0 ∙ sym q.0) (λ q. p.0 ∙ h.apart id j t (Waiting serving) w at q.1 (own t v p.1 hv) hw) (at_set views id j (Holding serving) w f))
-        (λ p. ⊎_elim (λ q. h.apart i id t v (Waiting serving) p.1 at hv (own t w q.1 hw) ∙ sym q.0) (λ q. h.apart i j t v w p.1 q.1 hv hw) (at_set views id j (Holding serving) w f))
+        (λ p. ⊎_elim (λ q. p.0 ∙ sym q.0) (λ q. p.0 ∙ h.apart id j t (Waiting serving) w at q.1 (own t v p.1 hv) hw)
+            (at_set views id j (Holding serving) w f))
+        (λ p. ⊎_elim (λ q. h.apart i id t v (Waiting serving) p.1 at hv (own t w q.1 hw) ∙ sym q.0)
+            (λ q. h.apart i j t v w p.1 q.1 hv hw) (at_set views id j (Holding serving) w f))
         (at_set views id i (Holding serving) v e);
-    holding = λ by t e. ⊎_elim (λ p. (cc (p.1), refl)) (λ p. absurd (not_out (h.holding by t p.1).1)) (at_set views id by (Holding serving) (Holding t) e);
+    holding = λ by t e. ⊎_elim (λ p. (cc (p.1), refl)) (λ p. absurd (not_out (h.holding by t p.1).1))
+        (at_set views id by (Holding serving) (Holding t) e);
     home = inr (refl, (id, put_there views id (Holding serving) (Waiting serving) at));
   }
     where
@@ -66,12 +76,15 @@ module _ {A : Type 0} (next serving : ℕ) (homes : List (Maybe A)) (views : Lis
   given x at = record {
     fits = h.fits;
     order = omega (arith, (h.range id serving (Holding serving) at refl).1);
-    range = λ by t v e has. ⊎_elim (λ p. absurd (subst (HasTicket t) (sym p.1) has)) (λ p. let r = h.range by t v p.1 has in (above by t v p.0 p.1 has r.0, r.1)) (at_set views id by Idle v e);
+    range = λ by t v e has. ⊎_elim (λ p. absurd (subst (HasTicket t) (sym p.1) has)) (λ p. let r = h.range by t v p.1 has in
+        (above by t v p.0 p.1 has r.0, r.1)) (at_set views id by Idle v e);
     apart = λ i j t v w e f hv hw. ⊎_elim
         (λ p. absurd (subst (HasTicket t) (sym p.1) hv))
         (λ p. ⊎_elim (λ q. absurd (subst (HasTicket t) (sym q.1) hw)) (λ q. h.apart i j t v w p.1 q.1 hv hw) (at_set views id j Idle w f))
         (at_set views id i Idle v e);
-    holding = λ by t e. ⊎_elim (λ p. absurd (cc (p.1))) (λ p. absurd (p.0 (h.apart by id serving (Holding t) (Holding serving) p.1 at (sym (h.holding by t p.1).0) refl))) (at_set views id by Idle (Holding t) e);
+    holding = λ by t e. ⊎_elim (λ p. absurd (cc (p.1)))
+        (λ p. absurd (p.0 (h.apart by id serving (Holding t) (Holding serving) p.1 at (sym (h.holding by t p.1).0) refl)))
+          (at_set views id by Idle (Holding t) e);
     home = inl (x, refl);
   }
     where

@@ -29,7 +29,8 @@ IsOut homes = homes ≡ none ∷ []
 abbrev pub SomeHolds : List Stage → ℕ → Type 0
 SomeHolds views serving = (by : ℕ) × (get_elem? views by ≡ some (Holding serving))
 
--- the tickets that passes have differ, are drawn and not served before; the value is out exactly while one pass holds it, under the ticket that is served
+-- the tickets that passes have differ, are drawn and not served before; the value is out exactly while one pass holds it, under the
+-- ticket that is served
 pub record Ordered {A : Type 0} (next serving : ℕ) (homes : List (Maybe A)) (views : List Stage) : Type 0 where
   pub fits : next < 2 ^ 64
   pub order : serving ≤ next

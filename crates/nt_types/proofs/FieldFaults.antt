@@ -1,5 +1,6 @@
 -- What is wrong with a line, as it is read.
-use Rattle.std.proofs.Common.{ℕ, List, [], ◌∷◌, ◌++◌, ◌≡◌, ◌+◌, ◌<◌, ◌≤◌, refl, sym, ◌∙◌, ap, subst, Bool, true, false, Option, Some, None, Result, Ok, Err, length, map, nat_le, inl, inr, if◌then◌else◌, arith}
+use Rattle.std.proofs.Common.{ℕ, List, [], ◌∷◌, ◌++◌, ◌≡◌, ◌+◌, ◌<◌, ◌≤◌, refl, sym, ◌∙◌, ap, subst, Bool, true, false, Option, Some, None}
+use Rattle.std.proofs.Common.{Result, Ok, Err, length, map, nat_le, inl, inr, if◌then◌else◌, arith}
 use Rattle.std.proofs.lemmas.Bool.Decides.{nat_tests}
 use Rattle.std.specs.Prelude.{◌⊎◌}
 use Rattle.std.specs.List.{list_all, prefix_len}
@@ -61,7 +62,8 @@ name-same line name other t e b =
 spells-split : (line : List ℕ) (p : MemberData) → SpellsMember line p → split_line line ≡ Some (p.name, spell p.of)
 spells-split line p m = split_line-is line p.name (spell p.of) m.line_is (spell_core p.of m.rules)
 
-split-spells : (line name t : List ℕ) (k : ShapeData) → split_line line ≡ Some (name, t) → read_kind t ≡ Some k → SpellsMember line (part_under name k)
+split-spells : (line name t : List ℕ) (k : ShapeData) → split_line line ≡ Some (name, t) → read_kind t ≡ Some k
+    → SpellsMember line (part_under name k)
 split-spells line name t k e read =
     let sound = read_kind-sound t k read in
     record { line_is = subst (IsLine line name) (sym sound.0) (split_line-sound line name t e); rules = sound.1 }
@@ -83,7 +85,8 @@ type_of-deep t k read deep = let far : nat_le (depth k) 32 ≡ false = grind (ar
 type_of-shallow : (t : List ℕ) (k : ShapeData) → read_kind t ≡ Some k → depth k ≤ 32 → type_of t ≡ Ok k
 type_of-shallow t k read shallow = let near : nat_le (depth k) 32 ≡ true = grind (arith, nat_tests) in rw (read, near) refl
 
-type_of-bad : (line name t : List ℕ) → split_line line ≡ Some (name, t) → ((p : MemberData) → SpellsMember line p → ⊥) → type_of t ≡ Err BadType
+type_of-bad : (line name t : List ℕ) → split_line line ≡ Some (name, t) → ((p : MemberData) → SpellsMember line p → ⊥)
+    → type_of t ≡ Err BadType
 type_of-bad line name t e none = cases (read_kind t) refl
   where
     cases : (r : Option ShapeData) → read_kind t ≡ r → within_depth r ≡ Err BadType
@@ -127,7 +130,8 @@ no-split line e name b = let s = begins-split line name b in let some : split_li
 pub member_of-fault : (line : List ℕ) (k : SchemaKind) → member_of line ≡ Err k → HasFault line k
 member_of-fault line k e = cases (split_line line) refl e
   where
-    typed : (name t : List ℕ) (r : Result ShapeData SchemaKind) → split_line line ≡ Some (name, t) → type_of t ≡ r → under_name name r ≡ Err k
+    typed : (name t : List ℕ) (r : Result ShapeData SchemaKind) → split_line line ≡ Some (name, t) → type_of t ≡ r
+        → under_name name r ≡ Err k
         → HasFault line k
     typed name t (Ok j) split is f = cc
     typed name t (Err j) split is f =
@@ -198,7 +202,8 @@ module _ (fields : List MemberData) (seen : List (List ℕ)) (before : ℕ) (lin
           → (if c then Err Repeated else within_count before name (type_of t)) ≡ Err k
           → HasFieldFault fields line k
       named name t true split at f =
-          subst (HasFieldFault fields line) (err_is {A = MemberData} Repeated k f) (name, split-begins line name t split, sym (names name) ∙ at)
+          subst (HasFieldFault fields line) (err_is {A = MemberData} Repeated k f) (name, split-begins line name t split,
+              sym (names name) ∙ at)
       named name t false split at f = typed name t (type_of t) split (is-new name t split at) refl f
 
       cases : (r : Option (List ℕ × List ℕ)) → split_line line ≡ r → field_split seen before r ≡ Err k → HasFieldFault fields line k
@@ -232,7 +237,8 @@ module _ (fields : List MemberData) (seen : List (List ℕ)) (before : ℕ) (lin
   field_of-refused TooLong f = absurd f
   field_of-refused Empty f = absurd f
 
-  pub field_of-spelled : (p : MemberData) → SpellsMember line p → has_name seen p.name ≡ false → depth p.of ≤ 32 → before + field_count p.of ≤ 4096
+  pub field_of-spelled : (p : MemberData) → SpellsMember line p → has_name seen p.name ≡ false → depth p.of ≤ 32
+      → before + field_count p.of ≤ 4096
       → field_of seen before line ≡ Ok p
   field_of-spelled p m new shallow few =
       let below : nat_le (before + field_count p.of) 4096 ≡ true = grind (arith, nat_tests) in

@@ -6,7 +6,9 @@ use Rattle.std.proofs.lemmas.List.{map-append, length-map}
 use Rattle.nt_types.specs.ShapeData.{ShapeData, MemberData, bool, list, fields, tuple, choice, kinds_of, parts_of}
 use Rattle.nt_types.specs.Words.{is_word_byte, is_name, leaf}
 use Rattle.nt_types.specs.Names.{are_new, names_differ}
-use Rattle.nt_types.specs.Reading.{OpenData, in_list, at_name, in_member, in_tuple, in_choice, goes, ends, ReadingData, kind_kept, put, part_placed, place_on, within_after, started, opened, begin, named_on, named, ended_here, delimited, ended_on, read, read_kind, start}
+use Rattle.nt_types.specs.Reading.{OpenData, in_list, at_name, in_member, in_tuple, in_choice, goes, ends, ReadingData, kind_kept, put}
+use Rattle.nt_types.specs.Reading.{part_placed, place_on, within_after, started, opened, begin, named_on, named, ended_here, delimited}
+use Rattle.nt_types.specs.Reading.{ended_on, read, read_kind, start}
 
 -- a member, a construct and a state without what isn't kept
 abbrev forget_part : MemberData → MemberData

@@ -1,5 +1,6 @@
 -- A line as a name, blanks, a text and spaces.
-use Rattle.std.proofs.Common.{ℕ, List, [], suc, ◌∷◌, ◌++◌, ◌≡◌, ◌+◌, ◌-◌, ◌<◌, refl, sym, ◌∙◌, ap, Bool, true, false, cond, Option, Some, None, length, take, drop, arith, length-append}
+use Rattle.std.proofs.Common.{ℕ, List, [], suc, ◌∷◌, ◌++◌, ◌≡◌, ◌+◌, ◌-◌, ◌<◌, refl, sym, ◌∙◌, ap, Bool, true, false, cond, Option, Some}
+use Rattle.std.proofs.Common.{None, length, take, drop, arith, length-append}
 use Rattle.std.proofs.lemmas.Bool.Decides.{nat_tests}
 use Rattle.std.proofs.lemmas.List.{reverse-append, length-reverse, reverse-reverse, take-append-drop}
 use Rattle.std.proofs.lemmas.List.Folds.{list_all-append, length-prefix_len}
@@ -123,7 +124,8 @@ trimmed_core : (text spaces : List ℕ) → IsCore text → list_all is_space sp
 trimmed_core text spaces core all =
     trimmed_of text spaces
     (rw (reverse-append text spaces, turned)
-    (prefix_stops is_space (reverse spaces) core.last (reverse core.before) (all_reverse is_space spaces all) core.no_space ∙ length-reverse spaces))
+    (prefix_stops is_space (reverse spaces) core.last (reverse core.before) (all_reverse is_space spaces all) core.no_space
+        ∙ length-reverse spaces))
   where
     turned : reverse text ≡ core.last ∷ reverse core.before
     turned = ap reverse core.ends ∙ reverse-append core.before (core.last ∷ [])

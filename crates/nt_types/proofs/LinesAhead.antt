@@ -1,5 +1,6 @@
 -- Lines that spell fields are read, and then those behind them.
-use Rattle.std.proofs.Common.{ℕ, List, [], ◌∷◌, ◌++◌, ◌≡◌, ◌+◌, ◌<◌, ◌≤◌, ◌^◌, refl, sym, ◌∙◌, subst, Bool, true, false, Ok, Err, length, append_assoc, append-nil, if◌then◌else◌, arith}
+use Rattle.std.proofs.Common.{ℕ, List, [], ◌∷◌, ◌++◌, ◌≡◌, ◌+◌, ◌<◌, ◌≤◌, ◌^◌, refl, sym, ◌∙◌, subst, Bool, true, false, Ok, Err, length}
+use Rattle.std.proofs.Common.{append_assoc, append-nil, if◌then◌else◌, arith}
 use Rattle.std.specs.Prelude.{◌⊎◌}
 use Rattle.nt_lists.specs.Chaining.{◌>>=◌}
 use Rattle.nt_types.specs.ShapeData.{MemberData}
@@ -7,7 +8,8 @@ use Rattle.nt_types.specs.Lines.{is_blank_line}
 use Rattle.nt_types.specs.Schema.{ProgressData, field_of, take_line, take_lines, next_line, with_field, at_line}
 use Rattle.nt_types.specs.TextSpelling.{full_lines, SpellEach}
 use Rattle.nt_types.specs.declared.fault.SchemaKind.{SchemaKind}
-use Rattle.nt_types.proofs.Rules.{KeepRules, KeepRules-front, field_of-is, Keeps, Keeps-field, Keeps-new, Keeps-shallow, Keeps-few, Keeps-names}
+use Rattle.nt_types.proofs.Rules.{KeepRules, KeepRules-front, field_of-is, Keeps, Keeps-field, Keeps-new, Keeps-shallow, Keeps-few}
+use Rattle.nt_types.proofs.Rules.{Keeps-names}
 use Rattle.nt_types.proofs.FieldFaults.{field_of-spelled}
 
 -- one line more of those that aren't blank

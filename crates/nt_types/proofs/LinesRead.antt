@@ -1,5 +1,6 @@
 -- The lines that were read, up to the end or the first fault.
-use Rattle.std.proofs.Common.{ℕ, List, [], ◌∷◌, ◌++◌, ◌≡◌, ◌+◌, ◌<◌, ◌≤◌, ◌^◌, refl, sym, ◌∙◌, ap, subst, Bool, true, false, Result, Ok, Err, length, append-nil, inl, inr, if◌then◌else◌, arith}
+use Rattle.std.proofs.Common.{ℕ, List, [], ◌∷◌, ◌++◌, ◌≡◌, ◌+◌, ◌<◌, ◌≤◌, ◌^◌, refl, sym, ◌∙◌, ap, subst, Bool, true, false, Result, Ok}
+use Rattle.std.proofs.Common.{Err, length, append-nil, inl, inr, if◌then◌else◌, arith}
 use Rattle.std.specs.Prelude.{◌⊎◌}
 use Rattle.nt_lists.specs.Chaining.{◌>>=◌}
 use Rattle.nt_types.specs.ShapeData.{MemberData}
@@ -76,7 +77,8 @@ trace-blank s l ls (Err f) e (inl t) =
     })
 trace-blank s l ls (Err f) e (inr t) = inr (record { fault = t.fault; none = t.none; blank = full-blank l ls e ∙ t.blank })
 
-trace-field : (s : ProgressData) (l : List ℕ) (ls : List (List ℕ)) (p : MemberData) (r : Result (List MemberData) SchemaFault) → is_blank_line l ≡ false
+trace-field : (s : ProgressData) (l : List ℕ) (ls : List (List ℕ)) (p : MemberData) (r : Result (List MemberData) SchemaFault)
+    → is_blank_line l ≡ false
     → SpellsMember l p
     → Traces (with_field s p) ls r → Traces s (l ∷ ls) r
 trace-field s l ls p (Ok qs) e m t =

@@ -1,5 +1,6 @@
 -- What is read as a member is spelled so, and what is spelled so is read.
-use Rattle.std.proofs.Common.{ℕ, List, [], ◌∷◌, ◌++◌, ◌≡◌, ◌≤◌, refl, sym, subst, inl, inr, Bool, true, false, cond, Option, Some, None, Result, Ok, Err, arith}
+use Rattle.std.proofs.Common.{ℕ, List, [], ◌∷◌, ◌++◌, ◌≡◌, ◌≤◌, refl, sym, subst, inl, inr, Bool, true, false, cond, Option, Some, None}
+use Rattle.std.proofs.Common.{Result, Ok, Err, arith}
 use Rattle.std.proofs.lemmas.Bool.Decides.{nat_tests}
 use Rattle.std.specs.Prelude.{◌⊎◌, nat_le, codes, IfOk}
 use Rattle.nt_types.specs.ShapeData.{ShapeData, MemberData, bool, char, byte, int, text, list, fields, tuple, choice}
@@ -172,7 +173,8 @@ ok_part p q e = cc
 few : (n : ℕ) → nat_le n 32 ≡ true → n ≤ 32
 few n e = grind (arith, nat_tests)
 
-depth_cases : (line name t : List ℕ) (k : ShapeData) (p : MemberData) (c : Bool) → IsLine line name t → read_kind t ≡ Some k → nat_le (depth k) 32 ≡ c
+depth_cases : (line name t : List ℕ) (k : ShapeData) (p : MemberData) (c : Bool) → IsLine line name t → read_kind t ≡ Some k
+    → nat_le (depth k) 32 ≡ c
     → under_name name (cond c (Ok k) (Err TooDeep)) ≡ Ok p → IsMember line p
 depth_cases line name t k p true l read shallow e =
     let sound = read_kind-sound t k read in

@@ -1,5 +1,6 @@
 -- Steps along the members of a record.
-use Rattle.std.proofs.Common.{ℕ, List, [], ◌∷◌, ◌≡◌, ◌+◌, ◌<◌, refl, sym, ◌∙◌, Bool, true, false, Bor, length, ◌≤◌, arith, get_or, drop, map, drop-cons, add-one}
+use Rattle.std.proofs.Common.{ℕ, List, [], ◌∷◌, ◌≡◌, ◌+◌, ◌<◌, refl, sym, ◌∙◌, Bool, true, false, Bor, length, ◌≤◌, arith, get_or, drop}
+use Rattle.std.proofs.Common.{map, drop-cons, add-one}
 use Rattle.std.specs.Prelude.{◌&&◌, not}
 use Rattle.std.proofs.lemmas.Grind.{common_steps}
 use Rattle.std.specs.BTreeSet.{BTreeSet, contains, Updates}

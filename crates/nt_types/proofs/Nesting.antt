@@ -1,13 +1,16 @@
 -- The depth of a type is seen in its text.
-use Rattle.std.proofs.Common.{ℕ, List, [], ◌∷◌, ◌++◌, ◌≡◌, ◌+◌, ◌-◌, ◌≤◌, refl, sym, ◌∙◌, ap, max, Bool, true, false, append_assoc, append-nil, arith}
+use Rattle.std.proofs.Common.{ℕ, List, [], ◌∷◌, ◌++◌, ◌≡◌, ◌+◌, ◌-◌, ◌≤◌, refl, sym, ◌∙◌, ap, max, Bool, true, false, append_assoc}
+use Rattle.std.proofs.Common.{append-nil, arith}
 use Rattle.std.proofs.lemmas.Bool.Decides.{nat_tests}
 use Rattle.std.specs.Prelude.{◌==◌, ◌||◌, ◌&&◌}
 use Rattle.std.specs.List.{list_all}
 use Rattle.nt_lists.proofs.Bools.{and_true}
-use Rattle.nt_types.specs.ShapeData.{ShapeData, ShapesData, MembersData, bool, char, byte, int, text, list, fields, tuple, choice, no_kinds, kind, no_parts, part}
+use Rattle.nt_types.specs.ShapeData.{ShapeData, ShapesData, MembersData, bool, char, byte, int, text, list, fields, tuple, choice, no_kinds}
+use Rattle.nt_types.specs.ShapeData.{kind, no_parts, part}
 use Rattle.nt_types.specs.Words.{is_word_byte}
 use Rattle.nt_types.specs.Lines.{most_open}
-use Rattle.nt_types.specs.Spelling.{spell, spell_kinds, spell_more_kinds, spell_parts, spell_more_parts, depth, deepest_kind, deepest_part, IsType, AreKinds, AreMoreKinds, AreParts, AreMoreParts}
+use Rattle.nt_types.specs.Spelling.{spell, spell_kinds, spell_more_kinds, spell_parts, spell_more_parts, depth, deepest_kind, deepest_part}
+use Rattle.nt_types.specs.Spelling.{IsType, AreKinds, AreMoreKinds, AreParts, AreMoreParts}
 use Rattle.nt_types.proofs.Spelled.{name_bytes, int_text}
 
 -- how many constructs are open at the deepest place

@@ -1,5 +1,6 @@
 -- Steps along the bytes of a type.
-use Rattle.std.proofs.Common.{ℕ, List, [], ◌∷◌, ◌++◌, ◌≡◌, ◌+◌, ◌-◌, ◌<◌, ◌≤◌, refl, Bool, true, false, Some, None, Ok, length, get_or, take, drop, drop-cons, add-one, arith}
+use Rattle.std.proofs.Common.{ℕ, List, [], ◌∷◌, ◌++◌, ◌≡◌, ◌+◌, ◌-◌, ◌<◌, ◌≤◌, refl, Bool, true, false, Some, None, Ok, length, get_or}
+use Rattle.std.proofs.Common.{take, drop, drop-cons, add-one, arith}
 use Rattle.std.proofs.Common.{length-drop}
 use Rattle.std.proofs.lemmas.List.{take_more, get_or-drop}
 use Rattle.nt_types.specs.ShapeData.{ShapeData}

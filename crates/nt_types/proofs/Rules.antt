@@ -1,5 +1,6 @@
 -- The rules of fields, one field more at a time.
-use Rattle.std.proofs.Common.{ℕ, Bool, true, false, ◌≡◌, ◌<◌, ◌≤◌, ◌+◌, List, [], ◌∷◌, ◌++◌, Option, Some, None, Result, Ok, Err, nat_le, length, map, max, refl, sym, ap, ◌∙◌, subst, if◌then◌else◌, arith}
+use Rattle.std.proofs.Common.{ℕ, Bool, true, false, ◌≡◌, ◌<◌, ◌≤◌, ◌+◌, List, [], ◌∷◌, ◌++◌, Option, Some, None, Result, Ok, Err, nat_le}
+use Rattle.std.proofs.Common.{length, map, max, refl, sym, ap, ◌∙◌, subst, if◌then◌else◌, arith}
 use Rattle.std.proofs.lemmas.Bool.Decides.{nat_tests}
 use Rattle.std.specs.Prelude.{◌&&◌, ◌||◌, not}
 use Rattle.std.specs.Str.{bytes_eq}
@@ -73,7 +74,8 @@ field_of-is seen before line p h = cases (split_line line) refl h
 
 -- lists with one more at the end
 
-parts_count-snoc : (ps : List MemberData) (p : MemberData) → parts_count (parts_of (ps ++ p ∷ [])) ≡ parts_count (parts_of ps) + field_count p.of
+parts_count-snoc : (ps : List MemberData) (p : MemberData) → parts_count (parts_of (ps ++ p ∷ [])) ≡ parts_count (parts_of ps)
+    + field_count p.of
 parts_count-snoc [] p = omega arith
 parts_count-snoc (q ∷ ps) p = let ih : parts_count (parts_of (ps ++ p ∷ [])) ≡ parts_count (parts_of ps) + field_count p.of =
     parts_count-snoc ps p in omega arith
@@ -84,7 +86,8 @@ max-most a b n h k = grind (arith, nat_tests)
 max-parts : (a b n : ℕ) → max a b ≤ n → (a ≤ n) × (b ≤ n)
 max-parts a b n h = (grind (arith, nat_tests), grind (arith, nat_tests))
 
-deepest-snoc : (ps : List MemberData) (p : MemberData) → deepest_part (parts_of ps) ≤ 32 → depth p.of ≤ 32 → deepest_part (parts_of (ps ++ p ∷ [])) ≤ 32
+deepest-snoc : (ps : List MemberData) (p : MemberData) → deepest_part (parts_of ps) ≤ 32 → depth p.of ≤ 32
+    → deepest_part (parts_of (ps ++ p ∷ [])) ≤ 32
 deepest-snoc [] p h k = max-most (depth p.of) 0 32 k (omega arith)
 deepest-snoc (q ∷ ps) p h k =
     let both = max-parts (depth q.of) (deepest_part (parts_of ps)) 32 h in
@@ -100,12 +103,14 @@ pub seen_after : List (List ℕ) → List MemberData → List (List ℕ)
 seen_after seen [] = seen
 seen_after seen (p ∷ ps) = seen_after (p.name ∷ seen) ps
 
-seen_after-snoc : (seen : List (List ℕ)) (ps : List MemberData) (p : MemberData) → seen_after seen (ps ++ p ∷ []) ≡ p.name ∷ seen_after seen ps
+seen_after-snoc : (seen : List (List ℕ)) (ps : List MemberData) (p : MemberData) → seen_after seen (ps ++ p ∷ []) ≡ p.name
+    ∷ seen_after seen ps
 unfolding seen_after
 seen_after-snoc seen [] p = refl
 seen_after-snoc seen (q ∷ ps) p = seen_after-snoc (q.name ∷ seen) ps p
 
-are_new-snoc : (seen : List (List ℕ)) (ps : List MemberData) (p : MemberData) → are_new seen ps ≡ true → has_name (seen_after seen ps) p.name ≡ false
+are_new-snoc : (seen : List (List ℕ)) (ps : List MemberData) (p : MemberData) → are_new seen ps ≡ true
+    → has_name (seen_after seen ps) p.name ≡ false
     → are_new seen (ps ++ p ∷ []) ≡ true
 unfolding seen_after
 are_new-snoc seen [] p h new = rw new refl

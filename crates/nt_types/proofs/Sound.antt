@@ -1,16 +1,21 @@
 -- What is read is spelled so, and keeps the rules of types.
-use Rattle.std.proofs.Common.{ℕ, List, [], ◌∷◌, ◌++◌, ◌≡◌, ◌≤◌, refl, sym, ◌∙◌, ap, subst, Bool, true, false, cond, Option, Some, None, length, append_assoc, append-nil, arith}
+use Rattle.std.proofs.Common.{ℕ, List, [], ◌∷◌, ◌++◌, ◌≡◌, ◌≤◌, refl, sym, ◌∙◌, ap, subst, Bool, true, false, cond, Option, Some, None}
+use Rattle.std.proofs.Common.{length, append_assoc, append-nil, arith}
 use Rattle.std.proofs.lemmas.Bool.Decides.{nat_tests}
 use Rattle.std.proofs.lemmas.Slice.Eq.{bytes_eq-Decides}
 use Rattle.std.specs.Str.{bytes_eq}
 use Rattle.std.specs.Prelude.{option_and_then, option_map, nat_le, ◌==◌, ◌&&◌, ◌||◌, not, codes}
 use Rattle.nt_lists.proofs.Bools.{and_true}
 use Rattle.nt_lists.proofs.Variants.{some_is}
-use Rattle.nt_types.specs.ShapeData.{ShapeData, MemberData, bool, char, byte, int, text, list, fields, tuple, choice, kinds_of, parts_of, kinds_list, parts_list}
+use Rattle.nt_types.specs.ShapeData.{ShapeData, MemberData, bool, char, byte, int, text, list, fields, tuple, choice, kinds_of, parts_of}
+use Rattle.nt_types.specs.ShapeData.{kinds_list, parts_list}
 use Rattle.nt_types.specs.Words.{is_word_byte, is_name, leaf, number, int_of}
 use Rattle.nt_types.specs.Names.{names_differ}
-use Rattle.nt_types.specs.Reading.{OpenData, in_list, at_name, in_member, in_tuple, in_choice, PlacedData, goes, ends, ReadingData, start, kind_kept, put, within_after, within_inside, part_placed, place_on, place, started, opened, begin, named, ended_here, delimited, ended_on, read, read_kind}
-use Rattle.nt_types.specs.Spelling.{spell, spell_kinds, spell_more_kinds, spell_parts, spell_more_parts, IsType, AreKinds, AreMoreKinds, AreParts, AreMoreParts}
+use Rattle.nt_types.specs.Reading.{OpenData, in_list, at_name, in_member, in_tuple, in_choice, PlacedData, goes, ends, ReadingData, start}
+use Rattle.nt_types.specs.Reading.{kind_kept, put, within_after, within_inside, part_placed, place_on, place, started, opened, begin, named}
+use Rattle.nt_types.specs.Reading.{ended_here, delimited, ended_on, read, read_kind}
+use Rattle.nt_types.specs.Spelling.{spell, spell_kinds, spell_more_kinds, spell_parts, spell_more_parts, IsType, AreKinds, AreMoreKinds}
+use Rattle.nt_types.specs.Spelling.{AreParts, AreMoreParts}
 
 -- the text of what is read
 
@@ -77,7 +82,8 @@ ended_kinds-snoc : (ks : List ShapeData) (k : ShapeData) → ended_kinds (ks ++ 
 ended_kinds-snoc [] k = refl
 ended_kinds-snoc (j ∷ ks) k = rw (ended_kinds-snoc ks k) (sym (append_assoc (spell j) (44 ∷ ended_kinds ks) (spell k ++ 44 ∷ [])))
 
-more_parts : (ps : List MemberData) (p : MemberData) → spell_more_parts (parts_of (ps ++ p ∷ [])) ≡ 44 ∷ spell_parts (parts_of (ps ++ p ∷ []))
+more_parts : (ps : List MemberData) (p : MemberData) → spell_more_parts (parts_of (ps ++ p ∷ [])) ≡ 44
+    ∷ spell_parts (parts_of (ps ++ p ∷ []))
 more_parts [] p = refl
 more_parts (q ∷ ps) p = refl
 
@@ -85,11 +91,13 @@ parts_text : (ps : List MemberData) (p : MemberData) → spell_parts (parts_of (
 parts_text [] p = rw (append-nil (spell p.of)) refl
 parts_text (q ∷ ps) p = rw (more_parts ps p, parts_text ps p) (simp append_assoc)
 
-ended_parts-snoc : (ps : List MemberData) (p : MemberData) → ended_parts (ps ++ p ∷ []) ≡ ended_parts ps ++ (p.name ++ 58 ∷ (spell p.of ++ 44 ∷ []))
+ended_parts-snoc : (ps : List MemberData) (p : MemberData) → ended_parts (ps ++ p ∷ []) ≡ ended_parts ps
+    ++ (p.name ++ 58 ∷ (spell p.of ++ 44 ∷ []))
 ended_parts-snoc [] p = refl
 ended_parts-snoc (q ∷ ps) p = rw (ended_parts-snoc ps p) (simp append_assoc)
 
-GoodKinds-snoc : (within : Bool) (ks : List ShapeData) (k : ShapeData) → GoodKinds within ks → IsType within k → GoodKinds within (ks ++ k ∷ [])
+GoodKinds-snoc : (within : Bool) (ks : List ShapeData) (k : ShapeData) → GoodKinds within ks → IsType within k
+    → GoodKinds within (ks ++ k ∷ [])
 GoodKinds-snoc within [] k g t = (t, tt)
 GoodKinds-snoc within (j ∷ ks) k g t = (g.0, GoodKinds-snoc within ks k g.1 t)
 
@@ -103,7 +111,8 @@ AreKinds-snoc : (within : Bool) (ks : List ShapeData) (k : ShapeData) → GoodKi
 AreKinds-snoc within [] k g t = (t, tt)
 AreKinds-snoc within (j ∷ ks) k g t = (g.0, AreMoreKinds-snoc within ks k g.1 t)
 
-GoodParts-snoc : (ps : List MemberData) (p : MemberData) → GoodParts ps → is_name p.name ≡ true → IsType false p.of → GoodParts (ps ++ p ∷ [])
+GoodParts-snoc : (ps : List MemberData) (p : MemberData) → GoodParts ps → is_name p.name ≡ true → IsType false p.of
+    → GoodParts (ps ++ p ∷ [])
 GoodParts-snoc [] p g n t = (n, t, tt)
 GoodParts-snoc (q ∷ ps) p g n t = (g.0, g.1, GoodParts-snoc ps p g.2 n t)
 
@@ -112,7 +121,8 @@ AreMoreParts-snoc : (ps : List MemberData) (p : MemberData) → GoodParts ps →
 AreMoreParts-snoc [] p g n t = (n, t, tt)
 AreMoreParts-snoc (q ∷ ps) p g n t = (g.0, g.1, AreMoreParts-snoc ps p g.2 n t)
 
-AreParts-snoc : (ps : List MemberData) (p : MemberData) → GoodParts ps → is_name p.name ≡ true → IsType false p.of → AreParts (parts_of (ps ++ p ∷ []))
+AreParts-snoc : (ps : List MemberData) (p : MemberData) → GoodParts ps → is_name p.name ≡ true → IsType false p.of
+    → AreParts (parts_of (ps ++ p ∷ []))
 AreParts-snoc [] p g n t = (n, t, tt)
 AreParts-snoc (q ∷ ps) p g n t = (g.0, g.1, AreMoreParts-snoc ps p g.2 n t)
 
@@ -186,7 +196,8 @@ regroup a n s = append_assoc a (n ++ 58 ∷ s) (125 ∷ [])
 regroup_comma : (a n s : List ℕ) → a ++ (n ++ 58 ∷ s) ≡ (a ++ (n ++ 58 ∷ [])) ++ s
 regroup_comma a n s = ap (λ (l : List ℕ). a ++ l) (sym (append_assoc n (58 ∷ []) s)) ∙ sym (append_assoc a (n ++ 58 ∷ []) s)
 
-fields_put : (out within : Bool) (ps : List MemberData) (n : List ℕ) (k : ShapeData) (b : ℕ) (p : PlacedData) (c d : Bool) → (c ≡ true → b ≡ 44)
+fields_put : (out within : Bool) (ps : List MemberData) (n : List ℕ) (k : ShapeData) (b : ℕ) (p : PlacedData) (c d : Bool)
+    → (c ≡ true → b ≡ 44)
     → (d ≡ true → (b ≡ 125) × (names_differ (ps ++ record { name = n; of = k } ∷ []) ≡ true)) → GoodConstruct (in_member ps n) out within
     → IsType within k
     → cond c (Some (goes (at_name (ps ++ record { name = n; of = k } ∷ []))))
@@ -317,7 +328,8 @@ leaf_sound w k e =
     cases false false false false ha hb hc hd e = number_sound w k e
 
 -- a part that ends: the text since the construct round it, and the rules
-settled_sound : (within : Bool) (done : Option ShapeData) (w : List ℕ) (k : ShapeData) → GoodDone within done → ended_here true done w ≡ Some k
+settled_sound : (within : Bool) (done : Option ShapeData) (w : List ℕ) (k : ShapeData) → GoodDone within done
+    → ended_here true done w ≡ Some k
     → (spell k ≡ done_text done ++ w) × IsType within k
 settled_sound within None w k g e = leaf_case (leaf w) refl e
   where

@@ -1,14 +1,18 @@
 -- What is spelled is read.
-use Rattle.std.proofs.Common.{ℕ, List, [], ◌∷◌, ◌++◌, ◌≡◌, ◌≤◌, refl, sym, ◌∙◌, ap, Bool, true, false, Option, Some, None, length, append_assoc, append-nil, subst, arith, inl, inr}
+use Rattle.std.proofs.Common.{ℕ, List, [], ◌∷◌, ◌++◌, ◌≡◌, ◌≤◌, refl, sym, ◌∙◌, ap, Bool, true, false, Option, Some, None, length}
+use Rattle.std.proofs.Common.{append_assoc, append-nil, subst, arith, inl, inr}
 use Rattle.std.proofs.lemmas.Bool.Decides.{nat_tests}
 use Rattle.std.specs.Prelude.{◌⊎◌, option_and_then, nat_le, ◌&&◌, codes}
 use Rattle.std.specs.List.{list_all}
 use Rattle.nt_lists.proofs.Bools.{and_true}
-use Rattle.nt_types.specs.ShapeData.{ShapeData, ShapesData, MembersData, MemberData, bool, char, byte, int, text, list, fields, tuple, choice, no_kinds, kind, no_parts, part, kinds_of, parts_of, kinds_list, parts_list}
+use Rattle.nt_types.specs.ShapeData.{ShapeData, ShapesData, MembersData, MemberData, bool, char, byte, int, text, list, fields, tuple}
+use Rattle.nt_types.specs.ShapeData.{choice, no_kinds, kind, no_parts, part, kinds_of, parts_of, kinds_list, parts_list}
 use Rattle.nt_types.specs.Words.{is_word_byte, is_name, leaf}
 use Rattle.nt_types.specs.Names.{names_differ}
-use Rattle.nt_types.specs.Reading.{OpenData, in_list, at_name, in_member, in_tuple, in_choice, ReadingData, place_on, ended_on, read, read_kind}
-use Rattle.nt_types.specs.Spelling.{spell, spell_more_kinds, spell_more_parts, is_width, IsType, AreKinds, AreMoreKinds, AreParts, AreMoreParts}
+use Rattle.nt_types.specs.Reading.{OpenData, in_list, at_name, in_member, in_tuple, in_choice, ReadingData, place_on, ended_on, read}
+use Rattle.nt_types.specs.Reading.{read_kind}
+use Rattle.nt_types.specs.Spelling.{spell, spell_more_kinds, spell_more_parts, is_width, IsType, AreKinds, AreMoreKinds, AreParts}
+use Rattle.nt_types.specs.Spelling.{AreMoreParts}
 
 -- what may follow a part
 data IsEnd : List ℕ → Type 0 where

@@ -1,5 +1,6 @@
 -- Whole texts: what they spell is read, and what is read they spell.
-use Rattle.std.proofs.Common.{ℕ, List, [], ◌∷◌, ◌++◌, ◌≡◌, ◌+◌, ◌<◌, ◌≤◌, ◌^◌, refl, sym, ◌∙◌, ap, subst, Bool, true, false, Result, Ok, Err, length, append-nil, nat_lt, inl, inr, if◌then◌else◌, arith}
+use Rattle.std.proofs.Common.{ℕ, List, [], ◌∷◌, ◌++◌, ◌≡◌, ◌+◌, ◌<◌, ◌≤◌, ◌^◌, refl, sym, ◌∙◌, ap, subst, Bool, true, false, Result, Ok}
+use Rattle.std.proofs.Common.{Err, length, append-nil, nat_lt, inl, inr, if◌then◌else◌, arith}
 use Rattle.std.proofs.lemmas.Bool.Decides.{nat_tests}
 use Rattle.std.specs.Prelude.{◌⊎◌}
 use Rattle.nt_lists.specs.Chaining.{◌>>=◌}

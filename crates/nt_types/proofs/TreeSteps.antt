@@ -44,7 +44,8 @@ one-beyond (k ∷ ks) zero t h = refl
 one-beyond (k ∷ ks) (suc zero) t h = absurd (omega (arith, h))
 one-beyond (k ∷ ks) (suc (suc n)) t h = one-beyond ks (suc n) t (omega (arith, h))
 
-pub one-nth : (ks : List ShapeData) (i : ℕ) (k : ShapeData) (t : TreeData) → i < length ks → k ≡ get_or ks i k → fits_one (kinds_of ks) (suc i) t ≡ fits k t
+pub one-nth : (ks : List ShapeData) (i : ℕ) (k : ShapeData) (t : TreeData) → i < length ks → k ≡ get_or ks i k
+    → fits_one (kinds_of ks) (suc i) t ≡ fits k t
 one-nth [] i k t lt is = absurd (omega arith)
 one-nth (j ∷ ks) zero k t lt is = ap (λ (u : ShapeData). fits u t) (sym is)
 one-nth (j ∷ ks) (suc i) k t lt is = one-nth ks i k t (omega arith) is
@@ -57,9 +58,11 @@ high_bits n bits = go (cases_lt n (2 ^ bits))
   where
     go : (n < 2 ^ bits) ⊎ (2 ^ bits ≤ n) → nat_eq (n / 2 ^ bits) 0 ≡ nat_lt n (2 ^ bits)
     go (inl h) = ap (λ q. nat_eq q 0) (div-eq_of_lt h) ∙ sym (lt-ltb n (2 ^ bits) h)
-    go (inr h) = let big : 1 ≤ n / 2 ^ bits = le-div 1 n (2 ^ bits) (pow_pos bits) (omega (arith, h)) in ne_eqb (n / 2 ^ bits) 0 (λ e. omega (arith, e, big)) ∙ sym (le-ltb n (2 ^ bits) h)
+    go (inr h) = let big : 1 ≤ n / 2 ^ bits = le-div 1 n (2 ^ bits) (pow_pos bits) (omega (arith, h)) in
+        ne_eqb (n / 2 ^ bits) 0 (λ e. omega (arith, e, big)) ∙ sym (le-ltb n (2 ^ bits) h)
 
-pub nth-shape : (ks : List Shape) (i : ℕ) (k : Shape) → i < length ks → k ≡ get_or ks i k → shape_view k ≡ get_or (map shape_view ks) i (shape_view k)
+pub nth-shape : (ks : List Shape) (i : ℕ) (k : Shape) → i < length ks → k ≡ get_or ks i k
+    → shape_view k ≡ get_or (map shape_view ks) i (shape_view k)
 nth-shape [] i k lt is = absurd (omega arith)
 nth-shape (j ∷ ks) zero k lt is = ap shape_view is
 nth-shape (j ∷ ks) (suc i) k lt is = nth-shape ks i k (omega arith) is
@@ -68,8 +71,11 @@ nth-shape (j ∷ ks) (suc i) k lt is = nth-shape ks i k (omega arith) is
 abbrev pub rest_fits : List Member → List Tree → Bool
 rest_fits ms ts = fit_parts (parts_of (map member_view ms)) (trees_of (map tree_view ts))
 
-pub member_step : (ms : List Member) (ts : List Tree) (i : ℕ) (m : Member) (t : Tree) (b : Bool) → i < length ms → i < length ts → m ≡ get_or ms i m → t ≡ get_or ts i t → b ≡ fits (shape_view m.of) (tree_view t) → rest_fits (drop i ms) (drop i ts) ≡ (b && rest_fits (drop (i + 1) ms) (drop (i + 1) ts))
+pub member_step : (ms : List Member) (ts : List Tree) (i : ℕ) (m : Member) (t : Tree) (b : Bool) → i < length ms → i < length ts
+    → m ≡ get_or ms i m → t ≡ get_or ts i t → b ≡ fits (shape_view m.of) (tree_view t) → rest_fits (drop i ms) (drop i ts)
+      ≡ (b && rest_fits (drop (i + 1) ms) (drop (i + 1) ts))
 member_step ms ts i m t b mlt tlt mis tis same =
     ap (λ (l : List Member). rest_fits l (drop i ts)) (drop_more ms i m mlt ∙ ap (λ (x : Member). x ∷ drop (i + 1) ms) (sym mis))
     ∙ ap (λ (l : List Tree). rest_fits (m ∷ drop (i + 1) ms) l) (drop_more ts i t tlt ∙ ap (λ (x : Tree). x ∷ drop (i + 1) ts) (sym tis))
-    ∙ ap (λ (c : Bool). c && rest_fits (drop (i + 1) ms) (drop (i + 1) ts)) (ap (λ (k : ShapeData). fits k (tree_view t)) (member_view-of m) ∙ sym same)
+    ∙ ap (λ (c : Bool). c && rest_fits (drop (i + 1) ms) (drop (i + 1) ts))
+        (ap (λ (k : ShapeData). fits k (tree_view t)) (member_view-of m) ∙ sym same)

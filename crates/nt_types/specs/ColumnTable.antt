@@ -2,7 +2,10 @@
 -- RNTuple Binary Format Specification 1.0.0.0, section Column Description.
 use Rattle.std.specs.Prelude.{ℕ}
 use Rattle.nt_types.specs.declared.column_type.ColumnType.{ColumnType}
-use Rattle.nt_types.specs.declared.column_type.ColumnType.TheVariants.{Bit, Byte, Char, Int8, UInt8, Int16, UInt16, Int32, UInt32, Int64, UInt64, Index32, Index64, Switch, SplitInt16, SplitUInt16, SplitInt32, SplitUInt32, SplitInt64, SplitUInt64, SplitIndex32, SplitIndex64}
+use Rattle.nt_types.specs.declared.column_type.ColumnType.TheVariants.{Bit, Byte, Char, Int8, UInt8, Int16, UInt16, Int32, UInt32, Int64}
+use Rattle.nt_types.specs.declared.column_type.ColumnType.TheVariants.{UInt64, Index32, Index64, Switch, SplitInt16, SplitUInt16}
+use Rattle.nt_types.specs.declared.column_type.ColumnType.TheVariants.{SplitInt32, SplitUInt32, SplitInt64, SplitUInt64, SplitIndex32}
+use Rattle.nt_types.specs.declared.column_type.ColumnType.TheVariants.{SplitIndex64}
 
 -- the code of a type, in a column description
 abbrev pub code_of : ColumnType → ℕ

@@ -1,5 +1,6 @@
 -- One line of a schema text: a name, blanks, a type, and spaces behind it.
-use Rattle.std.specs.Prelude.{ℕ, Bool, false, List, [], ◌∷◌, ◌-◌, ◌+◌, length, take, drop, max, reverse, Option, Some, None, Result, Ok, Err, nat_le, ◌==◌, ◌&&◌, ◌||◌, if◌then◌else◌}
+use Rattle.std.specs.Prelude.{ℕ, Bool, false, List, [], ◌∷◌, ◌-◌, ◌+◌, length, take, drop, max, reverse, Option, Some, None, Result, Ok}
+use Rattle.std.specs.Prelude.{Err, nat_le, ◌==◌, ◌&&◌, ◌||◌, if◌then◌else◌}
 use Rattle.std.specs.List.{prefix_len, list_all}
 use Rattle.nt_types.specs.ShapeData.{ShapeData, MemberData}
 use Rattle.nt_types.specs.Words.{is_word_byte, is_blank, is_space, is_name}

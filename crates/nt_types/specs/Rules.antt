@@ -6,7 +6,8 @@ use Rattle.nt_types.specs.Limits.{max_depth, max_fields}
 use Rattle.nt_types.specs.Spelling.{AreMoreParts, deepest_part}
 use Rattle.nt_types.specs.Schema.{parts_count}
 
--- there is a field, no name stands twice, names and types keep their rules at every depth, no type nests too deep, and there are not too many
+-- there is a field, no name stands twice, names and types keep their rules at every depth, no type nests too deep, and there are
+-- not too many
 pub record AreFields (ps : List MemberData) : Type 0 where
   pub some : 0 < length ps
   pub differ : names_differ ps ≡ true

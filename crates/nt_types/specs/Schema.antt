@@ -1,8 +1,10 @@
 -- A schema text: a field a line, with empty lines between.
-use Rattle.std.specs.Prelude.{ℕ, List, [], ◌∷◌, ◌++◌, ◌+◌, ◌^◌, length, Option, Some, None, Result, Ok, Err, nat_le, nat_lt, ◌==◌, if◌then◌else◌}
+use Rattle.std.specs.Prelude.{ℕ, List, [], ◌∷◌, ◌++◌, ◌+◌, ◌^◌, length, Option, Some, None, Result, Ok, Err, nat_le, nat_lt, ◌==◌}
+use Rattle.std.specs.Prelude.{if◌then◌else◌}
 use Rattle.std.specs.List.{slice_split}
 use Rattle.nt_lists.specs.Chaining.{◌>>=◌}
-use Rattle.nt_types.specs.ShapeData.{ShapeData, ShapesData, MembersData, MemberData, bool, char, byte, int, text, list, fields, tuple, choice, no_kinds, kind, no_parts, part}
+use Rattle.nt_types.specs.ShapeData.{ShapeData, ShapesData, MembersData, MemberData, bool, char, byte, int, text, list, fields, tuple}
+use Rattle.nt_types.specs.ShapeData.{choice, no_kinds, kind, no_parts, part}
 use Rattle.nt_types.specs.Names.{has_name}
 use Rattle.nt_types.specs.Limits.{max_text, max_fields}
 use Rattle.nt_types.specs.Lines.{member_of, is_blank_line, split_line, type_of}
@@ -102,4 +104,5 @@ first_line = record { line = 1; seen = []; count = 0; parts = [] }
 
 -- the fields that a text spells, or its first fault
 abbrev pub schema_text : List ℕ → Result (List MemberData) SchemaFault
-schema_text bytes = if nat_lt max_text (length bytes) then Err (at_line 0 TooLong) else take_lines first_line (slice_split (λ b. b == 10) bytes)
+schema_text bytes = if nat_lt max_text (length bytes) then Err (at_line 0 TooLong) else take_lines first_line
+    (slice_split (λ b. b == 10) bytes)

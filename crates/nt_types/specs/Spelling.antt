@@ -1,6 +1,7 @@
 -- How types are spelled.
 use Rattle.std.specs.Prelude.{ℕ, Bool, true, false, ◌≡◌, ◌≤◌, ◌+◌, List, [], ◌∷◌, ◌++◌, length, max, ◌==◌, ◌||◌, codes, if◌then◌else◌}
-use Rattle.nt_types.specs.ShapeData.{ShapeData, ShapesData, MembersData, bool, char, byte, int, text, list, fields, tuple, choice, no_kinds, kind, no_parts, part, kinds_list, parts_list}
+use Rattle.nt_types.specs.ShapeData.{ShapeData, ShapesData, MembersData, bool, char, byte, int, text, list, fields, tuple, choice, no_kinds}
+use Rattle.nt_types.specs.ShapeData.{kind, no_parts, part, kinds_list, parts_list}
 use Rattle.nt_types.specs.Words.{is_name}
 use Rattle.nt_types.specs.Names.{names_differ}
 use Rattle.nt_types.specs.Limits.{max_alternatives}

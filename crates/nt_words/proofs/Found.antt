@@ -37,7 +37,8 @@ own_by id some no-help no-version = record {
 }
 
 -- a word stands under the name of an operand
-pub operand_there : (name : List ℕ) (rules : List Rule) (c : Command) (m : ArgMatches) (k : ℕ) (id : List ℕ) → IsOwn id → IsCommandOf name rules c → slice_get rules k ≡ Some (operand id) → is_only_at k id rules ≡ true → IsParsedFrom c m → HasMatch m id
+pub operand_there : (name : List ℕ) (rules : List Rule) (c : Command) (m : ArgMatches) (k : ℕ) (id : List ℕ) → IsOwn id
+    → IsCommandOf name rules c → slice_get rules k ≡ Some (operand id) → is_only_at k id rules ≡ true → IsParsedFrom c m → HasMatch m id
 operand_there name rules c m k id own is at only parsed =
     let t = kept_at rules (args_of c) k (operand id) is.args at in
     let here : (slice_index_or (args_of c) k t.arg).id.now ≡ id = ap (λ (a : Arg). a.id.now) t.arg_is ∙ t.kept.id in
@@ -47,6 +48,7 @@ operand_there name rules c m k id own is at only parsed =
     (ap (λ (a : Arg). a.action) t.arg_is ∙ t.kept.action Set refl)
     (ap (λ (a : Arg). a.val_delim) t.arg_is ∙ t.kept.whole)
     (subst (λ (a : Arg). 1 ≤ least_values a) (sym t.arg_is) (t.kept.least refl (omega arith)))
-    (λ j e low same. only_at rules (args_of c) k id is.args only j e low (subst (λ (l : List ℕ). bytes_eq (slice_index_or (args_of c) j e).id.now l ≡ true) here same))
+    (λ j e low same. only_at rules (args_of c) k id is.args only j e low
+        (subst (λ (l : List ℕ). bytes_eq (slice_index_or (args_of c) j e).id.now l ≡ true) here same))
     (λ empty. own.some (sym here ∙ empty))
     (λ auto. own.not_auto (slice_index_or (args_of c) k t.arg) here auto))

@@ -15,7 +15,8 @@ abbrev limits : (r f c : ℕ) → r ≤ 2 ^ 30 → f ≤ 2 ^ 56 → Limits
 limits r f c a b = record { range = r; file = f; clusters = c; range_bound = a; file_bound = b }
 
 any_bounds : (r f c : ℕ) (a a' : r ≤ 2 ^ 30) (b b' : f ≤ 2 ^ 56) → limits r f c a b ≡ limits r f c a' b'
-any_bounds r f c a a' b b' = ap (λ (x : r ≤ 2 ^ 30). limits r f c x b) (le_prop a a') ∙ ap (λ (x : f ≤ 2 ^ 56). limits r f c a' x) (le_prop b b')
+any_bounds r f c a a' b b' = ap (λ (x : r ≤ 2 ^ 30). limits r f c x b) (le_prop a a')
+    ∙ ap (λ (x : f ≤ 2 ^ 56). limits r f c a' x) (le_prop b b')
 
 same_limits : (l m : Limits) → l.range ≡ m.range → l.file ≡ m.file → l.clusters ≡ m.clusters → l ≡ m
 same_limits l m range file clusters =
@@ -72,5 +73,6 @@ same_entries P words f c f' c' n n' one other holds =
     subst (λ (o : Option ℕ). P o c' n') from (subst (λ (o : Option ℕ). P f o n') count (subst (P f c) name holds))
 
 -- and of `schema`
-pub same_schema : (P : List ℕ → Type 0) (words : List (List ℕ)) (n n' : List ℕ) → IsSchemaCommand words n → IsSchemaCommand words n' → P n → P n'
+pub same_schema : (P : List ℕ → Type 0) (words : List (List ℕ)) (n n' : List ℕ) → IsSchemaCommand words n
+    → IsSchemaCommand words n' → P n → P n'
 same_schema P words n n' one other holds = subst P (some_is n n' (sym one.file_is ∙ other.file_is)) holds

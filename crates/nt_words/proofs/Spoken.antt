@@ -1,15 +1,18 @@
 -- What is said of words, from what clap found in them.
-use Rattle.std.proofs.Common.{◌≡◌, ◌⊎◌, ◌∙◌, inl, inr, ap, sym, subst, refl, ℕ, suc, ◌<◌, Bool, true, false, ◌&&◌, ◌||◌, List, [], ◌∷◌, length, arith, codes, Option, Some, None}
+use Rattle.std.proofs.Common.{◌≡◌, ◌⊎◌, ◌∙◌, inl, inr, ap, sym, subst, refl, ℕ, suc, ◌<◌, Bool, true, false, ◌&&◌, ◌||◌, List, [], ◌∷◌}
+use Rattle.std.proofs.Common.{length, arith, codes, Option, Some, None}
 use Rattle.std.specs.Prelude.{IfSome, String, get_or, ◌≤◌, option_map, unwrap_or}
 use Rattle.std.specs.Borrow.{Bor}
 use Rattle.std.specs.List.{list_any}
 use Rattle.std.specs.Str.{bytes_eq}
 use Rattle.std.specs.String.{string_bytes}
 use Rattle.std.specs.declared.alloc.Global.{Global}
-use Rattle.clap.specs.Words.{App, rows_of, found_of, first_of, all_of, first_value, matched_of, raw_values, matches_of, is_simple, is_simple_and_free}
+use Rattle.clap.specs.Words.{App, rows_of, found_of, first_of, all_of, first_value, matched_of, raw_values, matches_of, is_simple}
+use Rattle.clap.specs.Words.{is_simple_and_free}
 use Rattle.clap.specs.declared.parser.matches.ArgMatches.{ArgMatches}
 use Rattle.clap.proofs.WalkLemmas.{first_value-rows, raw_values-rows}
-use Rattle.nt_words.specs.CommandLine.{texts, app, operand, entries_rules, entries_app, schema_app, is_true_word, number_said, number_found, is_flag_found, Begins, IsTaken, word_found, words_found}
+use Rattle.nt_words.specs.CommandLine.{texts, app, operand, entries_rules, entries_app, schema_app, is_true_word, number_said, number_found}
+use Rattle.nt_words.specs.CommandLine.{is_flag_found, Begins, IsTaken, word_found, words_found}
 use Rattle.nt_words.specs.WriteWords.{write_rules, write_app, NamesOfWrite, AreApart, IsWrongWrite, is_among}
 use Rattle.nt_words.specs.Commands.{names_of, IsNoCommand, IsWrong}
 use Rattle.nt_words.specs.Arguments.{ReadsWords}
@@ -26,39 +29,47 @@ pub held : (P : ArgMatches → Type 0) (o : Option ArgMatches) (m : ArgMatches) 
 held P o m is has = subst (λ (x : Option ArgMatches). IfSome x P) is has
 
 -- the reading of matches that were found
-pub reads_of : (a a' : App) (words : List (List ℕ)) (o : Option ArgMatches) (m : ArgMatches) → a ≡ a' → o ≡ Some m → ReadsWords a words o → IsTaken a' words × (rows_of (found_of m) ≡ matches_of a' words)
+pub reads_of : (a a' : App) (words : List (List ℕ)) (o : Option ArgMatches) (m : ArgMatches) → a ≡ a' → o ≡ Some m
+    → ReadsWords a words o → IsTaken a' words × (rows_of (found_of m) ≡ matches_of a' words)
 reads_of a a' words o m same is reads =
     subst (λ (x : App). ReadsWords x words (Some m)) same (subst (ReadsWords a words) is reads)
 
 -- the reading of a refusal
-pub refused_of : (a a' : App) (words : List (List ℕ)) (o : Option ArgMatches) → a ≡ a' → o ≡ None → ReadsWords a words o → IsTaken a' words → ⊥
+pub refused_of : (a a' : App) (words : List (List ℕ)) (o : Option ArgMatches) → a ≡ a' → o ≡ None → ReadsWords a words o
+    → IsTaken a' words → ⊥
 refused_of a a' words o same is reads =
     subst (λ (x : App). ReadsWords x words None) same (subst (ReadsWords a words) is reads)
 
 -- the value under a name is what clap finds
-pub found_by : (a : App) (words : List (List ℕ)) (m : ArgMatches) (id value : List ℕ) → rows_of (found_of m) ≡ matches_of a words → first_value (found_of m) id ≡ Some value → word_found a words id ≡ Some value
+pub found_by : (a : App) (words : List (List ℕ)) (m : ArgMatches) (id value : List ℕ) → rows_of (found_of m) ≡ matches_of a words
+    → first_value (found_of m) id ≡ Some value → word_found a words id ≡ Some value
 found_by a words m id value rows is =
     sym (first_value-rows (found_of m) id ∙ ap (first_of id) rows) ∙ is
 
 -- and so are all values
-pub all_by : (a : App) (words : List (List ℕ)) (m : ArgMatches) (id : List ℕ) (values : List (List ℕ)) → rows_of (found_of m) ≡ matches_of a words
+pub all_by : (a : App) (words : List (List ℕ)) (m : ArgMatches) (id : List ℕ) (values : List (List ℕ))
+    → rows_of (found_of m) ≡ matches_of a words
     → values ≡ unwrap_or (option_map raw_values (matched_of (found_of m) id)) [] → values ≡ unwrap_or (words_found a words id) []
 all_by a words m id values rows is =
     is ∙ ap (λ (o : Option (List (List ℕ))). unwrap_or o []) (raw_values-rows (found_of m) id ∙ ap (all_of id) rows)
 
 -- and the number
-pub number_by : (a : App) (words : List (List ℕ)) (m : ArgMatches) (id : List ℕ) (n : Option ℕ) → rows_of (found_of m) ≡ matches_of a words → n ≡ option_map number_said (first_value (found_of m) id) → n ≡ number_found a words id
+pub number_by : (a : App) (words : List (List ℕ)) (m : ArgMatches) (id : List ℕ) (n : Option ℕ)
+    → rows_of (found_of m) ≡ matches_of a words → n ≡ option_map number_said (first_value (found_of m) id) → n ≡ number_found a words id
 number_by a words m id n rows is =
     is ∙ ap (λ (o : Option (List ℕ)). option_map number_said o) (first_value-rows (found_of m) id ∙ ap (first_of id) rows)
 
 -- and the flag
-pub flag_by : (a : App) (words : List (List ℕ)) (m : ArgMatches) (id : List ℕ) (b : Bool) → rows_of (found_of m) ≡ matches_of a words → b ≡ is_true_word (first_value (found_of m) id) → b ≡ is_flag_found a words id
+pub flag_by : (a : App) (words : List (List ℕ)) (m : ArgMatches) (id : List ℕ) (b : Bool)
+    → rows_of (found_of m) ≡ matches_of a words → b ≡ is_true_word (first_value (found_of m) id) → b ≡ is_flag_found a words id
 flag_by a words m id b rows is = is ∙ ap is_true_word (first_value-rows (found_of m) id ∙ ap (first_of id) rows)
 
 -- a number in its range, or another there
-pub in_range_or : (low high : ℕ) (o : Option ℕ) (other r : ℕ) → r ≡ unwrap_or o other → IfSome o (λ n. (low ≤ n) × (n ≤ high)) → low ≤ other → other ≤ high → (low ≤ r) × (r ≤ high)
+pub in_range_or : (low high : ℕ) (o : Option ℕ) (other r : ℕ) → r ≡ unwrap_or o other → IfSome o (λ n. (low ≤ n) × (n ≤ high))
+    → low ≤ other → other ≤ high → (low ≤ r) × (r ≤ high)
 in_range_or low high None other r is within from to = (subst (λ (n : ℕ). low ≤ n) (sym is) from, subst (λ (n : ℕ). n ≤ high) (sym is) to)
-in_range_or low high (Some n) other r is within from to = (subst (λ (k : ℕ). low ≤ k) (sym is) within.0, subst (λ (k : ℕ). k ≤ high) (sym is) within.1)
+in_range_or low high (Some n) other r is within from to =
+    (subst (λ (k : ℕ). low ≤ k) (sym is) within.0, subst (λ (k : ℕ). k ≤ high) (sym is) within.1)
 
 -- words that begin with `write` and are wrong
 pub wrong_write : (words : List (List ℕ)) → Begins words (codes "write") → IsWrongWrite words → IsWrong words
@@ -85,7 +96,8 @@ wrong_schema words begins why = record {
 }
 
 -- words that begin with none of them
-pub wrong_first : (words : List (List ℕ)) → (Begins words (codes "write") → ⊥) → (Begins words (codes "entries") → ⊥) → (Begins words (codes "schema") → ⊥) → IsWrong words
+pub wrong_first : (words : List (List ℕ)) → (Begins words (codes "write") → ⊥) → (Begins words (codes "entries") → ⊥)
+    → (Begins words (codes "schema") → ⊥) → IsWrong words
 wrong_first words no-write no-entries no-schema = record {
   write = λ begins. absurd (no-write begins);
   entries = λ begins taken. no-entries begins;
@@ -93,9 +105,11 @@ wrong_first words no-write no-entries no-schema = record {
 }
 
 -- the first of some words
-pub begins_by : (words : List (String Global)) (first : String Global) (name : List ℕ) → 1 ≤ length words → first ≡ get_or words 0 first → string_bytes first ≡ name → Begins (texts words) name
+pub begins_by : (words : List (String Global)) (first : String Global) (name : List ℕ) → 1 ≤ length words
+    → first ≡ get_or words 0 first → string_bytes first ≡ name → Begins (texts words) name
 begins_by [] first name some is same = absurd (omega arith)
-begins_by (x ∷ words) first name some is same = ap (λ (s : String Global). Some (string_bytes s)) (sym is) ∙ ap (λ (t : List ℕ). Some t) same
+begins_by (x ∷ words) first name some is same = ap (λ (s : String Global). Some (string_bytes s)) (sym is)
+    ∙ ap (λ (t : List ℕ). Some t) same
 
 same_some : (o : Option (List ℕ)) (x y : List ℕ) → o ≡ Some x → o ≡ Some y → x ≡ y
 same_some o x y one two = ap (λ (p : Option (List ℕ)). unwrap_or p x) (sym one ∙ two)
@@ -110,14 +124,17 @@ wrong_is_none words wrong = record {
             let out-is = same_some _ _ _ clash.names.out_is is.names.out_is in
             let schema-is = same_some _ _ _ clash.names.schema_is is.names.schema_is in
             let inputs-are = clash.names.inputs_are ∙ sym is.names.inputs_are in
-            clash.clash (subst (λ (o : List ℕ). AreApart o clash.schema clash.inputs) (sym out-is) (subst (λ (s : List ℕ). AreApart out s clash.inputs) (sym schema-is) (subst (λ (l : List (List ℕ)). AreApart out schema l) (sym inputs-are) is.apart)))
+            clash.clash (subst (λ (o : List ℕ). AreApart o clash.schema clash.inputs) (sym out-is)
+                (subst (λ (s : List ℕ). AreApart out s clash.inputs) (sym schema-is)
+                  (subst (λ (l : List (List ℕ)). AreApart out schema l) (sym inputs-are) is.apart)))
       ];
   no_entries = λ from count file is. wrong.entries is.begins is.taken;
   no_schema = λ file is. wrong.schema is.begins is.taken;
 }
 
 -- a name among names, as they were found
-pub among_found : (names : List (Bor (List ℕ))) (name : List ℕ) → list_any (λ other. bytes_eq other.now name) names ≡ is_among name (names_of names)
+pub among_found : (names : List (Bor (List ℕ))) (name : List ℕ) → list_any (λ other. bytes_eq other.now name) names
+    ≡ is_among name (names_of names)
 among_found [] name = refl
 among_found (x ∷ names) name = ap (λ (b : Bool). bytes_eq x.now name || b) (among_found names name)
 
@@ -126,7 +143,8 @@ names_length [] = refl
 names_length (x ∷ names) = ap suc (names_length names)
 
 -- names that may be those of `write`
-pub apart_by : (out schema : List ℕ) (inputs : List (Bor (List ℕ))) → 1 ≤ length inputs → length inputs ≤ 64 → bytes_eq schema out ≡ false → is_among out (names_of inputs) ≡ false → AreApart out schema (names_of inputs)
+pub apart_by : (out schema : List ℕ) (inputs : List (Bor (List ℕ))) → 1 ≤ length inputs → length inputs ≤ 64
+    → bytes_eq schema out ≡ false → is_among out (names_of inputs) ≡ false → AreApart out schema (names_of inputs)
 apart_by out schema inputs some few differ none = record {
   some = subst (λ (n : ℕ). 1 ≤ n) (sym (names_length inputs)) some;
   few = subst (λ (n : ℕ). n ≤ 64) (sym (names_length inputs)) few;
@@ -134,7 +152,8 @@ apart_by out schema inputs some few differ none = record {
 }
 
 -- too few or too many
-pub number_wrong : (out schema : List ℕ) (inputs : List (Bor (List ℕ))) → (length inputs ≡ 0) ⊎ (64 < length inputs) → AreApart out schema (names_of inputs) → ⊥
+pub number_wrong : (out schema : List ℕ) (inputs : List (Bor (List ℕ))) → (length inputs ≡ 0) ⊎ (64 < length inputs)
+    → AreApart out schema (names_of inputs) → ⊥
 number_wrong out schema inputs (inl none) is =
     let some = is.some in
     let same = names_length inputs in
@@ -165,7 +184,8 @@ unfolding write_app
 write_is = refl
 
 -- the names that clap found
-pub names_by : (words : List (List ℕ)) (m : ArgMatches) (out schema : List ℕ) (inputs : List (List ℕ)) → rows_of (found_of m) ≡ matches_of write_app words
+pub names_by : (words : List (List ℕ)) (m : ArgMatches) (out schema : List ℕ) (inputs : List (List ℕ))
+    → rows_of (found_of m) ≡ matches_of write_app words
     → first_value (found_of m) (codes "OUT") ≡ Some out → first_value (found_of m) (codes "SCHEMA") ≡ Some schema
     → inputs ≡ unwrap_or (option_map raw_values (matched_of (found_of m) (codes "IN"))) [] → NamesOfWrite words out schema inputs
 names_by words m out schema inputs rows out-is schema-is inputs-are = record {

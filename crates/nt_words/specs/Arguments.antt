@@ -1,7 +1,9 @@
 -- Arguments and commands, as clap keeps them, and what it finds in words.
-use Rattle.std.specs.Prelude.{◌≡◌, ⊤, ℕ, ◌≤◌, ◌^◌, Bool, false, true, ◌&&◌, not, zero, suc, List, [], ◌∷◌, codes, is_some, option_map, IfSome, Option, Some, None}
+use Rattle.std.specs.Prelude.{◌≡◌, ⊤, ℕ, ◌≤◌, ◌^◌, Bool, false, true, ◌&&◌, not, zero, suc, List, [], ◌∷◌, codes, is_some, option_map}
+use Rattle.std.specs.Prelude.{IfSome, Option, Some, None}
 use Rattle.std.specs.Str.{bytes_eq}
-use Rattle.clap.specs.Words.{App, Rule, app_of, rule_of, rows_of, found_of, first_value, one_text, args_of, matches_of, IsPlain, IsPlainArg, IsUnsignedIn}
+use Rattle.clap.specs.Words.{App, Rule, app_of, rule_of, rows_of, found_of, first_value, one_text, args_of, matches_of, IsPlain, IsPlainArg}
+use Rattle.clap.specs.Words.{IsUnsignedIn}
 use Rattle.clap.specs.Facts.{least_values, unwrap_or_range}
 use Rattle.clap.specs.declared.builder.ArgAction.{ArgAction}
 use Rattle.clap.specs.declared.builder.ArgAction.TheVariants.{Set}

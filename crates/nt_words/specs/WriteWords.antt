@@ -5,7 +5,8 @@ use Rattle.std.specs.Str.{bytes_eq}
 use Rattle.clap.specs.Words.{App, Rule}
 use Rattle.nt_book.specs.declared.limits.Limits.{Limits}
 use Rattle.nt_book.specs.declared.params.Params.{Params}
-use Rattle.nt_words.specs.CommandLine.{operand, operands, number_option, flag, app, Begins, IsTaken, word_found, words_found, number_found, is_flag_found}
+use Rattle.nt_words.specs.CommandLine.{operand, operands, number_option, flag, app, Begins, IsTaken, word_found, words_found, number_found}
+use Rattle.nt_words.specs.CommandLine.{is_flag_found}
 
 -- `[--cluster N] [--page P] [--group G] [--plain] [--max-range B] [--max-file B]`
 abbrev pub options : List Rule

@@ -1,5 +1,6 @@
 -- What a seat has once its context ran.
-use Rattle.std.proofs.Common.{◌≡◌, ◌⊎◌, ℕ, ◌<◌, ◌≤◌, Bool, List, [], Option, Some, None, Result, Ok, Err, refl, sym, ap, ◌∙◌, subst, append-nil, arith}
+use Rattle.std.proofs.Common.{◌≡◌, ◌⊎◌, ℕ, ◌<◌, ◌≤◌, Bool, List, [], Option, Some, None, Result, Ok, Err, refl, sym, ap, ◌∙◌, subst}
+use Rattle.std.proofs.Common.{append-nil, arith}
 use Rattle.nt_lists.specs.Chunks.{chunks}
 use Rattle.nt_types.specs.ShapeData.{MemberData, MembersData, parts_of}
 use Rattle.nt_types.specs.TreeData.{TreesData}

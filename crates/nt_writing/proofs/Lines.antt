@@ -1,5 +1,6 @@
 -- How a context goes on from line to line, and how it ends.
-use Rattle.std.proofs.Common.{◌≡◌, inl, inr, ℕ, ◌<◌, ◌≤◌, true, List, [], ◌∷◌, ◌++◌, length, Option, Some, None, Result, Ok, Err, refl, sym, ap, ◌∙◌, subst, append-nil, arith}
+use Rattle.std.proofs.Common.{◌≡◌, inl, inr, ℕ, ◌<◌, ◌≤◌, true, List, [], ◌∷◌, ◌++◌, length, Option, Some, None, Result, Ok, Err, refl, sym}
+use Rattle.std.proofs.Common.{ap, ◌∙◌, subst, append-nil, arith}
 use Rattle.std.specs.Io.KnownBytes.{IsAtEnd}
 use Rattle.nt_types.specs.ShapeData.{MembersData, MemberData}
 use Rattle.nt_types.specs.TreeData.{TreesData}
@@ -101,7 +102,8 @@ module _ {D P : Type 0} (state : D → DiskState) (F : MembersData) (text : Opti
   -- a context that wrote no more of the chunks of these entries ends
   pub ends_halted : (old new : DiskContext D P) (was is : LinesState) (error : ContextError) (entries : List TreesData)
       (bad : Option BadLine) → IsSameContext start old
-      → GivesJust F text entries bad → Halts state (chunks old.cluster entries) old new error → EndsEarly state F text start was is new error
+      → GivesJust F text entries bad → Halts state (chunks old.cluster entries) old new error → EndsEarly state F text
+          start was is new error
   ends_halted old new was is error entries bad same read halts =
       let here : Halts state (chunks new.cluster entries) old new error =
       subst (λ (n : ℕ). Halts state (chunks n entries) old new error) (sym halts.same.cluster) halts in

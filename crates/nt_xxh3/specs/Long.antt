@@ -1,6 +1,7 @@
 -- XXH3 description, inputs above 240 bytes: eight accumulators take stripes of 64 bytes, and are
 -- scrambled after each block of 16 stripes.
-use Rattle.std.specs.Prelude.{◌≡◌, ℕ, zero, suc, ◌+◌, ◌*◌, ◌-◌, ◌/◌, ◌%◌, ◌^◌, List, [], ◌∷◌, ◌++◌, length, take, drop, slice_index, bit_xor, nat_eq, if◌then◌else◌}
+use Rattle.std.specs.Prelude.{◌≡◌, ℕ, zero, suc, ◌+◌, ◌*◌, ◌-◌, ◌/◌, ◌%◌, ◌^◌, List, [], ◌∷◌, ◌++◌, length, take, drop, slice_index}
+use Rattle.std.specs.Prelude.{bit_xor, nat_eq, if◌then◌else◌}
 use Rattle.nt_xxh3.specs.declared.constants.TheConstants.{SECRET}
 use Rattle.nt_xxh3.specs.Primes.{P32_1, P32_2, P32_3, P64_1, P64_2, P64_3, P64_4, P64_5}
 use Rattle.nt_lists.specs.Places.{word_at}
@@ -21,7 +22,8 @@ halves key = key % 2 ^ 32 * (key / 2 ^ 32)
 -- accumulator i after a stripe, with the secret from a place: it gains its keyed word's halves multiplied, and its neighbour's word
 unfoldable pub lane_after : List ℕ → List ℕ → ℕ → ℕ → ℕ
 lane_after lanes stripe secret i =
-    (slice_index lanes i + halves (bit_xor (word_at stripe (8 * i)) (word_at SECRET (secret + 8 * i))) + word_at stripe (8 * bit_xor i 1)) % 2 ^ 64
+    (slice_index lanes i + halves (bit_xor (word_at stripe (8 * i)) (word_at SECRET (secret + 8 * i)))
+        + word_at stripe (8 * bit_xor i 1)) % 2 ^ 64
 
 -- the accumulators after a stripe
 unfoldable pub after_stripe : List ℕ → List ℕ → ℕ → List ℕ
@@ -59,7 +61,8 @@ TakesStripes old taken bytes new total =
 -- two neighbouring accumulators, folded with the secret from byte 11 on
 abbrev pub folded : List ℕ → ℕ → ℕ
 folded lanes i =
-    fold (bit_xor (slice_index lanes (2 * i)) (word_at SECRET (11 + 16 * i))) (bit_xor (slice_index lanes (2 * i + 1)) (word_at SECRET (19 + 16 * i)))
+    fold (bit_xor (slice_index lanes (2 * i)) (word_at SECRET (11 + 16 * i)))
+        (bit_xor (slice_index lanes (2 * i + 1)) (word_at SECRET (19 + 16 * i)))
 
 -- the checksum of an input of so many bytes, from its accumulators
 unfoldable pub merged : ℕ → List ℕ → ℕ

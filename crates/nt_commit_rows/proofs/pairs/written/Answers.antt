@@ -3,4 +3,5 @@ use Rattle.nt_turn.proofs.Joining.{all_joined}
 use Rattle.nt_commit_rows.proofs.pairs.written.Goals as goal
 
 pub finish-disk-requires-clause-joined : goal.finish-disk-requires-clause-joined
-finish-disk-requires-clause-joined g c = all_joined c.in-Ok-new.first c.write_two-refusals.new.first (ap (λ p. p.splits) c.in-Ok-new.ensures.ok.2) c.write_two-refusals.ensures.since
+finish-disk-requires-clause-joined g c = all_joined c.in-Ok-new.first c.write_two-refusals.new.first
+    (ap (λ p. p.splits) c.in-Ok-new.ensures.ok.2) c.write_two-refusals.ensures.since

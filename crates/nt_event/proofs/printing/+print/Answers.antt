@@ -1,4 +1,5 @@
-use Rattle.std.proofs.Common.{rules, ◌≡◌, ◌∷◌, [], ◌++◌, List, ℕ, length, take, false, decimal, sym, ap, ◌∙◌, refl, subst, append-nil, append_assoc}
+use Rattle.std.proofs.Common.{rules, ◌≡◌, ◌∷◌, [], ◌++◌, List, ℕ, length, take, false, decimal, sym, ap, ◌∙◌, refl, subst, append-nil}
+use Rattle.std.proofs.Common.{append_assoc}
 use Rattle.serde_json.specs.Written.{compact_text, items_text}
 use Rattle.nt_event.specs.Json.{data_of, datas_of}
 use Rattle.nt_types.specs.TreeData.{TreeData}

@@ -1,4 +1,5 @@
-use Rattle.std.proofs.Common.{rules, refl, ◌≡◌, ◌<◌, ◌∷◌, [], ◌++◌, ◌+◌, ◌-◌, ◌^◌, ◌==◌, List, length, map, take, get_or, not, sym, ap, ◌∙◌, arith, subst, length-append, IfSome, decimal}
+use Rattle.std.proofs.Common.{rules, refl, ◌≡◌, ◌<◌, ◌∷◌, [], ◌++◌, ◌+◌, ◌-◌, ◌^◌, ◌==◌, List, length, map, take, get_or, not, sym, ap, ◌∙◌}
+use Rattle.std.proofs.Common.{arith, subst, length-append, IfSome, decimal}
 use Rattle.std.proofs.lemmas.List.{map-append, length-map, take_all}
 use Rattle.std.specs.Vec.{vec_len}
 use Rattle.nt_types.specs.Views.{shape_view, member_view, members_view}
@@ -10,8 +11,10 @@ use Rattle.nt_types.specs.declared.shape.Shape.{the_lemmas as shape_lemmas}
 use Rattle.nt_types.specs.declared.tree.Tree.{Tree, the_lemmas as tree_lemmas}
 use Rattle.nt_types.specs.declared.tree.Tree as trees
 use Rattle.nt_event.specs.Standing.{StandsFrom, MayStand, ItemsStand, ReadsValue, AllGood, EachGood, jsons_of, kinds_in}
-use Rattle.nt_event.proofs.Texts.{OpenStands, are_some, open-next, open-end, comma-some, all-next, each-next, reads-list, reads-record, reads-tuple, reads-pick, reads-null, may-past}
-use Rattle.nt_event.proofs.ViewLemmas.{some_views, next-shapes, nth-shape, view-Items, view-Parts, view-List, view-Rec, view-Tuple, next-members, length-kinds_in}
+use Rattle.nt_event.proofs.Texts.{OpenStands, are_some, open-next, open-end, comma-some, all-next, each-next, reads-list, reads-record}
+use Rattle.nt_event.proofs.Texts.{reads-tuple, reads-pick, reads-null, may-past}
+use Rattle.nt_event.proofs.ViewLemmas.{some_views, next-shapes, nth-shape, view-Items, view-Parts, view-List, view-Rec, view-Tuple}
+use Rattle.nt_event.proofs.ViewLemmas.{next-members, length-kinds_in}
 use Rattle.nt_types.proofs.TreeViews.{view-Pick}
 use Rattle.nt_event.proofs.scan.+value.Goals as goal
 

@@ -1,4 +1,5 @@
-use Rattle.std.proofs.Common.{rules, ◌≡◌, ◌<◌, ◌∷◌, [], ◌+◌, ◌-◌, suc, Some, None, option_map, length, map, drop, get_or, sym, ap, ◌∙◌, arith, subst}
+use Rattle.std.proofs.Common.{rules, ◌≡◌, ◌<◌, ◌∷◌, [], ◌+◌, ◌-◌, suc, Some, None, option_map, length, map, drop, get_or, sym, ap, ◌∙◌}
+use Rattle.std.proofs.Common.{arith, subst}
 use Rattle.std.proofs.lemmas.List.{map-append, length-map, drop_all}
 use Rattle.serde_json.specs.View.{view, items_view}
 use Rattle.nt_types.specs.TreeData.{TreeData, TreesData, pick}
@@ -15,7 +16,8 @@ use Rattle.nt_event.proofs.ViewLemmas.{view-Items, view-Parts, view-List, view-R
 use Rattle.nt_types.proofs.TreeViews.{view-Pick}
 use Rattle.nt_types.specs.declared.shape.Shape.{the_lemmas as shape_lemmas}
 use Rattle.nt_types.specs.declared.shape.Member.{Member}
-use Rattle.nt_event.proofs.Steps.{picked_is, picked_none, list-tree, record-tree, tuple-tree, all-step, each-step, then-all, lengths-differ, members-differ, member-step, no-pick, one-zero, one-beyond, one-nth}
+use Rattle.nt_event.proofs.Steps.{picked_is, picked_none, list-tree, record-tree, tuple-tree, all-step, each-step, then-all, lengths-differ}
+use Rattle.nt_event.proofs.Steps.{members-differ, member-step, no-pick, one-zero, one-beyond, one-nth}
 use Rattle.nt_event.proofs.values.+tree.Goals as goal
 
 pub each-returns-then-shapes-values : goal.each-returns-then-shapes-values

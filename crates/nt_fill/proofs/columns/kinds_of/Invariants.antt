@@ -7,4 +7,5 @@ use Rattle.nt_fill.proofs.columns.kinds_of.Given as goal
 -- with the rows that are left the codes are whole
 abbrev pub invariant-loop-k : goal.invariant-loop-k
 invariant-loop-k l =
-    map code_of l.kinds.items ++ map (λ (r : ColumnRow). r.code) (drop l.k l.schema.columns) ≡ map (λ (r : ColumnRow). r.code) l.schema.columns
+    map code_of l.kinds.items ++ map (λ (r : ColumnRow). r.code) (drop l.k l.schema.columns)
+        ≡ map (λ (r : ColumnRow). r.code) l.schema.columns

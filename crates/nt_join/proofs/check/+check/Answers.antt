@@ -1,4 +1,5 @@
-use Rattle.std.proofs.Common.{◌≡◌, ◌≤◌, ◌+◌, ◌*◌, ◌-◌, ◌∙◌, ◌==◌, nat_lt, if◌then◌else◌, Some, None, suc, ◌∷◌, length, map, drop, option_map, subst, sym, ap, arith}
+use Rattle.std.proofs.Common.{◌≡◌, ◌≤◌, ◌+◌, ◌*◌, ◌-◌, ◌∙◌, ◌==◌, nat_lt, if◌then◌else◌, Some, None, suc, ◌∷◌, length, map, drop}
+use Rattle.std.proofs.Common.{option_map, subst, sym, ap, arith}
 use Rattle.std.proofs.lemmas.List.{length-map, drop_all}
 use Rattle.nt_plans.specs.Plan.{plans_of}
 use Rattle.nt_plans.specs.PlanViews.{plan_view, plans_view}

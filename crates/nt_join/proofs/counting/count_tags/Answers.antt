@@ -2,7 +2,8 @@ use Rattle.std.proofs.lemmas.Bool.{iff_false}
 use Rattle.std.proofs.Common.{suc, take, ap, ◌≡◌, ◌<◌, ◌+◌, ◌∙◌, length, subst, sym, arith}
 use Rattle.nt_trees.specs.Columns.{tag_at, count_tag}
 use Rattle.nt_join.specs.Sweeps.{CountsOne, IsNext, CountsBetween, IsFirstOfTags}
-use Rattle.nt_join.proofs.Counts.{HasCounts-next, CountsBetween-next, is_met-not_next, few-next, IsFirstSoFar, IsFirstSoFar-next, IsFirstSoFar-not_next, IsFirstOfTags-so_far, count_tag-whole}
+use Rattle.nt_join.proofs.Counts.{HasCounts-next, CountsBetween-next, is_met-not_next, few-next, IsFirstSoFar, IsFirstSoFar-next}
+use Rattle.nt_join.proofs.Counts.{IsFirstSoFar-not_next, IsFirstOfTags-so_far, count_tag-whole}
 use Rattle.nt_join.proofs.counting.count_tags.Goals.{then-not-count_one, else-not-count_one}
 use Rattle.nt_join.proofs.counting.count_tags.Goals as goal
 

@@ -1,4 +1,5 @@
-use Rattle.std.proofs.Common.{rules, ◌≡◌, ◌<◌, ◌≤◌, ◌-◌, ◌+◌, ℕ, [], ◌∷◌, ◌++◌, map, length, drop, get_or, sym, ap, ◌∙◌, subst, arith, Box, Global}
+use Rattle.std.proofs.Common.{rules, ◌≡◌, ◌<◌, ◌≤◌, ◌-◌, ◌+◌, ℕ, [], ◌∷◌, ◌++◌, map, length, drop, get_or, sym, ap, ◌∙◌, subst, arith, Box}
+use Rattle.std.proofs.Common.{Global}
 use Rattle.std.proofs.lemmas.List.{map-append, drop_more, drop_all, length-map}
 use Rattle.nt_types.specs.TreeData.{pick, tree, trees_of}
 use Rattle.nt_types.specs.TreeViews.{tree_view}

@@ -6,5 +6,6 @@ abbrev pub invariant-loop-done : goal.invariant-loop-done
 invariant-loop-done l = record {
   count : l.count ≡ length l.columns;
   len : vec_len l.firsts ≡ length l.columns + 1;
-  each : (j : ℕ) → length l.columns ≤ j + l.done → j ≤ length l.columns → slice_index_or l.firsts.items j 0 ≡ least_first (drop j l.columns);
+  each : (j : ℕ) → length l.columns ≤ j + l.done → j ≤ length l.columns → slice_index_or l.firsts.items j 0
+      ≡ least_first (drop j l.columns);
 }

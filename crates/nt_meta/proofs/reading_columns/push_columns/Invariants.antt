@@ -6,5 +6,6 @@ use Rattle.nt_meta.proofs.reading_columns.push_columns.Given as goal
 abbrev pub invariant-loop-id : goal.invariant-loop-id
 invariant-loop-id l = record {
   here : l.id ≡ length l.lists.items;
-  read : column_lists_on l.cluster l.columns l.elements (l.count - l.id) l.lists.items l.cur ≡ column_lists_on l.cluster l.columns l.elements l.count [] l.fn.cur;
+  read : column_lists_on l.cluster l.columns l.elements (l.count - l.id) l.lists.items l.cur
+      ≡ column_lists_on l.cluster l.columns l.elements l.count [] l.fn.cur;
 }

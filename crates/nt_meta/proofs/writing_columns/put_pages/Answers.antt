@@ -13,5 +13,6 @@ loop-page-preserved c =
     let low : PageMeta → Type 0 = λ p. c.args.payload + p.place < 2 ^ 64 in
     record {
       low = all-next low c.args.pages.now c.loop-page.page-index no_page c.loop-page-test.true c.loop-page.invariant.low;
-      written = made-next (page_item c.args.payload) page_item_text c.args.pages.now c.loop-page.page-index _ c.loop-page.out c.put_page.new.out _ c.loop-page-test.true c.in_ok-put_page.ensures c.loop-page.invariant.written;
+      written = made-next (page_item c.args.payload) page_item_text c.args.pages.now c.loop-page.page-index _ c.loop-page.out
+          c.put_page.new.out _ c.loop-page-test.true c.in_ok-put_page.ensures c.loop-page.invariant.written;
     }

@@ -7,4 +7,5 @@ use Rattle.nt_meta.proofs.writing_list.put_clusters.Given as goal
 -- what is left, written behind what is there, gives what all gives
 abbrev pub invariant-loop-cluster : goal.invariant-loop-cluster
 invariant-loop-cluster l =
-    bytes_added (cluster_list_texts (listed_clusters l.book l.cluster (l.to - l.cluster))) l.out ≡ bytes_added (cluster_list_texts (listed_clusters l.book l.from (l.to - l.from))) l.initial.out
+    bytes_added (cluster_list_texts (listed_clusters l.book l.cluster (l.to - l.cluster))) l.out
+        ≡ bytes_added (cluster_list_texts (listed_clusters l.book l.from (l.to - l.from))) l.initial.out

@@ -15,7 +15,8 @@ returns-in_err-at g c =
       ok = tt;
       front = λ w is. (c.loop-at.at, c.loop-at.invariant.within, failed.err ∙ c.loop-at.invariant.world w is);
       asked = c.print.ensures.asked ∙ c.loop-at.invariant.asked;
-      cause = record { later = omega (arith, c.loop-at.invariant.later, failed.cause.later); failed = omega (arith, c.loop-at.invariant.later, failed.cause.failed) };
+      cause = record { later = omega (arith, c.loop-at.invariant.later, failed.cause.later); failed =
+          omega (arith, c.loop-at.invariant.later, failed.cause.failed) };
       other = c.print.ensures.other ∙ c.loop-at.invariant.other;
       opened = c.print.ensures.opened ∙ c.loop-at.invariant.opened;
     })
@@ -23,7 +24,8 @@ returns-in_err-at g c =
 pub loop-at-preserved : goal.loop-at-preserved
 loop-at-preserved g c = record {
   within = omega (arith, length-drop c.loop-at.at c.args.bytes.now, c.in_ok-at.ensures.count.1);
-  world = print_more c.args.stream _ _ _ c.args.bytes.now _ c.loop-at.at _ (grind (arith, common_steps)) c.loop-at.invariant.world c.in_ok-at.ensures.ok;
+  world = print_more c.args.stream _ _ _ c.args.bytes.now _ c.loop-at.at _ (grind (arith, common_steps)) c.loop-at.invariant.world
+      c.in_ok-at.ensures.ok;
   asked = c.print.ensures.asked ∙ c.loop-at.invariant.asked;
   later = omega (arith, c.loop-at.invariant.later, c.print.ensures.cause.later);
   other = c.print.ensures.other ∙ c.loop-at.invariant.other;

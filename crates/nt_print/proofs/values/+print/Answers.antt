@@ -1,4 +1,5 @@
-use Rattle.std.proofs.Common.{rules, ◌≡◌, ◌<◌, ◌≤◌, ◌-◌, ◌+◌, ℕ, ◌∷◌, ◌++◌, map, length, drop, get_or, sym, ap, ◌∙◌, subst, arith, Box, Global}
+use Rattle.std.proofs.Common.{rules, ◌≡◌, ◌<◌, ◌≤◌, ◌-◌, ◌+◌, ℕ, ◌∷◌, ◌++◌, map, length, drop, get_or, sym, ap, ◌∙◌, subst, arith, Box}
+use Rattle.std.proofs.Common.{Global}
 use Rattle.std.proofs.lemmas.List.{drop_more, drop_all, length-map}
 use Rattle.serde_json.specs.Written.{compact_text}
 use Rattle.nt_types.specs.TreeData.{TreeData, pick}
@@ -16,7 +17,8 @@ use Rattle.nt_trees.specs.TreeAt.{tree_at, each_at}
 use Rattle.nt_join.specs.Readable.{Readable, ReadableTo, ReadableEach}
 use Rattle.nt_join.proofs.Plans.{plans_view-list}
 use Rattle.nt_join.proofs.Reach.{of_tag-at, readable-is, text-within, items-readable, tag-among, picked-readable, tree_at-picked}
-use Rattle.nt_print.proofs.Arrays.{pick-put, IsBegun-none, IsBegun-next, IsBegun-end, IsBegun-fails, kept-kept, trees_from-first, trees_from-none}
+use Rattle.nt_print.proofs.Arrays.{pick-put, IsBegun-none, IsBegun-next, IsBegun-end, IsBegun-fails, kept-kept, trees_from-first}
+use Rattle.nt_print.proofs.Arrays.{trees_from-none}
 use Rattle.nt_print.proofs.values.+print.Goals as goal
 
 pub put_range-loop-i-init : goal.put_range-loop-i-init

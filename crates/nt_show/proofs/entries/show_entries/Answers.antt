@@ -4,7 +4,8 @@ use Rattle.nt_outside.specs.declared.stream.Stream.TheVariants.{ToOut}
 use Rattle.nt_outside.specs.World.{Turns, PrintsFront, prints}
 use Rattle.nt_tfile.specs.declared.failure.ReadFailure.{ReadFailure}
 use Rattle.nt_show.specs.Shown.{entries_shown, ShowsFile}
-use Rattle.nt_show.proofs.Showing.{entries_unattached, entries_refused, told_from, listed_unprinted, listed_whole, listed_faulty, failed_of, fault_again, no_fault, defect_is_no_fault, rose_later}
+use Rattle.nt_show.proofs.Showing.{entries_unattached, entries_refused, told_from, listed_unprinted, listed_whole, listed_faulty, failed_of}
+use Rattle.nt_show.proofs.Showing.{fault_again, no_fault, defect_is_no_fault, rose_later}
 use Rattle.nt_show.proofs.entries.show_entries.Goals as goal
 
 pub returns-in_err-reader : goal.returns-in_err-reader

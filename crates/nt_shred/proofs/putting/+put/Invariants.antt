@@ -8,4 +8,5 @@ abbrev pub invariant-put_each-loop-item : goal.invariant-put_each-loop-item
 invariant-put_each-loop-item l = LeftAll (plan_view l.of) (trees_in l.items) (trees_in (drop l.item-index l.items)) l.fn.out l.out
 
 abbrev pub invariant-put_trees-loop-i : goal.invariant-put_trees-loop-i
-invariant-put_trees-loop-i l = LeftEach (plans_in l.plans) (trees_in l.trees) (plans_in (drop l.i l.plans)) (trees_in (drop l.i l.trees)) l.fn.out l.out
+invariant-put_trees-loop-i l = LeftEach (plans_in l.plans) (trees_in l.trees) (plans_in (drop l.i l.plans))
+    (trees_in (drop l.i l.trees)) l.fn.out l.out

@@ -15,7 +15,8 @@ invariant_of-self c =
       record {
         one = omega (arith, room.one);
         for_row = omega (arith, room.for_row);
-        for_events = omega (arith, room.for_events, c.push_reserved.ensures.len, c.push_reserved.ensures.capacity, c.requires, ap (λ (b : BookData). b.spare) c.self.view_is);
+        for_events = omega (arith, room.for_events, c.push_reserved.ensures.len, c.push_reserved.ensures.capacity, c.requires,
+            ap (λ (b : BookData). b.spare) c.self.view_is);
         for_offsets = λ some. room.for_offsets (omega (arith, some));
       },
     )

@@ -20,7 +20,8 @@ returns c =
     let begins = ap (λ (b : BookData). b.begin) c.self.view_is in
     let same = ap (λ (b : BookData). b.firsts) c.self.view_is in
     record {
-      legal = subst (λ (n : ℕ). IsLegal n c.args.self.now.history) begins (subst (λ (l : List (Entry ClusterMeta)). IsLegal c.self.inside.begin l) told h.legal);
+      legal = subst (λ (n : ℕ). IsLegal n c.args.self.now.history) begins
+          (subst (λ (l : List (Entry ClusterMeta)). IsLegal c.self.inside.begin l) told h.legal);
       clusters = λ k inside.
           let less : k < length c.self.inside.rows.items = omega (arith, inside, length-book _ _ _ h c.args.self.now told) in
           let row = each-at (IsRowOf (length c.self.inside.firsts.items)) c.self.inside.rows.items k no_row counted.each less in

@@ -13,4 +13,5 @@ returns c =
     let h = c.self.invariant.0 in
     let told = ap (λ (b : BookData). b.history) c.self.view_is in
     let less : c.args.cluster < length c.self.inside.rows.items = omega (arith, c.requires, length-book _ _ _ h c.args.self.now told) in
-    ap (λ row. row.start) c.index.ensures ∙ ap (λ cluster. cluster.start) (sym (cluster_at-book _ _ _ h c.args.self.now told c.args.cluster c.index.result.now less))
+    ap (λ row. row.start) c.index.ensures ∙ ap (λ cluster. cluster.start)
+        (sym (cluster_at-book _ _ _ h c.args.self.now told c.args.cluster c.index.result.now less))

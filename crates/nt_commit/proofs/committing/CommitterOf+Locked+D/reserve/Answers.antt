@@ -11,5 +11,6 @@ returns-clause-commits g c =
       taken = c.take-locked.result;
       given = c.commit-answer.new.self;
       commits = done;
-      hold = hold g.D.Disk.state _ _ _ _ c.requires.pass c.take-locked.ensures.pass c.take-locked.ensures.took _ _ c.commit-answer.ensures.step done.grows ours _ c.give.ensures;
+      hold = hold g.D.Disk.state _ _ _ _ c.requires.pass c.take-locked.ensures.pass c.take-locked.ensures.took _ _
+          c.commit-answer.ensures.step done.grows ours _ c.give.ensures;
     }

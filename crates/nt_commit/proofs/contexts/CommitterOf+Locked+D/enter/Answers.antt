@@ -9,7 +9,8 @@ returns-in-Ok-clause-ok g c =
     record {
       held = held;
       opens = opens;
-      first = c.split-pass.ensures.first ∙ ap (λ (n : ℕ). record held { splits = n + 1 }) (ap (λ p. p.splits) (kept_by g.D.Disk.state _ _ _ opens).0);
+      first = c.split-pass.ensures.first ∙ ap (λ (n : ℕ). record held { splits = n + 1 })
+          (ap (λ p. p.splits) (kept_by g.D.Disk.state _ _ _ opens).0);
       pass_is = c.split-pass.ensures.pass;
       unused = c.in-Ok.ensures.new;
     }

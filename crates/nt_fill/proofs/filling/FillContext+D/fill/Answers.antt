@@ -35,7 +35,8 @@ invariant_of-self-2 g c =
       none_out = c.self.invariant.none_out;
       count = c.self.invariant.count;
       some = c.self.invariant.some;
-      gives = gives_of t (columns_of c.shred.new.out) (n + 1) c.in_ok-shred.ensures.set c.in_range.ensures (subst (λ m. AllSound (open_plans t) (cols_of c.shred.new.out) m) more last.sound);
+      gives = gives_of t (columns_of c.shred.new.out) (n + 1) c.in_ok-shred.ensures.set c.in_range.ensures
+          (subst (λ m. AllSound (open_plans t) (cols_of c.shred.new.out) m) more last.sound);
       few = omega (arith, room, count);
       cluster = c.self.invariant.cluster;
       page = c.self.invariant.page;
@@ -52,6 +53,9 @@ returns-clause-ok g c =
     let sound = subst (λ m. AllSound (open_plans t) (cols_of old) m) count c.self.invariant.gives.sound in
     let fits = subst (λ s. fits_entry s.table ts ≡ true) (sym c.self.view_is) c.requires.fits in
     let set = c.in_ok-shred.ensures.set in
-    let bytes = all_bytes (set_frame new) (cols_of new) (small_of new c.in_range.ensures) (open_plans t) ts (cols_of old) (all-typed-take new t.columns set.described set.stored (open_plans t) (c.columns_have_types.ensures t))
-    (fit-open t.fields t.columns 0 (open_shapes t.fields t.columns 0 t.fields) ts ∙ fits) (λ j. ([], ap (λ cols. cols j) c.in_ok-shred.ensures.added ∙ sym (append-nil _))) in
-    rw (← c.self.view_is) (record { entries = entries_more t ts old new n c.in_ok-shred.ensures.added sound (c.in_ok-shred.ensures.last n sound) bytes; now = refl })
+    let bytes = all_bytes (set_frame new) (cols_of new) (small_of new c.in_range.ensures) (open_plans t) ts (cols_of old)
+            (all-typed-take new t.columns set.described set.stored (open_plans t) (c.columns_have_types.ensures t))
+    (fit-open t.fields t.columns 0 (open_shapes t.fields t.columns 0 t.fields) ts ∙ fits)
+        (λ j. ([], ap (λ cols. cols j) c.in_ok-shred.ensures.added ∙ sym (append-nil _))) in
+    rw (← c.self.view_is) (record { entries = entries_more t ts old new n c.in_ok-shred.ensures.added sound
+        (c.in_ok-shred.ensures.last n sound) bytes; now = refl })

@@ -20,8 +20,10 @@ write_image-requires-clause-image g c =
     let n = c.self.inside.store.entries in
     let page = c.self.inside.store.page in
     let number = c.self.inside.pass.number in
-    let is = c.in_ok-image.ensures.meta ∙ (ap (λ (i : ℕ). cluster_meta page i n columns) c.number.ensures ∙ ap (λ (m : ℕ). cluster_meta page number m columns) (sym (entries_count t columns n))) in
-    image_for t columns (entries_given t columns n) c.self.invariant.gives page number c.self.inside.committer.now.birth.columns (c.columns_have_types.ensures t) c.self.invariant.some c.self.invariant.count c.self.invariant.page
+    let is = c.in_ok-image.ensures.meta ∙ (ap (λ (i : ℕ). cluster_meta page i n columns) c.number.ensures
+            ∙ ap (λ (m : ℕ). cluster_meta page number m columns) (sym (entries_count t columns n))) in
+    image_for t columns (entries_given t columns n) c.self.invariant.gives page number c.self.inside.committer.now.birth.columns
+        (c.columns_have_types.ensures t) c.self.invariant.some c.self.invariant.count c.self.invariant.page
     c.in_ok-image.image c.in_ok-image.ensures.bytes is
 
 pub returns-in_err-write_image-clause-nothing : goal.returns-in_err-write_image-clause-nothing
@@ -77,7 +79,8 @@ invariant_of-self-2 g c =
       none_out = c.in_ok-write_image.ensures.pass.1;
       count = c.self.invariant.count;
       some = c.self.invariant.some;
-      gives = subst (λ (cs : List Column). Gives t cs []) (sym c.clear.ensures) (emptied_gives t (columns_of c.self.inside.store.columns) c.self.invariant.gives.set.described);
+      gives = subst (λ (cs : List Column). Gives t cs []) (sym c.clear.ensures)
+          (emptied_gives t (columns_of c.self.inside.store.columns) c.self.invariant.gives.set.described);
       few = omega arith;
       cluster = c.self.invariant.cluster;
       page = c.self.invariant.page;
@@ -101,7 +104,8 @@ returns-clause-ok g c = λ some.
       len = w.len ∙ sym (ap (λ (m : ClusterMeta). m.len) w.meta);
       blob = record {
         bytes = blob_key (length c.in_ok-image.image.bytes - key_room) w.written.start ++ drop key_room c.in_ok-image.image.bytes;
-        blob = blob_of t columns (entries_given t columns n) c.self.invariant.gives page c.number.result w.written.start c.in_ok-image.image w.written.meta c.in_ok-image.ensures.bytes is w.meta;
+        blob = blob_of t columns (entries_given t columns n) c.self.invariant.gives page c.number.result w.written.start
+            c.in_ok-image.image w.written.meta c.in_ok-image.ensures.bytes is w.meta;
         told_are = w.bytes;
       };
       gains = w.gains;

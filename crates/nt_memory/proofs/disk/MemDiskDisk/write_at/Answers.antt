@@ -6,7 +6,8 @@ use Rattle.nt_memory.proofs.disk.MemDiskDisk.write_at.Goals as goal
 
 pub invariant_of-self : goal.invariant_of-self
 invariant_of-self c = record {
-  reads = reads-failed_write _ _ c.args.self.now.image.items c.args.bytes.now c.args.at c.args.self.now.reads c.requires.inside c.push.ensures.steps;
+  reads = reads-failed_write _ _ c.args.self.now.image.items c.args.bytes.now c.args.at c.args.self.now.reads c.requires.inside
+      c.push.ensures.steps;
   inside = c.args.self.now.inside;
   rows_owed = omega (arith, c.args.self.now.rows_owed, c.push.ensures.owed);
   bytes_owed = omega (arith, c.args.self.now.bytes_owed, c.push.ensures.owed_bytes);
@@ -24,7 +25,8 @@ returns-then-count_call-clause-writes c = record {
 
 pub invariant_of-self-2 : goal.invariant_of-self-2
 invariant_of-self-2 c = record {
-  reads = reads-write _ _ c.args.self.now.image.items _ c.args.bytes.now c.args.at c.args.self.now.reads c.push-2.ensures.steps c.put_over.ensures.items;
+  reads = reads-write _ _ c.args.self.now.image.items _ c.args.bytes.now c.args.at c.args.self.now.reads c.push-2.ensures.steps
+      c.put_over.ensures.items;
   inside = within_more _ _ _ c.args.self.now.inside (omega (arith, c.put_over.ensures.len));
   rows_owed = omega (arith, c.args.self.now.rows_owed, c.push-2.ensures.owed);
   bytes_owed = omega (arith, c.args.self.now.bytes_owed, c.push-2.ensures.owed_bytes);
