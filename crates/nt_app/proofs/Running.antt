@@ -27,9 +27,18 @@ run_usage : (old mid new : HostState) (answer : Status) → (answer ≡ status.U
 run_usage old mid new answer is same reports = record {
   answer_is = is;
   told = λ w told-is.
-      let said = reports.told w (ap (λ (h : HostState). h.world) same ∙ told-is) in
-      (_, said.1, (refl, refl), refl, (said.0, refl, either_after old mid new said.0 (message_of answer)
-          (ap (λ (h : HostState). h.err_faults) same) said.2));
+      let said = reports.told w (ap (λ (h : HostState). h.world) same ∙ told-is) in (
+        _,
+        said.1,
+        (refl, refl),
+        refl,
+        (
+          said.0,
+          refl,
+          either_after old mid new said.0 (message_of answer)
+              (ap (λ (h : HostState). h.err_faults) same) said.2,
+        ),
+      );
   asked = reports.asked ∙ ap (λ (h : HostState). h.asked) same;
   faults = reports.faults ∙ ap (λ (h : HostState). h.faults) same;
   opened = reports.opened ∙ ap (λ (h : HostState). h.opened) same;
@@ -54,7 +63,7 @@ pub runs_after : (words' words : List (List ℕ)) (one old mid new : HostState) 
     → Reports (message_of answer) mid new → Runs words old new answer
 runs_after words' words one old mid new answer same stays obeys reports =
     runs words old mid new answer (subst (λ (h : HostState). Obeys words h mid answer) stays
-        (subst (λ (l : List (List ℕ)). Obeys l one mid answer) same obeys)) reports
+    (subst (λ (l : List (List ℕ)). Obeys l one mid answer) same obeys)) reports
 
 -- want of memory for the words
 pub no_memory : (words : List (List ℕ)) (state : HostState) → Obeys words state state status.Memory
@@ -126,7 +135,7 @@ listed_words words from count name old new answer said shows = record {
   write = λ o s is p other. absurd (not_entries words other.begins said.begins);
   entries = λ from' count' name' other.
       same_entries (λ f c n. ShowsNamed (entries_shown (range_said f c)) n old new answer) words from count from' count' name name'
-          said other shows;
+      said other shows;
   schema = λ name' other. absurd (entries_not_schema words said.begins other.begins);
   usage = λ none. absurd (none.no_entries from count name said);
   answers = reading_answers words answer shows.answer_is (inl (from, count, name, said));

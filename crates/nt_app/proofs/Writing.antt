@@ -71,8 +71,15 @@ whole_after o s is p w v err told = record {
 left_after : (o : List ℕ) (w v : World) (err : List ℕ) → IsLeftByFailure o w v → IsLeftByFailure o w (record v { err = err })
 left_after o w v err (inl kept) = inl kept
 left_after o w v err (inr (made, inl unfinished)) = inr (made, inl unfinished)
-left_after o w v err (inr (made, inr never)) = inr (made, inr (record { at = never.at; len = never.len; there =
-    never.there; log = never.log }))
+left_after o w v err (inr (made, inr never)) = inr (
+  made,
+  inr (record {
+    at = never.at;
+    len = never.len;
+    there = never.there;
+    log = never.log;
+  }),
+)
 
 told_after : (o s : List ℕ) (is : List (List ℕ)) (p : Params) (w v : World) (err : List ℕ) (stored : Result Unit StoreError)
     → StoreTold o s is p w v stored → StoreTold o s is p w (record v { err = err }) stored
@@ -143,7 +150,7 @@ same_fault : (line line' : ℕ) (kind kind' : SchemaKind) (found : Option (List 
 same_fault line line' kind kind' None one other = absurd one
 same_fault line line' kind kind' (Some text) one other =
     ap (λ (f : SchemaFault). status.Text None f.line (fault.Schema f.kind))
-        (fault_is (at_line line kind) (at_line line' kind') (sym one ∙ other))
+    (fault_is (at_line line kind) (at_line line' kind') (sym one ∙ other))
 
 sound_at : (fields : List MemberData) (texts : List (List ℕ)) (i : ℕ) (text : List ℕ) → AreSound fields texts
     → slice_get texts i ≡ Some text
@@ -165,8 +172,11 @@ apart : (i j : ℕ) → (i ≡ j) ⊎ ((i < j) ⊎ (j < i))
 apart zero zero = inl refl
 apart zero (suc j) = inr (inl (omega arith))
 apart (suc i) zero = inr (inr (omega arith))
-apart (suc i) (suc j) = elim (apart i j) [ inl same ↦ inl (ap suc same) | inr either ↦ elim either
-    [ inl less ↦ inr (inl (omega (arith, less))) | inr more ↦ inr (inr (omega (arith, more))) ] ]
+apart (suc i) (suc j) = elim (apart i j) [
+  | inl same ↦ inl (ap suc same)
+  | inr either ↦ elim either
+      [ inl less ↦ inr (inl (omega (arith, less))) | inr more ↦ inr (inr (omega (arith, more))) ]
+]
 
 bad_is : (x y : BadLine) → Some x ≡ Some y → x ≡ y
 bad_is x y e = cc
@@ -188,7 +198,7 @@ same_at fields texts i j line line' kind kind' same one other =
     let both = bad_is (record { line = line; kind = kind }) (record { line = line'; kind = kind' })
     (sym one.bad ∙ ap (λ (l : List ℕ). (events_of fields l).bad) text ∙ other.bad) in
     ap (λ (b : BadLine). status.Text (Some i) b.line (fault.Line b.kind)) both
-        ∙ ap (λ (n : ℕ). status.Text (Some n) line' (fault.Line kind')) same
+    ∙ ap (λ (n : ℕ). status.Text (Some n) line' (fault.Line kind')) same
 
 same_bad : (fields : List MemberData) (texts : List (List ℕ)) (i j line line' : ℕ) (kind kind' : TextKind)
     → IsFirstBad fields texts i line kind
@@ -209,12 +219,12 @@ not_over s is p w reached limit fields texts over are fits =
     fits over.table
     (same_texts w s is over.fields fields over.texts texts (λ f ts. Rows f p.plain over.table) over.are are over.rows) reached limit
     (same_texts w s is over.fields fields over.texts texts (λ f ts. IsOver over.table p (all_chunks p.cluster f ts) reached limit)
-        over.are are over.over)
+    over.are are over.over)
 
 completes : (o s : List ℕ) (is : List (List ℕ)) (p : Params) (w v : World) (stored : Result Unit StoreError)
     (fields : List MemberData) (texts : List (List ℕ))
     → StoreTold o s is p w v stored → (IsErrOf stored store.Outside → ⊥) → AreTexts w s is fields texts → AreSound fields texts
-        → FitsLimits fields texts p
+    → FitsLimits fields texts p
     → (status_of_store stored ≡ status.Done) ⊎ (status_of_store stored ≡ status.Memory)
 completes o s is p w v (Ok done) fields texts told served are sound fits = inl refl
 completes o s is p w v (Err store.Outside) fields texts told served are sound fits = absurd (served refl)
@@ -229,7 +239,7 @@ completes o s is p w v (Err (store.Limit reached limit)) fields texts told serve
 
 refuses : (o s : List ℕ) (is : List (List ℕ)) (p : Params) (w v : World) (stored : Result Unit StoreError) (line : ℕ) (kind : SchemaKind)
     → StoreTold o s is p w v stored → (IsErrOf stored store.Outside → ⊥) → IsThereWith (λ text. schema_text text
-        ≡ Err (at_line line kind)) (file w s)
+    ≡ Err (at_line line kind)) (file w s)
     → (status_of_store stored ≡ status.Text None line (fault.Schema kind)) ⊎ (status_of_store stored ≡ status.Memory)
 refuses o s is p w v (Ok done) line kind told served other = absurd (not_both told.fields line kind (file w s) told.are.schema_is other)
 refuses o s is p w v (Err store.Outside) line kind told served other = absurd (served refl)
@@ -256,7 +266,7 @@ faults o s is p w v (Err (store.Schema line' kind')) fields texts input line kin
 faults o s is p w v (Err (store.Line input' line' kind')) fields texts input line kind told served are first fits =
     inl (same_bad fields texts input' input line' line kind' kind
     (same_texts w s is told.0.fields fields told.0.texts texts (λ f ts. IsFirstBad f ts input' line' kind') told.0.are are
-        told.0.first) first)
+    told.0.first) first)
 faults o s is p w v (Err (store.Limit reached limit)) fields texts input line kind told served are first fits =
     absurd (not_over s is p w reached limit fields texts told.0 are fits)
 
@@ -303,5 +313,5 @@ run_write o s is p old mid new answer writes reports =
       served = λ w at serves.
           let done = stores.told w at in
           subst (AnswersTexts s is p w) (sym writes.answer_is) (answers_texts o s is p w done.0 writes.stored done.4
-              (λ outside. serves (subst (λ (n : ℕ). Rose old.faults n) (sym reports.faults) (stores.cause.failed outside))));
+          (λ outside. serves (subst (λ (n : ℕ). Rose old.faults n) (sym reports.faults) (stores.cause.failed outside))));
     }

@@ -50,11 +50,11 @@ sum-with_state f blind rows n s = sym (sum-map f (row_clusters 0 (with_state row
 pub sum-take-with_state : (f : Cluster ClusterMeta → ℕ)
     → ((n : ℕ) (row : ClusterRow) (s : RangeState) → f (row_cluster n (record row { state = s })) ≡ f (row_cluster n row))
     → (rows : List ClusterRow) (n : ℕ) (s : RangeState) (k : ℕ) → sum_by f (take k (row_clusters 0 (with_state rows n s)))
-        ≡ sum_by f (take k (row_clusters 0 rows))
+    ≡ sum_by f (take k (row_clusters 0 rows))
 sum-take-with_state f blind rows n s k =
     sym (sum-map f (take k (row_clusters 0 (with_state rows n s))))
     ∙ (ap sum (map-take f k (row_clusters 0 (with_state rows n s))
-        ∙ (ap (λ (l : List ℕ). take k l) (map-with_state f blind 0 rows n s) ∙ sym (map-take f k (row_clusters 0 rows))))
+    ∙ (ap (λ (l : List ℕ). take k l) (map-with_state f blind 0 rows n s) ∙ sym (map-take f k (row_clusters 0 rows))))
     ∙ sum-map f (take k (row_clusters 0 rows)))
 
 each-with_state : (columns : ℕ) (rows : List ClusterRow) (n : ℕ) (s : RangeState) → AllByRecursion (IsRowOf columns) rows
@@ -108,13 +108,13 @@ AreOffsets-with_state firsts rows offsets n s h = record {
   each = λ k column inside less.
       h.each k column (omega (arith, length-with_state rows n s)) less
       ∙ ap (λ (m : ℕ). slice_index firsts column + m) (sym
-          (sum-take-with_state (λ (c : Cluster ClusterMeta). listed_elements c.meta column) (λ m row t. refl) rows n s k));
+      (sum-take-with_state (λ (c : Cluster ClusterMeta). listed_elements c.meta column) (λ m row t. refl) rows n s k));
 }
 
 pub IsCounted-with_state : (begin end entries out : ℕ) (limits : Limits) (firsts : List ℕ) (rows : List ClusterRow) (n : ℕ)
     (s : RangeState) → n < length rows
     → (slice_index_or rows n no_row).state ≡ state.Out → is_out_state s ≡ false → IsCounted begin end entries out limits firsts rows
-        → IsCounted begin end entries (out - 1) limits firsts (with_state rows n s)
+    → IsCounted begin end entries (out - 1) limits firsts (with_state rows n s)
 IsCounted-with_state begin end entries out limits firsts rows n s less is_row_out back h = record {
   ends = h.ends ∙ ap (λ (m : ℕ). begin + m) (sym (sum-with_state (λ (c : Cluster ClusterMeta). c.len) (λ m row t. refl) rows n s));
   most = h.most;
@@ -143,7 +143,7 @@ limit_error-none limits end count len is = at (nat_lt limits.range len) (nat_lt 
   where
     at : (a b d : Bool) → nat_lt limits.range len ≡ a → nat_lt limits.file (end + len) ≡ b → count == limits.clusters ≡ d
         → (if a then Some (RangeTooLarge len limits.range) else if b then Some (FileTooLarge (end + len) limits.file) else if d
-            then Some TooManyClusters else None) ≡ None
+        then Some TooManyClusters else None) ≡ None
         → (len ≤ limits.range) × (end + len ≤ limits.file) × (count ≡ limits.clusters → ⊥)
     at true b d p q r e = cc
     at false true d p q r e = cc
@@ -155,10 +155,10 @@ pub limit_error-fits : (limits : Limits) (end count len : ℕ) (d : Bool) → le
     → limit_error limits end count len ≡ (if d then Some TooManyClusters else None)
 limit_error-fits limits end count len d low within full =
     ap (λ (a : Bool). if a then Some (RangeTooLarge len limits.range) else if nat_lt limits.file (end + len) then Some
-        (FileTooLarge (end + len) limits.file) else if count == limits.clusters then Some TooManyClusters else None)
+    (FileTooLarge (end + len) limits.file) else if count == limits.clusters then Some TooManyClusters else None)
     (le-ltb limits.range len low)
     ∙ (ap (λ (b : Bool). if b then Some (FileTooLarge (end + len) limits.file) else if count == limits.clusters then Some
-        TooManyClusters else None) (le-ltb limits.file (end + len) within)
+    TooManyClusters else None) (le-ltb limits.file (end + len) within)
     ∙ ap (λ (b : Bool). if b then Some TooManyClusters else None) full)
 
 pub fewer : (a b : ℕ) → a ≤ b → (a ≡ b → ⊥) → a < b
@@ -174,8 +174,13 @@ element_count-le : (meta : ClusterMeta) (pages : List PageMeta) → AllByRecursi
 element_count-le meta [] h = omega arith
 element_count-le meta (p ∷ ps) h =
     let bits = h.0.bits in
-    omega (arith, bits, element_count-le meta ps h.1, sum_by-cons (λ (q : PageMeta). q.count) p ps,
-        sum_by-cons (λ (q : PageMeta). q.size + 8) p ps)
+    omega (
+      arith,
+      bits,
+      element_count-le meta ps h.1,
+      sum_by-cons (λ (q : PageMeta). q.count) p ps,
+      sum_by-cons (λ (q : PageMeta). q.size + 8) p ps,
+    )
 
 listed-le : (meta : ClusterMeta) (lists : List (List PageMeta)) (column : ℕ)
     → AllByRecursion (λ pages. AllByRecursion (IsPageOf meta) pages) lists
@@ -234,14 +239,14 @@ module _ (rows : List ClusterRow) (row : ClusterRow) where
   count_out-append out =
       let one : out_one row.state ≡ 1 = ap out_one out in
       let more : count_out (rows ++ row ∷ []) ≡ count_out rows + out_one row.state =
-              sum_by_push (λ (r : ClusterRow). out_one r.state) rows row in
+      sum_by_push (λ (r : ClusterRow). out_one r.state) rows row in
       omega arith
 
   pub IsCounted-append : (begin end entries out : ℕ) (limits : Limits) (firsts : List ℕ) → row.state ≡ state.Out
       → row.first ≡ entries → IsRowOf (length firsts) row
       → end + row.meta.len ≤ limits.file → (length rows ≡ limits.clusters → ⊥)
       → IsCounted begin end entries out limits firsts rows → IsCounted begin (end + row.meta.len) (entries + row.meta.entries)
-          (out + 1) limits firsts (rows ++ row ∷ [])
+      (out + 1) limits firsts (rows ++ row ∷ [])
   IsCounted-append begin end entries out limits firsts is_row_out first is_row within not_all h = record {
     ends = omega (arith, h.ends, sum-clusters-append (λ (c : Cluster ClusterMeta). c.len));
     most = omega (arith, limits.file_bound);
@@ -258,39 +263,42 @@ module _ (rows : List ClusterRow) (row : ClusterRow) where
   AreOffsets-at : (firsts offsets more : List ℕ) → AreOffsets firsts rows offsets → length more ≡ length offsets + length firsts
       → ((k : ℕ) → k < length offsets → slice_index more k ≡ slice_index offsets k)
       → ((column : ℕ) → column < length firsts → slice_index more (length offsets + column)
-          ≡ slice_index offsets (length offsets - length firsts + column) + listed_elements row.meta column)
+      ≡ slice_index offsets (length offsets - length firsts + column) + listed_elements row.meta column)
       → (k column : ℕ) → (k < length rows + 1) ⊎ (length rows + 1 ≤ k) → k ≤ length rows + 1 → column < length firsts
       → slice_index more (k * length firsts + column) ≡ slice_index firsts column
-          + elements_before (take k (row_clusters 0 (rows ++ row ∷ []))) column
+      + elements_before (take k (row_clusters 0 (rows ++ row ∷ []))) column
   AreOffsets-at firsts offsets more h long kept behind k column (inl low) inside less =
       let place = table_place k (length rows) column (length firsts) (omega arith) less in
       kept (k * length firsts + column) (omega (arith, place, h.long))
       ∙ (h.each k column (omega arith) less ∙ ap (λ (l : List (Cluster ClusterMeta)). slice_index firsts column
-          + elements_before l column) (sym (take-clusters-append k (omega arith))))
+      + elements_before l column) (sym (take-clusters-append k (omega arith))))
   AreOffsets-at firsts offsets more h long kept behind k column (inr high) inside less =
       let last : k ≡ length rows + 1 = omega arith in
       let place : k * length firsts + column ≡ length offsets + column = omega (arith, h.long, ap (λ (n : ℕ). n * length firsts) last) in
       let before : length offsets - length firsts + column ≡ length rows * length firsts + column = omega (arith, h.long) in
       let all : take (length rows) (row_clusters 0 rows) ≡ row_clusters 0 rows =
-              take_all (length rows) (row_clusters 0 rows) (omega (arith, length-row_clusters 0 rows)) in
+      take_all (length rows) (row_clusters 0 rows) (omega (arith, length-row_clusters 0 rows)) in
       let whole : take k (row_clusters 0 (rows ++ row ∷ [])) ≡ row_clusters 0 (rows ++ row ∷ []) =
-      take_all k (row_clusters 0 (rows ++ row ∷ [])) (omega (arith, length-row_clusters 0 (rows ++ row ∷ []),
-          length-append rows (row ∷ []))) in
+      take_all k (row_clusters 0 (rows ++ row ∷ [])) (omega (
+        arith,
+        length-row_clusters 0 (rows ++ row ∷ []),
+        length-append rows (row ∷ []),
+      )) in
       let was : slice_index offsets (length offsets - length firsts + column) ≡ slice_index firsts column
-              + elements_before (row_clusters 0 rows) column =
+      + elements_before (row_clusters 0 rows) column =
       ap (λ (n : ℕ). slice_index offsets n) before
       ∙ (h.each (length rows) column (omega arith) less ∙ ap (λ (l : List (Cluster ClusterMeta)). slice_index firsts column
-          + elements_before l column) all) in
+      + elements_before l column) all) in
       let now : elements_before (take k (row_clusters 0 (rows ++ row ∷ []))) column ≡ elements_before (row_clusters 0 rows) column
-              + listed_elements row.meta column =
+      + listed_elements row.meta column =
       ap (λ (l : List (Cluster ClusterMeta)). elements_before l column) whole
-          ∙ sum-clusters-append (λ (c : Cluster ClusterMeta). listed_elements c.meta column) in
+      ∙ sum-clusters-append (λ (c : Cluster ClusterMeta). listed_elements c.meta column) in
       ap (λ (n : ℕ). slice_index more n) place ∙ (behind column less ∙ omega (arith, was, now))
 
   pub AreOffsets-append : (firsts offsets more : List ℕ) → AreOffsets firsts rows offsets → length more ≡ length offsets + length firsts
       → ((k : ℕ) → k < length offsets → slice_index more k ≡ slice_index offsets k)
       → ((column : ℕ) → column < length firsts → slice_index more (length offsets + column)
-          ≡ slice_index offsets (length offsets - length firsts + column) + listed_elements row.meta column)
+      ≡ slice_index offsets (length offsets - length firsts + column) + listed_elements row.meta column)
       → AreOffsets firsts (rows ++ row ∷ []) more
   AreOffsets-append firsts offsets more h long kept behind = record {
     long = omega (arith, long, h.long, ap (λ (n : ℕ). (n + 1) * length firsts) (length-append rows (row ∷ [])));
@@ -304,7 +312,7 @@ module _ (rows : List ClusterRow) (row : ClusterRow) where
       → length row.meta.pages ≡ length firsts → AreOffsets firsts rows offsets → length more ≡ size + length pages
       → ((k : ℕ) → k < size → slice_index more k ≡ slice_index offsets k)
       → ((column : ℕ) → column < length pages → slice_index more (size + column)
-          ≡ slice_index offsets (size - length pages + column) + element_count (slice_index_or pages column []))
+      ≡ slice_index offsets (size - length pages + column) + element_count (slice_index_or pages column []))
       → AreOffsets firsts (rows ++ row ∷ []) more
   AreOffsets-pushed firsts offsets more pages size is sizes lists h long kept behind =
       let as_many : length pages ≡ length firsts = ap length is ∙ lists in
@@ -315,7 +323,7 @@ module _ (rows : List ClusterRow) (row : ClusterRow) where
       ∙ (behind column (omega arith)
       ∙ (ap (λ (n : ℕ). slice_index offsets n + element_count (slice_index_or pages column [])) place
       ∙ ap (λ (ps : List (List PageMeta)). slice_index offsets (length offsets - length firsts + column)
-          + element_count (slice_index_or ps column [])) is)))
+      + element_count (slice_index_or ps column [])) is)))
 
 -- the next offsets are numbers of 64 bits
 low-at : (firsts : List ℕ) (column : ℕ) → AllByRecursion (λ first. first ≤ 2 ^ 60) firsts → slice_index firsts column ≤ 2 ^ 60
@@ -326,18 +334,25 @@ low-at (first ∷ firsts) (suc column) h = low-at firsts column h.1
 pub offsets-fit : (begin end entries out : ℕ) (limits : Limits) (firsts offsets : List ℕ) (rows : List ClusterRow) (meta : ClusterMeta)
     → IsCounted begin end entries out limits firsts rows → AreOffsets firsts rows offsets → IsPaged meta → end + meta.len ≤ limits.file
     → (column : ℕ) → column < length firsts → slice_index offsets (length offsets - length firsts + column)
-        + listed_elements meta column < 2 ^ 64
+    + listed_elements meta column < 2 ^ 64
 offsets-fit begin end entries out limits firsts offsets rows meta h o paged within column less =
     let before : length offsets - length firsts + column ≡ length rows * length firsts + column = omega (arith, o.long) in
     let all : take (length rows) (row_clusters 0 rows) ≡ row_clusters 0 rows =
-            take_all (length rows) (row_clusters 0 rows) (omega (arith, length-row_clusters 0 rows)) in
+    take_all (length rows) (row_clusters 0 rows) (omega (arith, length-row_clusters 0 rows)) in
     let was : slice_index offsets (length offsets - length firsts + column) ≡ slice_index firsts column
-            + elements_before (row_clusters 0 rows) column =
+    + elements_before (row_clusters 0 rows) column =
     ap (λ (n : ℕ). slice_index offsets n) before
     ∙ (o.each (length rows) column (omega arith) less ∙ ap (λ (l : List (Cluster ClusterMeta)). slice_index firsts column
-        + elements_before l column) all) in
-    omega (arith, was, low-at firsts column h.low, elements_before-le (length firsts) 0 rows column h.each,
-        listed_elements-le meta column paged, h.ends, limits.file_bound)
+    + elements_before l column) all) in
+    omega (
+      arith,
+      was,
+      low-at firsts column h.low,
+      elements_before-le (length firsts) 0 rows column h.each,
+      listed_elements-le meta column paged,
+      h.ends,
+      limits.file_bound,
+    )
 
 pub entries-fit : (begin end entries out : ℕ) (limits : Limits) (firsts : List ℕ) (rows : List ClusterRow)
     → IsCounted begin end entries out limits firsts rows → entries ≤ 8 * end
@@ -348,13 +363,13 @@ pub pushed-fit : (begin end entries out : ℕ) (limits : Limits) (firsts offsets
     → pages ≡ meta.pages → size ≡ length offsets → length meta.pages ≡ length firsts
     → IsCounted begin end entries out limits firsts rows → AreOffsets firsts rows offsets → IsPaged meta → end + meta.len ≤ limits.file
     → (column : ℕ) → column < length pages → slice_index offsets (size - length pages + column)
-        + element_count (slice_index_or pages column []) < 2 ^ 64
+    + element_count (slice_index_or pages column []) < 2 ^ 64
 pushed-fit begin end entries out limits firsts offsets rows meta pages size is sizes lists h o paged within column less =
     let as_many : length pages ≡ length firsts = ap length is ∙ lists in
     let place : size - length pages + column ≡ length offsets - length firsts + column = omega arith in
     let same : slice_index offsets (size - length pages + column) + element_count (slice_index_or pages column [])
-            ≡ slice_index offsets (length offsets - length firsts + column) + listed_elements meta column =
+    ≡ slice_index offsets (length offsets - length firsts + column) + listed_elements meta column =
     ap (λ (n : ℕ). slice_index offsets n + element_count (slice_index_or pages column [])) place
     ∙ ap (λ (ps : List (List PageMeta)). slice_index offsets (length offsets - length firsts + column)
-        + element_count (slice_index_or ps column [])) is in
+    + element_count (slice_index_or ps column [])) is in
     omega (arith, same, offsets-fit begin end entries out limits firsts offsets rows meta h o paged within column (omega arith))

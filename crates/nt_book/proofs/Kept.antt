@@ -61,13 +61,13 @@ module _ (begin : ℕ) (rows : List ClusterRow) (events : List Event) (h : IsHis
     history-committed =
         history_of-snoc (rows ++ row ∷ []) events event
         ∙ (ap (λ (l : List (Entry ClusterMeta)). l ++ entry_of_kind (rows ++ row ∷ []) meta.context (length rows) Committed ∷ [])
-            (history_of-append rows row events h.named)
+        (history_of-append rows row events h.named)
         ∙ ap (λ (r : ClusterRow). history_of rows events ++ committed_by meta.context (length rows) r.start r.meta ∷ []) (row-new rows row))
 
     pub IsHistory-committed : IsHistory begin (rows ++ row ∷ []) (events ++ event ∷ [])
     IsHistory-committed =
         let allowed : IsAllowed begin (ranges_of (history_of rows events)) (committed_entry (length rows) start meta) =
-                (sym length-ranges, at ∙ sym end-ranges) in
+        (sym length-ranges, at ∙ sym end-ranges) in
         record {
           legal = subst (λ (l : List (Entry ClusterMeta)). IsLegal begin l) (sym history-committed)
               (IsLegalAfter-snoc begin [] (history_of rows events) (committed_entry (length rows) start meta) h.legal allowed);
@@ -76,11 +76,11 @@ module _ (begin : ℕ) (rows : List ClusterRow) (events : List Event) (h : IsHis
               ∙ (ap (λ (m : ℕ). row_clusters 0 rows ++ row_cluster m row ∷ []) (from_zero (length rows))
               ∙ (ap (λ (l : List (Cluster ClusterMeta)). l ++ row_cluster (length rows) row ∷ []) h.clusters
               ∙ (sym (ranges_of-snoc (history_of rows events) (committed_entry (length rows) start meta))
-                  ∙ ap (λ (l : List (Entry ClusterMeta)). ranges_of l) (sym history-committed))));
+              ∙ ap (λ (l : List (Entry ClusterMeta)). ranges_of l) (sym history-committed))));
           named = subst (λ (m : ℕ). AllByRecursion (λ (x : Event). IsKindOf m x.cluster x.kind) (events ++ event ∷ []))
               (sym (length-append rows (row ∷ [])))
               (AllByRecursion-append (λ (x : Event). IsKindOf (length rows + 1) x.cluster x.kind) events (event ∷ [])
-                  (AllByRecursion-more events h.named) (omega arith, tt));
+              (AllByRecursion-more events h.named) (omega arith, tt));
         }
 
   -- a range that is handed back
@@ -96,15 +96,15 @@ module _ (begin : ℕ) (rows : List ClusterRow) (events : List Event) (h : IsHis
     pub row-out : (d : ClusterRow) → (slice_index_or rows n d).state ≡ state.Out
     row-out d =
         let same : Some (row_cluster n (slice_index_or rows n d)) ≡ Some is.cluster =
-                ap (λ (m : ℕ). Some (row_cluster m (slice_index_or rows n d))) (sym (from_zero n))
-                  ∙ (sym (slice_get-row_clusters 0 rows n d row-inside) ∙ at_row) in
+        ap (λ (m : ℕ). Some (row_cluster m (slice_index_or rows n d))) (sym (from_zero n))
+        ∙ (sym (slice_get-row_clusters 0 rows n d row-inside) ∙ at_row) in
         Out-fate_of (slice_index_or rows n d).state (ap (λ (c : Cluster ClusterMeta). c.state) (Some-same same) ∙ is.out)
 
     module _ (s : RangeState) (kind : EventKind) (e : Entry ClusterMeta) (known : IsKindOf (length rows) n kind)
         (names : (some_rows : List ClusterRow) → entry_of_kind some_rows i n kind ≡ e)
-            (allowed : IsAllowed begin (ranges_of (history_of rows events)) e)
+        (allowed : IsAllowed begin (ranges_of (history_of rows events)) e)
         (leaves : after_entry (ranges_of (history_of rows events)) e
-            ≡ map (handed_back i n (fate_of s)) (ranges_of (history_of rows events))) where
+        ≡ map (handed_back i n (fate_of s)) (ranges_of (history_of rows events))) where
       abbrev back : Event
       back = record { context = i; kind = kind; cluster = n }
 
@@ -112,7 +112,7 @@ module _ (begin : ℕ) (rows : List ClusterRow) (events : List Event) (h : IsHis
       history-back =
           history_of-snoc (with_state rows n s) events back
           ∙ (ap (λ (l : List (Entry ClusterMeta)). l ++ entry_of_kind (with_state rows n s) i n kind ∷ [])
-              (history_of-with_state rows n s events row-inside)
+          (history_of-with_state rows n s events row-inside)
           ∙ ap (λ (x : Entry ClusterMeta). history_of rows events ++ x ∷ []) (names (with_state rows n s)))
 
       pub IsHistory-back : IsHistory begin (with_state rows n s) (events ++ back ∷ [])
@@ -124,10 +124,10 @@ module _ (begin : ℕ) (rows : List ClusterRow) (events : List Event) (h : IsHis
             ∙ (ap (λ (l : List (Cluster ClusterMeta)). slice_set l n (record is.cluster { state = fate_of s })) h.clusters
             ∙ (sym (ranges_of-back begin i n (fate_of s) (history_of rows events) h.legal is)
             ∙ (sym leaves ∙ (sym (ranges_of-snoc (history_of rows events) e) ∙ ap (λ (l : List (Entry ClusterMeta)). ranges_of l)
-                (sym history-back)))));
+            (sym history-back)))));
         named = AllByRecursion-append (λ (x : Event). IsKindOf (length (with_state rows n s)) x.cluster x.kind) events (back ∷ [])
             (subst (λ (m : ℕ). AllByRecursion (λ (x : Event). IsKindOf m x.cluster x.kind) events)
-                (sym (length-with_state rows n s)) h.named)
+            (sym (length-with_state rows n s)) h.named)
             (subst (λ (m : ℕ). IsKindOf m n kind) (sym (length-with_state rows n s)) known, tt);
       }
 
@@ -159,7 +159,7 @@ module _ (begin : ℕ) (rows : List ClusterRow) (events : List Event) (h : IsHis
     pub end-book : book.begin ≡ begin → book_end book ≡ end_after begin (row_clusters 0 rows)
     end-book same =
         ap (λ (b : ℕ). end_after b (book_clusters book)) same ∙ ap (λ (l : List (Cluster ClusterMeta)). end_after begin l)
-            (sym same_clusters)
+        (sym same_clusters)
 
     pub cluster_at-book : (k : ℕ) (d : ClusterRow) → k < length rows → cluster_at book k ≡ row_cluster k (slice_index_or rows k d)
     cluster_at-book k d less = ap (λ (l : List (Cluster ClusterMeta)). slice_index_or l k no_cluster) (sym same_clusters)

@@ -14,14 +14,22 @@ at_end [] c = refl
 at_end (b ∷ bs) c = at_end bs c
 
 pub out_last : (old new : BookData) (n : ℕ) (meta : ClusterMeta) → n ≡ length (book_clusters old)
-    → new ≡ record old { history = old.history ++ committed_entry n (book_end old) meta ∷ []; spare =
-        old.spare - 1 } → IsOut (ranges_of new.history) meta.context n
+    → new ≡ record old {
+      history = old.history ++ committed_entry n (book_end old) meta ∷ [];
+      spare = old.spare - 1;
+    } → IsOut (ranges_of new.history) meta.context n
 out_last old new n meta number is =
     let e : Entry ClusterMeta = committed_entry n (book_end old) meta in
-    let c : Cluster ClusterMeta = record { context = meta.context; number = n; start = book_end old; len = meta.len; meta =
-            meta; state = Out } in
+    let c : Cluster ClusterMeta = record {
+      context = meta.context;
+      number = n;
+      start = book_end old;
+      len = meta.len;
+      meta = meta;
+      state = Out;
+    } in
     let grown : ranges_of new.history ≡ ranges_of old.history ++ c ∷ [] =
-            ap (λ (b : BookData). ranges_of b.history) is ∙ fold-append after_entry [] old.history (e ∷ []) in
+    ap (λ (b : BookData). ranges_of b.history) is ∙ fold-append after_entry [] old.history (e ∷ []) in
     record {
       cluster = c;
       at = ap (λ (l : List (Cluster ClusterMeta)). slice_get l n) grown

@@ -32,7 +32,7 @@ module _ (ps : List MemberData) (p : Params) (t : Table) (rows : Rows ps p.plain
       → len ≡ length bytes → 226 + length bytes ≡ clusters_place t → columns ≡ length t.columns → blob ≡ bytes → bytes ≡ header_blob t
       → TakesRoom steps more old mid room → old.end ≡ 0
       → Becomes mid.held new.held (begun_on (begun 0 0 0) blob) → new.end ≡ mid.end + 226 + length blob → new.out
-          ≡ mid.out → mid.faults ≤ new.faults
+      ≡ mid.out → mid.faults ≤ new.faults
       → IsBegun ps p old new book t
   begun-is bytes blob len columns steps more book old mid new room is len-is place long same header takes empty ok end out later = record {
     rows = rows;

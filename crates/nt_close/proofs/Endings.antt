@@ -30,21 +30,21 @@ pub fit-more : (limits : Limits) (lens : List ℕ) (len : ℕ) → NonePassed li
     → NonePassed limits (lens ++ len ∷ [])
 fit-more limits lens len fit fits more end =
     ap (λ (l : List ℕ). first_passed limits l end) (append_assoc lens (len ∷ []) more)
-        ∙ (fit (len ∷ more) end ∙ fitting-first limits len more end fits)
+    ∙ (fit (len ∷ more) end ∙ fitting-first limits len more end fits)
 
 -- the last of blobs doesn't fit
 pub passed-last : (limits : Limits) (lens : List ℕ) (len : ℕ) (e : CloseError) → NonePassed limits lens → IsPassedBy limits len e
     → ArePassedBy limits (lens ++ len ∷ []) e
 passed-last limits lens len e fit passed more end =
     subst (λ p. IsPassed p e) (sym (ap (λ (l : List ℕ). first_passed limits l end) (append_assoc lens (len ∷ []) more)
-        ∙ fit (len ∷ more) end)) (passed more end)
+    ∙ fit (len ∷ more) end)) (passed more end)
 
 -- one before the last doesn't
 pub passed-before : (limits : Limits) (lens : List ℕ) (len : ℕ) (e : CloseError) → ArePassedBy limits lens e
     → ArePassedBy limits (lens ++ len ∷ []) e
 passed-before limits lens len e passed more end =
     subst (λ p. IsPassed p e) (sym (ap (λ (l : List ℕ). first_passed limits l end) (append_assoc lens (len ∷ []) more)))
-        (passed (len ∷ more) end)
+    (passed (len ∷ more) end)
 
 -- no blob passes a limit: the file does, or none
 pub fit-all : (limits : Limits) (lens : List ℕ) (end : ℕ) → NonePassed limits lens → first_passed limits lens end
@@ -103,15 +103,19 @@ module _ (t : Table) (book : BookData) (most : ℕ) where
   footer_len_is sum gs sum-is gs-are =
       ap (λ (k : ℕ). map (list_len k book) (spans book most) ++ blob_len (length (footer_with t gs)) ∷ []) sum-is
       ∙ ap (λ (l : List ℕ). map (list_len (header_sum t) book) (spans book most) ++ blob_len (length l) ∷ [])
-          (footer_of_all sum gs sum-is gs-are)
+      (footer_of_all sum gs sum-is gs-are)
 
   -- the anchor begins behind them
   anchor_place_is : (bytes : List ℕ) → bytes ≡ concat (list_blobs t book most) ++ footer_blob t book most
       → book_end book + length bytes ≡ anchor_start t book most
   unfolding anchor_start footer_place
   anchor_place_is bytes are =
-      omega (arith, ap length are, length-append (concat (list_blobs t book most)) (footer_blob t book most),
-          blob_length (footer_place t book most) (footer_object t book most))
+      omega (
+        arith,
+        ap length are,
+        length-append (concat (list_blobs t book most)) (footer_blob t book most),
+        blob_length (footer_place t book most) (footer_object t book most),
+      )
 
   tail_is : concat (list_blobs t book most) ++ footer_blob t book most ++ container_behind (anchor_start t book most)
       (anchor_of_file t book most) ≡ tail t book most
@@ -123,17 +127,17 @@ module _ (t : Table) (book : BookData) (most : ℕ) where
   pub ending-is : (start : ℕ) (bytes all : List ℕ) (a : Anchor) (f : FileFields) → start ≡ book_end book
       → AreBlobsBehind t book most bytes a
       → all ≡ bytes ++ container_behind (start + length bytes) a → f ≡ fields_behind (start + length bytes) → ArePlaces f → f.end
-          ≡ start + length all
+      ≡ start + length all
       → IsEnding t book most all f
   ending-is start bytes all a f start-is blobs all-is f-is places end-is =
       let place : start + length bytes ≡ anchor_start t book most =
-              ap (λ (k : ℕ). k + length bytes) start-is ∙ anchor_place_is bytes blobs.bytes_are in
+      ap (λ (k : ℕ). k + length bytes) start-is ∙ anchor_place_is bytes blobs.bytes_are in
       record {
         bytes_are = all-is
             ∙ (ap (λ (k : ℕ). bytes ++ container_behind k a) place
             ∙ (ap (λ (b : Anchor). bytes ++ container_behind (anchor_start t book most) b) blobs.anchor_is
             ∙ (ap (λ (l : List ℕ). l ++ container_behind (anchor_start t book most) (anchor_of_file t book most))
-                blobs.bytes_are ∙ tail_is)));
+            blobs.bytes_are ∙ tail_is)));
         fields_are = f-is ∙ ap fields_behind place;
         places = places;
         end = end-is ∙ ap (λ (k : ℕ). k + length all) start-is;
@@ -149,7 +153,7 @@ passed-none t book p bytes f is fit low =
 -- one that may not passes that one
 pub passed-file : (t : Table) (book : BookData) (p : Params) (bytes : List ℕ) (f : FileFields) → IsEnding t book p.group bytes f
     → NonePassed p.limits (blobs_behind t book p.group) → p.limits.file < f.end → passed_by_close p t book
-        ≡ Some (FileTooLarge f.end p.limits.file)
+    ≡ Some (FileTooLarge f.end p.limits.file)
 passed-file t book p bytes f is fit high =
     fit-all p.limits (blobs_behind t book p.group) (file_len t book p.group) fit
     ∙ (file-passed p.limits (file_len t book p.group) (subst (λ (g : FileFields). p.limits.file < g.end) is.fields_are high)

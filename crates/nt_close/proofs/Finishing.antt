@@ -40,7 +40,7 @@ put_over : (head rest over : List ℕ) (b : ℕ) → length head ≡ suc (length
 put_over head rest over b long =
     let parts = first_and_others head (length over) long in
     ap (λ (l : List ℕ). b ∷ drop 1 (put_at (l ++ rest) 1 over)) parts.2
-        ∙ ap (λ (l : List ℕ). b ∷ l) (put_behind_first parts.0 parts.1 rest over parts.3)
+    ∙ ap (λ (l : List ℕ). b ∷ l) (put_behind_first parts.0 parts.1 rest over parts.3)
 
 -- the file header begins with the byte that is written last
 header_begins : (end free : ℕ) → header_part end free ≡ 0x72 ∷ drop 1 (header_part end free)
@@ -49,8 +49,13 @@ header_begins end free = refl
 
 length-front : (end free keys : ℕ) → length (drop 1 (header_part end free) ++ record_part keys) ≡ 225
 length-front end free keys =
-    omega (arith, ap length (header_begins end free), header-len end free, file_record-len keys,
-        length-append (drop 1 (header_part end free)) (record_part keys))
+    omega (
+      arith,
+      ap length (header_begins end free),
+      header-len end free,
+      file_record-len keys,
+      length-append (drop 1 (header_part end free)) (record_part keys),
+    )
 
 -- file header and record, with what follows them
 front_apart : (end free keys : ℕ) (rest : List ℕ) → header_part end free ++ (record_part keys ++ rest) ≡ 0x72
@@ -64,21 +69,21 @@ module _ (t : Table) (book : BookData) (most : ℕ) where
   behind_is : (n : ℕ) → 226 + n ≡ anchor_start t book most
       → concat (parts_behind n (anchor_of_file t book most))
       ≡ anchor_part (anchor_start t book most) (anchor_of_file t book most)
-          ++ (key_list_part (keys_start t book most) (anchor_start t book most) ++ free_list_part (free_start t book most)
-            (file_len t book most))
+      ++ (key_list_part (keys_start t book most) (anchor_start t book most) ++ free_list_part (free_start t book most)
+      (file_len t book most))
   behind_is n is =
       let keys : 360 + n ≡ keys_start t book most = omega (arith, is) in
       let free : 473 + n ≡ free_start t book most = omega (arith, is) in
       let end : 544 + n ≡ file_len t book most = omega (arith, is) in
       ap (λ (l : List ℕ). anchor_part (226 + n) (anchor_of_file t book most) ++ (key_list_part (360 + n) (226 + n) ++ l))
-          (append-nil (free_list_part (473 + n) (544 + n)))
+      (append-nil (free_list_part (473 + n) (544 + n)))
       ∙ (ap (λ (p : ℕ). anchor_part p (anchor_of_file t book most) ++ (key_list_part (360 + n) p ++ free_list_part (473 + n) (544 + n))) is
       ∙ (ap (λ (p : ℕ). anchor_part (anchor_start t book most) (anchor_of_file t book most)
-          ++ (key_list_part p (anchor_start t book most) ++ free_list_part (473 + n) (544 + n))) keys
+      ++ (key_list_part p (anchor_start t book most) ++ free_list_part (473 + n) (544 + n))) keys
       ∙ (ap (λ (p : ℕ). anchor_part (anchor_start t book most) (anchor_of_file t book most)
-          ++ (key_list_part (keys_start t book most) (anchor_start t book most) ++ free_list_part p (544 + n))) free
+      ++ (key_list_part (keys_start t book most) (anchor_start t book most) ++ free_list_part p (544 + n))) free
       ∙ ap (λ (p : ℕ). anchor_part (anchor_start t book most) (anchor_of_file t book most)
-          ++ (key_list_part (keys_start t book most) (anchor_start t book most) ++ free_list_part (free_start t book most) p)) end)))
+      ++ (key_list_part (keys_start t book most) (anchor_start t book most) ++ free_list_part (free_start t book most) p)) end)))
 
   -- header, ranges, page lists and footer, one behind the other
   middle_is : (ranges : List (List ℕ)) → concat (blobs t book most ranges) ≡ header_blob t
@@ -93,7 +98,7 @@ module _ (t : Table) (book : BookData) (most : ℕ) where
   length-ranges : (ranges : List (List ℕ)) → AreRangesOf book ranges → book.begin + length (concat ranges) ≡ book_end book
   length-ranges ranges are =
       ap (λ (k : ℕ). book.begin + k) (length-concat ranges
-          ∙ (ap sum are ∙ sum-map (λ (c : Cluster ClusterMeta). c.len) (book_clusters book)))
+      ∙ (ap sum are ∙ sum-map (λ (c : Cluster ClusterMeta). c.len) (book_clusters book)))
 
   -- and the anchor begins behind the footer
   anchor_behind : (ranges : List (List ℕ)) → book.begin ≡ clusters_place t → AreRangesOf book ranges
@@ -116,14 +121,14 @@ module _ (t : Table) (book : BookData) (most : ℕ) where
   -- what stands behind file header and directory
   behind_record : (ranges : List (List ℕ)) (n : ℕ) → 226 + n ≡ anchor_start t book most
       → concat (blobs t book most ranges ++ parts_behind n (anchor_of_file t book most)) ≡ header_blob t
-          ++ (concat ranges ++ tail t book most)
+      ++ (concat ranges ++ tail t book most)
   unfolding tail
   behind_record ranges n is =
       let lists = concat (list_blobs t book most) in
       let foot = footer_blob t book most in
       let last = anchor_part (anchor_start t book most) (anchor_of_file t book most)
-              ++ (key_list_part (keys_start t book most) (anchor_start t book most) ++ free_list_part (free_start t book most)
-                (file_len t book most)) in
+      ++ (key_list_part (keys_start t book most) (anchor_start t book most) ++ free_list_part (free_start t book most)
+      (file_len t book most)) in
       concat-append (blobs t book most ranges) (parts_behind n (anchor_of_file t book most))
       ∙ (ap (λ (l : List ℕ). l ++ concat (parts_behind n (anchor_of_file t book most))) (middle_is ranges)
       ∙ (ap (λ (l : List ℕ). (header_blob t ++ (concat ranges ++ (lists ++ foot))) ++ l) (behind_is n is)
@@ -134,7 +139,7 @@ module _ (t : Table) (book : BookData) (most : ℕ) where
   -- the finished file, by its parts
   finished_parts : (ranges : List (List ℕ)) → let n = length (concat (blobs t book most ranges)) in
       finished t book most ranges ≡ header_part (544 + n) (473 + n)
-          ++ (record_part (360 + n) ++ concat (blobs t book most ranges ++ parts_behind n (anchor_of_file t book most)))
+      ++ (record_part (360 + n) ++ concat (blobs t book most ranges ++ parts_behind n (anchor_of_file t book most)))
   unfolding finished_file
   finished_parts ranges = refl
 
@@ -153,7 +158,7 @@ module _ (t : Table) (book : BookData) (most : ℕ) where
       let rest = header_blob t ++ (concat ranges ++ tail t book most) in
       finished_parts ranges
       ∙ (ap (λ (k : ℕ). header_part (544 + k) (473 + k) ++ (record_part (360 + k)
-          ++ concat (blobs t book most ranges ++ parts_behind k (anchor_of_file t book most)))) (sym long)
+      ++ concat (blobs t book most ranges ++ parts_behind k (anchor_of_file t book most)))) (sym long)
       ∙ (ap (λ (l : List ℕ). header_part (544 + n) (473 + n) ++ (record_part (360 + n) ++ l)) (behind_record ranges n is)
       ∙ (ap (λ (k : ℕ). header_part k (473 + n) ++ (record_part (360 + n) ++ rest)) end
       ∙ (ap (λ (k : ℕ). header_part (file_len t book most) k ++ (record_part (360 + n) ++ rest)) free
@@ -169,7 +174,7 @@ module _ (t : Table) (book : BookData) (most : ℕ) where
       let joined : h.image ++ tail t book most ≡ begun 0 0 0 ++ rest =
       ap (λ (l : List ℕ). l ++ tail t book most) was
       ∙ (append_assoc (begun 0 0 0 ++ header_blob t) (concat ranges) (tail t book most) ∙ append_assoc (begun 0 0 0) (header_blob t)
-          (concat ranges ++ tail t book most)) in
+      (concat ranges ++ tail t book most)) in
       ap (λ (l : List ℕ). put_at (put_at l 1 (front t book most)) 0 first_byte) joined
       ∙ (put_over (begun 0 0 0) rest (front t book most) 0x72 (omega (arith, begin-len 0 0 0, front_len))
       ∙ sym (finished_is ranges (length (concat (blobs t book most ranges))) refl (anchor_behind ranges begins are)))

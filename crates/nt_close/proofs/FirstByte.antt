@@ -43,7 +43,7 @@ closes_shut tail front h left zero (torn_front torn) =
     inl (zero_behind (h.image ++ tail) torn.junk left.image (zero_appended h.image tail (h.image ++ tail) zero refl) torn.image)
 closes_shut tail front h left zero (not_kept_shut is) =
     inl (zero_behind (h.image ++ tail) front left.image (zero_appended h.image tail (h.image ++ tail) zero refl)
-        (ap (λ (k : Held). k.image) is))
+    (ap (λ (k : Held). k.image) is))
 closes_shut tail front h left zero (torn_first torn) =
     elim (torn.single refl) [
       | inl same ↦ inl (zero_behind (h.image ++ tail) front left.image (zero_appended h.image tail (h.image ++ tail) zero refl) same)
@@ -58,7 +58,7 @@ begins_first = first_append_follows (begun 0 0 0) (subst BeginsOpen (sym begun_z
 begins_next : (blob : List ℕ) → FirstByteLast (Append (begun 0 0 0) ∷ Append blob ∷ [])
 begins_next blob =
     subst (λ (l : List ℕ). FirstByteLast (Append l ∷ Append blob ∷ [])) (sym begun_zero.1)
-        ((λ none. refl), ((λ none. absurd (cc none)), tt))
+    ((λ none. refl), ((λ none. absurd (cc none)), tt))
 
 pub begins_in_order : (blob : List ℕ) (left : Held) → IsBegunSoFar (begun 0 0 0) blob nothing_held left → FirstByteLast left.log
 begins_in_order blob left (torn_head torn) = torn_append_follows (length (begun 0 0 0)) nothing_held left torn tt

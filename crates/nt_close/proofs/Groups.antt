@@ -91,11 +91,11 @@ module _ (sum : ℕ) (book : BookData) where
     pub count : length groups ≡ i
     pub fit : (more : List ℕ) (end : ℕ) → first_passed limits
         (map (list_len sum book) (groups_left most (length (book_clusters book)) i) ++ more) end
-          ≡ first_passed limits (map (list_len sum book) (spans book most) ++ more) end
+        ≡ first_passed limits (map (list_len sum book) (spans book most) ++ more) end
 
   listing-next-of : (limits : Limits) (most i : ℕ) (s : ClusterSpan) (ss : List ClusterSpan) (old new : List ℕ) (groups more : List Group)
       → Listing limits most i old groups → groups_left most (length (book_clusters book)) i ≡ s
-          ∷ ss → groups_left most (length (book_clusters book)) (i + 1) ≡ ss
+      ∷ ss → groups_left most (length (book_clusters book)) (i + 1) ≡ ss
       → AddsList sum book s old new groups more → list_len sum book s ≤ limits.range → Listing limits most (i + 1) new more
   listing-next-of limits most i s ss old new groups more was is then adds fits = record {
     bytes_are = rw then (lists-next s ss old new _ groups more adds (rw is at was.bytes_are));
@@ -103,7 +103,7 @@ module _ (sum : ℕ) (book : BookData) where
     count = omega (arith, was.count, ap length adds.group, length-append groups (span_group sum book (book_end book + length old) s ∷ []));
     fit = λ rest end.
         let now : map (list_len sum book) (groups_left most (length (book_clusters book)) i) ≡ list_len sum book s
-                ∷ map (list_len sum book) ss =
+        ∷ map (list_len sum book) ss =
         ap (map (list_len sum book)) is in
         ap (λ (l : List ClusterSpan). first_passed limits (map (list_len sum book) l ++ rest) end) then
         ∙ (sym (fitting-first limits (list_len sum book s) (map (list_len sum book) ss ++ rest) end fits)
@@ -113,27 +113,31 @@ module _ (sum : ℕ) (book : BookData) where
   -- one more
   pub listing-next : (limits : Limits) (most i count : ℕ) (old new : List ℕ) (groups more : List Group)
       → Listing limits most i old groups → i < div_ceil (length (book_clusters book)) most → count
-          ≡ min most (length (book_clusters book) - i * most)
+      ≡ min most (length (book_clusters book) - i * most)
       → AddsList sum book (record { from = i * most; count = count }) old new groups more
       → list_len sum book (record { from = i * most; count = count }) ≤ limits.range → Listing limits most (i + 1) new more
   listing-next limits most i count old new groups more was low is adds fits =
       listing-next-of limits most i (record { from = i * most; count = count })
-          (groups_left most (length (book_clusters book)) (i + 1)) old new groups more was
-      (groups_left-next most (length (book_clusters book)) i low ∙ ap (λ k. record { from = i * most; count =
-          k } ∷ groups_left most (length (book_clusters book)) (i + 1)) (sym is))
+      (groups_left most (length (book_clusters book)) (i + 1)) old new groups more was
+      (groups_left-next most (length (book_clusters book)) i low ∙ ap (λ k. record {
+        from = i * most;
+        count = k;
+      } ∷ groups_left most (length (book_clusters book)) (i + 1)) (sym is))
       refl adds fits
 
   -- the first group that is left and doesn't fit is the first of all
   pub passed-first : (limits : Limits) (most i count : ℕ) (bytes : List ℕ) (groups : List Group) (e : CloseError)
       → Listing limits most i bytes groups → i < div_ceil (length (book_clusters book)) most → count
-          ≡ min most (length (book_clusters book) - i * most)
+      ≡ min most (length (book_clusters book) - i * most)
       → IsPassedBy limits (list_len sum book (record { from = i * most; count = count })) e
       → ArePassedBy limits (map (list_len sum book) (spans book most)) e
   passed-first limits most i count bytes groups e was low is passed rest end =
       let s : ClusterSpan = record { from = i * most; count = count } in
       let left : groups_left most (length (book_clusters book)) i ≡ s ∷ groups_left most (length (book_clusters book)) (i + 1) =
-      groups_left-next most (length (book_clusters book)) i low ∙ ap (λ k. record { from = i * most; count =
-          k } ∷ groups_left most (length (book_clusters book)) (i + 1)) (sym is) in
+      groups_left-next most (length (book_clusters book)) i low ∙ ap (λ k. record {
+        from = i * most;
+        count = k;
+      } ∷ groups_left most (length (book_clusters book)) (i + 1)) (sym is) in
       subst (λ p. IsPassed p e)
       (ap (λ (l : List ClusterSpan). first_passed limits (map (list_len sum book) l ++ rest) end) (sym left) ∙ was.fit rest end)
       (passed (map (list_len sum book) (groups_left most (length (book_clusters book)) (i + 1)) ++ rest) end)

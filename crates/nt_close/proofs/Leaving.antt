@@ -27,7 +27,7 @@ module _ (t : Table) (book : BookData) (most : ℕ) where
     held = λ h was.
         ok h (held ∙ was)
         ∙ (ap (λ (l : List ℕ). Some (closed_on l (front_with f) h)) is.bytes_are
-            ∙ ap (λ (l : List ℕ). Some (closed_on (tail t book most) l h)) (front_is bytes f is));
+        ∙ ap (λ (l : List ℕ). Some (closed_on (tail t book most) l h)) (front_is bytes f is));
     out = out;
     later = subst (λ (n : ℕ). n ≤ new.faults) faults later;
   }

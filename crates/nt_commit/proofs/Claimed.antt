@@ -31,9 +31,9 @@ module _ {M X : Type 0} (tell : X → ExtState) where
       → IsClaimOf tell (ranges_of all) i claim
   claim_in own all i claim is c =
       let same : ranges_of own ≡ filter (λ (c : Cluster M). c.context == i) (ranges_of all) =
-              ap (λ (l : List (Entry M)). ranges_of l) is ∙ sym (own-fold [] all i) in
+      ap (λ (l : List (Entry M)). ranges_of l) is ∙ sym (own-fold [] all i) in
       let found = in_filter (λ (c : Cluster M). c.context == i) (ranges_of all) c.place c.cluster
-              (ap (λ (l : List (Cluster M)). slice_get l c.place) (sym same) ∙ c.at) in
+      (ap (λ (l : List (Cluster M)). slice_get l c.place) (sym same) ∙ c.at) in
       record { place = found.0; cluster = c.cluster; at = found.1; own = c.own; number = c.number; out = c.out; range = c.range }
 
   numbered : (place : ℕ) (cs : List (Cluster M)) (history : List (Entry M)) → IsLegalAfter place cs history → IsNumbered 0 cs
@@ -47,6 +47,6 @@ module _ {M X : Type 0} (tell : X → ExtState) where
       → (is : IsOut (ranges_of history) i claim.cluster) × (place_of is.cluster ≡ (tell claim.ext).range)
   claim_out place history i claim ok c =
       let stands : c.cluster.number ≡ 0 + c.place = IsNumbered-at 0 (ranges_of history) c.place c.cluster
-              (numbered place [] history ok tt) c.at in
+      (numbered place [] history ok tt) c.at in
       let same : claim.cluster ≡ c.place = sym c.number ∙ (stands ∙ omega arith) in
       (record { cluster = c.cluster; at = ap (λ (n : ℕ). slice_get (ranges_of history) n) same ∙ c.at; own = c.own; out = c.out }, c.range)

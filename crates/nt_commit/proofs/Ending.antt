@@ -19,12 +19,14 @@ all_parts : (cs : List (Cluster ClusterMeta)) → ((i : ℕ) → AllByRecursion 
     (filter (λ (c : Cluster ClusterMeta). c.context == i) cs))
     → AllByRecursion (λ (c : Cluster ClusterMeta). is_out c.state ≡ false) cs
 all_parts [] each = tt
-all_parts (c ∷ cs) each = (first (c.context == c.context) (eq-eqb c.context c.context refl) (each c.context),
-    all_parts cs (λ i. rest (c.context == i) i (each i)))
+all_parts (c ∷ cs) each = (
+  first (c.context == c.context) (eq-eqb c.context c.context refl) (each c.context),
+  all_parts cs (λ i. rest (c.context == i) i (each i)),
+)
   where
     first : (b : Bool) → b ≡ true → AllByRecursion (λ (c : Cluster ClusterMeta). is_out c.state ≡ false)
         (cond b (c ∷ filter (λ (d : Cluster ClusterMeta). d.context == c.context) cs)
-          (filter (λ (d : Cluster ClusterMeta). d.context == c.context) cs)) → is_out c.state ≡ false
+        (filter (λ (d : Cluster ClusterMeta). d.context == c.context) cs)) → is_out c.state ≡ false
     first true is all = all.0
     first false is all = absurd (false≢true is)
 
@@ -41,14 +43,14 @@ none_out (c ∷ cs) all = at (is_out c.state) all.0 (none_out cs all.1)
   where
     at : (b : Bool) → b ≡ false → ranges_out cs ≡ [] → map place_of
         (cond b (c ∷ filter (λ (d : Cluster ClusterMeta). is_out d.state) cs)
-          (filter (λ (d : Cluster ClusterMeta). is_out d.state) cs)) ≡ []
+        (filter (λ (d : Cluster ClusterMeta). is_out d.state) cs)) ≡ []
     at true is rest = absurd (false≢true (sym is))
     at false is rest = rest
 
 -- an entry list of one number is kept, or none of its number is
 kept_or_none : (history : List (Entry ClusterMeta)) (kept : List (ℕ × List (Entry ClusterMeta))) (n : ℕ)
     → AllByRecursion (λ (k : ℕ × List (Entry ClusterMeta)). k.1 ≡ entries_of context_of history k.0) kept → AllByRecursion
-        (λ (k : ℕ × List (Entry ClusterMeta)). HasNoneOut k.1) kept
+    (λ (k : ℕ × List (Entry ClusterMeta)). HasNoneOut k.1) kept
     → HasNoneOut (entries_of context_of history n) ⊎ HasNone kept n
 kept_or_none history [] n are back = inr tt
 kept_or_none history (k ∷ ks) n are back = at (k.0 == n) refl (kept_or_none history ks n are.1 back.1)
@@ -70,7 +72,7 @@ module _ {D : Type 0} (state : D → DiskState) (first : PassState (Entry Cluste
       at b is (inl here) = here
       at true is (inr none) =
           subst (λ (m : ℕ). HasNoneOut (entries_of context_of (history_of_locked state locked) m))
-              (sym (eqb-true i first.number is)) (subst (λ (l : List (Entry ClusterMeta)). HasNoneOut l) closes.own back.own)
+          (sym (eqb-true i first.number is)) (subst (λ (l : List (Entry ClusterMeta)). HasNoneOut l) closes.own back.own)
       at false is (inr none) = subst (λ (l : List (Entry ClusterMeta)). HasNoneOut l)
           (sym (closes.others i (eqb-false i first.number is) none)) tt
 
@@ -80,4 +82,4 @@ module _ {D : Type 0} (state : D → DiskState) (first : PassState (Entry Cluste
       let all = history_of_locked state locked in
       in_step.follows.out ∙ none_out (ranges_of all) (all_parts (ranges_of all) (λ i.
       subst (λ (l : List (Cluster ClusterMeta)). AllByRecursion (λ (c : Cluster ClusterMeta). is_out c.state ≡ false) l)
-          (sym (own-fold [] all i)) (each_back i)))
+      (sym (own-fold [] all i)) (each_back i)))

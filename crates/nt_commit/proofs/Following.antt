@@ -62,7 +62,7 @@ module _ {M : Type 0} where
         → AllByRecursion IsRoomy (after_entry (ranges_of history) e)
         → d'.end ≡ end_after begun.end (after_entry (ranges_of history) e) → d'.out ≡ ranges_out (after_entry (ranges_of history) e)
         → ((h : Held) → begun.held ≡ Some h → BecomesSome d.held d'.held (λ h h'. h'.log ≡ h.log
-            ++ map logged_step (disk_steps_of (ranges_of history) e.kind)))
+        ++ map logged_step (disk_steps_of (ranges_of history) e.kind)))
         → (HasFaults e.kind → HasRisen d.faults (faults_after d.faults e.kind)) → faults_after d.faults e.kind ≤ d'.faults
         → Follows begun d' contexts (history ++ e ∷ [])
     Follows-snoc e allowed context roomy end out log rises later =
@@ -81,7 +81,7 @@ module _ {M : Type 0} where
                 second.1,
                 second.2 ∙ (ap (λ (l : List Step). l ++ steps) first.2
                     ∙ (append_assoc h.log (steps_of_history history) steps
-                        ∙ ap (λ (l : List Step). h.log ++ l) (sym (steps_of_history-snoc history e)))),
+                    ∙ ap (λ (l : List Step). h.log ++ l) (sym (steps_of_history-snoc history e)))),
               );
           rise = FaultsRise-later begun.faults (history ++ e ∷ []) (faults_after d.faults e.kind) d'.faults
               (FaultsRise-snoc begun.faults history d.faults e follows.rise rises) later;
@@ -103,8 +103,10 @@ module _ {M : Type 0} where
     -- a range was reserved for a cluster
     pub Follows-commit : (i n start len : ℕ) (meta : M) → n ≡ length (ranges_of history)
         → start ≡ end_after begun.end (ranges_of history) → i ≤ contexts → 42 ≤ len
-        → BecomesSome d.held d'.held (IsReserved d.end len) → d'.end ≡ d.end + len → d'.out ≡ d.out ++ record { start = d.end; len =
-            len } ∷ [] → d.faults ≤ d'.faults
+        → BecomesSome d.held d'.held (IsReserved d.end len) → d'.end ≡ d.end + len → d'.out ≡ d.out ++ record {
+          start = d.end;
+          len = len;
+        } ∷ [] → d.faults ≤ d'.faults
         → Follows begun d' contexts (history ++ record { context = i; kind = entry.Committed n start len meta } ∷ [])
     Follows-commit i n start len meta number place context roomy log end out later =
         let c : Cluster M = record { context = i; number = n; start = start; len = len; meta = meta; state = Out } in
@@ -125,7 +127,7 @@ module _ {M : Type 0} where
         → disk_steps_of (ranges_of history) k ≡ settle_at (slice_get (ranges_of history) n) bytes
         → IsKindAllowed begun.end (ranges_of history) i k → i ≤ contexts
         → ((h : Held) → begun.held ≡ Some h → BecomesSome d.held d'.held (λ h h'. h'.log ≡ h.log
-            ++ Settle is.cluster.start is.cluster.len bytes ∷ []))
+        ++ Settle is.cluster.start is.cluster.len bytes ∷ []))
         → d'.end ≡ d.end → d'.out ≡ without (place_of is.cluster) d.out
         → (HasFaults k → HasRisen d.faults (faults_after d.faults k)) → faults_after d.faults k ≤ d'.faults
         → Follows begun d' contexts (history ++ record { context = i; kind = k } ∷ [])
@@ -138,12 +140,12 @@ module _ {M : Type 0} where
         Follows-snoc (record { context = i; kind = k }) allowed context
         (subst (λ (l : List (Cluster M)). AllByRecursion IsRoomy l) (sym after) (roomy-handed_back i n fate old follows.roomy))
         (end ∙ (follows.end ∙ (sym (end_after-handed_back begun.end i n fate old)
-            ∙ ap (λ (l : List (Cluster M)). end_after begun.end l) (sym after))))
+        ∙ ap (λ (l : List (Cluster M)). end_after begun.end l) (sym after))))
         (out ∙ (ap (λ (l : List _). without (place_of is.cluster) l) follows.out
         ∙ (sym (ranges_out-set begun.end (end_after begun.end old) old n is.cluster fate apart follows.roomy is.at is.out back)
         ∙ (ap (λ (l : List (Cluster M)). ranges_out l) (sym put) ∙ ap (λ (l : List (Cluster M)). ranges_out l) (sym after)))))
         (λ begins told h was. let next = log begins told h was in
-            (next.0, next.1, next.2 ∙ ap (λ (l : List Step). h.log ++ l) (sym logged)))
+        (next.0, next.1, next.2 ∙ ap (λ (l : List Step). h.log ++ l) (sym logged)))
         rises later
 
     -- the disk failed, and that was entered

@@ -22,7 +22,7 @@ same_range-start one two differ = ap (λ (b : Bool). b && (one.len == two.len)) 
 same_range-same : (one two : Range) → one ≡ two → is_same_range one two ≡ true
 same_range-same one two is =
     both (one.start == two.start) (one.len == two.len) (eq-eqb one.start two.start (ap (λ (r : Range). r.start) is))
-        (eq-eqb one.len two.len (ap (λ (r : Range). r.len) is))
+    (eq-eqb one.len two.len (ap (λ (r : Range). r.len) is))
   where
     both : (a b : Bool) → a ≡ true → b ≡ true → (a && b) ≡ true
     both true b p q = q
@@ -42,14 +42,14 @@ module _ {M : Type 0} where
     where
       here : (b : Bool) → b ≡ true → place_of d ≡ place_of c
           → Contains (map place_of (cond b (d ∷ filter (λ (e : Cluster M). is_out e.state) cs)
-            (filter (λ (e : Cluster M). is_out e.state) cs))) (place_of c)
+          (filter (λ (e : Cluster M). is_out e.state) cs))) (place_of c)
       here true is same = (0, omega arith, same)
       here false is same = absurd (false≢true is)
   contains_out (d ∷ cs) (suc k) c at out = later (is_out d.state) (contains_out cs k c at out)
     where
       later : (b : Bool) → Contains (ranges_out cs) (place_of c)
           → Contains (map place_of (cond b (d ∷ filter (λ (e : Cluster M). is_out e.state) cs)
-              (filter (λ (e : Cluster M). is_out e.state) cs))) (place_of c)
+          (filter (λ (e : Cluster M). is_out e.state) cs))) (place_of c)
       later true r = (suc r.0, omega (arith, r.1), r.2)
       later false r = r
 
@@ -59,7 +59,7 @@ module _ {M : Type 0} where
   ranges_out-snoc cs c out =
       ap (λ (l : List (Cluster M)). map place_of l)
       (filter-append (λ (d : Cluster M). is_out d.state) cs (c ∷ [])
-          ∙ ap (λ (s : Fate). filter (λ (d : Cluster M). is_out d.state) cs ++ cond (is_out s) (c ∷ []) []) out)
+      ∙ ap (λ (s : Fate). filter (λ (d : Cluster M). is_out d.state) cs ++ cond (is_out s) (c ∷ []) []) out)
       ∙ map-append place_of (filter (λ (d : Cluster M). is_out d.state) cs) (c ∷ [])
 
   starts_above : (from end : ℕ) (cs : List (Cluster M)) (k : ℕ) (c : Cluster M) → IsDisjoint from (spans_of cs) end
@@ -77,12 +77,12 @@ module _ {M : Type 0} where
   pub ranges_out-set : (from end : ℕ) (cs : List (Cluster M)) (k : ℕ) (c : Cluster M) (fate : Fate)
       → IsDisjoint from (spans_of cs) end → AllByRecursion IsRoomy cs
       → slice_get cs k ≡ Some c → c.state ≡ Out → is_out fate ≡ false → ranges_out (set cs k (record c { state = fate }))
-          ≡ without (place_of c) (ranges_out cs)
+      ≡ without (place_of c) (ranges_out cs)
   ranges_out-set from end [] k c fate apart roomy at out back = cc
   ranges_out-set from end (d ∷ cs) zero c fate apart roomy at out back =
       let same : d ≡ c = cc in
       gone (is_out fate) back ∙ sym (found (is_out d.state) (ap (λ (e : Cluster M). is_out e.state) same ∙ ap is_out out)
-          (same_range-same (place_of d) (place_of c) (ap place_of same)))
+      (same_range-same (place_of d) (place_of c) (ap place_of same)))
     where
       rest : List (Cluster M)
       rest = filter (λ (e : Cluster M). is_out e.state) cs
@@ -99,7 +99,7 @@ module _ {M : Type 0} where
       let above = starts_above (d.start + d.len) end cs k c apart.1 at in
       let differ : (d.start == c.start) ≡ false = ne_eqb d.start c.start (λ is. omega (arith, is, above, roomy.0)) in
       both (is_out d.state) (same_range-start (place_of d) (place_of c) differ)
-          (ranges_out-set (d.start + d.len) end cs k c fate apart.1 roomy.1 at out back)
+      (ranges_out-set (d.start + d.len) end cs k c fate apart.1 roomy.1 at out back)
     where
       after : List (Cluster M)
       after = filter (λ (e : Cluster M). is_out e.state) (set cs k (record c { state = fate }))
@@ -125,8 +125,13 @@ module _ {M : Type 0} where
       → sum_by (λ (c : Cluster M). c.len) (map (handed_back i n fate) cs) ≡ sum_by (λ (c : Cluster M). c.len) cs
   sum-handed_back i n fate [] = refl
   sum-handed_back i n fate (c ∷ cs) =
-      omega (arith, sum_by-cons (λ (c : Cluster M). c.len) (handed_back i n fate c) (map (handed_back i n fate) cs),
-          sum_by-cons (λ (c : Cluster M). c.len) c cs, len-handed_back i n fate c, sum-handed_back i n fate cs)
+      omega (
+        arith,
+        sum_by-cons (λ (c : Cluster M). c.len) (handed_back i n fate c) (map (handed_back i n fate) cs),
+        sum_by-cons (λ (c : Cluster M). c.len) c cs,
+        len-handed_back i n fate c,
+        sum-handed_back i n fate cs,
+      )
 
   -- handing back moves no range
   pub end_after-handed_back : (place i n : ℕ) (fate : Fate) (cs : List (Cluster M))
@@ -137,4 +142,4 @@ module _ {M : Type 0} where
       → AllByRecursion IsRoomy (map (handed_back i n fate) cs)
   roomy-handed_back i n fate cs roomy =
       AllByRecursion-map IsRoomy IsRoomy (handed_back i n fate)
-          (λ c h. subst (λ (len : ℕ). 42 ≤ len) (sym (len-handed_back i n fate c)) h) cs roomy
+      (λ c h. subst (λ (len : ℕ). 42 ≤ len) (sym (len-handed_back i n fate c)) h) cs roomy

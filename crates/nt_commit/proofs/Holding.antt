@@ -47,7 +47,7 @@ own_pen was is context (Err refused.Failed) added adds = rw adds.1 (refl, tt)
 module _ {D : Type 0} (state : D → DiskState) (committer : TurnState (Birth D)) (old held : PassState (Entry ClusterMeta) (Birth D))
     (taken : LockedState D)
     (of : IsPassOf committer old) (held_is : held ≡ after_taking old (history_of_locked state taken))
-        (took : Took (history_of_locked state) birth_of context_of old taken) where
+    (took : Took (history_of_locked state) birth_of context_of old taken) where
   -- the pass doesn't hold the turn
   pub free : IsFree committer old
   free = record { turn_is = of.turn; free = of.free }
@@ -61,8 +61,10 @@ module _ {D : Type 0} (state : D → DiskState) (committer : TurnState (Birth D)
 
   -- it holds it now
   pub holder : IsHolder committer held
-  holder = record { turn_is = ap (λ (p : PassState (Entry ClusterMeta) (Birth D)). p.turn) held_is ∙ of.turn; held =
-      ap (λ (p : PassState (Entry ClusterMeta) (Birth D)). p.holds) held_is }
+  holder = record {
+    turn_is = ap (λ (p : PassState (Entry ClusterMeta) (Birth D)). p.turn) held_is ∙ of.turn;
+    held = ap (λ (p : PassState (Entry ClusterMeta) (Birth D)). p.holds) held_is;
+  }
 
   -- its context is one of so many
   pub context_fits : (context : ℕ) → context ≡ old.number → context ≤ taken.birth.contexts
@@ -84,9 +86,9 @@ module _ {D : Type 0} (state : D → DiskState) (committer : TurnState (Birth D)
       → GrowsBy state taken given (settled_with old.number n (bytes_where_told (state committer.birth.begun).held ext.content) ∷ [])
   settles_by given context n ext is settles =
       settles.grows ∙ (ap (λ (i : ℕ). history_of_locked state taken
-          ++ settled_with i n (bytes_where_told (state taken.birth.begun).held ext.content) ∷ []) is
+      ++ settled_with i n (bytes_where_told (state taken.birth.begun).held ext.content) ∷ []) is
       ∙ ap (λ (b : Birth D). history_of_locked state taken
-          ++ settled_with old.number n (bytes_where_told (state b.begun).held ext.content) ∷ []) birth_is)
+      ++ settled_with old.number n (bytes_where_told (state b.begun).held ext.content) ∷ []) birth_is)
 
   -- the entry of a spoiled range
   pub spoils_by : (given : LockedState D) (context n : ℕ) → context ≡ old.number → Spoils state context n taken given
@@ -124,7 +126,7 @@ module _ {D : Type 0} (state : D → DiskState) (committer : TurnState (Birth D)
         let own : entries_of context_of log old.number ≡ old.own ++ added =
         ap (λ (l : List (Entry ClusterMeta)). entries_of context_of l old.number) grows
         ∙ (entries_of-own context_of old.number (history_of_locked state taken) added ours
-            ∙ ap (λ (l : List (Entry ClusterMeta)). l ++ added) (sym took.own)) in
+        ∙ ap (λ (l : List (Entry ClusterMeta)). l ++ added) (sym took.own)) in
         record {
           birth = birth_is;
           step = step;
@@ -158,8 +160,12 @@ module _ {D : Type 0} (state : D → DiskState) (committer : TurnState (Birth D)
   pub opened : {P : Type 0} (old new : PassState (Entry ClusterMeta) (Birth D)) (pen : P)
       → OpensInHold state committer old new (Ok pen) → AddsInHold state committer [] old new
   opened old new pen o =
-      record { taken = o.taken; given = o.given; hold = subst (λ (l : List (Entry ClusterMeta)). IsHold state committer o.taken
-          o.given l old new) o.opens.adds o.hold }
+      record {
+        taken = o.taken;
+        given = o.given;
+        hold = subst (λ (l : List (Entry ClusterMeta)). IsHold state committer o.taken
+            o.given l old new) o.opens.adds o.hold;
+      }
 
   -- no pen was to be had
   pub unopened : (P : Type 0) (old new : PassState (Entry ClusterMeta) (Birth D)) (e : Refused) → OpensInHold state {P =
@@ -168,8 +174,11 @@ module _ {D : Type 0} (state : D → DiskState) (committer : TurnState (Birth D)
       record {
         taken = o.taken;
         given = o.given;
-        opens = record { added = o.opens.added; grows = o.opens.grows; adds =
-            no_pen P (state o.taken.disk).faults (state o.given.disk).faults old.number e o.opens.added o.opens.adds };
+        opens = record {
+          added = o.opens.added;
+          grows = o.opens.grows;
+          adds = no_pen P (state o.taken.disk).faults (state o.given.disk).faults old.number e o.opens.added o.opens.adds;
+        };
         hold = o.hold;
       }
 
@@ -180,7 +189,7 @@ module _ {D : Type 0} (state : D → DiskState) (committer : TurnState (Birth D)
       let h = a.hold in
       let seen : new.seen ≡ history_of_locked state a.given = ap (λ (p : PassState (Entry ClusterMeta) (Birth D)). p.seen) h.now in
       let more : history_of_locked state a.given ≡ history_of_locked state a.taken =
-              h.grows ∙ append-nil (history_of_locked state a.taken) in (
+      h.grows ∙ append-nil (history_of_locked state a.taken) in (
         h.now ∙ (ap (λ (l : List (Entry ClusterMeta)). record old { seen = history_of_locked state a.given; own = l }) (append-nil old.own)
             ∙ ap (λ (l : List (Entry ClusterMeta)). record old { seen = l }) (sym seen)),
         subst (λ (l : List (Entry ClusterMeta)). IsPrefix old.seen l) (sym (seen ∙ more)) h.begins,
@@ -197,7 +206,9 @@ module _ {D : Type 0} where
       record {
         seen = prefix_on old.seen first.seen new.seen seen both;
         told = told;
-        now = joined ∙ (ap (λ (p : PassState (Entry ClusterMeta) (Birth D)). record p { seen = all; kept =
-            p.kept ++ (pass.number, pass.own) ∷ [] }) kept
+        now = joined ∙ (ap (λ (p : PassState (Entry ClusterMeta) (Birth D)). record p {
+          seen = all;
+          kept = p.kept ++ (pass.number, pass.own) ∷ [];
+        }) kept
             ∙ ap (λ (l : List (Entry ClusterMeta)). record old { seen = l; kept = old.kept ++ (pass.number, pass.own) ∷ [] }) (sym is));
       }

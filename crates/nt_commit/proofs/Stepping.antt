@@ -37,13 +37,24 @@ use Rattle.nt_commit.proofs.Telling.{told_entry, told_history-snoc, steps_are_co
 
 abbrev pub locked_of : {D : Type 0} → D → D → ℕ → BookData → LockedState D
 locked_of begun disk contexts book =
-    record { disk = disk; book = book; birth = record { begun = begun; limits = book.limits; columns = length book.firsts; firsts =
-        book.firsts; contexts = contexts } }
+    record {
+      disk = disk;
+      book = book;
+      birth = record {
+        begun = begun;
+        limits = book.limits;
+        columns = length book.firsts;
+        firsts = book.firsts;
+        contexts = contexts;
+      };
+    }
 
 -- only a settled entry gains bytes
 told-committed : (held : Option Held) (i n start len : ℕ) (meta : ClusterMeta) (steps : List Step)
-    → told_entry held (record { context = i; kind = entry.Committed n start len meta }) steps ≡ record { context = i; kind =
-        entry.Committed n start len meta }
+    → told_entry held (record { context = i; kind = entry.Committed n start len meta }) steps ≡ record {
+      context = i;
+      kind = entry.Committed n start len meta;
+    }
 told-committed None i n start len meta steps = refl
 told-committed (Some h) i n start len meta steps = refl
 
@@ -134,7 +145,7 @@ module _ {D : Type 0} (state : D → DiskState) (begun d : D) (contexts : ℕ) (
         let is = claimed.0 in
         subst (λ (r : Range). Contains (state d).out r) claimed.1
         (subst (λ (l : List Range). Contains l (place_of is.cluster)) (sym was.follows.out)
-            (contains_out (ranges_of history) claim.cluster is.cluster is.at is.out))
+        (contains_out (ranges_of history) claim.cluster is.cluster is.at is.out))
 
   module _ (d' : D) (b' : BookData) where
     abbrev new : LockedState D
@@ -190,7 +201,7 @@ module _ {D : Type 0} (state : D → DiskState) (begun d : D) (contexts : ℕ) (
     same_history spare is place later =
         let all : history_of_locked state new ≡ history =
         ap (λ (x : BookData). told_history (state begun).held (state d').held x.history) is
-            ∙ ap (λ (o : Option Held). told_history (state begun).held o b.history) place.held in (
+        ∙ ap (λ (o : Option Held). told_history (state begun).held o b.history) place.held in (
           new_step b.history spare is (subst (λ (l : List (Entry ClusterMeta)). Follows (state begun) (state d') contexts l) (sym all)
               (Follows-same (state begun) (state d) (state d') contexts history was.follows place.held place.end place.out later))
               (subst AreShort (sym all) was.short),
@@ -204,10 +215,10 @@ module _ {D : Type 0} (state : D → DiskState) (begun d : D) (contexts : ℕ) (
         → IsStep state old new × (history_of_locked state new ≡ history ++ faulted_entry i (state d').faults ∷ [])
     faulted i faults spare is context place later rose count fits =
         let done = grows_to (faulted_entry i faults) (faulted_entry i faults) spare [] is
-                (λ h was. (h, place.held ∙ was, sym (append-nil h.log))) (told-faulted (state begun).held i faults [])
+        (λ h was. (h, place.held ∙ was, sym (append-nil h.log))) (told-faulted (state begun).held i faults [])
         (Follows-fault (state begun) (state d) (state d') contexts history was.follows i faults context place.held place.end place.out
         (risen (state d).faults faults (omega (arith, later, count)) (subst (λ (n : ℕ). Rose (state d).faults n) (sym count) rose)
-            fits) (omega (arith, count))) tt in
+        fits) (omega (arith, count))) tt in
         (done.0, done.1 ∙ ap (λ (n : ℕ). history ++ faulted_entry i n ∷ []) count)
 
     -- a range was reserved for a cluster, which was entered
@@ -217,12 +228,12 @@ module _ {D : Type 0} (state : D → DiskState) (begun d : D) (contexts : ℕ) (
         → BecomesSome (state d).held (state d').held (IsReserved (state d).end meta.len) → (state d').end ≡ (state d).end + meta.len
         → (state d').out ≡ (state d).out ++ record { start = (state d).end; len = meta.len } ∷ [] → (state d).faults ≤ (state d').faults
         → IsStep state old new × (history_of_locked state new ≡ history ++ committed_entry (locked_count state old)
-            (locked_end state old) meta ∷ [])
+        (locked_end state old) meta ∷ [])
     committed n spare meta is number limits context room log end out later =
         let done = grows_to (committed_entry n (book_end b) meta) (committed_entry n (book_end b) meta) spare
-                (Reserve (state d).end meta.len ∷ []) is
+        (Reserve (state d).end meta.len ∷ []) is
         (λ h was. let next = log h was in (next.0, next.1, next.2.log))
-            (told-committed (state begun).held meta.context n (book_end b) meta.len meta (Reserve (state d).end meta.len ∷ []))
+        (told-committed (state begun).held meta.context n (book_end b) meta.len meta (Reserve (state d).end meta.len ∷ []))
         (Follows-commit (state begun) (state d) (state d') contexts history was.follows meta.context n (book_end b) meta.len meta
         (number ∙ count_is) end_is context room log end out later)
         (limit_error-none b.limits (book_end b) (length (book_clusters b)) meta.len (sym limits)).0 in (
@@ -235,19 +246,19 @@ module _ {D : Type 0} (state : D → DiskState) (begun d : D) (contexts : ℕ) (
     pub settled : (i n spare : ℕ) (ext : ExtState) → HasHistory (b.history ++ settled_entry i n ∷ []) spare
         → (is : IsOut (ranges_of history) i n) → place_of is.cluster ≡ ext.range
         → i ≤ contexts → AreAsLong ext.content ext.range.len → BecomesSome (state d).held (state d').held (IsRangeSettled ext)
-            → (state d').end ≡ (state d).end
+        → (state d').end ≡ (state d).end
         → (state d').out ≡ without ext.range (state d).out → (state d').faults ≡ (state d).faults
         → IsStep state old new × (history_of_locked state new ≡ history
-            ++ settled_with i n (bytes_where_told (state begun).held ext.content) ∷ [])
+        ++ settled_with i n (bytes_where_told (state begun).held ext.content) ∷ [])
     settled i n spare ext is out range context long log end gone faults =
         let bytes = bytes_where_told (state begun).held ext.content in
         let start : ext.range.start ≡ out.cluster.start = ap (λ (r : Range). r.start) (sym range) in
         let len : ext.range.len ≡ out.cluster.len = ap (λ (r : Range). r.len) (sym range) in
         grows_to (settled_entry i n) (settled_with i n bytes) spare (Settle ext.range.start ext.range.len ext.content ∷ []) is
         (λ h was. let next = log h was in (next.0, next.1, next.2.log))
-            (told-settled (state begun).held i n ext.range.start ext.range.len ext.content)
+        (told-settled (state begun).held i n ext.range.start ext.range.len ext.content)
         (Follows-back (state begun) (state d) (state d') contexts history was.follows i n (Settled bytes) (entry.Settled n bytes)
-            bytes out refl refl refl
+        bytes out refl refl refl
         (out, subst (λ (m : ℕ). AreAsLong bytes m) len (long_where (state begun).held ext.content long)) context
         (λ begins told h was.
         let next = log h was in
@@ -269,7 +280,7 @@ module _ {D : Type 0} (state : D → DiskState) (begun d : D) (contexts : ℕ) (
     pub spoiled : (i n faults spare : ℕ) (ext : ExtState) → HasHistory (b.history ++ spoiled_entry i n faults ∷ []) spare
         → (is : IsOut (ranges_of history) i n) → place_of is.cluster ≡ ext.range
         → i ≤ contexts → ext.content ≡ None → BecomesSome (state d).held (state d').held (λ h h'. h'.log ≡ h.log
-            ++ Settle ext.range.start ext.range.len ext.content ∷ [])
+        ++ Settle ext.range.start ext.range.len ext.content ∷ [])
         → (state d').end ≡ (state d).end → (state d').out ≡ without ext.range (state d).out
         → (state d).faults ≤ (state d').faults → Rose (state d).faults (state d').faults → faults ≡ (state d').faults → faults < 2 ^ 64
         → IsStep state old new × (history_of_locked state new ≡ history ++ spoiled_entry i n (state d').faults ∷ [])
@@ -277,10 +288,10 @@ module _ {D : Type 0} (state : D → DiskState) (begun d : D) (contexts : ℕ) (
         let start : ext.range.start ≡ out.cluster.start = ap (λ (r : Range). r.start) (sym range) in
         let len : ext.range.len ≡ out.cluster.len = ap (λ (r : Range). r.len) (sym range) in
         let done = grows_to (spoiled_entry i n faults) (spoiled_entry i n faults) spare
-                (Settle ext.range.start ext.range.len ext.content ∷ []) is
+        (Settle ext.range.start ext.range.len ext.content ∷ []) is
         log (told-spoiled (state begun).held i n faults (Settle ext.range.start ext.range.len ext.content ∷ []))
         (Follows-back (state begun) (state d) (state d') contexts history was.follows i n (Spoiled faults) (entry.Spoiled n faults)
-            None out refl refl refl out context
+        None out refl refl refl out context
         (λ begins told h was.
         let next = log h was in (
           next.0,
@@ -291,7 +302,7 @@ module _ {D : Type 0} (state : D → DiskState) (begun d : D) (contexts : ℕ) (
         ))
         end (gone ∙ ap (λ (r : Range). without r (state d).out) (sym range))
         (λ h. risen (state d).faults faults (omega (arith, later, count))
-            (subst (λ (n : ℕ). Rose (state d).faults n) (sym count) rose) fits) (omega (arith, count))) tt in
+        (subst (λ (n : ℕ). Rose (state d).faults n) (sym count) rose) fits) (omega (arith, count))) tt in
         (done.0, done.1 ∙ ap (λ (m : ℕ). history ++ spoiled_entry i n m ∷ []) count)
 
     module _ {X : Type 0} (tell : X → ExtState) (i : ℕ) (claim : Claim X) (own : IsClaimOf tell (ranges_of history) i claim)
@@ -304,14 +315,14 @@ module _ {D : Type 0} (state : D → DiskState) (begun d : D) (contexts : ℕ) (
       claim_settled is done =
           let out = claimed tell i claim own in
           let r = settled i claim.cluster b.spare (tell claim.ext) is out.0 out.1 context
-                  (long_content (tell claim.ext) (tell claim.ext).content refl sized) done.held done.end done.out done.faults in
+          (long_content (tell claim.ext) (tell claim.ext).content refl sized) done.held done.end done.out done.faults in
           (r.0, record { grows = r.1 })
 
       -- the range of a claim was spoiled, and then a pen came back
       pub claim_spoiled : (faults : ℕ) (s : DiskState) (pen : ℕ)
           → HasHistory (b.history ++ spoiled_entry i claim.cluster faults ∷ []) b.spare
           → (tell claim.ext).filled ≡ false → 1 ≤ pen → Settles (tell claim.ext) (state d) s → TakesPen pen s (state d') → faults
-              ≡ (state d').faults → faults < 2 ^ 64
+          ≡ (state d').faults → faults < 2 ^ 64
           → IsStep state old new × Spoils state i claim.cluster old new
       claim_spoiled faults s pen is unfilled failed done back count fits =
           let out = claimed tell i claim own in
@@ -319,7 +330,7 @@ module _ {D : Type 0} (state : D → DiskState) (begun d : D) (contexts : ℕ) (
           let rose : Rose (state d).faults (state d').faults = omega (arith, done.faults, back.faults_taken.sum, failed) in
           let r = spoiled i claim.cluster faults b.spare x is out.0 out.1 context (no_content x x.content refl sized unfilled)
           (λ h was. let next = done.held h was in (next.0, back.place.held ∙ next.1, next.2.log)) (back.place.end ∙ done.end)
-              (back.place.out ∙ done.out)
+          (back.place.out ∙ done.out)
           (omega (arith, done.faults, back.faults_taken.later)) rose count fits in
           (r.0, record { rose = rose; grows = r.1 })
 
@@ -364,7 +375,7 @@ limit_named (Err e) l h = h
 pub limit_refuses : {D X : Type 0} (state : D → DiskState) (v v' : LockedState D) → v ≡ v'
     → (tell : X → ExtState) (meta : ClusterMeta) (result : Result (Claim X) CommitError) (l : LimitError)
     → limit_answered result ≡ Some l → limit_error v.birth.limits (locked_end state v) (locked_count state v) meta.len
-        ≡ Some l → Commits state tell meta v' v' result
+    ≡ Some l → Commits state tell meta v' v' result
 limit_refuses state v v' same tell meta result l named limit =
     subst (λ (x : _). Commits state tell meta x x result) same (record {
       limits = limit ∙ sym named;

@@ -41,8 +41,12 @@ module _ {M : Type 0} where
   length-told_bytes [] steps = refl
   length-told_bytes (e ∷ es) steps =
       let rest = told_bytes es (drop (step_count e.kind) steps) in
-      omega (arith, length-append (told_first e.kind steps) rest, length-told_first e.kind steps,
-          length-told_bytes es (drop (step_count e.kind) steps))
+      omega (
+        arith,
+        length-append (told_first e.kind steps) rest,
+        length-told_first e.kind steps,
+        length-told_bytes es (drop (step_count e.kind) steps),
+      )
 
   told_first-append : (k : EntryKind M) (steps new : List Step) → step_count k ≤ length steps → told_first k (steps ++ new)
       ≡ told_first k steps
@@ -62,7 +66,7 @@ module _ {M : Type 0} where
       ap (λ (l : List (Option (List ℕ))). l ++ told_bytes (ds ++ e ∷ []) (drop k (steps ++ new))) (told_first-append d.kind steps new le)
       ∙ (ap (λ (l : List Step). told_first d.kind steps ++ told_bytes (ds ++ e ∷ []) l) (drop-append-le k steps new le)
       ∙ (ap (λ (l : List (Option (List ℕ))). told_first d.kind steps ++ l)
-          (told_bytes-snoc ds e (drop k steps) new (length_rest k (steps_count ds) steps long))
+      (told_bytes-snoc ds e (drop k steps) new (length_rest k (steps_count ds) steps long))
       ∙ sym (append_assoc (told_first d.kind steps) (told_bytes ds (drop k steps)) (told_first e.kind new))))
 
   -- an entry with what its steps tell
@@ -73,7 +77,7 @@ module _ {M : Type 0} where
   with_bytes-snoc : (es : List (Entry M)) (i : ℕ) (k : EntryKind M) (told : List (Option (List ℕ))) (steps : List Step)
       → length told ≡ settled_count es
       → with_bytes (es ++ record { context = i; kind = k } ∷ []) (told ++ told_first k steps) ≡ with_bytes es told
-          ++ record { context = i; kind = with_first k (told_first k steps) } ∷ []
+      ++ record { context = i; kind = with_first k (told_first k steps) } ∷ []
   with_bytes-snoc es i (entry.Committed n start len meta) told steps long =
       let e : Entry M = record { context = i; kind = entry.Committed n start len meta } in
       ap (λ (l : List (Option (List ℕ))). with_bytes (es ++ e ∷ []) l) (append-nil told) ∙ with_bytes-other es e told refl
@@ -128,8 +132,12 @@ module _ {M : Type 0} where
   length-log_after place ranges [] ok = refl
   length-log_after place ranges (e ∷ es) ok =
       let rest = log_after (after_entry ranges e) es in
-      omega (arith, length-append (disk_steps_of ranges e.kind) rest, length-disk_steps_of place ranges e.context e.kind ok.0,
-          length-log_after place (after_entry ranges e) es ok.1)
+      omega (
+        arith,
+        length-append (disk_steps_of ranges e.kind) rest,
+        length-disk_steps_of place ranges e.context e.kind ok.0,
+        length-log_after place (after_entry ranges e) es ok.1,
+      )
 
   step_count-told : (k : EntryKind M) (told : List (Option (List ℕ))) → step_count (with_first k told) ≡ step_count k
   step_count-told (entry.Committed n start len meta) told = refl
@@ -154,7 +162,7 @@ module _ {M : Type 0} where
       → length (steps_of_history (told_history begun now history)) ≡ steps_count history
   steps_are_counted place begun now history ok =
       length-map (log_of (told_history begun now history)) logged_step
-          ∙ (length-log_after place [] (told_history begun now history) ok ∙ steps_count-told begun now history)
+      ∙ (length-log_after place [] (told_history begun now history) ok ∙ steps_count-told begun now history)
 
   -- the ranges of a told history are out, end and are as many as without the bytes
   pub told_out : (begun now : Option Held) (history : List (Entry M)) (i n : ℕ)
@@ -173,7 +181,7 @@ module _ {M : Type 0} where
       ≡ length (ranges_of history)
   count-with_bytes history told =
       sym (length-map (ranges_of (with_bytes history told)) untold) ∙ (ap (λ (l : List (Cluster M)). length l) (same history told)
-          ∙ length-map (ranges_of history) untold)
+      ∙ length-map (ranges_of history) untold)
 
   pub told_count : (begun now : Option Held) (history : List (Entry M)) → length (ranges_of (told_history begun now history))
       ≡ length (ranges_of history)
@@ -187,11 +195,11 @@ module _ {M : Type 0} where
   log_after-snoc ranges (d ∷ ds) e =
       ap (λ (l : List DiskStep). disk_steps_of ranges d.kind ++ l) (log_after-snoc (after_entry ranges d) ds e)
       ∙ sym (append_assoc (disk_steps_of ranges d.kind) (log_after (after_entry ranges d) ds)
-          (disk_steps_of (fold after_entry (after_entry ranges d) ds) e.kind))
+      (disk_steps_of (fold after_entry (after_entry ranges d) ds) e.kind))
 
   -- the steps of a history with one entry more
   pub steps_of_history-snoc : (history : List (Entry M)) (e : Entry M)
       → steps_of_history (history ++ e ∷ []) ≡ steps_of_history history ++ map logged_step (disk_steps_of (ranges_of history) e.kind)
   steps_of_history-snoc history e =
       ap (λ (l : List DiskStep). map logged_step l) (log_after-snoc [] history e) ∙ map-append logged_step (log_of history)
-          (disk_steps_of (ranges_of history) e.kind)
+      (disk_steps_of (ranges_of history) e.kind)

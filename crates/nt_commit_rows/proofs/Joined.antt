@@ -33,12 +33,14 @@ module _ {D : Type 0} (committer : TurnState (Birth D)) where
       → HasLeft committer between done new → HasAllBack committer old new
   back-around old mid between new pass done entered around number left =
       let since = joins_since (record mid { splits = old.splits }) mid between new done.number done.own
-              (ap (λ (n : ℕ). record mid { splits = n }) entered.splits) around.since
+      (ap (λ (n : ℕ). record mid { splits = n }) entered.splits) around.since
       (number ∙ entered.number) left.splits left.kept in
       record {
         first = left.first;
-        since = record { each = λ n less none. let e = since.each n less none in
-            (e.0, subst (λ (l : Kept). HasNone l n) entered.kept e.1) };
+        since = record {
+          each = λ n less none. let e = since.each n less none in
+              (e.0, subst (λ (l : Kept). HasNone l n) entered.kept e.1);
+        };
         back = λ b. left.back (around.back (entered.back b));
       }
 

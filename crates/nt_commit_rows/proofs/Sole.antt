@@ -56,8 +56,8 @@ handed-last : (i n : ℕ) (state : Fate) (c : Cluster ClusterMeta) → is_out st
     → c.state ≡ Out → Back (handed_back i n state c)
 handed-last i n state c is own number out =
     subst (λ (b : Bool). Back (cond b (record c { state = state }) c))
-        (sym (both (c.context == i) (c.number == n) (is_out c.state) (eq-eqb c.context i own) (eq-eqb c.number n number)
-          (ap is_out out))) is
+    (sym (both (c.context == i) (c.number == n) (is_out c.state) (eq-eqb c.context i own) (eq-eqb c.number n number)
+    (ap is_out out))) is
   where
     both : (a b o : Bool) → a ≡ true → b ≡ true → o ≡ true → (a && b && o) ≡ true
     both a b o p q r = ap (λ (a : Bool). a && b && o) p ∙ ap (λ (b : Bool). b && o) q ∙ r
@@ -80,7 +80,7 @@ module _ {X : Type 0} (tell : X → ExtState) where
       → HasNoneOut (entries ++ spoiled_entry context n faults ∷ [])
   none_spoiled entries context len n faults claim s number =
       subst (AllByRecursion Back) (sym (ranges-snoc entries (spoiled_entry context n faults)
-          ∙ ap (map (handed_back context n (Spoiled faults))) s.are))
+      ∙ ap (map (handed_back context n (Spoiled faults))) s.are))
       (all-handed context n (Spoiled faults) s.before s.last refl s.back s.own (s.number ∙ sym number) s.out)
 
   -- the one range is a claim's
@@ -102,8 +102,15 @@ module _ {X : Type 0} (tell : X → ExtState) where
       → (tell now.ext).range ≡ (tell claim.ext).range → IsClaimOf tell (ranges_of entries) context now
   is_claim_after entries context len claim now s number range =
       let c = is_claim entries context len claim s in
-      record { place = c.place; cluster = c.cluster; at = c.at; own = c.own; number = c.number ∙ sym number; out = c.out; range =
-          c.range ∙ sym range }
+      record {
+        place = c.place;
+        cluster = c.cluster;
+        at = c.at;
+        own = c.own;
+        number = c.number ∙ sym number;
+        out = c.out;
+        range = c.range ∙ sym range;
+      }
 
   -- none is out once it is handed back
   pub none_settled : (entries : Entries) (context len n : ℕ) (claim : Claim X) (bytes : Option (List ℕ))
@@ -111,7 +118,7 @@ module _ {X : Type 0} (tell : X → ExtState) where
       → HasNoneOut (entries ++ settled_with context n bytes ∷ [])
   none_settled entries context len n claim bytes s number =
       subst (AllByRecursion Back) (sym (ranges-snoc entries (settled_with context n bytes)
-          ∙ ap (map (handed_back context n (Settled bytes))) s.are))
+      ∙ ap (map (handed_back context n (Settled bytes))) s.are))
       (all-handed context n (Settled bytes) s.before s.last refl s.back s.own (s.number ∙ sym number) s.out)
 
 module _ {D X : Type 0} (state : D → DiskState) (tell : X → ExtState) (committer : TurnState (Birth D)) where
@@ -129,8 +136,14 @@ module _ {D X : Type 0} (state : D → DiskState) (tell : X → ExtState) (commi
       → Hold meta old new (Ok claim) → IsSoleClaim tell new.own old.number meta.len claim
   sole-commit meta old new claim back context h =
       let adds = h.commits.adds in
-      let last : Cluster ClusterMeta = record { context = meta.context; number = locked_count state h.taken; start =
-              locked_end state h.taken; len = meta.len; meta = meta; state = Out } in
+      let last : Cluster ClusterMeta = record {
+        context = meta.context;
+        number = locked_count state h.taken;
+        start = locked_end state h.taken;
+        len = meta.len;
+        meta = meta;
+        state = Out;
+      } in
       record {
         before = ranges_of old.own;
         last = last;
@@ -152,7 +165,7 @@ module _ {D X : Type 0} (state : D → DiskState) (tell : X → ExtState) (commi
       → added ≡ faulted_entry context faults ∷ [] → HasNoneOut new
   stays-faulted old new added context faults back is one =
       subst (AllByRecursion Back) (sym (ap (λ (l : Entries). ranges_of l) (is ∙ ap (λ (l : Entries). old ++ l) one)
-          ∙ ranges-snoc old (faulted_entry context faults))) back
+      ∙ ranges-snoc old (faulted_entry context faults))) back
 
   -- a refusal leaves none out
   pub none-refused : (meta : ClusterMeta) (old new : PassState (Entry ClusterMeta) (Birth D)) (e : CommitError) → HasNoneOut old.own
@@ -167,7 +180,7 @@ module _ {D X : Type 0} (state : D → DiskState) (tell : X → ExtState) (commi
   pub claim-if-ok : (meta : ClusterMeta) (old new : PassState (Entry ClusterMeta) (Birth D)) (len : ℕ)
       (result : Result (Claim X) CommitError) → HasNoneOut old.own
       → meta.context ≡ old.number → meta.len ≡ len → Hold meta old new result
-          → IfOk result (λ claim. IsSoleClaim tell new.own old.number len claim)
+      → IfOk result (λ claim. IsSoleClaim tell new.own old.number len claim)
   claim-if-ok meta old new len (Ok claim) back context is h =
       subst (λ (n : ℕ). IsSoleClaim tell new.own old.number n claim) is (sole-commit meta old new claim back context h)
   claim-if-ok meta old new len (Err e) back context is h = tt

@@ -18,12 +18,24 @@ use Rattle.nt_container.proofs.Words.{word_16, word_64, plain_bytes}
 envelopes-chain : (a b c d e f : List ℕ) (header header_size header_len footer footer_size footer_len : ℕ)
     → ReadsAs (big w64) a header → ReadsAs (big w64) b header_size → ReadsAs (big w64) c header_len
     → ReadsAs (big w64) d footer → ReadsAs (big w64) e footer_size → ReadsAs (big w64) f footer_len
-    → ReadsAs envelopes_at (concat (a ∷ b ∷ c ∷ d ∷ e ∷ f ∷ [])) (record { header = header; header_size = header_size; header_len =
-        header_len; footer = footer; footer_size = footer_size; footer_len = footer_len })
+    → ReadsAs envelopes_at (concat (a ∷ b ∷ c ∷ d ∷ e ∷ f ∷ [])) (record {
+      header = header;
+      header_size = header_size;
+      header_len = header_len;
+      footer = footer;
+      footer_size = footer_size;
+      footer_len = footer_len;
+    })
 unfolding envelopes_at
 envelopes-chain a b c d e f header header_size header_len footer footer_size footer_len p q r s t u =
-    of_parts envelopes_at (a ∷ b ∷ c ∷ d ∷ e ∷ f ∷ []) (record { header = header; header_size = header_size; header_len =
-        header_len; footer = footer; footer_size = footer_size; footer_len = footer_len }) λ place rest.
+    of_parts envelopes_at (a ∷ b ∷ c ∷ d ∷ e ∷ f ∷ []) (record {
+      header = header;
+      header_size = header_size;
+      header_len = header_len;
+      footer = footer;
+      footer_size = footer_size;
+      footer_len = footer_len;
+    }) λ place rest.
     rw (
       p place (spread (b ∷ c ∷ d ∷ e ∷ f ∷ []) rest),
       q (total place (a ∷ [])) (spread (c ∷ d ∷ e ∷ f ∷ []) rest),
@@ -37,10 +49,10 @@ pub envelopes_read : (a : Anchor) → IsAnchor a → ReadsAs envelopes_at (envel
 unfolding envelopes
 envelopes_read a is =
     envelopes-chain (to_be_bytes w64 a.header) (to_be_bytes w64 a.header_size) (to_be_bytes w64 a.header_len)
-        (to_be_bytes w64 a.footer) (to_be_bytes w64 a.footer_size) (to_be_bytes w64 a.footer_len)
+    (to_be_bytes w64 a.footer) (to_be_bytes w64 a.footer_size) (to_be_bytes w64 a.footer_len)
     a.header a.header_size a.header_len a.footer a.footer_size a.footer_len
     (word_64 a.header is.header) (word_64 a.header_size is.header_size) (word_64 a.header_len is.header_len)
-        (word_64 a.footer is.footer) (word_64 a.footer_size is.footer_size) (word_64 a.footer_len is.footer_len)
+    (word_64 a.footer is.footer) (word_64 a.footer_size is.footer_size) (word_64 a.footer_len is.footer_len)
 
 pub anchor-chain : (at place : ℕ) (a b c rest : List ℕ) (anchor : Anchor) → ReadsAs (big w16) a 1 → ReadsAs (bytes_at 6) b b
     → ReadsAs envelopes_at c anchor
@@ -57,7 +69,7 @@ pub anchor_reads : (at place : ℕ) (a : Anchor) → IsAnchor a → anchor_in at
 unfolding anchor_fields
 anchor_reads at place a is =
     anchor-chain at place (to_be_bytes w16 1) (to_be_bytes w16 0 ++ (to_be_bytes w16 0 ++ to_be_bytes w16 0)) (envelopes a)
-        (to_be_bytes w64 (2 ^ 30) ++ []) a
+    (to_be_bytes w64 (2 ^ 30) ++ []) a
     (word_16 1 (omega arith)) (plain_bytes 6 (to_be_bytes w16 0 ++ (to_be_bytes w16 0 ++ to_be_bytes w16 0)) refl) (envelopes_read a is)
 
 pub fields-chain : (at place sum : ℕ) (a b c : List ℕ) → ReadsAs (bytes_at 6) a a → length b ≡ 64 → ReadsAs (big w64) c sum → sum ≡ xxh3 b
@@ -81,9 +93,9 @@ pub fields_read : (at place : ℕ) (a : Anchor) → covered_fields at (standing 
 unfolding anchor_object
 fields_read at place a =
     fields-chain at place (xxh3 (anchor_fields a)) (to_be_bytes w32 0x40000042 ++ to_be_bytes w16 2) (anchor_fields a)
-        (to_be_bytes w64 (xxh3 (anchor_fields a)))
+    (to_be_bytes w64 (xxh3 (anchor_fields a)))
     (plain_bytes 6 (to_be_bytes w32 0x40000042 ++ to_be_bytes w16 2) refl) (fields-len a)
-        (word_64 (xxh3 (anchor_fields a)) (xxh3_below (anchor_fields a))) refl
+    (word_64 (xxh3 (anchor_fields a)) (xxh3_below (anchor_fields a))) refl
 
 -- the anchor's object is read whole
 pub object_reads : (at place : ℕ) (a : Anchor) → IsAnchor a → anchor_from at (standing place (anchor_object a)) ≡ Ok a

@@ -40,7 +40,7 @@ anchor : (place : ℕ) (here : At) → IsBytes here.left → Agrees (anchor_in p
 unfolding anchor_in IsIn
 anchor place here bytes =
     bind _ (refused _ (at texts.word_16 here bytes)) λ epoch e. bind _ (test _ _) λ u first.
-        bind _ (refused _ (at (plain 6) epoch.1 e.takes.bytes)) λ versions v.
+    bind _ (refused _ (at (plain 6) epoch.1 e.takes.bytes)) λ versions v.
     bind _ (refused _ (at texts.envelopes versions.1 v.takes.bytes)) λ all is. exactly _
 
 fields_bytes : (object here : At) → AreFields object here → IsBytes here.left
@@ -55,8 +55,16 @@ no_more : (head fields word rest : List ℕ) → length head ≡ 6 → length fi
     → length (head ++ (fields ++ (word ++ rest))) ≡ 78 → rest ≡ []
 no_more head fields word [] a b c d = refl
 no_more head fields word (r ∷ rest) a b c d =
-    absurd (omega (arith, a, b, c, d, length-append head (fields ++ (word ++ (r ∷ rest))),
-        length-append fields (word ++ (r ∷ rest)), length-append word (r ∷ rest)))
+    absurd (omega (
+      arith,
+      a,
+      b,
+      c,
+      d,
+      length-append head (fields ++ (word ++ (r ∷ rest))),
+      length-append fields (word ++ (r ∷ rest)),
+      length-append word (r ∷ rest),
+    ))
 
 text_found : (object : At) (a : Anchor) → length object.left ≡ 78 → With (AreFields object) IsIn a → AnchorText object.left a
 unfolding AreFields IsIn
@@ -74,7 +82,7 @@ text_found object a size w =
     let head_len : length head.text ≡ 6 = ap (λ (l : List ℕ). length l) head.is.is ∙ head.is.fits in
     let word_len : length kept.text ≡ 8 = ap (λ (l : List ℕ). length l) word in
     let none : rest ≡ [] = no_more head.text covered kept.text rest head_len part.len word_len
-            (ap (λ (l : List ℕ). length l) (sym whole_text) ∙ size) in
+    (ap (λ (l : List ℕ). length l) (sym whole_text) ∙ size) in
     let fields_are : w.middle.left ≡ covered = ap (λ (f : At). f.left) w.first.second.second.second.second in
     let epoch = w.second.first in
     let one : w.second.middle.0 ≡ 1 = eqb-true _ _ w.second.second.first in
@@ -83,7 +91,7 @@ text_found object a size w =
     let most : List ℕ = w.second.second.second.second.middle.1.left in
     let inside : covered ≡ epoch.text ++ (versions.text ++ (places.text ++ most)) =
     sym fields_are ∙ epoch.takes.parts ∙ ap (λ (l : List ℕ). epoch.text ++ l) (versions.takes.parts
-        ∙ ap (λ (l : List ℕ). versions.text ++ l) places.takes.parts) in
+    ∙ ap (λ (l : List ℕ). versions.text ++ l) places.takes.parts) in
     let epoch_is : epoch.text ≡ to_be_bytes w16 1 = epoch.is.is ∙ ap (to_be_bytes w16) one in
     let is : w.second.second.second.second.middle.0 ≡ a = sym w.second.second.second.second.second in
     record {
@@ -109,11 +117,11 @@ text_read place text a t =
     let fields_read : covered_fields place (standing 0 text) ≡ Ok (standing (0 + length t.head) t.fields) =
     ap (λ (l : List ℕ). covered_fields place (standing 0 l)) parts
     ∙ fields-chain place 0 (xxh3 t.fields) t.head t.fields (to_be_bytes w64 (xxh3 t.fields)) (plain_bytes 6 t.head t.head_size)
-        t.size (word_64 (xxh3 t.fields) (xxh3_below t.fields)) refl in
+    t.size (word_64 (xxh3 t.fields) (xxh3_below t.fields)) refl in
     let anchor_read : anchor_in place (standing (0 + length t.head) t.fields) ≡ Ok a =
     ap (λ (l : List ℕ). anchor_in place (standing (0 + length t.head) l)) t.inside
     ∙ anchor-chain place (0 + length t.head) (to_be_bytes w16 1) t.versions t.places t.most a (word_16 1 (omega arith))
-        (plain_bytes 6 t.versions t.versions_size)
+    (plain_bytes 6 t.versions t.versions_size)
     (λ from rest. texts.envelopes.reads t.places a t.is from rest) in
     rw fields_read anchor_read
 

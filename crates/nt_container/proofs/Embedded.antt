@@ -27,7 +27,7 @@ record IsObject (file : List ℕ) (key : Key) (object : At) : Type 0 where
 ObjectSteps : List ℕ → Key → At → Type 0
 ObjectSteps file key =
     With (With (Passes (eqb key.len (key.header_len + key.object_len))) λ u. Passes (eqb key.object_len 78)) λ v. IsPiece file
-        (key.place + key.header_len) 78
+    (key.place + key.header_len) 78
 
 object_steps : (file : List ℕ) (key : Key) → Agrees (object_of file key) (ObjectSteps file key)
 unfolding object_of is_plain ObjectSteps
@@ -36,8 +36,12 @@ object_steps file key = bind _ (bind _ (test _ _) λ u p. test _ _) λ v q. part
 object : (file : List ℕ) (key : Key) → Agrees (object_of file key) (IsObject file key)
 unfolding ObjectSteps
 object file key = in_words
-    (λ here w. record { plain = eqb-true _ _ w.first.first; size = eqb-true _ _ w.first.second; there = w.second.is; begins =
-        w.second.begins })
+    (λ here w. record {
+      plain = eqb-true _ _ w.first.first;
+      size = eqb-true _ _ w.first.second;
+      there = w.second.is;
+      begins = w.second.begins;
+    })
     (λ here o. record {
       middle = tt;
       first = record { middle = tt; first = eq-eqb _ _ o.plain; second = eq-eqb _ _ o.size };
@@ -51,15 +55,15 @@ object_size_is file object key e = (piece_parts file object (key.place + key.hea
 Steps : List ℕ → Anchor → Type 0
 Steps file =
     With (IsHeader file) λ h. With (StandsAt DirectoryText file (directory_place h)) λ d. With (Lists file d) λ k.
-        With (IsObject file k) λ o. AnchorText o.left
+    With (IsObject file k) λ o. AnchorText o.left
 
 steps : (file : List ℕ) → IsBytes file → Agrees (anchor_of file) (Steps file)
 unfolding anchor_of Steps
 steps file bytes =
     bind _ (header file bytes) λ h hs. bind _ (directory file (directory_place h) bytes) λ d ds. bind _ (anchor_key file d bytes)
-        λ k ks. bind _ (object file k) λ o os.
+    λ k ks. bind _ (object file k) λ o os.
     from_object k.place o (piece_bytes file o.left (k.place + k.header_len) 78 bytes os.there) os.begins
-        (object_size_is file o.left k os.there)
+    (object_size_is file o.left k os.there)
 
 pub embedded : (file : List ℕ) → IsBytes file → Agrees (anchor_of file) (Embeds file)
 unfolding Steps

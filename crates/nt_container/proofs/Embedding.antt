@@ -54,7 +54,7 @@ root_of : (head : List ℕ) → 4 ≤ length head → begins_root head ≡ true 
 root_of head long e =
     let short : ltb (length head) 4 ≡ false = le-ltb _ _ long in
     let same : bytes_eq (take 4 head) (codes "root") ≡ true =
-            other (ltb (length head) 4) (bytes_eq (take 4 head) (codes "root")) (both (eqb (get_or head 0 0) 0x72) _ e) short in
+    other (ltb (length head) 4) (bytes_eq (take 4 head) (codes "root")) (both (eqb (get_or head 0 0) 0x72) _ e) short in
     decided (take 4 head) (codes "root") same
 
 -- the file header of a file, in words
@@ -90,8 +90,12 @@ unfolding HeaderSteps
 header_words file header w =
     let s = w.second.first in
     let same : header ≡ w.second.middle = w.second.second.second in
-    let long : 4 ≤ length file = omega (arith, ap (λ (l : List ℕ). length l) s.there, length-take (length s.text) file,
-            header_long s.text w.second.middle s.is) in
+    let long : 4 ≤ length file = omega (
+      arith,
+      ap (λ (l : List ℕ). length l) s.there,
+      length-take (length s.text) file,
+      header_long s.text w.second.middle s.is,
+    ) in
     let long_window : 4 ≤ length (window 75 file 0) = omega (arith, long, length-take 75 file) in
     record {
       root = sym (take-take 4 75 file (omega arith)) ∙ root_of (window 75 file 0) long_window w.first.root;
@@ -104,15 +108,17 @@ unfolding header_in
 header_reads file header bytes h =
     let root : window 75 file 0 ≡ codes "root" ++ drop 4 (window 75 file 0) =
     sym (take-append-drop 4 (window 75 file 0)) ∙ ap (λ (l : List ℕ). l ++ drop 4 (window 75 file 0))
-        (take-take 4 75 file (omega arith) ∙ h.root) in
+    (take-take 4 75 file (omega arith) ∙ h.root) in
     let open-is : gate_of (window 75 file 0) ≡ Ok tt = ap gate_of root ∙ gate_opens (drop 4 (window 75 file 0)) in
     let read = (located (fault bad_file_header 0) header_text 75 header-short file 0 bytes).reads header h.is in
     let test_is : leb header.end (length file) ≡ true = le-leb _ _ h.ends in
     rw (open-is, read, test_is) refl
 
 pub header : (file : List ℕ) → IsBytes file → Agrees (file_header_of file) (IsHeader file)
-header file bytes = record { reads = λ h is. header_reads file h bytes is; finds =
-    λ h e. header_words file h ((header_steps file bytes).finds h e) }
+header file bytes = record {
+  reads = λ h is. header_reads file h bytes is;
+  finds = λ h e. header_words file h ((header_steps file bytes).finds h e);
+}
 
 pub directory : (file : List ℕ) (place : ℕ) → IsBytes file → Agrees (directory_of file place) (StandsAt DirectoryText file place)
 directory file place bytes = located _ directory_text 42 directory-short file place bytes

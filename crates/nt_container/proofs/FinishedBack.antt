@@ -47,15 +47,22 @@ header_inside : (end free size : ℕ) → end < 2 ^ 64 → free < 2 ^ 64 → end
 unfolding header_in
 header_inside end free size small smaller inside =
     let test : leb end size ≡ true = le-leb _ _ inside in
-    rw (gate_is end free, alone header_at (header_words end free) (record { begin = 100; end = end; name_len =
-        66 }) (header_reads end free small smaller) 0, test) refl
+    rw (
+      gate_is end free,
+      alone header_at (header_words end free) (record {
+        begin = 100;
+        end = end;
+        name_len = 66;
+      }) (header_reads end free small smaller) 0,
+      test,
+    ) refl
 
 pub header_is : (file : List ℕ) (end free : ℕ) (rest : List ℕ) → file ≡ header_words end free ++ rest → end < 2 ^ 64 → free < 2 ^ 64
     → end ≤ length file
     → file_header_of file ≡ Ok (record { begin = 100; end = end; name_len = 66 })
 header_is file end free rest whole small smaller inside =
     let front : window 75 file 0 ≡ header_words end free =
-            ap (λ (l : List ℕ). take 75 l) whole ∙ take_at (header_words end free) rest 75 (header_words-len end free) in
+    ap (λ (l : List ℕ). take 75 l) whole ∙ take_at (header_words end free) rest 75 (header_words-len end free) in
     ap (λ (l : List ℕ). header_in l (length file)) front ∙ header_inside end free (length file) small smaller inside
 
 numbers-chain : (b c d e f g : List ℕ) (keys_len name_len own parent keys : ℕ) → ReadsAs (bytes_at 8) b b
@@ -84,12 +91,14 @@ directory-chain a b version directory p wide q =
 directory_reads : (keys : ℕ) → keys < 2 ^ 64 → ReadsAs directory_at (directory_words keys) (record { keys = keys; keys_len = 113 })
 unfolding directory_words directory_numbers
 directory_reads keys small =
-    directory-chain (to_be_bytes w16 1005) (directory_numbers keys) 1005 (record { keys = keys; keys_len =
-        113 }) (word_16 1005 (omega arith)) refl
+    directory-chain (to_be_bytes w16 1005) (directory_numbers keys) 1005 (record {
+      keys = keys;
+      keys_len = 113;
+    }) (word_16 1005 (omega arith)) refl
     (numbers-chain (to_be_bytes w32 0x00420000 ++ to_be_bytes w32 0x00420000) (to_be_bytes w32 113) (to_be_bytes w32 66)
-        (to_be_bytes w64 100) (to_be_bytes w64 0) (to_be_bytes w64 keys)
+    (to_be_bytes w64 100) (to_be_bytes w64 0) (to_be_bytes w64 keys)
     113 66 100 0 keys (plain_bytes 8 (to_be_bytes w32 0x00420000 ++ to_be_bytes w32 0x00420000) refl) (word_32 113 (omega arith))
-        (word_32 66 (omega arith)) (wide_place 100 (omega arith)) (wide_place 0 (omega arith)) (wide_place keys small))
+    (word_32 66 (omega arith)) (wide_place 100 (omega arith)) (wide_place 0 (omega arith)) (wide_place keys small))
 
 pub directory_is : (file : List ℕ) (place keys : ℕ) → keys < 2 ^ 64 → piece file place 42 ≡ Some (directory_words keys)
     → directory_of file place ≡ Ok (record { keys = keys; keys_len = 113 })
@@ -117,9 +126,9 @@ pub anchor_key_is : (file : List ℕ) (place anchor_at : ℕ) → place < 2 ^ 64
 unfolding key_list_part
 anchor_key_is file place anchor_at small smaller e =
     list-chain file (file_key 60 place 100) (to_be_bytes w32 1) (anchor_key anchor_at) place 113 (key_of 53 60 place)
-        (key_of 56 78 anchor_at) (codes "TFile") e
+    (key_of 56 78 anchor_at) (codes "TFile") e
     (file_key_reads 60 place 100 (omega arith) small (omega arith))
-        (plain_bytes 53 (file_key 60 place 100) (file_key-len 60 place 100)) (word_32 1 (omega arith)) (anchor_key_reads anchor_at smaller)
+    (plain_bytes 53 (file_key 60 place 100) (file_key-len 60 place 100)) (word_32 1 (omega arith)) (anchor_key_reads anchor_at smaller)
 
 pub object_is : (file object : List ℕ) (at : ℕ) → piece file (at + 56) 78 ≡ Some object → object_of file (key_of 56 78 at)
     ≡ Ok (standing 0 object)
@@ -141,29 +150,37 @@ regroup h z r d u m k o l f = simp append_assoc
 abbrev pieces : Anchor → List ℕ → List (List ℕ)
 pieces a m =
     header_words (end_place (length m)) (free_place (length m)) ∷ replicate 25 0 ∷ record_names
-        ∷ directory_words (keys_place (length m)) ∷ zero_uuid ∷ m
+    ∷ directory_words (keys_place (length m)) ∷ zero_uuid ∷ m
     ∷ anchor_key (anchor_place (length m)) ∷ anchor_object a ∷ key_list_part (keys_place (length m)) (anchor_place (length m))
-        ∷ free_list_part (free_place (length m)) (end_place (length m)) ∷ []
+    ∷ free_list_part (free_place (length m)) (end_place (length m)) ∷ []
 
 pub finished-pieces : (a : Anchor) (middle : List (List ℕ)) → finished_file a middle ≡ concat (pieces a (concat middle))
 unfolding finished_file header_part record_part anchor_part
 finished-pieces a middle =
     let n : ℕ = length (concat middle) in
     ap (λ (l : List ℕ). header_part (end_place (length (concat middle))) (free_place (length (concat middle)))
-        ++ (record_part (keys_place (length (concat middle))) ++ l)) (concat-append middle (parts_behind (length (concat middle)) a))
+    ++ (record_part (keys_place (length (concat middle))) ++ l)) (concat-append middle (parts_behind (length (concat middle)) a))
     ∙ regroup (header_words (end_place (length (concat middle))) (free_place (length (concat middle)))) (replicate 25 0)
-        record_names (directory_words (keys_place (length (concat middle)))) zero_uuid (concat middle)
+    record_names (directory_words (keys_place (length (concat middle)))) zero_uuid (concat middle)
     (anchor_key (anchor_place (length (concat middle)))) (anchor_object a)
-        (key_list_part (keys_place (length (concat middle))) (anchor_place (length (concat middle))))
-          (free_list_part (free_place (length (concat middle))) (end_place (length (concat middle))))
+    (key_list_part (keys_place (length (concat middle))) (anchor_place (length (concat middle))))
+    (free_list_part (free_place (length (concat middle))) (end_place (length (concat middle))))
 
 pub pieces-len : (a : Anchor) (m : List ℕ) → length (concat (pieces a m)) ≡ end_place (length m)
 pieces-len a m =
     let n : ℕ = length m in
     length-concat (pieces a m)
-    ∙ omega (arith, header_words-len (end_place (length m)) (free_place (length m)), record_head-len,
-        directory-len (keys_place (length m)), uuid-len, anchor_key-len (anchor_place (length m)), object-len a,
-          key_list-len (keys_place (length m)) (anchor_place (length m)), free_list-len (free_place (length m)) (end_place (length m)))
+    ∙ omega (
+      arith,
+      header_words-len (end_place (length m)) (free_place (length m)),
+      record_head-len,
+      directory-len (keys_place (length m)),
+      uuid-len,
+      anchor_key-len (anchor_place (length m)),
+      object-len a,
+      key_list-len (keys_place (length m)) (anchor_place (length m)),
+      free_list-len (free_place (length m)) (end_place (length m)),
+    )
 
 -- a file of these pieces is read
 read_pieces : (a : Anchor) (m file : List ℕ) → IsAnchor a → end_place (length m) < 2 ^ 64 → file ≡ concat (pieces a m)
@@ -175,18 +192,33 @@ read_pieces a m file is small whole =
     let long : end_place (length m) ≤ length file = omega (arith, ap (λ (l : List ℕ). length l) whole, pieces-len a m) in
     let directory_piece : piece file 166 42 ≡ Some (directory_words (keys_place (length m))) =
     part_from file (pieces a m) 3 166 42 (directory_words (keys_place (length m))) whole (omega arith) refl
-        (omega (arith, words, record_head-len)) (directory-len (keys_place (length m))) in
+    (omega (arith, words, record_head-len)) (directory-len (keys_place (length m))) in
     let list_piece : piece file (keys_place (length m)) 113 ≡ Some (key_list_part (keys_place (length m)) (anchor_place (length m))) =
     part_from file (pieces a m) 8 (keys_place (length m)) 113 (key_list_part (keys_place (length m)) (anchor_place (length m)))
-        whole (omega arith) refl
-    (omega (arith, words, record_head-len, directory-len (keys_place (length m)), uuid-len,
-        anchor_key-len (anchor_place (length m)), object-len a)) list in
+    whole (omega arith) refl
+    (omega (
+      arith,
+      words,
+      record_head-len,
+      directory-len (keys_place (length m)),
+      uuid-len,
+      anchor_key-len (anchor_place (length m)),
+      object-len a,
+    )) list in
     let object_piece : piece file (anchor_place (length m) + 56) 78 ≡ Some (anchor_object a) =
     part_from file (pieces a m) 7 (anchor_place (length m) + 56) 78 (anchor_object a) whole (omega arith) refl
-    (omega (arith, words, record_head-len, directory-len (keys_place (length m)), uuid-len,
-        anchor_key-len (anchor_place (length m)))) (object-len a) in
-    anchor-steps file (record { begin = 100; end = end_place (length m); name_len = 66 }) (record { keys =
-        keys_place (length m); keys_len = 113 }) (key_of 56 78 (anchor_place (length m)))
+    (omega (
+      arith,
+      words,
+      record_head-len,
+      directory-len (keys_place (length m)),
+      uuid-len,
+      anchor_key-len (anchor_place (length m)),
+    )) (object-len a) in
+    anchor-steps file (record { begin = 100; end = end_place (length m); name_len = 66 }) (record {
+      keys = keys_place (length m);
+      keys_len = 113;
+    }) (key_of 56 78 (anchor_place (length m)))
     (standing 0 (anchor_object a)) a
     (header_is file (end_place (length m)) (free_place (length m)) _ whole small (omega arith) long)
     (directory_is file 166 (keys_place (length m)) (omega arith) directory_piece)
@@ -198,7 +230,7 @@ pub finished_back : (a : Anchor) (middle : List (List ℕ)) → IsAnchor a → l
     → anchor_of (finished_file a middle) ≡ Ok a
 finished_back a middle is small =
     let len : length (finished_file a middle) ≡ end_place (length (concat middle)) =
-            ap (λ (l : List ℕ). length l) (finished-pieces a middle) ∙ pieces-len a (concat middle) in
+    ap (λ (l : List ℕ). length l) (finished-pieces a middle) ∙ pieces-len a (concat middle) in
     read_pieces a (concat middle) (finished_file a middle) is (omega (arith, len, small)) (finished-pieces a middle)
 
 pub finished-len : (a : Anchor) (middle : List (List ℕ)) → length (finished_file a middle) ≡ 544 + length (concat middle)
@@ -217,11 +249,16 @@ middle_found a middle k h =
     let tail : List (List ℕ) = parts_behind (length (concat middle)) a in
     let whole = split_at middle k h in
     piece_at (head ++ (record_part ++ concat (middle ++ tail))) (head ++ (record_part ++ concat (take k middle)))
-        (get_or middle k []) (concat (drop (suc k) middle) ++ concat tail)
+    (get_or middle k []) (concat (drop (suc k) middle) ++ concat tail)
     (226 + sum (map length (take k middle))) (length (get_or middle k []))
     (ap (λ (l : List ℕ). head ++ (record_part ++ l)) (concat-append middle tail ∙ ap (λ (l : List ℕ). l ++ concat tail) whole)
     ∙ around head record_part (concat (take k middle)) (get_or middle k []) (concat (drop (suc k) middle)) (concat tail))
-    (omega (arith, length-append head (record_part ++ concat (take k middle)), length-append record_part (concat (take k middle)),
-        length-concat (take k middle), header-len (end_place (length (concat middle))) (free_place (length (concat middle))),
-          file_record-len (keys_place (length (concat middle)))))
+    (omega (
+      arith,
+      length-append head (record_part ++ concat (take k middle)),
+      length-append record_part (concat (take k middle)),
+      length-concat (take k middle),
+      header-len (end_place (length (concat middle))) (free_place (length (concat middle))),
+      file_record-len (keys_place (length (concat middle))),
+    ))
     refl

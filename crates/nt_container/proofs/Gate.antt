@@ -51,12 +51,12 @@ pub begin-len : (end free keys : ℕ) → length (begun end free keys) ≡ 226
 unfolding begun
 begin-len end free keys =
     length-set (header_part end free ++ record_part keys) 0 0
-        ∙ omega (arith, length-append (header_part end free) (record_part keys), header-len end free, file_record-len keys)
+    ∙ omega (arith, length-append (header_part end free) (record_part keys), header-len end free, file_record-len keys)
 
 pub blob_found : (file object : List ℕ) (at : ℕ) → piece file at (42 + length object) ≡ Some (blob_key (length object) at ++ object)
     → piece file (at + 42) (length object) ≡ Some object
 blob_found file object at e =
     inside_at file (blob_key (length object) at ++ object) (blob_key (length object) at) object [] at (42 + length object) (at + 42)
-        (length object) e
+    (length object) e
     (ap (λ (l : List ℕ). blob_key (length object) at ++ l) (sym (append-nil object)))
-        (ap (λ (k : ℕ). at + k) (blob_key-len (length object) at)) refl
+    (ap (λ (k : ℕ). at + k) (blob_key-len (length object) at)) refl

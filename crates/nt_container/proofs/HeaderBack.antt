@@ -16,12 +16,15 @@ use Rattle.nt_container.proofs.Words.{word_32, wide_place, plain_bytes}
 numbers-chain : (a b c d e f g : List ℕ) (begin end free free_len pieces name_len : ℕ) → ReadsAs (big w32) a begin
     → ReadsAs (place_at true) b end
     → ReadsAs (place_at true) c free → ReadsAs (big w32) d free_len → ReadsAs (big w32) e pieces → ReadsAs (big w32) f name_len
-        → ReadsAs (bytes_at 35) g g
+    → ReadsAs (bytes_at 35) g g
     → ReadsAs (header_numbers_at true) (concat (a ∷ b ∷ c ∷ d ∷ e ∷ f ∷ g ∷ [])) (record { begin = begin; end = end; name_len = name_len })
 unfolding header_numbers_at
 numbers-chain a b c d e f g begin end free free_len pieces name_len p q r s t u v =
-    of_parts (header_numbers_at true) (a ∷ b ∷ c ∷ d ∷ e ∷ f ∷ g ∷ []) (record { begin = begin; end = end; name_len =
-        name_len }) λ place rest.
+    of_parts (header_numbers_at true) (a ∷ b ∷ c ∷ d ∷ e ∷ f ∷ g ∷ []) (record {
+      begin = begin;
+      end = end;
+      name_len = name_len;
+    }) λ place rest.
     rw (
       p place (spread (b ∷ c ∷ d ∷ e ∷ f ∷ g ∷ []) rest),
       q (total place (a ∷ [])) (spread (c ∷ d ∷ e ∷ f ∷ g ∷ []) rest),
@@ -41,9 +44,9 @@ numbers_read : (end free : ℕ) → end < 2 ^ 64 → free < 2 ^ 64
 unfolding header_numbers
 numbers_read end free small smaller =
     numbers-chain (to_be_bytes w32 100) (to_be_bytes w64 end) (to_be_bytes w64 free) (to_be_bytes w32 71) (to_be_bytes w32 1)
-        (to_be_bytes w32 66) header_rest 100 end free 71 1 66
+    (to_be_bytes w32 66) header_rest 100 end free 71 1 66
     (word_32 100 (omega arith)) (wide_place end small) (wide_place free smaller) (word_32 71 (omega arith))
-        (word_32 1 (omega arith)) (word_32 66 (omega arith)) (plain_bytes 35 header_rest header_rest-len)
+    (word_32 1 (omega arith)) (word_32 66 (omega arith)) (plain_bytes 35 header_rest header_rest-len)
 
 header-chain : (a b c : List ℕ) (version : ℕ) (header : FileHeader) → ReadsAs (bytes_at 4) a a → ReadsAs (big w32) b version
     → leb 1000000 version ≡ true
@@ -58,10 +61,16 @@ header-chain a b c version header p q wide r =
       r (total place (a ∷ b ∷ [])) rest,
     ) refl
 
-pub header_reads : (end free : ℕ) → end < 2 ^ 64 → free < 2 ^ 64 → ReadsAs header_at (header_words end free) (record { begin =
-    100; end = end; name_len = 66 })
+pub header_reads : (end free : ℕ) → end < 2 ^ 64 → free < 2 ^ 64 → ReadsAs header_at (header_words end free) (record {
+  begin = 100;
+  end = end;
+  name_len = 66;
+})
 unfolding header_words
 header_reads end free small smaller =
-    header-chain (codes "root") (to_be_bytes w32 1063400) (header_numbers end free) 1063400 (record { begin = 100; end =
-        end; name_len = 66 })
+    header-chain (codes "root") (to_be_bytes w32 1063400) (header_numbers end free) 1063400 (record {
+      begin = 100;
+      end = end;
+      name_len = 66;
+    })
     (plain_bytes 4 (codes "root") refl) (word_32 1063400 (omega arith)) refl (numbers_read end free small smaller)

@@ -15,12 +15,20 @@ use Rattle.nt_container.proofs.Words.{word_16, word_32, wide_place, short_text}
 sizes-chain : (a b c d e f : List ℕ) (len version object_len time header_len cycle : ℕ) → ReadsAs (big w32) a len
     → ReadsAs (big w16) b version
     → ReadsAs (big w32) c object_len → ReadsAs (big w32) d time → ReadsAs (big w16) e header_len → ReadsAs (big w16) f cycle
-    → ReadsAs sizes_at (concat (a ∷ b ∷ c ∷ d ∷ e ∷ f ∷ [])) (record { len = len; version = version; object_len =
-        object_len; header_len = header_len })
+    → ReadsAs sizes_at (concat (a ∷ b ∷ c ∷ d ∷ e ∷ f ∷ [])) (record {
+      len = len;
+      version = version;
+      object_len = object_len;
+      header_len = header_len;
+    })
 unfolding sizes_at
 sizes-chain a b c d e f len version object_len time header_len cycle p q r s t u =
-    of_parts sizes_at (a ∷ b ∷ c ∷ d ∷ e ∷ f ∷ []) (record { len = len; version = version; object_len = object_len; header_len =
-        header_len }) λ place rest.
+    of_parts sizes_at (a ∷ b ∷ c ∷ d ∷ e ∷ f ∷ []) (record {
+      len = len;
+      version = version;
+      object_len = object_len;
+      header_len = header_len;
+    }) λ place rest.
     rw (
       p place (spread (b ∷ c ∷ d ∷ e ∷ f ∷ []) rest),
       q (total place (a ∷ [])) (spread (c ∷ d ∷ e ∷ f ∷ []) rest),
@@ -31,15 +39,19 @@ sizes-chain a b c d e f len version object_len time header_len cycle p q r s t u
     ) refl
 
 sizes_read : (header_len object_len : ℕ) → header_len < 2 ^ 16 → header_len + object_len < 2 ^ 32
-    → ReadsAs sizes_at (key_sizes header_len object_len) (record { len = header_len + object_len; version = 1004; object_len =
-        object_len; header_len = header_len })
+    → ReadsAs sizes_at (key_sizes header_len object_len) (record {
+      len = header_len + object_len;
+      version = 1004;
+      object_len = object_len;
+      header_len = header_len;
+    })
 unfolding key_sizes
 sizes_read header_len object_len short fits =
     sizes-chain (to_be_bytes w32 (header_len + object_len)) (to_be_bytes w16 1004) (to_be_bytes w32 object_len)
-        (to_be_bytes w32 0x00420000) (to_be_bytes w16 header_len) (to_be_bytes w16 1)
+    (to_be_bytes w32 0x00420000) (to_be_bytes w16 header_len) (to_be_bytes w16 1)
     (header_len + object_len) 1004 object_len 0x00420000 header_len 1
     (word_32 (header_len + object_len) fits) (word_16 1004 (omega arith)) (word_32 object_len (omega arith))
-        (word_32 0x00420000 (omega arith)) (word_16 header_len short) (word_16 1 (omega arith))
+    (word_32 0x00420000 (omega arith)) (word_16 header_len short) (word_16 1 (omega arith))
 
 names-chain : (a b c d e : List ℕ) (place directory : ℕ) (class name title : List ℕ) → ReadsAs (place_at true) a place
     → ReadsAs (place_at true) b directory
@@ -61,17 +73,31 @@ names_read : (at directory : ℕ) (class name : List ℕ) → at < 2 ^ 64 → di
 unfolding key_names
 names_read at directory class name small smaller short shorter =
     names-chain (to_be_bytes w64 at) (to_be_bytes w64 directory) (short_tstring class) (short_tstring name) (short_tstring []) at
-        directory class name []
+    directory class name []
     (wide_place at small) (wide_place directory smaller) (short_text class short) (short_text name shorter) (short_text [] (omega arith))
 
 key-chain : (a b : List ℕ) (sizes : Sizes) (place : ℕ) (class : List ℕ) → ReadsAs sizes_at a sizes → ltb 1000 sizes.version ≡ true
     → ReadsAs (key_names_at true) b (place, class)
-    → ReadsAs key_at (concat (a ∷ b ∷ [])) (record { len = sizes.len; object_len = sizes.object_len; header_len =
-        sizes.header_len; place = place }, class)
+    → ReadsAs key_at (concat (a ∷ b ∷ [])) (
+      record {
+        len = sizes.len;
+        object_len = sizes.object_len;
+        header_len = sizes.header_len;
+        place = place;
+      },
+      class,
+    )
 unfolding key_at
 key-chain a b sizes at class p wide q =
-    of_parts key_at (a ∷ b ∷ []) (record { len = sizes.len; object_len = sizes.object_len; header_len = sizes.header_len; place =
-        at }, class) λ place rest.
+    of_parts key_at (a ∷ b ∷ []) (
+      record {
+        len = sizes.len;
+        object_len = sizes.object_len;
+        header_len = sizes.header_len;
+        place = at;
+      },
+      class,
+    ) λ place rest.
     rw (
       p place (spread (b ∷ []) rest),
       wide,
@@ -88,10 +114,14 @@ pub key_reads : (object_len at directory : ℕ) (class name : List ℕ) → obje
 unfolding key_header
 key_reads object_len at directory class name fits small smaller short shorter =
     key-chain (key_sizes (key_header_len class name) object_len) (key_names at directory class name)
-    (record { len = key_header_len class name + object_len; version = 1004; object_len = object_len; header_len =
-        key_header_len class name }) at class
+    (record {
+      len = key_header_len class name + object_len;
+      version = 1004;
+      object_len = object_len;
+      header_len = key_header_len class name;
+    }) at class
     (sizes_read (key_header_len class name) object_len (omega arith) (omega arith)) refl
-        (names_read at directory class name small smaller short shorter)
+    (names_read at directory class name small smaller short shorter)
 
 pub anchor_key_reads : (at : ℕ) → at < 2 ^ 64 → ReadsAs key_at (anchor_key at) (key_of 56 78 at, anchor_class)
 unfolding anchor_key

@@ -33,7 +33,7 @@ names-len : (at directory : ℕ) (class name : List ℕ) → length (key_names a
 unfolding key_names short_tstring
 names-len at directory class name =
     length-concat (to_be_bytes w64 at ∷ to_be_bytes w64 directory ∷ short_tstring class ∷ short_tstring name ∷ short_tstring []
-        ∷ []) ∙ omega arith
+    ∷ []) ∙ omega arith
 
 pub key_header-len : (object_len at directory : ℕ) (class name : List ℕ) → length (key_header object_len at directory class name)
     ≡ key_header_len class name
@@ -65,14 +65,20 @@ record_head-len = length-concat (file_key 73 100 0 ∷ short_tstring (codes "eve
 
 pub file_record-len : (keys : ℕ) → length (record_part keys) ≡ 126
 unfolding record_part
-file_record-len keys = omega (arith, length-append record_names (directory_words keys ++ zero_uuid),
-    length-append (directory_words keys) zero_uuid, record_head-len, directory-len keys, uuid-len)
+file_record-len keys = omega (
+  arith,
+  length-append record_names (directory_words keys ++ zero_uuid),
+  length-append (directory_words keys) zero_uuid,
+  record_head-len,
+  directory-len keys,
+  uuid-len,
+)
 
 pub object-len : (a : Anchor) → length (anchor_object a) ≡ 78
 unfolding anchor_object
 object-len a =
     length-concat ((to_be_bytes w32 0x40000042 ++ to_be_bytes w16 2) ∷ anchor_fields a ∷ to_be_bytes w64 (xxh3 (anchor_fields a))
-        ∷ []) ∙ omega (arith, fields-len a)
+    ∷ []) ∙ omega (arith, fields-len a)
 
 pub anchor-len : (at : ℕ) (a : Anchor) → length (anchor_part at a) ≡ 134
 unfolding anchor_part
@@ -90,5 +96,9 @@ free_piece-len first last = refl
 pub free_list-len : (at end : ℕ) → length (free_list_part at end) ≡ 71
 unfolding free_list_part
 free_list-len at end =
-    omega (arith, length-append (file_key 18 at 100) (free_piece end (last_free end)), file_key-len 18 at 100,
-        free_piece-len end (last_free end))
+    omega (
+      arith,
+      length-append (file_key 18 at 100) (free_piece end (last_free end)),
+      file_key-len 18 at 100,
+      free_piece-len end (last_free end),
+    )

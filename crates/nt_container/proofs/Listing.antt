@@ -70,7 +70,7 @@ keys-read list (suc n) first here after all e =
     let c = bind_ok (keys_at n b.0.1) (λ others. Ok (b.0.0 ∷ others.0, others.1)) (all, after) b.2 in
     let same : b.0.0 ∷ c.0.0 ≡ all = ap (λ (p : List (Key × List ℕ) × At). p.0) (ok_is {E = ℕ} (b.0.0 ∷ c.0.0, c.0.1) (all, after) c.2) in
     ap (λ (r : Result ((Key × List ℕ) × At) ℕ). refused_as (fault bad_key_list (list + here.place)) r >>= λ one. keys_on list n
-        (first_anchor first one.0.0 one.0.1) one.1) b.1
+    (first_anchor first one.0.0 one.0.1) one.1) b.1
     ∙ keys-read list n (first_anchor first b.0.0.0 b.0.0.1) b.0.1 c.0.1 c.0.0 c.1
     ∙ ap (λ (o : Option Key). Ok o) (chosen-next first b.0.0 c.0.0 ∙ ap (chosen first) same)
 
@@ -80,7 +80,7 @@ unfolding keys_at
 keys-found list zero first here o e = ([], here, refl, sym (ok_is {E = ReadError} first o e) ∙ sym (chosen-none first))
 keys-found list (suc n) first here o e =
     let b = bind_ok (refused_as (fault bad_key_list (list + here.place)) (key_at here))
-            (λ one. keys_on list n (first_anchor first one.0.0 one.0.1) one.1) o e in
+    (λ one. keys_on list n (first_anchor first one.0.0 one.0.1) one.1) o e in
     let one = refused_as_ok (fault bad_key_list (list + here.place)) (key_at here) b.0 b.1 in
     let rest = keys-found list n (first_anchor first b.0.0.0 b.0.0.1) b.0.1 o b.2 in (
       b.0.0 ∷ rest.0,
@@ -103,7 +103,7 @@ bytes_there n bytes le =
 list-steps : (place : ℕ) (bytes : List ℕ) (own : Key × List ℕ) (after object behind : At) (count : ℕ) (all : List (Key × List ℕ))
     (end : At) (header : List ℕ) (found : Key)
     → key_at (standing 0 bytes) ≡ Ok (own, after) → bytes_at own.0.header_len (standing 0 bytes)
-        ≡ Ok (header, object) → big w32 object ≡ Ok (count, behind)
+    ≡ Ok (header, object) → big w32 object ≡ Ok (count, behind)
     → keys_at count behind ≡ Ok (all, end) → first_of_class all ≡ Some found → anchor_key_in place (standing 0 bytes) ≡ Ok found
 unfolding anchor_key_in chosen
 list-steps place bytes own after object behind count all end header found p q r s t =
@@ -115,21 +115,32 @@ key_reads file d found bytes l =
     let fits = piece_bytes file l.list d.keys d.keys_len bytes l.there in
     let header_len : ℕ = l.own.0.header_len in
     let four = word-len l.counted.text l.count l.counted.is in
-    let long : header_len ≤ length l.list = omega (arith, ap (λ (t : List ℕ). length t) l.counted.there,
-            length-take (length l.counted.text) (drop header_len l.list), length-drop header_len l.list, four) in
-    let own = (at key (standing 0 l.list) fits).reads (l.own, standing (0 + length l.is_own.text)
-            (drop (0 + length l.is_own.text) l.list)) (stands_from l.list 0 l.own fits l.is_own) in
+    let long : header_len ≤ length l.list = omega (
+      arith,
+      ap (λ (t : List ℕ). length t) l.counted.there,
+      length-take (length l.counted.text) (drop header_len l.list),
+      length-drop header_len l.list,
+      four,
+    ) in
+    let own = (at key (standing 0 l.list) fits).reads (
+      l.own,
+      standing (0 + length l.is_own.text)
+          (drop (0 + length l.is_own.text) l.list),
+    ) (stands_from l.list 0 l.own fits l.is_own) in
     let count = (at word_32 (standing header_len (drop header_len l.list)) (IsBytes-drop header_len l.list fits)).reads
-            (l.count, standing (header_len + length l.counted.text) (drop (header_len + length l.counted.text) l.list))
-              (stands_from l.list header_len l.count fits l.counted) in
+    (l.count, standing (header_len + length l.counted.text) (drop (header_len + length l.counted.text) l.list))
+    (stands_from l.list header_len l.count fits l.counted) in
     let behind : standing (header_len + length l.counted.text) (drop (header_len + length l.counted.text) l.list)
-            ≡ standing (header_len + 4) (drop (header_len + 4) l.list) =
-              ap (λ (k : ℕ). standing (header_len + k) (drop (header_len + k) l.list)) four in
+    ≡ standing (header_len + 4) (drop (header_len + 4) l.list) =
+    ap (λ (k : ℕ). standing (header_len + k) (drop (header_len + k) l.list)) four in
     let all = (at (keys l.count) (standing (header_len + 4) (drop (header_len + 4) l.list))
-            (IsBytes-drop (header_len + 4) l.list fits)).reads (l.keys, standing (header_len + 4 + length l.listed.text)
-              (drop (header_len + 4 + length l.listed.text) l.list)) (stands_from l.list (header_len + 4) l.keys fits l.listed) in
+    (IsBytes-drop (header_len + 4) l.list fits)).reads (
+      l.keys,
+      standing (header_len + 4 + length l.listed.text)
+          (drop (header_len + 4 + length l.listed.text) l.list),
+    ) (stands_from l.list (header_len + 4) l.keys fits l.listed) in
     rw (l.there) (list-steps d.keys l.list l.own _ _ _ l.count l.keys _ _ found own (bytes_there header_len l.list long)
-        (count ∙ ap (λ (a : At). Ok (l.count, a)) behind) all l.first)
+    (count ∙ ap (λ (a : At). Ok (l.count, a)) behind) all l.first)
 
 -- what the steps of the reading found
 record Found (list : At) (found : Key) : Type 0 where
@@ -183,11 +194,11 @@ key_lists file d found bytes e =
     let header_len : length object.text ≡ f.own.0.0.header_len = ap (λ (l : List ℕ). length l) header ∙ object.is.fits in
     let behind = stands_to list.left 0 f.object.0 list f.object.1 refl object in
     let left : f.object.1.left ≡ drop f.own.0.0.header_len list.left =
-            behind.1 ∙ ap (λ (k : ℕ). drop k list.left) (from_start (length object.text) f.own.0.0.header_len header_len) in
+    behind.1 ∙ ap (λ (k : ℕ). drop k list.left) (from_start (length object.text) f.own.0.0.header_len header_len) in
     let count = (at word_32 f.object.1 object.takes.bytes).finds f.count f.is_count in
     let counted = stands_to list.left f.own.0.0.header_len f.count.0 f.object.1 f.count.1 left count in
     let more : f.count.1.left ≡ drop (f.own.0.0.header_len + 4) list.left =
-            counted.1 ∙ ap (λ (k : ℕ). drop (f.own.0.0.header_len + k) list.left) (word-len count.text f.count.0 count.is) in
+    counted.1 ∙ ap (λ (k : ℕ). drop (f.own.0.0.header_len + k) list.left) (word-len count.text f.count.0 count.is) in
     let all = (at (keys f.count.0) f.count.1 count.takes.bytes).finds (f.all, f.end) f.are_keys in
     record {
       list = list.left;

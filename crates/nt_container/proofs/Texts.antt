@@ -59,7 +59,7 @@ pub header_numbers : (wide : Bool) → IsRead (header_numbers_at wide) (HeaderNu
 unfolding header_numbers_at
 header_numbers wide =
     seq _ word_32 λ begin. seq _ (place wide) λ end. seq _ (place wide) λ free. seq _ word_32 λ free_len. seq _ word_32 λ pieces.
-        seq _ word_32 λ name_len.
+    seq _ word_32 λ name_len.
     seq _ (plain (cond wide 35 31)) λ rest. gives _
 
 pub header_text : IsRead header_at HeaderText
@@ -70,7 +70,7 @@ pub directory_numbers : (wide : Bool) → IsRead (directory_numbers_at wide) (Di
 unfolding directory_numbers_at
 directory_numbers wide =
     seq _ (plain 8) λ times. seq _ word_32 λ keys_len. seq _ word_32 λ name_len. seq _ (place wide) λ own. seq _ (place wide)
-        λ parent. seq _ (place wide) λ keys. gives _
+    λ parent. seq _ (place wide) λ keys. gives _
 
 pub directory_text : IsRead directory_at DirectoryText
 unfolding directory_at
@@ -109,7 +109,7 @@ rest-len false = omega arith
 numbers-short : (wide : Bool) → IsShort 67 (HeaderNumbers wide)
 numbers-short wide =
     then_short 4 63 word_32-short λ begin. then_short 8 55 (place-short wide) λ end. then_short 8 47 (place-short wide) λ free.
-        then_short 4 43 word_32-short λ free_len.
+    then_short 4 43 word_32-short λ free_len.
     then_short 4 39 word_32-short λ pieces. then_short 4 35 word_32-short λ name_len.
     then_short 35 0 (less_short (cond wide 35 31) 35 (rest-len wide) (plain_short (cond wide 35 31))) λ rest. makes_short _
 
@@ -120,7 +120,7 @@ directory_numbers-short : (wide : Bool) → IsShort 40 (DirectoryNumbers wide)
 directory_numbers-short wide =
     then_short 8 32 (plain_short 8) λ times. then_short 4 28 word_32-short λ keys_len. then_short 4 24 word_32-short λ name_len.
     then_short 8 16 (place-short wide) λ own. then_short 8 8 (place-short wide) λ parent. then_short 8 0 (place-short wide)
-        λ keys. makes_short _
+    λ keys. makes_short _
 
 pub directory-short : IsShort 42 DirectoryText
 directory-short = then_short 2 40 word_16-short λ version. directory_numbers-short (ltb 1000 version)

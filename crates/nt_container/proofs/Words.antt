@@ -35,7 +35,7 @@ unfolding tstring_at short_tstring
 short_text text lt place rest =
     let byte : little w8 (standing place (length text ∷ (text ++ rest))) ≡ Ok (length text, standing (place + 1) (text ++ rest)) =
     next_again (from_le_bytes w8) 1 place (length text ∷ []) (text ++ rest) refl
-        ∙ ap (λ (k : ℕ). Ok (k, standing (place + 1) (text ++ rest))) (one_byte (length text)) in
+    ∙ ap (λ (k : ℕ). Ok (k, standing (place + 1) (text ++ rest))) (one_byte (length text)) in
     let test : eqb (length text) 255 ≡ false = ne_eqb _ _ (λ (e : length text ≡ 255). absurd (omega (arith, e, lt))) in
     let end : place + 1 + length text ≡ place + suc (length text) = omega arith in
     rw (byte, test, plain_bytes (length text) text refl (place + 1) rest, end) refl
@@ -44,11 +44,11 @@ pub long_text : (text : List ℕ) → length text < 2 ^ 32 → ReadsAs tstring_a
 unfolding tstring_at long_tstring
 long_text text lt place rest =
     let byte : little w8 (standing place (255 ∷ ((to_be_bytes w32 (length text) ++ text) ++ rest)))
-            ≡ Ok (255, standing (place + 1) ((to_be_bytes w32 (length text) ++ text) ++ rest)) =
+    ≡ Ok (255, standing (place + 1) ((to_be_bytes w32 (length text) ++ text) ++ rest)) =
     next_again (from_le_bytes w8) 1 place (255 ∷ []) ((to_be_bytes w32 (length text) ++ text) ++ rest) refl in
     let size = word_32 (length text) lt (place + 1) (text ++ rest) in
     let end : place + 1 + 4 + length text ≡ place + suc (length (to_be_bytes w32 (length text) ++ text)) =
-            omega (arith, length-append (to_be_bytes w32 (length text)) text) in
+    omega (arith, length-append (to_be_bytes w32 (length text)) text) in
     rw (byte, size, plain_bytes (length text) text refl (place + 1 + 4) rest, end) refl
 
 pub narrow_place : (n : ℕ) → n < 2 ^ 32 → ReadsAs (place_at false) (to_be_bytes w32 n) n

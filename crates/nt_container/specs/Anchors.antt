@@ -55,8 +55,17 @@ envelopes_at here = do
   footer ← big w64 header_len.1
   footer_size ← big w64 footer.1
   footer_len ← big w64 footer_size.1
-  Ok (record { header = header.0; header_size = header_size.0; header_len = header_len.0; footer = footer.0; footer_size =
-      footer_size.0; footer_len = footer_len.0 }, footer_len.1)
+  Ok (
+    record {
+      header = header.0;
+      header_size = header_size.0;
+      header_len = header_len.0;
+      footer = footer.0;
+      footer_size = footer_size.0;
+      footer_len = footer_len.0;
+    },
+    footer_len.1,
+  )
 
 -- the anchor in those bytes: epoch 1 with any other version numbers (own profile), and where header and footer stand
 unfoldable pub anchor_in : ℕ → At → Result Anchor ReadError

@@ -45,8 +45,18 @@ unfoldable pub key_at : At → Result ((Key × List ℕ) × At) ℕ
 key_at here = do
   sizes ← sizes_at here
   names ← key_names_at (nat_lt 1000 sizes.0.version) sizes.1
-  Ok ((record { len = sizes.0.len; object_len = sizes.0.object_len; header_len = sizes.0.header_len; place =
-      names.0.0 }, names.0.1), names.1)
+  Ok (
+    (
+      record {
+        len = sizes.0.len;
+        object_len = sizes.0.object_len;
+        header_len = sizes.0.header_len;
+        place = names.0.0;
+      },
+      names.0.1,
+    ),
+    names.1,
+  )
 
 -- the first key of an anchor, once there is one
 abbrev pub first_anchor : Option Key → Key → List ℕ → Option Key

@@ -26,14 +26,14 @@ AnchorsAreEmbedded = (file : List ℕ) → IsBytes file → Agrees (anchor_of fi
 abbrev pub FinishedIsRead : Type 0
 FinishedIsRead =
     (a : Anchor) (middle : List (List ℕ)) → IsAnchor a → length (finished_file a middle) < 2 ^ 62
-        → anchor_of (finished_file a middle) ≡ Ok a
+    → anchor_of (finished_file a middle) ≡ Ok a
 
 -- a part of the middle stands behind header, record and the parts before it
 abbrev pub MiddlesAreFound : Type 0
 MiddlesAreFound =
     (a : Anchor) (middle : List (List ℕ)) (k : ℕ) → k < length middle
     → piece (finished_file a middle) (begun_len + sum (map length (take k middle))) (length (slice_index_or middle k []))
-        ≡ Some (slice_index_or middle k [])
+    ≡ Some (slice_index_or middle k [])
 
 -- what is read is a blob's object, behind the blob's key
 abbrev pub BlobsAreFound : Type 0

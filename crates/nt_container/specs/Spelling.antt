@@ -19,7 +19,7 @@ header_rest = concat ((8 ∷ []) ∷ to_be_bytes w32 0 ∷ to_be_bytes w64 0 ∷
 unfoldable pub header_numbers : ℕ → ℕ → List ℕ
 header_numbers end free =
     concat (to_be_bytes w32 100 ∷ to_be_bytes w64 end ∷ to_be_bytes w64 free ∷ to_be_bytes w32 71 ∷ to_be_bytes w32 1
-        ∷ to_be_bytes w32 66 ∷ header_rest ∷ [])
+    ∷ to_be_bytes w32 66 ∷ header_rest ∷ [])
 
 -- the 75 bytes of the file header, of version 1063400
 unfoldable pub header_words : ℕ → ℕ → List ℕ
@@ -37,7 +37,7 @@ key_header_len class name = 37 + length class + length name
 unfoldable pub key_sizes : ℕ → ℕ → List ℕ
 key_sizes header_len object_len =
     concat (to_be_bytes w32 (header_len + object_len) ∷ to_be_bytes w16 1004 ∷ to_be_bytes w32 object_len
-        ∷ to_be_bytes w32 0x00420000 ∷ to_be_bytes w16 header_len ∷ to_be_bytes w16 1 ∷ [])
+    ∷ to_be_bytes w32 0x00420000 ∷ to_be_bytes w16 header_len ∷ to_be_bytes w16 1 ∷ [])
 
 -- SeekKey, SeekPdir, class, name and an empty title
 unfoldable pub key_names : ℕ → ℕ → List ℕ → List ℕ → List ℕ
@@ -57,7 +57,7 @@ file_key object_len at directory = key_header object_len at directory (codes "TF
 unfoldable pub directory_numbers : ℕ → List ℕ
 directory_numbers keys =
     concat ((to_be_bytes w32 0x00420000 ++ to_be_bytes w32 0x00420000) ∷ to_be_bytes w32 113 ∷ to_be_bytes w32 66
-        ∷ to_be_bytes w64 100 ∷ to_be_bytes w64 0 ∷ to_be_bytes w64 keys ∷ [])
+    ∷ to_be_bytes w64 100 ∷ to_be_bytes w64 0 ∷ to_be_bytes w64 keys ∷ [])
 
 -- the directory of version 1005, whose list of keys stands there
 unfoldable pub directory_words : ℕ → List ℕ
@@ -83,13 +83,13 @@ blob_key object_len at = key_header object_len at 100 (codes "RBlob") []
 unfoldable pub envelopes : Anchor → List ℕ
 envelopes a =
     concat (to_be_bytes w64 a.header ∷ to_be_bytes w64 a.header_size ∷ to_be_bytes w64 a.header_len ∷ to_be_bytes w64 a.footer
-        ∷ to_be_bytes w64 a.footer_size ∷ to_be_bytes w64 a.footer_len ∷ [])
+    ∷ to_be_bytes w64 a.footer_size ∷ to_be_bytes w64 a.footer_len ∷ [])
 
 -- version 1.0.0.0 of the format, header, footer, and the largest key
 unfoldable pub anchor_fields : Anchor → List ℕ
 anchor_fields a =
     concat (to_be_bytes w16 1 ∷ (to_be_bytes w16 0 ++ (to_be_bytes w16 0 ++ to_be_bytes w16 0)) ∷ envelopes a
-        ∷ to_be_bytes w64 (2 ^ 30) ∷ [])
+    ∷ to_be_bytes w64 (2 ^ 30) ∷ [])
 
 -- the anchor as ROOT streams a class: byte count and class version, the fields, and their XXH3-64
 unfoldable pub anchor_object : Anchor → List ℕ

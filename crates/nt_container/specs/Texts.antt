@@ -41,7 +41,7 @@ TString = Then Byte λ byte. Then (TStringSize byte) Bytes
 abbrev pub HeaderNumbers : Bool → List ℕ → FileHeader → Type 0
 HeaderNumbers wide =
     Then Word32 λ begin. Then (Place wide) λ end. Then (Place wide) λ free. Then Word32 λ free_len. Then Word32 λ pieces.
-        Then Word32 λ name_len.
+    Then Word32 λ name_len.
     Then (Bytes (if wide then 35 else 31)) λ rest. Makes (record { begin = begin; end = end; name_len = name_len })
 
 -- a file header: four bytes, the version, which from 1000000 on has places of 8 bytes, and its numbers
@@ -52,7 +52,7 @@ HeaderText = Then (Then (Bytes 4) λ root. Word32) λ version. HeaderNumbers (na
 abbrev pub DirectoryNumbers : Bool → List ℕ → Directory → Type 0
 DirectoryNumbers wide =
     Then (Bytes 8) λ times. Then Word32 λ keys_len. Then Word32 λ name_len. Then (Place wide) λ own. Then (Place wide) λ parent.
-        Then (Place wide) λ keys.
+    Then (Place wide) λ keys.
     Makes (record { keys = keys; keys_len = keys_len })
 
 -- a directory: the version, which above 1000 has places of 8 bytes, and its numbers
@@ -69,7 +69,7 @@ SizesText =
 abbrev pub NamesText : Bool → List ℕ → (ℕ × List ℕ) → Type 0
 NamesText wide =
     Then (Place wide) λ place. Then (Place wide) λ directory. Then TString λ class. Then TString λ name. Then TString λ title.
-        Makes (place, class)
+    Makes (place, class)
 
 -- a key's header, whose version above 1000 has places of 8 bytes: the key, and the class of its object
 abbrev pub KeyText : List ℕ → (Key × List ℕ) → Type 0
@@ -86,6 +86,12 @@ KeysText (suc n) = Then KeyText λ key. Then (KeysText n) λ keys. Makes (key �
 abbrev pub EnvelopesText : List ℕ → Anchor → Type 0
 EnvelopesText =
     Then Word64 λ header. Then Word64 λ header_size. Then Word64 λ header_len. Then Word64 λ footer. Then Word64 λ footer_size.
-        Then Word64 λ footer_len.
-    Makes (record { header = header; header_size = header_size; header_len = header_len; footer = footer; footer_size =
-        footer_size; footer_len = footer_len })
+    Then Word64 λ footer_len.
+    Makes (record {
+      header = header;
+      header_size = header_size;
+      header_len = header_len;
+      footer = footer;
+      footer_size = footer_size;
+      footer_len = footer_len;
+    })

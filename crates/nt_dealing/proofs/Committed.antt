@@ -198,10 +198,10 @@ module _ (t : Table) (p : Params) (chunks : List (List (List TreesData))) (histo
     (each : (i : ℕ) → IsFront t p.page history chunks i) where
   passes_all : (i : ℕ) (seen : List (Entry ClusterMeta)) (error : LimitError) → IsPrefix seen history
       → NextPasses limits begin t p.page (slice_index_or chunks i []) (mine_of history i) seen error
-          → IsOverBy t p (joined_chunks chunks) error
+      → IsOverBy t p (joined_chunks chunks) error
   passes_all i seen error first n =
       by_limit (IsOverBy t p (joined_chunks chunks)) limits (end_after begin cs) (length cs)
-          (length (image p.page n.columns)) error n.passed
+      (length (image p.page n.columns)) error n.passed
       range file clusters
     where
       cs : List (Cluster ClusterMeta)
@@ -241,14 +241,14 @@ module _ (t : Table) (p : Params) (chunks : List (List (List TreesData))) (histo
       permuted : IsPermutation (some ++ others) (joined_chunks chunks)
       permuted =
           subst (λ (l : List (List TreesData)). IsPermutation l (joined_chunks chunks))
-              (sym (append_assoc taken_all.some (n.chunk ∷ []) others))
+          (sym (append_assoc taken_all.some (n.chunk ∷ []) others))
           (IsPermutation-trans (taken_all.some ++ n.chunk ∷ others) (taken_all.some ++ (place.front ++ n.chunk ∷ place.back))
           (joined_chunks chunks)
           (IsPermutation-append_right taken_all.some (n.chunk ∷ others) (place.front ++ n.chunk ∷ place.back)
           (IsPermutation-sym (place.front ++ n.chunk ∷ place.back) (n.chunk ∷ others)
           (IsPermutation-middle place.front n.chunk place.back)))
           (subst (λ (l : List (List TreesData)). IsPermutation (taken_all.some ++ l) (joined_chunks chunks)) place.whole
-              taken_all.permuted))
+          taken_all.permuted))
 
       metas : List ClusterMeta
       metas = map (λ (c : Cluster ClusterMeta). c.meta) cs
@@ -258,7 +258,7 @@ module _ (t : Table) (p : Params) (chunks : List (List (List TreesData))) (histo
       range less =
           let at = place_of_all i (length (ranges_of (mine_of history i))) chunks n.chunk n.at in
           range_passed (of_chunk n.chunk meta (contained (joined_chunks chunks) n.chunk at) kept refl)
-              (ap (λ (l : Limits). l.range) same) less
+          (ap (λ (l : Limits). l.range) same) less
 
       within : end_after begin cs + length (image p.page n.columns) ≤ whole_len t p.group (metas ++ meta ∷ [])
       within =

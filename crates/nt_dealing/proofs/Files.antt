@@ -54,7 +54,7 @@ length-footer_object t book most =
     let count : length gs ≡ div_ceil (length (book_clusters book)) most =
     length-groups_from sum book (book_end book) (spans book most) ∙ length-spans_of most (length (book_clusters book)) in
     let texts : length (group_texts gs) ≡ record_len 40 * div_ceil (length (book_clusters book)) most =
-            length-group_texts gs ∙ ap (λ (n : ℕ). record_len 40 * n) count in
+    length-group_texts gs ∙ ap (λ (n : ℕ). record_len 40 * n) count in
     omega (
       arith,
       length-envelope footer_kind (footer_text sum t gs),
@@ -75,7 +75,7 @@ length-lists_from sum book place (s ∷ ss) =
     length-append (blob place (list_object sum book s)) rest
     ∙ (ap (λ (n : ℕ). n + length rest) (length-blob place (list_object sum book s))
     ∙ (ap (λ (n : ℕ). list_len sum book s + n) (length-lists_from sum book (place + list_len sum book s) ss)
-        ∙ sym (sum_by-cons (list_len sum book) s ss)))
+    ∙ sym (sum_by-cons (list_len sum book) s ss)))
 
 take-nil : {A : Type 0} (n : ℕ) → ◌≡◌ {A = List A} (take n []) []
 take-nil zero = refl
@@ -93,13 +93,13 @@ module _ (sum : ℕ) (book : BookData) (most : ℕ) where
     where
       at : (b : Bool) → nat_lt (length (book_clusters book)) (i * most) ≡ b
           → list_len sum book (cluster_span most (length (book_clusters book)) i)
-              ≡ page_list_len (metas (chunk most (book_clusters book) i))
+          ≡ page_list_len (metas (chunk most (book_clusters book) i))
       at true e =
           let cs = book_clusters book in
           let behind : length cs < i * most = ltb-true (length cs) (i * most) e in
           let none : min most (length cs - i * most) ≡ 0 = omega arith in
           let empty : chunk most cs i ≡ [] = ap (λ (l : List (Cluster ClusterMeta)). take (i * most + most - i * most) l)
-                  (drop_all (i * most) cs (omega arith)) ∙ take-nil (i * most + most - i * most) in
+          (drop_all (i * most) cs (omega arith)) ∙ take-nil (i * most + most - i * most) in
           ap (λ (k : ℕ). list_len sum book (record { from = i * most; count = k })) none
           ∙ (length-no_list book sum (i * most) ∙ sym (ap (λ (l : List (Cluster ClusterMeta)). page_list_len (metas l)) empty))
       at false e =
@@ -109,9 +109,9 @@ module _ (sum : ℕ) (book : BookData) (most : ℕ) where
           let size : i * most + most - i * most ≡ most = omega arith in
           let same : take (min most (length cs - i * most)) ds ≡ chunk most cs i =
           ap (λ (n : ℕ). take (min most n) ds) (sym (length-drop (i * most) cs))
-              ∙ (take_min most ds ∙ sym (ap (λ (n : ℕ). take n ds) size)) in
+          ∙ (take_min most ds ∙ sym (ap (λ (n : ℕ). take n ds) size)) in
           length-list_object book sum (cluster_span most (length cs) i) (omega arith)
-              ∙ ap (λ (l : List (Cluster ClusterMeta)). page_list_len (metas l)) same
+          ∙ ap (λ (l : List (Cluster ClusterMeta)). page_list_len (metas l)) same
 
   -- all groups
   length-all_lists : (place : ℕ) → 0 < most → length (concat (lists_from sum book place (spans book most)))
@@ -120,25 +120,25 @@ module _ (sum : ℕ) (book : BookData) (most : ℕ) where
       let cs = book_clusters book in
       let places = range_with_len 0 (div_ceil (length cs) most) in
       let f : List (Cluster ClusterMeta) → ℕ = λ (c : List (Cluster ClusterMeta)).
-              sum_by (λ (d : Cluster ClusterMeta). listed_cluster_len d.meta) c in
+      sum_by (λ (d : Cluster ClusterMeta). listed_cluster_len d.meta) c in
       let each : sum_by (list_len sum book) (spans book most) ≡ sum_by (λ (i : ℕ). page_list_len [] + f (chunk most cs i)) places =
       sum_by-mapped (list_len sum book) (cluster_span most (length cs)) places
       ∙ sum_by-each (λ (i : ℕ). list_len sum book (cluster_span most (length cs) i)) (λ (i : ℕ). page_list_len []
-          + f (chunk most cs i)) places
+      + f (chunk most cs i)) places
       (λ i. omega (arith, length-span i, sum_by-mapped listed_cluster_len (λ (d : Cluster ClusterMeta). d.meta) (chunk most cs i))) in
       let joined : sum_by (λ (i : ℕ). f (chunk most cs i)) places ≡ sum_by listed_cluster_len (metas cs) =
       sym (sum_by-mapped f (chunk most cs) places)
       ∙ (sym (sum_by-joined (λ (d : Cluster ClusterMeta). listed_cluster_len d.meta) (chunks most cs))
       ∙ (ap (λ (l : List (Cluster ClusterMeta)). sum_by (λ (d : Cluster ClusterMeta). listed_cluster_len d.meta) l)
-          (chunks-joined most cs some)
+      (chunks-joined most cs some)
       ∙ sym (sum_by-mapped listed_cluster_len (λ (d : Cluster ClusterMeta). d.meta) cs))) in
       let groups_are : div_ceil (length cs) most ≡ div_ceil (length (metas cs)) most =
-              ap (λ (n : ℕ). div_ceil n most) (sym (length-map cs (λ (d : Cluster ClusterMeta). d.meta))) in
+      ap (λ (n : ℕ). div_ceil n most) (sym (length-map cs (λ (d : Cluster ClusterMeta). d.meta))) in
       length-lists_from sum book place (spans book most)
       ∙ (each
       ∙ (sum_by-plus (page_list_len []) (λ (i : ℕ). f (chunk most cs i)) places
       ∙ (ap (λ (n : ℕ). page_list_len [] * n + sum_by (λ (i : ℕ). f (chunk most cs i)) places)
-          (length-range_with_len 0 (div_ceil (length cs) most) ∙ groups_are)
+      (length-range_with_len 0 (div_ceil (length cs) most) ∙ groups_are)
       ∙ ap (λ (n : ℕ). page_list_len [] * div_ceil (length (metas cs)) most + n) joined)))
 
 -- the ranges are as long as what is kept of them says

@@ -29,13 +29,19 @@ length-record inside = omega (arith, length-append (to_le_bytes w64 (8 + length 
 
 pub length-list : (count : ℕ) (inside : List ℕ) → length (list_frame count inside) ≡ frame_len (length inside)
 length-list count inside =
-    omega (arith, length-append (to_le_bytes w64 (2 ^ 64 - (12 + length inside))) (to_le_bytes w32 count ++ inside),
-        length-append (to_le_bytes w32 count) inside)
+    omega (
+      arith,
+      length-append (to_le_bytes w64 (2 ^ 64 - (12 + length inside))) (to_le_bytes w32 count ++ inside),
+      length-append (to_le_bytes w32 count) inside,
+    )
 
 pub length-envelope : (kind : ℕ) (payload : List ℕ) → length (envelope kind payload) ≡ envelope_len (length payload)
 length-envelope kind payload =
-    omega (arith, length-append (unsealed kind payload) (to_le_bytes w64 (xxh3 (unsealed kind payload))),
-        length-append (to_le_bytes w64 ((length payload + 16) * 2 ^ 16 + kind)) payload)
+    omega (
+      arith,
+      length-append (unsealed kind payload) (to_le_bytes w64 (xxh3 (unsealed kind payload))),
+      length-append (to_le_bytes w64 ((length payload + 16) * 2 ^ 16 + kind)) payload,
+    )
 
 pub length-blob : (place : ℕ) (object : List ℕ) → length (blob place object) ≡ blob_len (length object)
 length-blob place object = omega (arith, length-append (blob_key (length object) place) object, blob_key-len (length object) place)
@@ -67,10 +73,10 @@ module _ (book : BookData) where
       length-flat_map column_list_text columns
       ∙ (sum_by-mapped (λ (c : ListedColumn). length (column_list_text c)) (listed_column book k) places
       ∙ (sum_by-each (λ (column : ℕ). length (column_list_text (listed_column book k column)))
-          (λ (column : ℕ). listed_column_len (slice_index_or meta.pages column [])) places (length-listed_column k)
+      (λ (column : ℕ). listed_column_len (slice_index_or meta.pages column [])) places (length-listed_column k)
       ∙ (sym (sum_by-mapped listed_column_len (λ (column : ℕ). slice_index_or meta.pages column []) places)
       ∙ ap (λ (l : List (List PageMeta)). sum_by listed_column_len l) (map-places meta.pages [] 0 (length meta.pages) (omega arith)
-          ∙ take-all-pages meta.pages)))) in
+      ∙ take-all-pages meta.pages)))) in
       omega (arith, length-list (length columns) (column_list_texts columns), sum)
     where
       take-all-pages : (xs : List (List PageMeta)) → take (length xs) xs ≡ xs
@@ -82,21 +88,21 @@ module _ (book : BookData) where
 
   length-listed_clusters : (s : ClusterSpan) → s.from + s.count ≤ length (book_clusters book)
       → length (summary_texts (listed_clusters book s.from s.count))
-          + length (cluster_list_texts (listed_clusters book s.from s.count)) ≡ sum_by listed_cluster_len (metas_of s)
+      + length (cluster_list_texts (listed_clusters book s.from s.count)) ≡ sum_by listed_cluster_len (metas_of s)
   length-listed_clusters s fits =
       let places = range_with_len s.from s.count in
       let ws : List ListedCluster = listed_clusters book s.from s.count in
       let here : List (Cluster ClusterMeta) = map (λ (k : ℕ). cluster_at book k) places in
       let both : sum_by (λ (w : ListedCluster). length (summary_text w.summary) + length (cluster_list_text w)) ws
-              ≡ sum_by listed_cluster_len (metas_of s) =
+      ≡ sum_by listed_cluster_len (metas_of s) =
       sum_by-mapped (λ (w : ListedCluster). length (summary_text w.summary) + length (cluster_list_text w)) (listed_cluster book) places
       ∙ (sum_by-each (λ (k : ℕ). length (summary_text (listed_cluster book k).summary)
-          + length (cluster_list_text (listed_cluster book k))) (λ (k : ℕ). listed_cluster_len (cluster_at book k).meta) places
-            length-listed_cluster
+      + length (cluster_list_text (listed_cluster book k))) (λ (k : ℕ). listed_cluster_len (cluster_at book k).meta) places
+      length-listed_cluster
       ∙ (sym (sum_by-mapped (λ (c : Cluster ClusterMeta). listed_cluster_len c.meta) (λ (k : ℕ). cluster_at book k) places)
       ∙ (sym (sum_by-mapped listed_cluster_len (λ (c : Cluster ClusterMeta). c.meta) here)
       ∙ ap (λ (l : List (Cluster ClusterMeta)). sum_by listed_cluster_len (map (λ (c : Cluster ClusterMeta). c.meta) l))
-          (map-places (book_clusters book) no_cluster s.from s.count fits)))) in
+      (map-places (book_clusters book) no_cluster s.from s.count fits)))) in
       omega (
         arith,
         length-flat_map (λ (w : ListedCluster). summary_text w.summary) ws,

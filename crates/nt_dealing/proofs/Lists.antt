@@ -47,5 +47,10 @@ module _ {A : Type 0} where
   -- a sum of sums
   pub sum_by-both : (f g : A → ℕ) (xs : List A) → sum_by (λ (x : A). f x + g x) xs ≡ sum_by f xs + sum_by g xs
   sum_by-both f g [] = omega arith
-  sum_by-both f g (x ∷ xs) = omega (arith, sum_by-cons (λ (y : A). f y + g y) x xs, sum_by-cons f x xs, sum_by-cons g x xs,
-      sum_by-both f g xs)
+  sum_by-both f g (x ∷ xs) = omega (
+    arith,
+    sum_by-cons (λ (y : A). f y + g y) x xs,
+    sum_by-cons f x xs,
+    sum_by-cons g x xs,
+    sum_by-both f g xs,
+  )

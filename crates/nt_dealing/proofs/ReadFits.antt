@@ -64,7 +64,7 @@ all_fit f p each (item d ds) ts h =
 
 next_fits : (f : Data → Option TreeData) (g : Items → Option TreesData) (p : TreeData → Bool) (q : TreesData → Bool)
     → ((d : Data) (t : TreeData) → f d ≡ Some t → p t ≡ true) → ((ds : Items) (ts : TreesData) → g ds ≡ Some ts → q ts ≡ true)
-        → (ds : Items) (ts : TreesData)
+    → (ds : Items) (ts : TreesData)
     → next_read f g ds ≡ Some ts → fits_next p q ts ≡ true
 next_fits f g p q each others no_items ts h = cc
 next_fits f g p q each others (item d ds) ts h =
@@ -150,7 +150,7 @@ misfit_fits : (F : MembersData) (ds : Items) (o : Option TreesData) (ts : TreesD
     → fit_parts F ts ≡ true
 misfit_fits F ds None ts is h = cc
 misfit_fits F ds (Some us) ts is h = let same : us ≡ ts =
-                                             cc in subst (λ (vs : TreesData). fit_parts F vs ≡ true) same (members_fit F ds us is)
+    cc in subst (λ (vs : TreesData). fit_parts F vs ≡ true) same (members_fit F ds us is)
 
 counted_fits : (F : MembersData) (ds : Items) (ts : TreesData) (b : Bool) → (if b then or_misfit (parts_read F ds) else Err Count)
     ≡ Ok ts → fit_parts F ts ≡ true

@@ -125,7 +125,7 @@ inside-all id (q ∷ front) (m ∷ ms) e =
     let place : id + 1 + length (front ++ inside id q.of) ≡ id + suc (length front) + length (inside id m.of) =
     omega (arith, length-append front (inside id q.of), same) in
     inside-join (id + suc (length front)) (inside id m.of) (all_inside (id + 1) ms)
-        (inside-shape id (id + suc (length front)) m.of (omega arith))
+    (inside-shape id (id + suc (length front)) m.of (omega arith))
     (subst (λ (n : ℕ). AreInside n (all_inside (id + 1) ms)) place later)
 
 below-other : (a b : ℕ) → a < b → (a == b) ≡ false
@@ -142,7 +142,7 @@ module _ (fs : List FieldRow) (cs : List ColumnRow) where
   none_at_top id (n ∷ ns) h =
       let closed : top_shape fs cs id (field_row n) ≡ None =
       ap (λ (b : Bool). if b then option_map (λ (p : MemberData). p.of) (open_field most_levels fs cs true id) else None)
-          (below-other n.parent id h.0) in
+      (below-other n.parent id h.0) in
       ap (λ (o : Option ShapeData). some_shapes (o ∷ open_shapes fs cs (id + 1) (map field_row ns))) closed ∙ none_at_top (id + 1) ns h.1
 
   -- the row of a field at the top level
@@ -159,7 +159,7 @@ module _ (fs : List FieldRow) (cs : List ColumnRow) where
   tops_fit id (p ∷ ps) rest ts each none =
       let here : id + 0 ≡ id = omega arith in
       let first : top_shape fs cs id (row_at id p) ≡ Some (as_read p.of) =
-              subst (λ (n : ℕ). top_shape fs cs n (row_at n p) ≡ Some (as_read p.of)) here (each 0 p refl) in
+      subst (λ (n : ℕ). top_shape fs cs n (row_at n p) ≡ Some (as_read p.of)) here (each 0 p refl) in
       let others = open_shapes fs cs (id + 1) (map field_row (at_top (id + 1) ps) ++ rest) in
       let behind : id + suc (length ps) ≡ id + 1 + length ps = omega arith in
       ap (λ (o : Option ShapeData). fit_kinds (some_shapes (o ∷ others)) ts) first
@@ -187,20 +187,20 @@ length-at_top id (p ∷ ps) = ap suc (length-at_top (id + 1) ps)
 -- one tree for each field fits the rows that describe the fields
 pub table_fits : (fields : List MemberData) (plain : Bool) (t : Table) (ts : TreesData) → Rows fields plain t
     → ((id : ℕ) (p : MemberData) → slice_get fields id ≡ Some p → open_shape t id ≡ Some (as_read p.of)) → fits_entry t ts
-        ≡ fit_parts (parts_of fields) ts
+    ≡ fit_parts (parts_of fields) ts
 table_fits fields plain t ts rows opens =
     let inner : List FieldRow = map field_row (all_inside 0 rows.nodes) in
     let rows_are : t.fields ≡ map field_row (at_top 0 fields) ++ inner =
     rows.field_rows ∙ (ap (λ (l : List NodeData). map field_row l) rows.order ∙ map-append field_row (at_top 0 fields)
-        (all_inside 0 rows.nodes)) in
+    (all_inside 0 rows.nodes)) in
     let below : AreInside (0 + length fields) (all_inside 0 rows.nodes) =
     subst (λ (n : ℕ). AreInside (0 + n) (all_inside 0 rows.nodes)) (length-at_top 0 fields)
-        (inside-all 0 (at_top 0 fields) rows.nodes rows.order) in
+    (inside-all 0 (at_top 0 fields) rows.nodes rows.order) in
     ap (λ (l : List FieldRow). fit_kinds (some_shapes (open_shapes t.fields t.columns 0 l)) ts) rows_are
     ∙ tops_fit t.fields t.columns 0 fields inner ts
     (λ j p is.
     let row : slice_get t.fields j ≡ Some (row_at t.fields t.columns (0 + j) p) =
-            ap (λ (l : List FieldRow). slice_get l j) rows_are ∙ top_row t.fields t.columns 0 fields inner j p is in
+    ap (λ (l : List FieldRow). slice_get l j) rows_are ∙ top_row t.fields t.columns 0 fields inner j p is in
     let zero_place : j ≡ 0 + j = omega arith in
     subst (λ (n : ℕ). top_shape t.fields t.columns n (row_at t.fields t.columns (0 + j) p) ≡ Some (as_read p.of)) zero_place
     (sym (ap (λ (o : Option FieldRow). option_and_then (top_shape t.fields t.columns j) o) row) ∙ opens j p is))

@@ -63,7 +63,7 @@ module _ (begun : Option Held) (t : Table) (page : ℕ) (history : List (Entry C
       → WroteChunks begun t page i (slice_index_or chunks i []) (mine_of history i)
   each_wrote chunks number own kept have are i less =
       subst (λ (n : ℕ). WroteChunks begun t page n (slice_index_or chunks i []) (mine_of history n)) (omega arith)
-          (wrote_at 0 chunks kept have.each are i less)
+      (wrote_at 0 chunks kept have.each are i less)
 
   -- and no other pass wrote
   pub others_idle : (chunks : List (List (List TreesData))) (number : ℕ) (own : List (Entry ClusterMeta))

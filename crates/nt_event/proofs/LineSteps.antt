@@ -48,8 +48,7 @@ too_many known hay before count le none many = record {
   front = take count hay;
   begins = record {
     rest = prepend_known (drop count hay) known;
-    taken =
-        front_taken known hay (take count hay) (drop count hay) (sym (take-append-drop count hay));
+    taken = front_taken known hay (take count hay) (drop count hay) (sym (take-append-drop count hay));
   };
   one_line = no_lf-take hay count le none;
   many = omega (arith, many, length-take-le count hay le);

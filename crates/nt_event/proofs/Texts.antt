@@ -202,8 +202,7 @@ reads-record n ps vs t at first end begin rest good = record {
   good = record {
     fit = parts-fit n ps vs good;
     range = each-range n (kinds_in ps) vs good;
-    shallow =
-        omega (arith, each-shallow n (kinds_in ps) vs good);
+    shallow = omega (arith, each-shallow n (kinds_in ps) vs good);
   };
 }
 
@@ -268,8 +267,7 @@ pub deeper : (n m : ℕ) (k : ShapeData) (v : TreeData) (t : List ℕ) (at end :
     → ReadsValue m k v t at end
 deeper n m k v t at end le h = record {
   stands = h.stands;
-  good =
-      record { fit = h.good.fit; range = h.good.range; shallow = omega (arith, le, h.good.shallow) };
+  good = record { fit = h.good.fit; range = h.good.range; shallow = omega (arith, le, h.good.shallow) };
 }
 
 pub may-past : (b : Bool) (t : List ℕ) (i n : ℕ) → MayStand b t i n → i ≤ n

@@ -42,8 +42,13 @@ page : (file : List ℕ) (number id : ℕ) (kind : ColumnType) (p : PageItem)
     → Agrees (page_of_column file number id kind p) (HoldsPage file kind p)
 unfolding PageSteps
 page file number id kind p = in_words
-    (λ es w. record { stored = w.second.middle; size = eqb-true _ _ w.first; there = w.second.first; checked =
-        w.second.second.first; gives = w.second.second.second })
+    (λ es w. record {
+      stored = w.second.middle;
+      size = eqb-true _ _ w.first;
+      there = w.second.first;
+      checked = w.second.second.first;
+      gives = w.second.second.second;
+    })
     (λ es h. record {
       middle = tt;
       first = eq-eqb _ _ h.size;
@@ -74,7 +79,7 @@ column_by : (file : List ℕ) (number : ℕ) (k : ClusterList) (id : ℕ) (c : K
     (kind : Option ColumnType)
     → c.is_open ≡ is_open → begins_behind k c ≡ behind → kind_of_code code ≡ kind
     → Agrees (cond is_open (cond behind (Ok (zero_elements k.entries)) (pages_of_kind file number id kind (pages_listed k id)))
-        (Ok [])) (HoldsColumn file k id c code)
+    (Ok [])) (HoldsColumn file k id c code)
 column_by file number k id c code false behind kind o b n = in_words
     (λ es is. subst (λ (l : List Element). HoldsColumn file k id c code l) (sym is) (closed o))
     (λ es h. none es h)
@@ -132,14 +137,14 @@ columns file number k t id [] = in_words
     none es no_column = refl
 columns file number k t id (c ∷ cs) = in_words
     (λ es w. subst (λ (l : List (List Element)). HoldsColumns file k t id (c ∷ cs) l) (sym w.second.second)
-        (and_column w.first w.second.first))
+    (and_column w.first w.second.first))
     (λ es h. some es h)
     (bind _ (column file number k id (known_column (need_of t id) c) c.code) λ first f. bind _ (columns file number k t (id + 1) cs)
-        λ others o. exactly (first ∷ others))
+    λ others o. exactly (first ∷ others))
   where
     some : (es : List (List Element)) → HoldsColumns file k t id (c ∷ cs) es
         → With (HoldsColumn file k id (known_column (need_of t id) c) c.code)
-            (λ first. With (HoldsColumns file k t (id + 1) cs) (λ others. Is (first ∷ others))) es
+        (λ first. With (HoldsColumns file k t (id + 1) cs) (λ others. Is (first ∷ others))) es
     some es (and_column {es = one} {others = others} first more) =
         record { middle = one; first = first; second = record { middle = others; first = more; second = refl } }
 
@@ -150,7 +155,7 @@ no_fault number k (Some s) = record { reads = λ u h. absurd cc; finds = λ u e.
 ClusterSteps : List ℕ → Table → ℕ → ClusterList → List TreesData → Type 0
 ClusterSteps file t number k =
     With (HoldsColumns file k t 0 t.columns) λ columns. With (λ (u : Unit {0}). fault_in_any (open_plans t) (columns_by_id columns)
-        k.entries ≡ None) λ u.
+    k.entries ≡ None) λ u.
     Is (entries_of_columns t columns k.entries)
 
 cluster_steps : (file : List ℕ) (t : Table) (number : ℕ) (k : ClusterList)
@@ -170,7 +175,10 @@ cluster file t number k = in_words
     (λ es h. record {
       middle = h.columns;
       first = h.holds;
-      second = record { middle = tt; first = fault_in_any-sound (open_plans t) (columns_by_id h.columns) k.entries h.sound; second =
-          h.give };
+      second = record {
+        middle = tt;
+        first = fault_in_any-sound (open_plans t) (columns_by_id h.columns) k.entries h.sound;
+        second = h.give;
+      };
     })
     (cluster_steps file t number k)

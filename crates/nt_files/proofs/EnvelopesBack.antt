@@ -33,7 +33,7 @@ opening place kind bytes low fits = record {
   reads = λ is h.
       let small : length is.payload + 16 < 2 ^ 48 = h.small in
       ap (λ (r : Result (List ℕ) EnvelopeFault). opened_envelope place kind bytes r) (ap (λ (l : List ℕ). payload_of kind l) h.all
-          ∙ payload_again kind is.payload low h.small)
+      ∙ payload_again kind is.payload low h.small)
       ∙ ap (λ (s : Sealed). Ok s) (sealed_is kind is h.sum);
   finds = λ is e.
       let o = opened_ok place kind bytes (payload_of kind bytes) is e in
@@ -50,7 +50,7 @@ steps : (file : List ℕ) (kind : ℕ) (block : Block) → kind < 2 ^ 16 → IsB
 unfolding envelope_of Steps
 steps file kind block low fits =
     bind _ (test _ _) λ u p. bind _ (there _ _) λ bytes t. opening block.place kind bytes low
-        (piece_bytes file bytes block.place block.size fits t)
+    (piece_bytes file bytes block.place block.size fits t)
 
 pub envelope_is : (file : List ℕ) (kind : ℕ) (block : Block) → kind < 2 ^ 16 → IsBytes file
     → Agrees (envelope_of file kind block) (IsEnvelope file kind block)

@@ -26,7 +26,7 @@ clusters file t number [] = in_words
     none es no_cluster = refl
 clusters file t number (k ∷ ks) = in_words
     (λ es w. subst (λ (l : List (List TreesData)). HoldsClusters file t (k ∷ ks) l) (sym w.second.second)
-        (and_cluster w.first w.second.first))
+    (and_cluster w.first w.second.first))
     (λ es h. some es h)
     (bind _ (cluster file t number k) λ first f. bind _ (clusters file t (number + 1) ks) λ others o. exactly (first ∷ others))
   where
@@ -78,4 +78,4 @@ means_or_defect file = by (read_file file) refl
 
 pub never_both : (file : List ℕ) (t : Table) (ks : List (List TreesData)) (e : ReadError) → Means file t ks → HasDefect file e → ⊥
 never_both file t ks e m d = let same : ◌≡◌ {A = Result (Table × List (List TreesData)) ReadError} (Ok (t, ks)) (Err e) =
-                                     sym m ∙ d in absurd cc
+    sym m ∙ d in absurd cc

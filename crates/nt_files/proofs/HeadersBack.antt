@@ -40,8 +40,8 @@ header-reads t place rest is fields columns short =
     let e = description (part_fields Header t) (part_columns Header t) in
     let grouped : (a ++ (b ++ (c ++ (d ++ e)))) ++ rest ≡ a ++ (b ++ (c ++ (d ++ (e ++ rest)))) = simp append_assoc in
     let e_short : length e < 2 ^ 63 = back-below d e (2 ^ 63)
-            (back-below c (d ++ e) (2 ^ 63) (back-below b (c ++ (d ++ e)) (2 ^ 63) (back-below a (b ++ (c ++ (d ++ e))) (2 ^ 63) short))) in
+    (back-below c (d ++ e) (2 ^ 63) (back-below b (c ++ (d ++ e)) (2 ^ 63) (back-below a (b ++ (c ++ (d ++ e))) (2 ^ 63) short))) in
     ap (λ (l : List ℕ). header_payload_at (standing place l)) grouped
     ∙ chain place (up_to Header t) a b c d e ntuple_name [] writer_name rest flags-read (text-reads ntuple_name (omega arith))
-        (text-reads [] (omega arith))
+    (text-reads [] (omega arith))
     (text-reads writer_name (omega arith)) (λ at after. part-reads Header t at after is fields columns e_short)

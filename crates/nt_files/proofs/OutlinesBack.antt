@@ -30,7 +30,7 @@ group_steps : (file : List ℕ) (sum : ℕ) (columns : List KnownColumn) (g : Gr
 unfolding group_clusters GroupSteps
 group_steps file sum columns g p fits =
     bind _ (envelope_is file page_list_kind (list_block g.link) (omega arith) fits) λ list l. bind _ (inside (list_block g.link) _)
-        λ read r. exactly _
+    λ read r. exactly _
 
 GroupIs : List ℕ → ℕ → List KnownColumn → Group → ProgressCounts → List ClusterList × ProgressCounts → Type 0
 GroupIs file sum columns g p read = ListsGroup file sum columns g p read.0 read.1
@@ -70,23 +70,23 @@ groups file sum columns [] p fits = in_words
     none_listed ks no_more = refl
 groups file sum columns (g ∷ gs) p fits = in_words
     (λ ks w. subst (λ (l : List ClusterList). ListsGroups file sum columns (g ∷ gs) p l) (sym w.second.second)
-        (and_more w.first w.second.first))
+    (and_more w.first w.second.first))
     (λ ks l. some_listed ks l)
     (bind _ (group file sum columns g p fits) λ first f. bind _ (groups file sum columns gs first.1 fits) λ others o.
-        exactly (first.0 ++ others))
+    exactly (first.0 ++ others))
   where
     some_listed : (ks : List ClusterList) → ListsGroups file sum columns (g ∷ gs) p ks
         → With (GroupIs file sum columns g p) (λ first. With (ListsGroups file sum columns gs first.1)
-            (λ others. Is (first.0 ++ others))) ks
+        (λ others. Is (first.0 ++ others))) ks
     some_listed ks (and_more {q = q} {ks = one} {others = others} first more) =
         record { middle = (one, q); first = first; second = record { middle = others; first = more; second = refl } }
 
 DescribedSteps : List ℕ → Anchor → Table × List Group × ℕ → Type 0
 DescribedSteps file a =
     With (IsEnvelope file header_kind (header_block a)) λ header.
-        With (λ (t : Table). header_payload_at (standing 0 header.payload) ≡ Ok t) λ first.
+    With (λ (t : Table). header_payload_at (standing 0 header.payload) ≡ Ok t) λ first.
     With (IsEnvelope file footer_kind (footer_block a)) λ footer.
-        With (λ (w : Table × List Group). footer_at header.sum first (standing 0 footer.payload) ≡ Ok w) λ whole.
+    With (λ (w : Table × List Group). footer_at header.sum first (standing 0 footer.payload) ≡ Ok w) λ whole.
     Is (whole.0, whole.1, header.sum)
 
 described : (file : List ℕ) (a : Anchor) → IsBytes file → Agrees (described_of file a) (DescribedSteps file a)
@@ -94,13 +94,13 @@ unfolding described_of DescribedSteps
 described file a fits =
     bind _ (envelope_is file header_kind (header_block a) (omega arith) fits) λ header h. bind _ (inside (header_block a) _) λ first f.
     bind _ (envelope_is file footer_kind (footer_block a) (omega arith) fits) λ footer g. bind _ (inside (footer_block a) _)
-        λ whole w. exactly _
+    λ whole w. exactly _
 
 Steps : List ℕ → Outline → Type 0
 Steps file =
     With (Embeds file) λ a. With (DescribedSteps file a) λ said.
     With (ListsGroups file said.2 (known_columns said.0) said.1 (no_progress (length said.0.columns))) λ clusters.
-        Is (record { table = said.0; clusters = clusters })
+    Is (record { table = said.0; clusters = clusters })
 
 steps : (file : List ℕ) → IsBytes file → Agrees (outline_of file) (Steps file)
 unfolding outline_of Steps
@@ -112,7 +112,7 @@ pub outlined : (file : List ℕ) → IsBytes file → Agrees (outline_of file) (
 unfolding Steps DescribedSteps
 outlined file fits = in_words
     (λ o w. subst (HasOutline file) (sym w.second.second.second) (found file w.middle w.second.middle w.second.second.middle w.first
-        w.second.first w.second.second.first))
+    w.second.first w.second.second.first))
     (λ o h. record {
       middle = h.anchor;
       first = h.embeds;

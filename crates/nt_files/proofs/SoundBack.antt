@@ -27,7 +27,7 @@ counts_at : (es : List Element) (i : ℕ) → (0 < tag_at es i → number_at es 
 counts_at es i counts =
     elim (cases_lt 0 (tag_at es i)) [
       | inl some ↦ (let same : eqb (number_at es i) (count_tag (tag_at es i) (take i es)) ≡ true =
-                            eq-eqb _ _ (counts some) in or_right (eqb (tag_at es i) 0) _ same)
+          eq-eqb _ _ (counts some) in or_right (eqb (tag_at es i) 0) _ same)
       | inr none ↦ (let zero_is : eqb (tag_at es i) 0 ≡ true = eq-eqb _ _ (omega (arith, none)) in rw zero_is refl)
     ]
   where

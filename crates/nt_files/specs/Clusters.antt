@@ -39,7 +39,7 @@ use Rattle.nt_files.specs.Outlines.{known_column}
 abbrev pub column_kinds : List ColumnType
 column_kinds =
     Bit ∷ Byte ∷ Char ∷ Int8 ∷ UInt8 ∷ Int16 ∷ UInt16 ∷ Int32 ∷ UInt32 ∷ Int64 ∷ UInt64 ∷ Index32 ∷ Index64 ∷ Switch ∷ SplitInt16
-        ∷ SplitUInt16 ∷ SplitInt32 ∷ SplitUInt32 ∷ SplitInt64 ∷ SplitUInt64 ∷ SplitIndex32 ∷ SplitIndex64 ∷ []
+    ∷ SplitUInt16 ∷ SplitInt32 ∷ SplitUInt32 ∷ SplitInt64 ∷ SplitUInt64 ∷ SplitIndex32 ∷ SplitIndex64 ∷ []
 
 -- the type with this code; every open column has one
 abbrev pub kind_of_code : ℕ → Option ColumnType
@@ -101,7 +101,7 @@ zero_elements n = replicate n (0, 0)
 abbrev pub column_elements : List ℕ → ℕ → ClusterList → ℕ → KnownColumn → ℕ → Result (List Element) ReadError
 column_elements file number k id c code =
     if c.is_open then (if begins_behind k c then Ok (zero_elements k.entries) else pages_of_kind file number id (kind_of_code code)
-        (pages_listed k id))
+    (pages_listed k id))
     else Ok []
 
 -- the elements of columns whose ids go on from this one
@@ -109,7 +109,7 @@ abbrev pub columns_from : List ℕ → ℕ → ClusterList → Table → ℕ →
 columns_from file number k t id [] = Ok []
 columns_from file number k t id (c ∷ cs) =
     column_elements file number k id (known_column (need_of t id) c) c.code >>= λ first. columns_from file number k t (id + 1) cs
-        >>= λ others. Ok (first ∷ others)
+    >>= λ others. Ok (first ∷ others)
 
 -- columns by their ids
 abbrev pub columns_by_id : List (List Element) → Cols

@@ -34,4 +34,4 @@ writer_name = codes "ntuple_tool 1"
 unfoldable pub header_text : Table → List ℕ
 header_text t =
     to_le_bytes w64 0 ++ (string ntuple_name ++ (string []
-        ++ (string writer_name ++ description (part_fields Header t) (part_columns Header t))))
+    ++ (string writer_name ++ description (part_fields Header t) (part_columns Header t))))

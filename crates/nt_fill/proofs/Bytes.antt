@@ -52,9 +52,11 @@ module _ (fr : Frame) (new : Cols) (small : (k : ℕ) → IsPlain fr k 8 → (i 
   each_bytes p each no_trees cols h x = tt
   each_bytes p each (tree t ts) cols h x =
       let q = and_parts (fits_plan p t) (all_trees (fits_plan p) ts) h in
-      let mid = put_tree p t cols in
-      (each t cols q.0 (then-extends mid (put_each (put_tree p) ts mid) new
-          (put_each-extends (put_tree p) (put_tree-extends p) ts mid) x), each_bytes p each ts mid q.1 x)
+      let mid = put_tree p t cols in (
+        each t cols q.0 (then-extends mid (put_each (put_tree p) ts mid) new
+            (put_each-extends (put_tree p) (put_tree-extends p) ts mid) x),
+        each_bytes p each ts mid q.1 x,
+      )
 
   mutual
     pub tree_bytes : (p : PlanData) (t : TreeData) (cols : Cols) → Takes p fr → fits_plan p t ≡ true
@@ -74,7 +76,7 @@ module _ (fr : Frame) (new : Cols) (small : (k : ℕ) → IsPlain fr k 8 → (i 
     tree_bytes (choice k ps) nothing cols takes h x = tt
     tree_bytes (choice k ps) (pick tag t) cols takes h x =
         one_bytes ps tag t cols takes.1 h (then-extends (put_one ps tag t cols) (put_tree (choice k ps) (pick tag t) cols) new
-            (add_to-extends k _ _) x)
+        (add_to-extends k _ _) x)
     tree_bytes _ _ cols takes h x = absurd (false≢true h)
 
     pub all_bytes : (ps : PlansData) (ts : TreesData) (cols : Cols) → AllTake ps fr → fit_plans ps ts ≡ true
@@ -84,9 +86,10 @@ module _ (fr : Frame) (new : Cols) (small : (k : ℕ) → IsPlain fr k 8 → (i 
     all_bytes (plan p ps) no_trees cols takes h x = absurd (false≢true h)
     all_bytes (plan p ps) (tree t ts) cols takes h x =
         let q = and_parts (fits_plan p t) (fit_plans ps ts) h in
-        let mid = put_tree p t cols in
-        (tree_bytes p t cols takes.0 q.0 (then-extends mid (put_trees ps ts mid) new (put_trees-extends ps ts mid) x),
-            all_bytes ps ts mid takes.1 q.1 x)
+        let mid = put_tree p t cols in (
+          tree_bytes p t cols takes.0 q.0 (then-extends mid (put_trees ps ts mid) new (put_trees-extends ps ts mid) x),
+          all_bytes ps ts mid takes.1 q.1 x,
+        )
 
     one_bytes : (ps : PlansData) (tag : ℕ) (t : TreeData) (cols : Cols) → AllTake ps fr → fits_alternative ps tag t ≡ true
         → Extends (put_one ps tag t cols) new → HasBytes t

@@ -43,13 +43,13 @@ drop_next : (rows : List ColumnRow) (k : ℕ) (r : ColumnRow) → slice_get rows
 drop_next [] k r at = absurd (cc)
 drop_next (x ∷ rows) zero r at = let same : x ≡ r = cc in ap (λ (y : ColumnRow). y ∷ rows) same
 drop_next (x ∷ rows) (suc k) r at = let up : suc (k + 1) ≡ suc k + 1 =
-                                            omega arith in drop_next rows k r at ∙ ap (λ (n : ℕ). r ∷ drop n (x ∷ rows)) up
+    omega arith in drop_next rows k r at ∙ ap (λ (n : ℕ). r ∷ drop n (x ∷ rows)) up
 
 -- one type more is that of the next row
 pub codes_next : (rows : List ColumnRow) (k : ℕ) (r : ColumnRow) (kinds : List ColumnType) (kind : ColumnType) (whole : List ℕ)
     → slice_get rows k ≡ Some r → code_of kind ≡ r.code
     → map code_of kinds ++ map (λ (x : ColumnRow). x.code) (drop k rows) ≡ whole → map code_of (kinds ++ kind ∷ [])
-        ++ map (λ (x : ColumnRow). x.code) (drop (k + 1) rows) ≡ whole
+    ++ map (λ (x : ColumnRow). x.code) (drop (k + 1) rows) ≡ whole
 codes_next rows k r kinds kind whole at is before =
     let rest = map (λ (x : ColumnRow). x.code) (drop (k + 1) rows) in
     ap (λ (l : List ℕ). l ++ rest) (map-append code_of kinds (kind ∷ []))

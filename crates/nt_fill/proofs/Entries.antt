@@ -47,7 +47,7 @@ module _ (t : Table) (ts : TreesData) (old new : List Buffer) (n : ℕ) (added :
       map-range_with_len_more (each_at (open_plans t) (cols_of new)) 0 n n (omega arith)
       ∙ ap₂ (λ xs x. xs ++ x ∷ []) (map_same (each_at (open_plans t) (cols_of new)) (each_at (open_plans t) (cols_of old)) n
       (λ i h. ap (λ cols. each_at (open_plans t) cols i) added ∙ each_at-stays (open_plans t) (cols_of old)
-          (put_trees (open_plans t) ts (cols_of old)) n i (put_trees-extends (open_plans t) ts (cols_of old)) sound h)) (last.entry bytes)
+      (put_trees (open_plans t) ts (cols_of old)) n i (put_trees-extends (open_plans t) ts (cols_of old)) sound h)) (last.entry bytes)
 
 -- sound columns give their entries
 pub gives_of : (t : Table) (columns : List Column) (n : ℕ) → IsSetOf t.columns columns

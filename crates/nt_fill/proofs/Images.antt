@@ -53,10 +53,12 @@ module _ (t : Table) (columns : List Column) (entries : List TreesData) (gives :
   image_for count types some counted pages i bytes meta =
       let column = principal_of_first t.columns (open_plans t) (elements_at columns) (length entries) some types gives.sound in
       let bits : length entries ≤ 8 * length (image page columns) =
-              omega (arith, image-bits page column.0 columns (omega (arith, pages.0)), column.1) in
+      omega (arith, image-bits page column.0 columns (omega (arith, pages.0)), column.1) in
       let lists = length-column_metas page 0 columns ∙ (count_described columns t.columns gives.set.described ∙ counted) in
-      let meant : IsImageFor count context (record { bytes = image page columns; meta =
-              cluster_meta page context (length entries) columns }) =
+      let meant : IsImageFor count context (record {
+        bytes = image page columns;
+        meta = cluster_meta page context (length entries) columns;
+      }) =
       record {
         context_is = refl;
         whole = refl;

@@ -62,8 +62,10 @@ module _ {D : Type 0} where
       → Gains (one ++ two) old new
   gains_twice one two old mid new g h = record {
     seen = prefix_then old.seen mid.seen new.seen g.seen h.seen;
-    now = h.now ∙ (ap (λ (p : Pass D). gained p new.seen two) g.now ∙ ap (λ (l : List (Entry ClusterMeta)). record old { seen =
-        new.seen; own = l }) (append_assoc old.own one two));
+    now = h.now ∙ (ap (λ (p : Pass D). gained p new.seen two) g.now ∙ ap (λ (l : List (Entry ClusterMeta)). record old {
+      seen = new.seen;
+      own = l;
+    }) (append_assoc old.own one two));
   }
 
   pub own_after : (added : List (Entry ClusterMeta)) (old new : Pass D) → Gains added old new → new.own ≡ old.own ++ added
@@ -100,8 +102,13 @@ module _ {D : Type 0} (state : D → DiskState) (committer : TurnState (Birth D)
   pub pass_after : (added : List (Entry ClusterMeta)) (old new : Pass D) → Gains added old new → IsPassOf committer old
       → IsPassOf committer new
   pass_after added old new g of =
-      subst (λ (p : Pass D). IsPassOf committer p) (sym g.now) (record { turn = of.turn; free = of.free; birth = of.birth; number =
-          of.number; seats = of.seats })
+      subst (λ (p : Pass D). IsPassOf committer p) (sym g.now) (record {
+        turn = of.turn;
+        free = of.free;
+        birth = of.birth;
+        number = of.number;
+        seats = of.seats;
+      })
 
   module _ {X : Type 0} (tell : X → ExtState) (meta : ClusterMeta) (old mid : Pass D) where
     -- the limit of a commit, by what never changes
@@ -137,7 +144,7 @@ module _ {D : Type 0} (state : D → DiskState) (committer : TurnState (Birth D)
       commits_one =
           subst (λ (l : List (Entry ClusterMeta)). Gains l old mid)
           (c.commits.adds.1 ∙ (ap (λ (n : ℕ). committed_entry n start meta ∷ []) (sym c.commits.adds.0.number)
-              ∙ ap (λ (i : ℕ). committed_by i claim.cluster start meta ∷ []) is))
+          ∙ ap (λ (i : ℕ). committed_by i claim.cluster start meta ∷ []) is))
           (gains_by c.taken c.given c.commits.added old mid c.hold)
 
       pub claim_is : IsClaimOf tell (ranges_of mid.own) mid.number claim
@@ -145,7 +152,7 @@ module _ {D : Type 0} (state : D → DiskState) (committer : TurnState (Birth D)
           let range = new_range old.number claim.cluster start meta.len meta in
           let ranges : ranges_of mid.own ≡ ranges_of old.own ++ range ∷ [] =
           ap (λ (l : List (Entry ClusterMeta)). ranges_of l) (own_after _ old mid commits_one)
-              ∙ ranges-committed old.own old.number claim.cluster start meta.len meta in
+          ∙ ranges-committed old.own old.number claim.cluster start meta.len meta in
           record {
             place = length (ranges_of old.own);
             cluster = range;
@@ -161,11 +168,11 @@ module _ {D : Type 0} (state : D → DiskState) (committer : TurnState (Birth D)
       pub writes : (image : ClusterImage) (bytes : List ℕ) (new : Pass D) → image.meta ≡ meta
           → bytes ≡ blob_key (length image.bytes - key_room) (tell claim.ext).range.start ++ drop key_room image.bytes
           → AddsInHold state committer (settled_with mid.number claim.cluster
-              (bytes_where_told (state committer.birth.begun).held (Some bytes)) ∷ []) mid new → WritesImage state committer image old new
+          (bytes_where_told (state committer.birth.begun).held (Some bytes)) ∷ []) mid new → WritesImage state committer image old new
       writes image bytes new same are a =
           let told = bytes_where_told (state committer.birth.begun).held (Some bytes) in
           let settled = subst (λ (i : ℕ). Gains (settled_with i claim.cluster told ∷ []) mid new)
-                  (number_after _ old mid commits_one) (gains_by a.taken a.given _ mid new a.hold) in
+          (number_after _ old mid commits_one) (gains_by a.taken a.given _ mid new a.hold) in
           let place : (tell claim.ext).range.start ≡ start = ap (λ (r : Range). r.start) c.commits.adds.0.range in
           record {
             written = record { number = claim.cluster; start = start; len = meta.len; meta = meta; bytes = told };
@@ -181,7 +188,7 @@ module _ {D : Type 0} (state : D → DiskState) (committer : TurnState (Birth D)
       spoils new s =
           let faults = (state s.given.disk).faults in
           let spoiled = subst (λ (i : ℕ). Gains (spoiled_entry i claim.cluster faults ∷ []) mid new)
-                  (number_after _ old mid commits_one) (gains_by s.taken s.given _ mid new s.hold) in
+          (number_after _ old mid commits_one) (gains_by s.taken s.given _ mid new s.hold) in
           record { cluster = claim.cluster; start = start; faults = faults; gains = gains_twice _ _ old mid new commits_one spoiled }
 
   -- no range is out once an image was written

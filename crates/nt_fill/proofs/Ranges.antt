@@ -21,7 +21,7 @@ new_range i n start len meta = record { context = i; number = n; start = start; 
 
 pub ranges-committed : (own : List (Entry ClusterMeta)) (i n start len : ℕ) (meta : ClusterMeta)
     → ranges_of (own ++ record { context = i; kind = entry.Committed n start len meta } ∷ []) ≡ ranges_of own
-        ++ new_range i n start len meta ∷ []
+    ++ new_range i n start len meta ∷ []
 ranges-committed own i n start len meta = ranges_of-snoc own (record { context = i; kind = entry.Committed n start len meta })
 
 stays_in : (i n : ℕ) (fate : Fate) (c : Cluster ClusterMeta) → is_out fate ≡ false → is_out c.state ≡ false
@@ -36,8 +36,9 @@ gets_in : (i n start len : ℕ) (meta : ClusterMeta) (fate : Fate) → is_out fa
     → is_out (handed_back i n fate (new_range i n start len meta)).state ≡ false
 gets_in i n start len meta fate back = both (i == i) (n == n) (eq-eqb i i refl) (eq-eqb n n refl)
   where
-    both : (a b : Bool) → a ≡ true → b ≡ true → is_out (cond (a && b && true) (record (new_range i n start len meta) { state =
-        fate }) (new_range i n start len meta)).state ≡ false
+    both : (a b : Bool) → a ≡ true → b ≡ true → is_out (cond (a && b && true) (record (new_range i n start len meta) {
+      state = fate;
+    }) (new_range i n start len meta)).state ≡ false
     both true true p q = back
     both true false p q = cc
     both false b p q = cc
@@ -45,7 +46,7 @@ gets_in i n start len meta fate back = both (i == i) (n == n) (eq-eqb i i refl) 
 all_back : (i n start len : ℕ) (meta : ClusterMeta) (fate : Fate) (cs : List (Cluster ClusterMeta)) → is_out fate ≡ false
     → AllByRecursion (λ (c : Cluster ClusterMeta). is_out c.state ≡ false) cs
     → AllByRecursion (λ (c : Cluster ClusterMeta). is_out c.state ≡ false)
-        (map (handed_back i n fate) (cs ++ new_range i n start len meta ∷ []))
+    (map (handed_back i n fate) (cs ++ new_range i n start len meta ∷ []))
 all_back i n start len meta fate [] back h = (gets_in i n start len meta fate back, tt)
 all_back i n start len meta fate (c ∷ cs) back h = (stays_in i n fate c back h.0, all_back i n start len meta fate cs back h.1)
 
@@ -56,15 +57,15 @@ module _ (own : List (Entry ClusterMeta)) (i n start len : ℕ) (meta : ClusterM
 
   back_in : (fate : Fate) (e : Entry ClusterMeta) → is_out fate ≡ false
       → after_entry (ranges_of own ++ new_range i n start len meta ∷ []) e
-        ≡ map (handed_back i n fate) (ranges_of own ++ new_range i n start len meta ∷ [])
+      ≡ map (handed_back i n fate) (ranges_of own ++ new_range i n start len meta ∷ [])
       → HasNoneOut own → HasNoneOut (own ++ first ∷ e ∷ [])
   back_in fate e back after none =
       let ranges : ranges_of (own ++ first ∷ e ∷ []) ≡ map (handed_back i n fate) (ranges_of own ++ new_range i n start len meta ∷ []) =
       ap (λ (l : List (Entry ClusterMeta)). ranges_of l) (sym (append_assoc own (first ∷ []) (e ∷ [])))
       ∙ (ranges_of-snoc (own ++ first ∷ []) e ∙ (ap (λ (l : List (Cluster ClusterMeta)). after_entry l e)
-          (ranges-committed own i n start len meta) ∙ after)) in
+      (ranges-committed own i n start len meta) ∙ after)) in
       subst (λ (l : List (Cluster ClusterMeta)). AllByRecursion (λ (c : Cluster ClusterMeta). is_out c.state ≡ false) l)
-          (sym ranges) (all_back i n start len meta fate (ranges_of own) back none)
+      (sym ranges) (all_back i n start len meta fate (ranges_of own) back none)
 
   pub settled_in : (bytes : _) → HasNoneOut own → HasNoneOut (own ++ first ∷ record { context = i; kind = entry.Settled n bytes } ∷ [])
   settled_in bytes = back_in (Settled bytes) (record { context = i; kind = entry.Settled n bytes }) refl refl
@@ -77,4 +78,4 @@ pub faulted_in : (own : List (Entry ClusterMeta)) (i faults : ℕ) → HasNoneOu
     → HasNoneOut (own ++ record { context = i; kind = entry.Faulted faults } ∷ [])
 faulted_in own i faults none =
     subst (λ (l : List (Cluster ClusterMeta)). AllByRecursion (λ (c : Cluster ClusterMeta). is_out c.state ≡ false) l)
-        (sym (ranges_of-snoc own (record { context = i; kind = entry.Faulted faults }))) none
+    (sym (ranges_of-snoc own (record { context = i; kind = entry.Faulted faults }))) none

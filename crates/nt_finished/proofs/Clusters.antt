@@ -145,7 +145,7 @@ module _ (file : List ℕ) (t : Table) (needs : HaveNeeds t) (page : ℕ) (some 
       absurd (omega (arith, all, lists))
   entries_read book n k place clusters ranges cs (l ∷ ls)
       (and_blob {entries = entries} {others = others} {range = range} {ranges = left} {c = c} {cs = ds} first more) lists all at
-          follow told there =
+      follow told there =
       let same : k + 0 ≡ k = omega arith in
       let here : cluster_at book k ≡ c = ap (λ (j : ℕ). cluster_at book j) (sym same) ∙ sym (at 0 (omega arith)) in
       let listed : IsListOf c l = subst (λ (x : Cluster ClusterMeta). IsListOf x l) here lists.0 in

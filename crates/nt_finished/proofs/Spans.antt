@@ -84,7 +84,7 @@ pub groups_told : (sum : ℕ) (book : BookData) (n : ℕ) → IsBookKept book �
     → (place k : ℕ) (ss : List ClusterSpan)
     → AreInOrder k n ss
     → AllByRecursion (λ (s : ClusterSpan). list_len sum book s ≤ 2 ^ 30) ss → place
-        + length (concat (lists_from sum book place ss)) ≤ 2 ^ 56
+    + length (concat (lists_from sum book place ss)) ≤ 2 ^ 56
     → AreGroups (first_entry book k) k (groups_from sum book place ss)
 groups_told sum book n kept inside place k [] order short low = tt
 groups_told sum book n kept inside place k (s ∷ ss) order short low =

@@ -22,18 +22,18 @@ use Rattle.nt_format.proofs.Sum.{xxh3_below}
 abbrev judged : ℕ → ℕ → ℕ → ℕ → List ℕ → Result (List ℕ) EnvelopeFault
 judged kind len word kept covered =
     cond (eqb (word / 2 ^ 16) len) (cond (eqb (word % 2 ^ 16) kind) (cond (eqb kept (xxh3 covered)) (Ok (drop 8 covered))
-        (Err (Checksum kept (xxh3 covered)))) (Err (Kind (word % 2 ^ 16)))) (Err Size)
+    (Err (Checksum kept (xxh3 covered)))) (Err (Kind (word % 2 ^ 16)))) (Err Size)
 
 payload_of-parts : (kind : ℕ) (head payload sum : List ℕ) → length head ≡ 8 → length sum ≡ 8
     → payload_of kind ((head ++ payload) ++ sum) ≡ judged kind (length payload + 16) (from_le_bytes w64 head)
-        (from_le_bytes w64 sum) (head ++ payload)
+    (from_le_bytes w64 sum) (head ++ payload)
 unfolding payload_of
 payload_of-parts kind head payload sum eight last =
     let covered_len : length (head ++ payload) ≡ 8 + length payload = omega (arith, length-append head payload) in
     let len : length ((head ++ payload) ++ sum) ≡ length payload + 16 = omega (arith, length-append (head ++ payload) sum) in
     let long : ltb (length payload + 16) 16 ≡ false = le-ltb _ _ (omega arith) in
     let covered : take (length payload + 16 - 8) ((head ++ payload) ++ sum) ≡ head ++ payload =
-            take_at (head ++ payload) sum _ (omega arith) in
+    take_at (head ++ payload) sum _ (omega arith) in
     let kept : drop (length payload + 16 - 8) ((head ++ payload) ++ sum) ≡ sum = drop_at (head ++ payload) sum _ (omega arith) in
     let word : take 8 (head ++ payload) ≡ head = take_at head payload 8 eight in
     rw (len, long, covered, kept, word) refl
@@ -52,15 +52,15 @@ judged-complete : (kind len word kept : ℕ) (covered payload : List ℕ) → ju
     → (word ≡ len * 2 ^ 16 + kind) × (kind < 2 ^ 16) × (kept ≡ xxh3 covered) × (drop 8 covered ≡ payload)
 judged-complete kind len word kept covered payload e =
     let size = guard_passed (eqb (word / 2 ^ 16) len) Size
-            (cond (eqb (word % 2 ^ 16) kind) (cond (eqb kept (xxh3 covered)) (Ok (drop 8 covered))
-              (Err (Checksum kept (xxh3 covered)))) (Err (Kind (word % 2 ^ 16)))) payload e in
+    (cond (eqb (word % 2 ^ 16) kind) (cond (eqb kept (xxh3 covered)) (Ok (drop 8 covered))
+    (Err (Checksum kept (xxh3 covered)))) (Err (Kind (word % 2 ^ 16)))) payload e in
     let low = guard_passed (eqb (word % 2 ^ 16) kind) (Kind (word % 2 ^ 16))
-            (cond (eqb kept (xxh3 covered)) (Ok (drop 8 covered)) (Err (Checksum kept (xxh3 covered)))) payload size.1 in
+    (cond (eqb kept (xxh3 covered)) (Ok (drop 8 covered)) (Err (Checksum kept (xxh3 covered)))) payload size.1 in
     let sum = guard_passed (eqb kept (xxh3 covered)) (Checksum kept (xxh3 covered)) (Ok (drop 8 covered)) payload low.1 in
     let size_is : word / 2 ^ 16 ≡ len = eqb-true _ _ size.0 in
     let kind_is : word % 2 ^ 16 ≡ kind = eqb-true _ _ low.0 in
     let word_is : word ≡ len * 2 ^ 16 + kind = sym (shr_split word 16) ∙ ap (λ (n : ℕ). n * 2 ^ 16 + word % 2 ^ 16) size_is
-            ∙ ap (λ (n : ℕ). len * 2 ^ 16 + n) kind_is in
+    ∙ ap (λ (n : ℕ). len * 2 ^ 16 + n) kind_is in
     (word_is, omega (arith, kind_is), eqb-true _ _ sum.0, ok_is {E = EnvelopeFault} (drop 8 covered) payload sum.1)
 
 pub payload_again : (kind : ℕ) (payload : List ℕ) → kind < 2 ^ 16 → length payload + 16 < 2 ^ 48
@@ -111,16 +111,16 @@ parts_take kind bytes head inner sum payload parts e =
     sym (payload_of-parts kind head inner sum parts.head_len parts.sum_len) ∙ ap (payload_of kind) (sym parts.whole) ∙ e in
     let told = judged-complete kind (length inner + 16) (from_le_bytes w64 head) (from_le_bytes w64 sum) (head ++ inner) payload found in
     let head_is : head ≡ to_le_bytes w64 ((length inner + 16) * 2 ^ 16 + kind) =
-            sym (little_64.back head parts.head_len parts.head_fits) ∙ ap (to_le_bytes w64) told.0 in
+    sym (little_64.back head parts.head_len parts.head_fits) ∙ ap (to_le_bytes w64) told.0 in
     let covered_is : head ++ inner ≡ unsealed kind inner = ap (λ (h : List ℕ). h ++ inner) head_is in
     let sum_is : sum ≡ to_le_bytes w64 (xxh3 (unsealed kind inner)) =
-            sym (little_64.back sum parts.sum_len parts.sum_fits) ∙ ap (to_le_bytes w64) (told.2 ∙ ap xxh3 covered_is) in
+    sym (little_64.back sum parts.sum_len parts.sum_fits) ∙ ap (to_le_bytes w64) (told.2 ∙ ap xxh3 covered_is) in
     let whole : bytes ≡ envelope kind inner = parts.whole ∙ ap (λ (c : List ℕ). c ++ sum) covered_is
-            ∙ ap (λ (s : List ℕ). unsealed kind inner ++ s) sum_is in
+    ∙ ap (λ (s : List ℕ). unsealed kind inner ++ s) sum_is in
     let inner_is : inner ≡ payload = sym (drop_at head inner 8 parts.head_len) ∙ told.3 in
     let below = little_64.below head parts.head_fits in
     subst (λ (p : List ℕ). (bytes ≡ envelope kind p) × (kind < 2 ^ 16) × (length p + 16 < 2 ^ 48)) inner_is
-        (whole, told.1, omega (arith, told.0, below))
+    (whole, told.1, omega (arith, told.0, below))
 
 pub length_from_payload : (kind : ℕ) (bytes payload : List ℕ) → payload_of kind bytes ≡ Ok payload → 16 ≤ length bytes
 unfolding payload_of
@@ -161,13 +161,13 @@ wrong_size kind size other rest small fits ne =
           let inner : List ℕ = take (length rest - 8) rest in
           let sum : List ℕ = drop (length rest - 8) rest in
           let whole : head ++ rest ≡ (head ++ inner) ++ sum =
-                  ap (λ (r : List ℕ). head ++ r) (sym (take-append-drop (length rest - 8) rest)) ∙ sym (append_assoc head inner sum) in
+          ap (λ (r : List ℕ). head ++ r) (sym (take-append-drop (length rest - 8) rest)) ∙ sym (append_assoc head inner sum) in
           let inner_len : length (take (length rest - 8) rest) ≡ length rest - 8 = omega (arith, length-take (length rest - 8) rest) in
           let sum_len : length (drop (length rest - 8) rest) ≡ 8 = omega (arith, length-drop (length rest - 8) rest) in
           let word = little_64.again (size * 2 ^ 16 + other) (omega arith) in
           ap (payload_of kind) whole ∙ payload_of-parts kind head inner sum refl sum_len
           ∙ judged-other kind (length inner + 16) size other (from_le_bytes w64 head) (from_le_bytes w64 sum) (head ++ inner) word
-              small (λ (same : size ≡ length inner + 16). ne (omega (arith, same, inner_len)))
+          small (λ (same : size ≡ length inner + 16). ne (omega (arith, same, inner_len)))
     ]
 
 -- bytes behind an envelope
@@ -179,9 +179,9 @@ payload_of-longer kind other payload more small fits some =
     let regrouped : envelope other payload ++ more ≡ head ++ (payload ++ (sum ++ more)) =
     append_assoc (head ++ payload) sum more ∙ append_assoc head payload (sum ++ more) in
     let longer : length (payload ++ (sum ++ more)) ≡ length payload + (8 + length more) =
-            omega (arith, length-append payload (sum ++ more), length-append sum more) in
+    omega (arith, length-append payload (sum ++ more), length-append sum more) in
     ap (payload_of kind) regrouped ∙ wrong_size kind (length payload + 16) other (payload ++ (sum ++ more)) small fits
-        (λ (same : length payload + 16 ≡ 8 + length (payload ++ (sum ++ more))). omega (arith, same, longer))
+    (λ (same : length payload + 16 ≡ 8 + length (payload ++ (sum ++ more))). omega (arith, same, longer))
 
 one_payload : (kind : ℕ) (a b : List ℕ) → payload_of kind (envelope kind a) ≡ Ok a → payload_of kind (envelope kind a) ≡ Ok b → a ≡ b
 one_payload kind a b first second = ok_is {E = EnvelopeFault} a b (sym first ∙ second)
@@ -193,19 +193,19 @@ one_envelope kind other a b small_kind small_other fits_a fits_b same =
     let head_a : List ℕ = to_le_bytes w64 ((length a + 16) * 2 ^ 16 + kind) in
     let head_b : List ℕ = to_le_bytes w64 ((length b + 16) * 2 ^ 16 + other) in
     let word_a = number_again 8 (2 ^ 64) (from_le_bytes w64) (to_le_bytes w64) little_64 ((length a + 16) * 2 ^ 16 + kind) 0
-            (a ++ to_le_bytes w64 (xxh3 (unsealed kind a))) (omega arith) in
+    (a ++ to_le_bytes w64 (xxh3 (unsealed kind a))) (omega arith) in
     let word_b = number_again 8 (2 ^ 64) (from_le_bytes w64) (to_le_bytes w64) little_64 ((length b + 16) * 2 ^ 16 + other) 0
-            (b ++ to_le_bytes w64 (xxh3 (unsealed other b))) (omega arith) in
+    (b ++ to_le_bytes w64 (xxh3 (unsealed other b))) (omega arith) in
     let regrouped_a : envelope kind a ≡ head_a ++ (a ++ to_le_bytes w64 (xxh3 (unsealed kind a))) =
-            append_assoc head_a a (to_le_bytes w64 (xxh3 (unsealed kind a))) in
+    append_assoc head_a a (to_le_bytes w64 (xxh3 (unsealed kind a))) in
     let regrouped_b : envelope other b ≡ head_b ++ (b ++ to_le_bytes w64 (xxh3 (unsealed other b))) =
-            append_assoc head_b b (to_le_bytes w64 (xxh3 (unsealed other b))) in
+    append_assoc head_b b (to_le_bytes w64 (xxh3 (unsealed other b))) in
     let words = ok_is {E = ℕ} _ _ (sym word_a ∙ ap (λ (l : List ℕ). next (from_le_bytes w64) 8 (standing 0 l)) (sym regrouped_a
-            ∙ same ∙ regrouped_b) ∙ word_b) in
+    ∙ same ∙ regrouped_b) ∙ word_b) in
     let word : (length a + 16) * 2 ^ 16 + kind ≡ (length b + 16) * 2 ^ 16 + other = ap (λ (p : ℕ × At). p.0) words in
     let kinds : kind ≡ other = sym (mod_low (length a + 16) 16 kind small_kind) ∙ ap (λ (n : ℕ). n % 2 ^ 16) word
-            ∙ mod_low (length b + 16) 16 other small_other in
+    ∙ mod_low (length b + 16) 16 other small_other in
     let read_b : payload_of kind (envelope kind a) ≡ Ok b =
-            ap (payload_of kind) same ∙ subst (λ (k : ℕ). payload_of k (envelope other b) ≡ Ok b) (sym kinds)
-              (payload_again other b small_other fits_b) in
+    ap (payload_of kind) same ∙ subst (λ (k : ℕ). payload_of k (envelope other b) ≡ Ok b) (sym kinds)
+    (payload_again other b small_other fits_b) in
     (kinds, one_payload kind a b (payload_again kind a small_kind fits_a) read_b)

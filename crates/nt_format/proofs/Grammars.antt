@@ -30,28 +30,33 @@ plain n = record {
   reads = λ text value t place rest. rw t.is (plain_bytes n place value rest t.fits);
   finds = λ here after value bytes e.
       let t = next_takes (λ b. b) n here after value bytes e in
-          (t.0, t.4, record { is = t.3; fits = ap (λ (l : List ℕ). length l) (sym t.3) ∙ t.1 });
+      (t.0, t.4, record { is = t.3; fits = ap (λ (l : List ℕ). length l) (sym t.3) ∙ t.1 });
 }
 
 pub gives : {V E : Type 0} (value : V) → IsRead {E = E} (λ here. Ok (value, here)) (Makes value)
 gives {V = V} {E = E} made = record {
   reads = λ text value t place rest. let e : text ≡ [] =
-                                             t.none in let f : value ≡ made = t.is in let end : place ≡ place + 0 = omega arith in
-                                               rw (e, f, ← end) refl;
+      t.none in let f : value ≡ made = t.is in let end : place ≡ place + 0 = omega arith in
+      rw (e, f, ← end) refl;
   finds = λ here after value bytes e.
       let both = ok_is {E = E} (made, here) (value, after) e in
-      let same : here ≡ after = ap (λ (p : V × At). p.1) both in
-      ([], rw (← same) (record { parts = refl; place = omega arith; bytes = bytes }), record { none = refl; is =
-          sym (ap (λ (p : V × At). p.0) both) });
+      let same : here ≡ after = ap (λ (p : V × At). p.1) both in (
+        [],
+        rw (← same) (record { parts = refl; place = omega arith; bytes = bytes }),
+        record {
+          none = refl;
+          is = sym (ap (λ (p : V × At). p.0) both);
+        },
+      );
 }
 
 pub seq : {V W E : Type 0} {f : At → Result (V × At) E} {First : List ℕ → V → Type 0} {Second : V → List ℕ → W → Type 0}
     → (g : V × At → Result (W × At) E) → IsRead f First → ((x : V) → IsRead (λ here. g (x, here)) (Second x))
-        → IsRead (λ here. f here >>= g) (Then First Second)
+    → IsRead (λ here. f here >>= g) (Then First Second)
 seq {V = V} {W = W} {E = E} {f = f} {First = First} {Second = Second} g p q = record {
   reads = λ text value t place rest.
       let end : place + length t.first + length t.second ≡ place + length text =
-              omega (arith, ap (λ (l : List ℕ). length l) t.parts, length-append t.first t.second) in
+      omega (arith, ap (λ (l : List ℕ). length l) t.parts, length-append t.first t.second) in
       ap (λ (l : List ℕ). f (standing place l) >>= g) (ap (λ (l : List ℕ). l ++ rest) t.parts ∙ append_assoc t.first t.second rest)
       ∙ ap (λ (r : Result (V × At) E). r >>= g) (p.reads t.first t.head t.is_first place (t.second ++ rest))
       ∙ (q t.head).reads t.second value t.is_second (place + length t.first) rest
@@ -59,9 +64,18 @@ seq {V = V} {W = W} {E = E} {f = f} {First = First} {Second = Second} g p q = re
   finds = λ here after value bytes e.
       let b = bind_ok (f here) g (value, after) e in
       let one = p.finds here b.0.1 b.0.0 bytes b.1 in
-      let two = (q b.0.0).finds b.0.1 after value one.1.bytes b.2 in
-      (one.0 ++ two.0, Takes-then here b.0.1 after one.0 two.0 one.1 two.1, record { head = b.0.0; first = one.0; second =
-          two.0; parts = refl; is_first = one.2; is_second = two.2 });
+      let two = (q b.0.0).finds b.0.1 after value one.1.bytes b.2 in (
+        one.0 ++ two.0,
+        Takes-then here b.0.1 after one.0 two.0 one.1 two.1,
+        record {
+          head = b.0.0;
+          first = one.0;
+          second = two.0;
+          parts = refl;
+          is_first = one.2;
+          is_second = two.2;
+        },
+      );
 }
 
 -- one of two readings
@@ -76,8 +90,13 @@ IsShort {V = V} most Text = (text : List ℕ) (value : V) → Text text value �
 
 pub then_short : {V W : Type 0} {First : List ℕ → V → Type 0} {Second : V → List ℕ → W → Type 0} (m n : ℕ) → IsShort m First
     → ((x : V) → IsShort n (Second x)) → IsShort (m + n) (Then First Second)
-then_short m n p q text value t = omega (arith, ap (λ (l : List ℕ). length l) t.parts, length-append t.first t.second,
-    p t.first t.head t.is_first, q t.head t.second value t.is_second)
+then_short m n p q text value t = omega (
+  arith,
+  ap (λ (l : List ℕ). length l) t.parts,
+  length-append t.first t.second,
+  p t.first t.head t.is_first,
+  q t.head t.second value t.is_second,
+)
 
 pub plain_short : (n : ℕ) → IsShort n (Bytes n)
 plain_short n text value t = omega (arith, ap (λ (l : List ℕ). length l) t.is, t.fits)

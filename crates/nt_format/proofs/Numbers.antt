@@ -66,7 +66,7 @@ big_64 = record {
 
 pub number_again : (size limit : ℕ) (from : List ℕ → ℕ) (to : ℕ → List ℕ) → IsCode size limit from to
     → (n place : ℕ) (rest : List ℕ) → n < limit → next from size (standing place (to n ++ rest))
-        ≡ Ok (n, standing (place + length (to n)) rest)
+    ≡ Ok (n, standing (place + length (to n)) rest)
 number_again size limit from to code n place rest lt =
     next_again from size place (to n) rest (code.len n)
     ∙ ap (λ (k : ℕ). Ok (k, standing (place + size) rest)) (code.again n lt)
@@ -81,5 +81,7 @@ number_takes size limit from to code here after n bytes e =
 
 pub number_spells : (size limit : ℕ) (from : List ℕ → ℕ) (to : ℕ → List ℕ) → IsCode size limit from to
     → Spells (next from size) to (λ n. n < limit)
-number_spells size limit from to code = record { reads = number_again size limit from to code; finds =
-    number_takes size limit from to code }
+number_spells size limit from to code = record {
+  reads = number_again size limit from to code;
+  finds = number_takes size limit from to code;
+}

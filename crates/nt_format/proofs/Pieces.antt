@@ -13,7 +13,7 @@ pub piece_at : (file before part after : List ℕ) (at size : ℕ) → file ≡ 
 unfolding piece
 piece_at file before part after at size whole place sized =
     let within : at + size ≤ length (before ++ (part ++ after)) =
-            omega (arith, length-append before (part ++ after), length-append part after) in
+    omega (arith, length-append before (part ++ after), length-append part after) in
     let test : leb (at + size) (length (before ++ (part ++ after))) ≡ true = le-leb _ _ within in
     rw (whole, test, drop_at before (part ++ after) at place, take_at part after size sized) refl
 
@@ -31,7 +31,7 @@ piece_parts file part at size e =
     let within : at + size ≤ length file = leb-true _ _ both.0 in
     let whole : file ≡ take at file ++ (take size (drop at file) ++ drop (at + size) file) =
     sym (take-append-drop at file) ∙ ap (λ (l : List ℕ). take at file ++ l) (sym (take-append-drop size (drop at file))
-        ∙ ap (λ (l : List ℕ). take size (drop at file) ++ l) (drop-drop size at file)) in (
+    ∙ ap (λ (l : List ℕ). take size (drop at file) ++ l) (drop-drop size at file)) in (
       whole ∙ ap (λ (l : List ℕ). take at file ++ (l ++ drop (at + size) file)) both.1,
       omega (arith, length-take at file),
       sym (ap (λ (l : List ℕ). length l) both.1) ∙ omega (arith, length-take size (drop at file), length-drop at file),
@@ -51,10 +51,10 @@ inside_at file part front middle rest at size from count e inside place sized =
     let whole : file ≡ (take at file ++ front) ++ (middle ++ (rest ++ drop (at + size) file)) =
     split.0 ∙ ap (λ (p : List ℕ). take at file ++ (p ++ drop (at + size) file)) inside
     ∙ ap (λ (l : List ℕ). take at file ++ l) (append_assoc front (middle ++ rest) (drop (at + size) file)
-        ∙ ap (λ (l : List ℕ). front ++ l) (append_assoc middle rest (drop (at + size) file)))
+    ∙ ap (λ (l : List ℕ). front ++ l) (append_assoc middle rest (drop (at + size) file)))
     ∙ sym (append_assoc (take at file) front (middle ++ (rest ++ drop (at + size) file))) in
     piece_at file (take at file ++ front) middle (rest ++ drop (at + size) file) from count whole
-        (omega (arith, length-append (take at file) front, split.1)) sized
+    (omega (arith, length-append (take at file) front, split.1)) sized
 
 pub inside_is : (file part front middle rest : List ℕ) (at : ℕ) → front ++ (middle ++ rest) ≡ part
     → piece file at (length part) ≡ Some part → piece file (at + length front) (length middle) ≡ Some middle
@@ -68,7 +68,7 @@ split_at [] k h = absurd (omega arith)
 split_at (p ∷ ps) zero h = refl
 split_at (p ∷ ps) (suc k) h =
     ap (λ (l : List ℕ). p ++ l) (split_at ps k (omega arith))
-        ∙ sym (append_assoc p (concat (take k ps)) (get_or ps k [] ++ concat (drop (suc k) ps)))
+    ∙ sym (append_assoc p (concat (take k ps)) (get_or ps k [] ++ concat (drop (suc k) ps)))
 
 pub length-concat : (parts : List (List ℕ)) → length (concat parts) ≡ sum (map length parts)
 length-concat [] = refl
@@ -79,7 +79,7 @@ pub part_is : (parts : List (List ℕ)) (k : ℕ) → k < length parts
     → piece (concat parts) (sum (map length (take k parts))) (length (get_or parts k [])) ≡ Some (get_or parts k [])
 part_is parts k h =
     piece_at (concat parts) (concat (take k parts)) (get_or parts k []) (concat (drop (suc k) parts))
-        (sum (map length (take k parts))) (length (get_or parts k []))
+    (sum (map length (take k parts))) (length (get_or parts k []))
     (split_at parts k h) (length-concat (take k parts)) refl
 
 -- the same of a file that is these parts
@@ -89,7 +89,7 @@ pub part_from : (file : List ℕ) (parts : List (List ℕ)) (k at size : ℕ) (p
 part_from file parts k at size part whole h is place sized =
     piece_at file (concat (take k parts)) part (concat (drop (suc k) parts)) at size
     (whole ∙ split_at parts k h ∙ ap (λ (p : List ℕ). concat (take k parts) ++ (p ++ concat (drop (suc k) parts))) is)
-        (length-concat (take k parts) ∙ place) sized
+    (length-concat (take k parts) ∙ place) sized
 
 pub concat-append : (xs ys : List (List ℕ)) → concat (xs ++ ys) ≡ concat xs ++ concat ys
 concat-append [] ys = refl

@@ -19,8 +19,11 @@ pub bind : {V W E : Type 0} {r : Result V E} {P : V → Type 0} {Q : V → W →
     → ((x : V) → P x → Agrees (f x) (Q x)) → Agrees (r >>= f) (With P Q)
 bind {V = V} {W = W} {E = E} {r = r} {P = P} {Q = Q} f p q = record {
   reads = λ y w. ap (λ (s : Result V E). s >>= f) (p.reads w.middle w.first) ∙ (q w.middle w.first).reads y w.second;
-  finds = λ y e. let b = bind_ok r f y e in record { middle = b.0; first = p.finds b.0 b.1; second =
-      (q b.0 (p.finds b.0 b.1)).finds y b.2 };
+  finds = λ y e. let b = bind_ok r f y e in record {
+    middle = b.0;
+    first = p.finds b.0 b.1;
+    second = (q b.0 (p.finds b.0 b.1)).finds y b.2;
+  };
 }
 
 pub exactly : {V E : Type 0} (v : V) → Agrees {E = E} (Ok v) (Is v)
@@ -59,9 +62,9 @@ pub piece_bytes : (file bytes : List ℕ) (at size : ℕ) → IsBytes file → p
 piece_bytes file bytes at size fits e =
     let p = piece_parts file bytes at size e in
     let behind : drop at file ≡ bytes ++ drop (at + size) file =
-            ap (λ (l : List ℕ). drop at l) p.0 ∙ drop_at (take at file) (bytes ++ drop (at + size) file) at p.1 in
+    ap (λ (l : List ℕ). drop at l) p.0 ∙ drop_at (take at file) (bytes ++ drop (at + size) file) at p.1 in
     let same : take size (drop at file) ≡ bytes = ap (λ (l : List ℕ). take size l) behind
-            ∙ take_at bytes (drop (at + size) file) size p.2 in
+    ∙ take_at bytes (drop (at + size) file) size p.2 in
     subst IsBytes same (IsBytes-take size (drop at file) (IsBytes-drop at file fits))
 
 pub at : {V E : Type 0} {reading : At → Result (V × At) E} {Text : List ℕ → V → Type 0} → IsRead reading Text → (here : At)
@@ -69,7 +72,7 @@ pub at : {V E : Type 0} {reading : At → Result (V × At) E} {Text : List ℕ �
 at {V = V} {E = E} {reading = reading} {Text = Text} r here bytes = record {
   reads = λ p h.
       ap (λ (l : List ℕ). reading (standing here.place l)) h.takes.parts ∙ r.reads h.text p.0 h.is here.place p.1.left
-          ∙ ap (λ (k : ℕ). Ok (p.0, standing k p.1.left)) (sym h.takes.place);
+      ∙ ap (λ (k : ℕ). Ok (p.0, standing k p.1.left)) (sym h.takes.place);
   finds = λ p e. let t = r.finds here p.1 p.0 bytes e in record { text = t.0; takes = t.1; is = t.2 };
 }
 
@@ -107,9 +110,9 @@ located {V = V} {F = F} {E = E} {reading = reading} {Text = Text} fault r most f
       let n : ℕ = length h.text in
       let front : take n (window most file from) ≡ h.text = take-take n most (drop from file) (few h.text value h.is) ∙ h.there in
       let parts : window most file from ≡ h.text ++ drop n (window most file from) =
-              sym (take-append-drop n (window most file from)) ∙ ap (λ (l : List ℕ). l ++ drop n (window most file from)) front in
+      sym (take-append-drop n (window most file from)) ∙ ap (λ (l : List ℕ). l ++ drop n (window most file from)) front in
       ap (λ (s : Result (V × At) F). alone_of (refused_as fault s)) (ap (λ (l : List ℕ). reading (standing 0 l)) parts
-          ∙ r.reads h.text value h.is 0 (drop n (window most file from)));
+      ∙ r.reads h.text value h.is 0 (drop n (window most file from)));
   finds = λ value e.
       let found = alone_ok fault (reading (standing 0 (window most file from))) value e in
       let t = r.finds (standing 0 (window most file from)) found.0 value (window-bytes most file from bytes) found.1 in

@@ -12,8 +12,10 @@ head_len (Some count) = 12
 abbrev pub marked : List Mark → List ℕ → Written
 marked [] out = record { inside = out; frames = [] }
 marked (m ∷ marks) out =
-    record { inside = drop (m.at + head_len m.count) out; frames =
-        record { count = m.count; before = (marked marks (take m.at out)).inside } ∷ (marked marks (take m.at out)).frames }
+    record {
+      inside = drop (m.at + head_len m.count) out;
+      frames = record { count = m.count; before = (marked marks (take m.at out)).inside } ∷ (marked marks (take m.at out)).frames;
+    }
 
 -- each frame begins behind the head of the one that it is in
 abbrev pub AreMarks : List Mark → ℕ → Type 0

@@ -36,8 +36,7 @@ each-weaker n m (c ∷ cs) le p =
         word = is.word;
         flags = is.flags;
         representation = is.representation;
-        first =
-            is.first;
+        first = is.first;
         none = is.none;
       },
       each-weaker n m cs le p.1,

@@ -141,8 +141,7 @@ column-yields fields here w bytes e =
         flags = s;
         representation = t;
         first = u.0;
-        none =
-            u.1;
+        none = u.1;
       },
       frame.frame.bytes,
     ))))))))

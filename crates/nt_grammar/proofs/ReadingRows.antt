@@ -113,8 +113,7 @@ column-chain : (fields place end code bits field flags representation first : â„
         field = field;
         flags = flags;
         representation = representation;
-        first =
-            first;
+        first = first;
       },
       standing end rest,
     )

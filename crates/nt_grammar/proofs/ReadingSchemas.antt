@@ -115,8 +115,7 @@ types-in_range n id (t ∷ ts) lt few = (
     field = lt;
     word = omega arith;
     flags = omega arith;
-    representation =
-        omega arith;
+    representation = omega arith;
     first = omega arith;
     none = λ no. refl;
   },

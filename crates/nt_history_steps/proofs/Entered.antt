@@ -96,19 +96,26 @@ module _ {M : Type 0} where
     -- a range that is out is written and handed back
     back : (i n : ℕ) (state : Fate) (content : ChunkRange → Content) (is : IsOut (ranges_of past) i n)
         → ((r : ChunkRange) → mark_of (content r) ≡ mark_of_fate state) → (state ≡ history.Out → ⊥)
-        → HasRanges place (record s { ranges = with_changed n (λ x. record x { mark = mark_of x.content })
-            (with_changed n (λ x. record x { content = content x }) s.ranges) }) (map (handed_back i n state) (ranges_of past))
+        → HasRanges place (record s {
+          ranges = with_changed n (λ x. record x { mark = mark_of x.content })
+              (with_changed n (λ x. record x { content = content x }) s.ranges);
+        }) (map (handed_back i n state) (ranges_of past))
     back i n state content is marks not_out = record {
       end = omega (arith, h.end, sum-back i n state (ranges_of past));
       running = h.running;
       ranges =
           let done : ChunkRange → ChunkRange = λ r. record r { content = content r; mark = mark_of (content r) } in
           subst (λ (l : List ChunkRange). AllZip IsRangeOf l (map (handed_back i n state) (ranges_of past)))
-              (sym (twice s.ranges n (λ x. record x { content = content x }) (λ x. record x { mark = mark_of x.content })))
+          (sym (twice s.ranges n (λ x. record x { content = content x }) (λ x. record x { mark = mark_of x.content })))
           (subst (AllZip IsRangeOf (with_changed n done s.ranges)) (sym (ranges_of-back place i n state past ok is))
           (zip-changed s.ranges (ranges_of past) n done is.cluster (record is.cluster { state = state }) h.ranges is.at
-          (λ r range. record { context = range.context; start = range.start; len = range.len; mark = marks r; content =
-              λ out. absurd (not_out out) })));
+          (λ r range. record {
+            context = range.context;
+            start = range.start;
+            len = range.len;
+            mark = marks r;
+            content = λ out. absurd (not_out out);
+          })));
     }
 
     out_range : (i n : ℕ) → (is : IsOut (ranges_of past) i n) → (out : IsRangeOut s.ranges i n) × (out.range.content ≡ Empty)
@@ -144,13 +151,26 @@ module _ {M : Type 0} where
               record {
                 end = omega (arith, next.3, allowed.1, end_after-snoc place (ranges_of past) c);
                 running = h.running;
-                ranges = zip-snoc s.ranges (ranges_of past) _ c h.ranges (record { context = refl; start = refl; len =
-                    next.3; mark = refl; content = λ out. refl });
+                ranges = zip-snoc s.ranges (ranges_of past) _ c h.ranges (record {
+                  context = refl;
+                  start = refl;
+                  len = next.3;
+                  mark = refl;
+                  content = λ out. refl;
+                });
               },
             )
         by_kind i (entry.Settled n bytes) allowed next = (
-          (h.running, out_range i n allowed.0, (h.running, written_range i n (λ x. Bytes (blob x.context x.chunk x.start))
-              (λ r. not_empty (blob r.context r.chunk r.start)) allowed.0, tt)),
+          (
+            h.running,
+            out_range i n allowed.0,
+            (
+              h.running,
+              written_range i n (λ x. Bytes (blob x.context x.chunk x.start))
+                  (λ r. not_empty (blob r.context r.chunk r.start)) allowed.0,
+              tt,
+            ),
+          ),
           back i n (history.Settled bytes) (λ x. Bytes (blob x.context x.chunk x.start)) allowed.0 (λ r. refl) (λ e. absurd cc),
         )
         by_kind i (entry.Spoiled n faults) allowed next = (

@@ -1,6 +1,5 @@
 -- A finished file: file header and directory, the header, the ranges of the clusters, the page lists, the footer, the anchor and
--- the lists of
--- keys and of free pieces (RNTuple Binary Format Specification 1.0.0.0; the container as nt_container says).
+-- the lists of keys and of free pieces (RNTuple Binary Format Specification 1.0.0.0; the container as nt_container says).
 use Rattle.std.specs.Prelude.{ℕ, ◌+◌, List, [], ◌∷◌, ◌++◌, length, drop}
 use Rattle.std.specs.List.{concat}
 use Rattle.nt_format.specs.Envelopes.{envelope}
@@ -83,7 +82,7 @@ tail t book most =
     ++ (footer_blob t book most
     ++ (anchor_part (anchor_start t book most) (anchor_of_file t book most)
     ++ (key_list_part (keys_start t book most) (anchor_start t book most) ++ free_list_part (free_start t book most)
-        (file_len t book most))))
+    (file_len t book most))))
 
 -- what stands in front of the header's blob, without the first byte
 unfoldable pub front : Table → BookData → ℕ → List ℕ

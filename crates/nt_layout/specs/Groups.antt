@@ -47,8 +47,13 @@ span_group sum book place s = record {
   first = first_entry book s.from;
   span = span_entries book s;
   clusters = s.count;
-  link = record { length = length (list_object sum book s); at = record { size = length (list_object sum book s); place =
-      object_place place } };
+  link = record {
+    length = length (list_object sum book s);
+    at = record {
+      size = length (list_object sum book s);
+      place = object_place place;
+    };
+  };
 }
 
 -- the groups whose page lists have their blobs from a place on

@@ -23,8 +23,7 @@ use Rattle.nt_layout.specs.Groups.{ClusterSpan, list_len}
 use Rattle.nt_layout.specs.Finished.{spans, footer_object, finished, file_len}
 
 -- the columns of a schema give these entries: their elements are of their types, they are sound, and of each entry they have the
--- trees of the
--- open fields
+-- trees of the open fields
 pub record Gives (t : Table) (columns : List Column) (entries : List TreesData) : Type 0 where
   pub set : IsSetOf t.columns columns
   pub in_range : (k : ℕ) (kind : ColumnType) → kind_at columns k ≡ Some kind → AreElementsOf kind (elements_at columns k)

@@ -62,13 +62,13 @@ known_over cells new m =
 known_behind : (front : List Known) (blank cells : Cells) (steps : List DiskStep) → length blank ≡ length front
     → IsFrom (length front) steps
     → known_from (front ++ known_all cells) (map logged_step steps) ≡ front
-        ++ known_all (drop (length blank) (fold after_disk_step (blank ++ cells) steps))
+    ++ known_all (drop (length blank) (fold after_disk_step (blank ++ cells) steps))
 known_behind front blank cells [] same h = ap (λ (l : Cells). front ++ known_all l) (sym (drop-append_seam blank cells))
 known_behind front blank cells (ReserveRange start len ∷ steps) same h =
     let more : Cells = replicate len None in
     ap (λ (l : List Known). known_from l (map logged_step steps))
     (append_assoc front (known_all cells) (unknown len) ∙ ap (λ (l : List Known). front ++ l)
-        (ap (λ (l : List Known). known_all cells ++ l) (known_none len) ∙ sym (map-append known_byte cells more)))
+    (ap (λ (l : List Known). known_all cells ++ l) (known_none len) ∙ sym (map-append known_byte cells more)))
     ∙ (known_behind front blank (cells ++ more) steps same h.1
     ∙ ap (λ (l : Cells). front ++ known_all (drop (length blank) (fold after_disk_step l steps))) (sym (append_assoc blank cells more)))
 known_behind front blank cells (SettleRange start len bytes ∷ steps) same h =
@@ -82,7 +82,7 @@ known_behind front blank cells (SettleRange start len bytes ∷ steps) same h =
     ∙ (over_front front (known_all cells) (known_all new) start m here ∙ ap (λ (l : List Known). front ++ l) (known_over cells new m))))
     ∙ (known_behind front blank (laid cells m new) steps same h.1
     ∙ ap (λ (l : Cells). front ++ known_all (drop (length blank) (fold after_disk_step l steps)))
-        (sym (over_front blank cells new start m there)))
+    (sym (over_front blank cells new start m there)))
 
 known_from-append : (known : List Known) (one two : List Step) → known_from known (one ++ two) ≡ known_from (known_from known one) two
 known_from-append known [] two = refl
@@ -106,7 +106,7 @@ all_told log history ok =
 pub all_read : {M : Type 0} (log : List Step) (front image : List ℕ) (history : List (Entry M)) (parts : List (List ℕ))
     → IsKnown log front → IsLegal (length front) history
     → AllZip (λ part (c : Cluster M). c.state ≡ Settled (Some part)) parts (ranges_of history)
-        → Reads (log ++ steps_of_history history) image
+    → Reads (log ++ steps_of_history history) image
     → image ≡ front ++ flat_map (λ part. part) parts
 all_read log front image history parts known ok settled reads =
     let long : length (known_of log) ≡ length front = ap (λ (l : List Known). length l) known ∙ length-map front exactly in

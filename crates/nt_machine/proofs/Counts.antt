@@ -46,9 +46,11 @@ IsNextAfter before (name ∷ order) = (name.1 ≡ times name.0 before) × IsNext
 IsNextAfter-snoc : (before : List ℕ) (order : List (ℕ × ℕ)) (i k : ℕ) → IsNextAfter before order
     → k ≡ times i (before ++ contexts_of order) → IsNextAfter before (order ++ (i, k) ∷ [])
 IsNextAfter-snoc before [] i k h is = (is ∙ ap (λ (l : List ℕ). times i l) (append-nil before), tt)
-IsNextAfter-snoc before (name ∷ order) i k h is =
-    (h.0, IsNextAfter-snoc (before ++ name.0 ∷ []) order i k h.1
-        (is ∙ ap (λ (l : List ℕ). times i l) (sym (append_assoc before (name.0 ∷ []) (contexts_of order)))))
+IsNextAfter-snoc before (name ∷ order) i k h is = (
+  h.0,
+  IsNextAfter-snoc (before ++ name.0 ∷ []) order i k h.1
+      (is ∙ ap (λ (l : List ℕ). times i l) (sym (append_assoc before (name.0 ∷ []) (contexts_of order)))),
+)
 
 contexts_of-append : (xs ys : List (ℕ × ℕ)) → contexts_of (xs ++ ys) ≡ contexts_of xs ++ contexts_of ys
 contexts_of-append xs ys = map-append (λ (name : ℕ × ℕ). name.0) xs ys
@@ -62,7 +64,7 @@ IsNextAfter-names : (order : List (ℕ × ℕ)) (i a count : ℕ) → IsNextAfte
 IsNextAfter-names order i a zero h is = subst (λ (l : List (ℕ × ℕ)). IsNextAfter [] l) (sym (append-nil order)) h
 IsNextAfter-names order i a (suc count) h is =
     let more : times i (contexts_of (order ++ (i, a) ∷ [])) ≡ times i (contexts_of order) + 1 =
-            ap (λ (l : List ℕ). times i l) (contexts_of-append order ((i, a) ∷ [])) ∙ times-here i (contexts_of order) in
+    ap (λ (l : List ℕ). times i l) (contexts_of-append order ((i, a) ∷ [])) ∙ times-here i (contexts_of order) in
     subst (λ (l : List (ℕ × ℕ)). IsNextAfter [] l) (append_assoc order ((i, a) ∷ []) (names_from i (a + 1) count))
     (IsNextAfter-names (order ++ (i, a) ∷ []) i (a + 1) count (IsNextAfter-snoc [] order i a h is) (omega arith))
 
@@ -76,7 +78,7 @@ times-names i a (suc count) j = at (i == j) (times-names i (a + 1) count j)
   where
     at : (b : Bool) → times j (contexts_of (names_from i (a + 1) count)) ≡ cond b count 0
         → length (cond b (i ∷ filter (λ k. k == j) (contexts_of (names_from i (a + 1) count)))
-            (filter (λ k. k == j) (contexts_of (names_from i (a + 1) count)))) ≡ cond b (suc count) 0
+        (filter (λ k. k == j) (contexts_of (names_from i (a + 1) count)))) ≡ cond b (suc count) 0
     at true h = ap suc h
     at false h = h
 
@@ -161,7 +163,7 @@ reserved-one_more contexts i j n is = at (i == j) refl
   where
     at : (b : Bool) → i == j ≡ b → n + one_if b ≡ (cond b (one_more (contexts i)) (contexts j)).reserved
     at true e = let same : (contexts i).reserved ≡ (contexts j).reserved =
-                        ap (λ (k : ℕ). (contexts k).reserved) (eqb-true i j e) in omega arith
+        ap (λ (k : ℕ). (contexts k).reserved) (eqb-true i j e) in omega arith
     at false e = omega arith
 
 placed-hidden : (context_state : ContextState) → context_state.published ≡ false → placed true context_state ≡ 0
@@ -172,15 +174,15 @@ placed-reserve : (staged : Bool) (contexts : ℕ → ContextState) (order : List
     → times j (contexts_of (cond staged order (order ++ (i, k) ∷ []))) ≡ placed staged (with_context contexts i (one_more (contexts i)) j)
 placed-reserve false contexts order i k hidden j is =
     ap (λ (l : List ℕ). times j l) (contexts_of-append order ((i, k) ∷ []))
-        ∙ (times-snoc i (contexts_of order) j ∙ reserved-one_more contexts i j (times j (contexts_of order)) is)
+    ∙ (times-snoc i (contexts_of order) j ∙ reserved-one_more contexts i j (times j (contexts_of order)) is)
 placed-reserve true contexts order i k hidden j is =
     is ∙ sym (with_context-same (placed true) contexts i (one_more (contexts i)) (placed-hidden (one_more (contexts i)) hidden
-        ∙ sym (placed-hidden (contexts i) hidden)) j)
+    ∙ sym (placed-hidden (contexts i) hidden)) j)
 
 placed-publish : (staged : Bool) → staged ≡ true → (contexts : ℕ → ContextState) (order : List (ℕ × ℕ)) (i : ℕ)
     → (contexts i).published ≡ false → (j : ℕ) → times j (contexts_of order) ≡ placed staged (contexts j)
     → times j (contexts_of (order ++ names_of_first i (contexts i).reserved))
-        ≡ placed staged (with_context contexts i (record (contexts i) { published = true }) j)
+    ≡ placed staged (with_context contexts i (record (contexts i) { published = true }) j)
 placed-publish false staged contexts order i hidden j is = absurd (false≢true staged)
 placed-publish true staged contexts order i hidden j is =
     ap (λ (l : List ℕ). times j l) (contexts_of-append order (names_of_first i (contexts i).reserved))
@@ -191,7 +193,7 @@ placed-publish true staged contexts order i hidden j is =
         ≡ placed true (cond b (record (contexts i) { published = true }) (contexts j))
     at true e =
         let zero_before : placed true (contexts j) ≡ 0 = ap (λ (k : ℕ). placed true (contexts k)) (sym (eqb-true i j e))
-                ∙ placed-hidden (contexts i) hidden in
+        ∙ placed-hidden (contexts i) hidden in
         omega arith
     at false e = omega arith
 
@@ -246,8 +248,9 @@ module _ {C : Type 0} (staged : Bool) (chunks : List (List C)) (blob : ℕ → �
       at false e = h
 
   IsCounted-with_changed : (s : MachineState) (r : ℕ) (f : ChunkRange → ChunkRange) → ((x : ChunkRange) → (f x).context ≡ x.context)
-      → ((x : ChunkRange) → chunk_name (f x) ≡ chunk_name x) → s.closed ≡ false → IsCounted s → IsCounted (record s { ranges =
-        with_changed r f s.ranges })
+      → ((x : ChunkRange) → chunk_name (f x) ≡ chunk_name x) → s.closed ≡ false → IsCounted s → IsCounted (record s {
+        ranges = with_changed r f s.ranges;
+      })
   IsCounted-with_changed s r f keeps same_name open_yet h = record {
     owned = λ j. ap (λ (l : List ℕ). times j l) (map-with_changed (λ (x : ChunkRange). x.context) f keeps r s.ranges) ∙ h.owned j;
     placed = h.placed;
@@ -267,12 +270,12 @@ module _ {C : Type 0} (staged : Bool) (chunks : List (List C)) (blob : ℕ → �
       record {
         owned = λ j. ap (λ (l : List ℕ). times j l) (map-append (λ (r : ChunkRange). r.context) s.ranges _)
             ∙ (times-snoc i (ranges_contexts s.ranges) j ∙ reserved-one_more s.contexts i j
-              (times j (ranges_contexts s.ranges)) (h.owned j));
+            (times j (ranges_contexts s.ranges)) (h.owned j));
         placed = λ j. placed-reserve staged s.contexts s.order i k ok.1 j (h.placed j);
         next = next-reserve staged s.order i k (s.contexts i) h.next (h.placed i) refl;
         named = subst (λ (l : List (ℕ × ℕ)). IsNextAfter [] l) (sym (map-append chunk_name s.ranges _))
             (IsNextAfter-snoc [] (chunk_names s.ranges) i k h.named (sym (h.owned i)
-                ∙ ap (λ (l : List ℕ). times i l) (sym (contexts-names s.ranges))));
+            ∙ ap (λ (l : List ℕ). times i l) (sym (contexts-names s.ranges))));
         same = λ is. same-reserve staged s.order i k s.ranges (chunk_names (s.ranges ++ _)) (map-append chunk_name s.ranges _) h.same is;
         few = λ j. few-reserve s.contexts i ok.2 j (h.few j);
         inside = inside-reserve (λ j. j < length chunks) staged s.order i k (is_context i k ok.2) h.inside;
@@ -291,15 +294,15 @@ module _ {C : Type 0} (staged : Bool) (chunks : List (List C)) (blob : ℕ → �
     same = λ is. absurd (false≢true (sym is ∙ ok.0));
     few = λ j. subst (λ (n : ℕ). n ≤ chunks_of staged chunks j)
         (sym (with_context-same (λ (context_state : ContextState). context_state.reserved) s.contexts i
-          (record (s.contexts i) { published = true }) refl j)) (h.few j);
+        (record (s.contexts i) { published = true }) refl j)) (h.few j);
     inside = subst (λ (l : List ℕ). AllByRecursion (λ j. j < length chunks) l)
         (sym (contexts_of-append s.order (names_of_first i (s.contexts i).reserved)))
         (AllByRecursion-append (λ j. j < length chunks) (contexts_of s.order)
-            (contexts_of (names_of_first i (s.contexts i).reserved)) h.inside
+        (contexts_of (names_of_first i (s.contexts i).reserved)) h.inside
         (All-names (λ j. j < length chunks) i 0 (s.contexts i).reserved (λ some. is_context i 0 (let most = h.few i in omega arith))));
     grouped = λ is. subst (λ (l : List ℕ). IsGrouped l) (sym (contexts_of-append s.order (names_of_first i (s.contexts i).reserved)))
         (IsGrouped-append i (contexts_of s.order) (contexts_of (names_of_first i (s.contexts i).reserved)) (h.grouped is)
-            (h.placed i ∙ hidden staged is) (All-names (λ j. j ≡ i) i 0 (s.contexts i).reserved (λ some. refl)));
+        (h.placed i ∙ hidden staged is) (All-names (λ j. j ≡ i) i 0 (s.contexts i).reserved (λ some. refl)));
     done = λ closed. absurd (false≢true (sym open_yet ∙ closed));
   }
     where
@@ -309,14 +312,15 @@ module _ {C : Type 0} (staged : Bool) (chunks : List (List C)) (blob : ℕ → �
   IsCounted-after_context_step s (End i) open_yet ok h = record {
     owned = λ j. h.owned j ∙ sym (with_context-same (λ (context_state : ContextState). context_state.reserved) s.contexts i
         (record (s.contexts i) { ended = true }) refl j);
-    placed = λ j. h.placed j ∙ sym (with_context-same (placed staged) s.contexts i (record (s.contexts i) { ended =
-        true }) (placed-ended staged (s.contexts i)) j);
+    placed = λ j. h.placed j ∙ sym (with_context-same (placed staged) s.contexts i (record (s.contexts i) {
+      ended = true;
+    }) (placed-ended staged (s.contexts i)) j);
     next = h.next;
     named = h.named;
     same = h.same;
     few = λ j. subst (λ (n : ℕ). n ≤ chunks_of staged chunks j)
         (sym (with_context-same (λ (context_state : ContextState). context_state.reserved) s.contexts i
-          (record (s.contexts i) { ended = true }) refl j)) (h.few j);
+        (record (s.contexts i) { ended = true }) refl j)) (h.few j);
     inside = h.inside;
     grouped = h.grouped;
     done = λ closed. absurd (false≢true (sym open_yet ∙ closed));
@@ -362,8 +366,10 @@ module _ {C : Type 0} (staged : Bool) (chunks : List (List C)) (blob : ℕ → �
 
   pub run_in_order : (place : ℕ) (steps : List ContextStep) → IsRun staged chunks blob place steps
       → IsInOrder (state_after staged blob place steps).order
-  run_in_order place steps ok = record { next = IsNextAfter-at [] (state_after staged blob place steps).order
-      (counted place steps ok).next }
+  run_in_order place steps ok = record {
+    next = IsNextAfter-at [] (state_after staged blob place steps).order
+        (counted place steps ok).next;
+  }
 
   pub run_grouped : (place : ℕ) (steps : List ContextStep) → IsRun staged chunks blob place steps → staged ≡ true
       → IsGrouped (contexts_of (state_after staged blob place steps).order)
@@ -384,7 +390,7 @@ module _ {C : Type 0} (staged : Bool) (chunks : List (List C)) (blob : ℕ → �
     where
       at : (b : Bool) → (times name.0 (contexts_of order) ≡ 0 → ⊥)
           → length (cond b (first.0 ∷ filter (λ j. j == name.0) (contexts_of order))
-            (filter (λ j. j == name.0) (contexts_of order))) ≡ 0 → ⊥
+          (filter (λ j. j == name.0) (contexts_of order))) ≡ 0 → ⊥
       at true next h = omega arith
       at false next h = next h
 
@@ -399,7 +405,7 @@ module _ {C : Type 0} (staged : Bool) (chunks : List (List C)) (blob : ℕ → �
           → length (cond b (r.context ∷ filter (λ j. j == i) (ranges_contexts ranges)) (filter (λ j. j == i) (ranges_contexts ranges))) ≡ 0
       at true e rest =
           absurd (times-contains order (r.context, r.chunk) all.0.0 all.0.1 all.0.2
-              (ap (λ (j : ℕ). times j (contexts_of order)) (eqb-true r.context i e) ∙ none_there))
+          (ap (λ (j : ℕ). times j (contexts_of order)) (eqb-true r.context i e) ∙ none_there))
       at false e rest = rest
 
   pub run_uses : (place : ℕ) (steps : List ContextStep) → IsRun staged chunks blob place steps
@@ -417,7 +423,7 @@ module _ {C : Type 0} (staged : Bool) (chunks : List (List C)) (blob : ℕ → �
       all_placed : (b : Bool) (s : MachineState) (i : ℕ) → times i (contexts_of s.order) ≡ placed b (s.contexts i)
           → times i (ranges_contexts s.ranges) ≡ (s.contexts i).reserved
           → AllByRecursion (λ (r : ChunkRange). Contains s.order (r.context, r.chunk)) s.ranges → times i (contexts_of s.order)
-              ≡ (s.contexts i).reserved
+          ≡ (s.contexts i).reserved
       all_placed false s i is own all = is
       all_placed true s i is own all = at (s.contexts i).published is
         where
@@ -428,8 +434,10 @@ module _ {C : Type 0} (staged : Bool) (chunks : List (List C)) (blob : ℕ → �
 
   pub run_named : (place : ℕ) (steps : List ContextStep) → IsRun staged chunks blob place steps
       → IsInOrder (chunk_names (state_after staged blob place steps).ranges)
-  run_named place steps ok = record { next = IsNextAfter-at [] (chunk_names (state_after staged blob place steps).ranges)
-      (counted place steps ok).named }
+  run_named place steps ok = record {
+    next = IsNextAfter-at [] (chunk_names (state_after staged blob place steps).ranges)
+        (counted place steps ok).named;
+  }
 
   pub run_same : (place : ℕ) (steps : List ContextStep) → IsRun staged chunks blob place steps → staged ≡ false
       → (state_after staged blob place steps).order ≡ chunk_names (state_after staged blob place steps).ranges
@@ -448,11 +456,11 @@ module _ {C : Type 0} (staged : Bool) (chunks : List (List C)) (blob : ℕ → �
       let i : ℕ = name.0 in
       let mine : List C = slice_index_or chunks i [] in
       let rest = dealt_from (before ++ i ∷ []) order next.1 few.1
-              (λ j less. ap (λ (l : List ℕ). times j l) (append_assoc before (i ∷ []) (contexts_of order)) ∙ each j less) in
+      (λ j less. ap (λ (l : List ℕ). times j l) (append_assoc before (i ∷ []) (contexts_of order)) ∙ each j less) in
       let all : times i (before ++ i ∷ contexts_of order) ≡ length mine = each i few.0 in
       let split : times i (before ++ i ∷ contexts_of order) ≡ times i (before ++ i ∷ []) + times i (contexts_of order) =
       ap (λ (l : List ℕ). times i l) (sym (append_assoc before (i ∷ []) (contexts_of order)))
-          ∙ times-append i (before ++ i ∷ []) (contexts_of order) in
+      ∙ times-append i (before ++ i ∷ []) (contexts_of order) in
       let one = times-here i before in
       let found = within mine (times i before) (omega arith) in
       record {

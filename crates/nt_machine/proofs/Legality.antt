@@ -41,7 +41,7 @@ module _ {M : Type 0} where
   IsApart-back : (place i n : ℕ) (state : Fate) (cs : List (Cluster M)) → IsApart place cs → IsApart place (map (handed_back i n state) cs)
   IsApart-back place i n state cs h =
       let ranges : spans_of (map (handed_back i n state) cs) ≡ spans_of cs =
-              handed_back-same (λ (c : Cluster M). record { start = c.start; len = c.len }) (λ c s. refl) i n state cs in
+      handed_back-same (λ (c : Cluster M). record { start = c.start; len = c.len }) (λ c s. refl) i n state cs in
       subst (λ (l : List Span). IsDisjoint place l (end_after place (map (handed_back i n state) cs))) (sym ranges)
       (subst (λ (e : ℕ). IsDisjoint place (spans_of cs) e) (sym (end_after-back place i n state cs)) h)
 
@@ -54,7 +54,7 @@ module _ {M : Type 0} where
       let c : Cluster M = record { context = i; number = n; start = start; len = len; meta = meta; state = Out } in
       let grown = IsDisjoint-snoc place (spans_of cs) (end_after place cs) (record { start = start; len = len }) h (omega arith) in
       let ranges : spans_of (cs ++ c ∷ []) ≡ spans_of cs ++ record { start = start; len = len } ∷ [] =
-              map-append (λ (d : Cluster M). record { start = d.start; len = d.len }) cs (c ∷ []) in
+      map-append (λ (d : Cluster M). record { start = d.start; len = d.len }) cs (c ∷ []) in
       let end : start + len ≡ end_after place (cs ++ c ∷ []) = ap (λ (s : ℕ). s + len) ok.1 ∙ sym (end_after-snoc place cs c) in
       subst (λ (l : List Span). IsDisjoint place l (end_after place (cs ++ c ∷ []))) (sym ranges)
       (subst (λ (e : ℕ). IsDisjoint place (spans_of cs ++ record { start = start; len = len } ∷ []) e) end grown)
@@ -85,8 +85,10 @@ module _ {M : Type 0} where
 
   IsNumbered-back : (m i n : ℕ) (state : Fate) (cs : List (Cluster M)) → IsNumbered m cs → IsNumbered m (map (handed_back i n state) cs)
   IsNumbered-back m i n state [] h = tt
-  IsNumbered-back m i n state (c ∷ cs) h = (at (c.context == i && c.number == n && is_out c.state),
-      IsNumbered-back (suc m) i n state cs h.1)
+  IsNumbered-back m i n state (c ∷ cs) h = (
+    at (c.context == i && c.number == n && is_out c.state),
+    IsNumbered-back (suc m) i n state cs h.1,
+  )
     where
       at : (b : Bool) → (cond b (record c { state = state }) c).number ≡ m
       at true = h.0
@@ -106,8 +108,9 @@ module _ {M : Type 0} where
       (IsNumbered-after_entry place cs e.context e.kind ok.0 h)
 
   handed_back-number : (i n : ℕ) (state : Fate) (c : Cluster M) → (c.number ≡ n → ⊥) → handed_back i n state c ≡ c
-  handed_back-number i n state c differ = ap (λ (b : Bool). cond (c.context == i && b && is_out c.state) (record c { state =
-      state }) c) (not-eqb c.number n differ) ∙ at (c.context == i)
+  handed_back-number i n state c differ = ap (λ (b : Bool). cond (c.context == i && b && is_out c.state) (record c {
+    state = state;
+  }) c) (not-eqb c.number n differ) ∙ at (c.context == i)
     where
       at : (b : Bool) → cond (b && false && is_out c.state) (record c { state = state }) c ≡ c
       at true = refl
@@ -138,7 +141,7 @@ module _ {M : Type 0} where
       let same : d ≡ c = cc in
       let number : d.number ≡ n = omega (arith, h.0) in
       ap (λ (e : Cluster M). e ∷ map (handed_back i n state) cs)
-          (handed_back-here i n state d (ap (λ (e : Cluster M). e.context) same ∙ own) number (ap (λ (e : Cluster M). e.state) same ∙ out))
+      (handed_back-here i n state d (ap (λ (e : Cluster M). e.context) same ∙ own) number (ap (λ (e : Cluster M). e.state) same ∙ out))
       ∙ (ap (λ (l : List (Cluster M)). record d { state = state } ∷ l) (handed_back-higher (suc m) i n state cs h.1 (omega arith))
       ∙ ap (λ (e : Cluster M). record e { state = state } ∷ cs) same)
   map-handed_back m i state (d ∷ cs) (suc k) n c h is at own out =
@@ -160,7 +163,7 @@ module _ {M : Type 0} where
       → map (handed_back i n state) (clusters_of history) ≡ set (clusters_of history) n (record is.cluster { state = state })
   ranges_of-back place i n state history ok is =
       map-handed_back 0 i state (clusters_of history) n n is.cluster (IsNumbered-fold place [] history ok tt) (omega arith)
-          is.at is.own is.out
+      is.at is.own is.out
 
   pub ranges_of-snoc : (history : List (Entry M)) (e : Entry M) → clusters_of (history ++ e ∷ []) ≡ after_entry (clusters_of history) e
   ranges_of-snoc history e = fold-append after_entry [] history (e ∷ [])

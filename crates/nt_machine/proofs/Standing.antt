@@ -84,7 +84,7 @@ module _ {M : Type 0} where
     settle_apart cs i m n c bytes h is at back =
         let differ : m ≡ n → ⊥ = λ same. clash (ap (λ (k : ℕ). slice_get cs k) same) in
         subst (λ (o : Option (Cluster M)). AllByRecursion (IsApartFrom (range_of c)) (settle_at o bytes)) (sym is.at)
-            (IsPlaced-apart place cs m n is.cluster c h.placed is.at at differ, tt)
+        (IsPlaced-apart place cs m n is.cluster c h.placed is.at at differ, tt)
       where
         clash : slice_get cs m ≡ slice_get cs n → ⊥
         clash same =
@@ -116,29 +116,29 @@ module _ {M : Type 0} where
     later_apart cs [] n c ok h at back = tt
     later_apart cs (e ∷ es) n c ok h at back =
         AllByRecursion-append (IsApartFrom (range_of c)) (disk_steps_of cs e.kind) (log_after (after_entry cs e) es)
-            (kind_apart cs e.context e.kind n c ok.0 h at back)
+        (kind_apart cs e.context e.kind n c ok.0 h at back)
         (later_apart (after_entry cs e) es n c ok.1 (IsState-after_entry cs e.context e.kind ok.0 h)
-            (stays cs e.context e.kind n c at back) back)
+        (stays cs e.context e.kind n c at back) back)
 
     settle_stands : (cs : List (Cluster M)) (i n : ℕ) (bytes : Option (List ℕ)) (state : Fate) (history : List (Entry M))
         → is_out state ≡ false → IsState cs → (is : IsOut cs i n)
         → IsLegalAfter place (map (handed_back i n state) cs) history → IsState (map (handed_back i n state) cs)
-            → StaysSettled (log_after (map (handed_back i n state) cs) history)
+        → StaysSettled (log_after (map (handed_back i n state) cs) history)
         → StaysSettled (settle_at (slice_get cs n) bytes ++ log_after (map (handed_back i n state) cs) history)
     settle_stands cs i n bytes state history back h is ok next rest =
         let c : Cluster M = record is.cluster { state = state } in
         let number : is.cluster.number ≡ n = IsNumbered-at 0 cs n is.cluster h.numbered is.at ∙ omega arith in
         let at : slice_get (map (handed_back i n state) cs) n ≡ Some c =
         slice_get-map (handed_back i n state) cs n ∙ (ap (option_map (handed_back i n state)) is.at
-            ∙ ap Some (handed_back-here i n state is.cluster is.own number is.out)) in
+        ∙ ap Some (handed_back-here i n state is.cluster is.own number is.out)) in
         subst (λ (o : Option (Cluster M)). StaysSettled (settle_at o bytes ++ log_after (map (handed_back i n state) cs) history))
-            (sym is.at)
+        (sym is.at)
         (later_apart (map (handed_back i n state) cs) history n c ok next at back, rest)
 
     kind_stands : (cs : List (Cluster M)) (i : ℕ) (k : EntryKind M) (history : List (Entry M)) → IsKindAllowed place cs i k
         → IsState cs → IsLegalAfter place (after_kind cs i k) history
         → IsState (after_kind cs i k) → StaysSettled (log_after (after_kind cs i k) history) → StaysSettled (disk_steps_of cs k
-            ++ log_after (after_kind cs i k) history)
+        ++ log_after (after_kind cs i k) history)
     kind_stands cs i (entry.Committed n start len meta) history ok h legal next rest = rest
     kind_stands cs i (entry.Settled n bytes) history ok h legal next rest =
         settle_stands cs i n bytes (Settled bytes) history refl h ok.0 legal next rest
@@ -157,7 +157,7 @@ module _ {M : Type 0} where
         → IsFrom place (settle_at (slice_get cs n) bytes)
     settle_from cs i n bytes h is =
         subst (λ (o : Option (Cluster M)). IsFrom place (settle_at o bytes)) (sym is.at)
-            ((IsPlaced-at place cs n is.cluster h.placed is.at).0, tt)
+        ((IsPlaced-at place cs n is.cluster h.placed is.at).0, tt)
 
     kind_from : (cs : List (Cluster M)) (i : ℕ) (k : EntryKind M) → IsKindAllowed place cs i k → IsState cs
         → IsFrom place (disk_steps_of cs k)
@@ -171,7 +171,7 @@ module _ {M : Type 0} where
     from_after cs [] ok h = tt
     from_after cs (e ∷ es) ok h =
         AllByRecursion-append (λ step. place ≤ (span_of step).start) (disk_steps_of cs e.kind) (log_after (after_entry cs e) es)
-            (kind_from cs e.context e.kind ok.0 h)
+        (kind_from cs e.context e.kind ok.0 h)
         (from_after (after_entry cs e) es ok.1 (IsState-after_entry cs e.context e.kind ok.0 h))
 
     pub stands : (history : List (Entry M)) → IsLegal place history → StaysSettled (log_of history)

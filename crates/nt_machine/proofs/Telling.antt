@@ -24,7 +24,7 @@ laid_over-seam front old new rest at is same =
     ∙ (ap (λ (l : Cells). l ++ (new ++ drop (length front + length new) (front ++ (old ++ rest)))) (take-append_seam front (old ++ rest))
     ∙ ap (λ (l : Cells). front ++ (new ++ l))
     (ap (λ (n : ℕ). drop (length front + n) (front ++ (old ++ rest))) (sym same)
-        ∙ (drop-append-add front (old ++ rest) (length old) ∙ drop-append_seam old rest)))
+    ∙ (drop-append-add front (old ++ rest) (length old) ∙ drop-append_seam old rest)))
 
 length-cells_of : (len : ℕ) (bytes : Option (List ℕ)) → AreAsLong bytes len → length (cells_of len bytes) ≡ len
 length-cells_of len None long = length-replicate len None
@@ -57,7 +57,7 @@ module _ {M : Type 0} where
       → IsPlaced p cs → slice_get cs n ≡ Some c
       → length (state_cells c.len state) ≡ c.len
       → laid_over c.start (state_cells c.len state) (known ++ flat_map cluster_cells cs) ≡ known
-          ++ flat_map cluster_cells (set cs n (record c { state = state }))
+      ++ flat_map cluster_cells (set cs n (record c { state = state }))
   laid_over-flat_map known p [] n c state begins h at long = cc
   laid_over-flat_map known p (d ∷ cs) zero c state begins h at long =
       let same : d ≡ c = cc in
@@ -66,9 +66,9 @@ module _ {M : Type 0} where
       laid_over-seam known (cluster_cells d) (state_cells c.len state) (flat_map cluster_cells cs) c.start start len
   laid_over-flat_map known p (d ∷ cs) (suc n) c state begins h at long =
       let longer : length (known ++ cluster_cells d) ≡ p + d.len =
-              length-append known (cluster_cells d) ∙ (let cells = h.1 in omega arith) in
+      length-append known (cluster_cells d) ∙ (let cells = h.1 in omega arith) in
       ap (λ (l : Cells). laid_over c.start (state_cells c.len state) l)
-          (sym (append_assoc known (cluster_cells d) (flat_map cluster_cells cs)))
+      (sym (append_assoc known (cluster_cells d) (flat_map cluster_cells cs)))
       ∙ (laid_over-flat_map (known ++ cluster_cells d) (p + d.len) cs n c state longer h.2 at long
       ∙ append_assoc known (cluster_cells d) (flat_map cluster_cells (set cs n (record c { state = state }))))
 
@@ -77,21 +77,21 @@ module _ {M : Type 0} where
         → (is : IsOut cs i n)
         → state_cells is.cluster.len state ≡ cells_of is.cluster.len bytes → length (state_cells is.cluster.len state) ≡ is.cluster.len
         → fold after_disk_step (known ++ flat_map cluster_cells cs) (settle_at (slice_get cs n) bytes) ≡ known
-            ++ flat_map cluster_cells (map (handed_back i n state) cs)
+        ++ flat_map cluster_cells (map (handed_back i n state) cs)
     told_back cs i n bytes state numbered placed is cells long =
         ap (λ (o : Option (Cluster M)). fold after_disk_step (known ++ flat_map cluster_cells cs) (settle_at o bytes)) is.at
         ∙ (ap (λ (l : Cells). laid_over is.cluster.start l (known ++ flat_map cluster_cells cs)) (sym cells)
         ∙ (laid_over-flat_map known place cs n is.cluster state begins placed is.at long
         ∙ ap (λ (l : List (Cluster M)). known ++ flat_map cluster_cells l)
-            (sym (map-handed_back 0 i state cs n n is.cluster numbered (omega arith) is.at is.own is.out))))
+        (sym (map-handed_back 0 i state cs n n is.cluster numbered (omega arith) is.at is.own is.out))))
 
     told_kind : (cs : List (Cluster M)) (i : ℕ) (k : EntryKind M) → IsKindAllowed place cs i k → IsNumbered 0 cs → IsPlaced place cs
         → fold after_disk_step (known ++ flat_map cluster_cells cs) (disk_steps_of cs k) ≡ known
-            ++ flat_map cluster_cells (after_kind cs i k)
+        ++ flat_map cluster_cells (after_kind cs i k)
     told_kind cs i (entry.Committed n start len meta) ok numbered placed =
         append_assoc known (flat_map cluster_cells cs) (replicate len None)
         ∙ ap (λ (l : Cells). known ++ l) (ap (λ (l : Cells). flat_map cluster_cells cs ++ l) (sym (append-nil (replicate len None)))
-            ∙ sym (flat_map-append cluster_cells cs _))
+        ∙ sym (flat_map-append cluster_cells cs _))
     told_kind cs i (entry.Settled n bytes) ok numbered placed =
         told_back cs i n bytes (Settled bytes) numbered placed ok.0 refl (length-cells_of ok.0.cluster.len bytes ok.1)
     told_kind cs i (entry.Spoiled n faults) ok numbered placed =
@@ -103,7 +103,7 @@ module _ {M : Type 0} where
         → IsPlaced place (map (handed_back i n state) cs)
     placed_back cs i n state numbered placed is long =
         subst (λ (l : List (Cluster M)). IsPlaced place l)
-            (sym (map-handed_back 0 i state cs n n is.cluster numbered (omega arith) is.at is.own is.out))
+        (sym (map-handed_back 0 i state cs n n is.cluster numbered (omega arith) is.at is.own is.out))
         (IsPlaced-set place cs n is.cluster state placed is.at long)
 
     pub placed_kind : (cs : List (Cluster M)) (i : ℕ) (k : EntryKind M) → IsKindAllowed place cs i k → IsNumbered 0 cs
@@ -118,13 +118,13 @@ module _ {M : Type 0} where
 
     told_fold : (cs : List (Cluster M)) (history : List (Entry M)) → IsLegalAfter place cs history → IsNumbered 0 cs → IsPlaced place cs
         → fold after_disk_step (known ++ flat_map cluster_cells cs) (log_after cs history) ≡ known
-            ++ flat_map cluster_cells (fold after_entry cs history)
+        ++ flat_map cluster_cells (fold after_entry cs history)
     told_fold cs [] ok numbered placed = refl
     told_fold cs (e ∷ es) ok numbered placed =
         fold-append after_disk_step (known ++ flat_map cluster_cells cs) (disk_steps_of cs e.kind) (log_after (after_entry cs e) es)
         ∙ (ap (λ (l : Cells). fold after_disk_step l (log_after (after_entry cs e) es)) (told_kind cs e.context e.kind ok.0 numbered placed)
         ∙ told_fold (after_entry cs e) es ok.1 (IsNumbered-after_entry place cs e.context e.kind ok.0 numbered)
-            (placed_kind cs e.context e.kind ok.0 numbered placed))
+        (placed_kind cs e.context e.kind ok.0 numbered placed))
 
     pub told : (history : List (Entry M)) → IsLegal place history → fold after_disk_step known (log_of history) ≡ known
         ++ flat_map cluster_cells (clusters_of history)

@@ -66,5 +66,13 @@ runs = (
 )
 
 pub legal : IsLegal 100 example_history
-legal = ((refl, refl), ((refl, refl), ((record { cluster = _; at = refl; own = refl; out = refl }, refl),
-    ((refl, refl), (record { cluster = _; at = refl; own = refl; out = refl }, (tt, tt))))))
+legal = (
+  (refl, refl),
+  (
+    (refl, refl),
+    (
+      (record { cluster = _; at = refl; own = refl; out = refl }, refl),
+      ((refl, refl), (record { cluster = _; at = refl; own = refl; out = refl }, (tt, tt))),
+    ),
+  ),
+)

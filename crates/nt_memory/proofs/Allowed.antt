@@ -98,7 +98,7 @@ allowed-put_at : (k : List Known) (b : List ℕ) (at : ℕ) (k' : List Known) (b
 allowed-put_at k b at k' b' h h' =
     let tail : IsTrue (all_allowed (drop (at + length k') k) (drop (at + length b') b)) =
     subst (λ (m : ℕ). IsTrue (all_allowed (drop (at + m) k) (drop (at + length b') b))) (sym (allowed-length k' b' h'))
-        (allowed-drop (at + length b') k b h) in
+    (allowed-drop (at + length b') k b h) in
     allowed-append (take at k ++ k') (take at b ++ b') _ _ (allowed-append (take at k) (take at b) k' b' (allowed-take at k b h) h') tail
 
 -- what stands at a place, put there again
@@ -124,18 +124,18 @@ pub reads-append : (log log' : List Step) (image image' bytes : List ℕ) → Re
     → image' ≡ image ++ bytes → Reads log' image'
 reads-append log log' image image' bytes reads log-is image-is =
     reads-step log log' (Append bytes) (image ++ bytes) image' log-is (allowed-append (known_of log) image (map exactly bytes) bytes
-        reads (allowed-exactly bytes)) (sym image-is)
+    reads (allowed-exactly bytes)) (sym image-is)
 
 pub reads-failed_append : (log log' : List Step) (image : List ℕ) → Reads log image → log' ≡ log ++ FailedAppend 0 ∷ [] → Reads log' image
 reads-failed_append log log' image reads log-is =
     reads-step log log' (FailedAppend 0) (image ++ []) image log-is (allowed-append (known_of log) image [] [] reads refl)
-        (append-nil image)
+    (append-nil image)
 
 pub reads-write : (log log' : List Step) (image image' bytes : List ℕ) (at : ℕ) → Reads log image → log' ≡ log ++ Write at bytes
     ∷ [] → image' ≡ put_at image at bytes → Reads log' image'
 reads-write log log' image image' bytes at reads log-is image-is =
     reads-step log log' (Write at bytes) (put_at image at bytes) image' log-is
-        (allowed-put_at (known_of log) image at (map exactly bytes) bytes reads (allowed-exactly bytes)) (sym image-is)
+    (allowed-put_at (known_of log) image at (map exactly bytes) bytes reads (allowed-exactly bytes)) (sym image-is)
 
 pub reads-failed_write : (log log' : List Step) (image bytes : List ℕ) (at : ℕ) → Reads log image → at + length bytes ≤ length image
     → log' ≡ log ++ FailedWrite at bytes ∷ [] → Reads log' image
@@ -145,7 +145,7 @@ reads-failed_write log log' image bytes at reads inside log-is =
     let fits : n ≤ length old = omega (arith, length-drop at image) in
     reads-step log log' (FailedWrite at bytes) (put_at image at (take n old)) image log-is
     (allowed-put_at (known_of log) image at (torn bytes (drop at (known_of log))) (take n old) reads
-        (allowed-torn bytes (drop at (known_of log)) old (allowed-drop at (known_of log) image reads) fits))
+    (allowed-torn bytes (drop at (known_of log)) old (allowed-drop at (known_of log) image reads) fits))
     (put_at_same image at n inside)
 
 pub reads-sync : (log log' : List Step) (image : List ℕ) → Reads log image → log' ≡ log ++ Sync ∷ [] → Reads log' image
@@ -156,13 +156,13 @@ pub reads-reserve : (log log' : List Step) (image image' more : List ℕ) (start
 reads-reserve log log' image image' more start len reads log-is whole image-is =
     reads-step log log' (Reserve start len) (image ++ more) image' log-is
     (allowed-append (known_of log) image (unknown len) more reads
-        (subst (λ (n : ℕ). IsTrue (all_allowed (replicate n Anything) more)) whole (allowed-anything more))) (sym image-is)
+    (subst (λ (n : ℕ). IsTrue (all_allowed (replicate n Anything) more)) whole (allowed-anything more))) (sym image-is)
 
 pub reads-settle : (log log' : List Step) (image image' bytes : List ℕ) (start len : ℕ) → Reads log image
     → log' ≡ log ++ Settle start len (Some bytes) ∷ [] → image' ≡ put_at image start bytes → Reads log' image'
 reads-settle log log' image image' bytes start len reads log-is image-is =
     reads-step log log' (Settle start len (Some bytes)) (put_at image start bytes) image' log-is
-        (allowed-put_at (known_of log) image start (map exactly bytes) bytes reads (allowed-exactly bytes)) (sym image-is)
+    (allowed-put_at (known_of log) image start (map exactly bytes) bytes reads (allowed-exactly bytes)) (sym image-is)
 
 pub reads-unfilled : (log log' : List Step) (image : List ℕ) (start len : ℕ) → Reads log image → start + len ≤ length image
     → log' ≡ log ++ Settle start len None ∷ [] → Reads log' image
@@ -171,5 +171,5 @@ reads-unfilled log log' image start len reads inside log-is =
     let whole : length old ≡ len = omega (arith, length-take len (drop start image), length-drop start image) in
     reads-step log log' (Settle start len None) (put_at image start old) image log-is
     (allowed-put_at (known_of log) image start (unknown len) old reads
-        (subst (λ (n : ℕ). IsTrue (all_allowed (replicate n Anything) old)) whole (allowed-anything old)))
+    (subst (λ (n : ℕ). IsTrue (all_allowed (replicate n Anything) old)) whole (allowed-anything old)))
     (put_at_same image start len inside)

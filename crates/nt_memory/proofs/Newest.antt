@@ -25,25 +25,25 @@ step files i f name some le is =
     let one : i ≡ j + 1 = omega arith in
     ap (λ (k : ℕ). stored_in (take k files) name) one
     ∙ ap (λ (l : List NamedFile). stored_in l name) (take_more files j f (omega arith)
-        ∙ ap (λ (x : NamedFile). take j files ++ x ∷ []) (sym is))
+    ∙ ap (λ (x : NamedFile). take j files ++ x ∷ []) (sym is))
     ∙ more (take j files) f name
     ∙ ap (λ (b : Bool). cond b (Some (kept f)) (stored_in (take j files) name))
-        (sym (lists_ties {E = eqb} nat_cmp (λ x y. sym (unsigned_tied x y)) name (string_bytes f.name)))
+    (sym (lists_ties {E = eqb} nat_cmp (λ x y. sym (unsigned_tied x y)) name (string_bytes f.name)))
 
 -- the file at a place has the name
 pub here : (files : List NamedFile) (i : ℕ) (f : NamedFile) (name text : List ℕ) → 0 < i → i ≤ length files
     → f ≡ get_or files (i - 1) f → text ≡ string_bytes f.name → true ≡ pointwise eqb name text → stored_in (take i files)
-      name ≡ Some (kept f)
+    name ≡ Some (kept f)
 here files i f name text some le is text-is hit = step files i f name some le is
     ∙ ap (λ (b : Bool). cond b (Some (kept f)) (stored_in (take (i - 1) files) name)) (ap (pointwise eqb name) (sym text-is) ∙ sym hit)
 
 -- it has another
 pub before : (files : List NamedFile) (i : ℕ) (f : NamedFile) (name text : List ℕ) → 0 < i → i ≤ length files
     → f ≡ get_or files (i - 1) f → text ≡ string_bytes f.name → false ≡ pointwise eqb name text → stored_in (take i files) name
-      ≡ stored_in (take (i - 1) files) name
+    ≡ stored_in (take (i - 1) files) name
 before files i f name text some le is text-is miss =
     step files i f name some le is ∙ ap (λ (b : Bool). cond b (Some (kept f)) (stored_in (take (i - 1) files) name))
-      (ap (pointwise eqb name) (sym text-is) ∙ sym miss)
+    (ap (pointwise eqb name) (sym text-is) ∙ sym miss)
 
 pub none_left : (files : List NamedFile) (i : ℕ) (name : List ℕ) → i ≤ 0 → None ≡ stored_in (take i files) name
 none_left files i name le = let zero_is : i ≡ 0 = omega arith in sym (get-empty (slice_cmp nat_cmp) name)

@@ -27,7 +27,7 @@ pub within_push : (out out' : List Range) (n m : ℕ) (r : Range) → All (λ (r
 within_push out out' n m r all le last is =
     subst (All (λ (r : Range). r.start + r.len ≤ m)) (sym is)
     (All-append (λ (r : Range). r.start + r.len ≤ m) out (r ∷ []) (within_more out n m all le)
-        (All-from_recursion (λ (r : Range). r.start + r.len ≤ m) (r ∷ []) (last, tt)))
+    (All-from_recursion (λ (r : Range). r.start + r.len ≤ m) (r ∷ []) (last, tt)))
 
 pub within_one : (out : List Range) (n : ℕ) (r : Range) → All (λ (r : Range). r.start + r.len ≤ n) out → Contains out r
     → r.start + r.len ≤ n
@@ -63,7 +63,7 @@ put_at_none : (image : List ℕ) (at : ℕ) → put_at image at [] ≡ image
 put_at_none image at =
     let end : at + 0 ≡ at = omega arith in
     ap (λ (n : ℕ). take at image ++ [] ++ drop n image) end ∙ (ap (λ (l : List ℕ). l ++ drop at image) (append-nil (take at image))
-        ∙ take-append-drop at image)
+    ∙ take-append-drop at image)
 
 pub settle_reads : (filled : Bool) (log log' : List Step) (image image' bytes : List ℕ) (start len : ℕ) → Reads log image
     → (filled ≡ false → bytes ≡ []) → start + len ≤ length image
@@ -81,7 +81,7 @@ settled_by : (filled : Bool) (log log' : List Step) (image image' bytes : List �
     → (filled ≡ true → length bytes ≡ len) → (filled ≡ false → bytes ≡ []) → start + len ≤ length image
     → log' ≡ log ++ Settle start len (content_of filled bytes) ∷ [] → image' ≡ put_at image start bytes
     → IsRangeSettled (extent (record { start = start; len = len }) filled bytes) (record { log = log; image = image })
-        (record { log = log'; image = image' })
+    (record { log = log'; image = image' })
 settled_by true log log' image image' bytes start len whole empty inside log-is image-is = record {
   bytes = bytes;
   whole = whole refl;
@@ -101,12 +101,14 @@ pub settle_holds : (filled : Bool) (log log' : List Step) (image image' bytes : 
     → (filled ≡ true → length bytes ≡ len) → (filled ≡ false → bytes ≡ []) → start + len ≤ length image
     → log' ≡ log ++ Settle start len (content_of filled bytes) ∷ [] → image' ≡ put_at image start bytes
     → BecomesSome (Some (record { log = log; image = image })) (Some (record { log = log'; image = image' }))
-        (IsRangeSettled (extent (record { start = start; len = len }) filled bytes))
+    (IsRangeSettled (extent (record { start = start; len = len }) filled bytes))
 settle_holds filled log log' image image' bytes start len whole empty inside log-is image-is = λ h is. (
   record { log = log'; image = image' },
   refl,
-  subst (λ (k : Held). IsRangeSettled (extent (record { start = start; len = len }) filled bytes) k (record { log = log'; image =
-      image' })) (some_is (record { log = log; image = image }) h is)
+  subst (λ (k : Held). IsRangeSettled (extent (record { start = start; len = len }) filled bytes) k (record {
+    log = log';
+    image = image';
+  })) (some_is (record { log = log; image = image }) h is)
       (settled_by filled log log' image image' bytes start len whole empty inside log-is image-is),
 )
 

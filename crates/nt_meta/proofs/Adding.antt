@@ -19,7 +19,7 @@ counting-next xs i s count next d e lt is sum =
     let same : suc i ≡ i + 1 = omega arith in
     let longer : take (i + 1) xs ≡ take i xs ++ slice_index_or xs i d ∷ [] = ap (λ (j : ℕ). take j xs) (sym same) ∙ take-suc xs i d lt in
     let more : paged_elements (take (i + 1) xs) ≡ paged_elements (take i xs) + (slice_index_or xs i d).count =
-            ap paged_elements longer ∙ elements-push (take i xs) (slice_index_or xs i d) in
+    ap paged_elements longer ∙ elements-push (take i xs) (slice_index_or xs i d) in
     omega (arith, e, is, sum, more)
 
 pub counting-done : (xs : List PageItem) (i s : ℕ) → length xs ≤ i → s ≡ min (paged_elements (take i xs)) most
@@ -31,7 +31,7 @@ pub ruleset counting_steps = (counting-next, counting-done)
 -- one more column
 added-set : (es : List ℕ) (ls : List ColumnList) (i : ℕ) (d : ColumnList) → i < length es → i < length ls
     → with_elements es (take (suc i) ls) ≡ slice_set (with_elements es (take i ls)) i
-        (min (slice_index_or (with_elements es (take i ls)) i 0 + paged_elements (slice_index_or ls i d).pages) most)
+    (min (slice_index_or (with_elements es (take i ls)) i 0 + paged_elements (slice_index_or ls i d).pages) most)
 added-set [] ls i d some more = absurd (omega arith)
 added-set (e ∷ es) [] i d some more = absurd (omega arith)
 added-set (e ∷ es) (l ∷ ls) zero d some more = refl
@@ -46,9 +46,9 @@ adding-next es now ls i more sum d e some few is sums =
     let same : suc i ≡ i + 1 = omega arith in
     let one : sum ≡ min (slice_index_or now i 0 + paged_elements (slice_index_or ls i d).pages) most = omega (arith, is, sums) in
     let there : with_elements es (take (suc i) ls) ≡ slice_set now i
-            (min (slice_index_or now i 0 + paged_elements (slice_index_or ls i d).pages) most) =
+    (min (slice_index_or now i 0 + paged_elements (slice_index_or ls i d).pages) most) =
     added-set es ls i d some few ∙ ap (λ (x : List ℕ). slice_set x i
-        (min (slice_index_or x i 0 + paged_elements (slice_index_or ls i d).pages) most)) (sym e) in
+    (min (slice_index_or x i 0 + paged_elements (slice_index_or ls i d).pages) most)) (sym e) in
     ap (slice_set now i) one ∙ (sym there ∙ ap (λ (j : ℕ). with_elements es (take j ls)) same)
 
 pub adding-done : (es now : List ℕ) (ls : List ColumnList) (i : ℕ) → length ls ≤ i → now ≡ with_elements es (take i ls)

@@ -73,9 +73,9 @@ pub texts-next : {X : Type 0} (text : X → List ℕ) (xs : List X) (i : ℕ) (d
     → bytes_added (flat_map text (drop i xs)) w ≡ all → bytes_added (flat_map text (drop (i + 1) xs)) x ≡ all
 texts-next {X = X} text xs i d w x all h e f =
     let left : drop i xs ≡ get_or xs i d ∷ drop (i + 1) xs =
-            drop-cons xs i d h ∙ ap (λ (k : ℕ). get_or xs i d ∷ drop k xs) (sym (add-one i)) in
+    drop-cons xs i d h ∙ ap (λ (k : ℕ). get_or xs i d ∷ drop k xs) (sym (add-one i)) in
     one_more (text (get_or xs i d)) (flat_map text (drop (i + 1) xs)) w x all e
-        (ap (λ (z : List X). bytes_added (flat_map text z) w) (sym left) ∙ f)
+    (ap (λ (z : List X). bytes_added (flat_map text z) w) (sym left) ∙ f)
 
 -- the same of what is made of each
 pub made-next : {X Y : Type 0} (make : X → Y) (text : Y → List ℕ) (xs : List X) (i : ℕ) (d : X) (w x all : Written) → i < length xs
@@ -83,7 +83,7 @@ pub made-next : {X Y : Type 0} (make : X → Y) (text : Y → List ℕ) (xs : Li
     → bytes_added (flat_map text (map make (drop i xs))) w ≡ all → bytes_added (flat_map text (map make (drop (i + 1) xs))) x ≡ all
 made-next {X = X} make text xs i d w x all h e f =
     let left : drop i xs ≡ get_or xs i d ∷ drop (i + 1) xs =
-            drop-cons xs i d h ∙ ap (λ (k : ℕ). get_or xs i d ∷ drop k xs) (sym (add-one i)) in
+    drop-cons xs i d h ∙ ap (λ (k : ℕ). get_or xs i d ∷ drop k xs) (sym (add-one i)) in
     one_more (text (make (get_or xs i d))) (flat_map text (map make (drop (i + 1) xs))) w x all e
     (ap (λ (z : List X). bytes_added (flat_map text (map make z)) w) (sym left) ∙ f)
 
@@ -93,7 +93,7 @@ one_less n i lt = omega arith
 -- the text of what is made of the next number is written
 pub counted-next : {Y : Type 0} (make : ℕ → Y) (text : Y → List ℕ) (n i : ℕ) (w x all : Written) → i < n → x ≡ bytes_added (text (make i)) w
     → bytes_added (flat_map text (map make (range_with_len i (n - i)))) w
-        ≡ all → bytes_added (flat_map text (map make (range_with_len (i + 1) (n - (i + 1))))) x ≡ all
+    ≡ all → bytes_added (flat_map text (map make (range_with_len (i + 1) (n - (i + 1))))) x ≡ all
 counted-next make text n i w x all h e f =
     one_more (text (make i)) (flat_map text (map make (range_with_len (i + 1) (n - (i + 1))))) w x all e
     (ap (λ (k : ℕ). bytes_added (flat_map text (map make (range_with_len i k))) w) (sym (one_less n i h)) ∙ f)
@@ -110,7 +110,7 @@ pub all-next : {X : Type 0} (P : X → Type 0) (xs : List X) (i : ℕ) (d : X) �
     → AllByRecursion P (drop (i + 1) xs)
 all-next {X = X} P xs i d h all =
     let left : drop i xs ≡ get_or xs i d ∷ drop (i + 1) xs =
-            drop-cons xs i d h ∙ ap (λ (k : ℕ). get_or xs i d ∷ drop k xs) (sym (add-one i)) in
+    drop-cons xs i d h ∙ ap (λ (k : ℕ). get_or xs i d ∷ drop k xs) (sym (add-one i)) in
     (subst (AllByRecursion P) left all).1
 
 pub all-first : {X : Type 0} (P : X → Type 0) (xs : List X) (i : ℕ) (d : X) → i < length xs → AllByRecursion P (drop i xs)
@@ -124,9 +124,9 @@ pub listed-length : (book : BookData) (k : ℕ) (lists : List (List PageMeta)) (
 listed-length book k lists v w is e =
     let count : length lists ≡ length (cluster_at book k).meta.pages = ap length is in
     let long : length lists ≡ length (listed_cluster book k).columns =
-            count ∙ sym (length-map-range_with_len (listed_column book k) 0 (length (cluster_at book k).meta.pages)) in
+    count ∙ sym (length-map-range_with_len (listed_column book k) 0 (length (cluster_at book k).meta.pages)) in
     e ∙ (ap (λ (n : ℕ). bytes_added (list_frame (length lists)
-        (column_list_texts (map (listed_column book k) (range_with_len 0 n)))) v) count
+    (column_list_texts (map (listed_column book k) (range_with_len 0 n)))) v) count
     ∙ ap (λ (n : ℕ). bytes_added (list_frame n (column_list_texts (listed_cluster book k).columns)) v) long)
 
 -- a column of a cluster, by what the book tells of it
@@ -137,9 +137,11 @@ pub column-is : (book : BookData) (k id payload offset : ℕ) (pages : List Page
 column-is book k id payload offset pages v w o begins is e =
     e ∙ (ap (λ (n : ℕ). bytes_added (column_list_text (record { offset = n; pages = map (page_item payload) pages })) v) o
     ∙ (ap (λ (n : ℕ). bytes_added (column_list_text (record { offset = column_offset book k id; pages = map (page_item n) pages }))
-        v) begins
-    ∙ ap (λ (l : List PageMeta). bytes_added (column_list_text (record { offset = column_offset book k id; pages =
-        map (page_item ((cluster_at book k).start + 42)) l })) v) is))
+    v) begins
+    ∙ ap (λ (l : List PageMeta). bytes_added (column_list_text (record {
+      offset = column_offset book k id;
+      pages = map (page_item ((cluster_at book k).start + 42)) l;
+    })) v) is))
 
 -- the bytes of a part that is written alone
 pub all_of : (a bytes none : List ℕ) (w x : Written) → none ≡ [] → w ≡ record { inside = none; frames = [] } → x ≡ bytes_added a w

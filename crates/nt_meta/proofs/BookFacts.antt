@@ -44,4 +44,4 @@ pub low_pages : (columns i payload : ℕ) (c : Cluster ClusterMeta) (pages : Lis
     → AllByRecursion (λ p. payload + p.place < 2 ^ 64) pages
 low_pages columns i payload c pages h begins is =
     subst (λ (l : List PageMeta). AllByRecursion (λ p. payload + p.place < 2 ^ 64) l) (sym is)
-        (lists-low c.meta payload i c.meta.pages (omega (arith, begins, h.short, h.low)) h.paged.each)
+    (lists-low c.meta payload i c.meta.pages (omega (arith, begins, h.short, h.low)) h.paged.each)

@@ -26,22 +26,22 @@ after_it columns ks elements lists list = cluster_lists_on columns ks (with_elem
 clusters-first : (columns : List KnownColumn) (ks : List ClusterSummary) (i : ℕ) (elements : List ℕ) (lists : List ClusterList)
     (here : At) → i < length ks
     → cluster_lists_on columns (drop i ks) elements lists here
-        ≡ (cluster_list_at (slice_index_or ks i no_summary) columns elements here >>= after_it columns (drop (i + 1) ks) elements lists)
+    ≡ (cluster_list_at (slice_index_or ks i no_summary) columns elements here >>= after_it columns (drop (i + 1) ks) elements lists)
 clusters-first columns ks i elements lists here lt =
     let same : suc i ≡ i + 1 = omega arith in
     ap (λ (l : List ClusterSummary). cluster_lists_on columns l elements lists here) (drop-cons ks i no_summary lt)
     ∙ ap (λ (j : ℕ). cluster_list_at (slice_index_or ks i no_summary) columns elements here >>= after_it columns (drop j ks)
-        elements lists) same
+    elements lists) same
 
 pub clusters-next : (columns : List KnownColumn) (ks : List ClusterSummary) (i : ℕ) (k : ClusterSummary) (elements sums : List ℕ)
     (lists more : List ClusterList) (here after : At) (list : ClusterList) (all : Answer) → i < length ks → k
-      ≡ slice_index_or ks i no_summary
+    ≡ slice_index_or ks i no_summary
     → cluster_list_at k columns elements here ≡ Ok (list, after) → sums ≡ with_elements elements list.columns → more ≡ lists ++ list ∷ []
     → cluster_lists_on columns (drop i ks) elements lists here ≡ all → cluster_lists_on columns (drop (i + 1) ks) sums more after ≡ all
 clusters-next columns ks i k elements sums lists more here after list all lt is e sum new h =
     let read = subst (λ (x : ClusterSummary). cluster_list_at x columns elements here ≡ Ok (list, after)) is e in
     let step = clusters-first columns ks i elements lists here lt
-            ∙ ap (λ (r : Result (ClusterList × At) ReadError). r >>= after_it columns (drop (i + 1) ks) elements lists) read in
+    ∙ ap (λ (r : Result (ClusterList × At) ReadError). r >>= after_it columns (drop (i + 1) ks) elements lists) read in
     ap (λ (l : List ClusterList). cluster_lists_on columns (drop (i + 1) ks) sums l after) new
     ∙ (ap (λ (s : List ℕ). cluster_lists_on columns (drop (i + 1) ks) s (lists ++ list ∷ []) after) sum ∙ (sym step ∙ h))
 
@@ -51,7 +51,7 @@ pub clusters-fail : (columns : List KnownColumn) (ks : List ClusterSummary) (i :
 clusters-fail columns ks i k elements lists here e all lt is f h =
     subst (Refuses e) (sym (clusters-first columns ks i elements lists here lt) ∙ h)
     (Refuses-bind e (cluster_list_at (slice_index_or ks i no_summary) columns elements here)
-        (after_it columns (drop (i + 1) ks) elements lists)
+    (after_it columns (drop (i + 1) ks) elements lists)
     (subst (λ (x : ClusterSummary). Refuses e (cluster_list_at x columns elements here)) is f))
 
 pub clusters-done : (columns : List KnownColumn) (ks : List ClusterSummary) (i : ℕ) (elements : List ℕ) (lists : List ClusterList)

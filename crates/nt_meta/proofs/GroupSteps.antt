@@ -17,8 +17,8 @@ pub groups-next : (n i entries clusters : ℕ) (gs more : List Group) (here afte
     → groups_on (n - i) entries clusters gs here ≡ all → groups_on (n - (i + 1)) (entries + g.span) (clusters + g.clusters) more after ≡ all
 groups-next n i entries clusters gs more here after g all lt e new h =
     let step = ap (λ (k : ℕ). groups_on k entries clusters gs here) (one_less n i lt)
-            ∙ ap (λ (r : Result (Group × At) ReadError). r >>= λ g. groups_on (n - (i + 1)) (entries + g.0.span)
-              (clusters + g.0.clusters) (gs ++ g.0 ∷ []) g.1) e in
+    ∙ ap (λ (r : Result (Group × At) ReadError). r >>= λ g. groups_on (n - (i + 1)) (entries + g.0.span)
+    (clusters + g.0.clusters) (gs ++ g.0 ∷ []) g.1) e in
     ap (λ (l : List Group). groups_on (n - (i + 1)) (entries + g.span) (clusters + g.clusters) l after) new ∙ (sym step ∙ h)
 
 pub groups-fail : (n i entries clusters : ℕ) (gs : List Group) (here : At) (e : Option ReadError) (all : Answer) → i < n
@@ -26,7 +26,7 @@ pub groups-fail : (n i entries clusters : ℕ) (gs : List Group) (here : At) (e 
 groups-fail n i entries clusters gs here e all lt f h =
     subst (Refuses e) (sym (ap (λ (k : ℕ). groups_on k entries clusters gs here) (one_less n i lt)) ∙ h)
     (Refuses-bind e (group_at entries clusters here) (λ g. groups_on (n - (i + 1)) (entries + g.0.span) (clusters + g.0.clusters)
-        (gs ++ g.0 ∷ []) g.1) f)
+    (gs ++ g.0 ∷ []) g.1) f)
 
 pub groups-done : (n i entries clusters : ℕ) (gs : List Group) (here : At) (all : Answer) → n ≤ i
     → groups_on (n - i) entries clusters gs here ≡ all → all ≡ Ok (gs, here)

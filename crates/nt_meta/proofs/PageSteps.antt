@@ -13,11 +13,11 @@ use Rattle.nt_meta.proofs.Steps.{one_less, none_left}
 pub items-next : (cluster column n i : ℕ) (pages more : List PageItem) (here after : At) (page : PageItem)
     (all : Result (List PageItem × At) ReadError) → i < n
     → page_item_at cluster column here ≡ Ok (page, after) → more ≡ pages ++ page ∷ [] → page_items_on cluster column (n - i) pages
-        here ≡ all → page_items_on cluster column (n - (i + 1)) more after ≡ all
+    here ≡ all → page_items_on cluster column (n - (i + 1)) more after ≡ all
 items-next cluster column n i pages more here after page all lt e new h =
     let step = ap (λ (k : ℕ). page_items_on cluster column k pages here) (one_less n i lt)
-            ∙ ap (λ (r : Result (PageItem × At) ReadError). r >>= λ page. page_items_on cluster column (n - (i + 1))
-              (pages ++ page.0 ∷ []) page.1) e in
+    ∙ ap (λ (r : Result (PageItem × At) ReadError). r >>= λ page. page_items_on cluster column (n - (i + 1))
+    (pages ++ page.0 ∷ []) page.1) e in
     ap (λ (l : List PageItem). page_items_on cluster column (n - (i + 1)) l after) new ∙ sym step ∙ h
 
 pub items-fail : (cluster column n i : ℕ) (pages : List PageItem) (here : At) (e : Option ReadError)

@@ -19,8 +19,8 @@ pub summaries-next : (number n i entries more_entries : ℕ) (ks more : List Clu
 summaries-next number n i entries more_entries ks more here after k all lt e new sum h =
     let next : number + i + 1 ≡ number + (i + 1) = omega arith in
     let step = ap (λ (j : ℕ). summaries_on j (number + i) entries ks here) (one_less n i lt)
-            ∙ ap (λ (r : Result (ClusterSummary × At) ReadError). r >>= λ k. summaries_on (n - (i + 1)) (number + i + 1)
-              (entries + k.0.entries) (ks ++ k.0 ∷ []) k.1) e in
+    ∙ ap (λ (r : Result (ClusterSummary × At) ReadError). r >>= λ k. summaries_on (n - (i + 1)) (number + i + 1)
+    (entries + k.0.entries) (ks ++ k.0 ∷ []) k.1) e in
     ap (λ (l : List ClusterSummary). summaries_on (n - (i + 1)) (number + (i + 1)) more_entries l after) new
     ∙ (ap (λ (m : ℕ). summaries_on (n - (i + 1)) (number + (i + 1)) m (ks ++ k ∷ []) after) sum
     ∙ (ap (λ (m : ℕ). summaries_on (n - (i + 1)) m (entries + k.entries) (ks ++ k ∷ []) after) (sym next) ∙ (sym step ∙ h)))
@@ -30,7 +30,7 @@ pub summaries-fail : (number n i entries : ℕ) (ks : List ClusterSummary) (here
 summaries-fail number n i entries ks here e all lt f h =
     subst (Refuses e) (sym (ap (λ (j : ℕ). summaries_on j (number + i) entries ks here) (one_less n i lt)) ∙ h)
     (Refuses-bind e (summary_at (number + i) entries here) (λ k. summaries_on (n - (i + 1)) (number + i + 1) (entries + k.0.entries)
-        (ks ++ k.0 ∷ []) k.1) f)
+    (ks ++ k.0 ∷ []) k.1) f)
 
 pub summaries-done : (number n i entries : ℕ) (ks : List ClusterSummary) (here : At) (all : Answer) → n ≤ i
     → summaries_on (n - i) (number + i) entries ks here ≡ all → all ≡ Ok ((ks, entries), here)

@@ -15,21 +15,21 @@ use Rattle.nt_pagelists.proofs.ColumnsBack.{unlisted-fine}
 -- the column that is judged next
 judged-first : (k : ClusterSummary) (frame i : ℕ) (columns : List KnownColumn) → i < length columns
     → judged_unlisted k frame i (drop i columns) ≡ (judged k i (slice_index_or columns i unknown_column) 0 frame [] 0 >>= λ fine.
-        judged_unlisted k frame (i + 1) (drop (i + 1) columns))
+    judged_unlisted k frame (i + 1) (drop (i + 1) columns))
 judged-first k frame i columns lt =
     let same : suc i ≡ i + 1 = omega arith in
     ap (judged_unlisted k frame i) (drop-cons columns i unknown_column lt)
     ∙ ap (λ (j : ℕ). judged k i (slice_index_or columns i unknown_column) 0 frame [] 0 >>= λ fine. judged_unlisted k frame (i + 1)
-        (drop j columns)) same
+    (drop j columns)) same
 
 pub unlisted-next : (k : ClusterSummary) (frame i : ℕ) (c : KnownColumn) (columns : List KnownColumn)
     (all : Result (Unit {0}) ReadError) → i < length columns → c ≡ slice_index_or columns i unknown_column
     → judged k i c 0 frame [] 0 ≡ Ok tt → judged_unlisted k frame i (drop i columns)
-        ≡ all → judged_unlisted k frame (i + 1) (drop (i + 1) columns) ≡ all
+    ≡ all → judged_unlisted k frame (i + 1) (drop (i + 1) columns) ≡ all
 unlisted-next k frame i c columns all lt of e h =
     let read = subst (λ (x : KnownColumn). judged k i x 0 frame [] 0 ≡ Ok tt) of e in
     sym (judged-first k frame i columns lt ∙ ap (λ (r : Result (Unit {0}) ReadError). r >>= λ fine. judged_unlisted k frame (i + 1)
-        (drop (i + 1) columns)) read) ∙ h
+    (drop (i + 1) columns)) read) ∙ h
 
 pub unlisted-fail : (k : ClusterSummary) (frame i : ℕ) (c : KnownColumn) (columns : List KnownColumn) (d : ReadError)
     (all : Result (Unit {0}) ReadError) → i < length columns → c ≡ slice_index_or columns i unknown_column
@@ -37,7 +37,7 @@ pub unlisted-fail : (k : ClusterSummary) (frame i : ℕ) (c : KnownColumn) (colu
 unlisted-fail k frame i c columns d all lt of e h =
     let read = subst (λ (x : KnownColumn). judged k i x 0 frame [] 0 ≡ Err d) of e in
     sym h ∙ (judged-first k frame i columns lt ∙ ap (λ (r : Result (Unit {0}) ReadError). r >>= λ fine. judged_unlisted k frame
-        (i + 1) (drop (i + 1) columns)) read)
+    (i + 1) (drop (i + 1) columns)) read)
 
 pub unlisted-done : (k : ClusterSummary) (frame i : ℕ) (columns : List KnownColumn) (all : Result (Unit {0}) ReadError)
     → length columns ≤ i → judged_unlisted k frame i (drop i columns) ≡ all → all ≡ Ok tt
@@ -48,7 +48,7 @@ pub ruleset unlisted_steps = (unlisted-next, unlisted-fail, unlisted-done)
 -- the tests of a column without pages, on plain numbers
 fine-plain : (o p z : Bool) (from n f least : ℕ) → (eqb n 0 || leb (from + n) (cond (o && p) (min f least) least)) ≡ true
     → (not (o && p && ltb from f && ltb f (from + n)) && ((not (o && p) || cond (eqb n 0 || ltb from f) true (eqb 0 n))
-        && (not o || eqb 0 0 || z))) ≡ true
+    && (not o || eqb 0 0 || z))) ≡ true
 fine-plain o p z from n f least h = grind (arith, nat_tests, h)
 
 fine-late : (k : ClusterSummary) (c : KnownColumn) (least : ℕ)
@@ -68,8 +68,10 @@ least-tail c cs = cut (c.is_open && c.is_principal) c.first (least_first cs)
 pub all-late : (k : ClusterSummary) (cs : List KnownColumn) → ends_before k (least_first cs) ≡ true
     → list_all (λ c. is_sound_column k c 0 [] 0) cs ≡ true
 all-late k [] h = refl
-all-late k (c ∷ cs) h = rw (fine-late k c (least_first cs) h,
-    all-late k cs (before-less k (least_first (c ∷ cs)) (least_first cs) (least-tail c cs) h)) refl
+all-late k (c ∷ cs) h = rw (
+  fine-late k c (least_first cs) h,
+  all-late k cs (before-less k (least_first (c ∷ cs)) (least_first cs) (least-tail c cs) h),
+) refl
 
 -- where a cluster lies before the columns that it doesn't list, nothing is wrong with them
 pub unlisted_late : (k : ClusterSummary) (frame id first : ℕ) (columns : List KnownColumn) → id ≤ length columns

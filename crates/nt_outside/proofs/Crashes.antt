@@ -63,8 +63,13 @@ sync_leaves log bytes reads =
 
 put_at-longer : (old items : List Known) (at : ℕ) → length old ≤ length (put_at old at items)
 put_at-longer old items at =
-    omega (arith, length-append (take at old ++ items) (drop (at + length items) old), length-append (take at old) items,
-        length-take at old, length-drop (at + length items) old)
+    omega (
+      arith,
+      length-append (take at old ++ items) (drop (at + length items) old),
+      length-append (take at old) items,
+      length-take at old,
+      length-drop (at + length items) old,
+    )
 
 shaken-longer : (left : List Known) (step : Step) → length left ≤ length (shaken left step)
 shaken-longer left (Write at bytes) = put_at-longer left (torn bytes (drop at left)) at
@@ -134,7 +139,7 @@ reaches c known more bytes h left =
         most = omega (arith, long);
         allowed =
             subst (λ (k : List Known). IsTrue (all_allowed k (take old bytes)))
-                (take-front c.left (unknown more) (length bytes) (length (take old bytes)) long)
+            (take-front c.left (unknown more) (length bytes) (length (take old bytes)) long)
             (allowed-take old (take (length bytes) (c.left ++ unknown more)) bytes left.allowed);
       },
     )
@@ -148,8 +153,11 @@ before : (log : List Step) (step : Step) (bytes : List ℕ) → MayLeave (crash_
 before log step bytes left = subst (λ (c : Crash). MayLeave c bytes) (sym (crash_of-push log step)) left
 
 -- what a crash leaves doesn't depend on what is told of the file
-any_known : (known other left : List Known) (synced : ℕ) (bytes : List ℕ) → MayLeave (record { known = known; left = left; synced =
-    synced }) bytes → MayLeave (record { known = other; left = left; synced = synced }) bytes
+any_known : (known other left : List Known) (synced : ℕ) (bytes : List ℕ) → MayLeave (record {
+  known = known;
+  left = left;
+  synced = synced;
+}) bytes → MayLeave (record { known = other; left = left; synced = synced }) bytes
 any_known known other left synced bytes m = record { least = m.least; most = m.most; allowed = m.allowed }
 
 pub lengthens : (log : List Step) → Lengthens log
@@ -181,7 +189,7 @@ overwrites log =
       failed = λ at more bytes left.
           before log (Write at more) bytes
           (any_known (after_step c.known (FailedWrite at more)) (after_step c.known (Write at more)) _ c.synced bytes
-              (after log (FailedWrite at more) bytes left));
+          (after log (FailedWrite at more) bytes left));
     }
 
 pub settling : (log : List Step) → Settling log

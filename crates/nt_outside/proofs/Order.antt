@@ -11,9 +11,11 @@ use Rattle.nt_outside.specs.Order.{BeginsOpen, MayFollow, MayAllFollow, FirstByt
 all_follow-push : (before log : List Step) (step : Step) → MayAllFollow before log → MayFollow (before ++ log) step
     → MayAllFollow before (log ++ step ∷ [])
 all_follow-push before [] step follow may = (subst (λ (l : List Step). MayFollow l step) (append-nil before) may, tt)
-all_follow-push before (s ∷ log) step follow may =
-    (follow.0, all_follow-push (before ++ s ∷ []) log step follow.1
-        (subst (λ (l : List Step). MayFollow l step) (sym (append_assoc before (s ∷ []) log)) may))
+all_follow-push before (s ∷ log) step follow may = (
+  follow.0,
+  all_follow-push (before ++ s ∷ []) log step follow.1
+      (subst (λ (l : List Step). MayFollow l step) (sym (append_assoc before (s ∷ []) log)) may),
+)
 
 -- a step that may follow
 pub one_follows : (log : List Step) (step : Step) → FirstByteLast log → MayFollow log step → FirstByteLast (log ++ step ∷ [])

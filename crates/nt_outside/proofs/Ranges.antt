@@ -37,4 +37,4 @@ pub found_at : (out : List Range) (i : ℕ) (d r : Range) → i < length out →
     → without r out ≡ take i out ++ without r (drop i out) → without r out ≡ remove out i
 found_at out i d r lt same so_far =
     so_far ∙ ap (λ (l : List Range). take i out ++ l) (ap (without r) (drop_at out i d lt) ∙ without_here (slice_index_or out i d) r
-        (drop (suc i) out) same)
+    (drop (suc i) out) same)

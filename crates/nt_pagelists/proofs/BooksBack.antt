@@ -41,7 +41,7 @@ module _ (columns : List KnownColumn) (book : BookData) (from count : ℕ) (h : 
       ≡ (slice_index_or columns column unknown_column).first
   first-is column less =
       ap (λ (l : List ℕ). slice_index_or l column 0) (sym h.firsts) ∙ get_or-map (λ (c : KnownColumn). c.first) columns column
-          unknown_column 0 less
+      unknown_column 0 less
 
   sum-is : (k column : ℕ) → column < length columns → slice_index_or (sums k) column 0 ≡ cells k column
   sum-is k column less = get_or-map-range_with_len (cells k) 0 (length book.firsts) column column 0
@@ -84,13 +84,17 @@ module _ (columns : List KnownColumn) (book : BookData) (from count : ℕ) (h : 
         let counted = items-counted payload (pages column) in
         let offset = offset-is k column less in
         let sound = column-sound summary c (slice_index_or (sums k) column 0) (map (page_item payload) (pages column)) is.begun
-                (λ p. counted ∙ is.each p)
+        (λ p. counted ∙ is.each p)
         (λ p n. none-left payload (pages column) is.filled (is.each p ∙ n)) in
         record {
           items = items-told (cluster_at book k).meta payload (pages column) (omega (arith, kept.low, kept.short)) kept.short
               (paged (cluster_at book k).meta.pages column kept.paged.each) is.filled;
-          few = omega (arith, length-map (pages column) (page_item payload), few-pages (cluster_at book k).meta column
-              kept.paged kept.short);
+          few = omega (
+            arith,
+            length-map (pages column) (page_item payload),
+            few-pages (cluster_at book k).meta column
+                kept.paged kept.short,
+          );
           offset = omega (arith, low-first book.firsts column h.kept.firsts, elements-fit book k column h.kept);
           sound = subst (λ (n : ℕ). is_sound_column summary c (slice_index_or (sums k) column 0)
               (map (page_item payload) (pages column)) n ≡ true) (sym offset) sound;
@@ -112,7 +116,7 @@ module _ (columns : List KnownColumn) (book : BookData) (from count : ℕ) (h : 
     cluster-listed : IsListedCluster columns k (first_entry book k) (sums k) (listed_cluster book k)
     cluster-listed =
         let all : drop (length (listed_cluster book k).columns) columns ≡ [] =
-                drop_all (length (listed_cluster book k).columns) columns (omega (arith, lists-long)) in
+        drop_all (length (listed_cluster book k).columns) columns (omega (arith, lists-long)) in
         let entries = kept.paged.entries in
         record {
           numbered = refl;
@@ -133,9 +137,9 @@ module _ (columns : List KnownColumn) (book : BookData) (from count : ℕ) (h : 
         let next = elements-more book k column there in
         let fits = elements-fit book (k + 1) column h.kept in
         let sum : min (cells k column + paged_elements (listed_column book k column).pages) (2 ^ 64 - 1) ≡ cells (k + 1) column =
-                omega (arith, counted, next, fits) in
+        omega (arith, counted, next, fits) in
         ap (λ (m : ℕ). m ∷ with_listed (map (cells k) (range_with_len (column + 1) n))
-            (map (listed_column book k) (range_with_len (column + 1) n))) sum
+        (map (listed_column book k) (range_with_len (column + 1) n))) sum
         ∙ ap (λ (l : List ℕ). cells (k + 1) column ∷ l) (more-each (column + 1) n)
 
     sums-more : with_listed (sums k) (listed_cluster book k).columns ≡ sums (k + 1)
@@ -153,7 +157,7 @@ module _ (columns : List KnownColumn) (book : BookData) (from count : ℕ) (h : 
         subst (λ (e : ℕ). AreListedClusters columns (k + 1) e (with_listed (sums k) (listed_cluster book k).columns)
             (listed_clusters book (k + 1) n)) entries
             (subst (λ (es : List ℕ). AreListedClusters columns (k + 1) (first_entry book (k + 1)) es
-                (listed_clusters book (k + 1) n)) (sym (sums-more k low less))
+            (listed_clusters book (k + 1) n)) (sym (sums-more k low less))
             (clusters-listed (k + 1) n (omega (arith, low)) (omega (arith, high)))),
       )
 
@@ -183,21 +187,29 @@ module _ (columns : List KnownColumn) (book : BookData) (from count : ℕ) (h : 
       → first_entry book from + g.span ≡ first_entry book (from + count)
       → length (page_list_text sum (listed_clusters book from count)) < 2 ^ 63
       → page_list_at sum g columns (progress_before book from)
-          (standing place (page_list_text sum (listed_clusters book from count) ++ rest))
-      ≡ Ok (cluster_lists_from (first_cluster_place place (listed_clusters book from count)) (listed_clusters book from count),
-          progress_before book (from + count))
+      (standing place (page_list_text sum (listed_clusters book from count) ++ rest))
+      ≡ Ok (
+        cluster_lists_from (first_cluster_place place (listed_clusters book from count)) (listed_clusters book from count),
+        progress_before book (from + count),
+      )
   book-reads sum g place rest fits clusters span short =
       let ws = listed_clusters book from count in
       let long : length ws ≡ count = length-map-range_with_len (listed_cluster book) from count in
       let entries = entries-listed from count (omega arith) (omega arith) in
       let few : length columns < 2 ^ 32 = omega (arith, as_many, h.kept.columns) in
       let counted : with_group (progress_before book from) g (with_all_listed (sums from) ws) ≡ progress_before book (from + count) =
-      ap (λ (n : ℕ). record { clusters = from + n; entries = first_entry book from + g.span; elements =
-          with_all_listed (sums from) ws }) clusters
+      ap (λ (n : ℕ). record {
+        clusters = from + n;
+        entries = first_entry book from + g.span;
+        elements = with_all_listed (sums from) ws;
+      }) clusters
       ∙ (ap (λ (n : ℕ). record { clusters = from + count; entries = n; elements = with_all_listed (sums from) ws }) span
-      ∙ ap (λ (l : List ℕ). record { clusters = from + count; entries = first_entry book (from + count); elements =
-          l }) (sums-listed from count (omega arith) (omega arith))) in
+      ∙ ap (λ (l : List ℕ). record {
+        clusters = from + count;
+        entries = first_entry book (from + count);
+        elements = l;
+      }) (sums-listed from count (omega arith) (omega arith))) in
       page-list-reads sum g columns (progress_before book from) ws place rest fits few (omega (arith, long, h.inside, h.kept.few))
-          (clusters ∙ sym long) (omega (arith, entries, span))
+      (clusters ∙ sym long) (omega (arith, entries, span))
       (clusters-listed from count (omega arith) (omega arith)) short
       ∙ ap (λ (p : ProgressCounts). Ok (cluster_lists_from (first_cluster_place place ws) ws, p)) counted

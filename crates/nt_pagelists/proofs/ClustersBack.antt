@@ -34,7 +34,7 @@ use Rattle.nt_pagelists.proofs.ColumnsBack.{columns-read, unlisted-fine}
 outer-reads : (k : ClusterSummary) (columns : List KnownColumn) (n place : ℕ) (inside rest : List ℕ) → n < 2 ^ 32
     → n ≤ length columns → 12 + length inside < 2 ^ 63
     → outer_list_at k columns (standing place (list_frame n inside ++ rest))
-        ≡ Ok ((n, standing (place + 12) inside), standing (place + length (list_frame n inside)) rest)
+    ≡ Ok ((n, standing (place + 12) inside), standing (place + length (list_frame n inside)) rest)
 unfolding outer_list_at
 outer-reads k columns n place inside rest small few fits =
     let listed : ltb (length columns) n ≡ false = le-ltb _ _ few in
@@ -45,8 +45,15 @@ cluster-chain : (k : ClusterSummary) (columns : List KnownColumn) (elements : Li
     → outer_list_at k columns (standing place (f ++ rest)) ≡ Ok ((n, standing (place + 12) inside), standing end rest)
     → column_lists_on k columns elements n [] (standing (place + 12) inside) ≡ Ok (lists, standing inner [])
     → judged_unlisted k place n (drop n columns) ≡ Ok tt
-    → cluster_list_at k columns elements (standing place (f ++ rest)) ≡ Ok (record { first = k.first; entries = k.entries; outer =
-        place; columns = lists }, standing end rest)
+    → cluster_list_at k columns elements (standing place (f ++ rest)) ≡ Ok (
+      record {
+        first = k.first;
+        entries = k.entries;
+        outer = place;
+        columns = lists;
+      },
+      standing end rest,
+    )
 unfolding cluster_list_at
 cluster-chain k columns elements place end inner n lists f inside rest outer on fine = rw (outer, on, fine) refl
 
@@ -54,14 +61,14 @@ cluster-reads : (columns : List KnownColumn) (number entries : ℕ) (elements : 
     → IsListedCluster columns number entries elements w
     → length (cluster_list_text w) < 2 ^ 63 → (place : ℕ) (rest : List ℕ)
     → cluster_list_at w.summary columns elements (standing place (cluster_list_text w ++ rest))
-        ≡ Ok (cluster_list_from place w, standing (place + length (cluster_list_text w)) rest)
+    ≡ Ok (cluster_list_from place w, standing (place + length (cluster_list_text w)) rest)
 cluster-reads columns number entries elements w few is fits place rest =
     let inside = column_list_texts w.columns in
     let n = length w.columns in
     let on = ap (λ (b : List ℕ). column_lists_on w.summary columns elements n [] (standing (place + 12) b)) (sym (append-nil inside))
     ∙ columns-read w.summary columns elements [] w.columns (place + 12) [] is.listed (omega (arith, fits)) in
     cluster-chain w.summary columns elements place (place + length (cluster_list_text w)) (place + 12 + length inside) n
-        (column_lists_from (place + 12) w.columns) (cluster_list_text w) inside rest
+    (column_lists_from (place + 12) w.columns) (cluster_list_text w) inside rest
     (outer-reads w.summary columns n place inside rest (omega (arith, is.few, few)) is.few (omega (arith, fits))) on
     (unlisted-fine w.summary place n (drop n columns) is.unlisted)
 
@@ -78,34 +85,40 @@ clusters-read : (columns : List KnownColumn) (number entries : ℕ) (elements : 
     (ws : List ListedCluster) (place : ℕ) (rest : List ℕ) → length columns < 2 ^ 32
     → AreListedClusters columns number entries elements ws → length (cluster_list_texts ws) < 2 ^ 63
     → cluster_lists_on columns (clusters ws) elements lists (standing place (cluster_list_texts ws ++ rest))
-        ≡ Ok (lists ++ cluster_lists_from place ws, with_all_listed elements ws)
+    ≡ Ok (lists ++ cluster_lists_from place ws, with_all_listed elements ws)
 clusters-read columns number entries elements lists [] place rest few are fits =
     ap (λ (l : List ClusterList). Ok (l, elements)) (sym (append-nil lists))
 clusters-read columns number entries elements lists (w ∷ ws) place rest few are fits =
     let one : ClusterList = cluster_list_from place w in
     let next = place + length (cluster_list_text w) in
     let first : cluster_list_at w.summary columns elements (standing place (cluster_list_text w ++ (cluster_list_texts ws ++ rest)))
-            ≡ Ok (one, standing next (cluster_list_texts ws ++ rest)) =
+    ≡ Ok (one, standing next (cluster_list_texts ws ++ rest)) =
     cluster-reads columns number entries elements w few are.0 (front-below (cluster_list_text w) (cluster_list_texts ws) (2 ^ 63)
-        fits) place (cluster_list_texts ws ++ rest) in
+    fits) place (cluster_list_texts ws ++ rest) in
     let others = clusters-read columns (number + 1) (entries + w.summary.entries) (with_listed elements w.columns)
-            (lists ++ one ∷ []) ws next rest few are.1 (back-below (cluster_list_text w) (cluster_list_texts ws) (2 ^ 63) fits) in
+    (lists ++ one ∷ []) ws next rest few are.1 (back-below (cluster_list_text w) (cluster_list_texts ws) (2 ^ 63) fits) in
     ap (λ (b : List ℕ). cluster_lists_on columns (w.summary ∷ clusters ws) elements lists (standing place b))
-        (append_assoc (cluster_list_text w) (cluster_list_texts ws) rest)
+    (append_assoc (cluster_list_text w) (cluster_list_texts ws) rest)
     ∙ (ap (λ (x : Result (ClusterList × At) ReadError). x >>= λ list. cluster_lists_on columns (clusters ws)
-        (with_elements elements list.0.columns) (lists ++ list.0 ∷ []) list.1) first
+    (with_elements elements list.0.columns) (lists ++ list.0 ∷ []) list.1) first
     ∙ (ap (λ (es : List ℕ). cluster_lists_on columns (clusters ws) es (lists ++ one ∷ [])
-        (standing next (cluster_list_texts ws ++ rest))) (added-gained elements (place + 12) w.columns)
+    (standing next (cluster_list_texts ws ++ rest))) (added-gained elements (place + 12) w.columns)
     ∙ (others ∙ ap (λ (x : List ClusterList). Ok (x, with_all_listed (with_listed elements w.columns) ws))
-        (append_assoc lists (one ∷ []) (cluster_lists_from next ws)))))
+    (append_assoc lists (one ∷ []) (cluster_lists_from next ws)))))
 
 -- summaries
 
 summary-chain : (number entries place end : ℕ) (f a b rest : List ℕ) (first count : ℕ)
     → record_at (standing place (f ++ rest)) ≡ Ok (standing (place + 8) (a ++ b), standing end rest)
     → ReadsAs (first_entry_at number entries place) a first → ReadsAs (entry_count_at number place) b count
-    → summary_at number entries (standing place (f ++ rest)) ≡ Ok (record { number = number; first = first; entries =
-        count }, standing end rest)
+    → summary_at number entries (standing place (f ++ rest)) ≡ Ok (
+      record {
+        number = number;
+        first = first;
+        entries = count;
+      },
+      standing end rest,
+    )
 unfolding summary_at
 summary-chain number entries place end f a b rest first count frame p q =
     let count_is = alone (entry_count_at number place) b count q (place + 8 + length a) in
@@ -136,33 +149,35 @@ summary-reads k low fits place rest =
 summaries-read : (columns : List KnownColumn) (number entries : ℕ) (elements : List ℕ) (ks : List ClusterSummary)
     (ws : List ListedCluster) (place : ℕ) (rest : List ℕ) → AreListedClusters columns number entries elements ws
     → summaries_on (length ws) number entries ks (standing place (summary_texts ws ++ rest))
-        ≡ Ok ((ks ++ clusters ws, entries + listed_entries ws), standing (place + length (summary_texts ws)) rest)
+    ≡ Ok ((ks ++ clusters ws, entries + listed_entries ws), standing (place + length (summary_texts ws)) rest)
 summaries-read columns number entries elements ks [] place rest are =
     let end : place ≡ place + 0 = omega arith in
     let sum : entries ≡ entries + 0 = omega arith in
     ap (λ (l : List ClusterSummary). Ok ((l, entries), standing place rest)) (sym (append-nil ks))
-        ∙ (ap (λ (n : ℕ). Ok ((ks ++ [], entries), standing n rest)) end
-          ∙ ap (λ (n : ℕ). Ok ((ks ++ [], n), standing (place + 0) rest)) sum)
+    ∙ (ap (λ (n : ℕ). Ok ((ks ++ [], entries), standing n rest)) end
+    ∙ ap (λ (n : ℕ). Ok ((ks ++ [], n), standing (place + 0) rest)) sum)
 summaries-read columns number entries elements ks (w ∷ ws) place rest are =
     let next = place + length (summary_text w.summary) in
     let is = are.0 in
     let low : w.summary.first < 2 ^ 64 = omega (arith, is.begins, is.low) in
     let own = summary-reads w.summary low is.size place (summary_texts ws ++ rest) in
     let first = ap (λ (n : ℕ). summary_at n entries (standing place (summary_text w.summary ++ (summary_texts ws ++ rest))))
-            (sym is.numbered)
+    (sym is.numbered)
     ∙ (ap (λ (n : ℕ). summary_at w.summary.number n (standing place (summary_text w.summary ++ (summary_texts ws ++ rest))))
-        (sym is.begins) ∙ own) in
+    (sym is.begins) ∙ own) in
     let others = summaries-read columns (number + 1) (entries + w.summary.entries) (with_listed elements w.columns) (ks ++ w.summary
-            ∷ []) ws next rest are.1 in
+    ∷ []) ws next rest are.1 in
     let end : next + length (summary_texts ws) ≡ place + length (summary_text w.summary ++ summary_texts ws) =
-            omega (arith, length-append (summary_text w.summary) (summary_texts ws)) in
+    omega (arith, length-append (summary_text w.summary) (summary_texts ws)) in
     let sum : entries + w.summary.entries + listed_entries ws ≡ entries + (w.summary.entries + listed_entries ws) = omega arith in
     ap (λ (b : List ℕ). summaries_on (suc (length ws)) number entries ks (standing place b))
-        (append_assoc (summary_text w.summary) (summary_texts ws) rest)
+    (append_assoc (summary_text w.summary) (summary_texts ws) rest)
     ∙ (ap (λ (x : Result (ClusterSummary × At) ReadError). x >>= λ k. summaries_on (length ws) (number + 1) (entries + k.0.entries)
-        (ks ++ k.0 ∷ []) k.1) first
-    ∙ (others ∙ (ap (λ (l : List ClusterSummary). Ok ((l, entries + w.summary.entries + listed_entries ws),
-        standing (next + length (summary_texts ws)) rest)) (append_assoc ks (w.summary ∷ []) (clusters ws))
+    (ks ++ k.0 ∷ []) k.1) first
+    ∙ (others ∙ (ap (λ (l : List ClusterSummary). Ok (
+      (l, entries + w.summary.entries + listed_entries ws),
+      standing (next + length (summary_texts ws)) rest,
+    )) (append_assoc ks (w.summary ∷ []) (clusters ws))
     ∙ (ap (λ (n : ℕ). Ok ((ks ++ w.summary ∷ clusters ws, n), standing (next + length (summary_texts ws)) rest)) sum
     ∙ ap (λ (n : ℕ). Ok ((ks ++ w.summary ∷ clusters ws, entries + (w.summary.entries + listed_entries ws)), standing n rest)) end))))
 
@@ -202,7 +217,7 @@ pub page-list-reads : (sum : ℕ) (g : Group) (columns : List KnownColumn) (p : 
     → sum < 2 ^ 64 → length columns < 2 ^ 32 → length ws < 2 ^ 32 → g.clusters ≡ length ws → g.span ≡ listed_entries ws
     → AreListedClusters columns p.clusters p.entries p.elements ws → length (page_list_text sum ws) < 2 ^ 63
     → page_list_at sum g columns p (standing place (page_list_text sum ws ++ rest))
-        ≡ Ok (cluster_lists_from (first_cluster_place place ws) ws, with_group p g (with_all_listed p.elements ws))
+    ≡ Ok (cluster_lists_from (first_cluster_place place ws) ws, with_group p g (with_all_listed p.elements ws))
 unfolding page_list_text
 page-list-reads sum g columns p ws place rest fits few small count span are short =
     let a = to_le_bytes w64 sum in
@@ -215,20 +230,22 @@ page-list-reads sum g columns p ws place rest fits few small count span are shor
     let summed : ReadsAs (summaries_at g p.clusters p.entries) b (clusters ws) = λ at more.
     summaries-chain g p.clusters p.entries at (at + length b) (at + 12 + length (summary_texts ws)) (clusters ws) b (summary_texts ws) more
     (list-reads (length ws) at (summary_texts ws) more small b_short
-        ∙ ap (λ (n : ℕ). Ok ((n, standing (at + 12) (summary_texts ws)), standing (at + length b) more)) (sym count))
+    ∙ ap (λ (n : ℕ). Ok ((n, standing (at + 12) (summary_texts ws)), standing (at + length b) more)) (sym count))
     (ap (λ (l : List ℕ). summaries_on g.clusters p.clusters p.entries [] (standing (at + 12) l)) (sym (append-nil (summary_texts ws)))
     ∙ (ap (λ (n : ℕ). summaries_on n p.clusters p.entries [] (standing (at + 12) (summary_texts ws ++ []))) count
     ∙ (summaries-read columns p.clusters p.entries p.elements [] ws (at + 12) [] are
     ∙ ap (λ (n : ℕ). Ok ((clusters ws, p.entries + n), standing (at + 12 + length (summary_texts ws)) [])) (sym span)))) in
     let listed = clusters-chain g columns (clusters ws) p.elements (place + 8 + length (list_frame (length ws) (summary_texts ws)))
-            (place + 8 + length (list_frame (length ws) (summary_texts ws)) + length c)
-              (cluster_lists_from (first_cluster_place place ws) ws, with_all_listed p.elements ws) c (cluster_list_texts ws) rest
+    (place + 8 + length (list_frame (length ws) (summary_texts ws)) + length c)
+    (cluster_lists_from (first_cluster_place place ws) ws, with_all_listed p.elements ws) c (cluster_list_texts ws) rest
     (list-reads (length ws) (place + 8 + length (list_frame (length ws) (summary_texts ws))) (cluster_list_texts ws) rest small
-        c_short ∙ ap (λ (n : ℕ). Ok ((n, standing (first_cluster_place place ws) (cluster_list_texts ws)),
-          standing (place + 8 + length (list_frame (length ws) (summary_texts ws)) + length c) rest)) (sym count))
+    c_short ∙ ap (λ (n : ℕ). Ok (
+      (n, standing (first_cluster_place place ws) (cluster_list_texts ws)),
+      standing (place + 8 + length (list_frame (length ws) (summary_texts ws)) + length c) rest,
+    )) (sym count))
     (ap (λ (l : List ℕ). cluster_lists_on columns (clusters ws) p.elements [] (standing (first_cluster_place place ws) l))
-        (sym (append-nil (cluster_list_texts ws)))
+    (sym (append-nil (cluster_list_texts ws)))
     ∙ clusters-read columns p.clusters p.entries p.elements [] ws (first_cluster_place place ws) [] few are (omega (arith, c_short))) in
     ap (λ (l : List ℕ). page_list_at sum g columns p (standing place l)) grouped
     ∙ whole-chain sum place g columns p (clusters ws) (cluster_lists_from (first_cluster_place place ws) ws)
-        (with_all_listed p.elements ws) a b c rest (sum-reads sum fits) summed listed
+    (with_all_listed p.elements ws) a b c rest (sum-reads sum fits) summed listed

@@ -41,7 +41,7 @@ pub fine-judged : (k : ClusterSummary) (id : ℕ) (c : KnownColumn) (before fram
 unfolding judged
 fine-judged k id c before frame pages offset h =
     test_passes (begins_inside k c) (has_its_elements k c pages && has_its_offset c before pages offset)
-        (in_column k.number id (fault deferred_inside frame)) (in_column k.number id (fault bad_cluster frame)) h
+    (in_column k.number id (fault deferred_inside frame)) (in_column k.number id (fault bad_cluster frame)) h
 
 both : (a b : Bool) → (a && b) ≡ true → (a ≡ true) × (b ≡ true)
 both a b h = grind (arith, h)
@@ -69,9 +69,15 @@ offset-reads k id c frame offset fits place rest =
 column-chain : (k : ClusterSummary) (id : ℕ) (c : KnownColumn) (before place end n offset : ℕ) (pages : List PageItem) (f a b rest : List ℕ)
     → list_at (standing place (f ++ rest)) ≡ Ok ((n, standing (place + 12) (a ++ b)), standing end rest)
     → ReadsAs (page_items_on k.number id n []) a pages → ReadsAs (element_offset_at k id c place) b offset → judged k id c before
-        place pages offset ≡ Ok tt
-    → column_list_at k id c before (standing place (f ++ rest)) ≡ Ok (record { inner = place; offset =
-        cast_signed w64 offset; pages = pages }, standing end rest)
+    place pages offset ≡ Ok tt
+    → column_list_at k id c before (standing place (f ++ rest)) ≡ Ok (
+      record {
+        inner = place;
+        offset = cast_signed w64 offset;
+        pages = pages;
+      },
+      standing end rest,
+    )
 unfolding column_list_at
 column-chain k id c before place end n offset pages f a b rest list p q fine =
     let items_are = p (place + 12) b in
@@ -81,7 +87,7 @@ column-chain k id c before place end n offset pages f a b rest list p q fine =
 pub column-reads : (k : ClusterSummary) (columns : List KnownColumn) (elements : List ℕ) (id : ℕ) (l : ListedColumn)
     → IsListedColumn k columns elements id l → length (column_list_text l) < 2 ^ 63
     → (place : ℕ) (rest : List ℕ) → column_list_at k id (slice_index_or columns id unknown_column) (slice_index_or elements id 0)
-        (standing place (column_list_text l ++ rest))
+    (standing place (column_list_text l ++ rest))
     ≡ Ok (record { inner = place; offset = cast_signed w64 l.offset; pages = l.pages }, standing (place + length (column_list_text l)) rest)
 column-reads k columns elements id l is fits place rest =
     let c = slice_index_or columns id unknown_column in
@@ -89,7 +95,7 @@ column-reads k columns elements id l is fits place rest =
     let b = to_le_bytes w64 l.offset ++ to_le_bytes w32 0 in
     let inside = page_item_texts l.pages ++ b in
     column-chain k id c before place (place + length (column_list_text l)) (length l.pages) l.offset l.pages (column_list_text l)
-        (page_item_texts l.pages) b rest
+    (page_item_texts l.pages) b rest
     (list-reads (length l.pages) place inside rest is.few (omega (arith, fits)))
     (items-read k.number id [] l.pages is.items) (offset-reads k id c place l.offset is.offset)
     (fine-judged k id c before place l.pages l.offset is.sound)
@@ -98,26 +104,26 @@ pub columns-read : (k : ClusterSummary) (columns : List KnownColumn) (elements :
     (ls : List ListedColumn) (place : ℕ) (rest : List ℕ)
     → AreListedColumns k columns elements (length lists) ls → length (column_list_texts ls) < 2 ^ 63
     → column_lists_on k columns elements (length ls) lists (standing place (column_list_texts ls ++ rest))
-        ≡ Ok (lists ++ column_lists_from place ls, standing (place + length (column_list_texts ls)) rest)
+    ≡ Ok (lists ++ column_lists_from place ls, standing (place + length (column_list_texts ls)) rest)
 columns-read k columns elements lists [] place rest are fits =
     let end : place ≡ place + 0 = omega arith in
     ap (λ (l : List ColumnList). Ok (l, standing place rest)) (sym (append-nil lists))
-        ∙ ap (λ (n : ℕ). Ok (lists ++ [], standing n rest)) end
+    ∙ ap (λ (n : ℕ). Ok (lists ++ [], standing n rest)) end
 columns-read k columns elements lists (l ∷ ls) place rest are fits =
     let one : ColumnList = record { inner = place; offset = cast_signed w64 l.offset; pages = l.pages } in
     let next = place + length (column_list_text l) in
     let first = column-reads k columns elements (length lists) l are.0 (front-below (column_list_text l) (column_list_texts ls)
-            (2 ^ 63) fits) place (column_list_texts ls ++ rest) in
+    (2 ^ 63) fits) place (column_list_texts ls ++ rest) in
     let ids : length (lists ++ one ∷ []) ≡ suc (length lists) = omega (arith, length-append lists (one ∷ [])) in
     let others = columns-read k columns elements (lists ++ one ∷ []) ls next rest
-            (subst (λ (id : ℕ). AreListedColumns k columns elements id ls) (sym ids) are.1)
-              (back-below (column_list_text l) (column_list_texts ls) (2 ^ 63) fits) in
+    (subst (λ (id : ℕ). AreListedColumns k columns elements id ls) (sym ids) are.1)
+    (back-below (column_list_text l) (column_list_texts ls) (2 ^ 63) fits) in
     let end : next + length (column_list_texts ls) ≡ place + length (column_list_text l ++ column_list_texts ls) =
-            omega (arith, length-append (column_list_text l) (column_list_texts ls)) in
+    omega (arith, length-append (column_list_text l) (column_list_texts ls)) in
     ap (λ (b : List ℕ). column_lists_on k columns elements (suc (length ls)) lists (standing place b))
-        (append_assoc (column_list_text l) (column_list_texts ls) rest)
+    (append_assoc (column_list_text l) (column_list_texts ls) rest)
     ∙ (ap (λ (x : Result (ColumnList × At) ReadError). x >>= λ list. column_lists_on k columns elements (length ls) (lists ++ list.0
-        ∷ []) list.1) first
+    ∷ []) list.1) first
     ∙ (others ∙ (ap (λ (x : List ColumnList). Ok (x, standing (next + length (column_list_texts ls)) rest))
-        (append_assoc lists (one ∷ []) (column_lists_from next ls))
+    (append_assoc lists (one ∷ []) (column_lists_from next ls))
     ∙ ap (λ (n : ℕ). Ok (lists ++ one ∷ column_lists_from next ls, standing n rest)) end)))

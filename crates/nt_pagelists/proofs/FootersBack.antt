@@ -53,8 +53,12 @@ whole-chain : (sum place : ℕ) (t read : Table) (gs : List Group) (a b c d rest
     → footer_at sum t (standing place (a ++ (b ++ (c ++ (d ++ rest))))) ≡ Ok (read, gs)
 unfolding footer_at
 whole-chain sum place t read gs a b c d rest p q r s =
-    rw (p place (b ++ (c ++ (d ++ rest))), q (place + length a) (c ++ (d ++ rest)), r (place + length a + length b) (d ++ rest),
-        s (place + length a + length b + length c) rest) refl
+    rw (
+      p place (b ++ (c ++ (d ++ rest))),
+      q (place + length a) (c ++ (d ++ rest)),
+      r (place + length a + length b) (d ++ rest),
+      s (place + length a + length b + length c) rest,
+    ) refl
 
 -- a footer with these bytes in the frame of its extension
 abbrev footer_with : ℕ → List ℕ → List Group → List ℕ
@@ -63,7 +67,7 @@ footer_with sum inside gs = to_le_bytes w64 0 ++ (to_le_bytes w64 sum ++ (record
 footer-reads : (sum : ℕ) (t read : Table) (inside : List ℕ) (gs : List Group) (place : ℕ) (rest : List ℕ) → sum < 2 ^ 64
     → AreGroups 0 0 gs → length gs < 2 ^ 32
     → length (footer_with sum inside gs) < 2 ^ 63 → IsExtension t read inside → footer_at sum t
-        (standing place (footer_with sum inside gs ++ rest)) ≡ Ok (read, gs)
+    (standing place (footer_with sum inside gs ++ rest)) ≡ Ok (read, gs)
 footer-reads sum t read inside gs place rest fits are few short is =
     let a = to_le_bytes w64 0 in
     let b = to_le_bytes w64 sum in
@@ -76,7 +80,7 @@ footer-reads sum t read inside gs place rest fits are few short is =
     let more : ReadsAs (extension_at t) c read = λ at after.
     let end : at + (8 + length inside) ≡ at + length c = omega arith in
     extension-chain t read at (at + length c) inside c after (record_again inside after at c_short
-        ∙ ap (λ (n : ℕ). Ok (standing (at + 8) inside, standing n after)) end) is in
+    ∙ ap (λ (n : ℕ). Ok (standing (at + 8) inside, standing n after)) end) is in
     ap (λ (l : List ℕ). footer_at sum t (standing place l)) grouped
     ∙ whole-chain sum place t read gs a b c d rest (flags-read) (sum-reads sum fits) more (group-list-reads gs are few d_short)
 
@@ -89,7 +93,7 @@ all_taken n xs none = sym (append-nil (take n xs)) ∙ ap (λ (l : List _). take
 no_extension : (t : Table) → length (drop t.header_fields t.fields) ≡ 0 → length (drop t.header_columns t.columns) ≡ 0 → t ≡ header_of t
 no_extension t fields columns =
     sym (ap (λ (l : List FieldRow). table_of l (take t.header_columns t.columns) t.header_fields t.header_columns)
-        (all_taken t.header_fields t.fields fields)
+    (all_taken t.header_fields t.fields fields)
     ∙ ap (λ (l : List ColumnRow). table_of t.fields l t.header_fields t.header_columns) (all_taken t.header_columns t.columns columns))
 
 some_rows : (t : Table) → IsDescribed t → length t.fields < 2 ^ 32 → length t.columns < 2 ^ 32
@@ -98,9 +102,14 @@ some_rows : (t : Table) → IsDescribed t → length t.fields < 2 ^ 32 → lengt
 unfolding IsExtension
 some_rows t is fields columns short =
     let inside = description (part_fields Extension t) (part_columns Extension t) in
-    inr (omega arith, λ place. (standing (place + length inside) [],
+    inr (
+      omega arith,
+      λ place. (
+        standing (place + length inside) [],
         ap (λ (l : List ℕ). description_at Extension (before Extension t) (standing place l)) (sym (append-nil inside))
-          ∙ part-reads Extension t place [] is fields columns short))
+            ∙ part-reads Extension t place [] is fields columns short,
+      ),
+    )
 
 no_rows_there : (t : Table) → length (part_fields Extension t) ≡ 0 → length (part_columns Extension t) ≡ 0
     → IsExtension (before Extension t) t []
@@ -113,7 +122,7 @@ extension-by : (t : Table) (no_field no_column : Bool) → (no_field ≡ true �
     → IsDescribed t → length t.fields < 2 ^ 32 → length t.columns < 2 ^ 32
     → length (cond (no_field && no_column) [] (description (part_fields Extension t) (part_columns Extension t))) < 2 ^ 63
     → IsExtension (before Extension t) t (cond (no_field && no_column) []
-        (description (part_fields Extension t) (part_columns Extension t)))
+    (description (part_fields Extension t) (part_columns Extension t)))
 extension-by t true true f c is fields columns short = no_rows_there t (f refl) (c refl)
 extension-by t true false f c is fields columns short = some_rows t is fields columns short
 extension-by t false other f c is fields columns short = some_rows t is fields columns short

@@ -42,8 +42,13 @@ count-reads clusters frame count fits place rest =
 
 link-chain : (frame long size at : ℕ) (a b c : List ℕ) (place : ℕ) (rest : List ℕ) → size < 2 ^ 31 → ReadsAs u64_at a long
     → ReadsAs u32_at b size → ReadsAs u64_at c at
-    → group_link_at frame (standing place (a ++ (b ++ (c ++ rest)))) ≡ Ok (record { length = long; at =
-        record { size = size; place = at } }, standing (place + length a + length b + length c) rest)
+    → group_link_at frame (standing place (a ++ (b ++ (c ++ rest)))) ≡ Ok (
+      record {
+        length = long;
+        at = record { size = size; place = at };
+      },
+      standing (place + length a + length b + length c) rest,
+    )
 unfolding group_link_at u32_at u64_at
 link-chain frame long size at a b c place rest small p q r =
     let simple : leb (2 ^ 31) size ≡ false = lt-leb _ _ small in
@@ -57,18 +62,25 @@ link-reads frame l is place rest =
     let grouped : (a ++ (b ++ c)) ++ rest ≡ a ++ (b ++ (c ++ rest)) = simp append_assoc in
     let size : l.at.size < 2 ^ 32 = omega (arith, is.at.size) in
     let end : place + length a + length b + length c ≡ place + length (a ++ (b ++ c)) =
-            omega (arith, length-append a (b ++ c), length-append b c) in
+    omega (arith, length-append a (b ++ c), length-append b c) in
     ap (λ (x : List ℕ). group_link_at frame (standing place x)) grouped
     ∙ (link-chain frame l.length l.at.size l.at.place a b c place rest is.at.size (u64-reads l.length is.length)
-        (u32-reads l.at.size size) (u64-reads l.at.place is.at.place)
+    (u32-reads l.at.size size) (u64-reads l.at.place is.at.place)
     ∙ ap (λ (n : ℕ). Ok (l, standing n rest)) end)
 
 group-chain : (entries clusters place end first span count : ℕ) (l : Link) (f a b c d rest : List ℕ)
     → record_at (standing place (f ++ rest)) ≡ Ok (standing (place + 8) (a ++ (b ++ (c ++ d))), standing end rest)
     → ReadsAs (minimum_entry_at entries place) a first → ReadsAs (entry_span_at entries place) b span
-        → ReadsAs (cluster_count_at clusters place) c count → ReadsAs (group_link_at place) d l
-    → group_at entries clusters (standing place (f ++ rest)) ≡ Ok (record { first = first; span = span; clusters = count; link =
-        l }, standing end rest)
+    → ReadsAs (cluster_count_at clusters place) c count → ReadsAs (group_link_at place) d l
+    → group_at entries clusters (standing place (f ++ rest)) ≡ Ok (
+      record {
+        first = first;
+        span = span;
+        clusters = count;
+        link = l;
+      },
+      standing end rest,
+    )
 unfolding group_at
 group-chain entries clusters place end first span count l f a b c d rest frame p q r s =
     let last = alone (group_link_at place) d l s (place + 8 + length a + length b + length c) in
@@ -84,9 +96,9 @@ group-reads clusters g is place rest =
     let end : place + (8 + length inside) ≡ place + length (group_text g) = omega arith in
     let frame = record_again inside rest place (omega arith) ∙ ap (λ (n : ℕ). Ok (standing (place + 8) inside, standing n rest)) end in
     group-chain g.first clusters place (place + length (group_text g)) g.first g.span g.clusters g.link (group_text g) a b c
-        (link g.link) rest frame
+    (link g.link) rest frame
     (minimum-reads g.first place low) (span-reads g.first place g.span is.low) (count-reads clusters place g.clusters is.few)
-        (link-reads place g.link is.leads)
+    (link-reads place g.link is.leads)
 
 groups-read : (entries clusters : ℕ) (gs all : List Group) → AreGroups entries clusters all
     → ReadsAs (groups_on (length all) entries clusters gs) (group_texts all) (gs ++ all)
@@ -98,21 +110,21 @@ groups-read entries clusters gs (g ∷ all) are place rest =
     let next = place + length (group_text g) in
     let own : IsGroup g.first clusters g = subst (λ (n : ℕ). IsGroup n clusters g) (sym is.begins) is in
     let first = ap (λ (n : ℕ). group_at n clusters (standing place (group_text g ++ (group_texts all ++ rest)))) (sym is.begins)
-            ∙ group-reads clusters g own place (group_texts all ++ rest) in
+    ∙ group-reads clusters g own place (group_texts all ++ rest) in
     let others = groups-read (entries + g.span) (clusters + g.clusters) (gs ++ g ∷ []) all are.1 next rest in
     let end : next + length (group_texts all) ≡ place + length (group_text g ++ group_texts all) =
-            omega (arith, length-append (group_text g) (group_texts all)) in
+    omega (arith, length-append (group_text g) (group_texts all)) in
     ap (λ (b : List ℕ). groups_on (suc (length all)) entries clusters gs (standing place b))
-        (append_assoc (group_text g) (group_texts all) rest)
+    (append_assoc (group_text g) (group_texts all) rest)
     ∙ (ap (λ (x : Result (Group × At) ReadError). x >>= λ g. groups_on (length all) (entries + g.0.span) (clusters + g.0.clusters)
-        (gs ++ g.0 ∷ []) g.1) first
+    (gs ++ g.0 ∷ []) g.1) first
     ∙ (others ∙ (ap (λ (l : List Group). Ok (l, standing (next + length (group_texts all)) rest)) (append_assoc gs (g ∷ []) all)
     ∙ ap (λ (n : ℕ). Ok (gs ++ g ∷ all, standing n rest)) end)))
 
 list-chain : (place end inner n : ℕ) (gs : List Group) (f inside rest : List ℕ) → list_at (standing place (f ++ rest))
     ≡ Ok ((n, standing (place + 12) inside), standing end rest)
     → groups_on n 0 0 [] (standing (place + 12) inside) ≡ Ok (gs, standing inner []) → groups_at (standing place (f ++ rest))
-        ≡ Ok (gs, standing end rest)
+    ≡ Ok (gs, standing end rest)
 unfolding groups_at
 list-chain place end inner n gs f inside rest list on = rw (list, on) refl
 
@@ -122,6 +134,6 @@ pub group-list-reads : (gs : List Group) → AreGroups 0 0 gs → length gs < 2 
 group-list-reads gs are few small place rest =
     let inside = group_texts gs in
     list-chain place (place + length (list_frame (length gs) inside)) (place + 12 + length inside) (length gs) gs
-        (list_frame (length gs) inside) inside rest
+    (list_frame (length gs) inside) inside rest
     (list-reads (length gs) place inside rest few small)
-        (alone (groups_on (length gs) 0 0 []) inside gs (groups-read 0 0 [] gs are) (place + 12))
+    (alone (groups_on (length gs) 0 0 []) inside gs (groups-read 0 0 [] gs are) (place + 12))

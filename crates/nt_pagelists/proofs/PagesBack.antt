@@ -53,7 +53,7 @@ item-again false count size place small some =
 item-chain : (cluster column place word size at : ℕ) (a b c rest : List ℕ) → ReadsAs (page_count_at cluster column) a word
     → ReadsAs (page_size_at cluster column place) b size → ReadsAs u64_at c at
     → page_item_at cluster column (standing place (a ++ (b ++ (c ++ rest))))
-        ≡ Ok (page_item_of word size at, standing (place + length a + length b + length c) rest)
+    ≡ Ok (page_item_of word size at, standing (place + length a + length b + length c) rest)
 unfolding page_item_at u64_at
 item-chain cluster column place word size at a b c rest p q r =
     rw (p place (b ++ (c ++ rest)), q (place + length a) (c ++ rest), r (place + length a + length b) rest) refl
@@ -66,13 +66,13 @@ item-reads cluster column p is place rest =
     let c = to_le_bytes w64 p.place in
     let grouped : (a ++ (b ++ c)) ++ rest ≡ a ++ (b ++ (c ++ rest)) = simp append_assoc in
     let end : place + length a + length b + length c ≡ place + length (a ++ (b ++ c)) =
-            omega (arith, length-append a (b ++ c), length-append b c) in
+    omega (arith, length-append a (b ++ c), length-append b c) in
     ap (λ (l : List ℕ). page_item_at cluster column (standing place l)) grouped
     ∙ (item-chain cluster column place word p.size p.place a b c rest
     (count-reads cluster column word (word-fits p.checked p.count is.count) (word-differs p.checked p.count is.count is.some))
     (size-reads cluster column place p.size is.size) (u64-reads p.place is.place)
     ∙ (ap (λ (x : PageItem). Ok (x, standing (place + length a + length b + length c) rest))
-        (item-again p.checked p.count p.size p.place is.count is.some)
+    (item-again p.checked p.count p.size p.place is.count is.some)
     ∙ ap (λ (k : ℕ). Ok (p, standing k rest)) end))
 
 pub items-read : (cluster column : ℕ) (pages ps : List PageItem) → ArePageItems ps
@@ -84,11 +84,11 @@ items-read cluster column pages (p ∷ ps) are place rest =
     let first = item-reads cluster column p are.0 place (page_item_texts ps ++ rest) in
     let others = items-read cluster column (pages ++ p ∷ []) ps are.1 (place + length (page_item_text p)) rest in
     let end : place + length (page_item_text p) + length (page_item_texts ps) ≡ place
-            + length (page_item_text p ++ page_item_texts ps) = omega (arith, length-append (page_item_text p) (page_item_texts ps)) in
+    + length (page_item_text p ++ page_item_texts ps) = omega (arith, length-append (page_item_text p) (page_item_texts ps)) in
     ap (λ (b : List ℕ). page_items_on cluster column (suc (length ps)) pages (standing place b))
-        (append_assoc (page_item_text p) (page_item_texts ps) rest)
+    (append_assoc (page_item_text p) (page_item_texts ps) rest)
     ∙ (ap (λ (x : Result (PageItem × At) ReadError). x >>= λ page. page_items_on cluster column (length ps) (pages ++ page.0
-        ∷ []) page.1) first
+    ∷ []) page.1) first
     ∙ (others ∙ (ap (λ (l : List PageItem). Ok (l, standing (place + length (page_item_text p) + length (page_item_texts ps)) rest))
-        (append_assoc pages (p ∷ []) ps)
+    (append_assoc pages (p ∷ []) ps)
     ∙ ap (λ (k : ℕ). Ok (pages ++ p ∷ ps, standing k rest)) end)))

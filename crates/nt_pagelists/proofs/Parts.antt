@@ -11,7 +11,7 @@ use Rattle.nt_format.proofs.Frames.{list_again}
 -- a list frame, and the place behind it
 pub list-reads : (n place : ℕ) (inside rest : List ℕ) → n < 2 ^ 32 → 12 + length inside < 2 ^ 63
     → list_at (standing place (list_frame n inside ++ rest))
-        ≡ Ok ((n, standing (place + 12) inside), standing (place + length (list_frame n inside)) rest)
+    ≡ Ok ((n, standing (place + 12) inside), standing (place + length (list_frame n inside)) rest)
 list-reads n place inside rest few small =
     let end : place + (12 + length inside) ≡ place + length (list_frame n inside) = omega arith in
     list_again n inside rest place few small ∙ ap (λ (k : ℕ). Ok ((n, standing (place + 12) inside), standing k rest)) end

@@ -23,12 +23,18 @@ use Rattle.nt_pagelists.specs.Books.{page_item}
 -- pages of a book can be told
 pub items-told : (meta : ClusterMeta) (payload : ℕ) (pages : List PageMeta) → payload + meta.len < 2 ^ 64 → meta.len ≤ 2 ^ 30
     → AllByRecursion (IsPageOf meta) pages → AllByRecursion (λ (p : PageMeta). 0 < p.count) pages
-        → ArePageItems (map (page_item payload) pages)
+    → ArePageItems (map (page_item payload) pages)
 items-told meta payload [] low short h some = tt
 items-told meta payload (p ∷ ps) low short h some =
-    let place = h.0.place in
-    (record { count = h.0.count; some = λ checked. some.0; size = omega (arith, place, short); place =
-        omega (arith, place, low) }, items-told meta payload ps low short h.1 some.1)
+    let place = h.0.place in (
+      record {
+        count = h.0.count;
+        some = λ checked. some.0;
+        size = omega (arith, place, short);
+        place = omega (arith, place, low);
+      },
+      items-told meta payload ps low short h.1 some.1,
+    )
 
 pub items-counted : (payload : ℕ) (pages : List PageMeta) → paged_elements (map (page_item payload) pages) ≡ element_count pages
 items-counted payload [] = refl
@@ -43,19 +49,19 @@ none-left payload (p ∷ ps) some e = absurd (omega (arith, some.0, e, sum_by-co
 -- the tests of a column with its pages, on plain numbers
 principal-plain : (o none : Bool) (from n f els before : ℕ) → f ≤ from → els ≡ n → (n ≡ 0 → none ≡ true)
     → (not (o && true && ltb from f && ltb f (from + n)) && ((not (o && true) || cond (eqb n 0 || ltb from f) none (eqb els n))
-        && (not o || eqb els 0 || eqb (f + before) (f + before)))) ≡ true
+    && (not o || eqb els 0 || eqb (f + before) (f + before)))) ≡ true
 principal-plain true none from n f els before le is empty = grind (arith, nat_tests, le, is, empty)
 principal-plain false none from n f els before le is empty = refl
 
 other-plain : (o none : Bool) (from n f els before : ℕ)
     → (not (o && false && ltb from f && ltb f (from + n)) && ((not (o && false) || cond (eqb n 0 || ltb from f) none (eqb els n))
-        && (not o || eqb els 0 || eqb (f + before) (f + before)))) ≡ true
+    && (not o || eqb els 0 || eqb (f + before) (f + before)))) ≡ true
 other-plain true none from n f els before = grind (arith, nat_tests)
 other-plain false none from n f els before = refl
 
 plain-sound : (o p none : Bool) (from n f els before : ℕ) → (p ≡ true → f ≤ from) → (p ≡ true → els ≡ n) → (p ≡ true → n ≡ 0 → none ≡ true)
     → (not (o && p && ltb from f && ltb f (from + n)) && ((not (o && p) || cond (eqb n 0 || ltb from f) none (eqb els n))
-        && (not o || eqb els 0 || eqb (f + before) (f + before)))) ≡ true
+    && (not o || eqb els 0 || eqb (f + before) (f + before)))) ≡ true
 plain-sound o true none from n f els before a b c = principal-plain o none from n f els before (a refl) (b refl) (c refl)
 plain-sound o false none from n f els before a b c = other-plain o none from n f els before
 
@@ -102,23 +108,31 @@ entries-le columns (suc k) (c ∷ cs) h =
 
 pub elements-fit : (book : BookData) (k column : ℕ) → IsBookKept book → elements_before (take k (book_clusters book)) column ≤ 2 ^ 59
 elements-fit book k column h =
-    omega (arith, h.end, elements-le (length book.firsts) column k (book_clusters book)
-        (all-of (IsKeptCluster (length book.firsts)) (book_clusters book) no_cluster h.clusters))
+    omega (
+      arith,
+      h.end,
+      elements-le (length book.firsts) column k (book_clusters book)
+          (all-of (IsKeptCluster (length book.firsts)) (book_clusters book) no_cluster h.clusters),
+    )
 
 pub entries-fit : (book : BookData) (k : ℕ) → IsBookKept book → first_entry book k ≤ 2 ^ 59
 entries-fit book k h =
-    omega (arith, h.end, entries-le (length book.firsts) k (book_clusters book)
-        (all-of (IsKeptCluster (length book.firsts)) (book_clusters book) no_cluster h.clusters))
+    omega (
+      arith,
+      h.end,
+      entries-le (length book.firsts) k (book_clusters book)
+          (all-of (IsKeptCluster (length book.firsts)) (book_clusters book) no_cluster h.clusters),
+    )
 
 -- one cluster more
 
 pub elements-more : (book : BookData) (k column : ℕ) → k < length (book_clusters book)
     → elements_before (take (k + 1) (book_clusters book)) column ≡ elements_before (take k (book_clusters book)) column
-        + listed_elements (cluster_at book k).meta column
+    + listed_elements (cluster_at book k).meta column
 elements-more book k column less =
     let same : suc k ≡ k + 1 = omega arith in
     ap (λ (l : List (Cluster ClusterMeta)). elements_before l column) (ap (λ (j : ℕ). take j (book_clusters book)) (sym same)
-        ∙ take-suc (book_clusters book) k no_cluster less)
+    ∙ take-suc (book_clusters book) k no_cluster less)
     ∙ sum_by_push (λ (c : Cluster ClusterMeta). listed_elements c.meta column) (take k (book_clusters book)) (cluster_at book k)
 
 pub entries-more : (book : BookData) (k : ℕ) → k < length (book_clusters book) → first_entry book (k + 1) ≡ first_entry book k
@@ -126,7 +140,7 @@ pub entries-more : (book : BookData) (k : ℕ) → k < length (book_clusters boo
 entries-more book k less =
     let same : suc k ≡ k + 1 = omega arith in
     ap (λ (l : List (Cluster ClusterMeta)). entry_count l) (ap (λ (j : ℕ). take j (book_clusters book)) (sym same)
-        ∙ take-suc (book_clusters book) k no_cluster less)
+    ∙ take-suc (book_clusters book) k no_cluster less)
     ∙ sum_by_push (λ (c : Cluster ClusterMeta). c.meta.entries) (take k (book_clusters book)) (cluster_at book k)
 
 -- few enough pages for a list frame

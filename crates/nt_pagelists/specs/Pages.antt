@@ -1,8 +1,6 @@
 -- The pages of a column in a cluster, read from bytes (RNTuple Binary Format Specification 1.0.0.0, section Page Locations). A
--- reading answers
--- what stands there and the place behind it, or the first fault in the order of the bytes; a fault stands where the last byte is
--- that shows it.
--- What a frame has behind the contents that are known is skipped.
+-- reading answers what stands there and the place behind it, or the first fault in the order of the bytes; a fault stands where the
+-- last byte is that shows it. What a frame has behind the contents that are known is skipped.
 use Rattle.std.specs.Prelude.{ℕ, zero, suc, ◌-◌, ◌^◌, ◌==◌, List, [], ◌∷◌, ◌++◌, length, slice_index_or, nat_le, if◌then◌else◌, Result, Ok}
 use Rattle.std.specs.Prelude.{Err}
 use Rattle.std.specs.Int.{w32, w64, cast_signed}

@@ -17,8 +17,11 @@ use Rattle.nt_pagelists.specs.Writing.{ListedColumn, ListedCluster, column_list_
 abbrev pub column_lists_from : ℕ → List ListedColumn → List ColumnList
 column_lists_from place [] = []
 column_lists_from place (c ∷ cs) =
-    record { inner = place; offset = cast_signed w64 c.offset; pages =
-        c.pages } ∷ column_lists_from (place + length (column_list_text c)) cs
+    record {
+      inner = place;
+      offset = cast_signed w64 c.offset;
+      pages = c.pages;
+    } ∷ column_lists_from (place + length (column_list_text c)) cs
 
 -- what is read of a cluster whose frame begins at this place
 abbrev pub cluster_list_from : ℕ → ListedCluster → ClusterList

@@ -27,8 +27,12 @@ column_metas page place (c ∷ cs) = page_metas c.kind place (chunks page c.elem
 
 -- what is kept of the cluster of these columns; the first page has place 0, and the room counts in the length
 abbrev pub cluster_meta : ℕ → ℕ → ℕ → List Column → ClusterMeta
-cluster_meta page context entries cs = record { context = context; entries = entries; len = length (image page cs); pages =
-    column_metas page 0 cs }
+cluster_meta page context entries cs = record {
+  context = context;
+  entries = entries;
+  len = length (image page cs);
+  pages = column_metas page 0 cs;
+}
 
 -- what lies at the place of a page: its bytes and its checksum
 abbrev pub stored_at : List ℕ → PageMeta → List ℕ

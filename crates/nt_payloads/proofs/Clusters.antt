@@ -125,8 +125,7 @@ cluster_is k columns elements here bytes = reword
           frame = t.frame;
           few = t.few;
           size = t.size;
-          is =
-              t.is.1.items;
+          is = t.is.1.items;
         };
       };
       first = t.is.1.first;

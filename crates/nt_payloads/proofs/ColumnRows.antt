@@ -147,7 +147,6 @@ column_is fields here bytes = reword
       more = t.is.more;
       frame = t.is.frame;
       size = t.is.size;
-      is =
-          record { is = t.is.is; row = t.row };
+      is = record { is = t.is.is; row = t.row };
     })
     (column_steps fields here bytes)

@@ -125,8 +125,7 @@ column_steps k id c before here bytes =
             parts = sym (append-nil p.is.index);
             is_first = record {
               is = subst (λ (z : ℤ). IndexText p.is.index z) (sym back) p.is.is_index;
-              fits =
-                  (of_z_fits w64 l.offset fits).fits;
+              fits = (of_z_fits w64 l.offset fits).fits;
               stored = p.stored;
             };
             is_second = record { middle = tt; first = p.sound; second = record { none = refl; is = made } };

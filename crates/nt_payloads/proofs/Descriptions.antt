@@ -72,8 +72,7 @@ columns_on_are fields (suc n) rows here bytes =
       others = p.others;
       parts = p.parts;
       is_first = record { is = p.is_first; row = s.1.0 };
-      are_others =
-          (p.are_others, s.1.1);
+      are_others = (p.are_others, s.1.1);
     })
     (seq_open _ bytes (column_is fields here bytes) λ c m fm. columns_on_are fields n (rows ++ c ∷ []) m fm)
 
@@ -121,8 +120,7 @@ skipped here bytes = in_words
     (λ l i. record {
       text = list_frame l.0.0 l.0.1.left;
       takes = i.frame;
-      is =
-          record { frame = refl; few = i.items; size = i.size; begins = i.place };
+      is = record { frame = refl; few = i.items; size = i.size; begins = i.place };
     })
     (λ l s. subst (λ (k : ℕ). IsList here l.0.0 (standing k l.0.1.left) l.1) (sym s.is.begins)
     (list_there here l.1 l.0.0 l.0.1.left s.text bytes s.takes s.is.frame s.is.few s.is.size))
@@ -180,8 +178,7 @@ rows_are old_fields old_columns here bytes = reword to from (rows_steps old_fiel
               frame = f.frame;
               few = f.few;
               size = f.size;
-              is =
-                  record { len = f.is.len; series = f.is.such.0 };
+              is = record { len = f.is.len; series = f.is.such.0 };
             };
             are_columns = record {
               count = c.count;
@@ -190,24 +187,21 @@ rows_are old_fields old_columns here bytes = reword to from (rows_steps old_fiel
               frame = c.frame;
               few = c.few;
               size = c.size;
-              is =
-                  record { len = c.is.len; series = c.is.such.0 };
+              is = record { len = c.is.len; series = c.is.such.0 };
             };
             are_aliases = record {
               count = v.head.0;
               inside = v.head.1.left;
               frame = v.is_first.frame;
               few = v.is_first.few;
-              size =
-                  v.is_first.size;
+              size = v.is_first.size;
             };
             are_types = record {
               count = w.head.0;
               inside = w.head.1.left;
               frame = w.is_first.frame;
               few = w.is_first.few;
-              size =
-                  w.is_first.size;
+              size = w.is_first.size;
             };
           };
           behind = record {
@@ -235,8 +229,7 @@ rows_are old_fields old_columns here bytes = reword to from (rows_steps old_fiel
           frame = f.frame;
           few = f.few;
           size = f.size;
-          is =
-              record { more = t.rows.0; is = refl; len = f.is.len; such = (f.is.series, t.behind.ids) };
+          is = record { more = t.rows.0; is = refl; len = f.is.len; such = (f.is.series, t.behind.ids) };
         })
         (both (old_columns ++ t.rows.1) d.columns (d.aliases ++ (d.types ++ []))
         (record {
@@ -246,8 +239,7 @@ rows_are old_fields old_columns here bytes = reword to from (rows_steps old_fiel
           frame = c.frame;
           few = c.few;
           size = c.size;
-          is =
-              record { more = t.rows.1; is = refl; len = c.is.len; such = (c.is.series, t.behind.owners) };
+          is = record { more = t.rows.1; is = refl; len = c.is.len; such = (c.is.series, t.behind.owners) };
         })
         (both (a.count, standing (n + 12) a.inside) d.aliases (d.types ++ [])
         (record { frame = a.frame; few = a.few; size = a.size; begins = refl })

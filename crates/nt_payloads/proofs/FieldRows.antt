@@ -151,7 +151,6 @@ field_is id here bytes = reword
       more = t.is.more;
       frame = t.is.frame;
       size = t.is.size;
-      is =
-          record { is = t.is.is; row = t.row };
+      is = record { is = t.is.is; row = t.row };
     })
     (field_steps id here bytes)

@@ -202,8 +202,7 @@ footer sum t place payload bytes = in_words to from (steps sum t (standing place
           takes = record {
             parts = parts;
             place = refl;
-            bytes =
-                part_bytes front i.more [] payload bytes (parts ∙ ap (λ (y : List ℕ). front ++ y) (sym (append-nil i.more)));
+            bytes = part_bytes front i.more [] payload bytes (parts ∙ ap (λ (y : List ℕ). front ++ y) (sym (append-nil i.more)));
           };
           is = record {
             head = 0;
@@ -236,8 +235,7 @@ footer sum t place payload bytes = in_words to from (steps sum t (standing place
                         frame = l.frame;
                         few = l.few;
                         size = l.size;
-                        is =
-                            record { items = l.is; behind = i.behind };
+                        is = record { items = l.is; behind = i.behind };
                       });
                   is_second = record { none = refl; is = refl };
                 };

@@ -73,8 +73,7 @@ opens_front place known more bytes =
     record {
       parts = refl;
       place = refl;
-      bytes =
-          part_bytes known more [] (known ++ more) bytes (ap (λ (l : List ℕ). known ++ l) (sym (append-nil more)));
+      bytes = part_bytes known more [] (known ++ more) bytes (ap (λ (l : List ℕ). known ++ l) (sym (append-nil more)));
     }
 
 pub in_record : {V : Type 0} {Inside : ℕ → List ℕ → V → Type 0} {here : At} (f : At × At → Result (V × At) ReadError) → IsBytes here.left

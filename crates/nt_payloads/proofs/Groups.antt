@@ -57,8 +57,7 @@ link_is frame here bytes = reword to from (link_steps frame here bytes)
         subst (λ (k : Link). LinkText here.place text k) (sym v.is_second.is)
         (record {
           is = whole;
-          fits =
-              record { length = t.is_first.fits; at = record { size = leb-false _ _ v.is_first.0; place = v.is_first.1.fits } };
+          fits = record { length = t.is_first.fits; at = record { size = leb-false _ _ v.is_first.0; place = v.is_first.1.fits } };
         })
 
     from : (text : List ℕ) (l : Link) → LinkText here.place text l → LinkSteps here.place text l
@@ -136,8 +135,7 @@ group_steps entries clusters here bytes = in_record _ bytes λ inside after fi. 
             begins = eqb-true _ _ t.is_first.1;
             low = ltb-true _ _ u.is_first.1;
             few = ltb-true _ _ v.is_first.1;
-            leads =
-                w.is_first.fits;
+            leads = w.is_first.fits;
           };
         } in (
           subst (λ (g : Group). GroupIs entries clusters inside.place text g) (sym (ap (λ (p : Group × At). p.0) w.is_second.is)) made,
@@ -189,16 +187,14 @@ group_is : (entries clusters : ℕ) (here : At) → IsBytes here.left
 group_is entries clusters here bytes = reword
     (λ text g t. record {
       is = record { known = t.known; more = t.more; frame = t.frame; size = t.size; is = t.is.is };
-      behind =
-          t.is.behind;
+      behind = t.is.behind;
     })
     (λ text g t. record {
       known = t.is.known;
       more = t.is.more;
       frame = t.is.frame;
       size = t.is.size;
-      is =
-          record { is = t.is.is; behind = t.behind };
+      is = record { is = t.is.is; behind = t.behind };
     })
     (group_steps entries clusters here bytes)
 
@@ -223,8 +219,7 @@ groups_on_are (suc n) entries clusters before here bytes =
       others = p.others;
       parts = p.parts;
       is_first = record { is = p.is_first; behind = s.1.0 };
-      are_others =
-          (p.are_others, s.1.1);
+      are_others = (p.are_others, s.1.1);
     })
     (seq _ bytes (group_is entries clusters here bytes) λ g m fm. groups_on_are n (entries + g.span) (clusters + g.clusters)
     (before ++ g ∷ []) m fm)

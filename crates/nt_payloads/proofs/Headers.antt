@@ -92,8 +92,7 @@ header place payload bytes = in_words to from (steps (standing place payload) by
           takes = record {
             parts = parts;
             place = refl;
-            bytes =
-                part_bytes front i.more [] payload bytes (parts ∙ ap (λ (x : List ℕ). front ++ x) (sym (append-nil i.more)));
+            bytes = part_bytes front i.more [] payload bytes (parts ∙ ap (λ (x : List ℕ). front ++ x) (sym (append-nil i.more)));
           };
           is = both 0 a (b ++ (c ++ (d ++ (i.description ++ [])))) (record { is = refl; fits = omega arith }, refl)
               (both i.name b (c ++ (d ++ (i.description ++ []))) (record { is = refl; fits = i.name_fits })

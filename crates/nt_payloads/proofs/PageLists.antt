@@ -76,8 +76,7 @@ summaries_back number (c ∷ cs) place text (and_item {text = a} {texts = b} fir
       more = first.more;
       frame = first.frame;
       size = first.size;
-      is =
-          record { parts = first.is.parts; first = first.is.first; entries = first.is.entries };
+      is = record { parts = first.is.parts; first = first.is.first; entries = first.is.entries };
     })
     (summaries_back (number + 1) cs (place + length a) b others)
 
@@ -121,8 +120,7 @@ listed sum g columns p place payload bytes = in_words to from (steps sum g colum
               is = record {
                 len = len
                     ∙ s.is.items.len;
-                series =
-                    summary_texts columns p.elements ks all.0 fit (place + length a + 12) s.known s.is.items.series;
+                series = summary_texts columns p.elements ks all.0 fit (place + length a + 12) s.known s.is.items.series;
               };
             });
             are_clusters = subst (λ (at : ℕ). InList (Items ClusterText) (at + length b) c all.0) eight (record {

@@ -68,8 +68,7 @@ item_of word size place false e fits differs small low =
     subst (IsItemOf word) (sym found)
     (record {
       back = refl;
-      is =
-          record { count = leb-false _ _ e; some = λ s. absurd (true≢false (sym s)); size = small; place = low };
+      is = record { count = leb-false _ _ e; some = λ s. absurd (true≢false (sym s)); size = small; place = low };
     })
 
 abbrev CountWord : ℕ → List ℕ → ℕ → Type 0
@@ -158,8 +157,7 @@ items cluster column (suc n) pages here bytes =
       first = page_item_text p;
       others = page_item_texts ps;
       parts = s.0;
-      is_first =
-          record { is = refl; fits = s.1.0 };
+      is_first = record { is = refl; fits = s.1.0 };
       are_others = (refl, s.1.1);
     })
     (seq _ bytes (item cluster column here bytes) λ p m fm. items cluster column n (pages ++ p ∷ []) m fm)

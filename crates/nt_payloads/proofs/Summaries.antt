@@ -100,8 +100,7 @@ summary_is : (number entries : ℕ) (here : At) → IsBytes here.left
 summary_is number entries here bytes = reword
     (λ text k t. record {
       is = record { known = t.known; more = t.more; frame = t.frame; size = t.size; is = t.is.is };
-      number_is =
-          t.is.number_is;
+      number_is = t.is.number_is;
       begins = t.is.begins;
     })
     (λ text k t. record {
@@ -109,8 +108,7 @@ summary_is number entries here bytes = reword
       more = t.is.more;
       frame = t.is.frame;
       size = t.is.size;
-      is =
-          record { is = t.is.is; number_is = t.number_is; begins = t.begins };
+      is = record { is = t.is.is; number_is = t.number_is; begins = t.begins };
     })
     (summary_steps number entries here bytes)
 

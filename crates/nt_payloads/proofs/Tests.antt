@@ -29,8 +29,7 @@ tested {V = V} {E = E} {r = r} {Text = Text} {here = here} b e p = in_words
     (λ y w. record {
       text = w.first.text;
       takes = subst (λ (x : V × At). Takes here w.first.text x.1) (sym w.second.1) w.first.takes;
-      is =
-          subst (λ (x : V × At). Text w.first.text x.0 × (b x.0 ≡ true)) (sym w.second.1) (w.first.is, w.second.0);
+      is = subst (λ (x : V × At). Text w.first.text x.0 × (b x.0 ≡ true)) (sym w.second.1) (w.first.is, w.second.0);
     })
     (λ y s. record { middle = y; first = record { text = s.text; takes = s.takes; is = s.is.0 }; second = (s.is.1, refl) })
     (bind _ p λ w h. kept (b w.0) w (e w))
@@ -43,8 +42,7 @@ tested_not {V = V} {E = E} {r = r} {Text = Text} {here = here} b e p = in_words
     (λ y w. record {
       text = w.first.text;
       takes = subst (λ (x : V × At). Takes here w.first.text x.1) (sym w.second.1) w.first.takes;
-      is =
-          subst (λ (x : V × At). Text w.first.text x.0 × (b x.0 ≡ false)) (sym w.second.1) (w.first.is, w.second.0);
+      is = subst (λ (x : V × At). Text w.first.text x.0 × (b x.0 ≡ false)) (sym w.second.1) (w.first.is, w.second.0);
     })
     (λ y s. record { middle = y; first = record { text = s.text; takes = s.takes; is = s.is.0 }; second = (s.is.1, refl) })
     (bind _ p λ w h. kept_not (b w.0) w (e w))
@@ -116,14 +114,12 @@ map_open h a = in_words
       text = w.first.text;
       rest = w.first.rest;
       takes = w.first.takes;
-      is =
-          record { middle = w.middle; first = w.first.is; second = w.second };
+      is = record { middle = w.middle; first = w.first.is; second = w.second };
     })
     (λ y o. record {
       middle = o.is.middle;
       first = record { text = o.text; rest = o.rest; takes = o.takes; is = o.is.first };
-      second =
-          o.is.second;
+      second = o.is.second;
     })
     (bind _ a λ x p. exactly (h x))
 

@@ -133,8 +133,7 @@ done {V = V} {E = E} {here = here} made bytes = record {
       record {
         text = [];
         takes = subst (λ (a : At). Takes here [] a) (ap (λ (p : V × At). p.1) same) (takes_none here bytes);
-        is =
-            record { none = refl; is = value };
+        is = record { none = refl; is = value };
       };
 }
 
@@ -145,8 +144,7 @@ done_open {V = V} {E = E} {here = here} made bytes = record {
     text = [];
     rest = here;
     takes = takes_none here bytes;
-    is =
-        record { none = refl; is = sym (ok_is {E = E} made y e) };
+    is = record { none = refl; is = sym (ok_is {E = E} made y e) };
   };
 }
 
@@ -160,13 +158,11 @@ check_open f p q = in_words
       text = w.second.text;
       rest = w.second.rest;
       takes = w.second.takes;
-      is =
-          record { middle = w.middle; first = w.first; second = w.second.is };
+      is = record { middle = w.middle; first = w.first; second = w.second.is };
     })
     (λ y o. record {
       middle = o.is.middle;
       first = o.is.first;
-      second =
-          record { text = o.text; rest = o.rest; takes = o.takes; is = o.is.second };
+      second = record { text = o.text; rest = o.rest; takes = o.takes; is = o.is.second };
     })
     (bind f p q)

@@ -182,7 +182,7 @@ named-lies fs cs up id name k e =
     let test = some_if (one_column up (leaf_types found.0) own) (Some found.0) k found.2 in
     let lies : Lies fs cs found.0 id =
     found_one (LiesAsLeaf fs cs up id) (λ (s : ShapeData). bytes_eq name (cpp_name s)) leaves found.0 (leaves-lie fs cs up id)
-        found.1 test.0 in
+    found.1 test.0 in
     subst (λ (s : ShapeData). Lies fs cs s id) (some_is found.0 k test.1) lies
 
 -- the two columns of a text

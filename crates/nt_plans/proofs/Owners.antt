@@ -193,7 +193,7 @@ mutual
       let under : Under fs 1 id child = first-inside fs id (ids_inside id 0 fs) (ids-inside fs id) l.2 in (
         false_from_ne_true (has (place fs cs k child) (first_column cs id))
             (λ h. own-apart fs cs top level id child (first_column cs id) t u under l.0
-                (place-owner fs cs k child (first_column cs id) l.3 h)),
+            (place-owner fs cs k child (first_column cs id) l.3 h)),
         place-differ fs cs top (1 + level) k child t (under-join fs 1 level (1 + level) id top child refl under u) l.3,
       )
   place-differ fs cs top level (fields ps) id t u l =

@@ -8,8 +8,7 @@ use Rattle.nt_tfile.specs.declared.failure.ReadFailure.TheVariants.{Defect, Memo
 use Rattle.nt_files.specs.Envelopes.{payload_start}
 
 -- the failure is that of the payload of the envelope at this place, its fault counted from the file's beginning; a place past 2^64,
--- which no
--- machine holds, is want of memory
+-- which no machine holds, is want of memory
 abbrev pub IsInPayload : ℕ → MetaError → ReadFailure → Type 0
 IsInPayload place (payload.Defect e) failure = (failure ≡ Defect (moved (place + payload_start) e)) ⊎ (failure ≡ Memory)
 IsInPayload place payload.Memory failure = failure ≡ Memory

@@ -14,7 +14,7 @@ pub cpp_name-tuple : (s : Shapes) → cpp_name (shape_view (Tuple s))
 cpp_name-tuple s =
     ap (λ (x : Shape). cpp_name (shape_view x)) (sym (rolls-Tuple s))
     ∙ ap cpp_name (fold-roll-Shape ShapeData MemberData (List MemberData) (List ShapeData) shape_step member_step members_step
-        shapes_step (Shape-F.Tuple s))
+    shapes_step (Shape-F.Tuple s))
 
 -- three pieces, one behind the other
 pub three : {A : Type 0} (a p q r b c d : List A) → b ≡ a ++ p → c ≡ b ++ q → d ≡ c ++ r → d ≡ a ++ (p ++ (q ++ r))

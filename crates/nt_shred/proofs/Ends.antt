@@ -46,7 +46,7 @@ pub end-fits-at : (bs : List Buffer) (k : ℕ) (b : Buffer) (n : ℕ) → IsEnds
 end-fits-at bs k b n e at h =
     let same = (framed bs k b e.0 0 at e.1).0 in
     subst (λ c. n < 2 ^ bits_of c) (sym same) (end-fits (set_frame bs) e.0 n e.2
-        (λ narrow. narrow-found (set_frame bs) k (e.0, 0) e.1 narrow) h)
+    (λ narrow. narrow-found (set_frame bs) k (e.0, 0) e.1 narrow) h)
 
 -- ---- whether some are narrow, a column at a time
 

@@ -48,7 +48,7 @@ other_way e c h = ne_eqb e c (λ (q : e ≡ c). true≢false (sym (eq-eqb c e (s
 either_adds : (p : PlanData) (ps : PlansData) (t : TreeData) (ts : TreesData) (cols : Cols) (k : ℕ)
     → (has p k ≡ true → has_any ps k ≡ false) → length (put_tree p t cols k) ≤ length (cols k) + most t
     → length (put_trees ps ts (put_tree p t cols) k) ≤ length (put_tree p t cols k)
-        + most_of_any ts → length (put_trees ps ts (put_tree p t cols) k) ≤ length (cols k) + max (most t) (most_of_any ts)
+    + most_of_any ts → length (put_trees ps ts (put_tree p t cols) k) ≤ length (cols k) + max (most t) (most_of_any ts)
 either_adds p ps t ts cols k other first rest = go (cases_Bool (has p k))
   where
     go : (has p k ≡ true) ⊎ (has p k ≡ false) → length (put_trees ps ts (put_tree p t cols) k) ≤ length (cols k)
@@ -63,16 +63,16 @@ mutual
   tree_adds (text e c) (trees.text s) cols d =
       let up : AddsUpTo (length s) cols (add_to c (map plain s) cols) = λ k. omega (arith, adds c (map plain s) cols k, length-plain s) in
       one_more e (last_end (cols e) + length s) 0 (length s) cols (add_to c (map plain s) cols) up
-          (ap length (add_to-elsewhere c (map plain s) cols e (other_way e c d)))
+      (ap length (add_to-elsewhere c (map plain s) cols e (other_way e c d)))
   tree_adds (list e p) (items ts) cols d =
       one_more e (last_end (cols e) + how_many_trees ts) 0 (most_of_all ts) cols (put_each (put_tree p) ts cols)
-          (all_adds p (λ t cs. tree_adds p t cs d.1) ts cols)
-            (ap length (put_each-elsewhere (put_tree p) e (λ t cs. put_tree-elsewhere p t cs e d.0) ts cols))
+      (all_adds p (λ t cs. tree_adds p t cs d.1) ts cols)
+      (ap length (put_each-elsewhere (put_tree p) e (λ t cs. put_tree-elsewhere p t cs e d.0) ts cols))
   tree_adds (record_of ps) (parts ts) cols d = trees_add ps ts cols d
   tree_adds (choice s ps) nothing cols d = adds s ((0, 0) ∷ []) cols
   tree_adds (choice s ps) (pick tag t) cols d =
       one_more s (count_tag tag (cols s)) tag (most t) cols (put_one ps tag t cols) (one_adds ps tag t cols d.1)
-          (ap length (put_one-elsewhere ps tag t cols s d.0))
+      (ap length (put_one-elsewhere ps tag t cols s d.0))
   tree_adds _ _ cols d = λ k. omega arith
 
   pub trees_add : (ps : PlansData) (ts : TreesData) (cols : Cols) → AllDiffer ps → AddsUpTo (most_of_any ts) cols (put_trees ps ts cols)

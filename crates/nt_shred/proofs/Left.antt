@@ -92,12 +92,12 @@ each-first ps all p qs t rest start now l =
 
 pub each-next : (ps : PlansData) (all : TreesData) (p : PlanData) (qs : PlansData) (t : TreeData) (rest : TreesData)
     (start now new : List Buffer) → LeftEach ps all (plan p qs) (tree t rest) start now → Gains (put_tree p t) now new
-      → LeftEach ps all qs rest start new
+    → LeftEach ps all qs rest start new
 each-next ps all p qs t rest start now new l g =
     let r = l.ready in
     let q = and_parts (fits_plan p t) (fit_plans qs rest) r.fitting in
     let sound = all_sound-agrees qs (cols_of now) (put_tree p t (cols_of now)) r.size
-            (λ j i. put_tree-elsewhere p t (cols_of now) j (other_side (has p j) (has_any qs j) (r.differ.2 j) i)) r.sound.1 in
+    (λ j i. put_tree-elsewhere p t (cols_of now) j (other_side (has p j) (has_any qs j) (r.differ.2 j) i)) r.sound.1 in
     record {
       ready = record {
         size = r.size;

@@ -38,7 +38,7 @@ set-kept rows old new same s = record {
 pub set-count : (rows : List ColumnRow) (bs : List Buffer) → IsSetOf rows (columns_of bs) → length bs ≡ length rows
 set-count rows bs s =
     sym (length-map bs (λ (b : Buffer). b.column)) ∙ sym (length-map (columns_of bs) (λ (c : Column). code_of c.kind))
-        ∙ ap length s.described ∙ length-map rows (λ (r : ColumnRow). r.code)
+    ∙ ap length s.described ∙ length-map rows (λ (r : ColumnRow). r.code)
 
 pub entry-of : (t : Table) (ts : TreesData) (bs : List Buffer) → AllDiffer (open_plans t) → AllHaveTypes t.columns (open_plans t)
     → IsEntryOf t ts bs → IsEntry (open_plans t) ts bs

@@ -41,7 +41,7 @@ frame-set [] k b new es at is = refl
 frame-set (x ∷ bs) zero b new es at is =
     let same : x ≡ b = cc in
     ap (λ (c : Column). (c.kind, c.zeros) ∷ set_frame bs) is
-        ∙ ap (λ (y : Buffer). (y.column.kind, y.column.zeros) ∷ set_frame bs) (sym same)
+    ∙ ap (λ (y : Buffer). (y.column.kind, y.column.zeros) ∷ set_frame bs) (sym same)
 frame-set (x ∷ bs) (suc k) b new es at is = ap (λ l. (x.column.kind, x.column.zeros) ∷ l) (frame-set bs k b new es at is)
 
 capacity-set : (bs : List Buffer) (k : ℕ) (b new : Buffer) (es : List Element) → slice_get bs k ≡ Some b
@@ -96,9 +96,11 @@ pub framed : (bs : List Buffer) (k : ℕ) (b : Buffer) (c : ColumnType) (z : ℕ
 framed [] k b c z at is = absurd (cc)
 framed (x ∷ bs) zero b c z at is =
     let same : x ≡ b = cc in
-    let both : (x.column.kind, x.column.zeros) ≡ (c, z) = cc in
-    (ap (λ (y : Buffer). y.column.kind) (sym same) ∙ ap (λ (p : ColumnType × ℕ). p.0) both, ap (λ (y : Buffer). y.column.zeros)
-        (sym same) ∙ ap (λ (p : ColumnType × ℕ). p.1) both)
+    let both : (x.column.kind, x.column.zeros) ≡ (c, z) = cc in (
+      ap (λ (y : Buffer). y.column.kind) (sym same) ∙ ap (λ (p : ColumnType × ℕ). p.0) both,
+      ap (λ (y : Buffer). y.column.zeros)
+          (sym same) ∙ ap (λ (p : ColumnType × ℕ). p.1) both,
+    )
 framed (x ∷ bs) (suc k) b c z at is = framed bs k b c z at is
 
 pub frame-within : (bs : List Buffer) (k : ℕ) (f : ColumnType × ℕ) → slice_get (set_frame bs) k ≡ Some f → k < length bs

@@ -76,8 +76,10 @@ module _ (bs : List Buffer) (rows : List ColumnRow) (d : AreDescribed (columns_o
     pub typed-takes : (p : PlanData) → HasTypes rows p → Takes p (set_frame bs)
     typed-takes (bool k) h = (Bit, typed k Bit h, (λ e. absurd (omega (arith, ap bits_of e))), refl)
     typed-takes (number k bits signed) h = ((h.of, typed k h.of h.type_is, h.no_tags, h.width), h.is_width)
-    typed-takes (text e c) h = ((h.0.of, typed e h.0.of h.0.type_is, h.0.is_index),
-        (Char, typed c Char h.1, (λ e. absurd (omega (arith, ap bits_of e))), refl))
+    typed-takes (text e c) h = (
+      (h.0.of, typed e h.0.of h.0.type_is, h.0.is_index),
+      (Char, typed c Char h.1, (λ e. absurd (omega (arith, ap bits_of e))), refl),
+    )
     typed-takes (list e p) h = ((h.0.of, typed e h.0.of h.0.type_is, h.0.is_index), typed-takes p h.1)
     typed-takes (record_of ps) h = (h.0, all-typed-take ps h.1)
     typed-takes (choice k ps) h = (typed k Switch h.0, all-typed-take ps h.2)

@@ -72,6 +72,6 @@ pub list-fails : (told : List ℕ) (d : Directory) (e : ReadFailure) (out : Read
 unfolding anchor_key_of
 list-fails told d e out named f =
     fails (λ l. l) (λ k. k) e (piece_or (fault bad_key_list d.keys) told d.keys d.keys_len) _
-        (subst (λ (o : ReadError). IsReadOrFails {V = At} (λ l. l) (Err e) (piece_or o told d.keys d.keys_len)) named f)
+    (subst (λ (o : ReadError). IsReadOrFails {V = At} (λ l. l) (Err e) (piece_or o told d.keys d.keys_len)) named f)
 
 pub ruleset chain_steps = (header-fails, directory-fails, key-fails, anchor-done)

@@ -26,7 +26,7 @@ take_least n m l e = ap (λ (k : ℕ). take k l) e ∙ take_min m l
 take-both : (n m : ℕ) (l : List ℕ) → take (n + m) l ≡ take n l ++ take m (drop n l)
 take-both n m l =
     sym (take-append-drop n (take (n + m) l)) ∙ ap (λ (b : List ℕ). b ++ drop n (take (n + m) l))
-        (take-take n (n + m) l (omega arith)) ∙ ap (λ (b : List ℕ). take n l ++ b) (drop-take n m l)
+    (take-take n (n + m) l (omega arith)) ∙ ap (λ (b : List ℕ). take n l ++ b) (drop-take n m l)
 
 take_twice : (n m : ℕ) (l : List ℕ) → take (min n m) l ≡ take n (take m l)
 take_twice n m l =
@@ -52,11 +52,11 @@ pub cut_read : (old buf items now pad post tail : List ℕ) (k n step len : ℕ)
 cut_read old buf items now pad post tail k n step len cut grown count size long =
     let front : take k now ≡ old =
     ap (λ (l : List ℕ). take k l) (grown ∙ ap (λ (l : List ℕ). l ++ pad) (take_all (k + step) old (omega (arith, count))))
-        ∙ take_at old pad k (sym count) in
+    ∙ take_at old pad k (sym count) in
     let whole : len ≡ length (old ++ buf) = omega (arith, long, count, size, length-append old buf) in
     let inner : take len ((take k now ++ (buf ++ post)) ++ tail) ≡ old ++ buf =
     ap (λ (l : List ℕ). take len ((l ++ (buf ++ post)) ++ tail)) front ∙ ap (λ (l : List ℕ). take len (l ++ tail))
-        (sym (append_assoc old buf post))
+    (sym (append_assoc old buf post))
     ∙ ap (λ (l : List ℕ). take len l) (append_assoc (old ++ buf) post tail) ∙ take_at (old ++ buf) (post ++ tail) len (sym whole) in
     cut ∙ ap (λ (l : List ℕ). take (k + n) l) inner ∙ ap (λ (j : ℕ). take (j + n) (old ++ buf)) count ∙ take-append-add old buf n
 
@@ -139,7 +139,7 @@ unfolding object_of
 object-outside told key u out e at plain named there is =
     let piece_is : piece_or (fault out_of_file key.place) told (key.place + key.header_len) 78 ≡ Err e =
     ap (λ (f : ReadError). piece_or f told (key.place + key.header_len) 78) (sym named) ∙ ap (λ (k : ℕ). piece_or out told k 78)
-        (sym there) ∙ is in
+    (sym there) ∙ is in
     rw (plain, piece_is) refl
 
 pub object-read : (told : List ℕ) (key : Key) (u : Unit {0}) (out : ReadError) (at : ℕ) (object : At) (r : Result Anchor ReadError)
@@ -149,7 +149,7 @@ unfolding object_of
 object-read told key u out at object r plain named there is read =
     let piece_is : piece_or (fault out_of_file key.place) told (key.place + key.header_len) 78 ≡ Ok object =
     ap (λ (f : ReadError). piece_or f told (key.place + key.header_len) 78) (sym named) ∙ ap (λ (k : ℕ). piece_or out told k 78)
-        (sym there) ∙ is in
+    (sym there) ∙ is in
     rw (plain, piece_is) read
 
 pub object-far : (told : List ℕ) (key : Key) (u : Unit {0}) (out : ReadError) (size : ℕ) → is_plain key ≡ Ok u
@@ -157,7 +157,7 @@ pub object-far : (told : List ℕ) (key : Key) (u : Unit {0}) (out : ReadError) 
     → size < key.place + key.header_len → anchor_at key told ≡ Err out
 object-far told key u out size plain named sized far =
     object-outside told key u out out (key.place + key.header_len) plain named refl
-        (piece_past out told (key.place + key.header_len) 78 size sized (omega (arith, far)))
+    (piece_past out told (key.place + key.header_len) 78 size sized (omega (arith, far)))
 
 -- the steps of the anchor's reading
 pub ruleset read_steps = (header-read, directory-read, key-read, key-outside, object-plain, object-outside, object-read, object-far)

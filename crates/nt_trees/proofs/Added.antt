@@ -25,7 +25,7 @@ use Rattle.nt_trees.proofs.Leaves.{IsAdded, flag_added, number_added, text_added
 pub all_added : (p : PlanData) → ((t : TreeData) (cols : Cols) (n : ℕ) → Sound p cols n → fits_plan p t ≡ true → IsAdded p t cols n)
     → (ts : TreesData) (cols : Cols) (m : ℕ) → Sound p cols m
     → all_trees (fits_plan p) ts ≡ true → Sound p (put_each (put_tree p) ts cols) (m + how_many_trees ts)
-        × (AllHaveBytes ts → trees_from (tree_at p (put_each (put_tree p) ts cols)) m (how_many_trees ts) ≡ ts)
+    × (AllHaveBytes ts → trees_from (tree_at p (put_each (put_tree p) ts cols)) m (how_many_trees ts) ≡ ts)
 all_added p each no_trees cols m s h = (subst (Sound p cols) (omega arith) s, λ b. refl)
 all_added p each (tree t ts) cols m s h =
     let q = and_parts (fits_plan p t) (all_trees (fits_plan p) ts) h in
@@ -48,13 +48,13 @@ list_added e p ts cols n fresh each s h =
     let all = all_added p each ts cols m s.2 h in
     let is : new e ≡ cols e ++ plain (m + k) ∷ [] =
     add_to-here e (plain (m + k) ∷ []) mid ∙ ap (λ l. l ++ plain (m + k) ∷ [])
-        (put_each-elsewhere (put_tree p) e (λ t cs. put_tree-elsewhere p t cs e fresh) ts cols) in
+    (put_each-elsewhere (put_tree p) e (λ t cs. put_tree-elsewhere p t cs e fresh) ts cols) in
     let sound_mid : Sound p new (m + k) = sound-agrees p mid new (m + k)
-            (λ j i. add_to-elsewhere e (plain (m + k) ∷ []) mid j (apart (has p) e j fresh i)) all.0 in
+    (λ j i. add_to-elsewhere e (plain (m + k) ∷ []) mid j (apart (has p) e j fresh i)) all.0 in
     let at_n : begin_at (new e) n ≡ m = ap (λ l. begin_at l n) is ∙ ap (begin_at (cols e ++ plain (m + k) ∷ [])) (sym s.0)
-            ∙ old_end (cols e) (m + k) 0 in
+    ∙ old_end (cols e) (m + k) 0 in
     let at_end : begin_at (new e) (suc n) ≡ m + k = ap (λ l. begin_at l (suc n)) is
-            ∙ ap (λ i. begin_at (cols e ++ plain (m + k) ∷ []) (suc i)) (sym s.0) ∙ new_number (cols e) (m + k) 0 in
+    ∙ ap (λ i. begin_at (cols e ++ plain (m + k) ∷ []) (suc i)) (sym s.0) ∙ new_number (cols e) (m + k) 0 in
     let span : (m + k) - m ≡ k = omega arith in (
       (
         ap length is ∙ longer (cols e) (m + k) 0 ∙ ap suc s.0,
@@ -63,7 +63,7 @@ list_added e p ts cols n fresh each s h =
       ),
       λ b. (λ i. items (trees_from (tree_at p new) (at_n i) (at_end i - at_n i))) ∙ ap (λ l. items (trees_from (tree_at p new) m l)) span
           ∙ ap items (trees_from-same _ _ m k (λ x l u. tree_at-stays p mid new (m + k) x
-              (add_to-extends e (plain (m + k) ∷ []) mid) all.0 u) ∙ all.1 b),
+          (add_to-extends e (plain (m + k) ∷ []) mid) all.0 u) ∙ all.1 b),
     )
 
 -- ---- choices
@@ -104,9 +104,11 @@ nothing_added k ps cols n fresh s =
     let new = add_to k ((0, 0) ∷ []) cols in
     let is : new k ≡ cols k ++ (0, 0) ∷ [] = add_to-here k ((0, 0) ∷ []) cols in
     let each = each_sound-agrees 0 ps (cols k) (new k) cols new (λ j i. add_to-elsewhere k ((0, 0) ∷ []) cols j
-            (apart (has_any ps) k j fresh i)) (λ t h. ap (count_tag t) is ∙ count_tag-other (cols k) 0 0 t (λ e. omega arith)) s.3 in
-    (choice_sound k ps cols new n 0 0 is s (omega arith) (λ some. absurd (omega (arith, some))) each, λ b. choice_tree k ps cols
-        new n 0 0 is s.0)
+    (apart (has_any ps) k j fresh i)) (λ t h. ap (count_tag t) is ∙ count_tag-other (cols k) 0 0 t (λ e. omega arith)) s.3 in (
+      choice_sound k ps cols new n 0 0 is s (omega arith) (λ some. absurd (omega (arith, some))) each,
+      λ b. choice_tree k ps cols
+          new n 0 0 is s.0,
+    )
 
 mutual
   pub added : (p : PlanData) (t : TreeData) (cols : Cols) (n : ℕ) → Differ p → Sound p cols n → fits_plan p t ≡ true → IsAdded p t cols n
@@ -121,11 +123,11 @@ mutual
       let mid = put_one ps tag t cols in
       let new = add_to k ((x, tag) ∷ []) mid in
       let is : new k ≡ cols k ++ (x, tag) ∷ [] = add_to-here k ((x, tag) ∷ []) mid
-              ∙ ap (λ l. l ++ (x, tag) ∷ []) (put_one-elsewhere ps tag t cols k d.0) in
+      ∙ ap (λ l. l ++ (x, tag) ∷ []) (put_one-elsewhere ps tag t cols k d.0) in
       let one = one_added ps 0 tag tag x (cols k) t cols d.1 (omega arith) s.3 g in
       let agrees : Agree (has_any ps) mid new = λ j i. add_to-elsewhere k ((x, tag) ∷ []) mid j (apart (has_any ps) k j d.0 i) in
       let stays = one_at-stays ps 0 tag tag (cols k ++ (x, tag) ∷ []) mid new x (omega arith) (add_to-extends k ((x, tag) ∷ []) mid)
-              one.0 (omega (arith, count_tag-same (cols k) x tag tag refl)) in
+      one.0 (omega (arith, count_tag-same (cols k) x tag tag refl)) in
       let each = each_sound-agrees 0 ps (cols k ++ (x, tag) ∷ []) (new k) mid new agrees (λ u h. ap (count_tag u) is) one.0 in (
         choice_sound k ps cols new n x tag is s (tag_within ps tag t g) (λ some. refl) each,
         λ b. choice_tree k ps cols new n x tag is s.0
@@ -145,7 +147,7 @@ mutual
       let new = put_trees ps ts mid in
       let first = added p t cols n d.0 s.0 q.0 in
       let rest = each_added ps ts mid n d.1 (all_sound-agrees ps cols mid n
-              (λ j i. put_tree-elsewhere p t cols j (other_side (has p j) (has_any ps j) (d.2 j) i)) s.1) q.1 in (
+      (λ j i. put_tree-elsewhere p t cols j (other_side (has p j) (has_any ps j) (d.2 j) i)) s.1) q.1 in (
         (sound-agrees p mid new (suc n) (λ j i. put_trees-elsewhere ps ts mid j (d.2 j i)) first.0, rest.0),
         λ b. ap₂ tree (tree_at-stays p mid new (suc n) n (put_trees-extends ps ts mid) first.0 (omega arith) ∙ first.1 b.0) (rest.1 b.1),
       )
@@ -154,7 +156,7 @@ mutual
   pub one_added : (ps : PlansData) (before tag whole x : ℕ) (es : List Element) (t : TreeData) (cols : Cols) → AllDiffer ps
       → whole ≡ before + tag → EachSound before ps es cols → fits_alternative ps tag t ≡ true
       → EachSound before ps (es ++ (x, whole) ∷ []) (put_one ps tag t cols)
-          × (HasBytes t → one_at ps tag (put_one ps tag t cols) (count_tag whole es) ≡ t)
+      × (HasBytes t → one_at ps tag (put_one ps tag t cols) (count_tag whole es) ≡ t)
   one_added no_plans before tag whole x es t cols d is s h = absurd (false≢true h)
   one_added (plan p ps) before zero whole x es t cols d is s h = absurd (false≢true h)
   one_added (plan p ps) before (suc zero) whole x es t cols d is s h =
@@ -164,7 +166,7 @@ mutual
           subst (Sound p (put_tree p t cols)) (sym (count_tag-same es x whole (suc before) same)) first.0,
           each_sound-agrees (suc before) ps es _ cols (put_tree p t cols)
               (λ j i. put_tree-elsewhere p t cols j (other_side (has p j) (has_any ps j) (d.2 j) i))
-                (λ u l. count_tag-other es x whole u (λ e. omega arith)) s.1,
+              (λ u l. count_tag-other es x whole u (λ e. omega arith)) s.1,
         ),
         λ b. ap (λ u. tree_at p (put_tree p t cols) (count_tag u es)) same ∙ first.1 b,
       )

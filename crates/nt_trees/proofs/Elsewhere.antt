@@ -30,11 +30,11 @@ mutual
   put_tree-elsewhere (text e c) (trees.text s) cols j h =
       let q = or_parts (j == e) (j == c) h in
       add_to-elsewhere e (plain (last_end (cols e) + length s) ∷ []) (add_to c (map plain s) cols) j q.0
-          ∙ add_to-elsewhere c (map plain s) cols j q.1
+      ∙ add_to-elsewhere c (map plain s) cols j q.1
   put_tree-elsewhere (list e p) (items ts) cols j h =
       let q = or_parts (j == e) (has p j) h in
       add_to-elsewhere e (plain (last_end (cols e) + how_many_trees ts) ∷ []) (put_each (put_tree p) ts cols) j q.0
-          ∙ put_each-elsewhere (put_tree p) j (λ t cs. put_tree-elsewhere p t cs j q.1) ts cols
+      ∙ put_each-elsewhere (put_tree p) j (λ t cs. put_tree-elsewhere p t cs j q.1) ts cols
   put_tree-elsewhere (record_of ps) (parts ts) cols j h = put_trees-elsewhere ps ts cols j h
   put_tree-elsewhere (choice s ps) nothing cols j h = add_to-elsewhere s ((0, 0) ∷ []) cols j (or_parts (j == s) (has_any ps j) h).0
   put_tree-elsewhere (choice s ps) (pick tag t) cols j h =
@@ -89,9 +89,12 @@ mutual
       let at_c = a c (or_right (c == e) (c == c) (same_key c)) in
       (ap length at_e ∙ s.0, subst Rises (sym at_e) s.1, ap length at_c ∙ s.2 ∙ ap last_end (sym at_e))
   sound-agrees (list e p) old new n a s =
-      let at_e = a e (or_left (e == e) (has p e) (same_key e)) in
-      (ap length at_e ∙ s.0, subst Rises (sym at_e) s.1, subst (λ es. Sound p new (last_end es)) (sym at_e)
-          (sound-agrees p old new _ (λ j h. a j (or_right (j == e) (has p j) h)) s.2))
+      let at_e = a e (or_left (e == e) (has p e) (same_key e)) in (
+        ap length at_e ∙ s.0,
+        subst Rises (sym at_e) s.1,
+        subst (λ es. Sound p new (last_end es)) (sym at_e)
+            (sound-agrees p old new _ (λ j h. a j (or_right (j == e) (has p j) h)) s.2),
+      )
   sound-agrees (record_of ps) old new n a s = all_sound-agrees ps old new n a s
   sound-agrees (choice k ps) old new n a s =
       let at_k = a k (or_left (k == k) (has_any ps k) (same_key k)) in (

@@ -85,7 +85,7 @@ mutual
       let index = number_at-stays old new k i x inside in
       (λ j. picked (tag j) (λ t. one_at ps t new (index j)))
       ∙ picked-same (tag_at (old k) i) _ _ (λ some. one_at-stays ps 0 (tag_at (old k) i) (tag_at (old k) i) (old k) old new _
-          (omega arith) x s.3 (index-within (old k) s.2 i inside some))
+      (omega arith) x s.3 (index-within (old k) s.2 i inside some))
 
   pub each_at-stays : (ps : PlansData) (old new : Cols) (n i : ℕ) → Extends old new → AllSound ps old n → i < n
       → each_at ps new i ≡ each_at ps old i

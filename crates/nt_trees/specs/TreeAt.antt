@@ -1,6 +1,6 @@
--- The tree at an element of a field: what the columns of a cluster say there. It is a total function; it is the value of the
--- field where the columns are sound.
--- RNTuple Binary Format Specification 1.0.0.0, sections Column Description and Mapping of C++ Types to Fields and Columns.
+-- The tree at an element of a field: what the columns of a cluster say there. It is a total function; it is the value of the field
+-- where the columns are sound. RNTuple Binary Format Specification 1.0.0.0, sections Column Description and Mapping of C++ Types to
+-- Fields and Columns.
 use Rattle.std.specs.Prelude.{ℕ, zero, suc, ◌-◌, List, take, drop}
 use Rattle.nt_types.specs.TreeData.{TreeData, TreesData, flag, num, items, parts, pick, nothing, no_trees, tree}
 use Rattle.nt_types.specs.TreeData as trees

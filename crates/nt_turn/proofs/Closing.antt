@@ -25,8 +25,8 @@ use Rattle.nt_turn.proofs.Moves.{Rule}
 
 module _ {V E B : Type 0} (history : V → List E) (born : V → B) (context : E → ℕ) (birth : B) (seats next serving : ℕ)
     (homes : List (Maybe (Option V))) (views : List (View E B)) (o : Ordered next serving homes (stages views))
-      (h : Histories history born context birth seats homes views) (id : ℕ) (turn : TableId) (v : View E B) (at : IsAt views id v)
-        (idle : v.stage ≡ Idle) (one : v.number ≡ seats) (all : AllJoined (pass_state turn v)) where
+    (h : Histories history born context birth seats homes views) (id : ℕ) (turn : TableId) (v : View E B) (at : IsAt views id v)
+    (idle : v.stage ≡ Idle) (one : v.number ≡ seats) (all : AllJoined (pass_state turn v)) where
   firsts : (v.splits ≡ h.splits) × (v.kept ≡ h.kept)
   firsts = h.first id v at one
 
@@ -48,7 +48,7 @@ module _ {V E B : Type 0} (history : V → List E) (born : V → B) (context : E
         | inr other ↦
             let o = h.others by u (there, live) other in
             all u.number (let m = firsts.0 in let less = o.0 in omega arith)
-                (subst (λ (k : List (ℕ × List E)). HasNone k u.number) (sym firsts.1) o.1)
+            (subst (λ (k : List (ℕ × List E)). HasNone k u.number) (sym firsts.1) o.1)
       ]
 
   at_home : IsHome homes
@@ -65,8 +65,8 @@ module _ {V E B : Type 0} (history : V → List E) (born : V → B) (context : E
           kept = subst (λ (k : List (ℕ × List E)). AllByRecursion (λ (p : ℕ × List E). p.1 ≡ entries_of context (history y.0) p.0)
               k) (sym firsts.1)
               (All-weaker (λ (k : ℕ × List E). (k.0 < h.splits) × (k.1 ≡ entries_of context h.all k.0)) (λ (k : ℕ × List E). k.1
-                  ≡ entries_of context (history y.0) k.0) (λ k p. p.1 ∙ ap (λ (l : List E). entries_of context l k.0) (sym y.2))
-                    h.kept h.joins);
+              ≡ entries_of context (history y.0) k.0) (λ k p. p.1 ∙ ap (λ (l : List E). entries_of context l k.0) (sym y.2))
+              h.kept h.joins);
           others = λ n ne has. ap (λ (l : List E). entries_of context l n) y.2 ∙ h.unused n (above n ne has);
           birth = (h.each id v at).birth ∙ ap (λ (b : B). Some b) (sym y.3);
         },
@@ -86,11 +86,11 @@ module _ {V E B : Type 0} (history : V → List E) (born : V → B) (context : E
   pub found : (id : ℕ) (turn : TableId) (me : Me (Option V) (View E B)) (words : List ℕ) (slots : List (Option V)) → IsIdle me
       → me.0.number ≡ seats → AllJoined (pass_state turn me.0)
       → Final (Seen (Rule history born context birth seats) id me.0) words slots → (y : Option V) → get_elem? slots 0
-          ≡ some y → (x : V) × (y ≡ Some x) × Closes history born context (pass_state turn me.0) x
+      ≡ some y → (x : V) × (y ≡ Some x) × Closes history born context (pass_state turn me.0) x
   found id turn me words slots idle one all final y there =
       let s = final.0 in
       let kept = final.1.0 in
       let c = closes history born context birth seats kept.0 kept.1 s.homes s.views kept.3 kept.4 id turn me.0
-              (final.1.1, idle.live) idle.stage one all in
+      (final.1.1, idle.live) idle.stage one all in
       let home : get_elem? slots 0 ≡ some (Some c.0) = final.4 0 (Some c.0) (ap (λ (l : List (Maybe (Option V))). get_elem? l 0) c.1) in
       (c.0, some-injective _ _ (sym there ∙ home), c.2)

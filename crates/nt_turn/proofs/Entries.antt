@@ -18,7 +18,7 @@ module _ {E : Type 0} (context : E → ℕ) where
   entries_of-none_own n m [] are ne = refl
   entries_of-none_own n m (e ∷ es) are ne =
       ap (λ b. cond b (e ∷ entries_of context es m) (entries_of context es m))
-          (ne_eqb (context e) m (λ same. ne (sym same ∙ are.0))) ∙ entries_of-none_own n m es are.1 ne
+      (ne_eqb (context e) m (λ same. ne (sym same ∙ are.0))) ∙ entries_of-none_own n m es are.1 ne
 
   pub entries_of-own : (n : ℕ) (all more : List E) → AllByRecursion (λ e. context e ≡ n) more → entries_of context (all ++ more) n
       ≡ entries_of context all n ++ more
@@ -29,7 +29,7 @@ module _ {E : Type 0} (context : E → ℕ) where
       → entries_of context (all ++ more) m ≡ entries_of context all m
   entries_of-other n m all more are ne =
       filter-append (λ e. context e == m) all more ∙ (ap (λ w. entries_of context all m ++ w) (entries_of-none_own n m more are ne)
-          ∙ append-nil (entries_of context all m))
+      ∙ append-nil (entries_of context all m))
 
 -- what is kept of other numbers stays true
 pub All-more : {K : Type 0} (P Q R : K → Type 0) → ((k : K) → P k → Q k → R k) → (ks : List K) → AllByRecursion P ks

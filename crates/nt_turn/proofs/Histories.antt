@@ -36,7 +36,7 @@ pub record Stood {E B : Type 0} (views : List (View E B)) (by : ℕ) (u : View E
 
 module _ {V E B : Type 0} (history : V → List E) (born : V → B) (context : E → ℕ) (birth : B) (seats : ℕ)
     (homes : List (Maybe (Option V))) (views : List (View E B)) (h : Histories history born context birth seats homes views)
-      (id : ℕ) (v : View E B) (at : IsAt views id v) where
+    (id : ℕ) (v : View E B) (at : IsAt views id v) where
   -- of a view after a change: it is the new one, or it stood there before
   pub who : (w : View E B) (by : ℕ) (u : View E B) → IsAt (set views id w) by u → ((by ≡ id) × (w ≡ u)) ⊎ ((by ≢ id) × IsAt views by u)
   who w by u e = ⊎_elim (λ p. inl p) (λ p. inr (p.0, (p.1, e.1))) (at_set views id by w u e.0)
@@ -61,9 +61,11 @@ module _ {V E B : Type 0} (history : V → List E) (born : V → B) (context : E
         (λ p. ⊎_elim (λ q. h.apart i id u v p.1 at (n ∙ sym (number x q.1)) ∙ sym q.0) (λ q. h.apart i j u x p.1 q.1 n) (who w j x f))
         (who w i u e);
     first = λ by u e n. ⊎_elim
-        (λ p. let old = h.first id v at (number u p.1 ∙ n) in
-            (ap (λ (x : View E B). x.splits) (sym p.1) ∙ (same.splits ∙ old.0), ap (λ (x : View E B). x.kept) (sym p.1)
-              ∙ (same.kept ∙ old.1)))
+        (λ p. let old = h.first id v at (number u p.1 ∙ n) in (
+          ap (λ (x : View E B). x.splits) (sym p.1) ∙ (same.splits ∙ old.0),
+          ap (λ (x : View E B). x.kept) (sym p.1)
+              ∙ (same.kept ∙ old.1),
+        ))
         (λ p. h.first by u p.1 n) (who w by u e);
     others = λ by u e n. ⊎_elim
         (λ p. subst (λ (k : ℕ). (k < h.splits) × HasNone h.kept k) (number u p.1) (h.others id v at (λ s. n (sym (number u p.1) ∙ s))))
@@ -76,8 +78,12 @@ module _ {V E B : Type 0} (history : V → List E) (born : V → B) (context : E
       old_knows = h.each id v at
 
       knows : Knows context birth h.all w
-      knows = record { seen = seen; told = told; own = same.own ∙ (old_knows.own ∙ ap (entries_of context h.all) (sym same.number));
-          birth = same.birth ∙ old_knows.birth }
+      knows = record {
+        seen = seen;
+        told = told;
+        own = same.own ∙ (old_knows.own ∙ ap (entries_of context h.all) (sym same.number));
+        birth = same.birth ∙ old_knows.birth;
+      }
 
       number : (u : View E B) → w ≡ u → v.number ≡ u.number
       number u e = sym same.number ∙ ap (λ (x : View E B). x.number) e
@@ -122,9 +128,10 @@ module _ {V E B : Type 0} (history : V → List E) (born : V → B) (context : E
         (λ p. ⊎_elim (λ q. h.apart i id u v p.1 at (n ∙ sym (number y q.1)) ∙ sym q.0) (λ q. h.apart i j u y p.1 q.1 n) (who w j y f))
         (who w i u e);
     first = λ by u e n. ⊎_elim
-        (λ p. let old = h.first id v at (number u p.1 ∙ n) in
-            (ap (λ (y : View E B). y.splits) (sym p.1) ∙ (ap (λ (y : View E B). y.splits) w_is ∙ old.0),
-              ap (λ (y : View E B). y.kept) (sym p.1) ∙ (ap (λ (y : View E B). y.kept) w_is ∙ old.1)))
+        (λ p. let old = h.first id v at (number u p.1 ∙ n) in (
+          ap (λ (y : View E B). y.splits) (sym p.1) ∙ (ap (λ (y : View E B). y.splits) w_is ∙ old.0),
+          ap (λ (y : View E B). y.kept) (sym p.1) ∙ (ap (λ (y : View E B). y.kept) w_is ∙ old.1),
+        ))
         (λ p. h.first by u p.1 n) (who w by u e);
     others = λ by u e n. ⊎_elim
         (λ p. subst (λ (k : ℕ). (k < h.splits) × HasNone h.kept k) (number u p.1) (h.others id v at (λ s. n (sym (number u p.1) ∙ s))))
@@ -150,14 +157,22 @@ module _ {V E B : Type 0} (history : V → List E) (born : V → B) (context : E
       knows : Knows context birth (history x) w
       knows =
           let old = h.each id v at in
-          subst (Knows context birth (history x)) (sym w_is) (record { seen = ([], append-nil (history x)); told =
-              longer_all v.told old.told; own = refl; birth = old.birth })
+          subst (Knows context birth (history x)) (sym w_is) (record {
+            seen = ([], append-nil (history x));
+            told = longer_all v.told old.told;
+            own = refl;
+            birth = old.birth;
+          })
 
       later : (by : ℕ) (u : View E B) → by ≢ id → IsAt views by u → Knows context birth (history x) u
       later by u off e =
           let old = h.each by u e in
-          record { seen = longer_all u.seen old.seen; told = longer_all u.told old.told; own =
-              old.own ∙ sym (elsewhere u.number (differs by u off e)); birth = old.birth }
+          record {
+            seen = longer_all u.seen old.seen;
+            told = longer_all u.told old.told;
+            own = old.own ∙ sym (elsewhere u.number (differs by u off e));
+            birth = old.birth;
+          }
 
       idle : (s : ℕ) → w.stage ≡ Holding s → ⊥
       idle s e = let both : Idle ≡ Holding s = ap (λ (y : View E B). y.stage) (sym w_is) ∙ e in cc both

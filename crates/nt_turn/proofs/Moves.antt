@@ -43,7 +43,7 @@ module _ {V E B : Type 0} (history : V → List E) (born : V → B) (context : E
       → List (View E B) → List ℕ → Type 0
   Goes id me i f then homes views words =
       (w : View E B) × (a : Act (Option V)) × Valid homes me.1 a × InTurn history born context birth seats
-          (slice_set words i (f (slice_index words i))) (homes_after homes me.1 a) (slice_set views id w)
+      (slice_set words i (f (slice_index words i))) (homes_after homes me.1 a) (slice_set views id w)
       × then (slice_index words i) (w, carried_after me.1 a)
 
   -- a change of the stage alone leads from stages to stages
@@ -53,13 +53,13 @@ module _ {V E B : Type 0} (history : V → List E) (born : V → B) (context : E
 
   module _ (slots id next serving : ℕ) (homes : List (Maybe (Option V))) (views : List (View E B))
       (o : Ordered next serving homes (stages views)) (h : Histories history born context birth seats homes views) (v : View E B)
-        (at : IsAt views id v) where
+      (at : IsAt views id v) where
     knows : Knows context birth h.all v
     knows = h.each id v at
 
     draw_goes : (old : ℕ) → old + 1 < 2 ^ 64 → v.stage ≡ Idle → (b : Bool) → (next == old) ≡ b
         → Goes id (v, []) 0 (λ n. either (n == old) (old + 1) n) (Drew (step slots 0 old (old + 1) none) (v, [])) homes views
-            (next ∷ serving ∷ [])
+        (next ∷ serving ∷ [])
     draw_goes old room idle true is =
         let same : next ≡ old = grind (arith, nat_tests) in
         let fits : next + 1 < 2 ^ 64 = omega arith in
@@ -68,8 +68,14 @@ module _ {V E B : Type 0} (history : V → List E) (born : V → B) (context : E
         let said : Drew (step slots 0 old (old + 1) none) (v, []) next (w, []) = rw is refl in
         let idle_at : get_elem? (stages views) id ≡ some Idle = stage_at views id v at.0 ∙ ap some idle in
         let tickets = restaged (next + 1) serving homes views id w (drawn next serving homes (stages views) o id fits idle_at) in
-        let kept = moved history born context birth seats homes views h id v at w (record { live = refl; number = refl; own =
-                refl; birth = refl; splits = refl; kept = refl }) knows.seen knows.told (λ t e. absurd (waits next t e)) homes (λ y e. e) in
+        let kept = moved history born context birth seats homes views h id v at w (record {
+          live = refl;
+          number = refl;
+          own = refl;
+          birth = refl;
+          splits = refl;
+          kept = refl;
+        }) knows.seen knows.told (λ t e. absurd (waits next t e)) homes (λ y e. e) in
         (w, keeps, tt, (next + 1, serving, ap (λ (k : ℕ). k ∷ serving ∷ []) word, tickets, kept), said)
       where
         waits : (s t : ℕ) → Waiting s ≡ Holding t → ⊥
@@ -77,9 +83,14 @@ module _ {V E B : Type 0} (history : V → List E) (born : V → B) (context : E
     draw_goes old room idle false is =
         let word : either (next == old) (old + 1) next ≡ next = rw is refl in
         let stay : set views id v ≡ views = set_again views id v at.0 in
-        let said : Drew (step slots 0 old (old + 1) none) (v, []) next (v, []) = rw is refl in
-        (v, keeps, tt, subst (InTurn history born context birth seats (either (next == old) (old + 1) next ∷ serving ∷ []) homes)
-            (sym stay) (next, serving, ap (λ (k : ℕ). k ∷ serving ∷ []) word, o, h), said)
+        let said : Drew (step slots 0 old (old + 1) none) (v, []) next (v, []) = rw is refl in (
+          v,
+          keeps,
+          tt,
+          subst (InTurn history born context birth seats (either (next == old) (old + 1) next ∷ serving ∷ []) homes)
+              (sym stay) (next, serving, ap (λ (k : ℕ). k ∷ serving ∷ []) word, o, h),
+          said,
+        )
 
     -- nobody else holds the value while this pass does
     alone : (t : ℕ) → v.stage ≡ Holding t → (by s : ℕ) (u : View E B) → by ≢ id → IsAt views by u → u.stage ≡ Holding s → ⊥
@@ -94,20 +105,26 @@ module _ {V E B : Type 0} (history : V → List E) (born : V → B) (context : E
     look_goes t waits true is =
         let same : serving ≡ t = grind (arith, nat_tests) in
         let own : get_elem? (stages views) id ≡ some (Waiting serving) =
-                stage_at views id v at.0 ∙ (ap some waits ∙ ap (λ (k : ℕ). some (Waiting k)) (sym same)) in
+        stage_at views id v at.0 ∙ (ap some waits ∙ ap (λ (k : ℕ). some (Waiting k)) (sym same)) in
         let home : IsHome homes = ⊎_elim (λ x. x) (λ x. absurd (clash x.1.0 x.1.1 own)) o.home in
         let x = h.home home.0 home.1 in
         let out : slice_set homes 0 none ≡ none ∷ [] = ap (λ (l : List (Maybe (Option V))). slice_set l 0 none) home.1 in
         let w : View E B = record v { stage = Holding serving; seen = history x.0 } in
         let tickets : Ordered {A = Option V} next serving (none ∷ []) (stages (set views id w)) =
-                restaged next serving (none ∷ []) views id w (taken next serving homes (stages views) o id home.0 home.1 own) in
+        restaged next serving (none ∷ []) views id w (taken next serving homes (stages views) o id home.0 home.1 own) in
         let whole : IsPrefix (history x.0) h.all = ([], append-nil (history x.0) ∙ x.2) in
-        let kept = moved history born context birth seats homes views h id v at w (record { live = refl; number = refl; own =
-                refl; birth = refl; splits = refl; kept = refl }) whole knows.told (λ s e. x.2) (none ∷ []) (λ y e. absurd (empty y e)) in
+        let kept = moved history born context birth seats homes views h id v at w (record {
+          live = refl;
+          number = refl;
+          own = refl;
+          birth = refl;
+          splits = refl;
+          kept = refl;
+        }) whole knows.told (λ s e. x.2) (none ∷ []) (λ y e. absurd (empty y e)) in
         let both : Ordered next serving (slice_set homes 0 none) (stages (set views id w))
-                × Histories history born context birth seats (slice_set homes 0 none) (set views id w)
+        × Histories history born context birth seats (slice_set homes 0 none) (set views id w)
         = subst (λ (l : List (Maybe (Option V))). Ordered next serving l (stages (set views id w))
-            × Histories history born context birth seats l (set views id w)) (sym out) (tickets, kept) in
+        × Histories history born context birth seats l (set views id w)) (sym out) (tickets, kept) in
         let ticket : ticket_of v.stage ≡ serving = ap ticket_of waits ∙ sym same in
         let found : (serving == ticket_of v.stage) ≡ true = ap (λ (k : ℕ). serving == k) (ap ticket_of waits) ∙ is in
         let told : Holds history born context (ticket_of v.stage) (v, []) (w, (0, home.0) ∷ []) = record {
@@ -126,36 +143,41 @@ module _ {V E B : Type 0} (history : V → List E) (born : V → B) (context : E
         clash by e own =
             let same : by ≡ id = o.apart by id serving (Holding serving) (Waiting serving) e own refl refl in
             let both : some (Holding serving) ≡ some (Waiting serving) =
-                    sym e ∙ (ap (get_elem? (stages views)) same ∙ own) in cc (some-injective _ _ both)
+            sym e ∙ (ap (get_elem? (stages views)) same ∙ own) in cc (some-injective _ _ both)
 
         empty : (y : Option V) → none ∷ [] ≡ some y ∷ [] → ⊥
         empty y e = let both : none ≡ some y = cc e in some-ne-none y (sym both)
     look_goes t waits false is =
         let stay : set views id v ≡ views = set_again views id v at.0 in
-        let said : Looked history born context (step slots 1 0 0 none) (v, []) serving (v, []) = rw (waits, is) refl in
-        (v, keeps, tt, subst (InTurn history born context birth seats (next ∷ serving ∷ []) homes) (sym stay)
-            (next, serving, refl, o, h), said)
+        let said : Looked history born context (step slots 1 0 0 none) (v, []) serving (v, []) = rw (waits, is) refl in (
+          v,
+          keeps,
+          tt,
+          subst (InTurn history born context birth seats (next ∷ serving ∷ []) homes) (sym stay)
+              (next, serving, refl, o, h),
+          said,
+        )
 
     give_goes : (t : ℕ) → v.stage ≡ Holding t → (x : V) (more : List E) → history x ≡ v.seen ++ more
         → AllByRecursion (λ e. context e ≡ v.number) more → born x ≡ birth
         → Goes id (v, (0, Some x) ∷ []) 1 (λ n. (n + 1) % 2 ^ 64)
-            (Gave history context (step slots 1 1 0 none) (v, (0, Some x) ∷ [])) homes views (next ∷ serving ∷ [])
+        (Gave history context (step slots 1 1 0 none) (v, (0, Some x) ∷ [])) homes views (next ∷ serving ∷ [])
     give_goes t holds x more is ours birth_is =
         let held : get_elem? (stages views) id ≡ some (Holding t) = stage_at views id v at.0 ∙ ap some holds in
         let out = o.holding id t held in
         let own : get_elem? (stages views) id ≡ some (Holding serving) = held ∙ ap (λ (k : ℕ). some (Holding k)) out.0 in
         let back : slice_set homes 0 (some (Some x)) ≡ some (Some x) ∷ [] =
-                ap (λ (l : List (Maybe (Option V))). slice_set l 0 (some (Some x))) out.1 in
+        ap (λ (l : List (Maybe (Option V))). slice_set l 0 (some (Some x))) out.1 in
         let below = (o.range id serving (Holding serving) own refl).1 in
         let word : (serving + 1) % 2 ^ 64 ≡ serving + 1 = omega (arith, below, o.fits) in
         let w : View E B = record v { stage = Idle; seen = history x; own = entries_of context (history x) v.number } in
         let tickets = restaged next (serving + 1) (some (Some x) ∷ []) views id w
-                (given next serving homes (stages views) o id (Some x) own) in
+        (given next serving homes (stages views) o id (Some x) own) in
         let kept = gave history born context birth seats homes views h id v at t holds x more is ours birth_is (alone t holds) w refl in
         let both : Ordered next (serving + 1) (slice_set homes 0 (some (Some x))) (stages (set views id w))
-                × Histories history born context birth seats (slice_set homes 0 (some (Some x))) (set views id w)
+        × Histories history born context birth seats (slice_set homes 0 (some (Some x))) (set views id w)
         = subst (λ (l : List (Maybe (Option V))). Ordered next (serving + 1) l (stages (set views id w))
-            × Histories history born context birth seats l (set views id w)) (sym back) (tickets, kept) in
+        × Histories history born context birth seats l (set views id w)) (sym back) (tickets, kept) in
         (w, gives, tt, (next, serving + 1, ap (λ (k : ℕ). next ∷ k ∷ []) word, both.0, both.1), refl)
 
     learn_goes : (s : Stage) → v.stage ≡ s → ((t : ℕ) → s ≡ Holding t → ⊥)
@@ -165,16 +187,22 @@ module _ {V E B : Type 0} (history : V → List E) (born : V → B) (context : E
         let w : View E B = record v { seen = longer v.seen v.told; told = [] } in
         let again : set (stages views) id v.stage ≡ stages views = set_again (stages views) id v.stage (stage_at views id v at.0) in
         let tickets = restaged next serving homes views id w (subst (λ (l : List Stage). Ordered next serving homes l) (sym again) o) in
-        let kept = moved history born context birth seats homes views h id v at w (record { live = refl; number = refl; own =
-                refl; birth = refl; splits = refl; kept = refl }) long.2 (prefix_none h.all)
-                  (λ t e. absurd (free t (sym stage ∙ e))) homes (λ y e. e) in
+        let kept = moved history born context birth seats homes views h id v at w (record {
+          live = refl;
+          number = refl;
+          own = refl;
+          birth = refl;
+          splits = refl;
+          kept = refl;
+        }) long.2 (prefix_none h.all)
+        (λ t e. absurd (free t (sym stage ∙ e))) homes (λ y e. e) in
         (w, keeps, tt, (next, serving, refl, tickets, kept), record { is = refl; seen = long.0; told = long.1 })
 
   pub draws : (slots id old : ℕ) (v : View E B) → v.live ≡ true → v.stage ≡ Idle → old + 1 < 2 ^ 64
       → Allows Rule slots id (v, []) 0 (λ n. either (n == old) (old + 1) n) (Drew (step slots 0 old (old + 1) none) (v, []))
   draws slots id old v live idle room s kept len at fits =
       subst (Goes id (v, []) 0 (λ n. either (n == old) (old + 1) n) (Drew (step slots 0 old (old + 1) none) (v, [])) s.homes
-          s.views) (sym kept.2)
+      s.views) (sym kept.2)
       (draw_goes slots id kept.0 kept.1 s.homes s.views kept.3 kept.4 v (at, live) old room idle (kept.0 == old) refl)
 
   pub looks : (slots id t : ℕ) (v : View E B) → v.live ≡ true → v.stage ≡ Waiting t
@@ -187,12 +215,12 @@ module _ {V E B : Type 0} (history : V → List E) (born : V → B) (context : E
       → history x ≡ v.seen ++ more
       → AllByRecursion (λ e. context e ≡ v.number) more → v.birth ≡ Some (born x)
       → Allows Rule slots id (v, (0, Some x) ∷ []) 1 (λ n. (n + 1) % 2 ^ 64)
-          (Gave history context (step slots 1 1 0 none) (v, (0, Some x) ∷ []))
+      (Gave history context (step slots 1 1 0 none) (v, (0, Some x) ∷ []))
   gives_back slots id t v x more live holds is ours birth_is s kept len at fits =
       let old : v.birth ≡ Some birth = (kept.4.each id v (at, live)).birth in
       let same : born x ≡ birth = cc (birth_is, old) in
       subst (Goes id (v, (0, Some x) ∷ []) 1 (λ n. (n + 1) % 2 ^ 64)
-          (Gave history context (step slots 1 1 0 none) (v, (0, Some x) ∷ [])) s.homes s.views) (sym kept.2)
+      (Gave history context (step slots 1 1 0 none) (v, (0, Some x) ∷ [])) s.homes s.views) (sym kept.2)
       (give_goes slots id kept.0 kept.1 s.homes s.views kept.3 kept.4 v (at, live) t holds x more is ours same)
 
   pub learns : (slots id : ℕ) (v : View E B) → v.live ≡ true → v.stage ≡ Idle
@@ -212,9 +240,9 @@ module _ {V E B : Type 0} (history : V → List E) (born : V → B) (context : E
   splits id v live one room s kept at =
       let there : stages (set s.views id (after_split v)) ≡ stages s.views = same_stages s.views id v (after_split v) at refl in
       let all : stages s.views ++ Idle ∷ [] ≡ stages (set s.views id (after_split v) ++ split_off v ∷ []) =
-              ap (λ (l : List Stage). l ++ Idle ∷ []) (sym there) ∙ sym (stages_snoc (set s.views id (after_split v)) (split_off v)) in
+      ap (λ (l : List Stage). l ++ Idle ∷ []) (sym there) ∙ sym (stages_snoc (set s.views id (after_split v)) (split_off v)) in
       let tickets = subst (λ (l : List Stage). Ordered kept.0 kept.1 s.homes l) all
-              (widened kept.0 kept.1 s.homes (stages s.views) kept.3 0) in
+      (widened kept.0 kept.1 s.homes (stages s.views) kept.3 0) in
       (kept.0, kept.1, kept.2, tickets, split history born context birth seats s.homes s.views kept.4 id v (at, live) one room)
 
   pub joins : (id other : ℕ) (v w : View E B) → v.live ≡ true → w.live ≡ true → v.number ≡ seats → w.stage ≡ Idle
@@ -222,16 +250,21 @@ module _ {V E B : Type 0} (history : V → List E) (born : V → B) (context : E
   joins id other v w live hers one idle s kept at off there =
       let first : stages (set s.views id (joined v w)) ≡ stages s.views = same_stages s.views id v (joined v w) at refl in
       let all : stages (set (set s.views id (joined v w)) other spent) ≡ stages s.views =
-              same_stages (set s.views id (joined v w)) other w spent there (sym idle) ∙ first in
-      let tickets = subst (λ (l : List Stage). Ordered kept.0 kept.1 s.homes l) (sym all) kept.3 in
-      (kept.0, kept.1, kept.2, tickets, join history born context birth seats s.homes s.views kept.4 id v (at, live) one other w
-          off (there, hers))
+      same_stages (set s.views id (joined v w)) other w spent there (sym idle) ∙ first in
+      let tickets = subst (λ (l : List Stage). Ordered kept.0 kept.1 s.homes l) (sym all) kept.3 in (
+        kept.0,
+        kept.1,
+        kept.2,
+        tickets,
+        join history born context birth seats s.homes s.views kept.4 id v (at, live) one other w
+            off (there, hers),
+      )
 
   pub me_draws : (slots id old : ℕ) (me : Me (Option V) (View E B)) → IsIdle me → old + 1 < 2 ^ 64
       → Allows Rule slots id me 0 (λ n. either (n == old) (old + 1) n) (Drew (step slots 0 old (old + 1) none) me)
   me_draws slots id old me idle room =
       subst (λ (m : Me (Option V) (View E B)). Allows Rule slots id m 0 (λ n. either (n == old) (old + 1) n)
-          (Drew (step slots 0 old (old + 1) none) m))
+      (Drew (step slots 0 old (old + 1) none) m))
       (ap (λ (l : List (ℕ × Option V)). (me.0, l)) (sym idle.none)) (draws slots id old me.0 idle.live idle.stage room)
 
   pub me_looks : (slots id t : ℕ) (me : Me (Option V) (View E B)) → IsWaiting t me
@@ -255,7 +288,7 @@ module _ {V E B : Type 0} (history : V → List E) (born : V → B) (context : E
       let none_more : rest old.1 ≡ [] = ap rest holding.out in
       let at : me ≡ (old.0, (0, Some x) ∷ []) = is ∙ ap (λ (l : List (ℕ × Option V)). (old.0, (0, Some x) ∷ l)) none_more in
       subst (λ (m : Me (Option V) (View E B)). Allows Rule slots id m 1 (λ n. (n + 1) % 2 ^ 64)
-          (Gave history context (step slots 1 1 0 none) m)) (sym at)
+      (Gave history context (step slots 1 1 0 none) m)) (sym at)
       (gives_back slots id holding.ticket old.0 x adds.more holding.live holding.stage adds.whole adds.ours birth_is)
 
   pub me_splits : (id : ℕ) (me : Me (Option V) (View E B)) → IsIdle me → me.0.number ≡ seats → me.0.splits < seats
@@ -270,5 +303,8 @@ module _ {V E B : Type 0} (history : V → List E) (born : V → B) (context : E
       → me ≡ (joined old.0 w, old.1)
       → Allows Rule slots id me 1 (λ n. n) (Learned (step slots 1 0 0 none) me)
   me_learns_joined slots id old w me idle is =
-      me_learns slots id me (subst (λ (m : Me (Option V) (View E B)). IsIdle m) (sym is) (record { live = idle.live; stage =
-          idle.stage; none = idle.none }))
+      me_learns slots id me (subst (λ (m : Me (Option V) (View E B)). IsIdle m) (sym is) (record {
+        live = idle.live;
+        stage = idle.stage;
+        none = idle.none;
+      }))

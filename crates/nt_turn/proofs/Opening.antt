@@ -45,13 +45,20 @@ module _ {V E B : Type 0} (history : V → List E) (born : V → B) (context : E
     kept = [];
     few = omega arith;
     home = λ y e. (x, some-injective _ _ (cc e), none_yet, ap born (sym same));
-    each = λ by v e. subst (Knows context (born first) []) (one_of _ v by e.0).1 (record { seen = prefix_none []; told =
-        prefix_none []; own = refl; birth = refl });
+    each = λ by v e. subst (Knows context (born first) []) (one_of _ v by e.0).1 (record {
+      seen = prefix_none [];
+      told = prefix_none [];
+      own = refl;
+      birth = refl;
+    });
     dead = λ by v e no. ap (λ (u : View E B). u.stage) (sym (one_of _ v by e).1);
     hand = λ by t v e s. ap (λ (u : View E B). u.seen) (sym (one_of _ v by e.0).1);
     apart = λ i j v w e f n. (one_of _ v i e.0).0 ∙ sym (one_of _ w j f.0).0;
-    first = λ by v e n. (ap (λ (u : View E B). u.splits) (sym (one_of _ v by e.0).1), ap (λ (u : View E B). u.kept)
-        (sym (one_of _ v by e.0).1));
+    first = λ by v e n. (
+      ap (λ (u : View E B). u.splits) (sym (one_of _ v by e.0).1),
+      ap (λ (u : View E B). u.kept)
+          (sym (one_of _ v by e.0).1),
+    );
     others = λ by v e n. absurd (n (ap (λ (u : View E B). u.number) (sym (one_of _ v by e.0).1)));
     joins = tt;
     unused = λ n range. refl;
@@ -61,5 +68,5 @@ module _ {V E B : Type 0} (history : V → List E) (born : V → B) (context : E
       → InTurn history born context (born first) seats (0 ∷ 0 ∷ []) homes (newcomer seats (born first) ∷ [])
   opens homes is none_yet same =
       subst (λ (l : List (Maybe (Option V))). InTurn history born context (born first) seats (0 ∷ 0 ∷ []) l
-          (newcomer seats (born first) ∷ [])) (sym is)
+      (newcomer seats (born first) ∷ [])) (sym is)
       (0, 0, refl, opened (Some x), begun none_yet same)

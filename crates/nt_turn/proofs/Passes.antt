@@ -22,10 +22,13 @@ holding_by Idle out is held = absurd (cc held)
 holding_by (Waiting t) out is held = absurd is
 holding_by (Holding t) out is held = (t, refl, is)
 
-module _ {V E B : Type 0} (id : TableId) (seats : ℕ) (birth : B) (turn : TurnState B) (turn_is : record { id = id; seats =
-    seats; birth = birth } ≡ turn)
+module _ {V E B : Type 0} (id : TableId) (seats : ℕ) (birth : B) (turn : TurnState B) (turn_is : record {
+  id = id;
+  seats = seats;
+  birth = birth;
+} ≡ turn)
     (table : TableId) (number splits : ℕ) (me : Me (Option V) (View E B)) (is : IsPass number splits me) (pass : PassState E B)
-        (pass_is : pass_state table me.0 ≡ pass) where
+    (pass_is : pass_state table me.0 ≡ pass) where
   of_turn : pass.turn ≡ turn.id → table ≡ id
   of_turn same = ap (λ (p : PassState E B). p.turn) pass_is ∙ (same ∙ sym (ap (λ (t : TurnState B). t.id) turn_is))
 

@@ -29,11 +29,17 @@ module _ {A : Type 0} (next serving : ℕ) (homes : List (Maybe A)) (views : Lis
     apart = λ i j t v w e f hv hw. ⊎_elim
         (λ p. ⊎_elim (λ q. p.0 ∙ sym q.0) (λ q. absurd (new t v w j p.1 q.1 hv hw)) (at_set views id j (Waiting next) w f))
         (λ p. ⊎_elim (λ q. absurd (new t w v i q.1 p.1 hw hv)) (λ q. h.apart i j t v w p.1 q.1 hv hw)
-            (at_set views id j (Waiting next) w f))
+        (at_set views id j (Waiting next) w f))
         (at_set views id i (Waiting next) v e);
     holding = λ by t e. ⊎_elim (λ p. absurd (cc (p.1))) (λ p. h.holding by t p.1) (at_set views id by (Waiting next) (Holding t) e);
-    home = ⊎_elim (λ x. inl x) (λ x. inr (x.0, (x.1.0, set_else views id x.1.0 (Waiting next) (λ same. other x.1.0 x.1.1 same)
-        ∙ x.1.1))) h.home;
+    home = ⊎_elim (λ x. inl x) (λ x. inr (
+      x.0,
+      (
+        x.1.0,
+        set_else views id x.1.0 (Waiting next) (λ same. other x.1.0 x.1.1 same)
+            ∙ x.1.1,
+      ),
+    )) h.home;
   }
     where
       own : (t : ℕ) (v : Stage) → Waiting next ≡ v → HasTicket t v → (serving ≤ t) × (t < next + 1)
@@ -44,7 +50,7 @@ module _ {A : Type 0} (next serving : ℕ) (homes : List (Maybe A)) (views : Lis
 
       other : (by : ℕ) → get_elem? views by ≡ some (Holding serving) → by ≡ id → ⊥
       other by e same = let both : some (Holding serving) ≡ some Idle =
-                                sym e ∙ (ap (get_elem? views) same ∙ at) in cc (some-injective _ _ both)
+          sym e ∙ (ap (get_elem? views) same ∙ at) in cc (some-injective _ _ both)
 
   -- a pass whose ticket is served takes the value
   pub taken : (x : A) → homes ≡ some x ∷ [] → get_elem? views id ≡ some (Waiting serving) → Ordered {A =
@@ -56,9 +62,9 @@ module _ {A : Type 0} (next serving : ℕ) (homes : List (Maybe A)) (views : Lis
         (at_set views id by (Holding serving) v e);
     apart = λ i j t v w e f hv hw. ⊎_elim
         (λ p. ⊎_elim (λ q. p.0 ∙ sym q.0) (λ q. p.0 ∙ h.apart id j t (Waiting serving) w at q.1 (own t v p.1 hv) hw)
-            (at_set views id j (Holding serving) w f))
+        (at_set views id j (Holding serving) w f))
         (λ p. ⊎_elim (λ q. h.apart i id t v (Waiting serving) p.1 at hv (own t w q.1 hw) ∙ sym q.0)
-            (λ q. h.apart i j t v w p.1 q.1 hv hw) (at_set views id j (Holding serving) w f))
+        (λ q. h.apart i j t v w p.1 q.1 hv hw) (at_set views id j (Holding serving) w f))
         (at_set views id i (Holding serving) v e);
     holding = λ by t e. ⊎_elim (λ p. (cc (p.1), refl)) (λ p. absurd (not_out (h.holding by t p.1).1))
         (at_set views id by (Holding serving) (Holding t) e);
@@ -84,7 +90,7 @@ module _ {A : Type 0} (next serving : ℕ) (homes : List (Maybe A)) (views : Lis
         (at_set views id i Idle v e);
     holding = λ by t e. ⊎_elim (λ p. absurd (cc (p.1)))
         (λ p. absurd (p.0 (h.apart by id serving (Holding t) (Holding serving) p.1 at (sym (h.holding by t p.1).0) refl)))
-          (at_set views id by Idle (Holding t) e);
+        (at_set views id by Idle (Holding t) e);
     home = inl (x, refl);
   }
     where

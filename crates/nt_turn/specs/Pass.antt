@@ -38,8 +38,16 @@ holds_turn (Holding ticket) = true
 -- the pass with this view
 abbrev pub pass_state : {E B : Type 0} → TableId → View E B → PassState E B
 pass_state turn v =
-    record { turn = turn; number = v.number; holds = holds_turn v.stage; birth = v.birth; seen = v.seen; own = v.own; splits =
-        v.splits; kept = v.kept }
+    record {
+      turn = turn;
+      number = v.number;
+      holds = holds_turn v.stage;
+      birth = v.birth;
+      seen = v.seen;
+      own = v.own;
+      splits = v.splits;
+      kept = v.kept;
+    }
 
 -- between two calls a pass doesn't wait, and the value is with its user where it holds the turn
 abbrev pub IsSettled : {V : Type 0} → Stage → List (ℕ × Option V) → Type 0
@@ -62,8 +70,16 @@ first_pass turn =
 -- the pass that is split off this one: it has the next number, has seen the same, and has no entries
 abbrev pub next_pass : {E B : Type 0} → PassState E B → PassState E B
 next_pass first =
-    record { turn = first.turn; number = first.splits; holds = false; birth = first.birth; seen = first.seen; own =
-        []; splits = 0; kept = [] }
+    record {
+      turn = first.turn;
+      number = first.splits;
+      holds = false;
+      birth = first.birth;
+      seen = first.seen;
+      own = [];
+      splits = 0;
+      kept = [];
+    }
 
 -- the pass after it took a value with this history
 abbrev pub after_taking : {E B : Type 0} → PassState E B → List E → PassState E B

@@ -61,8 +61,14 @@ history_in history ((k, Some x) ∷ xs) = history x
 abbrev pub Gave : {V E B : Type 0} → (V → List E) → (E → ℕ)
     → Step (Option V) → Me (Option V) (View E B) → ℕ → Me (Option V) (View E B) → Type 0
 Gave history context step old found new =
-    new ≡ (record old.0 { stage = Idle; seen = history_in history old.1; own =
-        entries_of context (history_in history old.1) old.0.number }, [])
+    new ≡ (
+      record old.0 {
+        stage = Idle;
+        seen = history_in history old.1;
+        own = entries_of context (history_in history old.1) old.0.number;
+      },
+      [],
+    )
 
 -- the pass has seen the longer of what it had seen and what it was told, which begins with both
 pub record Learned {V E B : Type 0} (step : Step (Option V)) (old : Me (Option V) (View E B))

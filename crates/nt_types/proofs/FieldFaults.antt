@@ -48,8 +48,7 @@ split-begins line name t e = cases l.blanks l.some_blank l.all_blank l.whole
           blank = b;
           rest = bs ++ (t ++ l.spaces);
           is_name = l.is_name;
-          is_blank =
-              (and_true (is_blank b) (list_all is_blank bs) all).0;
+          is_blank = (and_true (is_blank b) (list_all is_blank bs) all).0;
           whole = whole;
         }
 
@@ -202,8 +201,11 @@ module _ (fields : List MemberData) (seen : List (List ℕ)) (before : ℕ) (lin
           → (if c then Err Repeated else within_count before name (type_of t)) ≡ Err k
           → HasFieldFault fields line k
       named name t true split at f =
-          subst (HasFieldFault fields line) (err_is {A = MemberData} Repeated k f) (name, split-begins line name t split,
-              sym (names name) ∙ at)
+          subst (HasFieldFault fields line) (err_is {A = MemberData} Repeated k f) (
+            name,
+            split-begins line name t split,
+            sym (names name) ∙ at,
+          )
       named name t false split at f = typed name t (type_of t) split (is-new name t split at) refl f
 
       cases : (r : Option (List ℕ × List ℕ)) → split_line line ≡ r → field_split seen before r ≡ Err k → HasFieldFault fields line k

@@ -125,7 +125,7 @@ trimmed_core text spaces core all =
     trimmed_of text spaces
     (rw (reverse-append text spaces, turned)
     (prefix_stops is_space (reverse spaces) core.last (reverse core.before) (all_reverse is_space spaces all) core.no_space
-        ∙ length-reverse spaces))
+    ∙ length-reverse spaces))
   where
     turned : reverse text ≡ core.last ∷ reverse core.before
     turned = ap reverse core.ends ∙ reverse-append core.before (core.last ∷ [])

@@ -56,8 +56,7 @@ trace-blank s l ls (Ok qs) e t =
     record {
       more = t.more;
       fields = t.fields;
-      spelled =
-          subst (λ (z : List (List ℕ)). SpellEach z t.more) (sym (full-blank l ls e)) t.spelled;
+      spelled = subst (λ (z : List (List ℕ)). SpellEach z t.more) (sym (full-blank l ls e)) t.spelled;
       rules = t.rules;
       some = t.some;
     }

@@ -63,8 +63,7 @@ spell_core bool t =
       begins = refl;
       ends = refl;
       no_blank = refl;
-      no_space =
-          refl;
+      no_space = refl;
     }
 spell_core char t =
     record {
@@ -75,8 +74,7 @@ spell_core char t =
       begins = refl;
       ends = refl;
       no_blank = refl;
-      no_space =
-          refl;
+      no_space = refl;
     }
 spell_core byte t =
     record {
@@ -87,8 +85,7 @@ spell_core byte t =
       begins = refl;
       ends = refl;
       no_blank = refl;
-      no_space =
-          refl;
+      no_space = refl;
     }
 spell_core (int bits signed) t = int_core bits signed (width_cases bits t)
 spell_core text t =
@@ -100,8 +97,7 @@ spell_core text t =
       begins = refl;
       ends = refl;
       no_blank = refl;
-      no_space =
-          refl;
+      no_space = refl;
     }
 spell_core (list k) t =
     record {
@@ -110,8 +106,7 @@ spell_core (list k) t =
       before = codes "vec<" ++ spell k;
       last = 62;
       begins = refl;
-      ends =
-          refl;
+      ends = refl;
       no_blank = refl;
       no_space = refl;
     }
@@ -119,8 +114,7 @@ spell_core (fields ps) t =
     record {
       first = 114;
       later = codes "ec{" ++ (spell_parts ps ++ codes "}");
-      before =
-          codes "rec{" ++ spell_parts ps;
+      before = codes "rec{" ++ spell_parts ps;
       last = 125;
       begins = refl;
       ends = refl;
@@ -132,8 +126,7 @@ spell_core (tuple ks) t =
       first = 116;
       later = codes "uple<" ++ (spell_kinds ks ++ codes ">");
       before = codes "tuple<" ++ spell_kinds ks;
-      last =
-          62;
+      last = 62;
       begins = refl;
       ends = refl;
       no_blank = refl;
@@ -145,8 +138,7 @@ spell_core (choice ks) t =
       later = codes "ar<" ++ (spell_kinds ks ++ codes ">");
       before = codes "var<" ++ spell_kinds ks;
       last = 62;
-      begins =
-          refl;
+      begins = refl;
       ends = refl;
       no_blank = refl;
       no_space = refl;

@@ -8,9 +8,9 @@ use Rattle.nt_types.specs.declared.shape.Shape.TheFolds.{fold_out-Member}
 pub member_view-name : (m : Member) → (member_view m).name ≡ m.name
 member_view-name m =
     ap (λ (p : MemberData). p.name) (fold_out-Member ShapeData MemberData (List MemberData) (List ShapeData) shape_step member_step
-        members_step shapes_step m)
+    members_step shapes_step m)
 
 pub member_view-of : (m : Member) → (member_view m).of ≡ shape_view m.of
 member_view-of m =
     ap (λ (p : MemberData). p.of) (fold_out-Member ShapeData MemberData (List MemberData) (List ShapeData) shape_step member_step
-        members_step shapes_step m)
+    members_step shapes_step m)

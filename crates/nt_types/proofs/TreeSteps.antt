@@ -73,9 +73,9 @@ rest_fits ms ts = fit_parts (parts_of (map member_view ms)) (trees_of (map tree_
 
 pub member_step : (ms : List Member) (ts : List Tree) (i : ℕ) (m : Member) (t : Tree) (b : Bool) → i < length ms → i < length ts
     → m ≡ get_or ms i m → t ≡ get_or ts i t → b ≡ fits (shape_view m.of) (tree_view t) → rest_fits (drop i ms) (drop i ts)
-      ≡ (b && rest_fits (drop (i + 1) ms) (drop (i + 1) ts))
+    ≡ (b && rest_fits (drop (i + 1) ms) (drop (i + 1) ts))
 member_step ms ts i m t b mlt tlt mis tis same =
     ap (λ (l : List Member). rest_fits l (drop i ts)) (drop_more ms i m mlt ∙ ap (λ (x : Member). x ∷ drop (i + 1) ms) (sym mis))
     ∙ ap (λ (l : List Tree). rest_fits (m ∷ drop (i + 1) ms) l) (drop_more ts i t tlt ∙ ap (λ (x : Tree). x ∷ drop (i + 1) ts) (sym tis))
     ∙ ap (λ (c : Bool). c && rest_fits (drop (i + 1) ms) (drop (i + 1) ts))
-        (ap (λ (k : ShapeData). fits k (tree_view t)) (member_view-of m) ∙ sym same)
+    (ap (λ (k : ShapeData). fits k (tree_view t)) (member_view-of m) ∙ sym same)

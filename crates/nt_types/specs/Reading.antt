@@ -111,8 +111,11 @@ begin s w b = if is_some s.done then None else option_map (opened s) (started s.
 
 -- the name of a member of the innermost construct
 abbrev pub named_on : Bool → List OpenData → List ℕ → Option ReadingData
-named_on within (at_name ps ∷ os) w = if is_name w then Some (record { stack = in_member ps w ∷ os; within = within; done =
-    None }) else None
+named_on within (at_name ps ∷ os) w = if is_name w then Some (record {
+  stack = in_member ps w ∷ os;
+  within = within;
+  done = None;
+}) else None
 named_on within _ w = None
 
 -- the name of a member, before its type

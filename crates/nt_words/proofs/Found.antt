@@ -49,6 +49,6 @@ operand_there name rules c m k id own is at only parsed =
     (ap (λ (a : Arg). a.val_delim) t.arg_is ∙ t.kept.whole)
     (subst (λ (a : Arg). 1 ≤ least_values a) (sym t.arg_is) (t.kept.least refl (omega arith)))
     (λ j e low same. only_at rules (args_of c) k id is.args only j e low
-        (subst (λ (l : List ℕ). bytes_eq (slice_index_or (args_of c) j e).id.now l ≡ true) here same))
+    (subst (λ (l : List ℕ). bytes_eq (slice_index_or (args_of c) j e).id.now l ≡ true) here same))
     (λ empty. own.some (sym here ∙ empty))
     (λ auto. own.not_auto (slice_index_or (args_of c) k t.arg) here auto))

@@ -113,13 +113,13 @@ entry_gives f id word P x y same found is all written =
 number_of_entry : (c : Command) (k low high : ℕ) (id word : List ℕ) (m : ArgMatches) (p : IsParsedFrom c m) → IsPlain c
     → IsNumberAt c k low high id → (x : MatchedArg) → matched_of (found_of m) id ≡ Some x
     → option_map (λ s. s.now) (slice_get x.vals.items 0) ≡ Some word → ((e : Entry) × (e.1 ≡ x) × (bytes_eq e.0.now id ≡ true)
-        × EntryPasses p.built e)
+    × EntryPasses p.built e)
     → (one_text (found_of m) id ≡ Some word) × IsUnsignedIn low high word
 number_of_entry c k low high id word m p plain n x found is (e, same, key, pass) =
     let key-is : e.0.now ≡ id = (bytes_eq-Decides e.0.now id).0 key in
     let lone : e.1.is_group ≡ true → ⊥ = no_group p.built e id (p.from.plain plain).1 n.named key-is pass.3 in
     let gives = entry_gives (found_of m) id word (PassesArg p.built id) e.1 x same found is
-            (values_of_entry p.built e id lone key-is pass.0)
+    (values_of_entry p.built e id lone key-is pass.0)
     (reads_number c k low high id m p n e.1.reading (reading_of_entry p.built e id lone key-is pass.4)) in
     (gives.0, passes_number c k low high id word m p n gives.1)
 
@@ -188,7 +188,7 @@ in_range low high word r said is = subst (λ (o : Option ℕ). IfSome o (λ n. (
 pub number_found : {E : Type 0} (G : List ℕ → Result ℕ E → Type 0) (m : ArgMatches) (id : List ℕ) (low high : ℕ) (r : Option ℕ)
     → HasNumber low high m id → ((word : List ℕ) (x : Result ℕ E) → G word x → ParsesUnsigned {E = E} 64 10 word x)
     → (one_text (found_of m) id ≡ None → r ≡ None) → ((word : List ℕ) → one_text (found_of m) id ≡ Some word → ReadsOne G word r)
-        → IsNumberFound low high (first_value (found_of m) id) r
+    → IsNumberFound low high (first_value (found_of m) id) r
 number_found G m id low high r has only none reads = go (first_value (found_of m) id) refl
   where
     go : (o : Option (List ℕ)) → first_value (found_of m) id ≡ o → IsNumberFound low high o r

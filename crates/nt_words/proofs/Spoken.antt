@@ -125,8 +125,8 @@ wrong_is_none words wrong = record {
             let schema-is = same_some _ _ _ clash.names.schema_is is.names.schema_is in
             let inputs-are = clash.names.inputs_are ∙ sym is.names.inputs_are in
             clash.clash (subst (λ (o : List ℕ). AreApart o clash.schema clash.inputs) (sym out-is)
-                (subst (λ (s : List ℕ). AreApart out s clash.inputs) (sym schema-is)
-                  (subst (λ (l : List (List ℕ)). AreApart out schema l) (sym inputs-are) is.apart)))
+            (subst (λ (s : List ℕ). AreApart out s clash.inputs) (sym schema-is)
+            (subst (λ (l : List (List ℕ)). AreApart out schema l) (sym inputs-are) is.apart)))
       ];
   no_entries = λ from count file is. wrong.entries is.begins is.taken;
   no_schema = λ file is. wrong.schema is.begins is.taken;

@@ -21,8 +21,11 @@ operand id = record (new_rule id) { required = true; action = Some Set }
 
 -- the same of one value or more
 abbrev pub operands : List ℕ → Rule
-operands id = record (new_rule id) { required = true; action = Some Append; range =
-    Some (record { start_inclusive = 1; end_inclusive = usize_max }) }
+operands id = record (new_rule id) {
+  required = true;
+  action = Some Append;
+  range = Some (record { start_inclusive = 1; end_inclusive = usize_max });
+}
 
 -- an option whose value is a number from one to another
 abbrev pub number_option : List ℕ → ℕ → ℕ → Rule
@@ -34,8 +37,14 @@ flag id = record (new_rule id) { long = Some id; action = Some SetTrue }
 
 -- a command of these arguments, without a flag for help or for its version
 abbrev pub app : List ℕ → List Rule → App
-app name rules = record { top = record (new_shape name) { rules = rules; disable_help_flag = true; disable_version_flag =
-    true }; subs = [] }
+app name rules = record {
+  top = record (new_shape name) {
+    rules = rules;
+    disable_help_flag = true;
+    disable_version_flag = true;
+  };
+  subs = [];
+}
 
 -- `[--from A] [--count C] FILE`
 abbrev pub entries_rules : List Rule

@@ -44,8 +44,7 @@ module _ {D P : Type 0} (state : D → DiskState) (F : MembersData) (text : Opti
         entries = on.entries;
         read = read-blank F text on.entries was is line on.read next h.0;
         taken = on.taken;
-        is_open =
-            on.is_open;
+        is_open = on.is_open;
         same = on.same;
       } in
       subst (λ (c : DiskContext D P). GoesOn state F text start c is) (sym h.1) there
@@ -103,7 +102,7 @@ module _ {D P : Type 0} (state : D → DiskState) (F : MembersData) (text : Opti
   pub ends_halted : (old new : DiskContext D P) (was is : LinesState) (error : ContextError) (entries : List TreesData)
       (bad : Option BadLine) → IsSameContext start old
       → GivesJust F text entries bad → Halts state (chunks old.cluster entries) old new error → EndsEarly state F text
-          start was is new error
+      start was is new error
   ends_halted old new was is error entries bad same read halts =
       let here : Halts state (chunks new.cluster entries) old new error =
       subst (λ (n : ℕ). Halts state (chunks n entries) old new error) (sym halts.same.cluster) halts in
@@ -271,7 +270,6 @@ module _ {D P : Type 0} (state : D → DiskState) (F : MembersData) (text : Opti
     entries = on.entries;
     read = read-end F text on.entries was on.read end;
     taken = on.taken;
-    is_open =
-        on.is_open;
+    is_open = on.is_open;
     same = on.same;
   }

@@ -23,7 +23,7 @@ halves key = key % 2 ^ 32 * (key / 2 ^ 32)
 unfoldable pub lane_after : List ℕ → List ℕ → ℕ → ℕ → ℕ
 lane_after lanes stripe secret i =
     (slice_index lanes i + halves (bit_xor (word_at stripe (8 * i)) (word_at SECRET (secret + 8 * i)))
-        + word_at stripe (8 * bit_xor i 1)) % 2 ^ 64
+    + word_at stripe (8 * bit_xor i 1)) % 2 ^ 64
 
 -- the accumulators after a stripe
 unfoldable pub after_stripe : List ℕ → List ℕ → ℕ → List ℕ
@@ -62,7 +62,7 @@ TakesStripes old taken bytes new total =
 abbrev pub folded : List ℕ → ℕ → ℕ
 folded lanes i =
     fold (bit_xor (slice_index lanes (2 * i)) (word_at SECRET (11 + 16 * i)))
-        (bit_xor (slice_index lanes (2 * i + 1)) (word_at SECRET (19 + 16 * i)))
+    (bit_xor (slice_index lanes (2 * i + 1)) (word_at SECRET (19 + 16 * i)))
 
 -- the checksum of an input of so many bytes, from its accumulators
 unfoldable pub merged : ℕ → List ℕ → ℕ

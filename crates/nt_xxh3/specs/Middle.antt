@@ -15,7 +15,7 @@ of_17_to_128 bytes = avalanche ((length bytes * P64_1 + sum_below ((length bytes
 unfoldable pub of_129_to_240 : List ℕ → ℕ
 of_129_to_240 bytes =
     avalanche ((first + sum_below (length bytes / 16 - 8) (λ j. mix bytes (16 * (8 + j)) (16 * j + 3))
-        + mix bytes (length bytes - 16) 119) % 2 ^ 64)
+    + mix bytes (length bytes - 16) 119) % 2 ^ 64)
   where
     first : ℕ
     first = avalanche ((length bytes * P64_1 + sum_below 8 (λ i. mix bytes (16 * i) (16 * i))) % 2 ^ 64)

@@ -12,7 +12,7 @@ returns-in_default g c = no_memory _ _
 pub returns-in-Entries : goal.returns-in-Entries
 returns-in-Entries g c =
     listed_words _ c.in-Entries.from c.in-Entries.count c.in-Entries.file.now _ _ _
-        (subst (Says (texts c.args.words.now)) c.in-Entries.is c.in-Ok.ensures)
+    (subst (Says (texts c.args.words.now)) c.in-Entries.is c.in-Ok.ensures)
     (subst (λ n. ShowsNamed (entries_shown (record { from = n; count = c.in-Entries.count })) c.in-Entries.file.now
-        (g.H.Host.state c.args.host.now)
+    (g.H.Host.state c.args.host.now)
     (g.H.Host.state c.entries.new.host) c.entries.result) c.unwrap_or-from.ensures c.entries.ensures)

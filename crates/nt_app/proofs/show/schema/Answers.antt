@@ -7,7 +7,7 @@ returns-in-Ok g c =
     let opened = c.in-Ok.ensures in
     shows_named fields_shown c.args.name.now _ _ _ _ _ _ c.show_fields-shown.result _ c.status_of_shown.ensures
     opened.opens.asks.ok opened.opens.asks.err_faults opened.opens.asks.opened opened.opens.asks.cause.later
-        opened.opens.world opened.opened
+    opened.opens.world opened.opened
     c.show_fields-shown.ensures c.put_file.ensures.back c.put_file.ensures.world
 
 pub returns-in-Err : goal.returns-in-Err

@@ -13,15 +13,15 @@ returns-in_err-lists-clause-err c =
     let t = c.args.schema.now in let book = c.args.book.now in let most = c.args.params.now.group in
     let p = err_from_is_err_and c.from_residual-in_err-lists.result c.from_residual-in_err-lists.ensures.1 in
     rw (p.1, p.2) (passed-before c.args.params.now.limits (map (list_len (header_sum t) book) (spans book most))
-        (blob_len (length (footer_object t book most))) c.in_err-lists.field-0.0
+    (blob_len (length (footer_object t book most))) c.in_err-lists.field-0.0
     (subst (λ (k : ℕ). ArePassedBy c.args.params.now.limits (map (list_len k book) (spans book most)) c.in_err-lists.field-0.0)
-        c.in_ok-header.ensures.sum c.in_err-lists.ensures.err))
+    c.in_ok-header.ensures.sum c.in_err-lists.ensures.err))
 
 pub returns-clause-ok : goal.returns-clause-ok
 returns-clause-ok c =
     IfOk-weaker c.put_footer.result _ _
     (λ b adds. footer-behind c.args.schema.now c.args.book.now c.args.params.now.group _ _ _ _ _ _ c.in_ok-header.ensures.sum
-        c.end.ensures c.in_ok-lists.ensures.groups c.in_ok-lists.ensures.bytes adds)
+    c.end.ensures c.in_ok-lists.ensures.groups c.in_ok-lists.ensures.bytes adds)
     c.put_footer.ensures.ok
 
 pub returns-clause-fit : goal.returns-clause-fit
@@ -29,7 +29,7 @@ returns-clause-fit c =
     on_ok_weaker c.put_footer.result
     (λ fits.
     subst (NonePassed c.args.params.now.limits) (footer_len_is c.args.schema.now c.args.book.now c.args.params.now.group _ _
-        c.in_ok-header.ensures.sum c.in_ok-lists.ensures.groups)
+    c.in_ok-header.ensures.sum c.in_ok-lists.ensures.groups)
     (fit-more c.args.params.now.limits _ _ c.in_ok-lists.ensures.fit fits))
     c.put_footer.ensures.fits
 
@@ -38,6 +38,6 @@ returns-clause-err c =
     IfErr-weaker c.put_footer.result _ _
     (λ e passed.
     subst (λ (l : List ℕ). ArePassedBy c.args.params.now.limits l e) (footer_len_is c.args.schema.now c.args.book.now
-        c.args.params.now.group _ _ c.in_ok-header.ensures.sum c.in_ok-lists.ensures.groups)
+    c.args.params.now.group _ _ c.in_ok-header.ensures.sum c.in_ok-lists.ensures.groups)
     (passed-last c.args.params.now.limits _ _ e c.in_ok-lists.ensures.fit passed))
     c.put_footer.ensures.err

@@ -18,5 +18,8 @@ pub returns-clause-ok : goal.returns-clause-ok
 returns-clause-ok g c h is = c.in_ok-sync.ensures.ok _ (c.in_ok-append-2.ensures.ok _ (c.in_ok-append.ensures.ok h is))
 
 pub returns-clause-left : goal.returns-clause-left
-returns-clause-left g c h is = (_, c.in_ok-sync.ensures.ok _ (c.in_ok-append-2.ensures.ok _ (c.in_ok-append.ensures.ok h is)),
-    begun_whole refl)
+returns-clause-left g c h is = (
+  _,
+  c.in_ok-sync.ensures.ok _ (c.in_ok-append-2.ensures.ok _ (c.in_ok-append.ensures.ok h is)),
+  begun_whole refl,
+)

@@ -6,4 +6,4 @@ use Rattle.nt_close_rows.proofs.files.add.Goals as goal
 pub spoil-requires : goal.spoil-requires
 spoil-requires c =
     out_behind c.room.new.self.history _ _ _ _ c.in_ok-meta.meta (ap (λ (b : BookData). b.history) c.append-cluster.ensures.book)
-        c.append-cluster.ensures.number c.in_ok-meta.ensures.context
+    c.append-cluster.ensures.number c.in_ok-meta.ensures.context

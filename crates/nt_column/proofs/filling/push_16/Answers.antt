@@ -15,7 +15,7 @@ loop-i-preserved c =
     record {
       items = rw c.push_reserved.ensures.items
           (values-more c.args.list.now.items c.loop-i.list.items values c.loop-i.i c.value_at-last.result c.loop-i.invariant.items
-              within c.value_at-last.ensures.value);
+          within c.value_at-last.ensures.value);
       last = before-next values c.loop-i.i c.value_at-last.result c.value_at-last.ensures.value;
       room = record { longer = omega arith; within = omega arith };
     }
@@ -23,5 +23,5 @@ loop-i-preserved c =
 pub returns-clause-items : goal.returns-clause-items
 returns-clause-items c =
     values-all (c.args.list.now.items) (c.loop-i.list.items) (page_values c.args.kind c.args.count c.args.bytes.now) c.loop-i.i
-        c.loop-i.invariant.items
+    c.loop-i.invariant.items
     (omega (arith, length-page_values c.args.kind c.args.count c.args.bytes.now))

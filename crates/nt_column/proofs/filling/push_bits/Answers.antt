@@ -23,7 +23,7 @@ loop-i-preserved c =
         bit-of_value (bits_of c.args.kind) c.value_at-last.result c.requires.kind c.value_at-last.ensures.fits,
       )
           (values-more (map bit_of c.args.list.now.items) (map bit_of c.loop-i.list.items) values c.loop-i.i c.value_at-last.result
-              c.loop-i.invariant.items within c.value_at-last.ensures.value);
+          c.loop-i.invariant.items within c.value_at-last.ensures.value);
       last = before-next values c.loop-i.i c.value_at-last.result c.value_at-last.ensures.value;
       room = record { longer = omega arith; within = omega arith };
     }
@@ -31,5 +31,5 @@ loop-i-preserved c =
 pub returns-clause-items : goal.returns-clause-items
 returns-clause-items c =
     values-all (map bit_of c.args.list.now.items) (map bit_of c.loop-i.list.items)
-        (page_values c.args.kind c.args.count c.args.bytes.now) c.loop-i.i c.loop-i.invariant.items
+    (page_values c.args.kind c.args.count c.args.bytes.now) c.loop-i.i c.loop-i.invariant.items
     (omega (arith, length-page_values c.args.kind c.args.count c.args.bytes.now))

@@ -24,7 +24,7 @@ loop-i-preserved c =
 pub returns-clause-indices : goal.returns-clause-indices
 returns-clause-indices c =
     values-all c.args.indices.now.items c.loop-i.indices.items (switch_indices c.args.count c.args.bytes.now) c.loop-i.i
-        c.loop-i.invariant.indices
+    c.loop-i.invariant.indices
     (omega (arith, length-list_of c.args.count (switch_index c.args.bytes.now)))
 
 pub returns-clause-tags : goal.returns-clause-tags

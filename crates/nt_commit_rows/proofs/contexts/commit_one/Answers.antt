@@ -11,7 +11,7 @@ returns-clause-len g c =
 pub returns-clause-claim : goal.returns-clause-claim
 returns-clause-claim g c =
     claim-if-ok g.D.Disk.state g.D.Ext.Ext.state _ _ _ _ _ c.commit.result c.requires.back c.requires.image.context_is
-        c.requires.image.whole c.commit.ensures.commits
+    c.requires.image.whole c.commit.ensures.commits
 
 pub returns-clause-refused : goal.returns-clause-refused
 returns-clause-refused g c =

@@ -10,4 +10,4 @@ returns-clause-fields c = entry_fits
 pub returns-clause-rows : goal.returns-clause-rows
 returns-clause-rows c fields plain t line entry rules rows is =
     table_fits fields plain t entry rows (c.described_fields_are_open.ensures fields plain t rules rows)
-        ∙ entry_fits (parts_of fields) line entry is
+    ∙ entry_fits (parts_of fields) line entry is

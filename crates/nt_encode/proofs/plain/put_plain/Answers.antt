@@ -6,7 +6,7 @@ use Rattle.nt_encode.proofs.plain.put_plain.Goals as goal
 pub loop-i-preserved : goal.loop-i-preserved
 loop-i-preserved c =
     Filled-next c.loop-i.out c.put_number.new.out c.loop-i.i c.args.width _ _ c.loop-i.invariant c.put_number.ensures.below
-        c.put_number.ensures.written
+    c.put_number.ensures.written
     (λ j h. plain_byte-at c.args.width c.args.values.now c.loop-i.i j h)
 
 pub returns : goal.returns

@@ -10,5 +10,5 @@ loop-j-preserved c =
     HasElements-block c.args.width (length c.args.values.now)
     (words_of c.args.form c.args.width c.args.values.now) c.loop-j.out c.put_plane.new.out
     c.fill_words.new.words c.loop-j.j c.args.from c.args.len size c.requires.within c.fill_words.ensures c.loop-j.invariant
-        c.loop-j-test.true
+    c.loop-j-test.true
     c.put_plane.ensures.written c.put_plane.ensures.below c.put_plane.ensures.above

@@ -7,7 +7,7 @@ use Rattle.nt_encode.proofs.value.split_at.Goals as goal
 pub returns-clause-value : goal.returns-clause-value
 returns-clause-value c =
     c.number_at.ensures ∙ sym (get_or-list_of c.args.count (split_value c.args.width c.args.count c.args.bytes.now) c.args.i
-        c.requires.within)
+    c.requires.within)
 
 pub returns-clause-fits : goal.returns-clause-fits
 returns-clause-fits c =

@@ -10,6 +10,6 @@ pub loop-k-preserved : goal.loop-k-preserved
 loop-k-preserved c =
     let rows = c.args.schema.now.columns in
     let next = codes_next rows c.loop-k.k c.column.result.now c.loop-k.kinds.items c.kind_of.result _ c.column.ensures
-            c.kind_of.ensures c.loop-k.invariant in
+    c.kind_of.ensures c.loop-k.invariant in
     ap (λ (l : List ColumnType). map code_of l ++ map (λ (r : ColumnRow). r.code) (drop (c.loop-k.k + 1) rows))
-        c.in_ok-push.ensures.items ∙ next
+    c.in_ok-push.ensures.items ∙ next

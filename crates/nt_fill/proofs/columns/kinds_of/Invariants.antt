@@ -8,4 +8,4 @@ use Rattle.nt_fill.proofs.columns.kinds_of.Given as goal
 abbrev pub invariant-loop-k : goal.invariant-loop-k
 invariant-loop-k l =
     map code_of l.kinds.items ++ map (λ (r : ColumnRow). r.code) (drop l.k l.schema.columns)
-        ≡ map (λ (r : ColumnRow). r.code) l.schema.columns
+    ≡ map (λ (r : ColumnRow). r.code) l.schema.columns

@@ -15,14 +15,17 @@ returns-in_err-claim-clause-fault g c =
     let p = err_from_is_err_and c.from_residual.result c.from_residual.ensures.1 in
     λ is.
     let same : c.in_err-claim.field-0.0 ≡ Fault = cc (p.1, p.2, is) in
-    inl (fault_by g.D.Disk.state c.args.committer.now g.D.Ext.Ext.state c.args.image.now.meta c.args.pass.now c.commit.new.pass
-        (subst (λ (e : CommitError). CommitsInHold g.D.Disk.state g.D.Ext.Ext.state c.args.committer.now c.args.image.now.meta
-          c.args.pass.now c.commit.new.pass (Err e)) same c.in_err-claim.ensures.commits) c.requires.image.context_is, refl)
+    inl (
+      fault_by g.D.Disk.state c.args.committer.now g.D.Ext.Ext.state c.args.image.now.meta c.args.pass.now c.commit.new.pass
+          (subst (λ (e : CommitError). CommitsInHold g.D.Disk.state g.D.Ext.Ext.state c.args.committer.now c.args.image.now.meta
+          c.args.pass.now c.commit.new.pass (Err e)) same c.in_err-claim.ensures.commits) c.requires.image.context_is,
+      refl,
+    )
 
 pub fill_range-requires-clause-own : goal.fill_range-requires-clause-own
 fill_range-requires-clause-own g c =
     claim_is g.D.Disk.state c.args.committer.now g.D.Ext.Ext.state c.args.image.now.meta c.args.pass.now c.commit.new.pass
-        c.in_ok-claim.claim c.in_ok-claim.ensures.commits c.requires.image.context_is
+    c.in_ok-claim.claim c.in_ok-claim.ensures.commits c.requires.image.context_is
 
 pub fill_range-requires-clause-empty : goal.fill_range-requires-clause-empty
 fill_range-requires-clause-empty g c =
@@ -36,10 +39,11 @@ fill_range-requires-clause-empty g c =
 pub returns-in_err-fill_range-clause-pass : goal.returns-in_err-fill_range-clause-pass
 returns-in_err-fill_range-clause-pass g c =
     let s = spoils g.D.Disk.state c.args.committer.now g.D.Ext.Ext.state c.args.image.now.meta c.args.pass.now c.commit.new.pass
-            c.in_ok-claim.claim c.in_ok-claim.ensures.commits c.requires.image.context_is c.fill_range.new.pass
-              c.in_err-fill_range.ensures.err.0 in
-    (pass_after g.D.Disk.state c.args.committer.now _ c.args.pass.now c.fill_range.new.pass s.gains c.requires.pass.0,
-        spoil_in c.args.image.now.meta c.args.pass.now c.fill_range.new.pass c.requires.pass.1 s)
+    c.in_ok-claim.claim c.in_ok-claim.ensures.commits c.requires.image.context_is c.fill_range.new.pass
+    c.in_err-fill_range.ensures.err.0 in (
+      pass_after g.D.Disk.state c.args.committer.now _ c.args.pass.now c.fill_range.new.pass s.gains c.requires.pass.0,
+      spoil_in c.args.image.now.meta c.args.pass.now c.fill_range.new.pass c.requires.pass.1 s,
+    )
 
 pub returns-in_err-fill_range-clause-limits : goal.returns-in_err-fill_range-clause-limits
 returns-in_err-fill_range-clause-limits g c =
@@ -47,37 +51,38 @@ returns-in_err-fill_range-clause-limits g c =
     let fault = c.in_err-fill_range.ensures.fault _ refl in
     let same : c.from_residual-in_err-fill_range.result ≡ Err Fault = cc (p.1, p.2, fault) in
     names g.D.Disk.state c.args.committer.now g.D.Ext.Ext.state c.args.image.now.meta c.args.pass.now c.commit.new.pass
-        (Ok c.in_ok-claim.claim) c.in_ok-claim.ensures.commits c.from_residual-in_err-fill_range.result
-          (sym (ap limit_answered same)) c.fill_range.new.pass
+    (Ok c.in_ok-claim.claim) c.in_ok-claim.ensures.commits c.from_residual-in_err-fill_range.result
+    (sym (ap limit_answered same)) c.fill_range.new.pass
     (spoils_seen g.D.Disk.state c.args.committer.now _ c.commit.new.pass c.fill_range.new.pass c.in_err-fill_range.ensures.err.0)
 
 pub returns-in_err-fill_range-clause-fault : goal.returns-in_err-fill_range-clause-fault
 returns-in_err-fill_range-clause-fault g c =
     let s = spoils g.D.Disk.state c.args.committer.now g.D.Ext.Ext.state c.args.image.now.meta c.args.pass.now c.commit.new.pass
-            c.in_ok-claim.claim c.in_ok-claim.ensures.commits c.requires.image.context_is c.fill_range.new.pass
-              c.in_err-fill_range.ensures.err.0 in
+    c.in_ok-claim.claim c.in_ok-claim.ensures.commits c.requires.image.context_is c.fill_range.new.pass
+    c.in_err-fill_range.ensures.err.0 in
     λ is. inr (s, c.in_err-fill_range.ensures.err.1)
 
 pub returns-clause-pass : goal.returns-clause-pass
 returns-clause-pass g c =
     let w = writes g.D.Disk.state c.args.committer.now g.D.Ext.Ext.state c.args.image.now.meta c.args.pass.now c.commit.new.pass
-            c.in_ok-claim.claim c.in_ok-claim.ensures.commits c.requires.image.context_is c.args.image.now c.as_slice.result.now
-              c.fill_range.new.pass refl (c.as_slice.ensures ∙ ap (λ (i : ClusterImage). i.bytes) c.in_ok-claim.ensures.image)
-                c.in_ok-fill_range.ensures.ok.0 in
-    (pass_after g.D.Disk.state c.args.committer.now _ c.args.pass.now c.fill_range.new.pass w.gains c.requires.pass.0,
-        writes_in g.D.Disk.state c.args.committer.now c.args.image.now c.args.pass.now c.fill_range.new.pass c.requires.pass.1 w)
+    c.in_ok-claim.claim c.in_ok-claim.ensures.commits c.requires.image.context_is c.args.image.now c.as_slice.result.now
+    c.fill_range.new.pass refl (c.as_slice.ensures ∙ ap (λ (i : ClusterImage). i.bytes) c.in_ok-claim.ensures.image)
+    c.in_ok-fill_range.ensures.ok.0 in (
+      pass_after g.D.Disk.state c.args.committer.now _ c.args.pass.now c.fill_range.new.pass w.gains c.requires.pass.0,
+      writes_in g.D.Disk.state c.args.committer.now c.args.image.now c.args.pass.now c.fill_range.new.pass c.requires.pass.1 w,
+    )
 
 pub returns-clause-limits : goal.returns-clause-limits
 returns-clause-limits g c =
     names g.D.Disk.state c.args.committer.now g.D.Ext.Ext.state c.args.image.now.meta c.args.pass.now c.commit.new.pass
-        (Ok c.in_ok-claim.claim) c.in_ok-claim.ensures.commits (Ok tt) refl c.fill_range.new.pass
+    (Ok c.in_ok-claim.claim) c.in_ok-claim.ensures.commits (Ok tt) refl c.fill_range.new.pass
     (adds_seen g.D.Disk.state c.args.committer.now _ c.commit.new.pass c.fill_range.new.pass c.in_ok-fill_range.ensures.ok.0)
 
 pub returns-clause-ok : goal.returns-clause-ok
 returns-clause-ok g c = (
   writes g.D.Disk.state c.args.committer.now g.D.Ext.Ext.state c.args.image.now.meta c.args.pass.now c.commit.new.pass
       c.in_ok-claim.claim c.in_ok-claim.ensures.commits c.requires.image.context_is c.args.image.now c.as_slice.result.now
-        c.fill_range.new.pass refl (c.as_slice.ensures ∙ ap (λ (i : ClusterImage). i.bytes) c.in_ok-claim.ensures.image)
-          c.in_ok-fill_range.ensures.ok.0,
+      c.fill_range.new.pass refl (c.as_slice.ensures ∙ ap (λ (i : ClusterImage). i.bytes) c.in_ok-claim.ensures.image)
+      c.in_ok-fill_range.ensures.ok.0,
   c.in_ok-fill_range.ensures.ok.1,
 )

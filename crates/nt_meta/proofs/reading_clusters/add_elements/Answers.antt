@@ -10,5 +10,5 @@ pub loop-id-preserved : goal.loop-id-preserved
 loop-id-preserved c = record {
   sum = adding-next c.args.elements.now c.loop-id.elements c.args.lists.now c.loop-id.id c.count_column-more.result
       c.saturating_add.result no_list c.loop-id.invariant.sum (omega arith) (omega arith) (c.count_column-more.ensures no_list)
-        c.saturating_add.ensures;
+      c.saturating_add.ensures;
 }

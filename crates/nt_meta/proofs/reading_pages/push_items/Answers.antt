@@ -7,7 +7,7 @@ pub returns-in_err-page-clause-told : goal.returns-in_err-page-clause-told
 returns-in_err-page-clause-told c =
     let p = err_from_is_err_and c.from_residual.result c.from_residual.ensures.1 in
     rw (p.1, p.2) (items-fail c.args.cluster c.args.column c.args.count c.loop.counter c.loop.pages.items c.loop.cur _ _
-        c.loop-test.true c.in_err-page.ensures c.loop.invariant.read)
+    c.loop-test.true c.in_err-page.ensures c.loop.invariant.read)
 
 pub loop-preserved : goal.loop-preserved
 loop-preserved c = record {

@@ -14,7 +14,7 @@ put_column-requires-clause-few c =
     let k = cluster_at c.args.book.now c.args.cluster in
     let is : c.as_slice.result.now ≡ slice_index_or k.meta.pages c.loop-column.column [] =
     c.as_slice.ensures ∙ (get_or_read_under c.args.lists.now c.loop-column.column (length c.args.lists.now)
-        c.index-lists-column.result [] c.index-lists-column.is c.loop-column-test.true refl
+    c.index-lists-column.result [] c.index-lists-column.is c.loop-column-test.true refl
     ∙ ap (λ (l : List (List PageMeta)). slice_index_or l c.loop-column.column []) c.requires.lists) in
     few_pages _ c.loop-column.column k c.as_slice.result.now (c.keeps.ensures.clusters c.args.cluster c.requires.inside) is
 
@@ -23,20 +23,20 @@ put_column-requires-clause-low c =
     let k = cluster_at c.args.book.now c.args.cluster in
     let is : c.as_slice.result.now ≡ slice_index_or k.meta.pages c.loop-column.column [] =
     c.as_slice.ensures ∙ (get_or_read_under c.args.lists.now c.loop-column.column (length c.args.lists.now)
-        c.index-lists-column.result [] c.index-lists-column.is c.loop-column-test.true refl
+    c.index-lists-column.result [] c.index-lists-column.is c.loop-column-test.true refl
     ∙ ap (λ (l : List (List PageMeta)). slice_index_or l c.loop-column.column []) c.requires.lists) in
     low_pages _ c.loop-column.column (c.start-payload.result + 42) k c.as_slice.result.now
-        (c.keeps.ensures.clusters c.args.cluster c.requires.inside) (ap (λ (n : ℕ). n + 42) c.start-payload.ensures) is
+    (c.keeps.ensures.clusters c.args.cluster c.requires.inside) (ap (λ (n : ℕ). n + 42) c.start-payload.ensures) is
 
 pub loop-column-preserved : goal.loop-column-preserved
 loop-column-preserved c =
     let k = cluster_at c.args.book.now c.args.cluster in
     let is : c.as_slice.result.now ≡ slice_index_or k.meta.pages c.loop-column.column [] =
     c.as_slice.ensures ∙ (get_or_read_under c.args.lists.now c.loop-column.column (length c.args.lists.now)
-        c.index-lists-column.result [] c.index-lists-column.is c.loop-column-test.true refl
+    c.index-lists-column.result [] c.index-lists-column.is c.loop-column-test.true refl
     ∙ ap (λ (l : List (List PageMeta)). slice_index_or l c.loop-column.column []) c.requires.lists) in
     counted-next (listed_column c.args.book.now c.args.cluster) column_list_text (length c.args.lists.now) c.loop-column.column
-        c.loop-column.out c.put_column.new.out _ c.loop-column-test.true
+    c.loop-column.out c.put_column.new.out _ c.loop-column-test.true
     (column-is c.args.book.now c.args.cluster c.loop-column.column (c.start-payload.result + 42) c.offset-offset.result
-        c.as_slice.result.now c.loop-column.out c.put_column.new.out
+    c.as_slice.result.now c.loop-column.out c.put_column.new.out
     c.offset-offset.ensures (ap (λ (n : ℕ). n + 42) c.start-payload.ensures) is c.in_ok-put_column.ensures) c.loop-column.invariant

@@ -9,5 +9,5 @@ use Rattle.nt_meta.proofs.writing_columns.put_columns.Given as goal
 abbrev pub invariant-loop-column : goal.invariant-loop-column
 invariant-loop-column l =
     bytes_added (flat_map column_list_text (map (listed_column l.book l.cluster)
-        (range_with_len l.column (length l.lists - l.column)))) l.out
+    (range_with_len l.column (length l.lists - l.column)))) l.out
     ≡ bytes_added (flat_map column_list_text (map (listed_column l.book l.cluster) (range_with_len 0 (length l.lists)))) l.initial.out

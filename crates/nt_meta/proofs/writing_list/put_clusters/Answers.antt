@@ -6,4 +6,4 @@ use Rattle.nt_meta.proofs.writing_list.put_clusters.Goals as goal
 pub loop-cluster-preserved : goal.loop-cluster-preserved
 loop-cluster-preserved c =
     counted-next (listed_cluster c.args.book.now) (cluster_list_text) c.args.to c.loop-cluster.cluster c.loop-cluster.out
-        c.put_cluster.new.out _ c.loop-cluster-test.true c.in_ok-put_cluster.ensures c.loop-cluster.invariant
+    c.put_cluster.new.out _ c.loop-cluster-test.true c.in_ok-put_cluster.ensures c.loop-cluster.invariant

@@ -8,4 +8,4 @@ use Rattle.nt_meta.proofs.writing_list.put_clusters.Given as goal
 abbrev pub invariant-loop-cluster : goal.invariant-loop-cluster
 invariant-loop-cluster l =
     bytes_added (cluster_list_texts (listed_clusters l.book l.cluster (l.to - l.cluster))) l.out
-        ≡ bytes_added (cluster_list_texts (listed_clusters l.book l.from (l.to - l.from))) l.initial.out
+    ≡ bytes_added (cluster_list_texts (listed_clusters l.book l.from (l.to - l.from))) l.initial.out

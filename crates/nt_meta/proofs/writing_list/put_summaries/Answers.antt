@@ -6,4 +6,4 @@ use Rattle.nt_meta.proofs.writing_list.put_summaries.Goals as goal
 pub loop-cluster-preserved : goal.loop-cluster-preserved
 loop-cluster-preserved c =
     counted-next (listed_cluster c.args.book.now) (λ (w : ListedCluster). summary_text w.summary) c.args.to c.loop-cluster.cluster
-        c.loop-cluster.out c.put_summary.new.out _ c.loop-cluster-test.true c.in_ok-put_summary.ensures c.loop-cluster.invariant
+    c.loop-cluster.out c.put_summary.new.out _ c.loop-cluster-test.true c.in_ok-put_summary.ensures c.loop-cluster.invariant

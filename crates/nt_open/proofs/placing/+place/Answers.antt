@@ -33,7 +33,7 @@ place_members-loop-at-preserved t c =
     let cs = c.args.rows.now.columns.now in
     rw c.in_ok-push.ensures.items (member_placed fs cs c.args.members.now (ids_inside c.args.id 0 fs) c.loop-at.at c.index-members-at.result
     c.loop-at.list.items c.in_ok-place.field-0 (place_members fs cs (parts_of (map member_view c.args.members.now))
-        (ids_inside c.args.id 0 fs))
+    (ids_inside c.args.id 0 fs))
     (omega (arith, c.loop-at-test.true)) c.index-members-at.is
     (c.in_ok-place.ensures ∙ ap (place fs cs (shape_view c.index-members-at.result.of)) c.inside_at.ensures.id)
     c.loop-at.invariant)

@@ -10,6 +10,6 @@ invariant-mark_all-loop-plan l = record {
   count : length l.uses ≡ length l.initial.uses;
   each : (k : ℕ) → k < length l.initial.uses
       → option_or (use_at l.uses k) (use_in l.of.top (principal_in_any l.of.principal
-          (plans_of (map plan_view (drop l.plan-index l.plans))) k))
+      (plans_of (map plan_view (drop l.plan-index l.plans))) k))
       ≡ option_or (use_at l.initial.uses k) (use_in l.of.top (principal_in_any l.of.principal (plans_of (map plan_view l.plans)) k));
 }

@@ -15,8 +15,10 @@ returns-in_err-at g c =
       ok = tt;
       front = λ w is. (c.loop-at.at, c.loop-at.invariant.within, failed.err ∙ c.loop-at.invariant.world w is);
       asked = c.print.ensures.asked ∙ c.loop-at.invariant.asked;
-      cause = record { later = omega (arith, c.loop-at.invariant.later, failed.cause.later); failed =
-          omega (arith, c.loop-at.invariant.later, failed.cause.failed) };
+      cause = record {
+        later = omega (arith, c.loop-at.invariant.later, failed.cause.later);
+        failed = omega (arith, c.loop-at.invariant.later, failed.cause.failed);
+      };
       other = c.print.ensures.other ∙ c.loop-at.invariant.other;
       opened = c.print.ensures.opened ∙ c.loop-at.invariant.opened;
     })

@@ -21,9 +21,9 @@ put_part-requires-clause-within c =
 pub returns-clause-image : goal.returns-clause-image
 returns-clause-image c =
     rw (chunk-read c.args.page c.args.buffer.now.column.elements c.args.i _ _ c.requires.within c.len-count.ensures c.min.ensures)
-        c.put_part.ensures.image
+    c.put_part.ensures.image
 
 pub returns-clause-meta : goal.returns-clause-meta
 returns-clause-meta c =
     rw (chunk-read c.args.page c.args.buffer.now.column.elements c.args.i _ _ c.requires.within c.len-count.ensures c.min.ensures)
-        c.put_part.ensures.meta
+    c.put_part.ensures.meta

@@ -15,9 +15,9 @@ shred_by-requires-clause-entry c =
     let plans_are = ap plans_of c.as_slice-2.ensures ∙ c.plans.ensures in
     let trees_are = ap trees_of c.as_slice.ensures in
     let entry = entry-of c.args.schema.now (trees_of (trees_view c.args.trees.now)) c.args.out.now
-            (c.columns_differ.ensures c.args.schema.now) (c.columns_have_types.ensures c.args.schema.now) c.requires in
+    (c.columns_differ.ensures c.args.schema.now) (c.columns_have_types.ensures c.args.schema.now) c.requires in
     subst (λ p. IsEntry p (trees_in c.as_slice.result.now) c.args.out.now) (sym plans_are)
-        (subst (λ t. IsEntry (open_plans c.args.schema.now) t c.args.out.now) (sym trees_are) entry)
+    (subst (λ t. IsEntry (open_plans c.args.schema.now) t c.args.out.now) (sym trees_are) entry)
 
 pub returns-clause-last : goal.returns-clause-last
 returns-clause-last c =
@@ -25,7 +25,7 @@ returns-clause-last c =
     let trees_are = ap trees_of c.as_slice.ensures in
     let ts = trees_of (trees_view c.args.trees.now) in
     let entry = entry-of c.args.schema.now ts c.args.out.now (c.columns_differ.ensures c.args.schema.now)
-            (c.columns_have_types.ensures c.args.schema.now) c.requires in
+    (c.columns_have_types.ensures c.args.schema.now) c.requires in
     let added = c.in_ok-shred_by.ensures.added ∙ (λ i. put_trees (plans_are i) (trees_are i) (cols_of c.args.out.now)) in
     entry-last (open_plans c.args.schema.now) ts c.args.out.now c.shred_by.new.out entry added
 

@@ -13,13 +13,13 @@ loop-column-preserved c =
     let seen = ap length (elements-at c.loop-column.out c.loop-column.column c.column.result.now c.column.ensures) in
     let filled = ap length (elements-at c.loop-column.out c.loop-column.column c.buffer.result.now c.buffer.ensures.value) in
     let low : length c.buffer.result.now.column.elements + c.args.more ≤ c.limit-limit.result =
-            grind (arith, ends_below, seen, filled, c.len.ensures) in
+    grind (arith, ends_below, seen, filled, c.len.ensures) in
     grown-next c.args.out.now c.loop-column.out c.args.more c.loop-column.column c.limit-limit.result c.buffer.result.now
-        c.reserve.new.self c.loop-column.invariant c.buffer.ensures.value c.reserve.ensures.column c.in_ok-reserve.ensures.ok low
-          c.limit-limit.ensures
+    c.reserve.new.self c.loop-column.invariant c.buffer.ensures.value c.reserve.ensures.column c.in_ok-reserve.ensures.ok low
+    c.limit-limit.ensures
 
 pub returns-clause-ok : goal.returns-clause-ok
 returns-clause-ok c =
     let same = same-length c.args.out.now c.loop-column.out (frame-kept c.args.out.now c.loop-column.out c.loop-column.invariant.same) in
     grown-ends c.args.out.now c.loop-column.out c.args.more c.loop-column.column c.loop-column.invariant
-        (omega (arith, same, c.columns-column-end.ensures, c.loop-column-test.false))
+    (omega (arith, same, c.columns-column-end.ensures, c.loop-column-test.false))

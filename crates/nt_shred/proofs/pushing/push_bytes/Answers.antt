@@ -5,8 +5,12 @@ use Rattle.nt_shred.proofs.Sets.{spare-at, gains}
 use Rattle.nt_shred.proofs.pushing.push_bytes.Goals as goal
 
 pub push_bytes-requires-clause-spare : goal.push_bytes-requires-clause-spare
-push_bytes-requires-clause-spare c = omega (arith, length-plain c.args.bytes.now, spare-at c.args.out.now c.args.column
-    c.buffer.result.now (map plain c.args.bytes.now) c.buffer.ensures.value c.requires.room)
+push_bytes-requires-clause-spare c = omega (
+  arith,
+  length-plain c.args.bytes.now,
+  spare-at c.args.out.now c.args.column
+      c.buffer.result.now (map plain c.args.bytes.now) c.buffer.ensures.value c.requires.room,
+)
 
 pub returns : goal.returns
 returns c = gains c.args.out.now c.args.column c.buffer.result.now c.push_bytes.new.self (map plain c.args.bytes.now)

@@ -15,7 +15,7 @@ returns-in_err-key-clause-read g c told is =
     let headed = c.in_ok-header.ensures.file.same ∙ sized in
     let found = c.in_ok-directory.ensures.file.same ∙ headed in
     let failed = key-fails told _ _ _ (c.in_ok-header.ensures.read told sized) (c.in_ok-directory.ensures.read told headed)
-            (c.in_err-key.ensures.read told found) in
+    (c.in_err-key.ensures.read told found) in
     search (rules, failed)
 
 pub returns-clause-read : goal.returns-clause-read
@@ -25,4 +25,4 @@ returns-clause-read g c told is =
     let found = c.in_ok-directory.ensures.file.same ∙ headed in
     let keyed = c.in_ok-key.ensures.file.same ∙ found in
     anchor-done told _ _ _ _ (c.in_ok-header.ensures.read told sized) (c.in_ok-directory.ensures.read told headed)
-        (c.in_ok-key.ensures.read told found) (c.read_anchor.ensures.read told keyed)
+    (c.in_ok-key.ensures.read told found) (c.read_anchor.ensures.read told keyed)

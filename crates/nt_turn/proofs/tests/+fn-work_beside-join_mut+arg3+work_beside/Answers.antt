@@ -10,4 +10,4 @@ returns-clause-joined g t c =
     let number : c.pass-2-1.given.0.number ≡ c.args.first.now.splits = search rules in
     let splits : c.join.new.first.splits ≡ between.splits = ap (λ p. p.splits) c.join.ensures.first in
     joins_since _ c.split-pass.new.first between _ _ _ c.split-pass.ensures.first since number splits
-        (ap (λ p. p.kept) c.join.ensures.first)
+    (ap (λ p. p.kept) c.join.ensures.first)

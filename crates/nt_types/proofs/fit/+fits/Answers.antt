@@ -14,31 +14,31 @@ each_fits-returns-then-shapes-trees t c =
     let ss = c.args.shapes.now in
     let ts = c.args.trees.now in
     kinds_unequal (map shape_view ss) (map tree_view ts)
-        (λ e. c.if-shapes-trees.true (sym (length-map ss shape_view) ∙ e ∙ length-map ts tree_view))
+    (λ e. c.if-shapes-trees.true (sym (length-map ss shape_view) ∙ e ∙ length-map ts tree_view))
 
 pub members_fit-returns-then-members-trees : goal.members_fit-returns-then-members-trees
 members_fit-returns-then-members-trees t c =
     let ms = c.args.members.now in
     let ts = c.args.trees.now in
     parts_unequal (map member_view ms) (map tree_view ts)
-        (λ e. c.if-members-trees.true (sym (length-map ms member_view) ∙ e ∙ length-map ts tree_view))
+    (λ e. c.if-members-trees.true (sym (length-map ms member_view) ∙ e ∙ length-map ts tree_view))
 
 pub members_fit-returns-then-not-fits : goal.members_fit-returns-then-not-fits
 members_fit-returns-then-not-fits t c =
     let i = c.loop-i.i in
     let e = member_step c.args.members.now c.args.trees.now i c.index-members-i.result c.index-trees-i.result c.fits.result
-            (omega (arith, c.loop-i-test.true)) (omega (arith, c.loop-i-test.true, c.if-members-trees.false)) c.index-members-i.is
-              c.index-trees-i.is (c.fits.ensures ∙ ap (λ (m : Member). fits (shape_view m.of) (tree_view c.index-trees-i.result))
-                (sym c.index-members-i.is)) in
+    (omega (arith, c.loop-i-test.true)) (omega (arith, c.loop-i-test.true, c.if-members-trees.false)) c.index-members-i.is
+    c.index-trees-i.is (c.fits.ensures ∙ ap (λ (m : Member). fits (shape_view m.of) (tree_view c.index-trees-i.result))
+    (sym c.index-members-i.is)) in
     search (rules, c.loop-i.invariant, e)
 
 pub members_fit-loop-i-preserved : goal.members_fit-loop-i-preserved
 members_fit-loop-i-preserved t c =
     let i = c.loop-i.i in
     let e = member_step c.args.members.now c.args.trees.now i c.index-members-i.result c.index-trees-i.result c.fits.result
-            (omega (arith, c.loop-i-test.true)) (omega (arith, c.loop-i-test.true, c.if-members-trees.false)) c.index-members-i.is
-              c.index-trees-i.is (c.fits.ensures ∙ ap (λ (m : Member). fits (shape_view m.of) (tree_view c.index-trees-i.result))
-                (sym c.index-members-i.is)) in
+    (omega (arith, c.loop-i-test.true)) (omega (arith, c.loop-i-test.true, c.if-members-trees.false)) c.index-members-i.is
+    c.index-trees-i.is (c.fits.ensures ∙ ap (λ (m : Member). fits (shape_view m.of) (tree_view c.index-trees-i.result))
+    (sym c.index-members-i.is)) in
     search (rules, c.loop-i.invariant, e)
 
 pub one_fits-returns-then-tag-eq0 : goal.one_fits-returns-then-tag-eq0
@@ -61,4 +61,4 @@ one_fits-returns t c =
     let in_range : c.args.tag - 1 < length ss = omega (arith, c.if-tag-eq0.false, c.if-tag-shapes.false) in
     let next : suc (c.args.tag - 1) ≡ c.args.tag = omega (arith, c.if-tag-eq0.false) in
     c.fits.ensures ∙ sym (one-nth ks (c.args.tag - 1) (shape_view k) v (omega (arith, in_range, length-map ss shape_view))
-        (nth-shape ss (c.args.tag - 1) k in_range c.index-shapes-tag.is)) ∙ ap (λ n. fits_one (kinds_of ks) n v) next
+    (nth-shape ss (c.args.tag - 1) k in_range c.index-shapes-tag.is)) ∙ ap (λ n. fits_one (kinds_of ks) n v) next

@@ -11,9 +11,9 @@ returns c =
     let from : Rule = number_option (codes "from") 0 18446744073709551615 in
     let count : Rule = number_option (codes "count") 0 18446744073709551615 in
     let one = one_more name [] from c.bare.result c.in_ok-command.command c.number_option.result c.bare.ensures
-            c.number_option.ensures c.in_ok-command.ensures in
+    c.number_option.ensures c.in_ok-command.ensures in
     let two = one_more name (from ∷ []) count c.in_ok-command.command c.in_ok-command-2.command c.number_option-2.result one
-            c.number_option-2.ensures c.in_ok-command-2.ensures in
+    c.number_option-2.ensures c.in_ok-command-2.ensures in
     IfOk-weaker c.arg-3.result _ _ (λ cmd added.
     one_more name (from ∷ count ∷ []) (operand (codes "FILE")) c.in_ok-command-2.command cmd c.operand.result two c.operand.ensures
-        added) c.arg-3.ensures
+    added) c.arg-3.ensures

@@ -9,13 +9,13 @@ use Rattle.nt_words.proofs.show.entries_of.Goals as goal
 pub name_in-requires : goal.name_in-requires
 name_in-requires c =
     operand_there (codes "entries") entries_rules c.in_ok-entries_command.field-0 c.in-Some.matches 2 (codes "FILE")
-        (own_by (codes "FILE") refl refl refl) c.in_ok-entries_command.ensures refl refl
+    (own_by (codes "FILE") refl refl refl) c.in_ok-entries_command.ensures refl refl
     (held (IsParsedFrom c.in_ok-entries_command.field-0) _ c.in-Some.matches c.in-Some.is c.in_ok-matches.ensures.parsed)
 
 pub returns-in_default : goal.returns-in_default
 returns-in_default c =
     wrong_entries (texts c.args.words.now) c.requires (refused_of (app_of c.in_ok-entries_command.field-0) entries_app
-        (texts c.args.words.now) _ (c.in_ok-entries_command.ensures.app_is ∙ entries_is) c.in_default.is c.in_ok-matches.ensures.reads)
+    (texts c.args.words.now) _ (c.in_ok-entries_command.ensures.app_is ∙ entries_is) c.in_default.is c.in_ok-matches.ensures.reads)
 
 pub returns : goal.returns
 returns c =
@@ -26,7 +26,7 @@ returns c =
     let from = there 0 0 18446744073709551615 (codes "from") (own_by (codes "from") refl refl refl) is refl refl parsed in
     let count = there 1 0 18446744073709551615 (codes "count") (own_by (codes "count") refl refl refl) is refl refl parsed in
     let read = reads_of (app_of c.in_ok-entries_command.field-0) entries_app words _ c.in-Some.matches (is.app_is ∙ entries_is)
-            c.in-Some.is c.in_ok-matches.ensures.reads in
+    c.in-Some.is c.in_ok-matches.ensures.reads in
     record {
       begins = c.requires;
       taken = read.0;

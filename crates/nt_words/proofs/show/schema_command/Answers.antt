@@ -7,4 +7,4 @@ use Rattle.nt_words.proofs.show.schema_command.Goals as goal
 pub returns : goal.returns
 returns c =
     IfOk-weaker c.arg.result _ _ (λ cmd added. one_more (codes "schema") [] (operand (codes "FILE")) c.bare.result cmd
-        c.operand.result c.bare.ensures c.operand.ensures added) c.arg.ensures
+    c.operand.result c.bare.ensures c.operand.ensures added) c.arg.ensures

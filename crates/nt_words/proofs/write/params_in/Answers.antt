@@ -7,29 +7,29 @@ use Rattle.nt_words.proofs.write.params_in.Goals as goal
 pub overflow_cast-cluster : goal.overflow_cast-cluster
 overflow_cast-cluster c =
     let cluster = in_range_or 1 1000000 c.number_in.result 10000 c.unwrap_or-cluster.result c.unwrap_or-cluster.ensures
-            (c.number_in.ensures 1 1000000 c.requires.cluster).1 (omega arith) (omega arith) in
+    (c.number_in.ensures 1 1000000 c.requires.cluster).1 (omega arith) (omega arith) in
     omega arith
 
 pub overflow_cast-page : goal.overflow_cast-page
 overflow_cast-page c =
     let page = in_range_or 1 1048576 c.number_in-2.result 4096 c.unwrap_or-page.result c.unwrap_or-page.ensures
-            (c.number_in-2.ensures 1 1048576 c.requires.page).1 (omega arith) (omega arith) in
+    (c.number_in-2.ensures 1 1048576 c.requires.page).1 (omega arith) (omega arith) in
     omega arith
 
 pub overflow_cast-group : goal.overflow_cast-group
 overflow_cast-group c =
     let group = in_range_or 1 10000 c.number_in-3.result 1000 c.unwrap_or-group.result c.unwrap_or-group.ensures
-            (c.number_in-3.ensures 1 10000 c.requires.group).1 (omega arith) (omega arith) in
+    (c.number_in-3.ensures 1 10000 c.requires.group).1 (omega arith) (omega arith) in
     omega arith
 
 pub unreachable-requires : goal.unreachable-requires
 unreachable-requires c =
     let cluster = in_range_or 1 1000000 c.number_in.result 10000 c.unwrap_or-cluster.result c.unwrap_or-cluster.ensures
-            (c.number_in.ensures 1 1000000 c.requires.cluster).1 (omega arith) (omega arith) in
+    (c.number_in.ensures 1 1000000 c.requires.cluster).1 (omega arith) (omega arith) in
     let page = in_range_or 1 1048576 c.number_in-2.result 4096 c.unwrap_or-page.result c.unwrap_or-page.ensures
-            (c.number_in-2.ensures 1 1048576 c.requires.page).1 (omega arith) (omega arith) in
+    (c.number_in-2.ensures 1 1048576 c.requires.page).1 (omega arith) (omega arith) in
     let group = in_range_or 1 10000 c.number_in-3.result 1000 c.unwrap_or-group.result c.unwrap_or-group.ensures
-            (c.number_in-3.ensures 1 10000 c.requires.group).1 (omega arith) (omega arith) in
+    (c.number_in-3.ensures 1 10000 c.requires.group).1 (omega arith) (omega arith) in
     let bad : false ≡ true = c.in-None.ensures.exact.1 (cluster, page, group) in
     cc
 

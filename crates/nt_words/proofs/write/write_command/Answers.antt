@@ -12,9 +12,9 @@ returns c =
     let out : Rule = operand (codes "OUT") in
     let schema : Rule = operand (codes "SCHEMA") in
     let one = one_more name options out c.in_ok-options.field-0 c.in_ok-command.command c.operand.result c.in_ok-options.ensures
-            c.operand.ensures c.in_ok-command.ensures in
+    c.operand.ensures c.in_ok-command.ensures in
     let two = one_more name (options ++ out ∷ []) schema c.in_ok-command.command c.in_ok-command-2.command c.operand-2.result one
-            c.operand-2.ensures c.in_ok-command-2.ensures in
+    c.operand-2.ensures c.in_ok-command-2.ensures in
     IfOk-weaker c.arg-3.result _ _ (λ cmd added.
     one_more name (options ++ out ∷ schema ∷ []) (operands (codes "IN")) c.in_ok-command-2.command cmd c.operands.result two
-        c.operands.ensures added) c.arg-3.ensures
+    c.operands.ensures added) c.arg-3.ensures

@@ -12,18 +12,18 @@ use Rattle.nt_words.proofs.write.write_of.Goals as goal
 pub returns-in_default : goal.returns-in_default
 returns-in_default c =
     wrong_write (texts c.args.words.now) c.requires (inl (refused_of (app_of c.in_ok-write_command.field-0) write_app
-        (texts c.args.words.now) _ (c.in_ok-write_command.ensures.app_is ∙ write_is) c.in_default.is c.in_ok-matches.ensures.reads))
+    (texts c.args.words.now) _ (c.in_ok-write_command.ensures.app_is ∙ write_is) c.in_default.is c.in_ok-matches.ensures.reads))
 
 pub name_in-out-requires : goal.name_in-out-requires
 name_in-out-requires c =
     operand_there (codes "write") write_rules c.in_ok-write_command.field-0 c.in-Some.matches 6 (codes "OUT")
-        (own_by (codes "OUT") refl refl refl) c.in_ok-write_command.ensures refl refl
+    (own_by (codes "OUT") refl refl refl) c.in_ok-write_command.ensures refl refl
     (held (IsParsedFrom c.in_ok-write_command.field-0) _ c.in-Some.matches c.in-Some.is c.in_ok-matches.ensures.parsed)
 
 pub name_in-schema-requires : goal.name_in-schema-requires
 name_in-schema-requires c =
     operand_there (codes "write") write_rules c.in_ok-write_command.field-0 c.in-Some.matches 7 (codes "SCHEMA")
-        (own_by (codes "SCHEMA") refl refl refl) c.in_ok-write_command.ensures refl refl
+    (own_by (codes "SCHEMA") refl refl refl) c.in_ok-write_command.ensures refl refl
     (held (IsParsedFrom c.in_ok-write_command.field-0) _ c.in-Some.matches c.in-Some.is c.in_ok-matches.ensures.parsed)
 
 pub params_in-requires : goal.params_in-requires
@@ -45,7 +45,7 @@ pub returns-then-not-are_apart : goal.returns-then-not-are_apart
 returns-then-not-are_apart c =
     let words = texts c.args.words.now in
     let read = reads_of (app_of c.in_ok-write_command.field-0) write_app words _ c.in-Some.matches
-            (c.in_ok-write_command.ensures.app_is ∙ write_is) c.in-Some.is c.in_ok-matches.ensures.reads in
+    (c.in_ok-write_command.ensures.app_is ∙ write_is) c.in-Some.is c.in_ok-matches.ensures.reads in
     let items : c.deref.result.now ≡ c.in_ok-inputs.inputs.items = search rules in
     wrong_write words c.requires (inr (record {
       out = c.name_in-out.result.now;
@@ -60,7 +60,7 @@ pub returns : goal.returns
 returns c =
     let words = texts c.args.words.now in
     let read = reads_of (app_of c.in_ok-write_command.field-0) write_app words _ c.in-Some.matches
-            (c.in_ok-write_command.ensures.app_is ∙ write_is) c.in-Some.is c.in_ok-matches.ensures.reads in
+    (c.in_ok-write_command.ensures.app_is ∙ write_is) c.in-Some.is c.in_ok-matches.ensures.reads in
     let items : c.deref.result.now ≡ c.in_ok-inputs.inputs.items = search rules in
     record {
       begins = c.requires;

@@ -26,10 +26,10 @@ push_offsets-requires-clause-fit c =
     let fits = limit_error-none c.self.inside.limits c.self.inside.end (length c.self.inside.rows.items) c.take.result.len
     (ap (λ (m : ClusterMeta). limit_error c.self.inside.limits c.self.inside.end (length c.self.inside.rows.items) m.len) taken
     ∙ (sym (limit-book _ _ _ h c.args.self.now told c.self.inside.limits c.self.inside.end c.args.meta.now.len
-        (ap (λ (b : BookData). b.limits) c.self.view_is) (sym (ap (λ (b : BookData). b.begin) c.self.view_is)) counted.ends)
+    (ap (λ (b : BookData). b.limits) c.self.view_is) (sym (ap (λ (b : BookData). b.begin) c.self.view_is)) counted.ends)
     ∙ c.requires.limits)) in
     pushed-fit c.self.inside.begin c.self.inside.end c.self.inside.entries c.self.inside.out c.self.inside.limits
-        c.self.inside.firsts.items c.self.inside.offsets.items c.self.inside.rows.items c.take.result _ _
+    c.self.inside.firsts.items c.self.inside.offsets.items c.self.inside.rows.items c.take.result _ _
     c.as_slice.ensures (omega (arith, c.self.inside.offsets.ok)) lists counted c.self.invariant.2 paged fits.1
 
 pub overflow_add-self-2 : goal.overflow_add-self-2
@@ -44,10 +44,10 @@ overflow_add-self-2 c =
     let fits = limit_error-none c.self.inside.limits c.self.inside.end (length c.self.inside.rows.items) c.take.result.len
     (ap (λ (m : ClusterMeta). limit_error c.self.inside.limits c.self.inside.end (length c.self.inside.rows.items) m.len) taken
     ∙ (sym (limit-book _ _ _ h c.args.self.now told c.self.inside.limits c.self.inside.end c.args.meta.now.len
-        (ap (λ (b : BookData). b.limits) c.self.view_is) (sym (ap (λ (b : BookData). b.begin) c.self.view_is)) counted.ends)
+    (ap (λ (b : BookData). b.limits) c.self.view_is) (sym (ap (λ (b : BookData). b.begin) c.self.view_is)) counted.ends)
     ∙ c.requires.limits)) in
     let few = entries-fit c.self.inside.begin c.self.inside.end c.self.inside.entries c.self.inside.out c.self.inside.limits
-            c.self.inside.firsts.items c.self.inside.rows.items counted in
+    c.self.inside.firsts.items c.self.inside.rows.items counted in
     omega (arith, few, fits.1, paged.entries, c.self.inside.limits.file_bound)
 
 pub overflow_add-self-3 : goal.overflow_add-self-3
@@ -62,10 +62,16 @@ overflow_add-self-3 c =
     let fits = limit_error-none c.self.inside.limits c.self.inside.end (length c.self.inside.rows.items) c.take.result.len
     (ap (λ (m : ClusterMeta). limit_error c.self.inside.limits c.self.inside.end (length c.self.inside.rows.items) m.len) taken
     ∙ (sym (limit-book _ _ _ h c.args.self.now told c.self.inside.limits c.self.inside.end c.args.meta.now.len
-        (ap (λ (b : BookData). b.limits) c.self.view_is) (sym (ap (λ (b : BookData). b.begin) c.self.view_is)) counted.ends)
+    (ap (λ (b : BookData). b.limits) c.self.view_is) (sym (ap (λ (b : BookData). b.begin) c.self.view_is)) counted.ends)
     ∙ c.requires.limits)) in
-    omega (arith, count_out-le c.self.inside.rows.items, counted.counted, counted.bound, fewer (length c.self.inside.rows.items)
-        c.self.inside.limits.clusters counted.few fits.2)
+    omega (
+      arith,
+      count_out-le c.self.inside.rows.items,
+      counted.counted,
+      counted.bound,
+      fewer (length c.self.inside.rows.items)
+          c.self.inside.limits.clusters counted.few fits.2,
+    )
 
 pub invariant_of-self : goal.invariant_of-self
 invariant_of-self c =
@@ -79,7 +85,7 @@ invariant_of-self c =
     let fits = limit_error-none c.self.inside.limits c.self.inside.end (length c.self.inside.rows.items) c.take.result.len
     (ap (λ (m : ClusterMeta). limit_error c.self.inside.limits c.self.inside.end (length c.self.inside.rows.items) m.len) taken
     ∙ (sym (limit-book _ _ _ h c.args.self.now told c.self.inside.limits c.self.inside.end c.args.meta.now.len
-        (ap (λ (b : BookData). b.limits) c.self.view_is) (sym (ap (λ (b : BookData). b.begin) c.self.view_is)) counted.ends)
+    (ap (λ (b : BookData). b.limits) c.self.view_is) (sym (ap (λ (b : BookData). b.begin) c.self.view_is)) counted.ends)
     ∙ c.requires.limits)) in
     let number : c.len-cluster.result ≡ length c.self.inside.rows.items = omega (arith, c.len-cluster.ensures, c.self.inside.rows.ok) in
     let row : ClusterRow = record { meta = c.take.result; start = c.self.inside.end; first = c.self.inside.entries; state = state.Out } in
@@ -89,23 +95,27 @@ invariant_of-self c =
       subst (λ (rs : List ClusterRow). IsHistory c.self.inside.begin rs c.push_reserved.new.self.items)
           (sym c.push_reserved-2.ensures.items)
           (subst (λ (es : List Event). IsHistory c.self.inside.begin (c.self.inside.rows.items ++ row ∷ []) es)
-              (sym c.push_reserved.ensures.items)
+          (sym c.push_reserved.ensures.items)
           (subst (λ (n : ℕ). IsHistory c.self.inside.begin (c.self.inside.rows.items ++ row ∷ []) (c.self.inside.events.items
-              ++ record { context = c.take.result.context; kind = Committed; cluster = n } ∷ [])) (sym number)
+          ++ record { context = c.take.result.context; kind = Committed; cluster = n } ∷ [])) (sym number)
           (IsHistory-committed _ _ _ h c.take.result c.self.inside.end c.self.inside.entries counted.ends))),
       subst (λ (rs : List ClusterRow). IsCounted c.self.inside.begin (c.self.inside.end + c.take.result.len) (c.self.inside.entries
           + c.take.result.entries) (c.self.inside.out + 1) c.self.inside.limits c.self.inside.firsts.items rs)
           (sym c.push_reserved-2.ensures.items)
           (IsCounted-append c.self.inside.rows.items row c.self.inside.begin c.self.inside.end c.self.inside.entries
-              c.self.inside.out c.self.inside.limits c.self.inside.firsts.items refl refl
-          (record { short = omega (arith, fits.0, c.self.inside.limits.range_bound); low =
-              omega (arith, fits.1, c.self.inside.limits.file_bound); lists = lists; paged = paged }) fits.1 fits.2 counted),
+          c.self.inside.out c.self.inside.limits c.self.inside.firsts.items refl refl
+          (record {
+            short = omega (arith, fits.0, c.self.inside.limits.range_bound);
+            low = omega (arith, fits.1, c.self.inside.limits.file_bound);
+            lists = lists;
+            paged = paged;
+          }) fits.1 fits.2 counted),
       subst (λ (rs : List ClusterRow). AreOffsets c.self.inside.firsts.items rs c.push_offsets.new.offsets.items)
           (sym c.push_reserved-2.ensures.items)
           (AreOffsets-pushed c.self.inside.rows.items row c.self.inside.firsts.items c.self.inside.offsets.items
-              c.push_offsets.new.offsets.items _ _ c.as_slice.ensures (omega (arith, c.self.inside.offsets.ok)) lists
+          c.push_offsets.new.offsets.items _ _ c.as_slice.ensures (omega (arith, c.self.inside.offsets.ok)) lists
           c.self.invariant.2 (omega (arith, c.push_offsets.ensures.long, c.push_offsets.new.offsets.ok)) c.push_offsets.ensures.kept
-              c.push_offsets.ensures.behind),
+          c.push_offsets.ensures.behind),
       record {
         one = omega (arith, room.one);
         for_row = omega (arith, room.for_row, spare, c.push_reserved-2.ensures.len, c.push_reserved-2.ensures.capacity);
@@ -134,21 +144,24 @@ returns-clause-book c =
     let row : ClusterRow = record { meta = c.take.result; start = c.self.inside.end; first = c.self.inside.entries; state = state.Out } in
     let counted = c.self.invariant.1 in
     let ends : c.self.inside.end ≡ book_end c.args.self.now =
-            counted.ends ∙ sym (end-book _ _ _ h c.args.self.now told (sym (ap (λ (b : BookData). b.begin) c.self.view_is))) in
+    counted.ends ∙ sym (end-book _ _ _ h c.args.self.now told (sym (ap (λ (b : BookData). b.begin) c.self.view_is))) in
     let grown : history_of c.push_reserved-2.new.self.items c.push_reserved.new.self.items
     ≡ history_of c.self.inside.rows.items c.self.inside.events.items
-        ++ committed_entry c.len-cluster.result (book_end c.args.self.now) c.args.meta.now ∷ [] =
+    ++ committed_entry c.len-cluster.result (book_end c.args.self.now) c.args.meta.now ∷ [] =
     ap (λ (rs : List ClusterRow). history_of rs c.push_reserved.new.self.items) c.push_reserved-2.ensures.items
     ∙ (ap (λ (es : List Event). history_of (c.self.inside.rows.items ++ row ∷ []) es) c.push_reserved.ensures.items
-    ∙ (ap (λ (n : ℕ). history_of (c.self.inside.rows.items ++ row ∷ []) (c.self.inside.events.items ++ record { context =
-        c.take.result.context; kind = Committed; cluster = n } ∷ [])) number
+    ∙ (ap (λ (n : ℕ). history_of (c.self.inside.rows.items ++ row ∷ []) (c.self.inside.events.items ++ record {
+      context = c.take.result.context;
+      kind = Committed;
+      cluster = n;
+    } ∷ [])) number
     ∙ (history-committed _ _ _ h c.take.result c.self.inside.end c.self.inside.entries counted.ends
     ∙ (ap (λ (n : ℕ). history_of c.self.inside.rows.items c.self.inside.events.items
-        ++ committed_entry n c.self.inside.end c.take.result ∷ []) (sym number)
+    ++ committed_entry n c.self.inside.end c.take.result ∷ []) (sym number)
     ∙ (ap (λ (e : ℕ). history_of c.self.inside.rows.items c.self.inside.events.items ++ committed_entry c.len-cluster.result e
-        c.take.result ∷ []) ends
+    c.take.result ∷ []) ends
     ∙ ap (λ (m : ClusterMeta). history_of c.self.inside.rows.items c.self.inside.events.items
-        ++ committed_entry c.len-cluster.result (book_end c.args.self.now) m ∷ []) c.take.ensures.taken))))) in
+    ++ committed_entry c.len-cluster.result (book_end c.args.self.now) m ∷ []) c.take.ensures.taken))))) in
     subst
     (λ (b : BookData). record {
       begin = c.self.inside.begin;
@@ -156,7 +169,15 @@ returns-clause-book c =
       firsts = c.self.inside.firsts.items;
       history = history_of c.push_reserved-2.new.self.items c.push_reserved.new.self.items;
       spare = c.self.inside.spare - 1;
-    } ≡ record b { history = b.history ++ committed_entry c.len-cluster.result (book_end c.args.self.now) c.args.meta.now
-        ∷ []; spare = b.spare - 1 }) c.self.view_is
-    (ap (λ (l : List (Entry ClusterMeta)). record { begin = c.self.inside.begin; limits = c.self.inside.limits; firsts =
-        c.self.inside.firsts.items; history = l; spare = c.self.inside.spare - 1 }) grown)
+    } ≡ record b {
+      history = b.history ++ committed_entry c.len-cluster.result (book_end c.args.self.now) c.args.meta.now
+          ∷ [];
+      spare = b.spare - 1;
+    }) c.self.view_is
+    (ap (λ (l : List (Entry ClusterMeta)). record {
+      begin = c.self.inside.begin;
+      limits = c.self.inside.limits;
+      firsts = c.self.inside.firsts.items;
+      history = l;
+      spare = c.self.inside.spare - 1;
+    }) grown)

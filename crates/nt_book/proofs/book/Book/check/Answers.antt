@@ -12,11 +12,11 @@ returns-then-len-self-2 c =
     let told = ap (λ (b : BookData). b.history) c.self.view_is in
     let ends = c.self.invariant.1.ends in
     let full : length c.self.inside.rows.items ≡ c.self.inside.limits.clusters =
-            omega (arith, c.len.ensures, c.self.inside.rows.ok, c.if-len-self-2.true) in
+    omega (arith, c.len.ensures, c.self.inside.rows.ok, c.if-len-self-2.true) in
     sym (limit-book _ _ _ h c.args.self.now told c.self.inside.limits c.self.inside.end c.args.len
-        (ap (λ (b : BookData). b.limits) c.self.view_is) (sym (ap (λ (b : BookData). b.begin) c.self.view_is)) ends
+    (ap (λ (b : BookData). b.limits) c.self.view_is) (sym (ap (λ (b : BookData). b.begin) c.self.view_is)) ends
     ∙ limit_error-fits c.self.inside.limits c.self.inside.end (length c.self.inside.rows.items) c.args.len true c.if-len-self.false
-        c.if-end-self.false (eq-eqb (length c.self.inside.rows.items) c.self.inside.limits.clusters full))
+    c.if-end-self.false (eq-eqb (length c.self.inside.rows.items) c.self.inside.limits.clusters full))
 
 pub returns : goal.returns
 returns c =
@@ -25,8 +25,8 @@ returns c =
     let ends = c.self.invariant.1.ends in
     let lens = c.len.ensures in
     let fewer : length c.self.inside.rows.items ≡ c.self.inside.limits.clusters → ⊥ =
-            λ full. c.if-len-self-2.false (omega (arith, lens, c.self.inside.rows.ok, full)) in
+    λ full. c.if-len-self-2.false (omega (arith, lens, c.self.inside.rows.ok, full)) in
     sym (limit-book _ _ _ h c.args.self.now told c.self.inside.limits c.self.inside.end c.args.len
-        (ap (λ (b : BookData). b.limits) c.self.view_is) (sym (ap (λ (b : BookData). b.begin) c.self.view_is)) ends
+    (ap (λ (b : BookData). b.limits) c.self.view_is) (sym (ap (λ (b : BookData). b.begin) c.self.view_is)) ends
     ∙ limit_error-fits c.self.inside.limits c.self.inside.end (length c.self.inside.rows.items) c.args.len false c.if-len-self.false
-        c.if-end-self.false (not-eqb (length c.self.inside.rows.items) c.self.inside.limits.clusters fewer))
+    c.if-end-self.false (not-eqb (length c.self.inside.rows.items) c.self.inside.limits.clusters fewer))

@@ -18,7 +18,7 @@ returns-clause-meta c =
     let told = ap (λ (b : BookData). b.history) c.self.view_is in
     let less : c.args.cluster < length c.self.inside.rows.items = omega (arith, c.requires, length-book _ _ _ h c.args.self.now told) in
     ap (λ row. row.meta) c.index.ensures ∙ ap (λ cluster. cluster.meta)
-        (sym (cluster_at-book _ _ _ h c.args.self.now told c.args.cluster c.index.result.now less))
+    (sym (cluster_at-book _ _ _ h c.args.self.now told c.args.cluster c.index.result.now less))
 
 pub returns-clause-lists : goal.returns-clause-lists
 returns-clause-lists c =
@@ -27,7 +27,7 @@ returns-clause-lists c =
     let less : c.args.cluster < length c.self.inside.rows.items = omega (arith, c.requires, length-book _ _ _ h c.args.self.now told) in
     let counted = c.self.invariant.1 in
     let row = each-at (IsRowOf (length c.self.inside.firsts.items)) c.self.inside.rows.items c.args.cluster c.index.result.now
-            counted.each less in
+    counted.each less in
     ap (λ (r : ClusterRow). length r.meta.pages) c.index.ensures ∙ (row.lists ∙ ap (λ (b : BookData). length b.firsts) c.self.view_is)
 
 pub returns-clause-paged : goal.returns-clause-paged
@@ -37,5 +37,5 @@ returns-clause-paged c =
     let less : c.args.cluster < length c.self.inside.rows.items = omega (arith, c.requires, length-book _ _ _ h c.args.self.now told) in
     let counted = c.self.invariant.1 in
     let row = each-at (IsRowOf (length c.self.inside.firsts.items)) c.self.inside.rows.items c.args.cluster c.index.result.now
-            counted.each less in
+    counted.each less in
     subst (λ (r : ClusterRow). IsPaged r.meta) (sym c.index.ensures) row.paged

@@ -11,15 +11,15 @@ overflow_mul-cluster c =
     let h = c.self.invariant.0 in
     let told = ap (λ (b : BookData). b.history) c.self.view_is in
     let inside : c.args.cluster < length c.self.inside.rows.items =
-            omega (arith, c.requires.cluster, length-book _ _ _ h c.args.self.now told) in
+    omega (arith, c.requires.cluster, length-book _ _ _ h c.args.self.now told) in
     let less : c.args.column < length c.self.inside.firsts.items =
-            omega (arith, c.requires.column, ap (λ (b : BookData). length b.firsts) c.self.view_is) in
+    omega (arith, c.requires.column, ap (λ (b : BookData). length b.firsts) c.self.view_is) in
     let same : c.len.result ≡ length c.self.inside.firsts.items = omega (arith, c.len.ensures, c.self.inside.firsts.ok) in
     let product : c.args.cluster * c.len.result ≡ c.args.cluster * length c.self.inside.firsts.items =
-            ap (λ (n : ℕ). c.args.cluster * n) same in
+    ap (λ (n : ℕ). c.args.cluster * n) same in
     let long = c.self.invariant.2.long in
     let place = table_place c.args.cluster (length c.self.inside.rows.items) c.args.column (length c.self.inside.firsts.items)
-            (omega arith) less in
+    (omega arith) less in
     omega (arith, long, place, product, c.self.inside.offsets.ok, c.self.inside.offsets.small)
 
 pub overflow_add-cluster : goal.overflow_add-cluster
@@ -27,15 +27,15 @@ overflow_add-cluster c =
     let h = c.self.invariant.0 in
     let told = ap (λ (b : BookData). b.history) c.self.view_is in
     let inside : c.args.cluster < length c.self.inside.rows.items =
-            omega (arith, c.requires.cluster, length-book _ _ _ h c.args.self.now told) in
+    omega (arith, c.requires.cluster, length-book _ _ _ h c.args.self.now told) in
     let less : c.args.column < length c.self.inside.firsts.items =
-            omega (arith, c.requires.column, ap (λ (b : BookData). length b.firsts) c.self.view_is) in
+    omega (arith, c.requires.column, ap (λ (b : BookData). length b.firsts) c.self.view_is) in
     let same : c.len.result ≡ length c.self.inside.firsts.items = omega (arith, c.len.ensures, c.self.inside.firsts.ok) in
     let product : c.args.cluster * c.len.result ≡ c.args.cluster * length c.self.inside.firsts.items =
-            ap (λ (n : ℕ). c.args.cluster * n) same in
+    ap (λ (n : ℕ). c.args.cluster * n) same in
     let long = c.self.invariant.2.long in
     let place = table_place c.args.cluster (length c.self.inside.rows.items) c.args.column (length c.self.inside.firsts.items)
-            (omega arith) less in
+    (omega arith) less in
     omega (arith, long, place, product, c.self.inside.offsets.ok, c.self.inside.offsets.small)
 
 pub index-requires : goal.index-requires
@@ -43,15 +43,15 @@ index-requires c =
     let h = c.self.invariant.0 in
     let told = ap (λ (b : BookData). b.history) c.self.view_is in
     let inside : c.args.cluster < length c.self.inside.rows.items =
-            omega (arith, c.requires.cluster, length-book _ _ _ h c.args.self.now told) in
+    omega (arith, c.requires.cluster, length-book _ _ _ h c.args.self.now told) in
     let less : c.args.column < length c.self.inside.firsts.items =
-            omega (arith, c.requires.column, ap (λ (b : BookData). length b.firsts) c.self.view_is) in
+    omega (arith, c.requires.column, ap (λ (b : BookData). length b.firsts) c.self.view_is) in
     let same : c.len.result ≡ length c.self.inside.firsts.items = omega (arith, c.len.ensures, c.self.inside.firsts.ok) in
     let product : c.args.cluster * c.len.result ≡ c.args.cluster * length c.self.inside.firsts.items =
-            ap (λ (n : ℕ). c.args.cluster * n) same in
+    ap (λ (n : ℕ). c.args.cluster * n) same in
     let long = c.self.invariant.2.long in
     let place = table_place c.args.cluster (length c.self.inside.rows.items) c.args.column (length c.self.inside.firsts.items)
-            (omega arith) less in
+    (omega arith) less in
     omega (arith, long, place, product, c.self.inside.offsets.ok, c.self.inside.offsets.small)
 
 pub returns : goal.returns
@@ -59,15 +59,15 @@ returns c =
     let h = c.self.invariant.0 in
     let told = ap (λ (b : BookData). b.history) c.self.view_is in
     let inside : c.args.cluster < length c.self.inside.rows.items =
-            omega (arith, c.requires.cluster, length-book _ _ _ h c.args.self.now told) in
+    omega (arith, c.requires.cluster, length-book _ _ _ h c.args.self.now told) in
     let less : c.args.column < length c.self.inside.firsts.items =
-            omega (arith, c.requires.column, ap (λ (b : BookData). length b.firsts) c.self.view_is) in
+    omega (arith, c.requires.column, ap (λ (b : BookData). length b.firsts) c.self.view_is) in
     let same : c.len.result ≡ length c.self.inside.firsts.items = omega (arith, c.len.ensures, c.self.inside.firsts.ok) in
     let product : c.args.cluster * c.len.result ≡ c.args.cluster * length c.self.inside.firsts.items =
-            ap (λ (n : ℕ). c.args.cluster * n) same in
+    ap (λ (n : ℕ). c.args.cluster * n) same in
     let long = c.self.invariant.2.long in
     let place = table_place c.args.cluster (length c.self.inside.rows.items) c.args.column (length c.self.inside.firsts.items)
-            (omega arith) less in
+    (omega arith) less in
     let offsets = c.self.invariant.2 in
     let within : c.args.cluster * c.len.result + c.args.column < length c.self.inside.offsets.items = omega (arith, long, place, product) in
     c.index.ensures
@@ -75,4 +75,4 @@ returns c =
     ∙ (ap (λ (n : ℕ). slice_index c.self.inside.offsets.items (c.args.cluster * n + c.args.column)) same
     ∙ (offsets.each c.args.cluster c.args.column (omega arith) less
     ∙ sym (offset-book _ _ _ h c.args.self.now told c.self.inside.firsts.items
-        (sym (ap (λ (b : BookData). b.firsts) c.self.view_is)) c.args.cluster c.args.column))))
+    (sym (ap (λ (b : BookData). b.firsts) c.self.view_is)) c.args.cluster c.args.column))))

@@ -39,8 +39,13 @@ push_reserved-requires c =
     subst (λ (l : List (Entry ClusterMeta)). IsOut (ranges_of l) c.args.context c.args.cluster) (sym told) c.requires in
     let counted = c.self.invariant.1.counted in
     let room = c.self.invariant.3.for_events in
-    omega (arith, counted, room, some_out c.self.inside.rows.items c.args.cluster (row-inside _ _ _ h _ _ is)
-        (row-out _ _ _ h _ _ is no_row))
+    omega (
+      arith,
+      counted,
+      room,
+      some_out c.self.inside.rows.items c.args.cluster (row-inside _ _ _ h _ _ is)
+          (row-out _ _ _ h _ _ is no_row),
+    )
 
 pub invariant_of-self : goal.invariant_of-self
 invariant_of-self c =
@@ -53,22 +58,31 @@ invariant_of-self c =
     let counted = c.self.invariant.1 in
     let room = c.self.invariant.3 in (
       subst (λ (es : List Event). IsHistory c.self.inside.begin c.set_state.new.rows.items es) (sym c.push_reserved.ensures.items)
-          (subst (λ (rs : List ClusterRow). IsHistory c.self.inside.begin rs (c.self.inside.events.items ++ record { context =
-              c.args.context; kind = event.Spoiled c.args.faults; cluster = c.args.cluster } ∷ [])) (sym c.set_state.ensures.rows)
+          (subst (λ (rs : List ClusterRow). IsHistory c.self.inside.begin rs (c.self.inside.events.items ++ record {
+            context = c.args.context;
+            kind = event.Spoiled c.args.faults;
+            cluster = c.args.cluster;
+          } ∷ [])) (sym c.set_state.ensures.rows)
           (IsHistory-back _ _ _ h c.args.context c.args.cluster is (state.Spoiled c.args.faults) (event.Spoiled c.args.faults)
-              (spoiled_entry c.args.context c.args.cluster c.args.faults) tt (λ rows. refl) is refl)),
+          (spoiled_entry c.args.context c.args.cluster c.args.faults) tt (λ rows. refl) is refl)),
       subst (λ (rs : List ClusterRow). IsCounted c.self.inside.begin c.self.inside.end c.self.inside.entries (c.self.inside.out - 1)
           c.self.inside.limits c.self.inside.firsts.items rs) (sym c.set_state.ensures.rows)
           (IsCounted-with_state c.self.inside.begin c.self.inside.end c.self.inside.entries c.self.inside.out c.self.inside.limits
-              c.self.inside.firsts.items c.self.inside.rows.items c.args.cluster (state.Spoiled c.args.faults) inside out refl counted),
+          c.self.inside.firsts.items c.self.inside.rows.items c.args.cluster (state.Spoiled c.args.faults) inside out refl counted),
       subst (λ (rs : List ClusterRow). AreOffsets c.self.inside.firsts.items rs c.self.inside.offsets.items) (sym c.set_state.ensures.rows)
           (AreOffsets-with_state c.self.inside.firsts.items c.self.inside.rows.items c.self.inside.offsets.items c.args.cluster
-              (state.Spoiled c.args.faults) c.self.invariant.2),
+          (state.Spoiled c.args.faults) c.self.invariant.2),
       record {
         one = room.one;
         for_row = omega (arith, room.for_row, c.set_state.ensures.len, c.set_state.ensures.capacity);
-        for_events = omega (arith, room.for_events, counted.counted, some_out c.self.inside.rows.items c.args.cluster inside out,
-            c.push_reserved.ensures.len, c.push_reserved.ensures.capacity);
+        for_events = omega (
+          arith,
+          room.for_events,
+          counted.counted,
+          some_out c.self.inside.rows.items c.args.cluster inside out,
+          c.push_reserved.ensures.len,
+          c.push_reserved.ensures.capacity,
+        );
         for_offsets = room.for_offsets;
       },
     )
@@ -80,12 +94,15 @@ returns-clause-book c =
     let is : IsOut (ranges_of (history_of c.self.inside.rows.items c.self.inside.events.items)) c.args.context c.args.cluster =
     subst (λ (l : List (Entry ClusterMeta)). IsOut (ranges_of l) c.args.context c.args.cluster) (sym told) c.requires in
     let grown : history_of c.set_state.new.rows.items c.push_reserved.new.self.items ≡ history_of c.self.inside.rows.items
-            c.self.inside.events.items ++ spoiled_entry c.args.context c.args.cluster c.args.faults ∷ [] =
+    c.self.inside.events.items ++ spoiled_entry c.args.context c.args.cluster c.args.faults ∷ [] =
     ap (λ (es : List Event). history_of c.set_state.new.rows.items es) c.push_reserved.ensures.items
-    ∙ (ap (λ (rs : List ClusterRow). history_of rs (c.self.inside.events.items ++ record { context = c.args.context; kind =
-        event.Spoiled c.args.faults; cluster = c.args.cluster } ∷ [])) c.set_state.ensures.rows
+    ∙ (ap (λ (rs : List ClusterRow). history_of rs (c.self.inside.events.items ++ record {
+      context = c.args.context;
+      kind = event.Spoiled c.args.faults;
+      cluster = c.args.cluster;
+    } ∷ [])) c.set_state.ensures.rows
     ∙ history-back _ _ _ h c.args.context c.args.cluster is (state.Spoiled c.args.faults) (event.Spoiled c.args.faults)
-        (spoiled_entry c.args.context c.args.cluster c.args.faults) tt (λ rows. refl) is refl) in
+    (spoiled_entry c.args.context c.args.cluster c.args.faults) tt (λ rows. refl) is refl) in
     subst
     (λ (b : BookData). record {
       begin = c.self.inside.begin;
@@ -94,5 +111,10 @@ returns-clause-book c =
       history = history_of c.set_state.new.rows.items c.push_reserved.new.self.items;
       spare = c.self.inside.spare;
     } ≡ record b { history = b.history ++ spoiled_entry c.args.context c.args.cluster c.args.faults ∷ [] }) c.self.view_is
-    (ap (λ (l : List (Entry ClusterMeta)). record { begin = c.self.inside.begin; limits = c.self.inside.limits; firsts =
-        c.self.inside.firsts.items; history = l; spare = c.self.inside.spare }) grown)
+    (ap (λ (l : List (Entry ClusterMeta)). record {
+      begin = c.self.inside.begin;
+      limits = c.self.inside.limits;
+      firsts = c.self.inside.firsts.items;
+      history = l;
+      spare = c.self.inside.spare;
+    }) grown)

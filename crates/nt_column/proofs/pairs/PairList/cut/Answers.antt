@@ -7,4 +7,4 @@ pub returns-clause-elements : goal.returns-clause-elements
 returns-clause-elements c =
     rw (c.truncate.ensures.items, c.truncate-2.ensures.items)
     (zip-take c.args.len c.self.inside.indices.items c.self.inside.tags.items
-        ∙ ap (λ (k : Kept). take c.args.len k.elements) c.self.view_is)
+    ∙ ap (λ (k : Kept). take c.args.len k.elements) c.self.view_is)

@@ -8,21 +8,21 @@ use Rattle.nt_commit.proofs.committing.CommitterOf+Locked+D.spoil.Goals as goal
 pub spoil-requires-clause-own : goal.spoil-requires-clause-own
 spoil-requires-clause-own g c =
     subst (λ n. IsClaimOf g.D.Ext.Ext.state (ranges_of (history_of_locked g.D.Disk.state c.take-locked.result)) n c.args.claim)
-        (sym c.number-context.ensures)
+    (sym c.number-context.ensures)
     (claim_taken g.D.Disk.state _ _ _ _ c.requires.pass c.take-locked.ensures.pass c.take-locked.ensures.took g.D.Ext.Ext.state
-        c.args.claim c.requires.own)
+    c.args.claim c.requires.own)
 
 pub give-requires-clause-adds : goal.give-requires-clause-adds
 give-requires-clause-adds g c =
     let grows = spoils_by g.D.Disk.state _ _ _ _ c.requires.pass c.take-locked.ensures.pass c.take-locked.ensures.took _
-            c.number-context.result c.args.claim.cluster c.number-context.ensures c.spoil.ensures.spoils in
+    c.number-context.result c.args.claim.cluster c.number-context.ensures c.spoil.ensures.spoils in
     adds g.D.Disk.state _ _ _ _ c.requires.pass c.take-locked.ensures.pass c.take-locked.ensures.took c.spoil.new.self _
-        c.spoil.ensures.step grows (refl, tt)
+    c.spoil.ensures.step grows (refl, tt)
 
 pub returns : goal.returns
 returns g c =
     let grows = spoils_by g.D.Disk.state _ _ _ _ c.requires.pass c.take-locked.ensures.pass c.take-locked.ensures.took _
-            c.number-context.result c.args.claim.cluster c.number-context.ensures c.spoil.ensures.spoils in
+    c.number-context.result c.args.claim.cluster c.number-context.ensures c.spoil.ensures.spoils in
     record {
       spoils = record {
         taken = c.take-locked.result;

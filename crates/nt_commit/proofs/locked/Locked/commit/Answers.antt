@@ -13,8 +13,10 @@ invariant_of-self-in-Ok g c =
     let room = c.room.ensures.same in
     let meta = c.args.meta.now in
     let reserved = c.in-Ok.ensures.reserves in
-    let book = c.append-cluster.ensures.book ∙ ap (λ (x : BookData). record x { history =
-            x.history ++ committed_entry c.append-cluster.result (book_end x) meta ∷ []; spare = c.room.new.self.spare - 1 }) room in
+    let book = c.append-cluster.ensures.book ∙ ap (λ (x : BookData). record x {
+      history = x.history ++ committed_entry c.append-cluster.result (book_end x) meta ∷ [];
+      spare = c.room.new.self.spare - 1;
+    }) room in
     let number = c.append-cluster.ensures.number ∙ ap (λ (x : BookData). length (book_clusters x)) room in
     let context : meta.context ≤ c.self.inside.contexts = omega (arith, ap (λ v. v.birth.contexts) c.self.view_is, c.requires.context) in
     (committed g.D.Disk.state _ _ _ _ c.self.invariant _ _ c.append-cluster.result _ meta book number c.in_ok-check.ensures
@@ -30,16 +32,18 @@ invariant_of-self-in-Err-Failed g c =
     let reserved = c.in-Err-Failed.ensures.reserves in
     let meta = c.args.meta.now in
     let count = c.faults-faults.result in
-    let book = c.fault.ensures.book ∙ ap (λ (x : BookData). record x { history =
-            x.history ++ faulted_entry meta.context count ∷ []; spare = c.room.new.self.spare - 1 }) c.room.ensures.same in
+    let book = c.fault.ensures.book ∙ ap (λ (x : BookData). record x {
+      history = x.history ++ faulted_entry meta.context count ∷ [];
+      spare = c.room.new.self.spare - 1;
+    }) c.room.ensures.same in
     let context : meta.context ≤ c.self.inside.contexts = omega (arith, ap (λ v. v.birth.contexts) c.self.view_is, c.requires.context) in
     (faulted g.D.Disk.state _ _ _ _ c.self.invariant _ _ meta.context count _ book context reserved.err reserved.cause.later
-        (reserved.cause.failed (cc c.in-Err-Failed.field-0-is)) c.faults-faults.ensures c.faults-faults.type_inv).0.after
+    (reserved.cause.failed (cc c.in-Err-Failed.field-0-is)) c.faults-faults.ensures c.faults-faults.type_inv).0.after
 
 pub returns-in_err-check-clause-commits : goal.returns-in_err-check-clause-commits
 returns-in_err-check-clause-commits g c =
     limit_refuses g.D.Disk.state _ _ c.self.view_is g.D.Ext.Ext.state c.args.meta.now _ c.in_err-check.field-0.0
-        (limit_named _ _ c.from_residual.ensures.1)
+    (limit_named _ _ c.from_residual.ensures.1)
     (limits_are g.D.Disk.state _ _ _ _ c.self.invariant c.args.meta.now.len _ c.in_err-check.ensures)
 
 pub returns-then-is_err-clause-commits : goal.returns-then-is_err-clause-commits
@@ -47,8 +51,11 @@ returns-then-is_err-clause-commits g c =
     commits_from g.D.Disk.state _ _ _ c.self.view_is g.D.Ext.Ext.state c.args.meta.now _ (record {
       limits = limits_are g.D.Disk.state _ _ _ _ c.self.invariant c.args.meta.now.len _ c.in_ok-check.ensures;
       added = [];
-      grows = (same_history g.D.Disk.state _ _ _ _ c.self.invariant _ _ _ c.room.ensures.same (record { held = refl; end =
-          refl; out = refl }) (omega arith)).1;
+      grows = (same_history g.D.Disk.state _ _ _ _ c.self.invariant _ _ _ c.room.ensures.same (record {
+        held = refl;
+        end = refl;
+        out = refl;
+      }) (omega arith)).1;
       adds = refl;
     })
 
@@ -57,8 +64,10 @@ returns-in-Ok-clause-step g c =
     let room = c.room.ensures.same in
     let meta = c.args.meta.now in
     let reserved = c.in-Ok.ensures.reserves in
-    let book = c.append-cluster.ensures.book ∙ ap (λ (x : BookData). record x { history =
-            x.history ++ committed_entry c.append-cluster.result (book_end x) meta ∷ []; spare = c.room.new.self.spare - 1 }) room in
+    let book = c.append-cluster.ensures.book ∙ ap (λ (x : BookData). record x {
+      history = x.history ++ committed_entry c.append-cluster.result (book_end x) meta ∷ [];
+      spare = c.room.new.self.spare - 1;
+    }) room in
     let number = c.append-cluster.ensures.number ∙ ap (λ (x : BookData). length (book_clusters x)) room in
     let context : meta.context ≤ c.self.inside.contexts = omega (arith, ap (λ v. v.birth.contexts) c.self.view_is, c.requires.context) in
     let done = committed g.D.Disk.state _ _ _ _ c.self.invariant _ _ c.append-cluster.result _ meta book number c.in_ok-check.ensures
@@ -70,8 +79,10 @@ returns-in-Ok-clause-commits g c =
     let room = c.room.ensures.same in
     let meta = c.args.meta.now in
     let reserved = c.in-Ok.ensures.reserves in
-    let book = c.append-cluster.ensures.book ∙ ap (λ (x : BookData). record x { history =
-            x.history ++ committed_entry c.append-cluster.result (book_end x) meta ∷ []; spare = c.room.new.self.spare - 1 }) room in
+    let book = c.append-cluster.ensures.book ∙ ap (λ (x : BookData). record x {
+      history = x.history ++ committed_entry c.append-cluster.result (book_end x) meta ∷ [];
+      spare = c.room.new.self.spare - 1;
+    }) room in
     let number = c.append-cluster.ensures.number ∙ ap (λ (x : BookData). length (book_clusters x)) room in
     let context : meta.context ≤ c.self.inside.contexts = omega (arith, ap (λ v. v.birth.contexts) c.self.view_is, c.requires.context) in
     let done = committed g.D.Disk.state _ _ _ _ c.self.invariant _ _ c.append-cluster.result _ meta book number c.in_ok-check.ensures
@@ -80,15 +91,18 @@ returns-in-Ok-clause-commits g c =
       limits = limits_are g.D.Disk.state _ _ _ _ c.self.invariant meta.len _ c.in_ok-check.ensures;
       added = _;
       grows = done.1;
-      adds = (new_claim g.D.Disk.state _ _ _ _ c.self.invariant g.D.Ext.Ext.state c.append-cluster.result meta.len _ number
-          c.in-Ok.ensures.new, refl);
+      adds = (
+        new_claim g.D.Disk.state _ _ _ _ c.self.invariant g.D.Ext.Ext.state c.append-cluster.result meta.len _ number
+            c.in-Ok.ensures.new,
+        refl,
+      );
     })
 
 pub returns-in-Err-Memory-clause-step : goal.returns-in-Err-Memory-clause-step
 returns-in-Err-Memory-clause-step g c =
     let reserved = c.in-Err-Memory.ensures.reserves in
     step_from g.D.Disk.state _ _ _ c.self.view_is (same_history g.D.Disk.state _ _ _ _ c.self.invariant _ _ _ c.room.ensures.same
-        reserved.err reserved.cause.later).0
+    reserved.err reserved.cause.later).0
 
 pub returns-in-Err-Memory-clause-commits : goal.returns-in-Err-Memory-clause-commits
 returns-in-Err-Memory-clause-commits g c =
@@ -105,20 +119,24 @@ returns-in-Err-Failed-clause-step g c =
     let reserved = c.in-Err-Failed.ensures.reserves in
     let meta = c.args.meta.now in
     let count = c.faults-faults.result in
-    let book = c.fault.ensures.book ∙ ap (λ (x : BookData). record x { history =
-            x.history ++ faulted_entry meta.context count ∷ []; spare = c.room.new.self.spare - 1 }) c.room.ensures.same in
+    let book = c.fault.ensures.book ∙ ap (λ (x : BookData). record x {
+      history = x.history ++ faulted_entry meta.context count ∷ [];
+      spare = c.room.new.self.spare - 1;
+    }) c.room.ensures.same in
     let context : meta.context ≤ c.self.inside.contexts = omega (arith, ap (λ v. v.birth.contexts) c.self.view_is, c.requires.context) in
     step_from g.D.Disk.state _ _ _ c.self.view_is
     (faulted g.D.Disk.state _ _ _ _ c.self.invariant _ _ meta.context count _ book context reserved.err reserved.cause.later
-        (reserved.cause.failed (cc c.in-Err-Failed.field-0-is)) c.faults-faults.ensures c.faults-faults.type_inv).0
+    (reserved.cause.failed (cc c.in-Err-Failed.field-0-is)) c.faults-faults.ensures c.faults-faults.type_inv).0
 
 pub returns-in-Err-Failed-clause-commits : goal.returns-in-Err-Failed-clause-commits
 returns-in-Err-Failed-clause-commits g c =
     let reserved = c.in-Err-Failed.ensures.reserves in
     let meta = c.args.meta.now in
     let count = c.faults-faults.result in
-    let book = c.fault.ensures.book ∙ ap (λ (x : BookData). record x { history =
-            x.history ++ faulted_entry meta.context count ∷ []; spare = c.room.new.self.spare - 1 }) c.room.ensures.same in
+    let book = c.fault.ensures.book ∙ ap (λ (x : BookData). record x {
+      history = x.history ++ faulted_entry meta.context count ∷ [];
+      spare = c.room.new.self.spare - 1;
+    }) c.room.ensures.same in
     let context : meta.context ≤ c.self.inside.contexts = omega (arith, ap (λ v. v.birth.contexts) c.self.view_is, c.requires.context) in
     let rose = reserved.cause.failed (cc c.in-Err-Failed.field-0-is) in
     commits_from g.D.Disk.state _ _ _ c.self.view_is g.D.Ext.Ext.state meta _ (record {

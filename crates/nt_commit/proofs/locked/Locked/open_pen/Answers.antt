@@ -18,17 +18,19 @@ pub invariant_of-self-in-Err-Failed : goal.invariant_of-self-in-Err-Failed
 invariant_of-self-in-Err-Failed g c =
     let made = c.in-Err-Failed.ensures.makes in
     let count = c.faults-faults.result in
-    let book = c.fault.ensures.book ∙ ap (λ (x : BookData). record x { history =
-            x.history ++ faulted_entry c.args.context count ∷ []; spare = c.room.new.self.spare - 1 }) c.in_ok-room.ensures.same in
+    let book = c.fault.ensures.book ∙ ap (λ (x : BookData). record x {
+      history = x.history ++ faulted_entry c.args.context count ∷ [];
+      spare = c.room.new.self.spare - 1;
+    }) c.in_ok-room.ensures.same in
     let context : c.args.context ≤ c.self.inside.contexts = omega (arith, ap (λ v. v.birth.contexts) c.self.view_is, c.requires) in
     (faulted g.D.Disk.state _ _ _ _ c.self.invariant _ _ c.args.context count _ book context made.place made.cause.later
-        (made.cause.failed (cc c.in-Err-Failed.field-0-is)) c.faults-faults.ensures c.faults-faults.type_inv).0.after
+    (made.cause.failed (cc c.in-Err-Failed.field-0-is)) c.faults-faults.ensures c.faults-faults.type_inv).0.after
 
 pub returns-in-Ok-clause-step : goal.returns-in-Ok-clause-step
 returns-in-Ok-clause-step g c =
     let made = c.in-Ok.ensures.makes in
     step_from g.D.Disk.state _ _ _ c.self.view_is (same_history g.D.Disk.state _ _ _ _ c.self.invariant _ _ _
-        c.in_ok-room.ensures.same made.place made.cause.later).0
+    c.in_ok-room.ensures.same made.place made.cause.later).0
 
 pub returns-in-Ok-clause-opens : goal.returns-in-Ok-clause-opens
 returns-in-Ok-clause-opens g c =
@@ -43,7 +45,7 @@ pub returns-in-Err-Memory-clause-step : goal.returns-in-Err-Memory-clause-step
 returns-in-Err-Memory-clause-step g c =
     let made = c.in-Err-Memory.ensures.makes in
     step_from g.D.Disk.state _ _ _ c.self.view_is (same_history g.D.Disk.state _ _ _ _ c.self.invariant _ _ _
-        c.in_ok-room.ensures.same made.place made.cause.later).0
+    c.in_ok-room.ensures.same made.place made.cause.later).0
 
 pub returns-in-Err-Memory-clause-opens : goal.returns-in-Err-Memory-clause-opens
 returns-in-Err-Memory-clause-opens g c =
@@ -58,19 +60,23 @@ pub returns-in-Err-Failed-clause-step : goal.returns-in-Err-Failed-clause-step
 returns-in-Err-Failed-clause-step g c =
     let made = c.in-Err-Failed.ensures.makes in
     let count = c.faults-faults.result in
-    let book = c.fault.ensures.book ∙ ap (λ (x : BookData). record x { history =
-            x.history ++ faulted_entry c.args.context count ∷ []; spare = c.room.new.self.spare - 1 }) c.in_ok-room.ensures.same in
+    let book = c.fault.ensures.book ∙ ap (λ (x : BookData). record x {
+      history = x.history ++ faulted_entry c.args.context count ∷ [];
+      spare = c.room.new.self.spare - 1;
+    }) c.in_ok-room.ensures.same in
     let context : c.args.context ≤ c.self.inside.contexts = omega (arith, ap (λ v. v.birth.contexts) c.self.view_is, c.requires) in
     step_from g.D.Disk.state _ _ _ c.self.view_is
     (faulted g.D.Disk.state _ _ _ _ c.self.invariant _ _ c.args.context count _ book context made.place made.cause.later
-        (made.cause.failed (cc c.in-Err-Failed.field-0-is)) c.faults-faults.ensures c.faults-faults.type_inv).0
+    (made.cause.failed (cc c.in-Err-Failed.field-0-is)) c.faults-faults.ensures c.faults-faults.type_inv).0
 
 pub returns-in-Err-Failed-clause-opens : goal.returns-in-Err-Failed-clause-opens
 returns-in-Err-Failed-clause-opens g c =
     let made = c.in-Err-Failed.ensures.makes in
     let count = c.faults-faults.result in
-    let book = c.fault.ensures.book ∙ ap (λ (x : BookData). record x { history =
-            x.history ++ faulted_entry c.args.context count ∷ []; spare = c.room.new.self.spare - 1 }) c.in_ok-room.ensures.same in
+    let book = c.fault.ensures.book ∙ ap (λ (x : BookData). record x {
+      history = x.history ++ faulted_entry c.args.context count ∷ [];
+      spare = c.room.new.self.spare - 1;
+    }) c.in_ok-room.ensures.same in
     let context : c.args.context ≤ c.self.inside.contexts = omega (arith, ap (λ v. v.birth.contexts) c.self.view_is, c.requires) in
     let rose = made.cause.failed (cc c.in-Err-Failed.field-0-is) in
     opens_from g.D.Disk.state _ _ _ c.self.view_is c.args.context _ (record {

@@ -9,4 +9,4 @@ returns g t c =
     let around : HasAllBack c.args.committer.now c.enter_one.new.first between = search rules in
     let number : c.pass-3-1.given.0.number ≡ c.in-Ok.pass.number = search rules in
     back-around c.args.committer.now c.args.first.now c.enter_one.new.first between c.leave_one.new.first c.in-Ok.pass _
-        c.in-Ok.ensures.ok around number c.leave_one.ensures
+    c.in-Ok.ensures.ok around number c.leave_one.ensures

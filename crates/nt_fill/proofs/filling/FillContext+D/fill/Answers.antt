@@ -54,8 +54,11 @@ returns-clause-ok g c =
     let fits = subst (λ s. fits_entry s.table ts ≡ true) (sym c.self.view_is) c.requires.fits in
     let set = c.in_ok-shred.ensures.set in
     let bytes = all_bytes (set_frame new) (cols_of new) (small_of new c.in_range.ensures) (open_plans t) ts (cols_of old)
-            (all-typed-take new t.columns set.described set.stored (open_plans t) (c.columns_have_types.ensures t))
+    (all-typed-take new t.columns set.described set.stored (open_plans t) (c.columns_have_types.ensures t))
     (fit-open t.fields t.columns 0 (open_shapes t.fields t.columns 0 t.fields) ts ∙ fits)
-        (λ j. ([], ap (λ cols. cols j) c.in_ok-shred.ensures.added ∙ sym (append-nil _))) in
-    rw (← c.self.view_is) (record { entries = entries_more t ts old new n c.in_ok-shred.ensures.added sound
-        (c.in_ok-shred.ensures.last n sound) bytes; now = refl })
+    (λ j. ([], ap (λ cols. cols j) c.in_ok-shred.ensures.added ∙ sym (append-nil _))) in
+    rw (← c.self.view_is) (record {
+      entries = entries_more t ts old new n c.in_ok-shred.ensures.added sound
+          (c.in_ok-shred.ensures.last n sound) bytes;
+      now = refl;
+    })

@@ -21,9 +21,9 @@ write_image-requires-clause-image g c =
     let page = c.self.inside.store.page in
     let number = c.self.inside.pass.number in
     let is = c.in_ok-image.ensures.meta ∙ (ap (λ (i : ℕ). cluster_meta page i n columns) c.number.ensures
-            ∙ ap (λ (m : ℕ). cluster_meta page number m columns) (sym (entries_count t columns n))) in
+    ∙ ap (λ (m : ℕ). cluster_meta page number m columns) (sym (entries_count t columns n))) in
     image_for t columns (entries_given t columns n) c.self.invariant.gives page number c.self.inside.committer.now.birth.columns
-        (c.columns_have_types.ensures t) c.self.invariant.some c.self.invariant.count c.self.invariant.page
+    (c.columns_have_types.ensures t) c.self.invariant.some c.self.invariant.count c.self.invariant.page
     c.in_ok-image.image c.in_ok-image.ensures.bytes is
 
 pub returns-in_err-write_image-clause-nothing : goal.returns-in_err-write_image-clause-nothing

@@ -7,10 +7,10 @@ use Rattle.nt_frame.proofs.writing.FrameOut.finish.Goals as goal
 pub invariant_of-self : goal.invariant_of-self
 invariant_of-self c =
     (finish-step c.self.inside.marks.items c.pop.new.self.items c.in-Some.mark c.self.inside.out.items c.put_head.new.out.items
-        c.in-Some.ensures.items c.put_head.ensures c.self.invariant).0
+    c.in-Some.ensures.items c.put_head.ensures c.self.invariant).0
 
 pub returns-in-Some : goal.returns-in-Some
 returns-in-Some c =
     (finish-step c.self.inside.marks.items c.pop.new.self.items c.in-Some.mark c.self.inside.out.items c.put_head.new.out.items
-        c.in-Some.ensures.items c.put_head.ensures c.self.invariant).1
+    c.in-Some.ensures.items c.put_head.ensures c.self.invariant).1
     ∙ ap frame_finished c.self.view_is

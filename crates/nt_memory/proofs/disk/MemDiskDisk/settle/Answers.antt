@@ -11,8 +11,14 @@ use Rattle.nt_memory.proofs.disk.MemDiskDisk.settle.Goals as goal
 pub put_over-requires : goal.put_over-requires
 put_over-requires c =
     let e = c.args.ext in
-    omega (arith, within_one _ _ e.range c.args.self.now.inside c.requires, few_bytes e.filled e.range.len e.bytes.items e.whole
-        e.empty, c.deref-2.ensures.len, ap length c.deref-2.ensures.value)
+    omega (
+      arith,
+      within_one _ _ e.range c.args.self.now.inside c.requires,
+      few_bytes e.filled e.range.len e.bytes.items e.whole
+          e.empty,
+      c.deref-2.ensures.len,
+      ap length c.deref-2.ensures.value,
+    )
 
 pub invariant_of-self : goal.invariant_of-self
 invariant_of-self c =
@@ -23,13 +29,23 @@ invariant_of-self c =
     record {
       reads = settle_reads e.filled (steps_of old.log) (steps_of c.push_settle.new.self) old.image.items c.put_over.new.list.items
           e.bytes.items r.start r.len old.reads e.empty inside (c.push_settle.ensures.steps
-            ∙ ap (λ (b : List ℕ). steps_of old.log ++ Settle r.start r.len (content_of e.filled b) ∷ []) c.deref.ensures.value)
-              (c.put_over.ensures.items ∙ ap (put_at old.image.items r.start) c.deref-2.ensures.value);
+          ∙ ap (λ (b : List ℕ). steps_of old.log ++ Settle r.start r.len (content_of e.filled b) ∷ []) c.deref.ensures.value)
+          (c.put_over.ensures.items ∙ ap (put_at old.image.items r.start) c.deref-2.ensures.value);
       inside = within_off old.out.items _ _ _ r old.inside (omega (arith, c.put_over.ensures.len)) c.take_off.ensures;
-      rows_owed = omega (arith, old.rows_owed, ap (λ l. sum_by (λ (r : Range). 1) l) c.take_off.ensures,
-          weight_less (λ (r : Range). 1) old.out.items r c.requires, c.push_settle.ensures.owed);
-      bytes_owed = omega (arith, old.bytes_owed, ap (λ l. sum_by (λ (r : Range). r.len) l) c.take_off.ensures,
-          weight_less (λ (r : Range). r.len) old.out.items r c.requires, c.push_settle.ensures.owed_bytes);
+      rows_owed = omega (
+        arith,
+        old.rows_owed,
+        ap (λ l. sum_by (λ (r : Range). 1) l) c.take_off.ensures,
+        weight_less (λ (r : Range). 1) old.out.items r c.requires,
+        c.push_settle.ensures.owed,
+      );
+      bytes_owed = omega (
+        arith,
+        old.bytes_owed,
+        ap (λ l. sum_by (λ (r : Range). r.len) l) c.take_off.ensures,
+        weight_less (λ (r : Range). r.len) old.out.items r c.requires,
+        c.push_settle.ensures.owed_bytes,
+      );
     }
 
 pub returns-clause-settles : goal.returns-clause-settles
@@ -41,11 +57,13 @@ returns-clause-settles c =
     record {
       held = settle_holds e.filled (steps_of old.log) (steps_of c.push_settle.new.self) old.image.items c.put_over.new.list.items
           e.bytes.items r.start r.len e.whole e.empty inside (c.push_settle.ensures.steps
-            ∙ ap (λ (b : List ℕ). steps_of old.log ++ Settle r.start r.len (content_of e.filled b) ∷ []) c.deref.ensures.value)
-              (c.put_over.ensures.items ∙ ap (put_at old.image.items r.start) c.deref-2.ensures.value);
+          ∙ ap (λ (b : List ℕ). steps_of old.log ++ Settle r.start r.len (content_of e.filled b) ∷ []) c.deref.ensures.value)
+          (c.put_over.ensures.items ∙ ap (put_at old.image.items r.start) c.deref-2.ensures.value);
       end = omega (arith, c.put_over.ensures.len, old.image.ok, c.put_over.new.list.ok);
       out = c.take_off.ensures;
-      spare = record { steps = c.push_settle.ensures.kept.rows; bytes =
-          omega (arith, c.push_settle.ensures.kept.bytes, c.put_over.ensures.len, c.put_over.ensures.capacity) };
+      spare = record {
+        steps = c.push_settle.ensures.kept.rows;
+        bytes = omega (arith, c.push_settle.ensures.kept.bytes, c.put_over.ensures.len, c.put_over.ensures.capacity);
+      };
       faults = refl;
     }

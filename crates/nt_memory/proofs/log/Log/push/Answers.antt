@@ -13,4 +13,4 @@ invariant_of-self c = record {
 pub returns-clause-steps : goal.returns-clause-steps
 returns-clause-steps c =
     steps-pushed c.args.self.now.rows.items _ c.args.self.now.bytes.items _ c.args.bytes.now c.args.row c.args.self.now.whole
-        c.push_reserved.ensures.items c.add_reserved.ensures.items c.requires.len
+    c.push_reserved.ensures.items c.add_reserved.ensures.items c.requires.len
