@@ -100,16 +100,16 @@ zero_elements n = replicate n (0, 0)
 -- the elements of a column in a cluster: of a closed one none, of one that begins behind its entries zeros, else those of its pages
 abbrev pub column_elements : List ℕ → ℕ → ClusterList → ℕ → KnownColumn → ℕ → Result (List Element) ReadError
 column_elements file number k id c code =
-    if c.is_open then (if begins_behind k c then Ok (zero_elements k.entries) else pages_of_kind file number id (kind_of_code code)
-    (pages_listed k id))
+    if c.is_open then
+    (if begins_behind k c then Ok (zero_elements k.entries) else pages_of_kind file number id (kind_of_code code) (pages_listed k id))
     else Ok []
 
 -- the elements of columns whose ids go on from this one
 abbrev pub columns_from : List ℕ → ℕ → ClusterList → Table → ℕ → List ColumnRow → Result (List (List Element)) ReadError
 columns_from file number k t id [] = Ok []
 columns_from file number k t id (c ∷ cs) =
-    column_elements file number k id (known_column (need_of t id) c) c.code >>= λ first. columns_from file number k t (id + 1) cs
-    >>= λ others. Ok (first ∷ others)
+    column_elements file number k id (known_column (need_of t id) c) c.code >>= λ first.
+    columns_from file number k t (id + 1) cs >>= λ others. Ok (first ∷ others)
 
 -- columns by their ids
 abbrev pub columns_by_id : List (List Element) → Cols

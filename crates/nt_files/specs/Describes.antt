@@ -39,8 +39,8 @@ pub record ListsGroup (file : List ℕ) (sum : ℕ) (columns : List KnownColumn)
 pub data ListsGroups (file : List ℕ) (sum : ℕ) (columns : List KnownColumn) : List Group → ProgressCounts → List ClusterList → Type 0 where
   no_more : {p : ProgressCounts} → ListsGroups file sum columns [] p []
   and_more : {g : Group} {gs : List Group} {p q : ProgressCounts} {ks others : List ClusterList}
-      → ListsGroup file sum columns g p ks q → ListsGroups file sum columns gs q others → ListsGroups file sum columns
-      (g ∷ gs) p (ks ++ others)
+      → ListsGroup file sum columns g p ks q → ListsGroups file sum columns gs q others
+      → ListsGroups file sum columns (g ∷ gs) p (ks ++ others)
 
 -- a file has this outline
 pub record HasOutline (file : List ℕ) (o : Outline) : Type 0 where

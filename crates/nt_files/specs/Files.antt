@@ -11,8 +11,8 @@ use Rattle.nt_files.specs.Clusters.{cluster_of}
 -- the entries of clusters whose numbers go on from this one
 abbrev pub entries_from : List ℕ → Table → ℕ → List ClusterList → Result (List (List TreesData)) ReadError
 entries_from file t number [] = Ok []
-entries_from file t number (k ∷ ks) = cluster_of file t number k >>= λ first. entries_from file t (number + 1) ks >>= λ others.
-    Ok (first ∷ others)
+entries_from file t number (k ∷ ks) =
+    cluster_of file t number k >>= λ first. entries_from file t (number + 1) ks >>= λ others. Ok (first ∷ others)
 
 -- the rows of the schema and the entries of each cluster, or the first fault
 unfoldable pub read_file : List ℕ → Result (Table × List (List TreesData)) ReadError

@@ -17,8 +17,11 @@ envelope kind payload = unsealed kind payload ++ to_le_bytes w64 (xxh3 (unsealed
 unfoldable pub payload_of : ℕ → List ℕ → Result (List ℕ) EnvelopeFault
 payload_of kind bytes =
     if nat_lt (length bytes) 16 then Err Size
-    else (if word / 2 ^ 16 == length bytes then (if word % 2 ^ 16 == kind then (if kept == xxh3 covered then Ok (drop 8 covered)
-    else Err (Checksum kept (xxh3 covered))) else Err (Kind (word % 2 ^ 16))) else Err Size)
+    else (if word / 2 ^ 16 == length bytes then
+    (if word % 2 ^ 16 == kind then
+    (if kept == xxh3 covered then Ok (drop 8 covered) else Err (Checksum kept (xxh3 covered)))
+    else Err (Kind (word % 2 ^ 16)))
+    else Err Size)
   where
     covered : List ℕ
     covered = take (length bytes - 8) bytes

@@ -28,8 +28,8 @@ unfoldable pub list_at : At → Result ((ℕ × At) × At) ℕ
 list_at here = refused_as here.place (do
   size ← little w64 here
   count ← little w32 size.1
-  inside ← (if nat_le size.0 (2 ^ 63) then Err here.place else (if nat_lt (2 ^ 64 - size.0) 12 then Err here.place else part_of
-      (2 ^ 64 - size.0 - 12) count.1))
+  inside ← (if nat_le size.0 (2 ^ 63) then Err here.place
+      else (if nat_lt (2 ^ 64 - size.0) 12 then Err here.place else part_of (2 ^ 64 - size.0 - 12) count.1))
   Ok ((count.0, inside.0), inside.1))
 
 -- a record frame begins here, with this inside, and ends there

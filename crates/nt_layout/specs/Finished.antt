@@ -81,8 +81,8 @@ tail t book most =
     concat (list_blobs t book most)
     ++ (footer_blob t book most
     ++ (anchor_part (anchor_start t book most) (anchor_of_file t book most)
-    ++ (key_list_part (keys_start t book most) (anchor_start t book most) ++ free_list_part (free_start t book most)
-    (file_len t book most))))
+    ++ (key_list_part (keys_start t book most) (anchor_start t book most)
+    ++ free_list_part (free_start t book most) (file_len t book most))))
 
 -- what stands in front of the header's blob, without the first byte
 unfoldable pub front : Table → BookData → ℕ → List ℕ

@@ -44,8 +44,8 @@ abbrev pub cluster_lists_on : List KnownColumn → List ClusterSummary → List 
     → Result (List ClusterList × List ℕ) ReadError
 cluster_lists_on columns [] elements lists here = Ok (lists, elements)
 cluster_lists_on columns (k ∷ ks) elements lists here =
-    cluster_list_at k columns elements here >>= λ list. cluster_lists_on columns ks (with_elements elements list.0.columns)
-    (lists ++ list.0 ∷ []) list.1
+    cluster_list_at k columns elements here >>= λ list.
+    cluster_lists_on columns ks (with_elements elements list.0.columns) (lists ++ list.0 ∷ []) list.1
 
 -- the pages of these clusters, whose list begins here; as many as the group has
 unfoldable pub cluster_lists_at : Group → List KnownColumn → List ClusterSummary → List ℕ → At

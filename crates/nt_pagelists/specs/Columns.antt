@@ -35,8 +35,8 @@ begins_inside k c = c.is_open && c.is_principal && nat_lt k.first c.first && nat
 -- an open principal column has one element for each entry, or no page where it begins behind them all or where there is no entry
 abbrev pub has_its_elements : ClusterSummary → KnownColumn → List PageItem → Bool
 has_its_elements k c pages =
-    not (c.is_open && c.is_principal) || (if (k.entries == 0) || nat_lt k.first c.first then no_pages pages else paged_elements
-    pages == k.entries)
+    not (c.is_open && c.is_principal)
+    || (if (k.entries == 0) || nat_lt k.first c.first then no_pages pages else paged_elements pages == k.entries)
 
 -- the elements of an open column, where it has some here, stand behind those of its earlier pages
 abbrev pub has_its_offset : KnownColumn → ℕ → List PageItem → ℕ → Bool

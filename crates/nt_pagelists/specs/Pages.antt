@@ -46,16 +46,17 @@ page_item_at cluster column here = do
 -- so many pages behind these
 abbrev pub page_items_on : ℕ → ℕ → ℕ → List PageItem → At → Result (List PageItem × At) ReadError
 page_items_on cluster column zero pages here = Ok (pages, here)
-page_items_on cluster column (suc n) pages here = page_item_at cluster column here >>= λ page. page_items_on cluster column n
-    (pages ++ page.0 ∷ []) page.1
+page_items_on cluster column (suc n) pages here =
+    page_item_at cluster column here >>= λ page. page_items_on cluster column n (pages ++ page.0 ∷ []) page.1
 
 -- the word of the index of a column's first element, and the compression setting behind it; an open column has no negative index (own
 -- profile), and behind a negative one there is no setting
 unfoldable pub element_offset_at : ClusterSummary → ℕ → KnownColumn → ℕ → At → Result (ℕ × At) ReadError
 element_offset_at k id c frame here = do
   word ← placed (little w64 here)
-  setting ← (if nat_le (2 ^ 63) word.0 then (if c.is_open then Err (in_column k.number id (fault bad_page_list frame)) else Ok
-      (0, word.1)) else placed (little w32 word.1))
+  setting ← (if nat_le (2 ^ 63) word.0 then
+      (if c.is_open then Err (in_column k.number id (fault bad_page_list frame)) else Ok (0, word.1))
+      else placed (little w32 word.1))
   Ok (word.0, setting.1)
 
 -- the pages of the column with this id in a cluster, whose frame begins here

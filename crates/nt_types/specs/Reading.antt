@@ -47,13 +47,14 @@ tuple_on ks b = if b == 44 then Some (goes (in_tuple ks)) else if b == 62 then S
 
 -- alternatives, and the byte after the last of them
 abbrev pub choice_on : Bool → List ShapeData → ℕ → Option PlacedData
-choice_on w ks b = if b == 44 then Some (goes (in_choice w ks)) else if (b == 62) && nat_le (length ks) max_alternatives then Some
-    (ends (choice (kinds_of ks))) else None
+choice_on w ks b =
+    if b == 44 then Some (goes (in_choice w ks))
+    else if (b == 62) && nat_le (length ks) max_alternatives then Some (ends (choice (kinds_of ks))) else None
 
 -- members, and the byte after the last of them
 abbrev pub members_on : List MemberData → ℕ → Option PlacedData
-members_on ps b = if b == 44 then Some (goes (at_name ps)) else if (b == 125)
-    && names_differ ps then Some (ends (fields (parts_of ps))) else None
+members_on ps b =
+    if b == 44 then Some (goes (at_name ps)) else if (b == 125) && names_differ ps then Some (ends (fields (parts_of ps))) else None
 
 -- a part of the construct has ended, and this byte follows it
 abbrev pub put : OpenData → ShapeData → ℕ → Option PlacedData
@@ -111,11 +112,8 @@ begin s w b = if is_some s.done then None else option_map (opened s) (started s.
 
 -- the name of a member of the innermost construct
 abbrev pub named_on : Bool → List OpenData → List ℕ → Option ReadingData
-named_on within (at_name ps ∷ os) w = if is_name w then Some (record {
-  stack = in_member ps w ∷ os;
-  within = within;
-  done = None;
-}) else None
+named_on within (at_name ps ∷ os) w =
+    if is_name w then Some (record { stack = in_member ps w ∷ os; within = within; done = None }) else None
 named_on within _ w = None
 
 -- the name of a member, before its type
@@ -146,8 +144,8 @@ text_ended keep s w = option_and_then (ended_on s.stack) (ended_here keep s.done
 -- the kind that this word and the bytes after it complete
 abbrev pub read : Bool → ReadingData → List ℕ → List ℕ → Option ShapeData
 read keep s w [] = text_ended keep s w
-read keep s w (b ∷ bs) = if is_word_byte b then read keep s (w ++ b ∷ []) bs else option_and_then (λ t. read keep t [] bs)
-    (delimited keep s w b)
+read keep s w (b ∷ bs) =
+    if is_word_byte b then read keep s (w ++ b ∷ []) bs else option_and_then (λ t. read keep t [] bs) (delimited keep s w b)
 
 -- the kind that a text spells, if it spells one
 abbrev pub read_kind : List ℕ → Option ShapeData

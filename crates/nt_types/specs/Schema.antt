@@ -104,5 +104,5 @@ first_line = record { line = 1; seen = []; count = 0; parts = [] }
 
 -- the fields that a text spells, or its first fault
 abbrev pub schema_text : List ℕ → Result (List MemberData) SchemaFault
-schema_text bytes = if nat_lt max_text (length bytes) then Err (at_line 0 TooLong) else take_lines first_line
-    (slice_split (λ b. b == 10) bytes)
+schema_text bytes =
+    if nat_lt max_text (length bytes) then Err (at_line 0 TooLong) else take_lines first_line (slice_split (λ b. b == 10) bytes)
