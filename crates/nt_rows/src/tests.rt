@@ -1,6 +1,7 @@
 //! The program over memory.
 
 mod data;
+mod elements;
 mod failing;
 mod files;
 mod foreign;
