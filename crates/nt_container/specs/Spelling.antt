@@ -82,8 +82,8 @@ blob_key object_len at = key_header object_len at 100 (codes "RBlob") []
 -- SeekHeader, NBytesHeader, LenHeader, SeekFooter, NBytesFooter and LenFooter
 unfoldable pub envelopes : Anchor → List ℕ
 envelopes a =
-    concat (to_be_bytes w64 a.header ∷ to_be_bytes w64 a.header_size ∷ to_be_bytes w64 a.header_len ∷ to_be_bytes w64 a.footer
-    ∷ to_be_bytes w64 a.footer_size ∷ to_be_bytes w64 a.footer_len ∷ [])
+    concat (to_be_bytes w64 a.header ∷ to_be_bytes w64 a.header_size ∷ to_be_bytes w64 a.header_len
+    ∷ to_be_bytes w64 a.footer ∷ to_be_bytes w64 a.footer_size ∷ to_be_bytes w64 a.footer_len ∷ [])
 
 -- version 1.0.0.0 of the format, header, footer, and the largest key
 unfoldable pub anchor_fields : Anchor → List ℕ

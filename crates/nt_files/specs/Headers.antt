@@ -33,5 +33,5 @@ writer_name = codes "ntuple_tool 1"
 -- the payload of a header as it is written: no flags, the names, no description of the ntuple, and the rows of the header
 unfoldable pub header_text : Table → List ℕ
 header_text t =
-    to_le_bytes w64 0 ++ (string ntuple_name ++ (string []
-    ++ (string writer_name ++ description (part_fields Header t) (part_columns Header t))))
+    to_le_bytes w64 0
+    ++ (string ntuple_name ++ (string [] ++ (string writer_name ++ description (part_fields Header t) (part_columns Header t))))
