@@ -5,6 +5,7 @@
 - Each path that a document names is there.
 - No name of a definition stands in the specs of two crates, but for those of SHARED.
 - No line of specs or proofs has more than 140 characters.
+- What an edit in must-fail/ changes stands once in the file that it names.
 - Bodies of functions over 40 lines and files over 250 are named; they are no failure.
 """
 import collections
@@ -113,6 +114,25 @@ def long_lines(files):
                     yield f"{path}:{number}: a line of {len(line)} characters"
 
 
+def edits(files):
+    for path in files:
+        found = re.match(r"(crates/\w+)/must-fail/.*\.edit$", path)
+        if not found:
+            continue
+        texts, name, old = {}, None, None
+        for line in lines_of(path):
+            word, _, rest = line.partition(": ")
+            if word == "file":
+                name = f"{found.group(1)}/{rest}"
+                texts.setdefault(name, "\n".join(lines_of(name)))
+            elif word == "old":
+                old = rest
+                if texts[name].count(old) != 1:
+                    yield f"{path}: its old text stands {texts[name].count(old)} times in {name}"
+            elif word == "new":
+                texts[name] = texts[name].replace(old, rest)
+
+
 def long_bodies(files):
     for path in files:
         if not path.endswith((".rt", ".antt")) or "/proofs/" in path:
@@ -139,7 +159,7 @@ def main():
     layers = layers_of("docs/ARCHITECTURE.md")
     for note in long_bodies(files):
         print("long: " + note)
-    amiss = [*check_crates(crates, layers), *check_paths(crates, files), *check_names(files), *long_lines(files)]
+    amiss = [*check_crates(crates, layers), *check_paths(crates, files), *check_names(files), *long_lines(files), *edits(files)]
     for fault in amiss:
         print("amiss: " + fault, file=sys.stderr)
     return 1 if amiss else 0
