@@ -1,5 +1,5 @@
 -- What a sum of bytes that come in pieces keeps of them.
-use Rattle.std.specs.Prelude.{◌≡◌, ℕ, ◌+◌, ◌-◌, ◌*◌, ◌<◌, List, ◌++◌, length, drop}
+use Rattle.std.specs.Prelude.{◌≡◌, ℕ, ◌+◌, ◌-◌, ◌*◌, ◌^◌, ◌<◌, List, ◌++◌, length, drop}
 use Rattle.nt_xxh3.specs.Long.{stripes}
 use Rattle.nt_xxh3.specs.Window.{zero_stripe}
 use Rattle.nt_xxh3.specs.declared.pieces.Sum.{Sum}
@@ -21,3 +21,8 @@ WasGiven s m = Splits s m × (0 < s.lanes.taken → 240 < length m) × (0 < s.la
 -- how many bytes the sum was given
 unfoldable pub total_of : Sum → ℕ
 total_of s = 64 * s.lanes.taken + length s.window - 64
+
+-- bytes that may follow, at least one
+pub record IsMore (s : Sum) (bytes : List ℕ) : Type 0 where
+  pub some : 0 < length bytes
+  pub fits : total_of s + length bytes < 2 ^ 63

@@ -20,7 +20,7 @@ pub struct Sum {
 
 impl Sum {
     ghost use Rattle.nt_xxh3.specs.Sum.{xxh3};
-    ghost use Rattle.nt_xxh3.specs.Pieces.{WasGiven, Splits, total_of};
+    ghost use Rattle.nt_xxh3.specs.Pieces.{WasGiven, Splits, IsMore, total_of};
 
     /// The sum of no bytes yet.
     #[tactic(auto, unfolding(crate::specs::Pieces::WasGiven, crate::specs::Pieces::total_of))]
@@ -66,9 +66,8 @@ impl Sum {
     /// Takes the stripes of a piece that end before its last byte.
     #[tactic(auto, unfolding(crate::specs::Pieces::total_of))]
     fn take_rest(&mut self, rest: &[u8])
-        requires some { 0 < length rest.now }
         requires window { length self.old.window ≡ 64 }
-        requires total { total_of self.old + length rest.now < 2 ^ 63 }
+        requires more { IsMore self.old rest.now }
         ensures window { 64 < length self.new.window }
         ensures total { total_of self.new ≡ total_of self.old + length rest.now }
         ensures keeps { (m : List ℕ) → Splits self.old m → Splits self.new (m ++ rest.now) }
