@@ -9,6 +9,9 @@ pub mod Depth
 pub mod LineSteps
 pub mod TextLines
 pub mod Spelled
+pub mod ReadText
+pub mod PartsPut
+pub mod LeavesSound
 pub mod Sound
 pub mod Nesting
 pub mod LineText
