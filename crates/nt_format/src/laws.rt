@@ -2,11 +2,11 @@
 //! and no bytes have two readings.
 
 ghost use Rattle.std.specs.Prelude.{◌≡◌, ◌≢◌, ℕ, ◌+◌, ◌^◌, ◌<◌, List, ◌++◌, length, Ok, Err, FitsSigned};
-ghost use Rattle.std.specs.Int.{w16, w32, w64, to_le_bytes, to_be_bytes};
+ghost use Rattle.std.specs.Int.{w32, w64, to_le_bytes, to_be_bytes};
 ghost use Rattle.nt_num.specs.Place.{At};
 ghost use Rattle.nt_num.specs.Cursor.{little, little_signed, big};
 ghost use Rattle.nt_format.specs.Reading.{standing, IsBytes, Spells, HasOneReading};
-ghost use Rattle.nt_format.specs.Numbers.{signed};
+ghost use Rattle.nt_format.specs.Numbers.{AreSpelled, signed};
 ghost use Rattle.nt_format.specs.Strings.{string, string_at};
 ghost use Rattle.nt_format.specs.Frames.{record_frame, list_frame, record_at, list_at, IsRecord, IsList};
 ghost use Rattle.nt_format.specs.Envelopes.{envelope, payload_of};
@@ -15,12 +15,8 @@ ghost use Rattle.nt_format.specs.declared.fault.EnvelopeFault.TheVariants.{Size}
 
 /// Numbers of each width, in either order and with a sign.
 pub fn numbers_are_spelled()
-    ensures little_16 { Spells (little w16) (to_le_bytes w16) (λ n. n < 2 ^ 16) }
-    ensures little_32 { Spells (little w32) (to_le_bytes w32) (λ n. n < 2 ^ 32) }
-    ensures little_64 { Spells (little w64) (to_le_bytes w64) (λ n. n < 2 ^ 64) }
-    ensures big_16 { Spells (big w16) (to_be_bytes w16) (λ n. n < 2 ^ 16) }
-    ensures big_32 { Spells (big w32) (to_be_bytes w32) (λ n. n < 2 ^ 32) }
-    ensures big_64 { Spells (big w64) (to_be_bytes w64) (λ n. n < 2 ^ 64) }
+    ensures little { AreSpelled little to_le_bytes }
+    ensures big { AreSpelled big to_be_bytes }
     ensures signed_32 { Spells (little_signed w32) (signed w32) (FitsSigned w32) }
     ensures signed_64 { Spells (little_signed w64) (signed w64) (FitsSigned w64) }
 {}
