@@ -1,5 +1,5 @@
 -- A text that is read once, from its beginning to its end.
-use Rattle.std.specs.Prelude.{◌≡◌, ℕ, ◌≤◌, List, [], ◌++◌, length, Option, Some, Result, OnOk}
+use Rattle.std.specs.Prelude.{◌≡◌, ℕ, ◌+◌, ◌≤◌, List, [], ◌++◌, length, Option, Some, Result, OnOk}
 use Rattle.std.specs.Io.{ReadsAtMost}
 use Rattle.std.specs.Io.KnownBytes.{Consumes, ReadConsumes}
 use Rattle.nt_outside.specs.declared.fault.Failed.{Failed}
@@ -24,9 +24,10 @@ pub record IsFrontOf (most : ℕ) (bytes left : List ℕ) : Type 0 where
   pub joined : left ≡ bytes ++ rest
   pub whole : length bytes ≤ most → rest ≡ []
 
--- where the source tells what is left, these bytes are the front of it
-abbrev pub TakesFront : Option (List ℕ) → ℕ → List ℕ → Type 0
-TakesFront left most bytes = (told : List ℕ) → left ≡ Some told → IsFrontOf most bytes told
+-- at most one byte more than `most`; and where the source tells what is left, these bytes are the front of it
+pub record TakesFront (left : Option (List ℕ)) (most : ℕ) (bytes : List ℕ) : Type 0 where
+  pub few : length bytes ≤ most + 1
+  pub front : (told : List ℕ) → left ≡ Some told → IsFrontOf most bytes told
 
 -- at most so many bytes were taken
 pub record TakesAtMost (most : ℕ) (old new : Option (List ℕ)) : Type 0 where

@@ -34,7 +34,6 @@ fn buffer(alloc: Global, most: usize) -> Result<Vec<u8>, AllocError>
 pub fn read_front<S: Source>(alloc: Global, source: &mut S, most: usize) -> Result<Vec<u8>, Refused>
     requires { most < 2 ^ 62 }
     ensures front { IfOk result (λ bytes. TakesFront (S.state source.old).left most bytes.items) }
-    ensures few { IfOk result (λ bytes. vec_len bytes ≤ most + 1) }
     ensures taken { TakesAtMost (most + 1) (S.state source.old).left (S.state source.new).left }
     ensures answered { ((S.state source.new).faults ≡ (S.state source.old).faults) ⊎ IsErrOf result refused_failed }
     ensures cause { RoseOnFailed (S.state source.old).faults (S.state source.new).faults result }

@@ -44,4 +44,4 @@ schema_tells text bytes (Err (Limit reached limit)) front told = told
 pub schema_is_told : (found left : Option (List ℕ)) (bytes : List ℕ) (result : Result Members StoreError) → IsSome found → left ≡ found
     → TakesFront left (2 ^ 20) bytes → TellsFields bytes result → TellsSchema found result
 schema_is_told None left bytes result some is front told = absurd (cc some)
-schema_is_told (Some text) left bytes result some is front told = schema_tells text bytes result (front text is) told
+schema_is_told (Some text) left bytes result some is front told = schema_tells text bytes result (front.front text is) told
