@@ -1,4 +1,7 @@
+pub mod Times
+pub mod Placed
 pub mod Counts
+pub mod RunOrders
 pub mod Dealing
 pub mod Histories
 pub mod Legality
