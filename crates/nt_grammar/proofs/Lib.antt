@@ -10,4 +10,7 @@ pub mod AllNodes
 pub mod ReadingSchemas
 pub mod FieldsInside
 pub mod Inside
+pub mod FieldParts
+pub mod LeavesOpen
+pub mod Shallow
 pub mod Described
