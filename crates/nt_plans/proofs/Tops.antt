@@ -13,7 +13,8 @@ use Rattle.nt_plans.specs.Place.{place, place_from, open_plans}
 use Rattle.nt_plans.specs.Types.{AllHaveTypes}
 use Rattle.nt_plans.proofs.Options.{map_some, some_if}
 use Rattle.nt_plans.proofs.Inside.{IsTop, StandFrom, stand-all, stand-first, stand-rest}
-use Rattle.nt_plans.proofs.Lies.{Lies, field-lies}
+use Rattle.nt_plans.proofs.Lying.{Lies}
+use Rattle.nt_plans.proofs.Lies.{field-lies}
 use Rattle.nt_plans.proofs.Owners.{HasOwner, or_true, place-types, place-owner, place-differ, same-owner}
 
 -- an open field at the top level lies in the rows
