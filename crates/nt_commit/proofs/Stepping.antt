@@ -20,7 +20,7 @@ use Rattle.nt_book.specs.declared.meta.ClusterMeta.{ClusterMeta}
 use Rattle.nt_book.specs.Books.{BookData, book_clusters, book_end}
 use Rattle.nt_book.specs.Entries.{committed_entry, settled_entry, spoiled_entry, faulted_entry}
 use Rattle.nt_book.specs.Limiting.{limit_error}
-use Rattle.nt_book.proofs.Counted.{limit_error-none}
+use Rattle.nt_book.proofs.Fitting.{limit_error-none}
 use Rattle.nt_commit.specs.declared.claim.Claim.{Claim}
 use Rattle.nt_commit.specs.declared.error.CommitError.TheVariants.{RangeTooLarge, FileTooLarge, TooManyClusters, Memory, Fault}
 use Rattle.nt_commit.specs.Claims.{IsNewClaim, IsClaimOf, CommitAdds, limit_in, limit_answered, settled_with}

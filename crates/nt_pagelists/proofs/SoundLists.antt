@@ -12,7 +12,7 @@ use Rattle.nt_book.specs.declared.meta.ClusterMeta.{ClusterMeta}
 use Rattle.nt_book.specs.Pages.{element_count, listed_elements, stored_size, IsPageOf, IsPaged}
 use Rattle.nt_book.specs.Books.{BookData, book_clusters, book_end, cluster_at, no_cluster, first_entry, entry_count, elements_before}
 use Rattle.nt_book.specs.Kept.{IsKeptCluster, IsBookKept}
-use Rattle.nt_book.proofs.Counted.{listed_elements-le}
+use Rattle.nt_book.proofs.Fitting.{listed_elements-le}
 use Rattle.nt_pagelists.specs.declared.page.PageItem.{PageItem}
 use Rattle.nt_pagelists.specs.declared.column.KnownColumn.{KnownColumn}
 use Rattle.nt_pagelists.specs.declared.cluster.ClusterSummary.{ClusterSummary}

@@ -10,7 +10,9 @@ use Rattle.nt_book.specs.Entries.{history_of, committed_entry}
 use Rattle.nt_book.specs.Keeping.{IsHistory, IsCounted, AreOffsets}
 use Rattle.nt_book.specs.Limiting.{limit_error}
 use Rattle.nt_book.specs.Pages.{IsPaged}
-use Rattle.nt_book.proofs.Counted.{limit_error-none, fewer, pushed-fit, entries-fit, count_out-le, IsCounted-append, AreOffsets-pushed}
+use Rattle.nt_book.proofs.Counted.{count_out-le}
+use Rattle.nt_book.proofs.OneMore.{IsCounted-append, AreOffsets-pushed}
+use Rattle.nt_book.proofs.Fitting.{limit_error-none, fewer, pushed-fit, entries-fit}
 use Rattle.nt_book.proofs.Kept.{limit-book, length-book, end-book, history-committed, IsHistory-committed}
 use Rattle.nt_book.proofs.book.Book.append.Goals as goal
 

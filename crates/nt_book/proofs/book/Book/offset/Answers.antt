@@ -2,7 +2,7 @@ use Rattle.std.proofs.Common.{◌∙◌, ◌≡◌, ◌<◌, ◌*◌, ◌+◌, �
 use Rattle.std.specs.Prelude.{slice_index}
 use Rattle.std.proofs.lemmas.Grind.{get_or_default_zero}
 use Rattle.nt_book.specs.Books.{BookData}
-use Rattle.nt_book.proofs.Counted.{table_place}
+use Rattle.nt_book.proofs.Fitting.{table_place}
 use Rattle.nt_book.proofs.Kept.{length-book, offset-book}
 use Rattle.nt_book.proofs.book.Book.offset.Goals as goal
 
