@@ -1,5 +1,5 @@
 -- A turn and its passes as their users see them, and what each call does to them.
-use Rattle.std.specs.Prelude.{◌≡◌, ◌≢◌, ℕ, ◌<◌, Bool, true, false, List, [], ◌∷◌, ◌++◌}
+use Rattle.std.specs.Prelude.{◌≡◌, ◌≢◌, ℕ, ◌+◌, ◌<◌, ◌≤◌, Bool, true, false, List, [], ◌∷◌, ◌++◌}
 use Rattle.std.specs.List.{AllByRecursion}
 use mathlib.Core.List.{IsPrefix}
 use Rattle.std.specs.declared.option.Option.{Option}
@@ -129,6 +129,17 @@ AllJoined first = (n : ℕ) → n < first.splits → HasNone first.kept n → �
 -- of the passes that the first has now split off, each was joined to it since, or was split off and not joined before
 pub record JoinsSince {E B : Type 0} (old new : PassState E B) : Type 0 where
   pub each : (n : ℕ) → n < new.splits → HasNone new.kept n → (n < old.splits) × HasNone old.kept n
+
+-- so many passes more may be split off the first pass of this turn, which doesn't hold it
+pub record MaySplit {E B : Type 0} (turn : TurnState B) (more : ℕ) (pass : PassState E B) : Type 0 where
+  pub first : IsFirst turn pass
+  pub room : pass.splits + more ≤ turn.seats
+
+-- so many passes more were split off the first pass, and all that were are joined to it
+pub record SplitAndJoined {E B : Type 0} (turn : TurnState B) (more : ℕ) (old new : PassState E B) : Type 0 where
+  pub first : IsFirst turn new
+  pub splits : new.splits ≡ old.splits + more
+  pub joined : JoinsSince old new
 
 -- the history begins with what the first pass has seen, and has just its entries and those that it keeps; the birth is its own
 pub record Closes {V E B : Type 0} (history : V → List E) (born : V → B) (context : E → ℕ) (first : PassState E B) (x : V) : Type 0 where
