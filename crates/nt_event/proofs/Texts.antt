@@ -81,7 +81,7 @@ open-end t at i end (v ∷ vs) past so close = record {
   some = omega (arith, close.some, past);
 }
 
-array-stands : (js : json.Items) (t : List ℕ) (at first end : ℕ) → StandsFrom (91 ∷ []) t at first → ItemsStand js t first end
+pub array-stands : (js : json.Items) (t : List ℕ) (at first end : ℕ) → StandsFrom (91 ∷ []) t at first → ItemsStand js t first end
     → ValueStands (json.array js) t at end
 array-stands js t at first end begin rest = record {
   told = λ p b e. ap (tokens_from p) begin.part_is ∙ opens p (drop first t) b ∙ ap (λ l. begin_array ∷ l) rest.told;
@@ -152,7 +152,7 @@ pub reads-flag : (b : Bool) (n : ℕ) (t : List ℕ) (at end : ℕ) → StandsFr
 reads-flag true n t at end h = record { stands = true-stands t at end h; good = record { fit = refl; range = tt; shallow = omega arith } }
 reads-flag false n t at end h = record { stands = false-stands t at end h; good = record { fit = refl; range = tt; shallow = omega arith } }
 
-num-stands : (z : ℤ) (t : List ℕ) (at end : ℕ) → InWord z → StandsFrom (number_text (num_data z)) t at end
+pub num-stands : (z : ℤ) (t : List ℕ) (at end : ℕ) → InWord z → StandsFrom (number_text (num_data z)) t at end
     → ValueStands (json_of (num z)) t at end
 num-stands z t at end w h = number-stands (number_text (num_data z)) t at end (number_is z w) h
 
@@ -206,7 +206,7 @@ reads-record n ps vs t at first end begin rest good = record {
   };
 }
 
-pick-items : (tag : ℕ) (v : TreeData) (t : List ℕ) (first dot next last end : ℕ) → tag < 2 ^ 64 → StandsFrom (decimal tag) t first dot
+pub pick-items : (tag : ℕ) (v : TreeData) (t : List ℕ) (first dot next last end : ℕ) → tag < 2 ^ 64 → StandsFrom (decimal tag) t first dot
     → CommaStands t dot next → ValueStands (json_of v) t next last
     → StandsFrom (93 ∷ []) t last end → ItemsStand (json.item (json.number (decimal tag)) (json.item (json_of v) json.no_items)) t first end
 pick-items tag v t first dot next last end small number comma of close =

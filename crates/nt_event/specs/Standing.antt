@@ -1,5 +1,6 @@
 -- What stands from one place of a text to another.
 use Rattle.std.specs.Prelude.{ℕ, ◌≡◌, ◌≤◌, ◌<◌, List, [], ◌∷◌, ◌++◌, length, drop, Bool, true, false, ⊤}
+use Rattle.std.specs.Str.{IsUtf8}
 use Rattle.json.specs.Token.{Token}
 use Rattle.json.specs.Word.{ends_word}
 use Rattle.json.specs.Lex.{lex, between, Place, fresh, after_value, after_comma, may_begin, begins_colon, punctuate, tokens}
@@ -10,7 +11,8 @@ use Rattle.serde_json.specs.Written.{outline, items_outline}
 use Rattle.nt_types.specs.ShapeData.{ShapeData, MemberData}
 use Rattle.nt_types.specs.TreeData.{TreeData, TreesData, trees_of}
 use Rattle.nt_types.specs.Fits.{fits}
-use Rattle.nt_event.specs.Json.{data_with, datas_with, InRange}
+use Rattle.nt_event.specs.Json.{data_with, datas_with, InRange, AllInRange}
+use Rattle.nt_event.specs.Limits.{max_line}
 
 -- from one place to another stands this
 pub record StandsFrom (part text : List ℕ) (at end : ℕ) : Type 0 where
@@ -99,3 +101,10 @@ kinds_in (p ∷ ps) = p.of ∷ kinds_in ps
 pub record IsWritten (fields : List MemberData) (vs : List TreeData) (line : List ℕ) : Type 0 where
   pub told : tokens line ≡ json_tokens (array (jsons_of (trees_of vs)))
   pub good : EachGood 126 (kinds_in fields) vs
+
+-- the tokens of a line that is not too long are those of the trees, which JSON can give back
+pub record SpellsTrees (vs : List TreeData) (line : List ℕ) : Type 0 where
+  pub few : length line ≤ max_line
+  pub utf8 : IsUtf8 line
+  pub told : tokens line ≡ json_tokens (array (jsons_of (trees_of vs)))
+  pub range : AllInRange (trees_of vs)

@@ -48,7 +48,7 @@ fn then_digit(n: u64, byte: u8) -> Option<u64>
 }
 
 /// A number of 64 bits, as it is printed.
-pub(crate) fn number(text: &[u8], at: usize) -> Option<(u64, usize)>
+pub fn number(text: &[u8], at: usize) -> Option<(u64, usize)>
     requires { at ≤ length text.now }
     ensures { IfSome result (λ r. StandsFrom (decimal r.0) text.now at r.1) }
 {
@@ -82,7 +82,7 @@ fn most(bits: u8, signed: bool) -> Option<u64>
 }
 
 /// An integer of a width, as it is printed.
-pub(crate) fn integer(text: &[u8], at: usize, bits: u8, signed: bool) -> Option<(i128, usize)>
+pub fn integer(text: &[u8], at: usize, bits: u8, signed: bool) -> Option<(i128, usize)>
     requires { at ≤ length text.now }
     ensures spells { IfSome result
         (λ r. StandsFrom (compact_text (data_of (num r.0))) text.now at r.1) }

@@ -7,6 +7,9 @@
 //! *compact form* stands as `write_line` prints it. What a line means is `entry_of` (specs/Entry.antt), by what
 //! `serde_json` reads; what an entry's line is, `line_of` (specs/Json.antt); what the next line is, `GivesLine`
 //! (specs/Lines.antt). That a line is read back as its entry is the clause of [`lines_are_read_back`].
+//!
+//! Who reads values in another way takes their pieces from [`after`], [`comma`], [`integer`], [`plain_string`] and the others
+//! beside them; [`spelled_trees_are_read`] says that what they spell is what `read_line` reads.
 #![tactic(auto)]
 
 mod blanks;
@@ -28,7 +31,10 @@ mod values;
 pub use blanks::blank;
 pub use entry::read_line;
 pub use fault::{TextError, TextKind};
-pub use laws::lines_are_read_back;
+pub use integers::{integer, number};
+pub use laws::{lines_are_read_back, spelled_trees_are_read};
 pub use lines::{Line, LineError, LineReader};
+pub use marks::{after, after_blanks, comma, comma_if, null, truth};
 pub use printing::write_line;
+pub use quoted::plain_string;
 pub use strings::write_text;

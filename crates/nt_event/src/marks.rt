@@ -7,7 +7,7 @@ ghost use Rattle.nt_event.specs.Json.{data_of};
 ghost use Rattle.nt_event.specs.Standing.{StandsFrom, BlanksStand, CommaStands, MayStand};
 
 /// Passes a byte.
-pub(crate) fn after(text: &[u8], at: usize, byte: u8) -> Option<usize>
+pub fn after(text: &[u8], at: usize, byte: u8) -> Option<usize>
     ensures { IfSome result (λ end. StandsFrom (byte ∷ []) text.now at end) }
 {
     if at < text.len() && text[at] == byte {
@@ -24,7 +24,7 @@ fn is_blank(byte: u8) -> bool
 }
 
 /// Passes blanks.
-pub(crate) fn after_blanks(text: &[u8], at: usize) -> usize
+pub fn after_blanks(text: &[u8], at: usize) -> usize
     requires { at ≤ length text.now }
     ensures { BlanksStand text.now at result }
 {
@@ -36,7 +36,7 @@ pub(crate) fn after_blanks(text: &[u8], at: usize) -> usize
 }
 
 /// Passes a comma and the blanks behind it.
-pub(crate) fn comma(text: &[u8], at: usize) -> Option<usize>
+pub fn comma(text: &[u8], at: usize) -> Option<usize>
     ensures { IfSome result (λ end. CommaStands text.now at end) }
 {
     let next = after(text, at, b',')?;
@@ -44,14 +44,14 @@ pub(crate) fn comma(text: &[u8], at: usize) -> Option<usize>
 }
 
 /// Passes a comma and the blanks behind it, where something stands before.
-pub(crate) fn comma_if(text: &[u8], at: usize, later: bool) -> Option<usize>
+pub fn comma_if(text: &[u8], at: usize, later: bool) -> Option<usize>
     ensures { IfSome result (λ end. MayStand later text.now at end) }
 {
     if later { comma(text, at) } else { Some(at) }
 }
 
 /// Passes `null`.
-pub(crate) fn null(text: &[u8], at: usize) -> Option<usize>
+pub fn null(text: &[u8], at: usize) -> Option<usize>
     ensures { IfSome result (λ end. StandsFrom (110 ∷ 117 ∷ 108 ∷ 108 ∷ []) text.now at end) }
 {
     let second = after(text, at, b'n')?;
@@ -82,7 +82,7 @@ fn no(text: &[u8], at: usize) -> Option<usize>
 }
 
 /// Passes `true` or `false`.
-pub(crate) fn truth(text: &[u8], at: usize) -> Option<(bool, usize)>
+pub fn truth(text: &[u8], at: usize) -> Option<(bool, usize)>
     ensures { IfSome result (λ r. StandsFrom (compact_text (data_of (flag r.0))) text.now at r.1) }
 {
     if let Some(end) = yes(text, at) {

@@ -1,6 +1,6 @@
 //! Strings as they stand in JSON.
 
-ghost use Rattle.std.specs.Prelude.{◌≡◌, ◌++◌, ◌≤◌, length, IfOk, IfSome, IsTrue, OnOk};
+ghost use Rattle.std.specs.Prelude.{◌≡◌, ◌++◌, ◌+◌, ◌≤◌, length, IfOk, IfSome, IsTrue, OnOk};
 ghost use Rattle.std.specs.List.{slice_range};
 ghost use Rattle.std.specs.Char.{encode_utf8};
 ghost use Rattle.hex.specs.Hex.{IsBytes};
@@ -105,4 +105,19 @@ pub(crate) fn string(
     };
     are_bytes(bytes.as_slice());
     Ok(Some((bytes, end)))
+}
+
+/// The bytes of a string without escapes, as they stand there.
+pub fn plain_string(text: &[u8], at: usize) -> Option<(&[u8], usize)>
+    requires { at ≤ length text.now }
+    ensures stands { IfSome result (λ r. ValueStands (json.string r.0.now) text.now at r.1) }
+    ensures bytes { IfSome result (λ r. IsBytes r.0.now) }
+    ensures short { IfSome result (λ r. at + length r.0.now + 2 ≤ r.1) }
+{
+    let first = after(text, at, b'"')?;
+    let last = plain_end(text, first);
+    let end = after(text, last, b'"')?;
+    let bytes = &text[first..last];
+    are_bytes(bytes);
+    Some((bytes, end))
 }
