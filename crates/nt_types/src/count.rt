@@ -8,12 +8,15 @@ ghost use Rattle.nt_types.specs.Schema.{field_count, kinds_count, parts_count};
 
 use crate::shape::{Member, Shape};
 
+/// The most fields of a schema, those inside of others included.
+pub const MAX_FIELDS: u32 = 4096;
+
 /// A count that is reached only by too many fields.
 const TOO_MANY: u32 = 4097;
 
 /// The fields of a shape, those inside of others included, beside so many before it. It stands still at 4097.
 #[cycle(count)]
-pub(crate) fn count_fields(shape: &Shape, before: u32) -> u32
+pub fn count_fields(shape: &Shape, before: u32) -> u32
     requires { before ≤ too_many }
     ensures { result ≡ min too_many (before + field_count (shape_view shape.now)) }
 {

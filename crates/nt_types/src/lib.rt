@@ -43,6 +43,7 @@ mod type_text;
 mod word;
 
 pub use column_type::ColumnType;
+pub use count::{MAX_FIELDS, count_fields};
 pub use fault::{SchemaError, SchemaFault, SchemaKind};
 pub use fit::fits;
 pub use laws::{texts_are_read, texts_have_fields};

@@ -9,16 +9,13 @@ ghost use Rattle.nt_types.specs.Schema.{field_of, field_count, part_under};
 ghost use Rattle.nt_lists.specs.Answering.{Answers};
 ghost use Rattle.nt_types.specs.FaultViews.{line_fault};
 
-use crate::count::count_fields;
+use crate::count::{MAX_FIELDS, count_fields};
 use crate::fault::{LineError, SchemaKind};
 use crate::line::{is_blank_line, split_line, type_of};
 use crate::member::under_name;
 use crate::shape::{Member, Shape};
 use std::alloc::Global;
 use std::collections::BTreeSet;
-
-/// The most fields of a schema, those inside of others included.
-const MAX_FIELDS: u32 = 4096;
 
 /// What is read up to a line.
 #[derive(Drop)]
