@@ -1,4 +1,6 @@
 pub mod Listing
+pub mod Marks
+pub mod Added
 pub mod ReadingRows
 pub mod ReadingBack
 pub mod ReadingParts

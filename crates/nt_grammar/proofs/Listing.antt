@@ -1,10 +1,7 @@
 -- Fields that are listed, and those that are left.
-use Rattle.std.proofs.Common.{ℕ, suc, Bool, ◌≡◌, ◌<◌, ◌≤◌, ◌+◌, ◌-◌, List, [], ◌∷◌, ◌++◌, length, take, drop, map, refl, sym, ◌∙◌, ap}
-use Rattle.std.proofs.Common.{append_assoc, zero-add, add-zero, add-one, arith}
+use Rattle.std.proofs.Common.{ℕ, Bool, ◌≡◌, ◌≤◌, ◌+◌, List, [], ◌∷◌, ◌++◌, length, map, refl, sym, ◌∙◌, ap}
+use Rattle.std.proofs.Common.{append_assoc, add-zero, arith}
 use Rattle.std.proofs.lemmas.Grind.{common_steps}
-use Rattle.std.proofs.lemmas.List.{take-append-le, drop-append-le, length-take-le, append-nil, length-append, take_all, length-drop}
-use Rattle.std.proofs.Math.Seq.{drop-cons, take-suc}
-use Rattle.std.proofs.Math.ListN.{get_or}
 use Rattle.nt_types.specs.ShapeData.{ShapeData, ShapesData, MembersData, MemberData, bool, char, byte, int, text, list, fields, tuple}
 use Rattle.nt_types.specs.ShapeData.{choice, no_kinds, kind, no_parts, part, parts_of}
 use Rattle.nt_types.specs.Schema.{field_count, parts_count, kinds_count}
@@ -12,7 +9,7 @@ use Rattle.nt_grammar.specs.Rows.{NodeData, AreNodes, inside, members_in, places
 use Rattle.nt_grammar.specs.Table.{Table, table_of}
 use Rattle.nt_grammar.specs.declared.rows.FieldRow.{FieldRow}
 use Rattle.nt_grammar.specs.declared.rows.ColumnRow.{ColumnRow}
-use Rattle.nt_grammar.specs.Listing.{weight, AreListed}
+use Rattle.nt_grammar.specs.Listing.{weight}
 
 pub weight-append : (a b : List NodeData) → weight (a ++ b) ≡ weight a + weight b
 weight-append [] b = omega arith
@@ -52,80 +49,6 @@ length-weight (n ∷ ns) =
 pub all_inside-append : (id : ℕ) (a b : List NodeData) → all_inside id (a ++ b) ≡ all_inside id a ++ all_inside (id + length a) b
 all_inside-append id [] b = ap (λ (i : ℕ). all_inside i b) (sym (add-zero id))
 all_inside-append id (n ∷ a) b = grind (arith, common_steps, all_inside-append (id + 1) a b)
-
-all_inside-one : (ns : List NodeData) (next : ℕ) (n : NodeData) → length ns ≡ next
-    → all_inside 0 (ns ++ n ∷ []) ≡ all_inside 0 ns ++ inside next n.of
-all_inside-one ns next n e = all_inside-append 0 ns (n ∷ []) ∙ rw (e, zero-add, append-nil) refl
-
-order-next : (top old new : List NodeData) (before after : List NodeData) (next : ℕ) (n : NodeData) → length before ≡ next
-    → after ≡ before ++ n ∷ []
-    → new ≡ old ++ inside next n.of → old ≡ top ++ all_inside 0 before → new ≡ top ++ all_inside 0 after
-order-next top old new before after next n k a e o =
-    e ∙ (ap (λ (z : List NodeData). z ++ inside next n.of) o
-    ∙ (append_assoc top (all_inside 0 before) (inside next n.of)
-    ∙ ap (λ (z : List NodeData). top ++ z) (sym (ap (all_inside 0) a ∙ all_inside-one before next n k))))
-
--- the next field gets those inside it
-pub AreListed-next : (ps : List MemberData) (old new : List NodeData) (next : ℕ) (n : NodeData) → next < length old → n ≡ get_or old next n
-    → new ≡ old ++ inside next n.of → AreListed ps next old → AreListed ps (next + 1) new
-AreListed-next ps old new next n h is e l = record {
-  order = order-next (at_top 0 ps) old new (take next old) (take (next + 1) new) next n (length-take-le next old l.within) before e l.order;
-  count = count;
-  within = within;
-}
-  where
-    here : next + 1 ≤ length old
-    here = omega arith
-
-    before : take (next + 1) new ≡ take next old ++ n ∷ []
-    before = ap (take (next + 1)) e ∙ (take-append-le (next + 1) old (inside next n.of) here
-        ∙ (ap (λ (i : ℕ). take i old) (add-one next) ∙ (take-suc old next n h ∙ ap (λ (z : NodeData). take next old ++ z ∷ []) (sym is))))
-
-    behind : drop next old ≡ n ∷ drop (next + 1) old
-    behind = drop-cons old next n h ∙ (ap (λ (z : NodeData). z ∷ drop (suc next) old) (sym is)
-        ∙ ap (λ (i : ℕ). n ∷ drop i old) (sym (add-one next)))
-
-    left : weight (drop (next + 1) new) ≡ weight (drop (next + 1) old) + weight (inside next n.of)
-    left = ap (λ (z : List NodeData). weight (drop (next + 1) z)) e
-        ∙ (ap weight (drop-append-le (next + 1) old (inside next n.of) here) ∙ weight-append (drop (next + 1) old) (inside next n.of))
-
-    first : weight (drop next old) ≡ field_count n.of + weight (drop (next + 1) old)
-    first = ap weight behind
-
-    count : (next + 1) + weight (drop (next + 1) new) ≡ parts_count (parts_of ps)
-    count = let own : weight (inside next n.of) + 1 ≡ field_count n.of = weight-inside next n.of in
-        let l1 : weight (drop (next + 1) new) ≡ weight (drop (next + 1) old) + weight (inside next n.of) = left in
-        let f1 : weight (drop next old) ≡ field_count n.of + weight (drop (next + 1) old) = first in
-        let all : next + weight (drop next old) ≡ parts_count (parts_of ps) = l.count in omega arith
-
-    within : next + 1 ≤ length new
-    within = rw e (rw length-append (omega arith))
-
--- the fields at the top level alone
-pub AreListed-first : (ps : List MemberData) (nodes : List NodeData) → nodes ≡ at_top 0 ps → AreListed ps 0 nodes
-AreListed-first ps nodes e = record {
-  order = e ∙ sym (append-nil (at_top 0 ps));
-  count = zero-add (weight nodes) ∙ (ap weight e ∙ weight-at_top 0 ps);
-  within = omega arith;
-}
-
--- where none is left, these are all fields
-pub AreListed-all : (ps : List MemberData) (nodes : List NodeData) (next : ℕ) → length nodes ≤ next → AreListed ps next nodes
-    → AreNodes ps nodes
-AreListed-all ps nodes next h l = l.order ∙ ap (λ (z : List NodeData). at_top 0 ps ++ all_inside 0 z) (take_all next nodes h)
-
--- there are no more than the parts count
-pub AreListed-few : (ps : List MemberData) (nodes : List NodeData) (next : ℕ) → AreListed ps next nodes → next ≤ parts_count (parts_of ps)
-AreListed-few ps nodes next l = let all : next + weight (drop next nodes) ≡ parts_count (parts_of ps) = l.count in omega arith
-
--- the next field is counted
-pub AreListed-here : (ps : List MemberData) (nodes : List NodeData) (next : ℕ) → next < length nodes → AreListed ps next nodes
-    → next < parts_count (parts_of ps)
-AreListed-here ps nodes next h l =
-    let all : next + weight (drop next nodes) ≡ parts_count (parts_of ps) = l.count in
-    let left : length (drop next nodes) ≤ weight (drop next nodes) = length-weight (drop next nodes) in
-    let some : length (drop next nodes) ≡ length nodes - next = length-drop next nodes in
-    omega arith
 
 pub weight-all_inside : (id : ℕ) (ns : List NodeData) → weight (all_inside id ns) + length ns ≡ weight ns
 weight-all_inside id [] = omega arith
@@ -174,7 +97,7 @@ one_list id (q ∷ front) (m ∷ ms) (n ∷ ns) e f =
 pub AreNodes-one : (ps : List MemberData) (ms ns : List NodeData) → AreNodes ps ms → AreNodes ps ns → ms ≡ ns
 AreNodes-one ps ms ns e f = one_list 0 (at_top 0 ps) ms ns e f
 
-same_tables : (s t : Table) → s.fields ≡ t.fields → s.columns ≡ t.columns → s.header_fields ≡ t.header_fields
+pub same_tables : (s t : Table) → s.fields ≡ t.fields → s.columns ≡ t.columns → s.header_fields ≡ t.header_fields
     → s.header_columns ≡ t.header_columns → s ≡ t
 same_tables s t p q h k =
     ap (λ (f : List FieldRow). table_of f s.columns s.header_fields s.header_columns) p

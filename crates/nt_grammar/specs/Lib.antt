@@ -3,6 +3,7 @@ pub mod Table
 pub mod Types
 pub mod Columns
 pub mod Rows
+pub mod Added
 pub mod Listing
 pub mod Reading
 pub mod ReadingBack

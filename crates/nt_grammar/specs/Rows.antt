@@ -54,9 +54,13 @@ abbrev pub at_top : ℕ → List MemberData → List NodeData
 at_top id [] = []
 at_top id (p ∷ ps) = record { parent = id; name = p.name; of = p.of } ∷ at_top (id + 1) ps
 
--- all fields: those at the top level, and behind them those inside each field, by its id
+-- all fields from an id on: those at the top level, and behind them those inside each field, by its id
+abbrev pub AreNodesFrom : ℕ → List MemberData → List NodeData → Type 0
+AreNodesFrom id ps nodes = nodes ≡ at_top id ps ++ all_inside id nodes
+
+-- all fields
 abbrev pub AreNodes : List MemberData → List NodeData → Type 0
-AreNodes ps nodes = nodes ≡ at_top 0 ps ++ all_inside 0 nodes
+AreNodes ps nodes = AreNodesFrom 0 ps nodes
 
 -- the row of a field
 abbrev pub field_row : NodeData → FieldRow

@@ -1,5 +1,6 @@
 -- The rows of a schema description (RNTuple Binary Format Specification 1.0.0.0, section Schema Description).
-use Rattle.std.specs.Prelude.{ℕ, ◌^◌, Bool, List, [], length, nat_lt, ◌&&◌}
+use Rattle.std.specs.Prelude.{ℕ, ◌≤◌, ◌*◌, ◌^◌, Bool, List, [], length, nat_lt, ◌&&◌}
+use Rattle.nt_types.specs.Limits.{max_fields}
 use Rattle.nt_grammar.specs.declared.rows.FieldRow.{FieldRow}
 use Rattle.nt_grammar.specs.declared.rows.ColumnRow.{ColumnRow}
 
@@ -26,3 +27,8 @@ no_rows = in_header [] []
 -- names that a description can hold
 abbrev pub is_short : FieldRow → Bool
 is_short r = nat_lt (length r.name) (2 ^ 32) && nat_lt (length r.type_name) (2 ^ 32)
+
+-- no more fields than schema texts can have, with two columns each at most
+pub record IsFew (t : Table) : Type 0 where
+  pub fields : length t.fields ≤ max_fields
+  pub columns : length t.columns ≤ 2 * length t.fields

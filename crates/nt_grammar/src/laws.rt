@@ -5,6 +5,7 @@ ghost use Rattle.nt_types.specs.ShapeData.{MemberData};
 ghost use Rattle.nt_grammar.specs.Table.{Table};
 ghost use Rattle.nt_types.specs.Rules.{AreFields};
 ghost use Rattle.nt_grammar.specs.Rows.{Rows};
+ghost use Rattle.nt_grammar.specs.Added.{Added};
 ghost use Rattle.nt_grammar.specs.Open.{open_shape};
 ghost use Rattle.nt_grammar.specs.AsRead.{as_read};
 
@@ -12,6 +13,12 @@ ghost use Rattle.nt_grammar.specs.AsRead.{as_read};
 pub fn descriptions_are_one()
     ensures { (fields : List MemberData) (plain : Bool) (one other : Table) → Rows fields plain one
         → Rows fields plain other → one ≡ other }
+{}
+
+/// A field is added to a table in one way at most.
+pub fn additions_are_one()
+    ensures { (t : Table) (field : MemberData) (plain : Bool) (entries : ℕ) (one other : Table)
+        → Added t field plain entries one → Added t field plain entries other → one ≡ other }
 {}
 
 /// Described fields are open, and have the shapes that they were described from, with tuples read
