@@ -78,6 +78,7 @@ pub places-read : (id i : ℕ) (ks : ShapesData) → parts_of (map read_part (pl
 places-read id i no_kinds = refl
 places-read id i (kind k ks) = ap (λ (z : MembersData). part (place_name i) (as_read k) z) (places-read id (i + 1) ks)
 
-pub kinds-read : (id i : ℕ) (ks : ShapesData) → kinds_of (map (λ (q : MemberData). q.of) (map read_part (places_in id i ks))) ≡ kinds_as_read ks
+pub kinds-read : (id i : ℕ) (ks : ShapesData) → kinds_of (map (λ (q : MemberData). q.of) (map read_part (places_in id i ks)))
+    ≡ kinds_as_read ks
 kinds-read id i no_kinds = refl
 kinds-read id i (kind k ks) = ap (λ (z : ShapesData). kind (as_read k) z) (kinds-read id (i + 1) ks)

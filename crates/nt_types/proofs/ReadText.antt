@@ -77,7 +77,8 @@ more_parts : (ps : List MemberData) (p : MemberData) → spell_more_parts (parts
 more_parts [] p = refl
 more_parts (q ∷ ps) p = refl
 
-pub parts_text : (ps : List MemberData) (p : MemberData) → spell_parts (parts_of (ps ++ p ∷ [])) ≡ ended_parts ps ++ (p.name ++ 58 ∷ spell p.of)
+pub parts_text : (ps : List MemberData) (p : MemberData) → spell_parts (parts_of (ps ++ p ∷ [])) ≡ ended_parts ps
+    ++ (p.name ++ 58 ∷ spell p.of)
 parts_text [] p = rw (append-nil (spell p.of)) refl
 parts_text (q ∷ ps) p = rw (more_parts ps p, parts_text ps p) (simp append_assoc)
 
