@@ -2,7 +2,7 @@
 
 ghost use Rattle.std.specs.Prelude.{◌≡◌, ◌+◌, ◌<◌, ◌≤◌};
 ghost use Rattle.std.specs.Thread.{IsSync};
-ghost use Rattle.nt_turn.specs.Pass.{IsFree, IsFirst, JoinsSince};
+ghost use Rattle.nt_turn.specs.Pass.{IsFree, MaySplit, SplitAndJoined};
 
 use crate::tally::Tally;
 use nt_turn::{Pass, Turn};
@@ -31,11 +31,8 @@ fn work_beside<R: Threads + Wait + Sync>(
     threads: u32,
     rounds: u64,
 )
-    requires first { IsFirst turn.now first.old }
-    requires room { first.old.splits + threads ≤ turn.now.seats }
-    ensures first { IsFirst turn.now first.new }
-    ensures splits { first.new.splits ≡ first.old.splits + threads }
-    ensures kept { JoinsSince first.old first.new }
+    requires { MaySplit turn.now threads first.old }
+    ensures { SplitAndJoined turn.now threads first.old first.new }
 {
     if threads == 0 {
         return;
@@ -49,8 +46,8 @@ fn work_beside<R: Threads + Wait + Sync>(
             ensures { IsFree turn.entry.now pass.exit × (pass.exit.number ≡ pass.entry.number) }
         { take_turns(rt, turn, &mut pass, rounds) },
         &mut ||
-            requires { IsSync R.row × IsFirst turn.now first.now × (first.now.splits + rest ≤ turn.now.seats) }
-            ensures { IsFirst turn.entry.now first.exit.now × (first.exit.now.splits ≡ first.entry.now.splits + rest) × JoinsSince first.entry.now first.exit.now }
+            requires { IsSync R.row × MaySplit turn.now rest first.now }
+            ensures { SplitAndJoined turn.entry.now rest first.entry.now first.exit.now }
         { work_beside(rt, turn, first, rest, rounds) },
     );
     turn.join(first, pass);
