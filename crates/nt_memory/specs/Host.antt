@@ -1,5 +1,6 @@
 -- A host in memory.
-use Rattle.std.specs.Prelude.{◌≡◌, ◌⊎◌, ℕ, ◌+◌, ◌-◌, ◌^◌, ◌<◌, min, List, [], ◌∷◌, ◌++◌, map, cond, Some, None, Result, OnOk, OnErr, IsErr}
+use Rattle.std.specs.Prelude.{◌≡◌, ◌⊎◌, ℕ, ◌+◌, ◌-◌, ◌^◌, ◌<◌, min, List, [], ◌∷◌, ◌++◌, map}
+use Rattle.std.specs.Prelude.{cond, Some, None, Result, OnOk, OnErr, IfOk, IsErr}
 use Rattle.std.specs.Option.{option_map}
 use Rattle.std.specs.String.{string_bytes}
 use Rattle.std.specs.FinMap as fin
@@ -108,8 +109,10 @@ pub record Plans (object : Object) (call : ℕ) (old new : MemHost) (result : Re
   pub pens : OnOk result ((plan_of new).pens ≡ pens_with object (plan_of old).pens)
   pub room : room_of_host new ≡ room_of_host old
 
--- a print failed exactly where its number is listed or the room for the piece was wanting, and was counted, its failure on its stream
+-- a print was of its whole piece, failed exactly where its number is listed or the room was wanting, and was counted, its failure on
+-- its stream
 pub record PrintsWhereListed (stream : Stream) (len : ℕ) (old new : MemHost) (result : Result ℕ Failed) : Type 0 where
+  pub whole : IfOk result (λ n. n ≡ len)
   pub listed : IsListed (tally_of old) → IsErr result
   pub cause : OnErr result (IsListed (tally_of old) ⊎ (room_on stream (room_of_host old) < len))
   pub made : (tally_of new).made ≡ one_more (tally_of old).made

@@ -11,3 +11,4 @@ pub mod Planned
 pub mod Named
 pub mod Streams
 pub mod Host
+pub mod Opening

@@ -27,10 +27,26 @@ pub record KeepsRoom (old new : Log) : Type 0 where
   pub rows : spare_rows old ≤ spare_rows new
   pub bytes : spare_bytes old ≤ spare_bytes new
 
--- the room of at most one step with so many bytes was used
-pub record UsesRoom (more : ℕ) (old new : Log) : Type 0 where
-  pub rows : spare_rows old ≤ spare_rows new + 1
-  pub bytes : spare_bytes old ≤ spare_bytes new + more
+-- there is room for so many steps with so many bytes
+pub record HasRoomForSteps (rows bytes : ℕ) (log : Log) : Type 0 where
+  pub for_rows : rows ≤ spare_rows log
+  pub for_bytes : bytes ≤ spare_bytes log
+
+-- the room of at most so many steps with so many bytes was used
+pub record UsesRoom (more_rows more_bytes : ℕ) (old new : Log) : Type 0 where
+  pub rows : spare_rows old ≤ spare_rows new + more_rows
+  pub bytes : spare_bytes old ≤ spare_bytes new + more_bytes
+
+-- there is room besides for so many steps that settle ranges, and for so many bytes in them
+pub record Owes (owed_rows owed_bytes : ℕ) (log : Log) : Type 0 where
+  pub rows : log.owed ≡ owed_rows
+  pub bytes : log.owed_bytes ≡ owed_bytes
+
+-- a range of so many bytes is owed, and no more of them are to settle it
+pub record MaySettle (bytes len : ℕ) (log : Log) : Type 0 where
+  pub row : 1 ≤ log.owed
+  pub most : bytes ≤ len
+  pub owed : len ≤ log.owed_bytes
 
 -- the steps stay, and for as many of ranges there is room
 pub record IsSameLog (old new : Log) : Type 0 where

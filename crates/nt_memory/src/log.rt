@@ -32,7 +32,7 @@ pub struct Log {
 }
 
 impl Log {
-    ghost use Rattle.nt_memory.specs.Logged.{steps_of, spare_rows, spare_bytes, MakesRoom, KeepsRoom, UsesRoom, IsSameLog};
+    ghost use Rattle.nt_memory.specs.Logged.{steps_of, spare_rows, spare_bytes, MakesRoom, KeepsRoom, HasRoomForSteps, UsesRoom, Owes, MaySettle, IsSameLog};
     ghost use Rattle.nt_outside.specs.Log.{Step, Reserve};
     ghost use Rattle.std.specs.Prelude.{OnOk};
 
@@ -84,12 +84,10 @@ impl Log {
     /// Adds a step with its bytes, for which there is room.
     pub fn push(&mut self, row: Row, bytes: &[u8])
         requires len { bytes_of row ≡ length bytes.now }
-        requires row_room { 1 ≤ spare_rows self.old }
-        requires byte_room { length bytes.now ≤ spare_bytes self.old }
+        requires room { HasRoomForSteps 1 (length bytes.now) self.old }
         ensures steps { steps_of self.new ≡ steps_of self.old ++ step row bytes.now ∷ [] }
-        ensures spent { UsesRoom (length bytes.now) self.old self.new }
-        ensures owed { self.new.owed ≡ self.old.owed }
-        ensures owed_bytes { self.new.owed_bytes ≡ self.old.owed_bytes }
+        ensures spent { UsesRoom 1 (length bytes.now) self.old self.new }
+        ensures owed { Owes self.old.owed self.old.owed_bytes self.new }
     {
         add_reserved(&mut self.bytes, bytes);
         self.rows.push_reserved(row);
@@ -97,13 +95,10 @@ impl Log {
 
     /// Adds the step that reserves a range, and keeps room for the one that settles it.
     pub fn push_reserve(&mut self, start: u64, len: u64)
-        requires rows { 2 ≤ spare_rows self.old }
-        requires bytes { len ≤ spare_bytes self.old }
+        requires { HasRoomForSteps 2 len self.old }
         ensures steps { steps_of self.new ≡ steps_of self.old ++ Reserve start len ∷ [] }
-        ensures rows { spare_rows self.old ≤ spare_rows self.new + 2 }
-        ensures bytes { spare_bytes self.old ≤ spare_bytes self.new + len }
-        ensures owed { self.new.owed ≡ self.old.owed + 1 }
-        ensures owed_bytes { self.new.owed_bytes ≡ self.old.owed_bytes + len }
+        ensures spent { UsesRoom 2 len self.old self.new }
+        ensures owed { Owes (self.old.owed + 1) (self.old.owed_bytes + len) self.new }
     {
         self.push(Row::Reserve { start, len }, &[]);
         self.owed += 1;
@@ -113,13 +108,10 @@ impl Log {
     /// Adds the step that settles a range, for which there is room besides.
     pub fn push_settle(&mut self, row: Row, bytes: &[u8], len: usize)
         requires len { bytes_of row ≡ length bytes.now }
-        requires row_room { 1 ≤ self.old.owed }
-        requires most { length bytes.now ≤ len }
-        requires byte_room { len ≤ self.old.owed_bytes }
+        requires owed { MaySettle (length bytes.now) len self.old }
         ensures steps { steps_of self.new ≡ steps_of self.old ++ step row bytes.now ∷ [] }
         ensures kept { KeepsRoom self.old self.new }
-        ensures owed { self.new.owed + 1 ≡ self.old.owed }
-        ensures owed_bytes { self.new.owed_bytes + len ≡ self.old.owed_bytes }
+        ensures owed { Owes (self.new.owed + 1) (self.new.owed_bytes + len) self.old }
     {
         self.owed -= 1;
         self.owed_bytes -= len;

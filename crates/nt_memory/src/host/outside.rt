@@ -1,6 +1,6 @@
 //! A host in memory, as the product asks for a host.
 
-ghost use Rattle.std.specs.Prelude.{◌≡◌, ◌<◌, length, if◌then◌else◌, is_ok, IfOk, OnOk, IsNone, IsSome};
+ghost use Rattle.std.specs.Prelude.{◌≡◌, ◌<◌, length, if◌then◌else◌, is_ok, IfOk, IsNone, IsSome};
 
 use super::MemHost;
 use crate::disk::MemDisk;
@@ -14,8 +14,9 @@ use nt_outside::{Failed, Host, Kind, Refused, Stream};
 impl Host for MemHost {
     ghost use Rattle.nt_outside.specs.World.{file, Text as asked_text, File as asked_file, Opens, Creates, IsOpenText, IsOpenFile, IsNewDisk, TakesBack, KeepsDisk, Prints};
     ghost use Rattle.nt_memory.specs.Tally.{new_tally, takes_in, FailsWhereListedOr};
-    ghost use Rattle.nt_memory.specs.Streams.{IsRoomy, SpendsRoom, room_on};
-    ghost use Rattle.nt_memory.specs.Host.{state_of, world_of, tally_of, plan_of, room_of_host, listed_of, listed_of_pens, opens_text, opens_file, PrintsWhereListed};
+    ghost use Rattle.nt_memory.specs.Streams.{SpendsRoom};
+    ghost use Rattle.nt_memory.specs.Host.{state_of, world_of, tally_of, plan_of, room_of_host, listed_of, opens_text, opens_file, PrintsWhereListed};
+    ghost use Rattle.nt_memory.specs.Opening.{IsLeftWith, IsListedDisk};
     ghost use Rattle.nt_memory.specs.Text as mem_text;
     ghost use Rattle.nt_memory.specs.File as mem_file;
     ghost use Rattle.nt_memory.specs.Disk as mem_disk;
@@ -33,8 +34,7 @@ impl Host for MemHost {
         ensures text { IfOk result (λ t. IsOpenText (state_of self.old).world name.now (mem_text.state_of t)) }
         ensures exact { FailsWhereListedOr (IsNone (file (world_of self.old) name.now)) (tally_of self.old) (tally_of self.new) result }
         ensures calls { IfOk result (λ t. mem_text.tally_of t ≡ new_tally (listed_of self.old (Object.Text (plan_of self.old).texts))) }
-        ensures plan { plan_of self.new ≡ (if is_ok result then opens_text (plan_of self.old) else plan_of self.old) }
-        ensures room { OnOk result (IsRoomy (room_of_host self.new)) }
+        ensures left { IsLeftWith (if is_ok result then opens_text (plan_of self.old) else plan_of self.old) self.new result }
     {
         let ask = self.prepare(Kind::Text, name)?;
         let found = self.copy_of(name)?;
@@ -65,8 +65,7 @@ impl Host for MemHost {
         ensures opened { IfOk result (λ f. IsOpenFile (state_of self.old).world name.now (mem_file.state_of f)) }
         ensures exact { FailsWhereListedOr (IsNone (file (world_of self.old) name.now)) (tally_of self.old) (tally_of self.new) result }
         ensures calls { IfOk result (λ f. mem_file.tally_of f ≡ new_tally (listed_of self.old (Object.File (plan_of self.old).files))) }
-        ensures plan { plan_of self.new ≡ (if is_ok result then opens_file (plan_of self.old) else plan_of self.old) }
-        ensures room { OnOk result (IsRoomy (room_of_host self.new)) }
+        ensures left { IsLeftWith (if is_ok result then opens_file (plan_of self.old) else plan_of self.old) self.new result }
     {
         let ask = self.prepare(Kind::File, name)?;
         let found = self.copy_of(name)?;
@@ -97,10 +96,8 @@ impl Host for MemHost {
         ensures creates { Creates name.now (state_of self.old) (state_of self.new) result }
         ensures disk { IfOk result (λ d. IsNewDisk (state_of self.old).world (mem_disk.state_of d)) }
         ensures exact { FailsWhereListedOr (IsSome (world_of self.old).creating) (tally_of self.old) (tally_of self.new) result }
-        ensures calls { IfOk result (λ d. mem_disk.tally_of d ≡ new_tally (listed_of self.old Object.Disk)) }
-        ensures pens { IfOk result (λ d. mem_disk.pens_of d ≡ listed_of_pens self.old) }
-        ensures plan { plan_of self.new ≡ plan_of self.old }
-        ensures room { OnOk result (IsRoomy (room_of_host self.new)) }
+        ensures calls { IfOk result (IsListedDisk self.old) }
+        ensures left { IsLeftWith (plan_of self.old) self.new result }
     {
         let ask = self.prepare(Kind::Out, name)?;
         let creating = String::from_str(self.alloc, name)?;
@@ -149,7 +146,6 @@ impl Host for MemHost {
     fn print(&mut self, stream: Stream, piece: &[u8]) -> Result<usize, Failed>
         requires { 0 < length piece.now }
         ensures prints { Prints stream piece.now (state_of self.old) (state_of self.new) result }
-        ensures whole { IfOk result (λ n. n ≡ length piece.now) }
         ensures exact { PrintsWhereListed stream (length piece.now) self.old self.new result }
         ensures plan { plan_of self.new ≡ plan_of self.old }
         ensures room { SpendsRoom (length piece.now) (room_of_host self.old) (room_of_host self.new) }

@@ -7,8 +7,8 @@ pub invariant_of-self : goal.invariant_of-self
 invariant_of-self c = record {
   reads = reads-failed_append _ _ c.args.self.now.image.items c.args.self.now.reads c.push.ensures.steps;
   inside = c.args.self.now.inside;
-  rows_owed = omega (arith, c.args.self.now.rows_owed, c.push.ensures.owed);
-  bytes_owed = omega (arith, c.args.self.now.bytes_owed, c.push.ensures.owed_bytes);
+  rows_owed = omega (arith, c.args.self.now.rows_owed, c.push.ensures.owed.rows);
+  bytes_owed = omega (arith, c.args.self.now.bytes_owed, c.push.ensures.owed.bytes);
 }
 
 pub invariant_of-self-2 : goal.invariant_of-self-2
@@ -16,6 +16,6 @@ invariant_of-self-2 c = record {
   reads = reads-append _ _ c.args.self.now.image.items _ c.args.bytes.now c.args.self.now.reads c.push-2.ensures.steps
       c.add_reserved.ensures.items;
   inside = within_more _ _ _ c.args.self.now.inside (omega (arith, c.add_reserved.ensures.len));
-  rows_owed = omega (arith, c.args.self.now.rows_owed, c.push-2.ensures.owed);
-  bytes_owed = omega (arith, c.args.self.now.bytes_owed, c.push-2.ensures.owed_bytes);
+  rows_owed = omega (arith, c.args.self.now.rows_owed, c.push-2.ensures.owed.rows);
+  bytes_owed = omega (arith, c.args.self.now.bytes_owed, c.push-2.ensures.owed.bytes);
 }

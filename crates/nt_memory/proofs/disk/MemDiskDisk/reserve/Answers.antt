@@ -27,7 +27,7 @@ invariant_of-self-2 c =
         ap (λ l. sum_by (λ (r : Range). 1) l) out,
         sum_by_push (λ (r : Range). 1)
             old.out.items range,
-        c.push_reserve.ensures.owed,
+        c.push_reserve.ensures.owed.rows,
         c.in_ok-range_room.ensures.same.owed,
       );
       bytes_owed = omega (
@@ -36,7 +36,7 @@ invariant_of-self-2 c =
         ap (λ l. sum_by (λ (r : Range). r.len) l) out,
         sum_by_push (λ (r : Range). r.len)
             old.out.items range,
-        c.push_reserve.ensures.owed_bytes,
+        c.push_reserve.ensures.owed.bytes,
         c.in_ok-range_room.ensures.same.owed_bytes,
       );
     }
@@ -62,10 +62,10 @@ returns-clause-reserves c =
       out = out ∙ ap (λ (n : ℕ). old.out.items ++ record { start = n; len = c.args.len } ∷ []) place;
       err = tt;
       spare = record {
-        steps = omega (arith, c.push_reserve.ensures.rows, c.in_ok-range_room.ensures.rows);
+        steps = omega (arith, c.push_reserve.ensures.spent.rows, c.in_ok-range_room.ensures.rows);
         bytes = omega (
           arith,
-          c.push_reserve.ensures.bytes,
+          c.push_reserve.ensures.spent.bytes,
           c.in_ok-range_room.ensures.bytes,
           c.add_zeros.ensures.len,
           c.add_zeros.ensures.capacity,

@@ -37,14 +37,14 @@ invariant_of-self c =
         old.rows_owed,
         ap (λ l. sum_by (λ (r : Range). 1) l) c.take_off.ensures,
         weight_less (λ (r : Range). 1) old.out.items r c.requires,
-        c.push_settle.ensures.owed,
+        c.push_settle.ensures.owed.rows,
       );
       bytes_owed = omega (
         arith,
         old.bytes_owed,
         ap (λ l. sum_by (λ (r : Range). r.len) l) c.take_off.ensures,
         weight_less (λ (r : Range). r.len) old.out.items r c.requires,
-        c.push_settle.ensures.owed_bytes,
+        c.push_settle.ensures.owed.bytes,
       );
     }
 

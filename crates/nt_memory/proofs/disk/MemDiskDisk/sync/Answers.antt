@@ -6,6 +6,6 @@ pub invariant_of-self-2 : goal.invariant_of-self-2
 invariant_of-self-2 c = record {
   reads = reads-sync _ _ c.args.self.now.image.items c.args.self.now.reads c.push.ensures.steps;
   inside = c.args.self.now.inside;
-  rows_owed = omega (arith, c.args.self.now.rows_owed, c.push.ensures.owed);
-  bytes_owed = omega (arith, c.args.self.now.bytes_owed, c.push.ensures.owed_bytes);
+  rows_owed = omega (arith, c.args.self.now.rows_owed, c.push.ensures.owed.rows);
+  bytes_owed = omega (arith, c.args.self.now.bytes_owed, c.push.ensures.owed.bytes);
 }

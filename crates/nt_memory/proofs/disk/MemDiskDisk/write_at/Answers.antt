@@ -9,8 +9,8 @@ invariant_of-self c = record {
   reads = reads-failed_write _ _ c.args.self.now.image.items c.args.bytes.now c.args.at c.args.self.now.reads c.requires.inside
       c.push.ensures.steps;
   inside = c.args.self.now.inside;
-  rows_owed = omega (arith, c.args.self.now.rows_owed, c.push.ensures.owed);
-  bytes_owed = omega (arith, c.args.self.now.bytes_owed, c.push.ensures.owed_bytes);
+  rows_owed = omega (arith, c.args.self.now.rows_owed, c.push.ensures.owed.rows);
+  bytes_owed = omega (arith, c.args.self.now.bytes_owed, c.push.ensures.owed.bytes);
 }
 
 pub returns-then-count_call-clause-writes : goal.returns-then-count_call-clause-writes
@@ -28,6 +28,6 @@ invariant_of-self-2 c = record {
   reads = reads-write _ _ c.args.self.now.image.items _ c.args.bytes.now c.args.at c.args.self.now.reads c.push-2.ensures.steps
       c.put_over.ensures.items;
   inside = within_more _ _ _ c.args.self.now.inside (omega (arith, c.put_over.ensures.len));
-  rows_owed = omega (arith, c.args.self.now.rows_owed, c.push-2.ensures.owed);
-  bytes_owed = omega (arith, c.args.self.now.bytes_owed, c.push-2.ensures.owed_bytes);
+  rows_owed = omega (arith, c.args.self.now.rows_owed, c.push-2.ensures.owed.rows);
+  bytes_owed = omega (arith, c.args.self.now.bytes_owed, c.push-2.ensures.owed.bytes);
 }
