@@ -23,11 +23,11 @@ Added-one t field plain entries one other a b =
 
 -- before the first entry no column is deferred
 
-late_rows-zero : (id : ℕ) (ts : List ColumnType) → late_rows 0 id ts ≡ map (column_row id) ts
+pub late_rows-zero : (id : ℕ) (ts : List ColumnType) → late_rows 0 id ts ≡ map (column_row id) ts
 late_rows-zero id [] = refl
 late_rows-zero id (t ∷ ts) = refl
 
-first_of-zero : (principal : Bool) → first_of 0 principal ≡ 0
+pub first_of-zero : (principal : Bool) → first_of 0 principal ≡ 0
 first_of-zero true = refl
 first_of-zero false = refl
 

@@ -12,7 +12,8 @@ use Rattle.nt_types.specs.Spelling.{IsType, AreKinds, AreMoreKinds, AreParts, Ar
 use Rattle.nt_types.specs.Schema.{field_count, parts_count, kinds_count}
 use Rattle.nt_types.specs.Rules.{AreFields}
 use Rattle.nt_grammar.specs.Types.{holds_record, cpp_name, type_name}
-use Rattle.nt_grammar.specs.Rows.{NodeData, AreNodes, place_name, inside, members_in, places_in, all_inside, at_top, field_row, Rows}
+use Rattle.nt_grammar.specs.Rows.{NodeData, AreNodesFrom, AreNodes, place_name, inside, members_in, places_in, all_inside, at_top}
+use Rattle.nt_grammar.specs.Rows.{field_row, Rows}
 use Rattle.nt_grammar.specs.Table.{Table, is_short}
 use Rattle.nt_grammar.proofs.Listing.{uncons, regrouped, all_inside-self, weight-inside}
 use Rattle.nt_grammar.proofs.Lengths.{cpp_name-length}
@@ -100,10 +101,14 @@ top-fields id [] t h = tt
 top-fields id (p ∷ ps) t h =
     (record { named = name-length p.name t.0; within = false; typed = t.1; few = omega arith }, top-fields (id + 1) ps t.2 (omega arith))
 
--- all fields keep the rules, where those at the top level do
+-- all fields from an id on keep the rules, where those at the top level do
+pub all-fields-from : (id : ℕ) (ps : List MemberData) (nodes : List NodeData) → AreMoreParts (parts_of ps)
+    → parts_count (parts_of ps) ≤ 4096 → AreNodesFrom id ps nodes → AllNodes IsField nodes
+all-fields-from id ps nodes t h e =
+    AllNodes-inside IsField (λ j n f. inside-fields f.within j n.of f.typed f.few) id (at_top id ps) nodes e (top-fields id ps t h)
+
 pub all-fields : (ps : List MemberData) (nodes : List NodeData) → AreFields ps → AreNodes ps nodes → AllNodes IsField nodes
-all-fields ps nodes a e =
-    AllNodes-inside IsField (λ id n f. inside-fields f.within id n.of f.typed f.few) 0 (at_top 0 ps) nodes e (top-fields 0 ps a.rules a.few)
+all-fields ps nodes a e = all-fields-from 0 ps nodes a.rules a.few e
 
 type_name-length : (k : ShapeData) → field_count k ≤ 4096 → length (type_name k) < 2 ^ 32
 type_name-length k h = cases (holds_record k)
@@ -118,7 +123,7 @@ field-short n f =
     let typed : length (type_name n.of) < 2 ^ 32 = type_name-length n.of f.few in
     grind (arith, nat_tests)
 
-rows-short : (nodes : List NodeData) → AllNodes IsField nodes → list_all is_short (map field_row nodes) ≡ true
+pub rows-short : (nodes : List NodeData) → AllNodes IsField nodes → list_all is_short (map field_row nodes) ≡ true
 rows-short [] a = refl
 rows-short (n ∷ ns) a = rw (field-short n a.0, rows-short ns a.1) refl
 

@@ -1,99 +1,73 @@
 -- Described fields are open.
-use Rattle.std.proofs.Common.{ℕ, zero, suc, Bool, true, false, ◌≡◌, ◌<◌, ◌≤◌, ◌+◌, List, [], ◌∷◌, ◌++◌, length, map, drop, Option, Some}
-use Rattle.std.proofs.Common.{slice_get, ◌==◌, refl, ap, ◌∙◌, add-zero, arith}
+use Rattle.std.proofs.Common.{ℕ, zero, suc, Bool, true, false, ◌≡◌, ◌<◌, ◌≤◌, ◌+◌, List, [], ◌∷◌, ◌++◌, map}
+use Rattle.std.proofs.Common.{Some, slice_get, ◌==◌, refl, sym, ap, ◌∙◌, zero-add, add-zero, append-nil, arith}
 use Rattle.std.proofs.lemmas.Bool.Decides.{nat_tests}
+use Rattle.std.proofs.lemmas.List.Elements.{filter-append}
 use Rattle.std.proofs.lemmas.Option.{slice_get-map}
 use Rattle.std.specs.Prelude.{option_map}
-use Rattle.nt_types.specs.ShapeData.{ShapeData, ShapesData, MembersData, MemberData, bool, char, byte, int, text, list, fields, tuple}
-use Rattle.nt_types.specs.ShapeData.{choice, no_kinds, kind, no_parts, part, parts_of}
-use Rattle.nt_types.specs.Spelling.{IsType, depth, deepest_part}
-use Rattle.nt_types.specs.Schema.{part_under}
+use Rattle.nt_types.specs.ShapeData.{MemberData, parts_of}
+use Rattle.nt_types.specs.Spelling.{depth, deepest_part}
 use Rattle.nt_types.specs.Rules.{AreFields}
+use Rattle.nt_types.specs.declared.column_type.ColumnType.{ColumnType}
 use Rattle.nt_grammar.specs.declared.rows.FieldRow.{FieldRow}
 use Rattle.nt_grammar.specs.declared.rows.ColumnRow.{ColumnRow}
 use Rattle.nt_grammar.specs.Columns.{column_types}
 use Rattle.nt_grammar.specs.Table.{Table}
-use Rattle.nt_grammar.specs.Rows.{NodeData, AreNodes, Rows, inside, at_top, all_inside, place_name, field_row, column_row, column_rows}
-use Rattle.nt_grammar.specs.Open.{ids_inside, columns_of_field, all_some, shape_by_role, open_field, open_shape}
+use Rattle.nt_grammar.specs.Rows.{NodeData, Rows, at_top, all_inside, field_row}
+use Rattle.nt_grammar.specs.Rows.{column_row, column_rows}
+use Rattle.nt_grammar.specs.Open.{columns_of_field, open_field, open_shape}
 use Rattle.nt_grammar.specs.AsRead.{as_read}
-use Rattle.nt_grammar.proofs.AllNodes.{AllNodes, IsField, all-fields}
-use Rattle.nt_grammar.proofs.Inside.{before, count_up, cut-inside, ids_inside-is}
-use Rattle.nt_grammar.proofs.FieldParts.{columns-is, read_part, opened, members-read, places-read, kinds-read}
-use Rattle.nt_grammar.proofs.LeavesOpen.{int-open, width_cases}
-use Rattle.nt_grammar.proofs.Shallow.{depth-some, Shallow, max-parts, inside-shallow, AllNodes-get, slice_get-front, slice_get-behind}
+use Rattle.nt_grammar.proofs.AllNodes.{all-fields}
+use Rattle.nt_grammar.proofs.Added.{late_rows-zero, first_of-zero}
+use Rattle.nt_grammar.proofs.Inside.{ids_inside-is}
+use Rattle.nt_grammar.proofs.OpenShapes.{read_part}
+use Rattle.nt_grammar.proofs.OpenFields.{Stands, field-open, max-parts, slice_get-front}
 
--- fields of each kind
+-- the columns of a field
 
-abbrev IsOpen : Bool → Bool → ℕ → ℕ → NodeData → Type 0
-IsOpen up plain i from n = (inner : Bool → Option (List MemberData)) → ((b : Bool) → inner b ≡ Some (map read_part (inside i n.of)))
-    → shape_by_role up (field_row n) (map (column_row i) (column_types plain n.of)) (count_up from (length (inside i n.of))) inner
-    ≡ Some (as_read n.of)
+pub other-columns : (id j : ℕ) (ts : List ColumnType) → (j == id) ≡ false → columns_of_field id (map (column_row j) ts) ≡ []
+other-columns id j [] h = refl
+other-columns id j (t ∷ ts) h = rw h (other-columns id j ts h)
 
-shape-open : (up plain : Bool) (i from parent : ℕ) (name : List ℕ) (within : Bool) (k : ShapeData) → IsType within k
-    → IsOpen up plain i from (record { parent = parent; name = name; of = k })
-shape-open true plain i from parent name within bool t inner h = refl
-shape-open false plain i from parent name within bool t inner h = refl
-shape-open true plain i from parent name within char t inner h = refl
-shape-open false plain i from parent name within char t inner h = refl
-shape-open true plain i from parent name within byte t inner h = refl
-shape-open false plain i from parent name within byte t inner h = refl
-shape-open up plain i from parent name within (int bits signed) t inner h = int-open up plain i bits signed (width_cases bits t)
-shape-open true true i from parent name within text t inner h = refl
-shape-open true false i from parent name within text t inner h = refl
-shape-open false true i from parent name within text t inner h = refl
-shape-open false false i from parent name within text t inner h = refl
-shape-open true true i from parent name within (list k) t inner h = rw (h false) refl
-shape-open true false i from parent name within (list k) t inner h = rw (h false) refl
-shape-open false true i from parent name within (list k) t inner h = rw (h false) refl
-shape-open false false i from parent name within (list k) t inner h = rw (h false) refl
-shape-open up plain i from parent name within (fields no_parts) t inner h = absurd t.2
-shape-open up plain i from parent name within (fields (part n k ps)) t inner h =
-    rw (h up) (ap (λ (z : MembersData). Some (fields (part n (as_read k) z))) (members-read i ps))
-shape-open up plain i from parent name within (tuple no_kinds) t inner h = absurd t
-shape-open up plain i from parent name within (tuple (kind k ks)) t inner h =
-    rw (h up) (ap (λ (z : MembersData). Some (fields (part (place_name 0) (as_read k) z))) (places-read i 1 ks))
-shape-open up plain i from parent name within (choice no_kinds) t inner h = absurd t.1
-shape-open true plain i from parent name within (choice (kind k ks)) t inner h =
-    rw (h false) (ap (λ (z : ShapesData). Some (choice (kind (as_read k) z))) (kinds-read i 1 ks))
-shape-open false plain i from parent name within (choice (kind k ks)) t inner h =
-    rw (h false) (ap (λ (z : ShapesData). Some (choice (kind (as_read k) z))) (kinds-read i 1 ks))
+pub own-columns : (id : ℕ) (ts : List ColumnType) → (id == id) ≡ true
+    → columns_of_field id (map (column_row id) ts) ≡ map (column_row id) ts
+own-columns id [] h = refl
+own-columns id (t ∷ ts) h = rw h (ap (λ (z : List ColumnRow). column_row id t ∷ z) (own-columns id ts h))
 
--- a child of a field
-child : (ps : List MemberData) (nodes : List NodeData) (i : ℕ) (n : NodeData) (k : ℕ) (c : NodeData) → AreNodes ps nodes
-    → slice_get nodes i ≡ Some n → slice_get (inside i n.of) k ≡ Some c
-    → slice_get nodes (length (before ps nodes i) + k) ≡ Some c
-child ps nodes i n k c e is in_it =
-    ap (λ (z : List NodeData). slice_get z (length (before ps nodes i) + k)) (cut-inside ps nodes i n e is)
-    ∙ (slice_get-behind (before ps nodes i) (inside i n.of ++ all_inside (i + 1) (drop (i + 1) nodes)) k
-    ∙ slice_get-front (inside i n.of) (all_inside (i + 1) (drop (i + 1) nodes)) k c in_it)
+pub two-columns : (id : ℕ) (a b : List ColumnRow) → columns_of_field id (a ++ b) ≡ columns_of_field id a ++ columns_of_field id b
+two-columns id a b = filter-append (λ (c : ColumnRow). c.field == id) a b
 
--- all described fields are open, at any depth
-field-open : (ps : List MemberData) (plain : Bool) (nodes : List NodeData) → AreNodes ps nodes → AllNodes IsField nodes
-    → (d : ℕ) (up : Bool) (i : ℕ) (n : NodeData) → slice_get nodes i ≡ Some n → depth n.of ≤ d
-    → open_field d (map field_row nodes) (column_rows plain 0 nodes) up i ≡ Some (read_part n)
-unfolding open_field
-field-open ps plain nodes e a zero up i n is h = let some : 0 < depth n.of = depth-some n.of in absurd (omega arith)
-field-open ps plain nodes e a (suc d) up i n is h =
-    let fs : List FieldRow = map field_row nodes in
-    let cs : List ColumnRow = column_rows plain 0 nodes in
-    let start : ℕ = length (before ps nodes i) in
-    let row : slice_get fs i ≡ Some (field_row n) = slice_get-map field_row nodes i ∙ ap (option_map field_row) is in
-    let columns : columns_of_field i cs ≡ map (column_row i) (column_types plain n.of) = columns-is plain i nodes n is in
-    let ids : ids_inside i 0 fs ≡ count_up start (length (inside i n.of)) = ids_inside-is ps nodes i n e is in
-    let shallow : AllNodes (Shallow d) (inside i n.of) = inside-shallow i d n.of h in
-    let inner : (b : Bool) → all_some (map (open_field d fs cs b) (count_up start (length (inside i n.of))))
-    ≡ Some (map read_part (inside i n.of)) =
-    λ b. opened (open_field d fs cs b) start (inside i n.of)
-    (λ k c in_it. field-open ps plain nodes e a d b (start + k) c (child ps nodes i n k c e is in_it)
-    (AllNodes-get (Shallow d) (inside i n.of) k c shallow in_it)) in
-    let f : IsField n = AllNodes-get IsField nodes i n a is in
-    rw (row, columns, ids) (ap (option_map (part_under n.name))
-    (shape-open up plain i start n.parent n.name f.within n.of f.typed
-    (λ b. all_some (map (open_field d fs cs b) (count_up start (length (inside i n.of))))) inner))
+later-columns : (plain : Bool) (id from : ℕ) (ns : List NodeData) → id < from → columns_of_field id (column_rows plain from ns) ≡ []
+later-columns plain id from [] h = refl
+later-columns plain id from (n ∷ ns) h =
+    let other : (from == id) ≡ false = grind (arith, nat_tests) in
+    two-columns id (map (column_row from) (column_types plain n.of)) (column_rows plain (from + 1) ns)
+    ∙ rw (other-columns id from (column_types plain n.of) other) (later-columns plain id (from + 1) ns (omega arith))
+
+columns-from : (plain : Bool) (from k : ℕ) (ns : List NodeData) (n : NodeData) → slice_get ns k ≡ Some n
+    → columns_of_field (from + k) (column_rows plain from ns) ≡ map (column_row (from + k)) (column_types plain n.of)
+columns-from plain from k [] n is = cc
+columns-from plain from zero (m ∷ ns) n is =
+    let same : m ≡ n = cc in
+    let own : (from == from) ≡ true = grind (arith, nat_tests) in
+    rw add-zero (two-columns from (map (column_row from) (column_types plain m.of)) (column_rows plain (from + 1) ns)
+    ∙ rw (own-columns from (column_types plain m.of) own, later-columns plain from (from + 1) ns (omega arith), same)
+    (append-nil (map (column_row from) (column_types plain n.of))))
+columns-from plain from (suc k) (m ∷ ns) n is =
+    let next : (from + 1) + k ≡ from + suc k = omega arith in
+    let other : (from == (from + suc k)) ≡ false = grind (arith, nat_tests) in
+    let later : columns_of_field (from + suc k) (column_rows plain (from + 1) ns)
+    ≡ map (column_row (from + suc k)) (column_types plain n.of) = rw next at (columns-from plain (from + 1) k ns n is) in
+    two-columns (from + suc k) (map (column_row from) (column_types plain m.of)) (column_rows plain (from + 1) ns)
+    ∙ rw (other-columns (from + suc k) from (column_types plain m.of) other) later
+
+columns-is : (plain : Bool) (i : ℕ) (nodes : List NodeData) (n : NodeData) → slice_get nodes i ≡ Some n
+    → columns_of_field i (column_rows plain 0 nodes) ≡ map (column_row i) (column_types plain n.of)
+columns-is plain i nodes n is = rw zero-add at (columns-from plain 0 i nodes n is)
 
 -- fields at the top level
 
-top-get : (from : ℕ) (ps : List MemberData) (k : ℕ) (p : MemberData) → slice_get ps k ≡ Some p
+pub top-get : (from : ℕ) (ps : List MemberData) (k : ℕ) (p : MemberData) → slice_get ps k ≡ Some p
     → slice_get (at_top from ps) k ≡ Some (record { parent = from + k; name = p.name; of = p.of })
 top-get from [] k p is = cc
 top-get from (q ∷ ps) zero p is = let same : q ≡ p = cc in rw (add-zero, same) refl
@@ -105,6 +79,21 @@ top-shallow (q ∷ ps) zero p h is = let same : q ≡ p = cc in let both = max-p
     rw (← same) both.0
 top-shallow (q ∷ ps) (suc k) p h is = top-shallow ps k p (max-parts (depth q.of) (deepest_part (parts_of ps)) 32 h).1 is
 
+-- their rows stand from id 0 on, whatever is principal
+described-stand : (ps : List MemberData) (plain : Bool) (t : Table) → AreFields ps → (r : Rows ps plain t)
+    → Stands t.fields t.columns 0 ps r.nodes plain 0 (λ i up. Unit {0})
+described-stand ps plain t a r = record {
+  order = r.order;
+  rules = all-fields ps r.nodes a r.order;
+  few = omega arith;
+  rows = λ i n is. ap (slice_get t.fields) (zero-add i) ∙ (ap (λ (z : List FieldRow). slice_get z i) r.field_rows
+      ∙ (slice_get-map field_row r.nodes i ∙ ap (option_map field_row) is));
+  ids = λ i n is. rw r.field_rows (ids_inside-is 0 ps r.nodes i n r.order is);
+  columns = λ i n up is m. rw (r.columns_by_field, first_of-zero up, zero-add) (columns-is plain i r.nodes n is
+      ∙ sym (late_rows-zero i (column_types plain n.of)));
+  marks = λ i n up k c is m in_it. tt;
+}
+
 -- described fields have the shapes that they were described from, with tuples read as records
 pub described-open : (ps : List MemberData) (plain : Bool) (t : Table) → AreFields ps → Rows ps plain t → (id : ℕ) (p : MemberData)
     → slice_get ps id ≡ Some p → open_shape t id ≡ Some (as_read p.of)
@@ -115,7 +104,7 @@ described-open ps plain t a r id p is =
     let row : slice_get t.fields id ≡ Some (field_row n) = ap (λ (z : List FieldRow). slice_get z id) r.field_rows
     ∙ (slice_get-map field_row r.nodes id ∙ ap (option_map field_row) here) in
     let part_is : open_field 64 t.fields t.columns true id ≡ Some (read_part n) =
-    rw (r.field_rows, r.columns_by_field) (field-open ps plain r.nodes r.order (all-fields ps r.nodes a r.order) 64 true id n here
-    (omega (arith, top-shallow ps id p a.shallow is))) in
+    rw zero-add at (field-open t.fields t.columns 0 ps r.nodes plain 0 (λ i up. Unit {0}) (described-stand ps plain t a r) 64 id true n here
+    tt (omega (arith, top-shallow ps id p a.shallow is))) in
     let top : ((0 + id) == id) ≡ true = grind (arith, nat_tests) in
     rw (row, top, part_is) refl

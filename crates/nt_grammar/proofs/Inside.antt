@@ -8,7 +8,7 @@ use Rattle.std.proofs.Math.Seq.{drop-cons}
 use Rattle.std.specs.Prelude.{◌&&◌, not}
 use Rattle.nt_types.specs.ShapeData.{ShapeData, ShapesData, MembersData, MemberData, bool, char, byte, int, text, list, fields, tuple}
 use Rattle.nt_types.specs.ShapeData.{choice, no_kinds, kind, no_parts, part}
-use Rattle.nt_grammar.specs.Rows.{NodeData, AreNodes, inside, members_in, places_in, all_inside, at_top, field_row}
+use Rattle.nt_grammar.specs.Rows.{NodeData, AreNodesFrom, inside, members_in, places_in, all_inside, at_top, field_row}
 use Rattle.nt_grammar.specs.Listing.{weight}
 use Rattle.nt_grammar.specs.Open.{ids_inside}
 use Rattle.nt_grammar.specs.declared.rows.FieldRow.{FieldRow}
@@ -18,9 +18,9 @@ use Rattle.nt_grammar.proofs.FieldsInside.{ids_inside-append}
 
 -- the parents of fields
 
-record Within (from to : ℕ) (n : NodeData) : Type 0 where
-  above : from ≤ n.parent
-  below : n.parent < to
+pub record Within (from to : ℕ) (n : NodeData) : Type 0 where
+  pub above : from ≤ n.parent
+  pub below : n.parent < to
 
 weaken : (P Q : NodeData → Type 0) → ((n : NodeData) → P n → Q n) → (ns : List NodeData) → AllNodes P ns → AllNodes Q ns
 weaken P Q f [] a = tt
@@ -48,7 +48,7 @@ inside-parents id (choice ks) = parts-parents id 0 ks
 wider : (from to less more : ℕ) → less ≤ from → to ≤ more → (n : NodeData) → Within from to n → Within less more n
 wider from to less more h k n w = record { above = omega (arith, w.above); below = omega (arith, w.below) }
 
-all_inside-parents : (id : ℕ) (ns : List NodeData) → AllNodes (Within id (id + length ns)) (all_inside id ns)
+pub all_inside-parents : (id : ℕ) (ns : List NodeData) → AllNodes (Within id (id + length ns)) (all_inside id ns)
 all_inside-parents id [] = tt
 all_inside-parents id (n ∷ ns) =
     AllNodes-append (Within id (id + suc (length ns))) (inside id n.of) (all_inside (id + 1) ns)
@@ -124,44 +124,44 @@ drop-drop (suc j) k (n ∷ ns) =
     let next : suc j + k ≡ suc (j + k) = omega arith in
     drop-drop j k ns ∙ ap (λ (i : ℕ). drop i (n ∷ ns)) (sym next)
 
--- the fields before those inside of one
-abbrev pub before : List MemberData → List NodeData → ℕ → List NodeData
-before ps nodes i = at_top 0 ps ++ all_inside 0 (take i nodes)
+-- the fields before those inside of one, where the first has this id
+abbrev pub before : ℕ → List MemberData → List NodeData → ℕ → List NodeData
+before from ps nodes i = at_top from ps ++ all_inside from (take i nodes)
 
-all_inside-cut : (nodes : List NodeData) (i : ℕ) → i ≤ length nodes
-    → all_inside 0 nodes ≡ all_inside 0 (take i nodes) ++ all_inside i (drop i nodes)
-all_inside-cut nodes i h =
-    let len : length (take i nodes) ≡ i = length-take-le i nodes h in
-    ap (all_inside 0) (sym (take-append-drop i nodes))
-    ∙ (all_inside-append 0 (take i nodes) (drop i nodes)
-    ∙ ap (λ (j : ℕ). all_inside 0 (take i nodes) ++ all_inside j (drop i nodes)) (zero-add (length (take i nodes)) ∙ len))
+all_inside-cut : (from : ℕ) (nodes : List NodeData) (i : ℕ) → i ≤ length nodes
+    → all_inside from nodes ≡ all_inside from (take i nodes) ++ all_inside (from + i) (drop i nodes)
+all_inside-cut from nodes i h =
+    ap (all_inside from) (sym (take-append-drop i nodes))
+    ∙ (all_inside-append from (take i nodes) (drop i nodes)
+    ∙ ap (λ (j : ℕ). all_inside from (take i nodes) ++ all_inside (from + j) (drop i nodes)) (length-take-le i nodes h))
 
-cut : (ps : List MemberData) (nodes : List NodeData) (i : ℕ) → AreNodes ps nodes → i ≤ length nodes
-    → nodes ≡ before ps nodes i ++ all_inside i (drop i nodes)
-cut ps nodes i e h = e ∙ (ap (λ (z : List NodeData). at_top 0 ps ++ z) (all_inside-cut nodes i h)
-    ∙ sym (append_assoc (at_top 0 ps) (all_inside 0 (take i nodes)) (all_inside i (drop i nodes))))
+cut : (from : ℕ) (ps : List MemberData) (nodes : List NodeData) (i : ℕ) → AreNodesFrom from ps nodes → i ≤ length nodes
+    → nodes ≡ before from ps nodes i ++ all_inside (from + i) (drop i nodes)
+cut from ps nodes i e h = e ∙ (ap (λ (z : List NodeData). at_top from ps ++ z) (all_inside-cut from nodes i h)
+    ∙ sym (append_assoc (at_top from ps) (all_inside from (take i nodes)) (all_inside (from + i) (drop i nodes))))
 
 -- the fields inside of one stand behind it
-not_before : (ps : List MemberData) (nodes : List NodeData) (i : ℕ) → AreNodes ps nodes → i < length nodes
-    → length (before ps nodes i) ≤ i → ⊥
-not_before ps nodes i e h k =
-    let s : ℕ = length (before ps nodes i) in
-    let rest : drop s nodes ≡ all_inside i (drop i nodes) = ap (drop s) (cut ps nodes i e (omega arith))
-    ∙ drop-front (before ps nodes i) (all_inside i (drop i nodes)) in
+not_before : (from : ℕ) (ps : List MemberData) (nodes : List NodeData) (i : ℕ) → AreNodesFrom from ps nodes → i < length nodes
+    → length (before from ps nodes i) ≤ i → ⊥
+not_before from ps nodes i e h k =
+    let s : ℕ = length (before from ps nodes i) in
+    let rest : drop s nodes ≡ all_inside (from + i) (drop i nodes) = ap (drop s) (cut from ps nodes i e (omega arith))
+    ∙ drop-front (before from ps nodes i) (all_inside (from + i) (drop i nodes)) in
     let sum : s + (i - s) ≡ i = omega arith in
     let later : drop (i - s) (drop s nodes) ≡ drop i nodes = drop-drop s (i - s) nodes ∙ ap (λ (j : ℕ). drop j nodes) sum in
     let less : weight (drop (i - s) (drop s nodes)) ≤ weight (drop s nodes) = weight-drop (i - s) (drop s nodes) in
-    let less' : weight (drop i nodes) ≤ weight (all_inside i (drop i nodes)) = rw (later, rest) at less in
-    let own : weight (all_inside i (drop i nodes)) + length (drop i nodes) ≡ weight (drop i nodes) = weight-all_inside i (drop i nodes) in
+    let less' : weight (drop i nodes) ≤ weight (all_inside (from + i) (drop i nodes)) = rw (later, rest) at less in
+    let own : weight (all_inside (from + i) (drop i nodes)) + length (drop i nodes) ≡ weight (drop i nodes) =
+    weight-all_inside (from + i) (drop i nodes) in
     let some : length (drop i nodes) ≡ length nodes - i = length-drop i nodes in
     omega arith
 
-pub start-behind : (ps : List MemberData) (nodes : List NodeData) (i : ℕ) → AreNodes ps nodes → i < length nodes
-    → i < length (before ps nodes i)
-start-behind ps nodes i e h = cases (nat_le (length (before ps nodes i)) i) refl
+pub start-behind : (from : ℕ) (ps : List MemberData) (nodes : List NodeData) (i : ℕ) → AreNodesFrom from ps nodes → i < length nodes
+    → i < length (before from ps nodes i)
+start-behind from ps nodes i e h = cases (nat_le (length (before from ps nodes i)) i) refl
   where
-    cases : (b : Bool) → nat_le (length (before ps nodes i)) i ≡ b → i < length (before ps nodes i)
-    cases true is = absurd (not_before ps nodes i e h (grind (arith, nat_tests)))
+    cases : (b : Bool) → nat_le (length (before from ps nodes i)) i ≡ b → i < length (before from ps nodes i)
+    cases true is = absurd (not_before from ps nodes i e h (grind (arith, nat_tests)))
     cases false is = grind (arith, nat_tests)
 
 -- the next field, and those behind it
@@ -172,11 +172,13 @@ node-drop nodes i n is =
     ∙ ap (λ (j : ℕ). n ∷ drop j nodes) (sym (add-one i)))
 
 -- all fields: those before, those inside of one, and those behind
-pub cut-inside : (ps : List MemberData) (nodes : List NodeData) (i : ℕ) (n : NodeData) → AreNodes ps nodes → slice_get nodes i ≡ Some n
-    → nodes ≡ before ps nodes i ++ (inside i n.of ++ all_inside (i + 1) (drop (i + 1) nodes))
-cut-inside ps nodes i n e is =
+pub cut-inside : (from : ℕ) (ps : List MemberData) (nodes : List NodeData) (i : ℕ) (n : NodeData) → AreNodesFrom from ps nodes
+    → slice_get nodes i ≡ Some n
+    → nodes ≡ before from ps nodes i ++ (inside (from + i) n.of ++ all_inside ((from + i) + 1) (drop (i + 1) nodes))
+cut-inside from ps nodes i n e is =
     let here : i < length nodes = slice_get_within nodes i n is in
-    cut ps nodes i e (omega arith) ∙ ap (λ (z : List NodeData). before ps nodes i ++ all_inside i z) (node-drop nodes i n is)
+    cut from ps nodes i e (omega arith)
+    ∙ ap (λ (z : List NodeData). before from ps nodes i ++ all_inside (from + i) z) (node-drop nodes i n is)
 
 map-rows : (a b : List NodeData) → map field_row (a ++ b) ≡ map field_row a ++ map field_row b
 map-rows [] b = refl
@@ -188,31 +190,36 @@ two p from a b =
     ap (ids_inside p from) (map-rows a b) ∙ (ids_inside-append p from (map field_row a) (map field_row b)
     ∙ ap (λ (j : ℕ). ids_inside p from (map field_row a) ++ ids_inside p (from + j) (map field_row b)) (length-map a field_row))
 
-before-inside : (ps : List MemberData) (nodes : List NodeData) (i : ℕ) → i ≤ length nodes
-    → ids_inside i 0 (map field_row (before ps nodes i)) ≡ []
-before-inside ps nodes i h =
-    let len : 0 + length (take i nodes) ≡ i = zero-add (length (take i nodes)) ∙ length-take-le i nodes h in
-    let parents : AllNodes (Within 0 i) (all_inside 0 (take i nodes)) =
-    subst (λ (j : ℕ). AllNodes (Within 0 j) (all_inside 0 (take i nodes))) len (all_inside-parents 0 (take i nodes)) in
-    two i 0 (at_top 0 ps) (all_inside 0 (take i nodes))
-    ∙ rw (top-inside i 0 ps, below-inside i (0 + length (at_top 0 ps)) 0 (all_inside 0 (take i nodes)) parents) refl
+before-inside : (from : ℕ) (ps : List MemberData) (nodes : List NodeData) (i : ℕ) → i ≤ length nodes
+    → ids_inside (from + i) from (map field_row (before from ps nodes i)) ≡ []
+before-inside from ps nodes i h =
+    let parents : AllNodes (Within from (from + i)) (all_inside from (take i nodes)) =
+    subst (λ (j : ℕ). AllNodes (Within from (from + j)) (all_inside from (take i nodes))) (length-take-le i nodes h)
+    (all_inside-parents from (take i nodes)) in
+    two (from + i) from (at_top from ps) (all_inside from (take i nodes))
+    ∙ rw (
+      top-inside (from + i) from ps,
+      below-inside (from + i) (from + length (at_top from ps)) from (all_inside from (take i nodes)) parents,
+    ) refl
 
 -- the ids of the fields inside of one go up from where they begin
-pub ids_inside-is : (ps : List MemberData) (nodes : List NodeData) (i : ℕ) (n : NodeData) → AreNodes ps nodes → slice_get nodes i ≡ Some n
-    → ids_inside i 0 (map field_row nodes) ≡ count_up (length (before ps nodes i)) (length (inside i n.of))
-ids_inside-is ps nodes i n e is =
+pub ids_inside-is : (from : ℕ) (ps : List MemberData) (nodes : List NodeData) (i : ℕ) (n : NodeData) → AreNodesFrom from ps nodes
+    → slice_get nodes i ≡ Some n
+    → ids_inside (from + i) from (map field_row nodes) ≡ count_up (from + length (before from ps nodes i)) (length (inside (from + i) n.of))
+ids_inside-is from ps nodes i n e is =
     let here : i < length nodes = slice_get_within nodes i n is in
-    let a : List NodeData = before ps nodes i in
-    let b : List NodeData = inside i n.of in
-    let c : List NodeData = all_inside (i + 1) (drop (i + 1) nodes) in
-    let first : ids_inside i 0 (map field_row a) ≡ [] = before-inside ps nodes i (omega arith) in
-    let own : ids_inside i (0 + length a) (map field_row b) ≡ count_up (0 + length a) (length b) =
-    own-inside i (0 + length a) b (omega (arith, start-behind ps nodes i e here)) (inside-parents i n.of) in
-    let last : ids_inside i ((0 + length a) + length b) (map field_row c) ≡ [] =
-    above-inside i ((0 + length a) + length b) ((i + 1) + length (drop (i + 1) nodes)) c
-    (all_inside-parents (i + 1) (drop (i + 1) nodes)) in
-    ap (λ (z : List NodeData). ids_inside i 0 (map field_row z)) (cut-inside ps nodes i n e is)
-    ∙ (two i 0 a (b ++ c) ∙ (ap (λ (z : List ℕ). z ++ ids_inside i (0 + length a) (map field_row (b ++ c))) first
-    ∙ (two i (0 + length a) b c ∙ (ap (λ (z : List ℕ). z ++ ids_inside i ((0 + length a) + length b) (map field_row c)) own
-    ∙ (ap (λ (z : List ℕ). count_up (0 + length a) (length b) ++ z) last
-    ∙ (append-nil (count_up (0 + length a) (length b)) ∙ ap (λ (j : ℕ). count_up j (length b)) (zero-add (length a))))))))
+    let p : ℕ = from + i in
+    let a : List NodeData = before from ps nodes i in
+    let b : List NodeData = inside (from + i) n.of in
+    let c : List NodeData = all_inside ((from + i) + 1) (drop (i + 1) nodes) in
+    let first : ids_inside p from (map field_row a) ≡ [] = before-inside from ps nodes i (omega arith) in
+    let own : ids_inside p (from + length a) (map field_row b) ≡ count_up (from + length a) (length b) =
+    own-inside p (from + length a) b (omega (arith, start-behind from ps nodes i e here)) (inside-parents (from + i) n.of) in
+    let last : ids_inside p ((from + length a) + length b) (map field_row c) ≡ [] =
+    above-inside p ((from + length a) + length b) (((from + i) + 1) + length (drop (i + 1) nodes)) c
+    (all_inside-parents ((from + i) + 1) (drop (i + 1) nodes)) in
+    ap (λ (z : List NodeData). ids_inside p from (map field_row z)) (cut-inside from ps nodes i n e is)
+    ∙ (two p from a (b ++ c) ∙ (ap (λ (z : List ℕ). z ++ ids_inside p (from + length a) (map field_row (b ++ c))) first
+    ∙ (two p (from + length a) b c ∙ (ap (λ (z : List ℕ). z ++ ids_inside p ((from + length a) + length b) (map field_row c)) own
+    ∙ (ap (λ (z : List ℕ). count_up (from + length a) (length b) ++ z) last
+    ∙ append-nil (count_up (from + length a) (length b)))))))

@@ -12,7 +12,10 @@ pub mod AllNodes
 pub mod ReadingSchemas
 pub mod FieldsInside
 pub mod Inside
-pub mod FieldParts
-pub mod LeavesOpen
-pub mod Shallow
+pub mod OpenShapes
+pub mod OpenFields
 pub mod Described
+pub mod Grown
+pub mod AddedRows
+pub mod AddedMarks
+pub mod AddedOpen

@@ -47,7 +47,7 @@ drop_all [] = refl
 drop_all (x ∷ xs) = drop_all xs
 
 -- all columns are of the fields that there are
-columns-of : (t : Table) → IsDescribed t → AllByRecursion (IsColumnRow (length t.fields)) t.columns
+pub columns-of : (t : Table) → IsDescribed t → AllByRecursion (IsColumnRow (length t.fields)) t.columns
 columns-of t is =
     subst (AllByRecursion (IsColumnRow (length t.fields))) (take-append-drop t.header_columns t.columns)
     (each-append (length t.fields) (take t.header_columns t.columns) (drop t.header_columns t.columns)

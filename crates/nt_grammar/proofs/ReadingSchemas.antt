@@ -16,8 +16,8 @@ use Rattle.nt_grammar.specs.declared.rows.ColumnRow.{ColumnRow}
 use Rattle.nt_grammar.specs.Table.{Table, is_short}
 use Rattle.nt_grammar.specs.Types.{role_of}
 use Rattle.nt_grammar.specs.Columns.{column_types}
-use Rattle.nt_grammar.specs.Rows.{NodeData, AreNodes, inside, members_in, places_in, all_inside, at_top, field_row, column_row, column_rows}
-use Rattle.nt_grammar.specs.Rows.{Rows}
+use Rattle.nt_grammar.specs.Rows.{NodeData, AreNodesFrom, inside, members_in, places_in, all_inside, at_top, field_row}
+use Rattle.nt_grammar.specs.Rows.{column_row, column_rows, Rows}
 use Rattle.nt_grammar.specs.Listing.{weight}
 use Rattle.nt_grammar.specs.ReadingBack.{AreFieldRows, IsColumnRow, IsDescribed}
 use Rattle.nt_grammar.proofs.Listing.{weight-append, weight-at_top, weight-all_inside, all_inside-self, uncons, regrouped}
@@ -25,7 +25,7 @@ use Rattle.nt_grammar.proofs.AllNodes.{AllNodes, IsField, all-fields, field-shor
 use Rattle.nt_grammar.proofs.ReadingDescribed.{each-append, drop_all}
 
 -- no field, at these ids and on, lies in one behind it
-ArePlaced : ℕ → List NodeData → Type 0
+pub ArePlaced : ℕ → List NodeData → Type 0
 ArePlaced id [] = Unit {0}
 ArePlaced id (n ∷ ns) = (n.parent ≤ id) × ArePlaced (id + 1) ns
 
@@ -56,12 +56,12 @@ placed-inside id j (fields ps) le = placed-members id j ps le
 placed-inside id j (tuple ks) le = placed-parts id 0 j ks le
 placed-inside id j (choice ks) le = placed-parts id 0 j ks le
 
-placed-top : (id : ℕ) (ps : List MemberData) → ArePlaced id (at_top id ps)
+pub placed-top : (id : ℕ) (ps : List MemberData) → ArePlaced id (at_top id ps)
 unfolding ArePlaced
 placed-top id [] = tt
 placed-top id (p ∷ ps) = (omega arith, placed-top (id + 1) ps)
 
-placed-listed : (id : ℕ) (front ms : List NodeData) → ms ≡ front ++ all_inside id ms → ArePlaced id front → ArePlaced id ms
+pub placed-listed : (id : ℕ) (front ms : List NodeData) → ms ≡ front ++ all_inside id ms → ArePlaced id front → ArePlaced id ms
 unfolding ArePlaced
 placed-listed id [] ms e a = subst (ArePlaced id) (sym (all_inside-self id ms e)) tt
 placed-listed id (q ∷ front) [] e a = tt
@@ -74,10 +74,11 @@ placed-listed id (q ∷ front) (m ∷ ms) e a =
     )
 
 -- there are as many fields as the parts count
-count-listed : (ps : List MemberData) (nodes : List NodeData) → AreNodes ps nodes → length nodes ≡ parts_count (parts_of ps)
-count-listed ps nodes e =
-    let all : weight nodes ≡ weight (at_top 0 ps ++ all_inside 0 nodes) = ap weight e in
-    omega (arith, all, weight-append (at_top 0 ps) (all_inside 0 nodes), weight-at_top 0 ps, weight-all_inside 0 nodes)
+pub count-listed : (id : ℕ) (ps : List MemberData) (nodes : List NodeData) → AreNodesFrom id ps nodes
+    → length nodes ≡ parts_count (parts_of ps)
+count-listed id ps nodes e =
+    let all : weight nodes ≡ weight (at_top id ps ++ all_inside id nodes) = ap weight e in
+    omega (arith, all, weight-append (at_top id ps) (all_inside id nodes), weight-at_top id ps, weight-all_inside id nodes)
 
 role-fits : (k : ShapeData) → role_of k < 2 ^ 16
 role-fits bool = omega arith
@@ -86,7 +87,7 @@ role-fits k = omega arith
 short-names : (r : FieldRow) → is_short r ≡ true → (length r.name < 2 ^ 32) × (length r.type_name < 2 ^ 32)
 short-names r h = (grind (arith, nat_tests, h), grind (arith, nat_tests, h))
 
-rows-in_range : (id : ℕ) (nodes : List NodeData) → id + length nodes ≤ 4096 → ArePlaced id nodes → AllNodes IsField nodes
+pub rows-in_range : (id : ℕ) (nodes : List NodeData) → id + length nodes ≤ 4096 → ArePlaced id nodes → AllNodes IsField nodes
     → AreFieldRows id (map field_row nodes)
 unfolding ArePlaced
 rows-in_range id [] few placed are = tt
@@ -98,15 +99,15 @@ rows-in_range id (n ∷ ns) few placed are =
       subst (λ (k : ℕ). AreFieldRows k (map field_row ns)) next (rows-in_range (id + 1) ns (omega arith) placed.1 are.1),
     )
 
-code-fits : (t : ColumnType) → code_of t < 2 ^ 16
+pub code-fits : (t : ColumnType) → code_of t < 2 ^ 16
 code-fits Bit = omega arith
 code-fits t = omega arith
 
-bits-fit : (t : ColumnType) → bits_of t < 2 ^ 16
+pub bits-fit : (t : ColumnType) → bits_of t < 2 ^ 16
 bits-fit Bit = omega arith
 bits-fit t = omega arith
 
-types-in_range : (n id : ℕ) (ts : List ColumnType) → id < n → n ≤ 4096 → AllByRecursion (IsColumnRow n) (map (column_row id) ts)
+pub types-in_range : (n id : ℕ) (ts : List ColumnType) → id < n → n ≤ 4096 → AllByRecursion (IsColumnRow n) (map (column_row id) ts)
 types-in_range n id [] lt few = tt
 types-in_range n id (t ∷ ts) lt few = (
   record {
@@ -131,7 +132,7 @@ columns-in_range plain n id (m ∷ ms) le few =
 
 pub Rows-described : (ps : List MemberData) (plain : Bool) (t : Table) → AreFields ps → Rows ps plain t → IsDescribed t
 Rows-described ps plain t a r =
-    let count : length r.nodes ≡ parts_count (parts_of ps) = count-listed ps r.nodes r.order in
+    let count : length r.nodes ≡ parts_count (parts_of ps) = count-listed 0 ps r.nodes r.order in
     let few : length r.nodes ≤ 4096 = omega (arith, a.few) in
     let all : length t.fields ≡ length r.nodes = ap length r.field_rows ∙ length-map r.nodes field_row in
     let placed = placed-listed 0 (at_top 0 ps) r.nodes r.order (placed-top 0 ps) in

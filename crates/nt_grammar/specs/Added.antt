@@ -30,7 +30,7 @@ is_record k = role_of k == record_role
 
 -- the fields directly inside a field: in a record they are principal where it is, and elsewhere none is
 abbrev pub marks_inside : ℕ → MarkedData → List MarkedData
-marks_inside id m = marked (m.principal && is_record m.node.of) (inside id m.node.of)
+marks_inside id m = marked (is_record m.node.of && m.principal) (inside id m.node.of)
 
 -- the fields directly inside these, whose ids go on from this one
 abbrev pub all_marks_inside : ℕ → List MarkedData → List MarkedData

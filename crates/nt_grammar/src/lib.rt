@@ -15,18 +15,21 @@
 //!
 //! Proved, each as the contract of a function with an empty body: fields have one table at most
 //! (`descriptions_are_one`), and so has a table with one more field (`additions_are_one`); described
-//! fields are open with the shape that they had (`described_fields_are_open`); what is written of
-//! rows is read as these rows, whatever follows (`descriptions_are_read_back`); rows that are read
-//! are in range (`rows_read_are_described`); and fields that keep their rules have rows in range
-//! (`schemas_are_described`). Nothing is only tested; that the definitions are the standard's rests
-//! on reading them.
+//! fields are open with the shape that they had (`described_fields_are_open`), and so is one that is
+//! added, while those before it keep their shapes (`late_fields_are_open`); what is written of rows
+//! is read as these rows, whatever follows (`descriptions_are_read_back`); rows that are read are in
+//! range (`rows_read_are_described`), and so are those of fields that keep their rules
+//! (`schemas_are_described`, `late_fields_are_described`). Nothing is only tested; that the
+//! definitions are the standard's rests on reading them.
 #![tactic(auto)]
 
+mod late_laws;
 mod laws;
 mod part;
 mod reading_laws;
 mod rows;
 
+pub use late_laws::{late_fields_are_described, late_fields_are_open};
 pub use laws::{additions_are_one, described_fields_are_open, descriptions_are_one};
 pub use part::Part;
 pub use reading_laws::{
