@@ -2,3 +2,4 @@ pub mod Describing
 pub mod Reading
 pub mod ByName
 pub mod Schema
+pub mod Extending

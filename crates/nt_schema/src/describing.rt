@@ -1,25 +1,53 @@
 //! The description of fields.
 
-ghost use Rattle.std.specs.Prelude.{◌≤◌, IfOk, vec_len};
+ghost use Rattle.std.specs.Prelude.{◌≡◌, ◌≤◌, ◌+◌, ◌*◌, ◌++◌, map, length, IfOk, OnOk, vec_len};
 ghost use Rattle.nt_types.specs.Views.{members_view};
 ghost use Rattle.nt_types.specs.ShapeData.{parts_of};
 ghost use Rattle.nt_types.specs.Schema.{parts_count};
 ghost use Rattle.nt_types.specs.Rules.{AreFields};
-ghost use Rattle.nt_grammar.specs.Table.{in_header};
-ghost use Rattle.nt_grammar.specs.Rows.{Rows};
+ghost use Rattle.nt_grammar.specs.Table.{in_header, IsFew};
+ghost use Rattle.nt_grammar.specs.Rows.{Rows, field_row};
+ghost use Rattle.nt_grammar.specs.Added.{nodes_of, added_rows};
+ghost use Rattle.nt_schema.specs.Describing.{mark_view};
 
 pub(crate) mod columns;
+mod extending;
 mod node;
 mod nodes;
 mod type_name;
 
 use crate::describing::columns::push_columns;
-use crate::describing::node::field_row;
+use crate::describing::node::{Node, field_row};
 use crate::describing::nodes::all_nodes;
 use crate::schema::Schema;
 use nt_grammar::{ColumnRow, FieldRow};
 use nt_types::Fields;
 use std::alloc::{AllocError, Global};
+
+/// Appends the rows of listed fields behind others. So many entries were written without them.
+fn push_rows(
+    nodes: &[Node<'_>],
+    plain: bool,
+    entries: u64,
+    fields: &mut Vec<FieldRow>,
+    columns: &mut Vec<ColumnRow>,
+) -> Result<(), AllocError>
+    requires { vec_len fields.old + length nodes.now ≤ 4096 }
+    ensures fields { OnOk result (fields.new.items
+        ≡ fields.old.items ++ map field_row (nodes_of (map mark_view nodes.now))) }
+    ensures columns { OnOk result (columns.new.items ≡ columns.old.items
+        ++ added_rows plain entries (vec_len fields.old) (map mark_view nodes.now)) }
+    ensures few_columns { OnOk result (vec_len columns.new
+        ≤ vec_len columns.old + 2 * length nodes.now) }
+{
+    let alloc = *fields.allocator();
+    for node in nodes {
+        let first = if node.principal { entries } else { 0 };
+        push_columns(columns, fields.len() as u32, node.of, plain, first)?;
+        fields.push(field_row(alloc, node)?)?;
+    }
+    Ok(())
+}
 
 /// The rows of fields and of columns.
 fn rows_of(
@@ -30,16 +58,11 @@ fn rows_of(
     requires { parts_count (parts_of (members_view fields.now)) ≤ 4096 }
     ensures rows { IfOk result (λ rows. Rows (members_view fields.now) plain
         (in_header rows.0.items rows.1.items)) }
-    ensures few_fields { IfOk result (λ rows. vec_len rows.0 ≤ 4096) }
-    ensures few_columns { IfOk result (λ rows. vec_len rows.1 ≤ 8192) }
+    ensures few { IfOk result (λ rows. IsFew (in_header rows.0.items rows.1.items)) }
 {
-    let nodes = all_nodes(alloc, fields)?;
-    let mut field_rows = Vec::new(alloc);
-    let mut columns = Vec::new(alloc);
-    for node in &nodes {
-        push_columns(&mut columns, field_rows.len() as u32, node.of, plain)?;
-        field_rows.push(field_row(alloc, node)?)?;
-    }
+    let nodes = all_nodes(alloc, fields.as_slice(), 0)?;
+    let (mut field_rows, mut columns) = (Vec::new(alloc), Vec::new(alloc));
+    push_rows(&nodes, plain, 0, &mut field_rows, &mut columns)?;
     Ok((field_rows, columns))
 }
 
@@ -48,7 +71,8 @@ fn rows_of(
 #[tactic(auto, using(nt_grammar::proofs::AllNodes::described_short))]
 pub fn describe(alloc: Global, fields: &Fields, plain: bool) -> Result<Schema, AllocError>
     requires { AreFields (members_view fields.now) }
-    ensures { IfOk result (λ schema. Rows (members_view fields.now) plain schema) }
+    ensures rows { IfOk result (λ schema. Rows (members_view fields.now) plain schema) }
+    ensures few { IfOk result (λ schema. IsFew schema) }
 {
     let (field_rows, columns) = rows_of(alloc, fields, plain)?;
     let (in_header, columns_in_header) = (field_rows.len() as u32, columns.len() as u32);

@@ -2,16 +2,18 @@
 //! the descriptions of a header and its extension, and read back from them (RNTuple Binary Format
 //! Specification 1.0.0.0, section Schema Description).
 //!
-//! `describe` makes a `Schema` of fields (folder `describing`); `write_description` and
-//! `read_description` carry one part of it to bytes and back (`writing`, `reading`);
+//! `describe` makes a `Schema` of fields, and `Schema::extend` adds a field behind entries that were
+//! written without it (folder `describing`); `write_description` and `read_description` carry one
+//! part of a schema to bytes and back (`writing`, `reading`);
 //! `Schema::shape` says as what values of a field can be read, `Schema::plans` where they stand,
 //! `Schema::find` finds a field by name (`by_name`). What is asked for each entry, as plans, the
 //! field of a column or the fields inside one, is kept: no call walks over rows or takes memory.
 //! Start at `schema.rt`. Contracts speak of the definitions of `nt_grammar` and `nt_plans`, whose
 //! words hold here too; a *schema* is a table of rows together with what it keeps of them.
 //!
-//! Proved: `describe` gives the one table of its fields; `write_description` appends exactly the
-//! spelling of the part; `read_description` answers exactly the reading of the bytes, its first
+//! Proved: `describe` gives the one table of its fields, and `extend` the one with a field more, or
+//! says exactly what stands against that; `write_description` appends exactly the spelling of the
+//! part; `read_description` answers exactly the reading of the bytes, its first
 //! fault included, reads back what was written whatever follows, and adds only rows in range;
 //! `find` and `shape` are the first field of a name and the shape of an open field; `plans` are those
 //! of all open fields; `is_open_column`, `is_principal`, `top_field`, `children` and `columns_of` are
@@ -34,12 +36,14 @@
 mod by_name;
 mod describing;
 mod description_error;
+mod extend_error;
 mod reading;
 mod schema;
 mod writing;
 
 pub use describing::describe;
 pub use description_error::DescriptionError;
+pub use extend_error::ExtendError;
 pub use nt_grammar::{
     ColumnRow, FieldRow, Part, described_fields_are_open, descriptions_are_one,
     descriptions_are_read_back, rows_read_are_described, schemas_are_described,

@@ -13,7 +13,7 @@ use nt_grammar::{ColumnRow, FieldRow, Part};
 use std::alloc::AllocError;
 
 /// A column with this bit among its flags has the index of its first element.
-const DEFERRED: u16 = 1;
+pub(crate) const DEFERRED: u16 = 1;
 
 fn put_field_numbers(out: &mut FrameOut, row: &FieldRow) -> Result<(), AllocError>
     ensures { OnOk result (out.new ≡ bytes_added (field_numbers row.now) out.old) }

@@ -25,6 +25,8 @@ pub(crate) struct Node<'a> {
     pub(crate) parent: u32,
     pub(crate) label: Label<'a>,
     pub(crate) of: &'a Shape,
+    /// Whether all fields that it lies in are records.
+    pub(crate) principal: bool,
 }
 
 fn name_of(alloc: Global, label: Label<'_>) -> Result<Bytes, AllocError>

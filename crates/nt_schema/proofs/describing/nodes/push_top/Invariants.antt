@@ -1,14 +1,15 @@
-use Rattle.std.proofs.Common.{◌≡◌, ◌≤◌, ◌+◌, ◌++◌, map, drop, vec_len}
+use Rattle.std.proofs.Common.{true, ◌≡◌, ◌≤◌, ◌+◌, ◌++◌, map, drop, vec_len}
 use Rattle.nt_types.specs.Views.{member_view}
 use Rattle.nt_types.specs.ShapeData.{parts_of}
 use Rattle.nt_types.specs.Schema.{parts_count}
+use Rattle.nt_grammar.specs.Added.{marked}
 use Rattle.nt_grammar.specs.Rows.{at_top}
-use Rattle.nt_schema.specs.Describing.{node_view}
+use Rattle.nt_schema.specs.Describing.{mark_view}
 use Rattle.nt_schema.proofs.describing.nodes.push_top.Given as goal
 
 abbrev pub invariant-loop-field : goal.invariant-loop-field
 invariant-loop-field l = record {
-  few : vec_len l.nodes + parts_count (parts_of (map member_view (drop l.field-index l.fields))) ≤ 4096;
-  order : map node_view l.nodes.items ++ at_top (vec_len l.nodes) (map member_view (drop l.field-index l.fields))
-      ≡ map node_view l.initial.nodes.items ++ at_top (vec_len l.initial.nodes) (map member_view l.fields);
+  few : l.first + vec_len l.nodes + parts_count (parts_of (map member_view (drop l.field-index l.fields))) ≤ 4096;
+  order : map mark_view l.nodes.items ++ marked true (at_top (l.first + vec_len l.nodes) (map member_view (drop l.field-index l.fields)))
+      ≡ map mark_view l.initial.nodes.items ++ marked true (at_top (l.first + vec_len l.initial.nodes) (map member_view l.fields));
 }
