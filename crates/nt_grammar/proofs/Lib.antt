@@ -12,6 +12,7 @@ pub mod AllNodes
 pub mod ReadingSchemas
 pub mod FieldsInside
 pub mod Inside
+pub mod Later
 pub mod OpenShapes
 pub mod OpenFields
 pub mod Described

@@ -26,7 +26,7 @@ either-some : {A : Type 0} (o other : Option A) (a b : Bool) → is_some o ≡ a
 either-some o other a b p q = some-or o other ∙ ap₂ (λ x y. x || y) p q
 
 mutual
-  need-has : (above : NeedData) (p : PlanData) (j : ℕ) → is_some (need_in above p j) ≡ has p j
+  pub need-has : (above : NeedData) (p : PlanData) (j : ℕ) → is_some (need_in above p j) ≡ has p j
   need-has above (bool k) j = some-at above k j
   need-has above (number k bits signed) j = some-at above k j
   need-has above (text ends bytes) j =
@@ -39,7 +39,7 @@ mutual
   need-has above (choice tags ps) j =
       either-some (need_at above tags j) (need_under tags 1 ps j) (j == tags) (has_any ps j) (some-at above tags j) (under-have tags 1 ps j)
 
-  needs-have : (above : NeedData) (ps : PlansData) (j : ℕ) → is_some (need_in_any above ps j) ≡ has_any ps j
+  pub needs-have : (above : NeedData) (ps : PlansData) (j : ℕ) → is_some (need_in_any above ps j) ≡ has_any ps j
   needs-have above no_plans j = refl
   needs-have above (plan p ps) j =
       either-some (need_in above p j) (need_in_any above ps j) (has p j) (has_any ps j) (need-has above p j) (needs-have above ps j)

@@ -21,6 +21,11 @@ abbrev pub plans_of : List PlanData → PlansData
 plans_of [] = no_plans
 plans_of (p ∷ ps) = plan p (plans_of ps)
 
+-- these plans, and one more behind them
+abbrev pub and_plan : PlansData → PlanData → PlansData
+and_plan no_plans q = plan q no_plans
+and_plan (plan p ps) q = plan p (and_plan ps q)
+
 -- whether a column is one of a plan
 abbrev mutual
   pub has : PlanData → ℕ → Bool

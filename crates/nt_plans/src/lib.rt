@@ -12,7 +12,9 @@
 //! Proved, each as the contract of a function with an empty body, of every table of rows: no column
 //! stands twice in its plans (`columns_differ`); their columns are among the rows, with the types of
 //! the values (`columns_have_types`); a column has a need and a field at the top level exactly where
-//! it is in a plan (`columns_have_needs`). Nothing is only tested; that the definitions are the
+//! it is in a plan (`columns_have_needs`). Of a table with one field more: its plans are those before
+//! it and that of the field (`late_fields_are_planned`), and columns need what they did
+//! (`late_fields_have_needs`). Nothing is only tested; that the definitions are the
 //! standard's rests on reading them.
 //!
 //! Choices that bind nobody else:
@@ -20,8 +22,10 @@
 //!   many on every way, and no two fields of one level have a column in common.
 #![tactic(auto)]
 
+mod late_laws;
 mod laws;
 mod plan;
 
+pub use late_laws::{late_fields_are_planned, late_fields_have_needs};
 pub use laws::{columns_differ, columns_have_needs, columns_have_types};
 pub use plan::{Plan, Plans};
