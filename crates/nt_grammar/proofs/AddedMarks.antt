@@ -7,7 +7,7 @@ use Rattle.std.proofs.Math.Seq.{drop-cons}
 use Rattle.std.specs.Prelude.{option_map, ◌&&◌}
 use Rattle.nt_types.specs.ShapeData.{MemberData}
 use Rattle.nt_grammar.specs.Rows.{NodeData, inside, at_top, all_inside}
-use Rattle.nt_grammar.specs.Added.{MarkedData, marked, nodes_of, is_record, marks_inside, all_marks_inside, AreMarked}
+use Rattle.nt_grammar.specs.Added.{MarkedData, with_mark, nodes_of, is_record, marks_inside, all_marks_inside, AreMarked}
 use Rattle.nt_grammar.proofs.Inside.{before}
 use Rattle.nt_grammar.proofs.Marks.{nodes_of-append, nodes_of-marked, nodes_of-all_inside, all_marks_inside-append}
 use Rattle.nt_grammar.proofs.Grown.{slice_get-old, slice_get-new}
@@ -16,7 +16,7 @@ use Rattle.nt_grammar.proofs.Grown.{slice_get-old, slice_get-new}
 
 -- the marks before those of the fields inside one
 abbrev marks_before : ℕ → List MemberData → List MarkedData → ℕ → List MarkedData
-marks_before from ps ms i = marked true (at_top from ps) ++ all_marks_inside from (take i ms)
+marks_before from ps ms i = with_mark true (at_top from ps) ++ all_marks_inside from (take i ms)
 
 take-nodes : (ms : List MarkedData) (i : ℕ) → nodes_of (take i ms) ≡ take i (nodes_of ms)
 take-nodes ms zero = refl
@@ -27,7 +27,7 @@ marks_before-length : (from : ℕ) (ps : List MemberData) (ms : List MarkedData)
     → length (marks_before from ps ms i) ≡ length (before from ps (nodes_of ms) i)
 marks_before-length from ps ms i =
     sym (length-map (marks_before from ps ms i) (λ (m : MarkedData). m.node))
-    ∙ ap length (nodes_of-append (marked true (at_top from ps)) (all_marks_inside from (take i ms))
+    ∙ ap length (nodes_of-append (with_mark true (at_top from ps)) (all_marks_inside from (take i ms))
     ∙ (ap (λ (z : List NodeData). z ++ nodes_of (all_marks_inside from (take i ms))) (nodes_of-marked true (at_top from ps))
     ∙ ap (λ (z : List NodeData). at_top from ps ++ z) (nodes_of-all_inside from (take i ms)
     ∙ ap (all_inside from) (take-nodes ms i))))
@@ -45,7 +45,7 @@ marks-cut : (from : ℕ) (ps : List MemberData) (ms : List MarkedData) (i : ℕ)
 marks-cut from ps ms i m e is =
     let here : i < length ms = slice_get_within ms i m is in
     let len : length (take i ms) ≡ i = length-take-le i ms (omega arith) in
-    let top : List MarkedData = marked true (at_top from ps) in
+    let top : List MarkedData = with_mark true (at_top from ps) in
     let behind : List MarkedData = marks_inside (from + i) m ++ all_marks_inside ((from + i) + 1) (drop (i + 1) ms) in
     let split : all_marks_inside from ms ≡ all_marks_inside from (take i ms) ++ behind =
     ap (all_marks_inside from) (sym (take-append-drop i ms))

@@ -9,13 +9,13 @@ use Rattle.nt_types.specs.ShapeData.{MemberData, parts_of}
 use Rattle.nt_types.specs.Schema.{field_count, parts_count}
 use Rattle.nt_grammar.specs.Rows.{NodeData, AreNodesFrom, inside, all_inside, at_top}
 use Rattle.nt_grammar.specs.Listing.{weight, AreListed}
-use Rattle.nt_grammar.specs.Added.{MarkedData, marked, nodes_of, marks_inside, all_marks_inside, AreMarked}
+use Rattle.nt_grammar.specs.Added.{MarkedData, with_mark, nodes_of, marks_inside, all_marks_inside, AreMarked}
 use Rattle.nt_grammar.proofs.Listing.{weight-append, weight-inside, weight-at_top, length-weight, all_inside-self}
 
 pub nodes_of-append : (a b : List MarkedData) → nodes_of (a ++ b) ≡ nodes_of a ++ nodes_of b
 nodes_of-append a b = map-append (λ (m : MarkedData). m.node) a b
 
-pub nodes_of-marked : (principal : Bool) (ns : List NodeData) → nodes_of (marked principal ns) ≡ ns
+pub nodes_of-marked : (principal : Bool) (ns : List NodeData) → nodes_of (with_mark principal ns) ≡ ns
 nodes_of-marked principal [] = refl
 nodes_of-marked principal (n ∷ ns) = ap (λ (z : List NodeData). n ∷ z) (nodes_of-marked principal ns)
 
@@ -30,7 +30,7 @@ nodes_of-all_inside id (m ∷ ms) = nodes_of-append (marks_inside id m) (all_mar
 
 -- without their marks they are all fields
 pub AreMarked-nodes : (id : ℕ) (ps : List MemberData) (ms : List MarkedData) → AreMarked id ps ms → AreNodesFrom id ps (nodes_of ms)
-AreMarked-nodes id ps ms e = ap nodes_of e ∙ (nodes_of-append (marked true (at_top id ps)) (all_marks_inside id ms)
+AreMarked-nodes id ps ms e = ap nodes_of e ∙ (nodes_of-append (with_mark true (at_top id ps)) (all_marks_inside id ms)
     ∙ (ap (λ (z : List NodeData). z ++ nodes_of (all_marks_inside id ms)) (nodes_of-marked true (at_top id ps))
     ∙ ap (λ (z : List NodeData). at_top id ps ++ z) (nodes_of-all_inside id ms)))
 
@@ -59,7 +59,7 @@ order-next id top old new before after next m k a e o =
 pub AreListed-next : (id : ℕ) (ps : List MemberData) (old new : List MarkedData) (next : ℕ) (m : MarkedData) → next < length old
     → m ≡ get_or old next m → new ≡ old ++ marks_inside (id + next) m → AreListed id ps next old → AreListed id ps (next + 1) new
 AreListed-next id ps old new next m h is e l = record {
-  order = order-next id (marked true (at_top id ps)) old new (take next old) (take (next + 1) new) next m
+  order = order-next id (with_mark true (at_top id ps)) old new (take next old) (take (next + 1) new) next m
       (length-take-le next old l.within) before e l.order;
   count = count;
   within = within;
@@ -95,9 +95,9 @@ AreListed-next id ps old new next m h is e l = record {
     within = rw e (rw length-append (omega arith))
 
 -- the fields at the top level alone
-pub AreListed-first : (id : ℕ) (ps : List MemberData) (ms : List MarkedData) → ms ≡ marked true (at_top id ps) → AreListed id ps 0 ms
+pub AreListed-first : (id : ℕ) (ps : List MemberData) (ms : List MarkedData) → ms ≡ with_mark true (at_top id ps) → AreListed id ps 0 ms
 AreListed-first id ps ms e = record {
-  order = e ∙ sym (append-nil (marked true (at_top id ps)));
+  order = e ∙ sym (append-nil (with_mark true (at_top id ps)));
   count = zero-add (weight (nodes_of ms)) ∙ (ap (λ (z : List MarkedData). weight (nodes_of z)) e
       ∙ (ap weight (nodes_of-marked true (at_top id ps)) ∙ weight-at_top id ps));
   within = omega arith;
@@ -107,7 +107,7 @@ AreListed-first id ps ms e = record {
 pub AreListed-all : (id : ℕ) (ps : List MemberData) (ms : List MarkedData) (next : ℕ) → length ms ≤ next → AreListed id ps next ms
     → AreMarked id ps ms
 AreListed-all id ps ms next h l =
-    l.order ∙ ap (λ (z : List MarkedData). marked true (at_top id ps) ++ all_marks_inside id z) (take_all next ms h)
+    l.order ∙ ap (λ (z : List MarkedData). with_mark true (at_top id ps) ++ all_marks_inside id z) (take_all next ms h)
 
 -- there are no more than the parts count
 pub AreListed-few : (id : ℕ) (ps : List MemberData) (ms : List MarkedData) (next : ℕ) → AreListed id ps next ms
@@ -156,4 +156,4 @@ one_list id (q ∷ front) (m ∷ ms) (n ∷ ns) e f =
     ap (λ (x : MarkedData). x ∷ ms) (d.0 ∙ sym g.0) ∙ ap (λ (xs : List MarkedData). n ∷ xs) rest
 
 pub AreMarked-one : (id : ℕ) (ps : List MemberData) (ms ns : List MarkedData) → AreMarked id ps ms → AreMarked id ps ns → ms ≡ ns
-AreMarked-one id ps ms ns e f = one_list id (marked true (at_top id ps)) ms ns e f
+AreMarked-one id ps ms ns e f = one_list id (with_mark true (at_top id ps)) ms ns e f

@@ -17,8 +17,8 @@ pub record MarkedData : Type 0 where
   pub principal : Bool
 
 -- these fields, each with this mark
-abbrev pub marked : Bool → List NodeData → List MarkedData
-marked principal nodes = map (λ (n : NodeData). record { node = n; principal = principal }) nodes
+abbrev pub with_mark : Bool → List NodeData → List MarkedData
+with_mark principal nodes = map (λ (n : NodeData). record { node = n; principal = principal }) nodes
 
 -- the fields without their marks
 abbrev pub nodes_of : List MarkedData → List NodeData
@@ -30,7 +30,7 @@ is_record k = role_of k == record_role
 
 -- the fields directly inside a field: in a record they are principal where it is, and elsewhere none is
 abbrev pub marks_inside : ℕ → MarkedData → List MarkedData
-marks_inside id m = marked (is_record m.node.of && m.principal) (inside id m.node.of)
+marks_inside id m = with_mark (is_record m.node.of && m.principal) (inside id m.node.of)
 
 -- the fields directly inside these, whose ids go on from this one
 abbrev pub all_marks_inside : ℕ → List MarkedData → List MarkedData
@@ -39,7 +39,7 @@ all_marks_inside id (m ∷ ms) = marks_inside id m ++ all_marks_inside (id + 1) 
 
 -- all fields from an id on, breadth first; those at the top level are principal
 abbrev pub AreMarked : ℕ → List MemberData → List MarkedData → Type 0
-AreMarked id ps marks = marks ≡ marked true (at_top id ps) ++ all_marks_inside id marks
+AreMarked id ps marks = marks ≡ with_mark true (at_top id ps) ++ all_marks_inside id marks
 
 -- a column of this field whose first element is that of this entry; behind entry 0 it is deferred
 abbrev pub late_row : ℕ → ℕ → ColumnType → ColumnRow

@@ -5,7 +5,7 @@ ghost use Rattle.nt_types.specs.Views.{shape_view, member_view};
 ghost use Rattle.nt_types.specs.ShapeData.{MemberData, kinds_of, parts_of};
 ghost use Rattle.nt_types.specs.Schema.{parts_count};
 ghost use Rattle.nt_grammar.specs.Rows.{members_in, places_in, at_top};
-ghost use Rattle.nt_grammar.specs.Added.{marked, marks_inside, AreMarked};
+ghost use Rattle.nt_grammar.specs.Added.{with_mark, marks_inside, AreMarked};
 ghost use Rattle.nt_schema.specs.Describing.{mark_view};
 ghost use Rattle.nt_grammar.specs.Listing.{AreListed};
 
@@ -20,7 +20,7 @@ fn push_members<'a>(
     principal: bool,
 ) -> Result<(), AllocError>
     ensures { OnOk result (map mark_view nodes.new.items
-        ≡ map mark_view nodes.old.items ++ marked principal
+        ≡ map mark_view nodes.old.items ++ with_mark principal
         (members_in parent (parts_of (map member_view members.now)))) }
 {
     for member in members {
@@ -41,7 +41,7 @@ fn push_places<'a>(
     principal: bool,
 ) -> Result<(), AllocError>
     ensures { OnOk result (map mark_view nodes.new.items
-        ≡ map mark_view nodes.old.items ++ marked principal
+        ≡ map mark_view nodes.old.items ++ with_mark principal
         (places_in parent 0 (kinds_of (map shape_view shapes.now)))) }
 {
     for (place, of) in shapes.iter().enumerate() {
@@ -86,7 +86,7 @@ fn push_top<'a>(
     requires { first + vec_len nodes.old + parts_count (parts_of (map member_view fields.now))
         ≤ 4096 }
     ensures { OnOk result (map mark_view nodes.new.items
-        ≡ map mark_view nodes.old.items ++ marked true (at_top (first + vec_len nodes.old)
+        ≡ map mark_view nodes.old.items ++ with_mark true (at_top (first + vec_len nodes.old)
         (map member_view fields.now))) }
 {
     for field in fields {
