@@ -1,0 +1,4 @@
+mod Fields
+mod Given
+mod Joined
+mod Pieces
