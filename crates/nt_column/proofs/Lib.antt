@@ -3,6 +3,7 @@ pub mod Zips
 pub mod Stores
 pub mod Buffers
 pub mod Pages
+pub mod ZeroPages
 pub mod Sets
 pub mod Sizes
 pub mod Growing

@@ -1,22 +1,19 @@
 -- Pages of elements.
-use Rattle.std.proofs.Common.{◌≡◌, ◌≢◌, ℕ, zero, suc, ◌-◌, ◌*◌, ◌/◌, ◌%◌, ◌^◌, ◌<◌, Bool, true, false, List, length, map, take, drop}
-use Rattle.std.proofs.Common.{get_or, replicate, refl, sym, ◌∙◌, ap, arith, Fits, w8}
-use Rattle.std.specs.Prelude.{nat_lt, if◌then◌else◌}
+use Rattle.std.proofs.Common.{◌≡◌, ◌≢◌, ℕ, ◌-◌, ◌*◌, ◌^◌, ◌<◌, Bool, List, length, map, take, drop}
+use Rattle.std.proofs.Common.{get_or, refl, sym, ◌∙◌, ap, arith, Fits, w8}
 use Rattle.std.specs.List.{slice_range}
-use Rattle.std.proofs.lemmas.List.{take-map, drop-map, length-replicate, ext_get_or}
+use Rattle.std.proofs.lemmas.List.{take-map, drop-map, ext_get_or}
 use Rattle.std.proofs.lemmas.List.FromFn.{get_or-map-range_with_len, length-map-range_with_len}
 use Rattle.std.proofs.Math.Facts.{Fits-lt-pow}
-use Rattle.std.proofs.Math.Nat.{div-one, mod-one, pow-zero, mod-eq_of_lt, one-mul, mul-zero, zero-div}
+use Rattle.std.proofs.Math.Nat.{div-one, mod-one, pow-zero, mod-eq_of_lt, one-mul, mul-zero}
 use Rattle.nt_types.specs.declared.column_type.ColumnType.{ColumnType}
 use Rattle.nt_types.specs.declared.column_type.ColumnType.TheVariants.{Bit, Byte, Char, Int8, UInt8, Switch}
 use Rattle.nt_types.specs.ColumnTable.{bits_of}
-use Rattle.nt_encode.specs.Digits.{digit_of}
 use Rattle.nt_encode.specs.Plain.{plain_byte, plain_bytes}
-use Rattle.nt_encode.specs.Switch.{pair_byte, switch_byte, switch_bytes}
-use Rattle.nt_encode.specs.Pages.{page_bytes, page_size}
+use Rattle.nt_encode.specs.Pages.{page_bytes}
 use Rattle.nt_column.specs.Elements.{Element, plain, numbers, page_of}
 use Rattle.nt_column.specs.Bits.{bit_of}
-use Rattle.nt_column.proofs.Numbers.{numbers-range, numbers-plain, numbers-plain_list, numbers-replicate, tags-replicate}
+use Rattle.nt_column.proofs.Numbers.{numbers-range, numbers-plain, numbers-plain_list}
 
 -- but for a Switch a page is that of the numbers
 pub page_of-numbers : (kind : ColumnType) (es : List Element) → kind ≢ Switch → page_of kind es ≡ page_bytes kind (numbers es)
@@ -71,49 +68,3 @@ page-bytes Int8 xs width fits = plain_bytes-one xs fits
 page-bytes UInt8 xs width fits = plain_bytes-one xs fits
 page-bytes Bit xs width fits = absurd (omega arith)
 page-bytes kind xs width fits = absurd (omega arith)
-
-zero-get : (n i : ℕ) → get_or {A = ℕ} (replicate n 0) i 0 ≡ 0
-zero-get zero i = refl
-zero-get (suc n) zero = refl
-zero-get (suc n) (suc i) = zero-get n i
-
-zero-digit : (j : ℕ) → digit_of 8 0 j ≡ 0
-zero-digit j = rw zero-div refl
-
-zero-pair : (r : ℕ) → pair_byte 0 0 r ≡ 0
-zero-pair r =
-    elim (nat_lt r 8) as
-    (λ (b : Bool). (if b then digit_of 8 0 r else digit_of 8 0 (r - 8)) ≡ 0) [ true ↦ zero-digit r | false ↦ zero-digit (r - 8) ]
-
--- a Switch page of zeros has zeros alone
-pub zero-switch : (n m : ℕ) → m ≡ page_size Switch n → replicate m 0 ≡ page_of Switch (replicate n (plain 0))
-zero-switch n m size =
-    rw (numbers-replicate n, tags-replicate n) (ext_get_or 0 (replicate m 0) (switch_bytes (replicate n 0) (replicate n 0)) count byte)
-  where
-    count : length {A = ℕ} (replicate m 0) ≡ length (switch_bytes (replicate n 0) (replicate n 0))
-    count =
-        rw (
-          length-replicate {A = ℕ} m 0,
-          length-map-range_with_len (switch_byte (replicate n 0) (replicate n 0)) 0 (12 * length {A = ℕ} (replicate n 0)),
-          length-replicate {A = ℕ} n 0,
-        ) (omega arith)
-
-    byte : (i : ℕ) → i < length {A = ℕ} (replicate m 0)
-        → get_or (replicate m 0) i 0 ≡ get_or (switch_bytes (replicate n 0) (replicate n 0)) i 0
-    byte i h =
-        let within : i < 12 * length {A = ℕ} (replicate n 0) =
-        rw (length-replicate {A = ℕ} n 0) (omega (arith, size, length-replicate {A = ℕ} m 0)) in
-        rw (
-          zero-get m i,
-          get_or-map-range_with_len (switch_byte (replicate n 0) (replicate n 0)) 0 (12 * length {A = ℕ} (replicate n 0)) i i 0 within
-              (omega arith),
-          zero-get n (i / 12),
-        )
-        (sym (zero-pair (i % 12)))
-
--- the page of zeros as words
-pub zero-page : (kind : ColumnType) (n k : ℕ) (words page : List ℕ) → kind ≢ Switch → words ≡ replicate n 0 → k ≡ n
-    → page ≡ page_bytes kind words
-    → page ≡ page_of kind (replicate k (plain 0))
-zero-page kind n k words page other zeros count written =
-    rw (count, page_of-numbers kind (replicate n (plain 0)) other, numbers-replicate n, ← zeros) written

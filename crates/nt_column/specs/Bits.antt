@@ -1,6 +1,2 @@
--- Truth values as elements of one bit.
-use Rattle.std.specs.Prelude.{ℕ, Bool, if◌then◌else◌}
-
--- 1 for true
-abbrev pub bit_of : Bool → ℕ
-bit_of b = if b then 1 else 0
+-- Truth values as elements of one bit, as nt_encode has them.
+pub use Rattle.nt_encode.specs.Bits.{bit_of}

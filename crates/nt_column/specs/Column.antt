@@ -1,7 +1,10 @@
 -- Columns, as their buffers hold them.
-use Rattle.std.specs.Prelude.{ℕ, zero, suc, List, [], ◌∷◌, ◌++◌, map, take, min, slice_index_or, slice_get, replicate, Option}
+use Rattle.std.specs.Prelude.{◌≡◌, ◌≢◌, ◌<◌, ◌^◌, ℕ, zero, suc, List, [], ◌∷◌, ◌++◌, map, take, min, slice_index_or, slice_get}
+use Rattle.std.specs.Prelude.{replicate, Option}
 use Rattle.std.specs.Option.{option_map}
 use Rattle.nt_types.specs.declared.column_type.ColumnType.{ColumnType}
+use Rattle.nt_types.specs.declared.column_type.ColumnType.TheVariants.{Switch}
+use Rattle.nt_types.specs.ColumnTable.{bits_of}
 use Rattle.nt_column.specs.Elements.{Element, plain, AreElementsOf}
 
 -- a column: its type, its elements, and how many of them are kept as a count of zeros, which is none or all
@@ -52,3 +55,9 @@ kind_at cs k = option_map (λ (c : Column). c.kind) (slice_get cs k)
 -- each element of a column is one of its type
 abbrev pub IsInRange : Column → Type 0
 IsInRange c = AreElementsOf c.kind c.elements
+
+-- a value of the column's type, which keeps its elements as single numbers
+pub record Takes (c : Column) (value : ℕ) : Type 0 where
+  pub other : c.kind ≢ Switch
+  pub stored : c.zeros ≡ 0
+  pub fits : value < 2 ^ bits_of c.kind

@@ -1,17 +1,19 @@
 //! A column in memory, whose elements are added one after the other.
 
-ghost use Rattle.std.specs.Prelude.{◌≡◌, ◌≢◌, ◌+◌, ◌-◌, ◌<◌, ◌≤◌, ◌^◌, [], ◌∷◌, length, map, slice_index, IsTrue, IsSome, IfSome, OnOk, IfOk, IsOkAnd};
+ghost use Rattle.std.specs.Prelude.{◌≡◌, ◌+◌, ◌-◌, ◌<◌, ◌≤◌, ◌^◌, [], ◌∷◌, length, map, slice_index, IsTrue, IsSome, IfSome, OnOk, IfOk, IsOkAnd};
 ghost use Rattle.std.specs.List.{slice_range};
 ghost use Rattle.nt_types.specs.declared.column_type.ColumnType.TheVariants.{Switch};
 ghost use Rattle.nt_types.specs.ColumnTable.{bits_of};
 ghost use Rattle.nt_encode.specs.Pages.{page_size};
 ghost use Rattle.nt_column.specs.Elements.{plain, numbers, tags, text_of, page_of, page_elements};
 ghost use Rattle.nt_column.specs.Cow.{cow_items, is_borrowed};
-ghost use Rattle.nt_column.specs.Column.{empty, zeroed, with_more, cut_to, IsInRange};
+ghost use Rattle.nt_column.specs.Column.{empty, zeroed, with_more, cut_to, IsInRange, Takes};
 ghost use Rattle.nt_lists.specs.Chunks.{chunks};
 
 use crate::cow::{CowSlice, lent};
+use crate::low_bytes::low_bytes;
 use crate::store::Store;
+use crate::store_page::encode_store;
 use crate::zero_page::encode_zeros;
 use nt_types::ColumnType;
 use std::alloc::{AllocError, Global};
@@ -98,9 +100,7 @@ impl ColumnBuf {
 
     /// Adds an element of any type but Switch.
     pub fn push(&mut self, value: u64)
-        requires kind { self.old.column.kind ≢ Switch }
-        requires stored { self.old.column.zeros ≡ 0 }
-        requires fits { value < 2 ^ bits_of self.old.column.kind }
+        requires takes { Takes self.old.column value }
         requires spare { 1 ≤ self.old.spare }
         ensures column { self.new.column ≡ with_more self.old.column (plain value ∷ []) }
         ensures spare { self.old.spare ≤ self.new.spare + 1 }
@@ -191,19 +191,18 @@ impl ColumnBuf {
     }
 
     /// Writes the page of the elements from one place to before another, in the coding of the
-    /// column's type. `words` is room for their numbers.
-    pub fn encode(&self, from: usize, to: usize, words: &mut [u64], out: &mut [u8])
+    /// column's type.
+    pub fn encode(&self, from: usize, to: usize, out: &mut [u8])
         requires order { from ≤ to }
         requires within { to ≤ length self.now.column.elements }
-        requires words { to - from ≤ length words.old }
         requires length { length out.old ≡ page_size self.now.column.kind (to - from) }
         ensures { out.new ≡ page_of self.now.column.kind
             (slice_range self.now.column.elements from to) }
     {
         if self.zeros > 0 {
-            encode_zeros(self.kind, to - from, words, out);
+            encode_zeros(self.kind, to - from, out);
         } else {
-            self.store.encode(self.kind, from, to, words, out);
+            encode_store(&self.store, self.kind, from, to, out);
         }
     }
 
@@ -224,7 +223,7 @@ impl ColumnBuf {
     {
         match self.bytes() {
             Some(bytes) => Ok(lent(bytes, from, to)),
-            None => Ok(CowSlice::Owned(self.low_bytes(alloc, from, to)?)),
+            None => Ok(CowSlice::Owned(low_bytes(self, alloc, from, to)?)),
         }
     }
 
@@ -239,19 +238,5 @@ impl ColumnBuf {
         } else {
             self.store.bytes()
         }
-    }
-
-    /// A copy of the low bytes.
-    fn low_bytes(&self, alloc: Global, from: usize, to: usize) -> Result<Vec<u8>, AllocError>
-        requires order { from ≤ to }
-        requires within { to ≤ length self.now.column.elements }
-        ensures { IfOk result
-            (λ v. v.items ≡ text_of (slice_range self.now.column.elements from to)) }
-    {
-        let mut bytes = Vec::with_capacity(alloc, to - from)?;
-        for i in from..to {
-            bytes.push((self.number(i) % 256) as u8)?;
-        }
-        Ok(bytes)
     }
 }

@@ -93,20 +93,28 @@ pub fn push_64(list: &mut Vec<u64>, kind: ColumnType, bytes: &[u8], count: usize
     }
 }
 
-/// Adds the indices and tags of a page of pairs.
-pub fn push_pairs(indices: &mut Vec<u64>, tags: &mut Vec<u32>, bytes: &[u8], count: usize)
+/// Adds the indices of a page of pairs.
+pub fn push_indices(list: &mut Vec<u64>, bytes: &[u8], count: usize)
     requires length { length bytes.now ≡ 12 * count }
-    requires indices { vec_len indices.old + count ≤ vec_capacity indices.old }
-    requires tags { vec_len tags.old + count ≤ vec_capacity tags.old }
-    ensures indices { indices.new.items ≡ indices.old.items ++ switch_indices count bytes.now }
-    ensures tags { tags.new.items ≡ tags.old.items ++ switch_tags count bytes.now }
-    ensures indices_room { HasGrown count (vec_len indices.old) (vec_capacity indices.old)
-        (vec_len indices.new) (vec_capacity indices.new) }
-    ensures tags_room { HasGrown count (vec_len tags.old) (vec_capacity tags.old)
-        (vec_len tags.new) (vec_capacity tags.new) }
+    requires room { vec_len list.old + count ≤ vec_capacity list.old }
+    ensures items { list.new.items ≡ list.old.items ++ switch_indices count bytes.now }
+    ensures room { HasGrown count (vec_len list.old) (vec_capacity list.old) (vec_len list.new)
+        (vec_capacity list.new) }
 {
     for i in 0..count {
-        indices.push_reserved(index_of_pair(bytes, count, i));
-        tags.push_reserved(tag_of_pair(bytes, count, i));
+        list.push_reserved(index_of_pair(bytes, count, i));
+    }
+}
+
+/// Adds the tags of a page of pairs.
+pub fn push_tags(list: &mut Vec<u32>, bytes: &[u8], count: usize)
+    requires length { length bytes.now ≡ 12 * count }
+    requires room { vec_len list.old + count ≤ vec_capacity list.old }
+    ensures items { list.new.items ≡ list.old.items ++ switch_tags count bytes.now }
+    ensures room { HasGrown count (vec_len list.old) (vec_capacity list.old) (vec_len list.new)
+        (vec_capacity list.new) }
+{
+    for i in 0..count {
+        list.push_reserved(tag_of_pair(bytes, count, i));
     }
 }

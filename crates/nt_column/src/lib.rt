@@ -4,7 +4,7 @@
 //! `reserve` does it before. `Columns` is how others read columns; keep it free of buffers.
 //!
 //! Where to start: `buffer.rt` with `specs/Column` (what a buffer holds) and `specs/Elements` (the
-//! elements and their page); `set.rt` and `columns.rt` for columns by id.
+//! elements and their page); `store_page.rt` for the pages of each width; `set.rt` and `columns.rt` for columns by id.
 //!
 //! Words: an *element* is a number and a tag, which is 0 but in a Switch; a *plain* element has
 //! tag 0; *zeros* are a column kept as its count; *spare* is how many elements can still be pushed.
@@ -20,8 +20,7 @@
 //!
 //! Choices that bind nobody else:
 //! - A buffer keeps elements in a vector of their width: bytes for types of 8 bits, single truth values, words of 16, 32 and 64
-//!   bits; a Switch in one of indices and one of tags. Most columns are narrow, and bytes and 64-bit words are coded as they lie.
-//! - Narrow words are coded through a page of 64-bit words that the caller lends and uses again: a page is copied once.
+//!   bits; a Switch in one of indices and one of tags. All are coded as they lie.
 //! - The text of a column that hasn't 8 bits is the low bytes of its elements, as a copy: the call has an answer for each column,
 //!   and needs no condition on types. A text is lent where the column has 8 bits and keeps its elements.
 //! - A column that isn't in a set has no elements: `len` has an answer for each number.
@@ -32,10 +31,12 @@ mod columns;
 mod cow;
 mod filling;
 mod laws;
+mod low_bytes;
 mod pairs;
 mod ranges;
 mod set;
 mod store;
+mod store_page;
 mod widths;
 mod zero_page;
 

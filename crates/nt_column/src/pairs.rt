@@ -8,7 +8,7 @@ ghost use Rattle.nt_types.specs.declared.column_type.ColumnType.TheVariants.{Swi
 ghost use Rattle.nt_types.specs.ColumnTable.{bits_of};
 ghost use Rattle.nt_column.specs.Widths.{pair_width};
 
-use crate::filling::push_pairs;
+use crate::filling::{push_indices, push_tags};
 use crate::ranges::pairs_in_range;
 use nt_encode::encode_switch;
 use nt_types::ColumnType;
@@ -90,7 +90,8 @@ impl PairList {
             ++ page_elements Switch count bytes.now }
         ensures spare { self.old.spare ≤ self.new.spare + count }
     {
-        push_pairs(&mut self.indices, &mut self.tags, bytes, count);
+        push_indices(&mut self.indices, bytes, count);
+        push_tags(&mut self.tags, bytes, count);
     }
 
     /// Drops the pairs behind the first ones.

@@ -5,13 +5,12 @@ ghost use Rattle.std.specs.List.{slice_range};
 ghost use Rattle.nt_types.specs.ColumnTable.{bits_of};
 ghost use Rattle.nt_encode.specs.Pages.{page_size};
 ghost use Rattle.nt_column.specs.Elements.{plain, numbers, tags, page_of, page_elements, AreElementsOf};
-ghost use Rattle.nt_column.specs.Store.{elements_of, width_of, spare_of};
+ghost use Rattle.nt_column.specs.Store.{elements_of, width_of, spare_of, TakesPage, TakesValue};
 ghost use Rattle.nt_column.specs.Widths.{pair_width};
 
 use crate::filling::{push_8, push_16, push_32, push_64, push_bits};
 use crate::pairs::PairList;
 use crate::ranges::{bits_in_range, bytes_in_range, in_range_16, in_range_32, in_range_64};
-use crate::widths::{encode_16, encode_32, encode_64, encode_bits, encode_bytes};
 use nt_types::ColumnType;
 use std::alloc::{AllocError, Global};
 
@@ -90,8 +89,7 @@ impl Store {
 
     /// Adds an element of any type but Switch.
     pub fn push(&mut self, value: u64)
-        requires kind { width_of self.old ≢ pair_width }
-        requires fits { value < 2 ^ width_of self.old }
+        requires takes { TakesValue self.old value }
         requires spare { 0 < spare_of self.old }
         ensures elements { elements_of self.new ≡ elements_of self.old ++ plain value ∷ [] }
         ensures width { width_of self.new ≡ width_of self.old }
@@ -140,8 +138,7 @@ impl Store {
 
     /// Adds the elements of a page of so many.
     pub fn push_page(&mut self, kind: ColumnType, bytes: &[u8], count: usize)
-        requires kind { width_of self.old ≡ bits_of kind }
-        requires length { length bytes.now ≡ page_size kind count }
+        requires takes { TakesPage self.old kind count bytes.now }
         requires spare { count ≤ spare_of self.old }
         ensures elements { elements_of self.new ≡ elements_of self.old
             ++ page_elements kind count bytes.now }
@@ -225,33 +222,6 @@ impl Store {
         match self {
             Store::Bytes(list) => Some(list),
             _ => None,
-        }
-    }
-
-    /// Writes the page of the elements from one place to before another. `words` is room for
-    /// their numbers.
-    pub fn encode(
-        &self,
-        kind: ColumnType,
-        from: usize,
-        to: usize,
-        words: &mut [u64],
-        out: &mut [u8],
-    )
-        requires kind { width_of self.now ≡ bits_of kind }
-        requires order { from ≤ to }
-        requires within { to ≤ length (elements_of self.now) }
-        requires words { to - from ≤ length words.old }
-        requires length { length out.old ≡ page_size kind (to - from) }
-        ensures { out.new ≡ page_of kind (slice_range (elements_of self.now) from to) }
-    {
-        match self {
-            Store::Bits(list) => encode_bits(kind, &list[from..to], words, out),
-            Store::Bytes(list) => encode_bytes(kind, &list[from..to], out),
-            Store::Words16(list) => encode_16(kind, &list[from..to], words, out),
-            Store::Words32(list) => encode_32(kind, &list[from..to], words, out),
-            Store::Words64(list) => encode_64(kind, &list[from..to], out),
-            Store::Pairs(pairs) => pairs.encode(from, to, out),
         }
     }
 }

@@ -4,7 +4,7 @@ use Rattle.std.proofs.Common.{add-one, refl}
 use Rattle.std.proofs.lemmas.Bool.{cases_lt}
 use Rattle.std.proofs.Math.Nat.{suc-mul, mul-le-mul_right, mul_comm, mod-lt, mod-add-div', div-lt_iff_lt-mul}
 use Rattle.nt_encode.specs.Digits.{digit_of}
-use Rattle.nt_encode.specs.Split.{HasElements, split_byte, split_bytes}
+use Rattle.nt_encode.specs.Split.{HasElements, IsWritten, split_byte, split_bytes}
 use Rattle.nt_encode.proofs.Lists.{list_of_filled, Filled}
 use Rattle.nt_encode.proofs.Rows.{row-within}
 
@@ -89,3 +89,8 @@ pub HasElements-all : (k : ℕ) (words bytes : List ℕ) (n : ℕ) → length wo
     → bytes ≡ split_bytes k words
 HasElements-all k words bytes n count =
     subst (λ (m : ℕ). length bytes ≡ k * m → HasElements k m words m bytes → bytes ≡ split_bytes k words) count (all-elements k words bytes)
+
+pub IsWritten-all : (k : ℕ) (words bytes : List ℕ) (n m : ℕ) → length words ≡ n → m ≡ n → IsWritten k n words m bytes
+    → bytes ≡ split_bytes k words
+IsWritten-all k words bytes n m count all written =
+    HasElements-all k words bytes n count written.size (subst (λ (x : ℕ). HasElements k n words x bytes) all written.elements)

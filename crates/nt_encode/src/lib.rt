@@ -5,13 +5,15 @@
 //!
 //! Where to start: `page.rt` and `specs/Pages` (the page of each type), `specs/Elements` (a page's
 //! values as elements), then a file of each for a
-//! coding: plain, split, zigzag, delta, bits, switch.
+//! coding: plain, split, zigzag, delta, bits, switch. `words_16.rt` and `words_32.rt` write pages of
+//! words of these bits.
 //!
 //! Words: an *element* is a value as it stands in a page, a *value* a number below two to the
 //! type's bits, signed ones as their two's complement; *width* counts the bytes of an element.
 //!
 //! Proved: `encode` gives the page of its values, with padding 0, and `decode` the values of a
-//! page, which fit its type, by `page_bytes` and `page_values`; the same of pairs
+//! page, which fit its type, by `page_bytes` and `page_values`; `encode_bits`, `encode_16` and
+//! `encode_32` give the same pages of truth values and of narrower words; the same of pairs
 //! (`encode_switch`, `decode_switch`); the size of a page (`size_of`); what is encoded is decoded
 //! again (`pages_are_spelled`, `switches_are_spelled`), and of all types alike as elements, by
 //! `page_of` and `page_elements` (`elements_are_spelled`, `elements_are_in_range`).
@@ -21,7 +23,10 @@
 //! Choices that bind nobody else:
 //! - A split page is read an element at a time, whose bytes lie apart, with nothing kept between elements. It is written by blocks
 //!   of 32 elements, whose words are made once and then put into all planes: making them anew for each plane took up to 1.7 times
-//!   as long.
+//!   as long. Words of 16 and of 32 bits are written as they lie, by blocks of their own width: widened ones fill as many lanes of
+//!   a vector as 64-bit words do.
+//! - Truth values, which lie in a byte each, are coded eight at a time, by three shifts and sums of one word: by single bits it took
+//!   three times as long.
 //! - The benchmark compares with one plain loop in C over the elements, in a build that keeps it as it is and in one that
 //!   vectorises it: it is what a C programmer would write.
 #![tactic(auto)]
@@ -36,11 +41,13 @@ mod plain;
 mod split;
 mod switch;
 mod value;
+mod words_16;
+mod words_32;
 mod zigzag;
 
 pub use laws::{
     elements_are_in_range, elements_are_spelled, pages_are_spelled, switches_are_spelled,
 };
-pub use page::{decode, encode, size_of};
+pub use page::{decode, encode, encode_16, encode_32, encode_bits, size_of};
 pub use switch::{decode_switch, encode_switch, index_of_pair, tag_of_pair};
 pub use value::value_at;

@@ -1,13 +1,16 @@
 //! A page of any column type.
 
-ghost use Rattle.std.specs.Prelude.{◌≡◌, ◌≢◌, ◌≤◌, ◌^◌, length};
+ghost use Rattle.std.specs.Prelude.{◌≡◌, ◌≢◌, ◌≤◌, ◌^◌, length, map};
 ghost use Rattle.nt_types.specs.declared.column_type.ColumnType.TheVariants.{Switch};
+ghost use Rattle.nt_types.specs.ColumnTable.{bits_of};
+ghost use Rattle.nt_encode.specs.Bits.{bit_of};
 ghost use Rattle.nt_encode.specs.Pages.{page_size, page_values, page_bytes, AllFit};
 
-use crate::bits::{put_bits, take_bits};
+use crate::bits::{put_bits, put_flags, take_bits};
 use crate::form::Form;
 use crate::plain::{put_plain, take_plain};
 use crate::split::{put_split, take_indices, take_signed, take_split};
+use crate::{words_16, words_32};
 use nt_types::ColumnType;
 
 /// The bytes of a page of so many elements.
@@ -60,6 +63,49 @@ pub fn encode(kind: ColumnType, values: &[u64], out: &mut [u8])
         ColumnType::SplitUInt64 => put_split(Form::Own, values, 8, out),
         ColumnType::SplitIndex32 => put_split(Form::Delta, values, 4, out),
         ColumnType::SplitIndex64 => put_split(Form::Delta, values, 8, out),
+    }
+}
+
+/// Writes a page of a type of one bit, as `encode` does of 1 for true and 0 for false.
+pub fn encode_bits(kind: ColumnType, values: &[bool], out: &mut [u8])
+    requires kind { bits_of kind ≡ 1 }
+    requires length { length out.old ≡ page_size kind (length values.now) }
+    ensures { out.new ≡ page_bytes kind (map bit_of values.now) }
+{
+    match kind {
+        ColumnType::Bit => put_flags(values, out),
+        _ => unreachable!(),
+    }
+}
+
+/// Writes a page of a type of 16 bits, as `encode` does of the same numbers.
+pub fn encode_16(kind: ColumnType, values: &[u16], out: &mut [u8])
+    requires kind { bits_of kind ≡ 16 }
+    requires length { length out.old ≡ page_size kind (length values.now) }
+    ensures { out.new ≡ page_bytes kind values.now }
+{
+    match kind {
+        ColumnType::Int16 | ColumnType::UInt16 => words_16::put_plain(values, out),
+        ColumnType::SplitInt16 => words_16::put_split(Form::Zigzag, values, out),
+        ColumnType::SplitUInt16 => words_16::put_split(Form::Own, values, out),
+        _ => unreachable!(),
+    }
+}
+
+/// Writes a page of a type of 32 bits, as `encode` does of the same numbers.
+pub fn encode_32(kind: ColumnType, values: &[u32], out: &mut [u8])
+    requires kind { bits_of kind ≡ 32 }
+    requires length { length out.old ≡ page_size kind (length values.now) }
+    ensures { out.new ≡ page_bytes kind values.now }
+{
+    match kind {
+        ColumnType::Int32 | ColumnType::UInt32 | ColumnType::Index32 => {
+            words_32::put_plain(values, out)
+        }
+        ColumnType::SplitInt32 => words_32::put_split(Form::Zigzag, values, out),
+        ColumnType::SplitUInt32 => words_32::put_split(Form::Own, values, out),
+        ColumnType::SplitIndex32 => words_32::put_split(Form::Delta, values, out),
+        _ => unreachable!(),
     }
 }
 

@@ -2,8 +2,9 @@
 
 ghost use Rattle.std.specs.Prelude.{◌≡◌, ℕ, ◌+◌, ◌*◌, ◌<◌, ◌≤◌, ◌^◌, length, slice_index, All};
 ghost use Rattle.nt_encode.specs.Digits.{digit_of};
-ghost use Rattle.nt_encode.specs.Split.{split_values, split_bytes, HasElements};
+ghost use Rattle.nt_encode.specs.Split.{split_values, split_bytes, IsBlock, IsWritten};
 ghost use Rattle.nt_encode.specs.Forms.{words_of};
+ghost use Rattle.nt_encode.specs.Plain.{IsWidth};
 ghost use Rattle.nt_encode.specs.Zigzag.{zigzag_values};
 ghost use Rattle.nt_encode.specs.Delta.{delta_values};
 
@@ -52,15 +53,12 @@ fn put_plane(words: &[u64], j: usize, start: usize, out: &mut [u8])
 /// Writes the bytes of a block of elements, where those of the elements before it are written.
 #[inline(always)]
 fn put_block(form: Form, values: &[u64], width: usize, from: usize, len: usize, out: &mut [u8])
-    requires width { width ≤ 8 }
-    requires some { 0 < width }
+    requires width { IsWidth width }
     requires fits { All (λ v. v < 2 ^ (8 * width)) values.now }
-    requires length { length out.old ≡ width * length values.now }
-    requires block { len ≤ 32 }
-    requires within { from + len ≤ length values.now }
-    requires before { HasElements width (length values.now)
-        (words_of form width values.now) from out.old }
-    ensures { HasElements width (length values.now) (words_of form width values.now)
+    requires block { IsBlock (length values.now) from len }
+    requires before { IsWritten width (length values.now) (words_of form width values.now)
+        from out.old }
+    ensures { IsWritten width (length values.now) (words_of form width values.now)
         (from + len) out.new }
 {
     let mut words = [0; BLOCK];

@@ -1,14 +1,13 @@
 //! Single values of a page.
 
-ghost use Rattle.std.specs.Prelude.{◌≡◌, ◌≢◌, ◌+◌, ◌*◌, ◌/◌, ◌<◌, ◌≤◌, ◌^◌, length, slice_index};
-ghost use Rattle.nt_types.specs.declared.column_type.ColumnType.TheVariants.{Switch};
+ghost use Rattle.std.specs.Prelude.{◌≡◌, ◌+◌, ◌*◌, ◌/◌, ◌<◌, ◌≤◌, ◌^◌, length, slice_index};
 ghost use Rattle.nt_types.specs.ColumnTable.{bits_of};
 ghost use Rattle.nt_encode.specs.Bits.{bit_values};
 ghost use Rattle.nt_encode.specs.Plain.{plain_values};
 ghost use Rattle.nt_encode.specs.Split.{split_values};
 ghost use Rattle.nt_encode.specs.Zigzag.{zigzag_values};
 ghost use Rattle.nt_encode.specs.Delta.{delta_values, index_before};
-ghost use Rattle.nt_encode.specs.Pages.{page_size, page_values};
+ghost use Rattle.nt_encode.specs.Pages.{page_values, IsPage};
 
 use crate::delta::sum_within;
 use crate::number::number_at;
@@ -18,8 +17,7 @@ use nt_types::ColumnType;
 /// Value i of a page of so many, of any type but Switch. `before` is the value before it, or 0.
 #[inline(always)]
 pub fn value_at(kind: ColumnType, bytes: &[u8], count: usize, i: usize, before: u64) -> u64
-    requires kind { kind ≢ Switch }
-    requires length { length bytes.now ≡ page_size kind count }
+    requires page { IsPage kind count bytes.now }
     requires within { i < count }
     requires before { before ≡ index_before (page_values kind count bytes.now) i }
     ensures value { result ≡ slice_index (page_values kind count bytes.now) i }
@@ -31,8 +29,7 @@ pub fn value_at(kind: ColumnType, bytes: &[u8], count: usize, i: usize, before: 
 /// Value i of a page, whose coding is that of the type.
 #[inline(always)]
 fn read_value(kind: ColumnType, bytes: &[u8], count: usize, i: usize, before: u64) -> u64
-    requires kind { kind ≢ Switch }
-    requires length { length bytes.now ≡ page_size kind count }
+    requires page { IsPage kind count bytes.now }
     requires within { i < count }
     requires before { before ≡ index_before (page_values kind count bytes.now) i }
     ensures { result ≡ slice_index (page_values kind count bytes.now) i }

@@ -1,6 +1,6 @@
 -- The bytes of a cluster: its columns one after the other, each cut into pages.
 -- RNTuple Binary Format Specification 1.0.0.0, sections Pages and Clusters.
-use Rattle.std.specs.Prelude.{ℕ, ◌^◌, List, ◌++◌, replicate}
+use Rattle.std.specs.Prelude.{ℕ, ◌-◌, ◌^◌, ◌<◌, ◌≤◌, List, ◌++◌, replicate}
 use Rattle.std.specs.List.{flat_map}
 use Rattle.std.specs.Int.{w64, to_le_bytes}
 use Rattle.nt_types.specs.declared.column_type.ColumnType.{ColumnType}
@@ -20,6 +20,17 @@ checksum_len = 8
 -- the most elements of a page
 abbrev pub max_page : ℕ
 max_page = 2 ^ 20
+
+-- how many elements pages may have at most
+pub record IsPageLimit (page : ℕ) : Type 0 where
+  pub some : 0 < page
+  pub most : page ≤ max_page
+
+-- a part of n elements that may be a page
+pub record IsPart (n from to : ℕ) : Type 0 where
+  pub order : from ≤ to
+  pub within : to ≤ n
+  pub few : to - from ≤ max_page
 
 -- a page as it is stored, with the XXH3-64 of its bytes behind them
 abbrev pub stored_page : ColumnType → List Element → List ℕ

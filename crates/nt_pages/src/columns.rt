@@ -1,9 +1,9 @@
 //! The pages of columns, one column after the other.
 
-ghost use Rattle.std.specs.Prelude.{◌≡◌, ◌-◌, ◌<◌, ◌≤◌, ◌++◌, length, min, OnOk, IfOk};
+ghost use Rattle.std.specs.Prelude.{◌≡◌, ◌-◌, ◌≤◌, ◌++◌, length, OnOk, IfOk};
 ghost use Rattle.nt_lists.specs.Chunks.{chunks};
 ghost use Rattle.nt_column.specs.Column.{columns_of};
-ghost use Rattle.nt_pages.specs.Image.{key_room, max_page, column_bytes, payload};
+ghost use Rattle.nt_pages.specs.Image.{key_room, column_bytes, payload, IsPageLimit};
 ghost use Rattle.nt_pages.specs.Metas.{page_metas, column_metas};
 
 use crate::page::put_page;
@@ -11,27 +11,14 @@ use nt_book::{PageList, PageMeta};
 use nt_column::{ColumnBuf, ColumnSet};
 use std::alloc::{AllocError, Global};
 
-/// Makes room for at least so many numbers.
-fn widen(words: &mut Vec<u64>, count: usize) -> Result<(), AllocError>
-    ensures { OnOk result (count ≤ length words.new.items) }
-{
-    if words.len() < count {
-        words.resize(count, 0)?;
-    }
-    Ok(())
-}
-
-/// Appends the pages of a column. `words` is room for the numbers of a page.
+/// Appends the pages of a column.
 pub fn put_column(
     alloc: Global,
     buffer: &ColumnBuf,
     page: u32,
-    words: &mut [u64],
     image: &mut Vec<u8>,
 ) -> Result<Vec<PageMeta>, AllocError>
-    requires some { 0 < page }
-    requires most { page ≤ max_page }
-    requires words { min (length buffer.now.column.elements) page ≤ length words.old }
+    requires limit { IsPageLimit page }
     requires room { key_room ≤ length image.old.items }
     ensures image { OnOk result
         (image.new.items ≡ image.old.items ++ column_bytes page buffer.now.column) }
@@ -42,7 +29,7 @@ pub fn put_column(
     let pages = buffer.page_cut(page);
     let mut metas = Vec::with_capacity(alloc, pages)?;
     for i in 0..pages {
-        metas.push(put_page(buffer, page, i, words, image)?)?;
+        metas.push(put_page(buffer, page, i, image)?)?;
     }
     Ok(metas)
 }
@@ -55,20 +42,17 @@ pub fn put_columns(
     page: u32,
     image: &mut Vec<u8>,
 ) -> Result<Vec<PageList>, AllocError>
-    requires some { 0 < page }
-    requires most { page ≤ max_page }
+    requires limit { IsPageLimit page }
     requires count { count ≡ length columns.now }
     requires room { length image.old.items ≡ key_room }
     ensures image { OnOk result
         (image.new.items ≡ image.old.items ++ payload page (columns_of columns.now)) }
     ensures metas { IfOk result (λ v. v.items ≡ column_metas page 0 (columns_of columns.now)) }
 {
-    let mut words = Vec::new(alloc);
     let mut lists = Vec::with_capacity(alloc, count as usize)?;
     for k in 0..count {
         let buffer = columns.column(k);
-        widen(&mut words, buffer.len().min(page as usize))?;
-        let metas = put_column(alloc, buffer, page, &mut words, image)?;
+        let metas = put_column(alloc, buffer, page, image)?;
         lists.push(PageList::from_vec(metas))?;
     }
     Ok(lists)

@@ -1,10 +1,10 @@
 //! A page, encoded in place and hashed right after.
 
-ghost use Rattle.std.specs.Prelude.{◌≡◌, ◌+◌, ◌-◌, ◌<◌, ◌≤◌, [], ◌++◌, length, min, slice_index_or, OnOk, IfOk};
+ghost use Rattle.std.specs.Prelude.{◌≡◌, ◌+◌, ◌-◌, ◌<◌, ◌≤◌, [], ◌++◌, length, slice_index_or, OnOk, IfOk};
 ghost use Rattle.std.specs.List.{slice_range};
 ghost use Rattle.nt_encode.specs.Pages.{page_size};
 ghost use Rattle.nt_lists.specs.Chunks.{chunks};
-ghost use Rattle.nt_pages.specs.Image.{key_room, checksum_len, max_page, stored_page};
+ghost use Rattle.nt_pages.specs.Image.{key_room, checksum_len, stored_page, IsPageLimit, IsPart};
 ghost use Rattle.nt_pages.specs.Metas.{page_meta};
 
 use nt_book::PageMeta;
@@ -19,16 +19,15 @@ pub const ROOM: usize = 42;
 pub const CHECKSUM: usize = 8;
 
 /// Writes the page of the elements from one place to before another, and its checksum.
-fn write_page(buffer: &ColumnBuf, from: usize, to: usize, words: &mut [u64], out: &mut [u8])
+fn write_page(buffer: &ColumnBuf, from: usize, to: usize, out: &mut [u8])
     requires order { from ≤ to }
     requires within { to ≤ length buffer.now.column.elements }
-    requires words { to - from ≤ length words.old }
     requires length { length out.old ≡ page_size buffer.now.column.kind (to - from) + checksum_len }
     ensures { out.new ≡ stored_page buffer.now.column.kind
         (slice_range buffer.now.column.elements from to) }
 {
     let (page, checksum) = out.split_at_mut(out.len() - CHECKSUM);
-    buffer.encode(from, to, words, page);
+    buffer.encode(from, to, page);
     checksum.copy_from_slice(&nt_xxh3::sum(page).to_le_bytes());
 }
 
@@ -37,13 +36,9 @@ fn put_part(
     buffer: &ColumnBuf,
     from: usize,
     to: usize,
-    words: &mut [u64],
     image: &mut Vec<u8>,
 ) -> Result<PageMeta, AllocError>
-    requires order { from ≤ to }
-    requires within { to ≤ length buffer.now.column.elements }
-    requires few { to - from ≤ max_page }
-    requires words { to - from ≤ length words.old }
+    requires part { IsPart (length buffer.now.column.elements) from to }
     requires room { key_room ≤ length image.old.items }
     ensures image { OnOk result
         (image.new.items ≡ image.old.items ++ stored_page buffer.now.column.kind
@@ -55,7 +50,7 @@ fn put_part(
     let size = size_of(buffer.kind(), (to - from) as u64) as usize;
     let start = image.len();
     image.resize(start + size + CHECKSUM, 0)?;
-    write_page(buffer, from, to, words, &mut image[start..]);
+    write_page(buffer, from, to, &mut image[start..]);
     Ok(PageMeta {
         count: (to - from) as u32,
         place: (start - ROOM) as u64,
@@ -68,13 +63,10 @@ pub fn put_page(
     buffer: &ColumnBuf,
     page: u32,
     i: usize,
-    words: &mut [u64],
     image: &mut Vec<u8>,
 ) -> Result<PageMeta, AllocError>
-    requires some { 0 < page }
-    requires most { page ≤ max_page }
+    requires limit { IsPageLimit page }
     requires within { i < length (chunks page buffer.now.column.elements) }
-    requires words { min (length buffer.now.column.elements) page ≤ length words.old }
     requires room { key_room ≤ length image.old.items }
     ensures image { OnOk result
         (image.new.items ≡ image.old.items ++ stored_page buffer.now.column.kind
@@ -86,5 +78,5 @@ pub fn put_page(
     let count = buffer.len();
     let from = i * page as usize;
     let to = from + (count - from).min(page as usize);
-    put_part(buffer, from, to, words, image)
+    put_part(buffer, from, to, image)
 }

@@ -15,10 +15,9 @@ fn page(alloc: Global, buffer: &ColumnBuf, from: usize, to: usize) -> Result<Vec
     if from > to || to > buffer.len() || to - from > 64 {
         return Err(AllocError);
     }
-    let mut words = [9; 64];
     let size = size_of(buffer.kind(), (to - from) as u64);
     let mut bytes = vec![in alloc; 0xaa; size as usize]?;
-    buffer.encode(from, to, &mut words, &mut bytes);
+    buffer.encode(from, to, &mut bytes);
     Ok(bytes)
 }
 

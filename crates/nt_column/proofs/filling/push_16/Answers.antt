@@ -5,8 +5,9 @@ use Rattle.nt_column.proofs.Growing.{values-more, values-all, before-next}
 use Rattle.nt_column.proofs.Pages.{not_switch}
 use Rattle.nt_column.proofs.filling.push_16.Goals as goal
 
-pub value_at-last-requires-clause-kind : goal.value_at-last-requires-clause-kind
-value_at-last-requires-clause-kind c = not_switch c.args.kind 16 (sym c.requires.kind) (omega arith)
+pub value_at-last-requires-clause-page : goal.value_at-last-requires-clause-page
+value_at-last-requires-clause-page c =
+    record { other = not_switch c.args.kind 16 (sym c.requires.kind) (omega arith); size = c.requires.length }
 
 pub loop-i-preserved : goal.loop-i-preserved
 loop-i-preserved c =
