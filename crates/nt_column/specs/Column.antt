@@ -57,7 +57,7 @@ abbrev pub IsInRange : Column → Type 0
 IsInRange c = AreElementsOf c.kind c.elements
 
 -- a value of the column's type, which keeps its elements as single numbers
-pub record Takes (c : Column) (value : ℕ) : Type 0 where
+pub record TakesNumber (c : Column) (value : ℕ) : Type 0 where
   pub other : c.kind ≢ Switch
   pub stored : c.zeros ≡ 0
   pub fits : value < 2 ^ bits_of c.kind

@@ -7,7 +7,7 @@ ghost use Rattle.nt_types.specs.ColumnTable.{bits_of};
 ghost use Rattle.nt_encode.specs.Pages.{page_size};
 ghost use Rattle.nt_column.specs.Elements.{plain, numbers, tags, text_of, page_of, page_elements};
 ghost use Rattle.nt_column.specs.Cow.{cow_items, is_borrowed};
-ghost use Rattle.nt_column.specs.Column.{empty, zeroed, with_more, cut_to, IsInRange, Takes};
+ghost use Rattle.nt_column.specs.Column.{empty, zeroed, with_more, cut_to, IsInRange, TakesNumber};
 ghost use Rattle.nt_lists.specs.Chunks.{chunks};
 
 use crate::cow::{CowSlice, lent};
@@ -100,7 +100,7 @@ impl ColumnBuf {
 
     /// Adds an element of any type but Switch.
     pub fn push(&mut self, value: u64)
-        requires takes { Takes self.old.column value }
+        requires takes { TakesNumber self.old.column value }
         requires spare { 1 ≤ self.old.spare }
         ensures column { self.new.column ≡ with_more self.old.column (plain value ∷ []) }
         ensures spare { self.old.spare ≤ self.new.spare + 1 }

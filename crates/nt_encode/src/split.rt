@@ -2,7 +2,7 @@
 
 ghost use Rattle.std.specs.Prelude.{◌≡◌, ℕ, ◌+◌, ◌*◌, ◌<◌, ◌≤◌, ◌^◌, length, slice_index, All};
 ghost use Rattle.nt_encode.specs.Digits.{digit_of};
-ghost use Rattle.nt_encode.specs.Split.{split_values, split_bytes, IsBlock, IsWritten};
+ghost use Rattle.nt_encode.specs.Split.{split_values, split_bytes, IsBlock, IsPagePart};
 ghost use Rattle.nt_encode.specs.Forms.{words_of};
 ghost use Rattle.nt_encode.specs.Plain.{IsWidth};
 ghost use Rattle.nt_encode.specs.Zigzag.{zigzag_values};
@@ -56,9 +56,9 @@ fn put_block(form: Form, values: &[u64], width: usize, from: usize, len: usize, 
     requires width { IsWidth width }
     requires fits { All (λ v. v < 2 ^ (8 * width)) values.now }
     requires block { IsBlock (length values.now) from len }
-    requires before { IsWritten width (length values.now) (words_of form width values.now)
+    requires before { IsPagePart width (length values.now) (words_of form width values.now)
         from out.old }
-    ensures { IsWritten width (length values.now) (words_of form width values.now)
+    ensures { IsPagePart width (length values.now) (words_of form width values.now)
         (from + len) out.new }
 {
     let mut words = [0; BLOCK];

@@ -4,7 +4,7 @@ ghost use Rattle.std.specs.Prelude.{◌≡◌, ◌≢◌, ℕ, ◌+◌, ◌*◌,
 ghost use Rattle.nt_encode.specs.declared.form.Form.TheVariants.{Delta};
 ghost use Rattle.nt_encode.specs.Digits.{digit_of};
 ghost use Rattle.nt_encode.specs.Plain.{plain_bytes};
-ghost use Rattle.nt_encode.specs.Split.{split_bytes, IsBlock, IsWritten};
+ghost use Rattle.nt_encode.specs.Split.{split_bytes, IsBlock, IsPagePart};
 ghost use Rattle.nt_encode.specs.Forms.{words_of};
 ghost use Rattle.nt_encode.specs.Zigzag.{zigzag_word};
 
@@ -88,8 +88,8 @@ fn put_plane(words: &[u16], j: usize, start: usize, out: &mut [u8])
 fn put_block(form: Form, values: &[u16], from: usize, len: usize, out: &mut [u8])
     requires form { form ≢ Delta }
     requires block { IsBlock (length values.now) from len }
-    requires before { IsWritten 2 (length values.now) (words_of form 2 values.now) from out.old }
-    ensures { IsWritten 2 (length values.now) (words_of form 2 values.now) (from + len) out.new }
+    requires before { IsPagePart 2 (length values.now) (words_of form 2 values.now) from out.old }
+    ensures { IsPagePart 2 (length values.now) (words_of form 2 values.now) (from + len) out.new }
 {
     let mut words = [0; BLOCK];
     let words = &mut words[..len];

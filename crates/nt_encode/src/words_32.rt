@@ -3,7 +3,7 @@
 ghost use Rattle.std.specs.Prelude.{◌≡◌, ℕ, ◌+◌, ◌*◌, ◌<◌, ◌≤◌, length, slice_index};
 ghost use Rattle.nt_encode.specs.Digits.{digit_of};
 ghost use Rattle.nt_encode.specs.Plain.{plain_bytes};
-ghost use Rattle.nt_encode.specs.Split.{split_bytes, IsBlock, IsWritten};
+ghost use Rattle.nt_encode.specs.Split.{split_bytes, IsBlock, IsPagePart};
 ghost use Rattle.nt_encode.specs.Forms.{words_of};
 ghost use Rattle.nt_encode.specs.Zigzag.{zigzag_word};
 ghost use Rattle.nt_encode.specs.Delta.{delta_word, index_before};
@@ -109,8 +109,8 @@ fn put_plane(words: &[u32], j: usize, start: usize, out: &mut [u8])
 #[inline(always)]
 fn put_block(form: Form, values: &[u32], from: usize, len: usize, out: &mut [u8])
     requires block { IsBlock (length values.now) from len }
-    requires before { IsWritten 4 (length values.now) (words_of form 4 values.now) from out.old }
-    ensures { IsWritten 4 (length values.now) (words_of form 4 values.now) (from + len) out.new }
+    requires before { IsPagePart 4 (length values.now) (words_of form 4 values.now) from out.old }
+    ensures { IsPagePart 4 (length values.now) (words_of form 4 values.now) (from + len) out.new }
 {
     let mut words = [0; BLOCK];
     let words = &mut words[..len];

@@ -27,7 +27,7 @@ pub record IsPageLimit (page : ℕ) : Type 0 where
   pub most : page ≤ max_page
 
 -- a part of n elements that may be a page
-pub record IsPart (n from to : ℕ) : Type 0 where
+pub record IsPageOfColumn (n from to : ℕ) : Type 0 where
   pub order : from ≤ to
   pub within : to ≤ n
   pub few : to - from ≤ max_page

@@ -4,7 +4,7 @@ ghost use Rattle.std.specs.Prelude.{◌≡◌, ◌+◌, ◌-◌, ◌<◌, ◌≤
 ghost use Rattle.std.specs.List.{slice_range};
 ghost use Rattle.nt_encode.specs.Pages.{page_size};
 ghost use Rattle.nt_lists.specs.Chunks.{chunks};
-ghost use Rattle.nt_pages.specs.Image.{key_room, checksum_len, stored_page, IsPageLimit, IsPart};
+ghost use Rattle.nt_pages.specs.Image.{key_room, checksum_len, stored_page, IsPageLimit, IsPageOfColumn};
 ghost use Rattle.nt_pages.specs.Metas.{page_meta};
 
 use nt_book::PageMeta;
@@ -38,7 +38,7 @@ fn put_part(
     to: usize,
     image: &mut Vec<u8>,
 ) -> Result<PageMeta, AllocError>
-    requires part { IsPart (length buffer.now.column.elements) from to }
+    requires part { IsPageOfColumn (length buffer.now.column.elements) from to }
     requires room { key_room ≤ length image.old.items }
     ensures image { OnOk result
         (image.new.items ≡ image.old.items ++ stored_page buffer.now.column.kind
