@@ -1,4 +1,4 @@
-use Rattle.std.proofs.Common.{[], ◌∷◌, arith}
+use Rattle.std.proofs.Common.{[], ◌∷◌, arith, rules}
 use Rattle.nt_column.specs.Elements.{plain}
 use Rattle.nt_shred.proofs.Ends.{end-fits-at}
 use Rattle.nt_shred.proofs.Sets.{spare-at, gains}
@@ -15,6 +15,11 @@ pub returns : goal.returns
 returns c = gains c.args.out.now c.args.column c.buffer.result.now c.push.new.self (plain c.args.end ∷ []) c.buffer.ensures.value
     c.push.ensures.column (omega (arith, c.push.ensures.spare))
 
-pub push-requires-clause-fits : goal.push-requires-clause-fits
-push-requires-clause-fits c = end-fits-at c.args.out.now c.args.column c.buffer.result.now c.args.end c.requires.column
-    c.buffer.ensures.value c.requires.end
+pub push-requires-clause-takes : goal.push-requires-clause-takes
+push-requires-clause-takes c =
+    record {
+      other = search rules;
+      stored = search rules;
+      fits = end-fits-at c.args.out.now c.args.column c.buffer.result.now c.args.end c.requires.column
+          c.buffer.ensures.value c.requires.end;
+    }
