@@ -72,7 +72,7 @@ pick-among (x ∷ l) zero t h = omega arith
 pick-among (x ∷ l) (suc zero) t h = omega arith
 pick-among (x ∷ l) (suc (suc tag)) t h = omega (arith, pick-among l (suc tag) t h)
 
-nth-read : (l : List Plan) (i : ℕ) (x : Plan) → i < length l → x ≡ get_or l i x → IsNth (plans_in l) (suc i) (plan_view x)
+pub nth-read : (l : List Plan) (i : ℕ) (x : Plan) → i < length l → x ≡ get_or l i x → IsNth (plans_in l) (suc i) (plan_view x)
 nth-read [] i x h is = absurd (omega arith)
 nth-read (y ∷ l) zero x h is = ap plan_view (sym is)
 nth-read (y ∷ l) (suc i) x h is = nth-read l i x (omega arith) is

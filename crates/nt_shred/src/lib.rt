@@ -1,8 +1,10 @@
 //! Trees to columns: the elements of an entry at the ends of the columns of a set.
 //!
 //! Start at `entry.rt` with nt_trees' `specs/Put` (what an entry adds), then `putting.rt`, the one
-//! walk over plans and trees. Every entry that is written comes through here, so keep it free of
-//! maps, of memory for single values, and of walks over the rows of a schema.
+//! walk over plans and trees. Its single steps are public too, for who adds values without trees:
+//! `reserve`, `push` and those beside it, `count` and `element`. Every entry that is written comes
+//! through these, so keep them free of maps, of memory for single values, and of walks over the rows
+//! of a schema.
 //!
 //! Words: those of nt_trees; a *frame* is what stays of a set of columns while it is filled; *room*
 //! is memory for elements, and ends that can count them; columns of ends are *narrow* where these
@@ -24,12 +26,16 @@
 #![tactic(auto)]
 
 mod counting;
-mod element;
 mod entry;
 mod growing;
+mod integers;
 mod most;
 mod parts;
 mod pushing;
 mod putting;
 
+pub use counting::count;
 pub use entry::shred;
+pub use growing::reserve;
+pub use integers::element;
+pub use pushing::{push, push_bytes, push_end, push_tag};

@@ -7,7 +7,7 @@ ghost use Rattle.nt_trees.specs.Views.{plans_in, trees_in};
 ghost use Rattle.nt_shred.specs.Steps.{Ready, ReadyAll, ReadyEach, Gains};
 
 use crate::counting::count;
-use crate::element::element;
+use crate::integers::element;
 use crate::parts::{Picked, flag_in, items_in, number_in, parts_in, pick_in, text_in};
 use crate::pushing::{push, push_bytes, push_end, push_tag};
 use nt_column::{ColumnSet, Columns};
