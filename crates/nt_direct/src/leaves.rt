@@ -1,0 +1,53 @@
+//! Values without parts.
+
+ghost use Rattle.std.specs.Prelude.{◌-◌, ◌≤◌, length};
+ghost use Rattle.nt_plans.specs.Plan.{bool, number, text};
+ghost use Rattle.nt_direct.specs.Walk.{CanPut, Puts, Leaves};
+
+use nt_column::{ColumnSet, Columns};
+use nt_event::{integer, plain_string, truth};
+use nt_shred::{element, push, push_bytes, push_end};
+
+/// Adds a truth value.
+pub fn flag(out: &mut ColumnSet, column: u32, line: &[u8], at: usize) -> Option<usize>
+    requires within { at ≤ length line.now }
+    requires can { CanPut (bool column) (length line.now - at) out.old }
+    ensures { Leaves (λ end. Puts (bool column) line.now at end out.old out.new) out.old out.new result }
+{
+    let (value, end) = truth(line, at)?;
+    push(out, column, u64::from(value));
+    Some(end)
+}
+
+/// Adds an integer.
+pub fn whole(
+    out: &mut ColumnSet,
+    column: u32,
+    bits: u8,
+    signed: bool,
+    line: &[u8],
+    at: usize,
+) -> Option<usize>
+    requires within { at ≤ length line.now }
+    requires can { CanPut (number column bits signed) (length line.now - at) out.old }
+    ensures { Leaves (λ end. Puts (number column bits signed) line.now at end out.old out.new)
+        out.old out.new result }
+{
+    let (value, end) = integer(line, at, bits, signed)?;
+    push(out, column, element(value, bits));
+    Some(end)
+}
+
+/// Adds a text, and its end.
+pub fn string(out: &mut ColumnSet, ends: u32, bytes: u32, line: &[u8], at: usize) -> Option<usize>
+    requires within { at ≤ length line.now }
+    requires can { CanPut (text ends bytes) (length line.now - at) out.old }
+    ensures { Leaves (λ end. Puts (text ends bytes) line.now at end out.old out.new)
+        out.old out.new result }
+{
+    let (inside, end) = plain_string(line, at)?;
+    push_bytes(out, bytes, inside);
+    let last = out.len(bytes);
+    push_end(out, ends, last);
+    Some(end)
+}

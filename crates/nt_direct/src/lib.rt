@@ -1,0 +1,26 @@
+//! Lines of event text straight to columns, without a tree in between.
+//!
+//! Start at [`Direct`] in `line.rt`: `put_line` reads a line as it adds its elements, or refuses it. Then
+//! `values.rt`, the one walk over plans and text, `leaves.rt`, the values without parts, and `room.rt`,
+//! what is done before and after a line. Nearly every entry that is written comes through here.
+//!
+//! Words: those of nt_event and nt_shred. A line is *taken* where its entry was added, and *refused* where
+//! nothing was; of a refused line nothing is said, and it is to be read as trees.
+//!
+//! Proved: of a line that is taken, that it spells trees which fit the schema, and that the columns have
+//! exactly what nt_shred adds of these (`TakesLine`); of a refused one, that no column has changed
+//! (`put_line`). Only tested: which lines are taken. Not proved: how long it takes.
+//!
+//! Choices that bind nobody else:
+//! - Refused are strings with escapes, lines above 4096 bytes, and those for which there is no memory.
+//! - Each element stands in the line as one byte at least. So room for as many elements as the line has
+//!   bytes is made in each column, and then nothing can fail.
+//! - What was added of a refused line is cut off again, at the lengths that were noted before.
+#![tactic(auto)]
+
+mod leaves;
+mod line;
+mod room;
+mod values;
+
+pub use line::Direct;
