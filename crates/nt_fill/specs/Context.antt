@@ -2,7 +2,7 @@
 use Rattle.std.specs.Prelude.{ℕ, ◌≡◌, ◌+◌, ◌≤◌, Bool, true, List, [], ◌∷◌, ◌++◌, map, length, Option}
 use Rattle.std.specs.List.{range_with_len}
 use Rattle.nt_types.specs.ShapeData.{MemberData}
-use Rattle.nt_types.specs.TreeData.{TreesData}
+use Rattle.nt_types.specs.TreeData.{TreeData, TreesData, trees_of}
 use Rattle.nt_types.specs.Rules.{AreFields}
 use Rattle.nt_grammar.specs.Table.{Table}
 use Rattle.nt_types.specs.ColumnTable.{code_of}
@@ -17,7 +17,9 @@ use Rattle.nt_column.specs.Column.{Column, elements_at}
 use Rattle.nt_pages.specs.Image.{max_page}
 use Rattle.nt_plans.specs.Place.{open_plans}
 use Rattle.nt_plans.specs.Types.{are_some}
+use Rattle.nt_trees.specs.Fits.{fits_entry}
 use Rattle.nt_trees.specs.TreeAt.{each_at}
+use Rattle.nt_event.specs.Standing.{SpellsTrees}
 use Rattle.nt_commit.specs.declared.locked.Birth.{Birth}
 use Rattle.nt_commit.specs.Holds.{IsPassOf, HasNoneOut}
 use Rattle.nt_layout.specs.Laid.{Gives}
@@ -63,6 +65,13 @@ module _ {E B P : Type 0} where
   pub record Gathers (entry : TreesData) (old new : FillState E B P) : Type 0 where
     pub entries : gathered new ≡ gathered old ++ entry ∷ []
     pub now : new ≡ record old { columns = new.columns; entries = old.entries + 1 }
+
+  -- a line spells an entry for the open fields, which is gathered
+  pub record GathersLine (line : List ℕ) (old new : FillState E B P) : Type 0 where
+    pub found : List TreeData
+    pub spells : SpellsTrees found line
+    pub fits : fits_entry old.table (trees_of found) ≡ true
+    pub gathers : Gathers (trees_of found) old new
 
 -- the pass is of the committer and no range of it is out; the columns give the entries, at most so many as a cluster has
 pub record IsGathering {D P : Type 0} (c : FillState (Entry ClusterMeta) (Birth D) P) : Type 0 where

@@ -14,6 +14,7 @@ use crate::columns::empty_columns;
 use nt_book::Params;
 use nt_column::ColumnSet;
 use nt_commit::{CommitError, Committer, CommitterOf, Locked};
+use nt_direct::Direct;
 use nt_outside::Disk;
 use nt_pages::{ClusterImage, build_in};
 use nt_schema::{Schema, described_fields_are_open};
@@ -47,6 +48,7 @@ pub(crate) struct Store {
     pub(crate) page: u32,
     /// Memory for the next image.
     pub(crate) spare: Vec<u8>,
+    pub(crate) direct: Direct,
 }
 
 impl Store {
@@ -162,6 +164,7 @@ impl<'a, D: Disk> FillContext<'a, D> {
                     cluster: params.cluster,
                     page: params.page,
                     spare: Vec::new(alloc),
+                    direct: Direct::new(alloc),
                 },
             }),
             Err(error) => Err((pass, pen, error)),

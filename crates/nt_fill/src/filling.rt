@@ -1,10 +1,10 @@
 //! Entries that are gathered.
 
-ghost use Rattle.std.specs.Prelude.{◌≡◌, ◌<◌, length, true, IsSome, OnOk, OnErr};
+ghost use Rattle.std.specs.Prelude.{◌≡◌, ◌<◌, length, true, IsSome, MatchBool, OnOk, OnErr};
 ghost use Rattle.nt_types.specs.TreeData.{trees_of};
 ghost use Rattle.nt_types.specs.TreeViews.{trees_view};
 ghost use Rattle.nt_trees.specs.Fits.{fits_entry};
-ghost use Rattle.nt_fill.specs.Context.{Gathers, gathered};
+ghost use Rattle.nt_fill.specs.Context.{Gathers, GathersLine, gathered};
 
 use crate::context::FillContext;
 use nt_column::Columns;
@@ -29,5 +29,25 @@ impl<'a, D: Disk> FillContext<'a, D> {
         self.store.columns.in_range();
         self.store.entries += 1;
         Ok(())
+    }
+
+    /// Gathers the entry of a line, its LF taken off, without a tree of it; and says whether it took the line. A line that it
+    /// didn't take is to be read.
+    pub fn fill_line(&mut self, line: &[u8]) -> bool
+        requires alive { IsSome self.old.pen }
+        requires room { length (gathered self.old) < self.old.cluster }
+        ensures { MatchBool result (GathersLine line.now self.old self.new) (self.new ≡ self.old) }
+    {
+        columns_have_types();
+        if !self
+            .store
+            .direct
+            .put_line(line, self.schema, &mut self.store.columns)
+        {
+            return false;
+        }
+        self.store.columns.in_range();
+        self.store.entries += 1;
+        true
     }
 }
