@@ -24,7 +24,7 @@ use Rattle.nt_shred.proofs.SchemaSets.{set-kept}
 use Rattle.nt_shred.proofs.Typed.{all-typed-take}
 use Rattle.nt_direct.specs.Places.{Grew}
 use Rattle.nt_direct.specs.Walk.{CanPutEach, PutsEach}
-use Rattle.nt_direct.specs.Lines.{PutsLine, IsFilled, TakesLine}
+use Rattle.nt_direct.specs.Lines.{PutsLine, IsSoundSet, PutsEntry}
 use Rattle.nt_direct.proofs.Growing.{room-later}
 use Rattle.nt_direct.proofs.Walks.{each-grew}
 
@@ -52,7 +52,7 @@ line-put ps line first end old new begin h blanks = record {
 
 -- the columns of a schema, with room that was made
 pub filled-can : (t : Table) (old now : List Buffer) (more : ℕ) → AllDiffer (open_plans t) → AllHaveTypes t.columns (open_plans t)
-    → IsFilled t old → columns_of now ≡ columns_of old → HasRoomFor now more → CanPutEach (open_plans t) more now
+    → IsSoundSet t old → columns_of now ≡ columns_of old → HasRoomFor now more → CanPutEach (open_plans t) more now
 filled-can t old now more differ types f same room = record {
   size = f.size;
   sound = subst (λ c. AllSound (open_plans t) c f.size) (sym (cols-kept old now same)) f.sound;
@@ -63,8 +63,8 @@ filled-can t old now more differ types f same room = record {
 }
 
 pub line-taken : (t : Table) (line : List ℕ) (old now new : List Buffer) → length line ≤ 2 ^ 24 → IsUtf8 line
-    → AllDiffer (open_plans t) → IsFilled t old → columns_of now ≡ columns_of old → PutsLine (open_plans t) line now new
-    → TakesLine t line old new
+    → AllDiffer (open_plans t) → IsSoundSet t old → columns_of now ≡ columns_of old → PutsLine (open_plans t) line now new
+    → PutsEntry t line old new
 line-taken t line old now new few utf8 differ f same h =
     let ts = trees_of h.found in
     let added = h.gains.columns ∙ ap (put_trees (open_plans t) ts) (cols-kept old now same) in

@@ -26,13 +26,13 @@ pub record PutsLine (ps : PlansData) (line : List ℕ) (old new : List Buffer) :
   pub gains : Gains (put_trees ps (trees_of found)) old new
 
 -- the set has the columns of a schema, sound for the entries so far
-pub record IsFilled (t : Table) (bs : List Buffer) : Type 0 where
+pub record IsSoundSet (t : Table) (bs : List Buffer) : Type 0 where
   pub set : IsSetOf t.columns (columns_of bs)
   pub size : ℕ
   pub sound : AllSound (open_plans t) (cols_of bs) size
 
 -- a line spells trees, one for each open field at the top level, and they are added
-pub record TakesLine (t : Table) (line : List ℕ) (old new : List Buffer) : Type 0 where
+pub record PutsEntry (t : Table) (line : List ℕ) (old new : List Buffer) : Type 0 where
   pub found : List TreeData
   pub spells : SpellsTrees found line
   pub fitting : fits_entry t (trees_of found) ≡ true

@@ -8,7 +8,7 @@
 //! nothing was; of a refused line nothing is said, and it is to be read as trees.
 //!
 //! Proved: of a line that is taken, that it spells trees which fit the schema, and that the columns have
-//! exactly what nt_shred adds of these (`TakesLine`); of a refused one, that no column has changed
+//! exactly what nt_shred adds of these (`PutsEntry`); of a refused one, that no column has changed
 //! (`put_line`). Only tested: which lines are taken. Not proved: how long it takes.
 //!
 //! Choices that bind nobody else:

@@ -6,7 +6,7 @@ ghost use Rattle.nt_trees.specs.Views.{plans_in};
 ghost use Rattle.nt_shred.specs.Frame.{HasRoomFor};
 ghost use Rattle.nt_direct.specs.Places.{Grew, lengths_of};
 ghost use Rattle.nt_direct.specs.Walk.{CanPutEach};
-ghost use Rattle.nt_direct.specs.Lines.{PutsLine, IsFilled, TakesLine};
+ghost use Rattle.nt_direct.specs.Lines.{PutsLine, IsSoundSet, PutsEntry};
 
 use crate::room::{cut_back, note};
 use crate::values::each;
@@ -61,8 +61,8 @@ impl Direct {
 
     /// Adds the entry of a line, whose LF is taken off, and says whether it took the line.
     pub fn put_line(&mut self, line: &[u8], schema: &Schema, out: &mut ColumnSet) -> bool
-        requires { IsFilled schema.now out.old }
-        ensures { MatchBool result (TakesLine schema.now line.now out.old out.new)
+        requires { IsSoundSet schema.now out.old }
+        ensures { MatchBool result (PutsEntry schema.now line.now out.old out.new)
             (columns_of out.new ≡ columns_of out.old) }
     {
         // As many as the rows, which have ids of 32 bits. Two laws of their plans follow, which do nothing.

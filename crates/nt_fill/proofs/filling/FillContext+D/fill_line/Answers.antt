@@ -8,7 +8,7 @@ use Rattle.nt_trees.specs.Views.{cols_of}
 use Rattle.nt_trees.proofs.FitPlans.{fit-open}
 use Rattle.nt_shred.specs.Frame.{set_frame}
 use Rattle.nt_shred.proofs.Typed.{all-typed-take}
-use Rattle.nt_direct.specs.Lines.{TakesLine}
+use Rattle.nt_direct.specs.Lines.{PutsEntry}
 use Rattle.nt_fill.specs.Context.{gathered}
 use Rattle.nt_fill.proofs.Bytes.{all_bytes, small_of}
 use Rattle.nt_fill.proofs.Entries.{entries_more, entries_count, gives_of}
@@ -29,8 +29,8 @@ invariant_of-self-2 g c =
     let room = subst (λ s. length (gathered s) < s.cluster) (sym c.self.view_is) c.requires.room in
     let count = entries_count t (columns_of old) n in
     let sound = subst (λ m. AllSound (open_plans t) (cols_of old) m) count c.self.invariant.gives.sound in
-    let taken : TakesLine t c.args.line.now old new =
-    subst (λ b. MatchBool b (TakesLine t c.args.line.now old new) (columns_of new ≡ columns_of old)) c.if-not-put_line.false
+    let taken : PutsEntry t c.args.line.now old new =
+    subst (λ b. MatchBool b (PutsEntry t c.args.line.now old new) (columns_of new ≡ columns_of old)) c.if-not-put_line.false
     c.put_line.ensures in
     let last = taken.last n sound in
     let more : suc n ≡ n + 1 = omega arith in
@@ -52,8 +52,8 @@ returns g c =
     let n = c.self.inside.store.entries in
     let old = c.self.inside.store.columns in
     let new = c.put_line.new.out in
-    let taken : TakesLine t c.args.line.now old new =
-    subst (λ b. MatchBool b (TakesLine t c.args.line.now old new) (columns_of new ≡ columns_of old)) c.if-not-put_line.false
+    let taken : PutsEntry t c.args.line.now old new =
+    subst (λ b. MatchBool b (PutsEntry t c.args.line.now old new) (columns_of new ≡ columns_of old)) c.if-not-put_line.false
     c.put_line.ensures in
     let ts = trees_of taken.found in
     let count = entries_count t (columns_of old) n in
