@@ -11,7 +11,7 @@ ghost use Rattle.nt_writing.specs.Filling.{IsFor, IsOpen, HasTaken};
 ghost use Rattle.nt_writing.specs.Taking.{IsEntryError, Writes, WritesFull, TakesLine};
 
 use crate::error::ContextError;
-use nt_event::{Line, TextError, blank, read_line};
+use nt_event::{Line, TextError, blank, read_line, spelled_trees_are_read};
 use nt_fill::FillContext;
 use nt_outside::{Disk, Gate};
 use nt_types::{Fields, Trees};
@@ -68,7 +68,8 @@ fn write_full<D: Disk, G: Gate>(
     Ok(())
 }
 
-/// Takes a line: gathers its entry, and writes what is gathered once that is a whole cluster.
+/// Takes a line: gathers its entry, by way of its trees where that can't be done without, and writes what is
+/// gathered once that is a whole cluster.
 pub(crate) fn take_line<D: Disk, G: Gate>(
     rt: &impl Wait,
     alloc: Global,
@@ -84,6 +85,10 @@ pub(crate) fn take_line<D: Disk, G: Gate>(
 {
     if blank(line.bytes.as_slice()) {
         return Ok(());
+    }
+    if fill.fill_line(line.bytes.as_slice()) {
+        spelled_trees_are_read();
+        return write_full(rt, gate, fill);
     }
     let trees = entry_of(alloc, fields, line)?;
     fill.fill(&trees)?;

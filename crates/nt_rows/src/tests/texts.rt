@@ -131,3 +131,42 @@ fn other_lines_are_refused(rt: HostRuntime) -> Result<(), Fail> {
     }
     Ok(())
 }
+
+/// A schema text, lines that go straight to the columns, and others of the same entries: each is refused there, early or at its
+/// end, or has blanks.
+const WAYS: [(&[u8], &[u8], &[u8]); 4] = [
+    (
+        b"run u32\nparticles vec<rec{pt:u32,charge:i8}>\ntrigger string\nhit vec<var<u8,tuple<u8,string>>>\n",
+        b"[1,[[10,-1],[20,1]],\"mu\",[null,[1,3],[2,[4,\"y\"]]]]\n[2,[],\"\",[]]\n[3,[[30,1]],\"e\",[[2,[0,\"z\"]]]]\n",
+        b"[1,[[10,-1],[20,1]],\"mu\",[null,[1,3],[2,[4,\"\\u0079\"]]]]\n[2,[],\"\",[] ]\n[ 3,[[30,1]],\"e\",[[2,[0,\"z\"]]]]\n",
+    ),
+    (
+        b"b bool\nc char\nn i64\nm u64\nt string\n",
+        b"[true,0,-5,18446744073709551615,\"a/b\"]\n[false,255,5,0,\"\xc3\xa4\"]\n",
+        b"[true,0,-5,18446744073709551615,\"a\\/b\"]\n[false,255,5,0 ,\"\\u00e4\"]\n",
+    ),
+    (
+        b"x vec<vec<u8>>\ny u8\n",
+        b"[[[],[1,2]],3]\n[[],4]\n",
+        b"[[[], [1,\t2]], 3] \r\n[[ ],4]",
+    ),
+    (
+        b"v var<u8,string>\nt string\n",
+        b"[[2,\"a\"],\"b\"]\n[null,\"c\"]\n[[1,7],\"\"]\n",
+        b"[[2,\"a\"],\"\\u0062\"]\n[null,\"\\u0063\"]\n[[1,7] ,\"\"]\n",
+    ),
+];
+
+#[test]
+fn lines_are_written_the_same_either_way(rt: HostRuntime) -> Result<(), Fail> {
+    for (schema, plain, other) in WAYS {
+        let ran = write_of(&rt, rt.alloc(), &[], schema, &[plain])?;
+        assert_eq!(rt; ran.status, Status::Done, "{schema:?}");
+        let listed = run_over(&rt, rt.alloc(), file_of(&ran), &["entries", "f"])?;
+        assert_eq!(rt; listed.host.out(), plain, "{schema:?}");
+        let again = write_of(&rt, rt.alloc(), &[], schema, &[other])?;
+        assert_eq!(rt; again.status, Status::Done, "{other:?}");
+        assert_eq!(rt; file_of(&again), file_of(&ran), "{other:?}");
+    }
+    Ok(())
+}
