@@ -1,11 +1,11 @@
 -- Ends that the columns of ends can hold.
 use Rattle.std.proofs.Common.{◌≡◌, ℕ, zero, suc, ◌+◌, ◌<◌, ◌≤◌, ◌^◌, ◌||◌, Bool, true, false, List, [], ◌∷◌, length, drop, slice_get, Some}
-use Rattle.std.proofs.Common.{refl, sym, ◌∙◌, ap, subst, arith, inl, inr, ◌⊎◌}
+use Rattle.std.proofs.Common.{refl, sym, ◌∙◌, ap, subst, arith, inl, inr, ◌⊎◌, ⊥}
 use Rattle.std.proofs.lemmas.Bool.{cases_Bool, cases_lt, false≢true}
 use Rattle.nt_types.specs.declared.column_type.ColumnType.{ColumnType}
-use Rattle.nt_types.specs.declared.column_type.ColumnType.TheVariants.{Index32, Index64, SplitIndex32, SplitIndex64}
+use Rattle.nt_types.specs.declared.column_type.ColumnType.TheVariants.{Index32, Index64, SplitIndex32, SplitIndex64, Switch}
 use Rattle.nt_types.specs.ColumnTable.{bits_of}
-use Rattle.nt_column.specs.Column.{Buffer, columns_of}
+use Rattle.nt_column.specs.Column.{Buffer, columns_of, TakesNumber}
 use Rattle.nt_plans.specs.Types.{is_index_type}
 use Rattle.nt_trees.specs.Views.{cols_of}
 use Rattle.nt_shred.specs.Frame.{Frame, set_frame, IsEnds, is_narrow, has_narrow, ends_below, capacity_at, HasRoomFor}
@@ -41,12 +41,25 @@ end-fits fr Index64 n index narrow h = ends_below-wide fr n h
 end-fits fr SplitIndex64 n index narrow h = ends_below-wide fr n h
 end-fits fr _ n index narrow h = absurd (false≢true index)
 
-pub end-fits-at : (bs : List Buffer) (k : ℕ) (b : Buffer) (n : ℕ) → IsEnds (set_frame bs) k → slice_get bs k ≡ Some b
+end-fits-at : (bs : List Buffer) (k : ℕ) (b : Buffer) (n : ℕ) → IsEnds (set_frame bs) k → slice_get bs k ≡ Some b
     → n < ends_below (set_frame bs) → n < 2 ^ bits_of b.column.kind
 end-fits-at bs k b n e at h =
     let same = (framed bs k b e.0 0 at e.1).0 in
     subst (λ c. n < 2 ^ bits_of c) (sym same) (end-fits (set_frame bs) e.0 n e.2
     (λ narrow. narrow-found (set_frame bs) k (e.0, 0) e.1 narrow) h)
+
+ends-other : (c : ColumnType) → is_index_type c ≡ true → c ≡ Switch → ⊥
+ends-other c index is = false≢true (sym (ap is_index_type is) ∙ index)
+
+pub ends-take : (bs : List Buffer) (k : ℕ) (b : Buffer) (n : ℕ) → IsEnds (set_frame bs) k → slice_get bs k ≡ Some b
+    → n < ends_below (set_frame bs) → TakesNumber b.column n
+ends-take bs k b n e at h =
+    let same = framed bs k b e.0 0 at e.1 in
+    record {
+      other = λ is. ends-other e.0 e.2 (sym same.0 ∙ is);
+      stored = same.1;
+      fits = end-fits-at bs k b n e at h;
+    }
 
 -- ---- whether some are narrow, a column at a time
 

@@ -1,6 +1,6 @@
-use Rattle.std.proofs.Common.{[], ◌∷◌, arith, rules}
+use Rattle.std.proofs.Common.{[], ◌∷◌, arith}
 use Rattle.nt_column.specs.Elements.{plain}
-use Rattle.nt_shred.proofs.Ends.{end-fits-at}
+use Rattle.nt_shred.proofs.Ends.{ends-take}
 use Rattle.nt_shred.proofs.Sets.{spare-at, gains}
 use Rattle.nt_shred.proofs.pushing.push_end.Goals as goal
 
@@ -16,10 +16,5 @@ returns c = gains c.args.out.now c.args.column c.buffer.result.now c.push.new.se
     c.push.ensures.column (omega (arith, c.push.ensures.spare))
 
 pub push-requires-clause-takes : goal.push-requires-clause-takes
-push-requires-clause-takes c =
-    record {
-      other = search rules;
-      stored = search rules;
-      fits = end-fits-at c.args.out.now c.args.column c.buffer.result.now c.args.end c.requires.column
-          c.buffer.ensures.value c.requires.end;
-    }
+push-requires-clause-takes c = ends-take c.args.out.now c.args.column c.buffer.result.now c.args.end c.requires.column
+    c.buffer.ensures.value c.requires.end
