@@ -89,9 +89,11 @@ fn each_call_that_fails_leaves_no_finished_file(rt: HostRuntime) -> Result<(), F
             match ran.host.file("o") {
                 Some(file) => {
                     let opened = file.first() == Some(&b'r');
-                    let told = ran.host.out() == b"order 0 1\n".as_slice();
-                    assert!(rt; !opened || told, "{object:?} {call}");
-                    assert!(rt; !opened || Some(file) == whole.host.file("o"));
+                    let in_order = ran.host.out() == b"order 0 1\n".as_slice();
+                    // a context that waits too long for the other goes first
+                    let turned = ran.host.out() == b"order 1 0\n".as_slice();
+                    assert!(rt; !opened || in_order || turned, "{object:?} {call}");
+                    assert!(rt; !opened || turned || Some(file) == whole.host.file("o"));
                 }
                 None => assert_eq!(rt; ran.host.out(), b"".as_slice()),
             }
