@@ -26,7 +26,8 @@
 //!   as long. Words of 16 and of 32 bits are written as they lie, by blocks of their own width: widened ones fill as many lanes of
 //!   a vector as 64-bit words do.
 //! - Truth values, which lie in a byte each, are coded eight at a time, by three shifts and sums of one word: by single bits it took
-//!   three times as long.
+//!   three times as long. Their bytes are read where they are joined, each by an index of its own: so LLVM makes one load of eight,
+//!   and behind a call, though it is inlined, it did not.
 //! - The benchmark compares with one plain loop in C over the elements, in a build that keeps it as it is and in one that
 //!   vectorises it: it is what a C programmer would write.
 #![tactic(auto)]
