@@ -1,7 +1,7 @@
 //! The codings of pages: a column's elements to the bytes of a page, and back.
 //!
-//! All of it is on the hot path: the widths of elements are passed as constants to functions that
-//! are inlined, and no call takes memory. Keep both.
+//! All of it is on the hot path: the widths of elements are constants (`width.rt`) that are passed to
+//! functions which are inlined, and no call takes memory. Keep both.
 //!
 //! Where to start: `page.rt` and `specs/Pages` (the page of each type), `specs/Elements` (a page's
 //! values as elements), then a file of each for a
@@ -9,7 +9,7 @@
 //! words of these bits.
 //!
 //! Words: an *element* is a value as it stands in a page, a *value* a number below two to the
-//! type's bits, signed ones as their two's complement; *width* counts the bytes of an element.
+//! type's bits, signed ones as their two's complement; *width* counts the bytes of an element, 1 to 8.
 //!
 //! Proved: `encode` gives the page of its values, with padding 0, and `decode` the values of a
 //! page, which fit its type, by `page_bytes` and `page_values`; `encode_bits`, `encode_16` and
@@ -42,6 +42,7 @@ mod plain;
 mod split;
 mod switch;
 mod value;
+mod width;
 mod words_16;
 mod words_32;
 mod zigzag;

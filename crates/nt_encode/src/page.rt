@@ -10,6 +10,7 @@ use crate::bits::{put_bits, put_flags, take_bits};
 use crate::form::Form;
 use crate::plain::{put_plain, take_plain};
 use crate::split::{put_split, take_indices, take_signed, take_split};
+use crate::width::Width;
 use crate::{words_16, words_32};
 use nt_types::ColumnType;
 
@@ -49,20 +50,24 @@ pub fn encode(kind: ColumnType, values: &[u64], out: &mut [u8])
     match kind {
         ColumnType::Bit => put_bits(values, out),
         ColumnType::Byte | ColumnType::Char | ColumnType::Int8 | ColumnType::UInt8 => {
-            put_plain(values, 1, out)
+            put_plain(values, Width::ONE, out)
         }
-        ColumnType::Int16 | ColumnType::UInt16 => put_plain(values, 2, out),
-        ColumnType::Int32 | ColumnType::UInt32 | ColumnType::Index32 => put_plain(values, 4, out),
-        ColumnType::Int64 | ColumnType::UInt64 | ColumnType::Index64 => put_plain(values, 8, out),
+        ColumnType::Int16 | ColumnType::UInt16 => put_plain(values, Width::TWO, out),
+        ColumnType::Int32 | ColumnType::UInt32 | ColumnType::Index32 => {
+            put_plain(values, Width::FOUR, out)
+        }
+        ColumnType::Int64 | ColumnType::UInt64 | ColumnType::Index64 => {
+            put_plain(values, Width::EIGHT, out)
+        }
         ColumnType::Switch => unreachable!(),
-        ColumnType::SplitInt16 => put_split(Form::Zigzag, values, 2, out),
-        ColumnType::SplitUInt16 => put_split(Form::Own, values, 2, out),
-        ColumnType::SplitInt32 => put_split(Form::Zigzag, values, 4, out),
-        ColumnType::SplitUInt32 => put_split(Form::Own, values, 4, out),
-        ColumnType::SplitInt64 => put_split(Form::Zigzag, values, 8, out),
-        ColumnType::SplitUInt64 => put_split(Form::Own, values, 8, out),
-        ColumnType::SplitIndex32 => put_split(Form::Delta, values, 4, out),
-        ColumnType::SplitIndex64 => put_split(Form::Delta, values, 8, out),
+        ColumnType::SplitInt16 => put_split(Form::Zigzag, values, Width::TWO, out),
+        ColumnType::SplitUInt16 => put_split(Form::Own, values, Width::TWO, out),
+        ColumnType::SplitInt32 => put_split(Form::Zigzag, values, Width::FOUR, out),
+        ColumnType::SplitUInt32 => put_split(Form::Own, values, Width::FOUR, out),
+        ColumnType::SplitInt64 => put_split(Form::Zigzag, values, Width::EIGHT, out),
+        ColumnType::SplitUInt64 => put_split(Form::Own, values, Width::EIGHT, out),
+        ColumnType::SplitIndex32 => put_split(Form::Delta, values, Width::FOUR, out),
+        ColumnType::SplitIndex64 => put_split(Form::Delta, values, Width::EIGHT, out),
     }
 }
 
@@ -128,19 +133,23 @@ fn take_values(kind: ColumnType, bytes: &[u8], out: &mut [u64])
     match kind {
         ColumnType::Bit => take_bits(bytes, out),
         ColumnType::Byte | ColumnType::Char | ColumnType::Int8 | ColumnType::UInt8 => {
-            take_plain(bytes, 1, out)
+            take_plain(bytes, Width::ONE, out)
         }
-        ColumnType::Int16 | ColumnType::UInt16 => take_plain(bytes, 2, out),
-        ColumnType::Int32 | ColumnType::UInt32 | ColumnType::Index32 => take_plain(bytes, 4, out),
-        ColumnType::Int64 | ColumnType::UInt64 | ColumnType::Index64 => take_plain(bytes, 8, out),
+        ColumnType::Int16 | ColumnType::UInt16 => take_plain(bytes, Width::TWO, out),
+        ColumnType::Int32 | ColumnType::UInt32 | ColumnType::Index32 => {
+            take_plain(bytes, Width::FOUR, out)
+        }
+        ColumnType::Int64 | ColumnType::UInt64 | ColumnType::Index64 => {
+            take_plain(bytes, Width::EIGHT, out)
+        }
         ColumnType::Switch => unreachable!(),
-        ColumnType::SplitUInt16 => take_split(bytes, 2, out),
-        ColumnType::SplitUInt32 => take_split(bytes, 4, out),
-        ColumnType::SplitUInt64 => take_split(bytes, 8, out),
-        ColumnType::SplitInt16 => take_signed(bytes, 2, out),
-        ColumnType::SplitInt32 => take_signed(bytes, 4, out),
-        ColumnType::SplitInt64 => take_signed(bytes, 8, out),
-        ColumnType::SplitIndex32 => take_indices(bytes, 4, out),
-        ColumnType::SplitIndex64 => take_indices(bytes, 8, out),
+        ColumnType::SplitUInt16 => take_split(bytes, Width::TWO, out),
+        ColumnType::SplitUInt32 => take_split(bytes, Width::FOUR, out),
+        ColumnType::SplitUInt64 => take_split(bytes, Width::EIGHT, out),
+        ColumnType::SplitInt16 => take_signed(bytes, Width::TWO, out),
+        ColumnType::SplitInt32 => take_signed(bytes, Width::FOUR, out),
+        ColumnType::SplitInt64 => take_signed(bytes, Width::EIGHT, out),
+        ColumnType::SplitIndex32 => take_indices(bytes, Width::FOUR, out),
+        ColumnType::SplitIndex64 => take_indices(bytes, Width::EIGHT, out),
     }
 }

@@ -11,6 +11,7 @@ ghost use Rattle.nt_encode.specs.Pages.{page_values, IsPage};
 
 use crate::delta::sum_within;
 use crate::number::number_at;
+use crate::width::Width;
 use crate::zigzag::zigzag_value;
 use nt_types::ColumnType;
 
@@ -37,24 +38,24 @@ fn read_value(kind: ColumnType, bytes: &[u8], count: usize, i: usize, before: u6
     match kind {
         ColumnType::Bit => bit_at(bytes, count, i),
         ColumnType::Byte | ColumnType::Char | ColumnType::Int8 | ColumnType::UInt8 => {
-            plain_at(bytes, count, i, 1)
+            plain_at(bytes, count, i, Width::ONE)
         }
-        ColumnType::Int16 | ColumnType::UInt16 => plain_at(bytes, count, i, 2),
+        ColumnType::Int16 | ColumnType::UInt16 => plain_at(bytes, count, i, Width::TWO),
         ColumnType::Int32 | ColumnType::UInt32 | ColumnType::Index32 => {
-            plain_at(bytes, count, i, 4)
+            plain_at(bytes, count, i, Width::FOUR)
         }
         ColumnType::Int64 | ColumnType::UInt64 | ColumnType::Index64 => {
-            plain_at(bytes, count, i, 8)
+            plain_at(bytes, count, i, Width::EIGHT)
         }
         ColumnType::Switch => unreachable!(),
-        ColumnType::SplitUInt16 => split_at(bytes, count, i, 2),
-        ColumnType::SplitUInt32 => split_at(bytes, count, i, 4),
-        ColumnType::SplitUInt64 => split_at(bytes, count, i, 8),
-        ColumnType::SplitInt16 => signed_at(bytes, count, i, 2),
-        ColumnType::SplitInt32 => signed_at(bytes, count, i, 4),
-        ColumnType::SplitInt64 => signed_at(bytes, count, i, 8),
-        ColumnType::SplitIndex32 => index_at(bytes, count, i, before, 4),
-        ColumnType::SplitIndex64 => index_at(bytes, count, i, before, 8),
+        ColumnType::SplitUInt16 => split_at(bytes, count, i, Width::TWO),
+        ColumnType::SplitUInt32 => split_at(bytes, count, i, Width::FOUR),
+        ColumnType::SplitUInt64 => split_at(bytes, count, i, Width::EIGHT),
+        ColumnType::SplitInt16 => signed_at(bytes, count, i, Width::TWO),
+        ColumnType::SplitInt32 => signed_at(bytes, count, i, Width::FOUR),
+        ColumnType::SplitInt64 => signed_at(bytes, count, i, Width::EIGHT),
+        ColumnType::SplitIndex32 => index_at(bytes, count, i, before, Width::FOUR),
+        ColumnType::SplitIndex64 => index_at(bytes, count, i, before, Width::EIGHT),
     }
 }
 
@@ -70,49 +71,45 @@ fn bit_at(bytes: &[u8], count: usize, i: usize) -> u64
 
 /// Element i of a page whose elements lie one after the other.
 #[inline(always)]
-fn plain_at(bytes: &[u8], count: usize, i: usize, width: usize) -> u64
-    requires width { width ≤ 8 }
-    requires length { length bytes.now ≡ width * count }
+fn plain_at(bytes: &[u8], count: usize, i: usize, width: Width) -> u64
+    requires length { length bytes.now ≡ width.bytes * count }
     requires within { i < count }
-    ensures { result ≡ slice_index (plain_values width count bytes.now) i }
+    ensures { result ≡ slice_index (plain_values width.bytes count bytes.now) i }
 {
-    number_at(bytes, i * width, 1, width)
+    number_at(bytes, i * width.bytes, 1, width)
 }
 
 /// Word i of a split page.
 #[inline(always)]
-fn split_at(bytes: &[u8], count: usize, i: usize, width: usize) -> u64
-    requires width { width ≤ 8 }
-    requires length { length bytes.now ≡ width * count }
+fn split_at(bytes: &[u8], count: usize, i: usize, width: Width) -> u64
+    requires length { length bytes.now ≡ width.bytes * count }
     requires within { i < count }
-    ensures value { result ≡ slice_index (split_values width count bytes.now) i }
-    ensures fits { result < 2 ^ (8 * width) }
+    ensures value { result ≡ slice_index (split_values width.bytes count bytes.now) i }
+    ensures fits { result < 2 ^ (8 * width.bytes) }
 {
     number_at(bytes, i, count, width)
 }
 
 /// Signed number i of a split page.
 #[inline(always)]
-fn signed_at(bytes: &[u8], count: usize, i: usize, width: usize) -> u64
-    requires width { width ≤ 8 }
-    requires length { length bytes.now ≡ width * count }
+fn signed_at(bytes: &[u8], count: usize, i: usize, width: Width) -> u64
+    requires length { length bytes.now ≡ width.bytes * count }
     requires within { i < count }
     ensures { result ≡ slice_index
-        (zigzag_values (8 * width) (split_values width count bytes.now)) i }
+        (zigzag_values (8 * width.bytes) (split_values width.bytes count bytes.now)) i }
 {
     zigzag_value(split_at(bytes, count, i, width), width)
 }
 
 /// Index i of a split page, behind the one before it.
 #[inline(always)]
-fn index_at(bytes: &[u8], count: usize, i: usize, before: u64, width: usize) -> u64
-    requires width { width ≤ 8 }
-    requires length { length bytes.now ≡ width * count }
+fn index_at(bytes: &[u8], count: usize, i: usize, before: u64, width: Width) -> u64
+    requires length { length bytes.now ≡ width.bytes * count }
     requires within { i < count }
     requires before { before ≡ index_before
-        (delta_values (8 * width) (split_values width count bytes.now)) i }
+        (delta_values (8 * width.bytes) (split_values width.bytes count bytes.now)) i }
     ensures { result ≡ slice_index
-        (delta_values (8 * width) (split_values width count bytes.now)) i }
+        (delta_values (8 * width.bytes) (split_values width.bytes count bytes.now)) i }
 {
     sum_within(before, split_at(bytes, count, i, width), width)
 }

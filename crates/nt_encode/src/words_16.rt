@@ -10,12 +10,13 @@ ghost use Rattle.nt_encode.specs.Zigzag.{zigzag_word};
 
 use crate::form::Form;
 use crate::number::put_number;
+use crate::width::Width;
 
 /// How many elements are written at a time.
 const BLOCK: usize = 32;
 
 /// The bytes of a word.
-const WIDTH: usize = 2;
+const WIDTH: Width = Width::TWO;
 
 /// Writes the page of these elements, one after the other.
 #[inline(always)]
@@ -24,7 +25,7 @@ pub fn put_plain(values: &[u16], out: &mut [u8])
     ensures { out.new ≡ plain_bytes 2 values.now }
 {
     for (i, value) in values.iter().enumerate() {
-        put_number(u64::from(*value), WIDTH, i * WIDTH, out);
+        put_number(u64::from(*value), WIDTH, i * WIDTH.bytes, out);
     }
 }
 
@@ -94,7 +95,7 @@ fn put_block(form: Form, values: &[u16], from: usize, len: usize, out: &mut [u8]
     let mut words = [0; BLOCK];
     let words = &mut words[..len];
     fill_words(form, values, from, words);
-    for j in 0..WIDTH {
+    for j in 0..WIDTH.bytes {
         put_plane(words, j, j * values.len() + from, out);
     }
 }

@@ -9,10 +9,10 @@ loop-word-preserved c =
     let i : ℕ = c.loop-word.word-index in
     let within : i < length c.args.words.now = omega arith in
     let word : get_or c.loop-word.words i 0 ≡ get_or c.args.words.now i 0 = c.loop-word.invariant.1 i (omega arith) in
-    let here : c.sum_within-total.result ≡ delta_value (8 * c.args.width) c.args.words.now i =
-    c.sum_within-total.ensures ∙ ap (λ (x : ℕ). (c.loop-word.total + x) % 2 ^ (8 * c.args.width)) word
-    ∙ total-more (8 * c.args.width) c.args.words.now i c.loop-word.total within c.loop-word.invariant.2 in (
-      Filled-set c.loop-word.words i c.sum_within-total.result (delta_value (8 * c.args.width) c.args.words.now) c.loop-word.invariant.0
+    let here : c.sum_within-total.result ≡ delta_value (8 * c.args.width.bytes) c.args.words.now i =
+    c.sum_within-total.ensures ∙ ap (λ (x : ℕ). (c.loop-word.total + x) % 2 ^ (8 * c.args.width.bytes)) word
+    ∙ total-more (8 * c.args.width.bytes) c.args.words.now i c.loop-word.total within c.loop-word.invariant.2 in (
+      Filled-set c.loop-word.words i c.sum_within-total.result (delta_value (8 * c.args.width.bytes) c.args.words.now) c.loop-word.invariant.0
           (omega arith) here,
       (λ k h.
           let other : k ≢ i = omega arith in

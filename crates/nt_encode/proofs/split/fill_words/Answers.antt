@@ -8,4 +8,4 @@ returns-in-Delta c =
     rw c.in-Delta.is
     (λ k h.
     c.fill_deltas.ensures k h
-    ∙ sym (get_or-list_of (length c.args.values.now) (delta_word (8 * c.args.width) c.args.values.now) (c.args.from + k) (omega arith)))
+    ∙ sym (get_or-list_of (length c.args.values.now) (delta_word (8 * c.args.width.bytes) c.args.values.now) (c.args.from + k) (omega arith)))
