@@ -1,6 +1,6 @@
 -- What the numbers of a book are with one cluster more.
-use Rattle.std.proofs.Common.{◌≡◌, ℕ, ◌+◌, ◌-◌, ◌*◌, ◌<◌, ◌≤◌, List, [], ◌∷◌, ◌++◌, length, sym, ap, ◌∙◌, arith, ◌⊎◌, inl, inr}
-use Rattle.std.specs.Prelude.{slice_index, slice_index_or, take}
+use Rattle.std.proofs.Common.{◌≡◌, ℕ, ◌+◌, ◌-◌, ◌*◌, ◌<◌, ◌≤◌, List, [], ◌∷◌, ◌++◌, length, sym, ap, subst, ◌∙◌, arith, ◌⊎◌, inl, inr}
+use Rattle.std.specs.Prelude.{slice_index, take}
 use Rattle.std.specs.List.{AllByRecursion, sum_by}
 use Rattle.std.proofs.lemmas.List.Sums.{sum_by_push}
 use Rattle.std.proofs.lemmas.Bool.{cases_lt}
@@ -11,10 +11,11 @@ use Rattle.nt_book.specs.declared.meta.PageMeta.{PageMeta}
 use Rattle.nt_book.specs.declared.meta.ClusterMeta.{ClusterMeta}
 use Rattle.nt_book.specs.declared.state.RangeState.TheVariants as state
 use Rattle.nt_book.specs.declared.row.ClusterRow.{ClusterRow}
+use Rattle.nt_book.specs.Appending.{ArePushed}
 use Rattle.nt_book.specs.Books.{elements_before}
 use Rattle.nt_book.specs.Entries.{row_cluster, row_clusters}
 use Rattle.nt_book.specs.Keeping.{IsRowOf, IsCounted, AreOffsets, count_out}
-use Rattle.nt_book.specs.Pages.{element_count, listed_elements}
+use Rattle.nt_book.specs.Pages.{listed_elements}
 use Rattle.nt_book.proofs.Rows.{length-row_clusters, row_clusters-append}
 use Rattle.nt_book.proofs.Counted.{AreFirsts-append, out_one}
 use Rattle.nt_book.proofs.Fitting.{fewer, table_place}
@@ -109,20 +110,14 @@ module _ (rows : List ClusterRow) (row : ClusterRow) where
   }
 
   -- the offsets that were pushed, as they were
-  pub AreOffsets-pushed : (firsts offsets more : List ℕ) (pages : List (List PageMeta)) (size : ℕ) → pages ≡ row.meta.pages
-      → size ≡ length offsets
-      → length row.meta.pages ≡ length firsts → AreOffsets firsts rows offsets → length more ≡ size + length pages
-      → ((k : ℕ) → k < size → slice_index more k ≡ slice_index offsets k)
-      → ((column : ℕ) → column < length pages → slice_index more (size + column)
-      ≡ slice_index offsets (size - length pages + column) + element_count (slice_index_or pages column []))
+  pub AreOffsets-pushed : (firsts offsets more : List ℕ) (pages : List (List PageMeta)) → pages ≡ row.meta.pages
+      → length row.meta.pages ≡ length firsts → AreOffsets firsts rows offsets → ArePushed pages offsets more
       → AreOffsets firsts (rows ++ row ∷ []) more
-  AreOffsets-pushed firsts offsets more pages size is sizes lists h long kept behind =
-      let as_many : length pages ≡ length firsts = ap length is ∙ lists in
-      AreOffsets-append firsts offsets more h (omega arith) (λ k less. kept k (omega arith))
+  AreOffsets-pushed firsts offsets more pages is lists h p =
+      let pushed : ArePushed row.meta.pages offsets more = subst (λ (ps : List (List PageMeta)). ArePushed ps offsets more) is p in
+      let long = pushed.long in
+      AreOffsets-append firsts offsets more h (omega (arith, long, lists)) pushed.kept
       (λ column less.
-      let place : size - length pages + column ≡ length offsets - length firsts + column = omega arith in
-      ap (λ (n : ℕ). slice_index more (n + column)) (sym sizes)
-      ∙ (behind column (omega arith)
-      ∙ (ap (λ (n : ℕ). slice_index offsets n + element_count (slice_index_or pages column [])) place
-      ∙ ap (λ (ps : List (List PageMeta)). slice_index offsets (length offsets - length firsts + column)
-      + element_count (slice_index_or ps column [])) is)))
+      let place : length offsets - length row.meta.pages + column ≡ length offsets - length firsts + column = omega (arith, lists) in
+      pushed.behind column (omega (arith, less, lists))
+      ∙ ap (λ (n : ℕ). slice_index offsets n + listed_elements row.meta column) place)

@@ -1,13 +1,12 @@
 //! What a writer tells its book. No call here takes memory.
 
-ghost use Rattle.std.specs.Prelude.{◌≡◌, ◌-◌, ◌<◌, ◌++◌, ◌∷◌, [], None, length, vec_len, vec_capacity};
+ghost use Rattle.std.specs.Prelude.{◌≡◌, ◌-◌, ◌<◌, ◌++◌, ◌∷◌, [], length, vec_len, vec_capacity};
 ghost use Rattle.nt_machine.specs.History.{ranges_of};
 ghost use Rattle.nt_machine.specs.Legal.{IsOut, IsAllowed};
+ghost use Rattle.nt_book.specs.Appending.{IsAppendable};
 ghost use Rattle.nt_book.specs.Books.{book_clusters, book_end};
 ghost use Rattle.nt_book.specs.Entries.{committed_entry, settled_entry, spoiled_entry, faulted_entry};
 ghost use Rattle.nt_book.specs.Keeping.{with_state};
-ghost use Rattle.nt_book.specs.Limiting.{limit_error};
-ghost use Rattle.nt_book.specs.Pages.{IsPaged};
 
 use crate::book::Book;
 use crate::event::{Event, EventKind};
@@ -30,11 +29,7 @@ impl Book {
     /// Appends a cluster at the end of the file and hands its number out. The page lists move into
     /// the book; the range is out.
     pub fn append(&mut self, meta: &mut ClusterMeta) -> u32
-        requires limits { limit_error self.old.limits (book_end self.old)
-            (length (book_clusters self.old)) meta.old.len ≡ None }
-        requires spare { 0 < self.old.spare }
-        requires lists { length meta.old.pages ≡ length self.old.firsts }
-        requires paged { IsPaged meta.old }
+        requires { IsAppendable self.old meta.old }
         ensures number { result ≡ length (book_clusters self.old) }
         ensures allowed { IsAllowed self.old.begin (ranges_of self.old.history)
             (committed_entry result (book_end self.old) meta.old) }

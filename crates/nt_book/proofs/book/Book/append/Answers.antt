@@ -115,9 +115,8 @@ invariant_of-self c =
       subst (λ (rs : List ClusterRow). AreOffsets c.self.inside.firsts.items rs c.push_offsets.new.offsets.items)
           (sym c.push_reserved-2.ensures.items)
           (AreOffsets-pushed c.self.inside.rows.items row c.self.inside.firsts.items c.self.inside.offsets.items
-          c.push_offsets.new.offsets.items _ _ c.as_slice.ensures (omega (arith, c.self.inside.offsets.ok)) lists
-          c.self.invariant.2 (omega (arith, c.push_offsets.ensures.long, c.push_offsets.new.offsets.ok)) c.push_offsets.ensures.kept
-          c.push_offsets.ensures.behind),
+          c.push_offsets.new.offsets.items _ c.as_slice.ensures lists
+          c.self.invariant.2 c.push_offsets.ensures.pushed),
       record {
         one = omega (arith, room.one);
         for_row = omega (arith, room.for_row, spare, c.push_reserved-2.ensures.len, c.push_reserved-2.ensures.capacity);

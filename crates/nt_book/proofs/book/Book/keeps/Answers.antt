@@ -1,11 +1,10 @@
-use Rattle.std.proofs.Common.{◌≡◌, ℕ, ◌<◌, ◌≤◌, ◌^◌, List, length, ap, sym, subst, refl, ◌∙◌, arith}
+use Rattle.std.proofs.Common.{ℕ, ◌<◌, ◌≤◌, ◌^◌, List, length, ap, sym, subst, refl, arith}
 use Rattle.std.specs.List.{AllByRecursion}
 use Rattle.nt_machine.specs.declared.entry.Entry.{Entry}
-use Rattle.nt_machine.specs.History.{Cluster}
 use Rattle.nt_machine.specs.Legal.{IsLegal}
 use Rattle.nt_book.specs.declared.meta.ClusterMeta.{ClusterMeta}
-use Rattle.nt_book.specs.Books.{BookData, book_clusters, cluster_at}
-use Rattle.nt_book.specs.Entries.{row_cluster, no_row}
+use Rattle.nt_book.specs.Books.{BookData, cluster_at}
+use Rattle.nt_book.specs.Entries.{no_row}
 use Rattle.nt_book.specs.Keeping.{IsRowOf}
 use Rattle.nt_book.specs.Kept.{IsKeptCluster}
 use Rattle.nt_book.proofs.Counted.{each-at}
