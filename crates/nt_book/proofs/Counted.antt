@@ -1,7 +1,7 @@
 -- What the numbers of a book are, whatever becomes of its ranges.
-use Rattle.std.proofs.Common.{◌≡◌, ℕ, zero, suc, ◌+◌, ◌-◌, ◌*◌, ◌<◌, ◌≤◌, Bool, false, cond, List, [], ◌∷◌, ◌++◌, length, map, refl, sym}
+use Rattle.std.proofs.Common.{◌≡◌, ℕ, zero, suc, ◌+◌, ◌-◌, ◌<◌, ◌≤◌, Bool, false, cond, List, [], ◌∷◌, ◌++◌, length, map, refl, sym}
 use Rattle.std.proofs.Common.{ap, ◌∙◌, arith}
-use Rattle.std.specs.Prelude.{slice_index, slice_index_or, take}
+use Rattle.std.specs.Prelude.{slice_index_or, take}
 use Rattle.std.specs.List.{AllByRecursion, sum_by, sum}
 use Rattle.std.proofs.lemmas.List.Sums.{sum_by-cons, sum-map, sum_by-set, count_by-le-length}
 use Rattle.nt_machine.specs.History.{Cluster}
@@ -12,8 +12,7 @@ use Rattle.nt_book.specs.declared.state.RangeState.TheVariants as state
 use Rattle.nt_book.specs.declared.row.ClusterRow.{ClusterRow}
 use Rattle.nt_book.specs.Books.{entry_count}
 use Rattle.nt_book.specs.Entries.{no_row, row_cluster, row_clusters}
-use Rattle.nt_book.specs.Keeping.{IsRowOf, IsCounted, AreFirsts, AreOffsets, with_state, count_out, is_out_state}
-use Rattle.nt_book.specs.Pages.{listed_elements}
+use Rattle.nt_book.specs.Keeping.{IsRowOf, IsCounted, AreFirsts, with_state, count_out, is_out_state}
 use Rattle.nt_book.proofs.Rows.{length-with_state}
 
 pub each-at : (P : ClusterRow → Type 0) (rows : List ClusterRow) (k : ℕ) (d : ClusterRow) → AllByRecursion P rows → k < length rows
@@ -94,16 +93,6 @@ count_out-with_state rows n s less out back =
     let moved : count_out (with_state rows n s) + out_one (slice_index_or rows n no_row).state ≡ count_out rows + out_one s =
     sum_by-set (λ (row : ClusterRow). out_one row.state) rows n (record (slice_index_or rows n no_row) { state = s }) no_row less in
     omega arith
-
-pub AreOffsets-with_state : (firsts : List ℕ) (rows : List ClusterRow) (offsets : List ℕ) (n : ℕ) (s : RangeState)
-    → AreOffsets firsts rows offsets → AreOffsets firsts (with_state rows n s) offsets
-AreOffsets-with_state firsts rows offsets n s h = record {
-  long = h.long ∙ ap (λ (m : ℕ). (m + 1) * length firsts) (sym (length-with_state rows n s));
-  each = λ k column inside less.
-      h.each k column (omega (arith, length-with_state rows n s)) less
-      ∙ ap (λ (m : ℕ). slice_index firsts column + m) (sym
-      (sum-take-with_state (λ (c : Cluster ClusterMeta). listed_elements c.meta column) (λ m row t. refl) rows n s k));
-}
 
 pub IsCounted-with_state : (begin end entries out : ℕ) (limits : Limits) (firsts : List ℕ) (rows : List ClusterRow) (n : ℕ)
     (s : RangeState) → n < length rows

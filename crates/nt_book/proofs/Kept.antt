@@ -49,9 +49,9 @@ module _ (begin : ℕ) (rows : List ClusterRow) (events : List Event) (h : IsHis
   AllByRecursion-more [] known = tt
   AllByRecursion-more (e ∷ es) known = (IsKindOf-more e.cluster e.kind known.0, AllByRecursion-more es known.1)
 
-  module _ (meta : ClusterMeta) (start first : ℕ) (at : start ≡ end_after begin (row_clusters 0 rows)) where
+  module _ (meta : ClusterMeta) (start first offsets : ℕ) (at : start ≡ end_after begin (row_clusters 0 rows)) where
     abbrev row : ClusterRow
-    row = record { meta = meta; start = start; first = first; state = state.Out }
+    row = record { meta = meta; start = start; first = first; offsets = offsets; state = state.Out }
 
     abbrev event : Event
     event = record { context = meta.context; kind = Committed; cluster = length rows }

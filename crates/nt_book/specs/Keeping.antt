@@ -1,10 +1,11 @@
 -- How a book keeps its history.
-use Rattle.std.specs.Prelude.{◌≡◌, ℕ, ◌+◌, ◌*◌, ◌<◌, ◌≤◌, ◌^◌, Bool, true, false, List, [], ◌∷◌, length, take, slice_index, slice_index_or}
+use Rattle.std.specs.Prelude.{◌≡◌, ℕ, ◌+◌, ◌-◌, ◌*◌, ◌<◌, ◌≤◌, ◌^◌, Bool, true, false, List, [], ◌∷◌, length, take, slice_index, slice_index_or}
 use Rattle.std.specs.Prelude.{slice_set}
 use Rattle.std.specs.List.{AllByRecursion, count_by}
-use Rattle.nt_machine.specs.History.{ranges_of}
+use Rattle.nt_machine.specs.History.{Cluster, ranges_of}
 use Rattle.nt_machine.specs.Legal.{IsLegal, end_after}
 use Rattle.nt_book.specs.declared.limits.Limits.{Limits}
+use Rattle.nt_book.specs.declared.meta.ClusterMeta.{ClusterMeta}
 use Rattle.nt_book.specs.declared.event.Event.{Event}
 use Rattle.nt_book.specs.declared.event.EventKind.{EventKind}
 use Rattle.nt_book.specs.declared.event.EventKind.TheVariants.{Committed, Settled, Spoiled, Faulted}
@@ -36,11 +37,11 @@ IsKindOf count n Settled = Unit {0}
 IsKindOf count n (Spoiled faults) = Unit {0}
 IsKindOf count n (Faulted faults) = Unit {0}
 
--- a row has a list of pages for each column, and pages that lie in it; the largest limits hold
+-- a row has a list of pages for each column of its time, and pages that lie in it; the largest limits hold
 pub record IsRowOf (columns : ℕ) (row : ClusterRow) : Type 0 where
   pub short : row.meta.len ≤ 2 ^ 30
   pub low : row.start + row.meta.len ≤ 2 ^ 56
-  pub lists : length row.meta.pages ≡ columns
+  pub lists : length row.meta.pages ≤ columns
   pub paged : IsPaged row.meta
 
 -- each row begins with the entry that those before it leave, the first one with this
@@ -48,12 +49,24 @@ abbrev pub AreFirsts : ℕ → List ClusterRow → Type 0
 AreFirsts entries [] = Unit {0}
 AreFirsts entries (row ∷ rows) = (row.first ≡ entries) × AreFirsts (entries + row.meta.entries) rows
 
--- the offsets of each column before each cluster and behind the last, by cluster and column
+-- the row of this number
+abbrev pub row_at : List ClusterRow → ℕ → ClusterRow
+row_at rows k = slice_index_or rows k no_row
+
+-- a row behind these clusters has the offsets of the columns that it lists, before the last row of offsets; of no other column is anything
+-- listed before it
+pub record HasOffsets (firsts offsets : List ℕ) (before : List (Cluster ClusterMeta)) (row : ClusterRow) : Type 0 where
+  pub inside : row.offsets + length row.meta.pages + length firsts ≤ length offsets
+  pub each : (column : ℕ) → column < length row.meta.pages
+      → slice_index offsets (row.offsets + column) ≡ slice_index firsts column + elements_before before column
+  pub others : (column : ℕ) → length row.meta.pages ≤ column → elements_before before column ≡ 0
+
+-- each row has its offsets, and those of all columns behind the last row stand last
 pub record AreOffsets (firsts : List ℕ) (rows : List ClusterRow) (offsets : List ℕ) : Type 0 where
-  pub long : length offsets ≡ (length rows + 1) * length firsts
-  pub each : (k column : ℕ) → k ≤ length rows → column < length firsts
-      → slice_index offsets (k * length firsts + column)
-      ≡ slice_index firsts column + elements_before (take k (row_clusters 0 rows)) column
+  pub long : length firsts ≤ length offsets
+  pub each : (k : ℕ) → k < length rows → HasOffsets firsts offsets (take k (row_clusters 0 rows)) (row_at rows k)
+  pub last : (column : ℕ) → column < length firsts → slice_index offsets (length offsets - length firsts + column)
+      ≡ slice_index firsts column + elements_before (row_clusters 0 rows) column
 
 -- rows and events are those of one history, which is legal
 pub record IsHistory (begin : ℕ) (rows : List ClusterRow) (events : List Event) : Type 0 where

@@ -7,9 +7,9 @@ use Rattle.nt_book.specs.declared.meta.ClusterMeta.{ClusterMeta}
 use Rattle.nt_book.specs.Books.{BookData, book_clusters, book_end, cluster_at}
 use Rattle.nt_book.specs.Pages.{IsPaged}
 
--- a cluster has a list of pages for each of so many columns, and pages that lie in its range; the largest limits hold
+-- a cluster has a list of pages for each of the first columns, of so many, and pages that lie in its range; the largest limits hold
 pub record IsKeptCluster (columns : ℕ) (c : Cluster ClusterMeta) : Type 0 where
-  pub lists : length c.meta.pages ≡ columns
+  pub lists : length c.meta.pages ≤ columns
   pub paged : IsPaged c.meta
   pub len : c.len ≡ c.meta.len
   pub short : c.meta.len ≤ 2 ^ 30

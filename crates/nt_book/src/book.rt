@@ -19,8 +19,8 @@ pub struct Book {
     pub(crate) events: Vec<Event>,
     /// The first element index of each column.
     pub(crate) firsts: Vec<u64>,
-    /// The offset of each column before each cluster and behind the last one, by cluster and
-    /// column.
+    /// The offset before each cluster of each column that it lists, and behind the last one of
+    /// each column, by cluster and column.
     pub(crate) offsets: Vec<u64>,
     pub(crate) begin: u64,
     pub(crate) end: u64,

@@ -29,6 +29,28 @@ fn cluster(alloc: Global, context: u32, len: u64, count: u32) -> Result<ClusterM
     })
 }
 
+/// The same with a second column, which has no page.
+fn wide_cluster(alloc: Global, len: u64, count: u32) -> Result<ClusterMeta, AllocError>
+    requires len { 11 ≤ len }
+    requires count { count ≤ 24 }
+    ensures paged { IfOk result (λ meta. IsPaged meta) }
+    ensures two { IfOk result (λ meta. length meta.pages ≡ 2) }
+{
+    let page = PageMeta {
+        count,
+        place: 0,
+        size: 3,
+    };
+    let second = PageList::from_vec(vec![in alloc; page]?);
+    let first = PageList::from_vec(Vec::new(alloc));
+    Ok(ClusterMeta {
+        context: 0,
+        entries: 2,
+        len,
+        pages: PageLists::from_vec(vec![in alloc; first, second]?),
+    })
+}
+
 /// How a range is handed back.
 #[derive(Clone, Copy)]
 enum Back {
@@ -76,6 +98,20 @@ fn told(book: &Book, cluster: u32) -> Option<(u64, u64, u64, RangeState)>
     ))
 }
 
+/// How many columns a cluster lists, and the offsets of two.
+fn listed(book: &Book, cluster: u32) -> Option<(usize, u64, u64)>
+    requires { length book.now.firsts ≡ 2 }
+{
+    if cluster >= book.clusters() {
+        return None;
+    }
+    Some((
+        book.meta(cluster).pages.as_slice().len(),
+        book.offset(cluster, 0),
+        book.offset(cluster, 1),
+    ))
+}
+
 #[test]
 fn a_book_tells_what_was_appended(rt: HostRuntime) -> Result<(), Fail> {
     let alloc = rt.alloc();
@@ -96,6 +132,22 @@ fn a_book_tells_what_was_appended(rt: HostRuntime) -> Result<(), Fail> {
     assert_eq!(rt; told(&book, 1), Some((350, 2, 5, spoiled)));
     assert_eq!(rt; told(&book, 2), Some((410, 4, 29, RangeState::Settled)));
     assert_eq!(rt; told(&book, 3), None);
+    Ok(())
+}
+
+#[test]
+fn a_column_is_added_behind_a_cluster(rt: HostRuntime) -> Result<(), Fail> {
+    let alloc = rt.alloc();
+    let mut book = Book::new(alloc, 300, 1, limits(100, 1000, 7)?)?;
+    append(&mut book, &mut cluster(alloc, 0, 50, 5)?, Back::Filled)?;
+    let entries = book.entries();
+    book.widen(&[entries])?;
+    append(&mut book, &mut wide_cluster(alloc, 20, 7)?, Back::Filled)?;
+    append(&mut book, &mut wide_cluster(alloc, 20, 1)?, Back::Filled)?;
+    assert_eq!(rt; listed(&book, 0), Some((1, 0, 2)));
+    assert_eq!(rt; listed(&book, 1), Some((2, 5, 2)));
+    assert_eq!(rt; listed(&book, 2), Some((2, 5, 9)));
+    assert_eq!(rt; listed(&book, 3), None);
     Ok(())
 }
 

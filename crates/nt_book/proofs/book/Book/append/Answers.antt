@@ -11,8 +11,9 @@ use Rattle.nt_book.specs.Keeping.{IsHistory, IsCounted, AreOffsets}
 use Rattle.nt_book.specs.Limiting.{limit_error}
 use Rattle.nt_book.specs.Pages.{IsPaged}
 use Rattle.nt_book.proofs.Counted.{count_out-le}
-use Rattle.nt_book.proofs.OneMore.{IsCounted-append, AreOffsets-pushed}
-use Rattle.nt_book.proofs.Fitting.{limit_error-none, fewer, pushed-fit, entries-fit}
+use Rattle.nt_book.proofs.OneMore.{IsCounted-append}
+use Rattle.nt_book.proofs.Fitting.{limit_error-none, fewer, entries-fit}
+use Rattle.nt_book.proofs.OffsetRows.{pushed-fit, AreOffsets-pushed}
 use Rattle.nt_book.proofs.Kept.{limit-book, length-book, end-book, history-committed, IsHistory-committed}
 use Rattle.nt_book.proofs.book.Book.append.Goals as goal
 
@@ -90,7 +91,7 @@ invariant_of-self c =
     (ap (λ (b : BookData). b.limits) c.self.view_is) (sym (ap (λ (b : BookData). b.begin) c.self.view_is)) counted.ends)
     ∙ c.requires.limits)) in
     let number : c.len-cluster.result ≡ length c.self.inside.rows.items = omega (arith, c.len-cluster.ensures, c.self.inside.rows.ok) in
-    let row : ClusterRow = record { meta = c.take.result; start = c.self.inside.end; first = c.self.inside.entries; state = state.Out } in
+    let row : ClusterRow = record { meta = c.take.result; start = c.self.inside.end; first = c.self.inside.entries; offsets = c.len.result - c.len-2.result; state = state.Out } in
     let room = c.self.invariant.3 in
     let spare : 1 ≤ c.self.inside.spare = omega (arith, c.requires.spare, ap (λ (b : BookData). b.spare) c.self.view_is) in
     let pages : length c.as_slice.result.now ≡ length c.self.inside.firsts.items = ap length c.as_slice.ensures ∙ lists in (
@@ -100,7 +101,7 @@ invariant_of-self c =
           (sym c.push_reserved.ensures.items)
           (subst (λ (n : ℕ). IsHistory c.self.inside.begin (c.self.inside.rows.items ++ row ∷ []) (c.self.inside.events.items
           ++ record { context = c.take.result.context; kind = Committed; cluster = n } ∷ [])) (sym number)
-          (IsHistory-committed _ _ _ h c.take.result c.self.inside.end c.self.inside.entries counted.ends))),
+          (IsHistory-committed _ _ _ h c.take.result c.self.inside.end c.self.inside.entries (c.len.result - c.len-2.result) counted.ends))),
       subst (λ (rs : List ClusterRow). IsCounted c.self.inside.begin (c.self.inside.end + c.take.result.len) (c.self.inside.entries
           + c.take.result.entries) (c.self.inside.out + 1) c.self.inside.limits c.self.inside.firsts.items rs)
           (sym c.push_reserved-2.ensures.items)
@@ -109,14 +110,15 @@ invariant_of-self c =
           (record {
             short = omega (arith, fits.0, c.self.inside.limits.range_bound);
             low = omega (arith, fits.1, c.self.inside.limits.file_bound);
-            lists = lists;
+            lists = omega (arith, lists);
             paged = paged;
           }) fits.1 fits.2 counted),
       subst (λ (rs : List ClusterRow). AreOffsets c.self.inside.firsts.items rs c.push_offsets.new.offsets.items)
           (sym c.push_reserved-2.ensures.items)
-          (AreOffsets-pushed c.self.inside.rows.items row c.self.inside.firsts.items c.self.inside.offsets.items
-          c.push_offsets.new.offsets.items _ c.as_slice.ensures lists
-          c.self.invariant.2 c.push_offsets.ensures.pushed),
+          (AreOffsets-pushed c.self.inside.firsts.items c.self.inside.offsets.items c.push_offsets.new.offsets.items
+          c.self.inside.rows.items row _ c.as_slice.ensures lists
+          (omega (arith, c.len.ensures, c.len-2.ensures, c.self.inside.offsets.ok, c.self.inside.firsts.ok))
+          counted.each c.self.invariant.2 c.push_offsets.ensures.pushed),
       record {
         one = omega (arith, room.one);
         for_row = omega (arith, room.for_row, spare, c.push_reserved-2.ensures.len, c.push_reserved-2.ensures.capacity);
@@ -142,7 +144,7 @@ returns-clause-book c =
     let h = c.self.invariant.0 in
     let told = ap (λ (b : BookData). b.history) c.self.view_is in
     let number : c.len-cluster.result ≡ length c.self.inside.rows.items = omega (arith, c.len-cluster.ensures, c.self.inside.rows.ok) in
-    let row : ClusterRow = record { meta = c.take.result; start = c.self.inside.end; first = c.self.inside.entries; state = state.Out } in
+    let row : ClusterRow = record { meta = c.take.result; start = c.self.inside.end; first = c.self.inside.entries; offsets = c.len.result - c.len-2.result; state = state.Out } in
     let counted = c.self.invariant.1 in
     let ends : c.self.inside.end ≡ book_end c.args.self.now =
     counted.ends ∙ sym (end-book _ _ _ h c.args.self.now told (sym (ap (λ (b : BookData). b.begin) c.self.view_is))) in
@@ -156,7 +158,7 @@ returns-clause-book c =
       kind = Committed;
       cluster = n;
     } ∷ [])) number
-    ∙ (history-committed _ _ _ h c.take.result c.self.inside.end c.self.inside.entries counted.ends
+    ∙ (history-committed _ _ _ h c.take.result c.self.inside.end c.self.inside.entries (c.len.result - c.len-2.result) counted.ends
     ∙ (ap (λ (n : ℕ). history_of c.self.inside.rows.items c.self.inside.events.items
     ++ committed_entry n c.self.inside.end c.take.result ∷ []) (sym number)
     ∙ (ap (λ (e : ℕ). history_of c.self.inside.rows.items c.self.inside.events.items ++ committed_entry c.len-cluster.result e
