@@ -23,7 +23,7 @@ use Rattle.nt_book.proofs.Fitting.{low-at, elements_before-le, listed_elements-l
 use Rattle.nt_book.proofs.OneMore.{take-clusters-append, sum-clusters-append}
 
 -- past the last list there is no element
-none-past : (lists : List (List PageMeta)) (column : ℕ) → length lists ≤ column → element_count (slice_index_or lists column []) ≡ 0
+pub none-past : (lists : List (List PageMeta)) (column : ℕ) → length lists ≤ column → element_count (slice_index_or lists column []) ≡ 0
 none-past [] column past = refl
 none-past (l ∷ lists) zero past = absurd (omega (arith, past))
 none-past (l ∷ lists) (suc column) past = none-past lists column (omega (arith, past))

@@ -22,6 +22,7 @@ use Rattle.nt_pages.specs.Metas.{page_metas, column_metas}
 use Rattle.nt_pagelists.specs.declared.column.KnownColumn.{KnownColumn}
 use Rattle.nt_pagelists.specs.Columns.{unknown_column}
 use Rattle.nt_pagelists.specs.SoundBooks.{IsSoundList, HasSoundClusters}
+use Rattle.nt_pagelists.proofs.SoundLists.{unlisted-whole}
 use Rattle.nt_files.specs.Outlines.{known_column, known_columns}
 use Rattle.nt_layout.specs.Laid.{IsBlobOfEntries, AreBlobsOf, none_left, and_blob, IsBookOf}
 use Rattle.nt_finished.proofs.Needs.{any-entries, known-at, known-firsts, length-known}
@@ -103,15 +104,27 @@ module _ (t : Table) (page : ℕ) (some : 0 < page) (none : AllByRecursion (λ (
             (pages_counted at.column.kind page at.place at.column.elements some ∙ (sym (ap length at.elements) ∙ (long ∙ sym entries)));
       }
 
+  sound-at : (book : BookData) (clusters : List (List TreesData)) (ranges : List (List ℕ))
+      → AreBlobsOf t page clusters ranges (book_clusters book) → (k j : ℕ) → k < length (book_clusters book) → j < length t.columns
+      → IsSoundList (cluster_at book k).meta.entries (first_entry book k) (slice_index_or (known_columns t) j unknown_column)
+      (slice_index_or (cluster_at book k).meta.pages j [])
+  sound-at book clusters ranges are k j inside less =
+      sound-list (cluster_at book k) (first_entry book k) (blob-at t page clusters ranges (book_clusters book) are k inside) j less
+
   pub sound_clusters : (book : BookData) (clusters : List (List TreesData)) (ranges : List (List ℕ)) → IsBookOf t book
       → AreBlobsOf t page clusters ranges (book_clusters book)
       → (from count : ℕ) → from + count ≤ length (book_clusters book) → HasSoundClusters (known_columns t) book from count
-  sound_clusters book clusters ranges of are from count inside = record {
-    kept = of.kept;
-    firsts = known-firsts t 0 t.columns ∙ of.firsts;
-    inside = inside;
-    each = λ k j low high less.
-        sound-list (cluster_at book k) (first_entry book k)
-        (blob-at t page clusters ranges (book_clusters book) are k (omega (arith, high, inside))) j
-        (omega (arith, less, length-known t 0 t.columns));
-  }
+  sound_clusters book clusters ranges of are from count inside =
+      let long : length t.columns ≡ length book.firsts = sym (length-map t.columns (λ (c : ColumnRow). c.first)) ∙ ap length of.firsts in
+      record {
+        kept = of.kept;
+        firsts = known-firsts t 0 t.columns ∙ of.firsts;
+        inside = inside;
+        each = λ k j low high listed.
+            let lists = (of.kept.clusters k (omega (arith, high, inside))).lists in
+            sound-at book clusters ranges are k j (omega (arith, high, inside)) (omega (arith, listed, lists, long));
+        others = λ k j low high past less.
+            unlisted-whole (cluster_at book k).meta.entries (first_entry book k) j (slice_index_or (known_columns t) j unknown_column)
+            (cluster_at book k).meta.pages past
+            (sound-at book clusters ranges are k j (omega (arith, high, inside)) (omega (arith, less, length-known t 0 t.columns)));
+      }

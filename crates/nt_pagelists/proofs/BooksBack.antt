@@ -1,28 +1,28 @@
 -- What is written of a book's clusters is read back as these clusters.
-use Rattle.std.proofs.Common.{◌≡◌, ℕ, zero, suc, ◌+◌, ◌-◌, ◌<◌, ◌≤◌, ◌^◌, min, true, List, [], ◌∷◌, ◌++◌, length, take, drop, map, Ok, refl}
+use Rattle.std.proofs.Common.{◌≡◌, ℕ, zero, suc, ◌+◌, ◌-◌, ◌<◌, ◌≤◌, ◌^◌, min, true, List, [], ◌∷◌, ◌++◌, length, take, map, Ok, refl}
 use Rattle.std.proofs.Common.{sym, ap, subst, ◌∙◌, arith}
 use Rattle.std.specs.Prelude.{slice_index_or}
-use Rattle.std.specs.List.{AllByRecursion, range_with_len, list_all}
-use Rattle.std.proofs.lemmas.List.{length-map, drop_all, get_or-map}
+use Rattle.std.specs.List.{AllByRecursion, range_with_len}
+use Rattle.std.proofs.lemmas.List.{length-map, get_or-map}
 use Rattle.std.proofs.lemmas.List.FromFn.{length-map-range_with_len, get_or-map-range_with_len}
 use Rattle.nt_format.specs.Reading.{standing}
 use Rattle.nt_book.specs.declared.meta.PageMeta.{PageMeta}
-use Rattle.nt_book.specs.Pages.{element_count, listed_elements, IsPageOf}
+use Rattle.nt_book.specs.Pages.{IsPageOf}
 use Rattle.nt_book.specs.Books.{BookData, book_clusters, cluster_at, first_entry, column_offset, elements_before}
-use Rattle.nt_book.specs.Kept.{IsKeptCluster, IsBookKept}
+use Rattle.nt_book.specs.Kept.{IsKeptCluster}
 use Rattle.nt_pagelists.specs.declared.column.KnownColumn.{KnownColumn}
 use Rattle.nt_pagelists.specs.declared.cluster.ClusterSummary.{ClusterSummary}
-use Rattle.nt_pagelists.specs.declared.page.PageItem.{PageItem}
 use Rattle.nt_pagelists.specs.declared.group.Group.{Group}
 use Rattle.nt_pagelists.specs.Columns.{unknown_column, paged_elements, is_sound_column}
 use Rattle.nt_pagelists.specs.PageLists.{ProgressCounts, with_group, page_list_at}
-use Rattle.nt_pagelists.specs.Writing.{ListedColumn, ListedCluster, page_list_text}
+use Rattle.nt_pagelists.specs.Writing.{page_list_text}
 use Rattle.nt_pagelists.specs.ReadingBack.{cluster_lists_from, first_cluster_place, with_listed, with_all_listed, listed_entries}
 use Rattle.nt_pagelists.specs.ReadingBack.{IsListedColumn, AreListedColumns, IsListedCluster, AreListedClusters}
 use Rattle.nt_pagelists.specs.Books.{payload_place, page_item, listed_column, listed_cluster, listed_clusters, progress_before}
-use Rattle.nt_pagelists.specs.SoundBooks.{IsSoundList, HasSoundClusters}
+use Rattle.nt_pagelists.specs.SoundBooks.{HasSoundClusters}
 use Rattle.nt_pagelists.proofs.SoundLists.{items-told, items-counted, none-left, column-sound, elements-fit, entries-fit, elements-more}
-use Rattle.nt_pagelists.proofs.SoundLists.{entries-more, few-pages}
+use Rattle.nt_pagelists.proofs.SoundLists.{entries-more, few-pages, unlisted-sound, list_all-drop}
+use Rattle.nt_book.proofs.OffsetRows.{none-past}
 use Rattle.nt_pagelists.proofs.ClustersBack.{page-list-reads}
 
 -- a book's clusters, of which these columns are known
@@ -76,11 +76,15 @@ module _ (columns : List KnownColumn) (book : BookData) (from count : ℕ) (h : 
     paged (l ∷ lists) zero all = all.0
     paged (l ∷ lists) (suc column) all = paged lists column all.1
 
-    column-listed : (column : ℕ) → column < length columns → IsListedColumn summary columns (sums k) column (listed_column book k column)
-    column-listed column less =
+    most-listed : length (cluster_at book k).meta.pages ≤ length columns
+    most-listed = let lists = kept.lists in omega (arith, lists, as_many)
+
+    column-listed : (column : ℕ) → column < length (cluster_at book k).meta.pages → IsListedColumn summary columns (sums k) column (listed_column book k column)
+    column-listed column listed =
+        let less : column < length columns = omega (arith, listed, most-listed) in
         let c = slice_index_or columns column unknown_column in
         let payload = payload_place (cluster_at book k) in
-        let is = h.each k column low high less in
+        let is = h.each k column low high listed in
         let counted = items-counted payload (pages column) in
         let offset = offset-is k column less in
         let sound = column-sound summary c (slice_index_or (sums k) column 0) (map (page_item payload) (pages column)) is.begun
@@ -100,7 +104,7 @@ module _ (columns : List KnownColumn) (book : BookData) (from count : ℕ) (h : 
               (map (page_item payload) (pages column)) n ≡ true) (sym offset) sound;
         }
 
-    columns-listed : (column n : ℕ) → column + n ≤ length columns
+    columns-listed : (column n : ℕ) → column + n ≤ length (cluster_at book k).meta.pages
         → AreListedColumns summary columns (sums k) column (map (listed_column book k) (range_with_len column n))
     columns-listed column zero most = tt
     columns-listed column (suc n) most =
@@ -110,41 +114,56 @@ module _ (columns : List KnownColumn) (book : BookData) (from count : ℕ) (h : 
               (map (listed_column book k) (range_with_len (column + 1) n))) next (columns-listed (column + 1) n (omega (arith, most))),
         )
 
-    lists-long : length (listed_cluster book k).columns ≡ length columns
-    lists-long = length-map-range_with_len (listed_column book k) 0 (length (cluster_at book k).meta.pages) ∙ (kept.lists ∙ sym as_many)
+    lists-long : length (listed_cluster book k).columns ≡ length (cluster_at book k).meta.pages
+    lists-long = length-map-range_with_len (listed_column book k) 0 (length (cluster_at book k).meta.pages)
+
+    others-sound : (column : ℕ) → length (listed_cluster book k).columns ≤ column → column < length columns
+        → is_sound_column summary (slice_index_or columns column unknown_column) 0 [] 0 ≡ true
+    others-sound column past less =
+        unlisted-sound summary (slice_index_or columns column unknown_column)
+        (h.others k column low high (omega (arith, past, lists-long)) less)
 
     cluster-listed : IsListedCluster columns k (first_entry book k) (sums k) (listed_cluster book k)
     cluster-listed =
-        let all : drop (length (listed_cluster book k).columns) columns ≡ [] =
-        drop_all (length (listed_cluster book k).columns) columns (omega (arith, lists-long)) in
         let entries = kept.paged.entries in
         record {
           numbered = refl;
           begins = refl;
           low = omega (arith, entries-fit book k h.kept);
           size = omega (arith, entries, kept.short);
-          listed = columns-listed 0 (length (cluster_at book k).meta.pages) (omega (arith, kept.lists, as_many));
-          few = omega (arith, lists-long);
-          unlisted = ap (λ (l : List KnownColumn). list_all (λ c. is_sound_column summary c 0 [] 0) l) all;
+          listed = columns-listed 0 (length (cluster_at book k).meta.pages) (omega arith);
+          few = omega (arith, lists-long, most-listed);
+          unlisted = list_all-drop (λ c. is_sound_column summary c 0 [] 0) columns (length (listed_cluster book k).columns)
+              unknown_column others-sound;
         }
 
-    -- the elements with this cluster
-    more-each : (column n : ℕ) → with_listed (map (cells k) (range_with_len column n))
-        (map (listed_column book k) (range_with_len column n)) ≡ map (cells (k + 1)) (range_with_len column n)
-    more-each column zero = refl
-    more-each column (suc n) =
+    -- the elements with this cluster: of columns that it doesn't list none come
+    none-more : (column n : ℕ) → length (cluster_at book k).meta.pages ≤ column
+        → map (cells k) (range_with_len column n) ≡ map (cells (k + 1)) (range_with_len column n)
+    none-more column zero past = refl
+    none-more column (suc n) past =
+        let none = none-past (cluster_at book k).meta.pages column past in
+        let same : cells k column ≡ cells (k + 1) column = omega (arith, none, elements-more book k column there) in
+        ap (λ (m : ℕ). m ∷ map (cells k) (range_with_len (column + 1) n)) same
+        ∙ ap (λ (l : List ℕ). cells (k + 1) column ∷ l) (none-more (column + 1) n (omega (arith, past)))
+
+    more-each : (column n m : ℕ) → n ≤ m → column + n ≡ length (cluster_at book k).meta.pages
+        → with_listed (map (cells k) (range_with_len column m)) (map (listed_column book k) (range_with_len column n))
+        ≡ map (cells (k + 1)) (range_with_len column m)
+    more-each column zero m most all = none-more column m (omega (arith, all))
+    more-each column (suc n) zero most all = absurd (omega (arith, most))
+    more-each column (suc n) (suc m) most all =
         let counted = items-counted (payload_place (cluster_at book k)) (pages column) in
         let next = elements-more book k column there in
         let fits = elements-fit book (k + 1) column h.kept in
         let sum : min (cells k column + paged_elements (listed_column book k column).pages) (2 ^ 64 - 1) ≡ cells (k + 1) column =
         omega (arith, counted, next, fits) in
-        ap (λ (m : ℕ). m ∷ with_listed (map (cells k) (range_with_len (column + 1) n))
+        ap (λ (e : ℕ). e ∷ with_listed (map (cells k) (range_with_len (column + 1) m))
         (map (listed_column book k) (range_with_len (column + 1) n))) sum
-        ∙ ap (λ (l : List ℕ). cells (k + 1) column ∷ l) (more-each (column + 1) n)
+        ∙ ap (λ (l : List ℕ). cells (k + 1) column ∷ l) (more-each (column + 1) n m (omega (arith, most)) (omega (arith, all)))
 
     sums-more : with_listed (sums k) (listed_cluster book k).columns ≡ sums (k + 1)
-    sums-more =
-        ap (λ (n : ℕ). with_listed (sums k) (map (listed_column book k) (range_with_len 0 n))) kept.lists ∙ more-each 0 (length book.firsts)
+    sums-more = more-each 0 (length (cluster_at book k).meta.pages) (length book.firsts) (omega (arith, most-listed, as_many)) (omega arith)
 
   -- so many clusters
   clusters-listed : (k n : ℕ) → from ≤ k → k + n ≤ from + count

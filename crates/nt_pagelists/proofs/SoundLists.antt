@@ -1,8 +1,8 @@
 -- Pages of a book's clusters, and what they sum up to.
-use Rattle.std.proofs.Common.{◌≡◌, ℕ, zero, suc, ◌+◌, ◌-◌, ◌*◌, ◌<◌, ◌≤◌, ◌^◌, min, Bool, true, false, not, ◌&&◌, ◌||◌, cond, eqb, ltb}
-use Rattle.std.proofs.Common.{List, [], ◌∷◌, ◌++◌, length, take, drop, map, refl, sym, ap, subst, ◌∙◌, arith}
+use Rattle.std.proofs.Common.{◌≡◌, ℕ, zero, suc, ◌+◌, ◌*◌, ◌<◌, ◌≤◌, ◌^◌, Bool, true, false, not, ◌&&◌, ◌||◌, cond, eqb, ltb}
+use Rattle.std.proofs.Common.{List, [], ◌∷◌, length, take, drop, map, refl, sym, ap, ◌∙◌, arith, ◌⊎◌, inl, inr}
 use Rattle.std.specs.Prelude.{slice_index_or}
-use Rattle.std.specs.List.{AllByRecursion, sum_by, range_with_len}
+use Rattle.std.specs.List.{AllByRecursion, sum_by, list_all}
 use Rattle.std.proofs.lemmas.Bool.Decides.{nat_tests}
 use Rattle.std.proofs.lemmas.List.Sums.{sum_by-cons, sum_by_push}
 use Rattle.std.proofs.Math.Seq.{take-suc}
@@ -10,15 +10,16 @@ use Rattle.nt_machine.specs.History.{Cluster}
 use Rattle.nt_book.specs.declared.meta.PageMeta.{PageMeta}
 use Rattle.nt_book.specs.declared.meta.ClusterMeta.{ClusterMeta}
 use Rattle.nt_book.specs.Pages.{element_count, listed_elements, stored_size, IsPageOf, IsPaged}
-use Rattle.nt_book.specs.Books.{BookData, book_clusters, book_end, cluster_at, no_cluster, first_entry, entry_count, elements_before}
+use Rattle.nt_book.specs.Books.{BookData, book_clusters, cluster_at, no_cluster, first_entry, entry_count, elements_before}
 use Rattle.nt_book.specs.Kept.{IsKeptCluster, IsBookKept}
 use Rattle.nt_book.proofs.Fitting.{listed_elements-le}
 use Rattle.nt_pagelists.specs.declared.page.PageItem.{PageItem}
 use Rattle.nt_pagelists.specs.declared.column.KnownColumn.{KnownColumn}
 use Rattle.nt_pagelists.specs.declared.cluster.ClusterSummary.{ClusterSummary}
 use Rattle.nt_pagelists.specs.Columns.{paged_elements, no_pages, is_sound_column}
-use Rattle.nt_pagelists.specs.ReadingBack.{IsPageItem, ArePageItems}
+use Rattle.nt_pagelists.specs.ReadingBack.{ArePageItems}
 use Rattle.nt_pagelists.specs.Books.{page_item}
+use Rattle.nt_pagelists.specs.SoundBooks.{IsSoundList, IsSoundUnlisted}
 
 -- pages of a book can be told
 pub items-told : (meta : ClusterMeta) (payload : ℕ) (pages : List PageMeta) → payload + meta.len < 2 ^ 64 → meta.len ≤ 2 ^ 30
@@ -70,6 +71,42 @@ pub column-sound : (k : ClusterSummary) (c : KnownColumn) (before : ℕ) (pages 
     → is_sound_column k c before pages (c.first + before) ≡ true
 column-sound k c before pages a b e = plain-sound c.is_open c.is_principal (no_pages pages) k.first k.entries c.first
     (paged_elements pages) before a b e
+
+-- the same of a column without a page
+unlisted-plain : (o p : Bool) (from n f : ℕ) → (p ≡ true → (n ≡ 0) ⊎ (from + n ≤ f))
+    → (not (o && p && ltb from f && ltb f (from + n)) && ((not (o && p) || cond (eqb n 0 || ltb from f) true (eqb 0 n))
+    && (not o || eqb 0 0 || eqb 0 (f + 0)))) ≡ true
+unlisted-plain true true from n f h = late (h refl)
+  where
+    late : (n ≡ 0) ⊎ (from + n ≤ f)
+        → (not (true && true && ltb from f && ltb f (from + n)) && ((not (true && true) || cond (eqb n 0 || ltb from f) true (eqb 0 n))
+        && (not true || eqb 0 0 || eqb 0 (f + 0)))) ≡ true
+    late (inl none) = grind (arith, nat_tests, none)
+    late (inr behind) = grind (arith, nat_tests, behind)
+unlisted-plain true false from n f h = refl
+unlisted-plain false p from n f h = refl
+
+pub unlisted-sound : (k : ClusterSummary) (c : KnownColumn) → IsSoundUnlisted k.entries k.first c → is_sound_column k c 0 [] 0 ≡ true
+unlisted-sound k c h = unlisted-plain c.is_open c.is_principal k.first k.entries c.first h
+
+pub list_all-drop : {X : Type 0} (f : X → Bool) (xs : List X) (n : ℕ) (d : X)
+    → ((j : ℕ) → n ≤ j → j < length xs → f (slice_index_or xs j d) ≡ true) → list_all f (drop n xs) ≡ true
+list_all-drop f [] zero d h = refl
+list_all-drop f [] (suc n) d h = refl
+list_all-drop f (x ∷ xs) zero d h =
+    ap (λ (b : Bool). b && list_all f xs) (h 0 (omega arith) (omega arith))
+    ∙ list_all-drop f xs 0 d (λ j from less. h (suc j) (omega arith) (omega (arith, less)))
+list_all-drop f (x ∷ xs) (suc n) d h = list_all-drop f xs n d (λ j from less. h (suc j) (omega (arith, from)) (omega (arith, less)))
+
+-- a list that isn't there is empty, so where each column would be sound with it none need be listed
+past-lists : (lists : List (List PageMeta)) (column : ℕ) → length lists ≤ column → slice_index_or lists column [] ≡ []
+past-lists [] column past = refl
+past-lists (l ∷ lists) zero past = absurd (omega (arith, past))
+past-lists (l ∷ lists) (suc column) past = past-lists lists column (omega (arith, past))
+
+pub unlisted-whole : (entries first column : ℕ) (c : KnownColumn) (lists : List (List PageMeta)) → length lists ≤ column
+    → IsSoundList entries first c (slice_index_or lists column []) → IsSoundUnlisted entries first c
+unlisted-whole entries first column c lists past h p = inl (sym (h.each p) ∙ ap element_count (past-lists lists column past))
 
 -- sums over the clusters of a kept book
 

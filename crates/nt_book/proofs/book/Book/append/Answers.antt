@@ -91,7 +91,9 @@ invariant_of-self c =
     (ap (λ (b : BookData). b.limits) c.self.view_is) (sym (ap (λ (b : BookData). b.begin) c.self.view_is)) counted.ends)
     ∙ c.requires.limits)) in
     let number : c.len-cluster.result ≡ length c.self.inside.rows.items = omega (arith, c.len-cluster.ensures, c.self.inside.rows.ok) in
-    let row : ClusterRow = record { meta = c.take.result; start = c.self.inside.end; first = c.self.inside.entries; offsets = c.len.result - c.len-2.result; state = state.Out } in
+    let at = c.len.result - c.len-2.result in
+    let row : ClusterRow =
+    record { meta = c.take.result; start = c.self.inside.end; first = c.self.inside.entries; offsets = at; state = state.Out } in
     let room = c.self.invariant.3 in
     let spare : 1 ≤ c.self.inside.spare = omega (arith, c.requires.spare, ap (λ (b : BookData). b.spare) c.self.view_is) in
     let pages : length c.as_slice.result.now ≡ length c.self.inside.firsts.items = ap length c.as_slice.ensures ∙ lists in (
@@ -101,7 +103,7 @@ invariant_of-self c =
           (sym c.push_reserved.ensures.items)
           (subst (λ (n : ℕ). IsHistory c.self.inside.begin (c.self.inside.rows.items ++ row ∷ []) (c.self.inside.events.items
           ++ record { context = c.take.result.context; kind = Committed; cluster = n } ∷ [])) (sym number)
-          (IsHistory-committed _ _ _ h c.take.result c.self.inside.end c.self.inside.entries (c.len.result - c.len-2.result) counted.ends))),
+          (IsHistory-committed _ _ _ h c.take.result c.self.inside.end c.self.inside.entries at counted.ends))),
       subst (λ (rs : List ClusterRow). IsCounted c.self.inside.begin (c.self.inside.end + c.take.result.len) (c.self.inside.entries
           + c.take.result.entries) (c.self.inside.out + 1) c.self.inside.limits c.self.inside.firsts.items rs)
           (sym c.push_reserved-2.ensures.items)
@@ -144,7 +146,9 @@ returns-clause-book c =
     let h = c.self.invariant.0 in
     let told = ap (λ (b : BookData). b.history) c.self.view_is in
     let number : c.len-cluster.result ≡ length c.self.inside.rows.items = omega (arith, c.len-cluster.ensures, c.self.inside.rows.ok) in
-    let row : ClusterRow = record { meta = c.take.result; start = c.self.inside.end; first = c.self.inside.entries; offsets = c.len.result - c.len-2.result; state = state.Out } in
+    let at = c.len.result - c.len-2.result in
+    let row : ClusterRow =
+    record { meta = c.take.result; start = c.self.inside.end; first = c.self.inside.entries; offsets = at; state = state.Out } in
     let counted = c.self.invariant.1 in
     let ends : c.self.inside.end ≡ book_end c.args.self.now =
     counted.ends ∙ sym (end-book _ _ _ h c.args.self.now told (sym (ap (λ (b : BookData). b.begin) c.self.view_is))) in
@@ -158,7 +162,7 @@ returns-clause-book c =
       kind = Committed;
       cluster = n;
     } ∷ [])) number
-    ∙ (history-committed _ _ _ h c.take.result c.self.inside.end c.self.inside.entries (c.len.result - c.len-2.result) counted.ends
+    ∙ (history-committed _ _ _ h c.take.result c.self.inside.end c.self.inside.entries at counted.ends
     ∙ (ap (λ (n : ℕ). history_of c.self.inside.rows.items c.self.inside.events.items
     ++ committed_entry n c.self.inside.end c.take.result ∷ []) (sym number)
     ∙ (ap (λ (e : ℕ). history_of c.self.inside.rows.items c.self.inside.events.items ++ committed_entry c.len-cluster.result e
