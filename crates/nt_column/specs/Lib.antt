@@ -5,5 +5,6 @@ pub mod Kept
 pub mod Widths
 pub mod Bits
 pub mod Store
+pub mod Words
 pub mod Lending
 pub mod Growing

@@ -1,12 +1,13 @@
 //! A column in memory, whose elements are added one after the other.
 
-ghost use Rattle.std.specs.Prelude.{◌≡◌, ◌+◌, ◌-◌, ◌<◌, ◌≤◌, ◌^◌, [], ◌∷◌, length, map, slice_index, IsTrue, IsSome, IfSome, OnOk, IfOk, IsOkAnd};
+ghost use Rattle.std.specs.Prelude.{◌≡◌, ◌≢◌, ◌+◌, ◌-◌, ◌<◌, ◌≤◌, ◌^◌, [], ◌∷◌, length, map, slice_index, IsTrue, IsSomeAnd, IfSome, OnOk, IfOk, IsOkAnd};
 ghost use Rattle.std.specs.List.{slice_range};
 ghost use Rattle.nt_types.specs.declared.column_type.ColumnType.TheVariants.{Switch};
 ghost use Rattle.nt_types.specs.ColumnTable.{bits_of};
 ghost use Rattle.nt_encode.specs.Pages.{page_size};
 ghost use Rattle.nt_column.specs.Elements.{plain, numbers, tags, text_of, page_of, page_elements};
 ghost use Rattle.nt_column.specs.Cow.{cow_items, is_borrowed};
+ghost use Rattle.nt_column.specs.Words.{lent_elements, lent_width};
 ghost use Rattle.nt_column.specs.Column.{empty, zeroed, with_more, cut_to, IsInRange, TakesNumber};
 ghost use Rattle.nt_lists.specs.Chunks.{chunks};
 
@@ -14,6 +15,7 @@ use crate::cow::{CowSlice, lent};
 use crate::low_bytes::low_bytes;
 use crate::store::Store;
 use crate::store_page::encode_store;
+use crate::words::{WordSlice, words_of};
 use crate::zero_page::encode_zeros;
 use nt_types::ColumnType;
 use std::alloc::{AllocError, Global};
@@ -221,22 +223,22 @@ impl ColumnBuf {
         ensures lent { bits_of self.now.column.kind ≡ 8 → self.now.column.zeros ≡ 0
             → IsOkAnd result (λ t. IsTrue (is_borrowed t)) }
     {
-        match self.bytes() {
-            Some(bytes) => Ok(lent(bytes, from, to)),
-            None => Ok(CowSlice::Owned(low_bytes(self, alloc, from, to)?)),
+        match self.words() {
+            Some(WordSlice::Bytes(bytes)) => Ok(lent(bytes, from, to)),
+            _ => Ok(CowSlice::Owned(low_bytes(self, alloc, from, to)?)),
         }
     }
 
-    /// The elements of 8 bits that are kept here.
-    fn bytes(&self) -> Option<&[u8]>
-        ensures bytes { IfSome result (λ b. map plain b.now ≡ self.now.column.elements) }
-        ensures found { bits_of self.now.column.kind ≡ 8 → self.now.column.zeros ≡ 0
-            → IsSome result }
+    /// The elements as they lie here, where they are neither kept as a count nor pairs.
+    pub fn words(&self) -> Option<WordSlice<'_>>
+        ensures words { IfSome result (λ w. lent_elements w ≡ self.now.column.elements) }
+        ensures found { self.now.column.kind ≢ Switch → self.now.column.zeros ≡ 0
+            → IsSomeAnd result (λ w. lent_width w ≡ bits_of self.now.column.kind) }
     {
         if self.zeros > 0 {
             None
         } else {
-            self.store.bytes()
+            words_of(&self.store)
         }
     }
 }

@@ -1,12 +1,14 @@
 //! Columns that are read.
 
-ghost use Rattle.std.specs.Prelude.{◌≡◌, ◌<◌, ◌≤◌, ℕ, List, length, slice_index, IfOk, Option, Some};
+ghost use Rattle.std.specs.Prelude.{◌≡◌, ◌<◌, ◌≤◌, ℕ, List, length, slice_index, IfSome, IfOk, Option, Some};
 ghost use Rattle.nt_types.specs.declared.column_type.ColumnType.{ColumnType};
 ghost use Rattle.std.specs.List.{slice_range};
 ghost use Rattle.nt_column.specs.Elements.{Element, numbers, tags, text_of, AreElementsOf};
 ghost use Rattle.nt_column.specs.Cow.{cow_items};
+ghost use Rattle.nt_column.specs.Words.{lent_elements};
 
 use crate::cow::CowSlice;
+use crate::words::WordSlice;
 use std::alloc::{AllocError, Global};
 
 /// The elements of columns, by the column's id and the element's place, both from 0. Threads may
@@ -49,4 +51,8 @@ pub trait Columns: Sync {
         requires within { to ≤ length (elements self.now column) }
         ensures text { IfOk result
             (λ t. cow_items t ≡ text_of (slice_range (elements self.now column) from to)) };
+
+    /// The elements of a column as they lie, where they lie together as numbers of one width.
+    fn words(&self, column: u32) -> Option<WordSlice<'_>>
+        ensures words { IfSome result (λ w. lent_elements w ≡ elements self.now column) };
 }

@@ -13,7 +13,8 @@
 //! element; a page is read straight into a buffer (`push_page`, by `page_elements`), and a buffer
 //! is cut to its first elements (`cut`); the page of any part (`encode`, by `page_of`); the number of pages (`page_cut`, by
 //! nt_lists' `chunks`); a page's size (`pages_have_their_size`); a set lends its buffers and
-//! answers elements, tags and texts (`Columns`), a text of 8 bits without a copy (`lent`); each
+//! answers elements, tags and texts (`Columns`), a text of 8 bits without a copy (`lent`); a column's
+//! elements are lent as they lie (`words`), but those of a Switch or of a count of zeros; each
 //! element is one of its column's type (`in_range`, of a buffer and of `Columns`).
 //!
 //! Only tested: pages against tables that were made outside, and a set handed to another thread.
@@ -38,6 +39,7 @@ mod set;
 mod store;
 mod store_page;
 mod widths;
+mod words;
 mod zero_page;
 
 pub use buffer::ColumnBuf;
@@ -45,3 +47,4 @@ pub use columns::Columns;
 pub use cow::CowSlice;
 pub use laws::{buffers_can_be_shared, pages_have_their_size};
 pub use set::ColumnSet;
+pub use words::WordSlice;

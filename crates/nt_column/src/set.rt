@@ -8,6 +8,7 @@ ghost use Rattle.nt_column.specs.Lending.{LendsBuffer};
 use crate::buffer::ColumnBuf;
 use crate::columns::Columns;
 use crate::cow::CowSlice;
+use crate::words::WordSlice;
 use nt_types::ColumnType;
 use std::alloc::{AllocError, Global};
 use std::marker::Model;
@@ -84,12 +85,14 @@ impl ColumnSet {
 }
 
 impl Columns for ColumnSet {
-    ghost use Rattle.std.specs.Prelude.{◌≡◌, ◌<◌, ◌≤◌, length, Some, slice_get, IsTrue, IfOk, IsOkAnd};
+    ghost use Rattle.std.specs.Prelude.{◌≡◌, ◌≢◌, ◌<◌, ◌≤◌, length, Some, slice_get, IsTrue, IsSome, IfSome, IfOk, IsOkAnd};
     ghost use Rattle.std.specs.List.{slice_range};
     ghost use Rattle.nt_types.specs.ColumnTable.{bits_of};
     ghost use Rattle.nt_column.specs.Elements.{text_of};
     ghost use Rattle.nt_column.specs.Column.{Buffer, columns_of, elements_at, kind_at};
     ghost use Rattle.nt_column.specs.Cow.{cow_items, is_borrowed};
+    ghost use Rattle.nt_types.specs.declared.column_type.ColumnType.TheVariants.{Switch};
+    ghost use Rattle.nt_column.specs.Words.{lent_elements};
 
     ghost elements = { λ s k. elements_at (columns_of s) k };
 
@@ -137,6 +140,20 @@ impl Columns for ColumnSet {
             self.column(column).text(alloc, from as usize, to as usize)
         } else {
             Ok(CowSlice::Owned(Vec::new(alloc)))
+        }
+    }
+
+    fn words(&self, column: u32) -> Option<WordSlice<'_>>
+        ensures words { IfSome result
+            (λ w. lent_elements w ≡ elements_at (columns_of self.now) column) }
+        // Each column is lent but a Switch and one that is kept as a count of zeros.
+        ensures lent { (b : Buffer) → slice_get self.now column ≡ Some b → b.column.kind ≢ Switch
+            → b.column.zeros ≡ 0 → IsSome result }
+    {
+        if (column as usize) < self.columns() {
+            self.column(column).words()
+        } else {
+            None
         }
     }
 }

@@ -1,6 +1,6 @@
 //! The elements of a buffer, each kept at the width of its type.
 
-ghost use Rattle.std.specs.Prelude.{◌≡◌, ◌≢◌, ◌+◌, ◌-◌, ◌<◌, ◌≤◌, ◌^◌, ◌↔◌, [], ◌∷◌, ◌++◌, length, map, take, slice_index, OnOk, IsSome, IfSome};
+ghost use Rattle.std.specs.Prelude.{◌≡◌, ◌≢◌, ◌+◌, ◌-◌, ◌<◌, ◌≤◌, ◌^◌, [], ◌∷◌, ◌++◌, length, map, take, slice_index, OnOk};
 ghost use Rattle.std.specs.List.{slice_range};
 ghost use Rattle.nt_types.specs.ColumnTable.{bits_of};
 ghost use Rattle.nt_encode.specs.Pages.{page_size};
@@ -211,17 +211,6 @@ impl Store {
         match self {
             Store::Pairs(pairs) => pairs.tag(i),
             _ => 0,
-        }
-    }
-
-    /// The elements of 8 bits, as they lie here.
-    pub fn bytes(&self) -> Option<&[u8]>
-        ensures found { IsSome result ↔ (width_of self.now ≡ 8) }
-        ensures bytes { IfSome result (λ b. map plain b.now ≡ elements_of self.now) }
-    {
-        match self {
-            Store::Bytes(list) => Some(list),
-            _ => None,
         }
     }
 }
