@@ -4,3 +4,4 @@ pub mod Inner
 pub mod InOrder
 pub mod Marking
 pub mod UseLaws
+pub mod TypeNames

@@ -1,4 +1,3 @@
-pub mod TypeNames
 pub mod RowSteps
 pub mod Appended
 pub mod ByName

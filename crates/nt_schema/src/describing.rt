@@ -14,7 +14,6 @@ pub(crate) mod columns;
 mod extending;
 mod node;
 mod nodes;
-mod type_name;
 
 use crate::describing::columns::push_columns;
 use crate::describing::node::{Node, field_row};

@@ -4,9 +4,9 @@ ghost use Rattle.std.specs.Prelude.{◌≡◌, IfOk};
 ghost use Rattle.nt_grammar.specs.Rows.{field_row};
 ghost use Rattle.nt_schema.specs.Describing.{label_view, node_view};
 
-use crate::describing::type_name::{role_of, type_name};
 use itoa::Buffer;
 use nt_grammar::FieldRow;
+use nt_open::{role_of, type_name};
 use nt_types::{Bytes, Shape};
 use std::alloc::{AllocError, Global};
 

@@ -1,4 +1,4 @@
-//! Roles and type names of fields.
+//! What a row says of a field of a shape: its role, and the name of its type.
 
 ghost use Rattle.std.specs.Prelude.{◌≡◌, ◌++◌, true, map, codes, OnOk, IfOk};
 ghost use Rattle.nt_types.specs.Views.{shape_view, shapes_view};
@@ -9,7 +9,7 @@ use nt_types::{Bytes, Shape, Shapes};
 use std::alloc::{AllocError, Global};
 
 /// The structural role of a field.
-pub(crate) fn role_of(shape: &Shape) -> u16
+pub fn role_of(shape: &Shape) -> u16
     ensures { result ≡ role_of (shape_view shape.now) }
 {
     match shape {
@@ -128,8 +128,8 @@ fn put_names(out: &mut Vec<u8>, shapes: &[Shape]) -> Result<(), AllocError>
     Ok(())
 }
 
-/// The type name of a field.
-pub(crate) fn type_name(alloc: Global, shape: &Shape) -> Result<Bytes, AllocError>
+/// The name of a field's type in C++; it is empty where values hold a record with named members.
+pub fn type_name(alloc: Global, shape: &Shape) -> Result<Bytes, AllocError>
     ensures { IfOk result (λ name. name ≡ type_name (shape_view shape.now)) }
 {
     let mut out = Vec::new(alloc);
