@@ -1,14 +1,13 @@
 //! Descriptions read from bytes.
 
 ghost use Rattle.std.specs.Prelude.{◌≡◌, ◌+◌, ◌<◌, ◌≤◌, ◌^◌, true, vec_len, ℕ, List, ◌++◌, length, Ok, OnOk, OnErr};
-ghost use Rattle.std.specs.List.{list_all};
 ghost use Rattle.nt_num.specs.Place.{At};
 ghost use Rattle.nt_format.specs.Reading.{standing, IsBytes};
-ghost use Rattle.nt_grammar.specs.Table.{Table, is_short};
+ghost use Rattle.nt_grammar.specs.Table.{Table};
 ghost use Rattle.nt_grammar.specs.Writing.{description, part_fields, part_columns};
 ghost use Rattle.nt_grammar.specs.Reading.{rows_at, description_at};
 ghost use Rattle.nt_lists.specs.Answering.{Answers};
-ghost use Rattle.nt_schema.specs.Reading.{fault_of};
+ghost use Rattle.nt_schema.specs.Reading.{fault_of, AreShortRows};
 ghost use Rattle.nt_grammar.specs.ReadingBack.{IsDescribed, AddsRows, before, up_to};
 
 mod columns;
@@ -35,16 +34,12 @@ fn read_rows(
     fields: &mut Vec<FieldRow>,
     columns: &mut Vec<ColumnRow>,
 ) -> Result<(), DescriptionError>
-    requires few_fields { vec_len fields.old < 2 ^ 32 }
-    requires few_columns { vec_len columns.old < 2 ^ 32 }
-    requires short { list_all is_short fields.old.items ≡ true }
+    requires { AreShortRows fields.old columns.old }
     ensures told { Answers (λ _. ((fields.new.items, columns.new.items), cur.new)) fault_of result
         (rows_at fields.old.items columns.old.items cur.old) }
-    ensures few_fields { vec_len fields.new < 2 ^ 32 }
-    ensures few_columns { vec_len columns.new < 2 ^ 32 }
+    ensures rows { AreShortRows fields.new columns.new }
     ensures more_fields { vec_len fields.old ≤ vec_len fields.new }
     ensures more_columns { vec_len columns.old ≤ vec_len columns.new }
-    ensures short { list_all is_short fields.new.items ≡ true }
 {
     read_fields(cur, fields)?;
     read_columns(cur, fields.len() as u32, columns)?;

@@ -1,11 +1,10 @@
 //! The fields of a description.
 
 ghost use Rattle.std.specs.Prelude.{◌≡◌, ◌<◌, ◌≤◌, ◌^◌, true, length, vec_len, IfOk};
-ghost use Rattle.std.specs.List.{list_all};
 ghost use Rattle.nt_grammar.specs.Table.{is_short};
 ghost use Rattle.nt_grammar.specs.Reading.{parent_at, names_at, field_at, fields_on, fields_at};
 ghost use Rattle.nt_lists.specs.Answering.{Answers};
-ghost use Rattle.nt_schema.specs.Reading.{fault_of};
+ghost use Rattle.nt_schema.specs.Reading.{fault_of, AreShortFields};
 
 use crate::description_error::DescriptionError;
 use crate::reading::words::{read_text, read_u16, read_u32};
@@ -35,9 +34,7 @@ fn read_parent(cur: &mut Cur, id: u32, frame: usize) -> Result<u32, DescriptionE
 fn owned(alloc: Global, text: &[u8]) -> Result<Bytes, AllocError>
     ensures { IfOk result (λ b. b ≡ text.now) }
 {
-    let mut list = Vec::new(alloc);
-    list.extend_from_slice(text)?;
-    Ok(Bytes::from_vec(list))
+    Ok(Bytes::from_vec(text.to_vec(alloc)?))
 }
 
 #[tactic(auto, unfolding(nt_grammar::specs::Reading::names_at))]
@@ -75,13 +72,11 @@ fn read_field(alloc: Global, cur: &mut Cur, id: u32) -> Result<FieldRow, Descrip
 #[tactic(auto, using(crate::proofs::RowSteps::field_steps))]
 /// Reads so many fields behind these. Nothing is taken on the word of the count.
 fn push_fields(cur: &mut Cur, count: u32, rows: &mut Vec<FieldRow>) -> Result<(), DescriptionError>
-    requires few { vec_len rows.old < 2 ^ 32 }
-    requires short { list_all is_short rows.old.items ≡ true }
+    requires { AreShortFields rows.old }
     ensures left { Answers (λ _. rows.new.items) fault_of result
         (fields_on count rows.old.items cur.old) }
-    ensures few { vec_len rows.new < 2 ^ 32 }
+    ensures rows { AreShortFields rows.new }
     ensures more { vec_len rows.old ≤ vec_len rows.new }
-    ensures short { list_all is_short rows.new.items ≡ true }
 {
     let alloc = *rows.allocator();
     for _ in 0..count {
@@ -98,13 +93,11 @@ fn push_fields(cur: &mut Cur, count: u32, rows: &mut Vec<FieldRow>) -> Result<()
 /// Reads the list of fields behind these.
 #[tactic(auto, unfolding(nt_grammar::specs::Reading::fields_at))]
 pub(crate) fn read_fields(cur: &mut Cur, rows: &mut Vec<FieldRow>) -> Result<(), DescriptionError>
-    requires few { vec_len rows.old < 2 ^ 32 }
-    requires short { list_all is_short rows.old.items ≡ true }
+    requires { AreShortFields rows.old }
     ensures told { Answers (λ _. (rows.new.items, cur.new)) fault_of result
         (fields_at rows.old.items cur.old) }
-    ensures few { vec_len rows.new < 2 ^ 32 }
+    ensures rows { AreShortFields rows.new }
     ensures more { vec_len rows.old ≤ vec_len rows.new }
-    ensures short { list_all is_short rows.new.items ≡ true }
 {
     let (count, mut inside) = read_list(cur)?;
     push_fields(&mut inside, count, rows)
