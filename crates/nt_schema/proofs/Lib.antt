@@ -2,3 +2,4 @@ pub mod RowSteps
 pub mod Appended
 pub mod ByName
 pub mod Extending
+pub mod WholeRows

@@ -3,3 +3,4 @@ pub mod Reading
 pub mod ByName
 pub mod Schema
 pub mod Extending
+pub mod Whole

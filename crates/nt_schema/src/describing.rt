@@ -9,6 +9,7 @@ ghost use Rattle.nt_grammar.specs.Table.{in_header, IsFew};
 ghost use Rattle.nt_grammar.specs.Rows.{Rows, field_row};
 ghost use Rattle.nt_grammar.specs.Added.{nodes_of, added_rows};
 ghost use Rattle.nt_schema.specs.Describing.{mark_view};
+ghost use Rattle.nt_schema.specs.Whole.{AreWhole};
 
 pub(crate) mod columns;
 mod extending;
@@ -67,11 +68,12 @@ fn rows_of(
 
 /// The rows of fields that keep the rules of a schema text, all in the header. Plain columns keep
 /// the bytes of an element together.
-#[tactic(auto, using(nt_grammar::proofs::AllNodes::described_short))]
+#[tactic(auto, using(nt_grammar::proofs::AllNodes::described_short, crate::proofs::WholeRows::described_whole))]
 pub fn describe(alloc: Global, fields: &Fields, plain: bool) -> Result<Schema, AllocError>
     requires { AreFields (members_view fields.now) }
     ensures rows { IfOk result (λ schema. Rows (members_view fields.now) plain schema) }
     ensures few { IfOk result (λ schema. IsFew schema) }
+    ensures whole { IfOk result (λ schema. AreWhole schema) }
 {
     let (field_rows, columns) = rows_of(alloc, fields, plain)?;
     let (in_header, columns_in_header) = (field_rows.len() as u32, columns.len() as u32);

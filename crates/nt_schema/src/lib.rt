@@ -4,7 +4,8 @@
 //!
 //! `describe` makes a `Schema` of fields, and `Schema::extend` adds a field behind entries that were
 //! written without it (folder `describing`); `write_description` and `read_description` carry one
-//! part of a schema to bytes and back (`writing`, `reading`);
+//! part of a schema to bytes and back (`writing`, `reading`), where a description holds its rows
+//! whole (`whole`);
 //! `Schema::shape` says as what values of a field can be read, `Schema::plans` where they stand,
 //! `Schema::find` finds a field by name (`by_name`). What is asked for each entry, as plans, the
 //! field of a column or the fields inside one, is kept: no call walks over rows or takes memory.
@@ -13,7 +14,8 @@
 //!
 //! Proved: `describe` gives the one table of its fields, and `extend` the one with a field more, or
 //! says exactly what stands against that; `write_description` appends exactly the spelling of the
-//! part; `read_description` answers exactly the reading of the bytes, its first
+//! part, and is called of rows alone whose flags ask for no word that it leaves out (`AreWhole`), as
+//! those of described and added fields are; `read_description` answers exactly the reading of the bytes, its first
 //! fault included, reads back what was written whatever follows, and adds only rows in range;
 //! `find` and `shape` are the first field of a name and the shape of an open field; `plans` are those
 //! of all open fields; `is_open_column`, `is_principal`, `top_field`, `children` and `columns_of` are
@@ -39,6 +41,7 @@ mod description_error;
 mod extend_error;
 mod reading;
 mod schema;
+mod whole;
 mod writing;
 
 pub use describing::describe;
@@ -50,4 +53,5 @@ pub use nt_grammar::{
 };
 pub use reading::read_description;
 pub use schema::{Schema, schemas_can_be_shared};
+pub use whole::described_rows_are_whole;
 pub use writing::write_description;

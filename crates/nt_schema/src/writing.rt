@@ -6,6 +6,7 @@ ghost use Rattle.nt_format.specs.Frames.{list_frame};
 ghost use Rattle.nt_frame.specs.Writing.{bytes_added};
 ghost use Rattle.nt_grammar.specs.Table.{is_short};
 ghost use Rattle.nt_grammar.specs.Writing.{field_numbers, field_texts, field_record, column_numbers, first_element, column_record, field_records, column_records, description, part_fields, part_columns};
+ghost use Rattle.nt_schema.specs.Whole.{AreWhole};
 
 use crate::schema::Schema;
 use nt_frame::FrameOut;
@@ -152,9 +153,11 @@ fn put_lists(
     Ok(())
 }
 
-/// Writes the description of a part of a schema.
+/// Writes the description of a part of a schema (section Schema Description), which holds the rows
+/// whole: a word that a flag asks for is never left out.
 #[tactic(auto, using(crate::proofs::Appended::list_all_split))]
 pub fn write_description(schema: &Schema, part: Part, out: &mut FrameOut) -> Result<(), AllocError>
+    requires { AreWhole schema.now }
     ensures { OnOk result (out.new ≡ bytes_added
         (description (part_fields part schema.now) (part_columns part schema.now)) out.old) }
 {
