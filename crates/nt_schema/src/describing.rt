@@ -1,6 +1,7 @@
 //! The description of fields.
 
 ghost use Rattle.std.specs.Prelude.{◌≡◌, ◌≤◌, ◌+◌, ◌*◌, ◌++◌, map, length, IfOk, OnOk, vec_len};
+ghost use Rattle.nt_types.specs.Limits.{max_fields};
 ghost use Rattle.nt_types.specs.Views.{members_view};
 ghost use Rattle.nt_types.specs.ShapeData.{parts_of};
 ghost use Rattle.nt_types.specs.Schema.{parts_count};
@@ -32,7 +33,7 @@ fn push_rows(
     fields: &mut Vec<FieldRow>,
     columns: &mut Vec<ColumnRow>,
 ) -> Result<(), AllocError>
-    requires { vec_len fields.old + length nodes.now ≤ 4096 }
+    requires { vec_len fields.old + length nodes.now ≤ max_fields }
     ensures fields { OnOk result (fields.new.items
         ≡ fields.old.items ++ map field_row (nodes_of (map mark_view nodes.now))) }
     ensures columns { OnOk result (columns.new.items ≡ columns.old.items
@@ -55,7 +56,7 @@ fn rows_of(
     fields: &Fields,
     plain: bool,
 ) -> Result<(Vec<FieldRow>, Vec<ColumnRow>), AllocError>
-    requires { parts_count (parts_of (members_view fields.now)) ≤ 4096 }
+    requires { parts_count (parts_of (members_view fields.now)) ≤ max_fields }
     ensures rows { IfOk result (λ rows. Rows (members_view fields.now) plain
         (in_header rows.0.items rows.1.items)) }
     ensures few { IfOk result (λ rows. IsFew (in_header rows.0.items rows.1.items)) }

@@ -1,6 +1,7 @@
 //! Fields that are added to a schema.
 
 ghost use Rattle.std.specs.Prelude.{◌≡◌, ◌⊎◌, ◌<◌, ◌≤◌, ◌+◌, length, IfErr, OnOk, OnErr};
+ghost use Rattle.nt_types.specs.Limits.{max_fields};
 ghost use Rattle.nt_types.specs.Views.{member_view};
 ghost use Rattle.nt_types.specs.Schema.{field_count};
 ghost use Rattle.nt_types.specs.Rules.{IsField};
@@ -21,7 +22,7 @@ impl Schema {
     fn add(&mut self, field: &Member, plain: bool, entries: u64) -> Result<(), AllocError>
         requires rules { IsField (member_view field.now) }
         requires few { IsFew self.old }
-        requires count { length self.old.fields + field_count (member_view field.now).of ≤ 4096 }
+        requires count { length self.old.fields + field_count (member_view field.now).of ≤ max_fields }
         ensures ok { OnOk result (Added self.old (member_view field.now) plain entries self.new) }
         ensures err { OnErr result ((self.new ≡ self.old) ⊎ (self.new ≡ no_rows)) }
     {

@@ -1,6 +1,7 @@
 //! Fields, breadth first.
 
 ghost use Rattle.std.specs.Prelude.{◌≡◌, ◌<◌, ◌≤◌, ◌+◌, ◌^◌, ◌++◌, true, length, map, List, OnOk, IfOk, vec_len};
+ghost use Rattle.nt_types.specs.Limits.{max_fields};
 ghost use Rattle.nt_types.specs.Views.{shape_view, member_view};
 ghost use Rattle.nt_types.specs.ShapeData.{MemberData, kinds_of, parts_of};
 ghost use Rattle.nt_types.specs.Schema.{parts_count};
@@ -84,7 +85,7 @@ fn push_top<'a>(
     first: u32,
 ) -> Result<(), AllocError>
     requires { first + vec_len nodes.old + parts_count (parts_of (map member_view fields.now))
-        ≤ 4096 }
+        ≤ max_fields }
     ensures { OnOk result (map mark_view nodes.new.items
         ≡ map mark_view nodes.old.items ++ with_mark true (at_top (first + vec_len nodes.old)
         (map member_view fields.now))) }
@@ -119,10 +120,10 @@ pub(crate) fn all_nodes(
     fields: &[Member],
     first: u32,
 ) -> Result<Vec<Node<'_>>, AllocError>
-    requires { first + parts_count (parts_of (map member_view fields.now)) ≤ 4096 }
+    requires { first + parts_count (parts_of (map member_view fields.now)) ≤ max_fields }
     ensures order { IfOk result (λ nodes. AreMarked first (map member_view fields.now)
         (map mark_view nodes.items)) }
-    ensures few { IfOk result (λ nodes. first + vec_len nodes ≤ 4096) }
+    ensures few { IfOk result (λ nodes. first + vec_len nodes ≤ max_fields) }
 {
     let mut nodes = Vec::new(alloc);
     push_top(&mut nodes, fields, first)?;
