@@ -8,7 +8,7 @@ ghost use Rattle.nt_pages.specs.Metas.{cluster_meta};
 
 use crate::columns::put_columns;
 use crate::image::ClusterImage;
-use crate::page::ROOM;
+use crate::partial::PartialImage;
 use crate::size::image_size;
 use nt_book::{ClusterMeta, PageLists};
 use nt_bytes::Bytes;
@@ -64,18 +64,16 @@ pub fn build_in(
 {
     let count = schema.columns();
     let size = image_size(columns, count, page).ok_or(AllocError)?;
-    let mut image = memory;
-    image.clear();
-    image.reserve_exact(size as usize)?;
-    image.resize(ROOM, 0)?;
+    let mut image = PartialImage::begin(memory, size as usize)?;
     let lists = put_columns(alloc, columns, count, page, &mut image)?;
+    let bytes = image.finish();
     Ok(ClusterImage {
         meta: ClusterMeta {
             context,
             entries,
-            len: image.len() as u64,
+            len: bytes.len() as u64,
             pages: PageLists::from_vec(lists),
         },
-        bytes: Bytes::from_vec(image),
+        bytes: Bytes::from_vec(bytes),
     })
 }

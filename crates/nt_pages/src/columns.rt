@@ -5,8 +5,10 @@ ghost use Rattle.nt_lists.specs.Chunks.{chunks};
 ghost use Rattle.nt_column.specs.Column.{columns_of};
 ghost use Rattle.nt_pages.specs.Image.{key_room, column_bytes, payload, IsPageLimit};
 ghost use Rattle.nt_pages.specs.Metas.{page_metas, column_metas};
+ghost use Rattle.nt_pages.specs.Written.{written_bytes};
 
 use crate::page::put_page;
+use crate::partial::PartialImage;
 use nt_book::{PageList, PageMeta};
 use nt_column::{ColumnBuf, ColumnSet};
 use std::alloc::{AllocError, Global};
@@ -16,14 +18,14 @@ pub fn put_column(
     alloc: Global,
     buffer: &ColumnBuf,
     page: u32,
-    image: &mut Vec<u8>,
+    image: &mut PartialImage,
 ) -> Result<Vec<PageMeta>, AllocError>
     requires limit { IsPageLimit page }
-    requires room { key_room ≤ length image.old.items }
+    requires room { key_room ≤ length (written_bytes image.old) }
     ensures image { OnOk result
-        (image.new.items ≡ image.old.items ++ column_bytes page buffer.now.column) }
+        (written_bytes image.new ≡ written_bytes image.old ++ column_bytes page buffer.now.column) }
     ensures metas { IfOk result
-        (λ v. v.items ≡ page_metas buffer.now.column.kind (length image.old.items - key_room)
+        (λ v. v.items ≡ page_metas buffer.now.column.kind (length (written_bytes image.old) - key_room)
         (chunks page buffer.now.column.elements)) }
 {
     let pages = buffer.page_cut(page);
@@ -40,13 +42,13 @@ pub fn put_columns(
     columns: &ColumnSet,
     count: u32,
     page: u32,
-    image: &mut Vec<u8>,
+    image: &mut PartialImage,
 ) -> Result<Vec<PageList>, AllocError>
     requires limit { IsPageLimit page }
     requires count { count ≡ length columns.now }
-    requires room { length image.old.items ≡ key_room }
+    requires room { length (written_bytes image.old) ≡ key_room }
     ensures image { OnOk result
-        (image.new.items ≡ image.old.items ++ payload page (columns_of columns.now)) }
+        (written_bytes image.new ≡ written_bytes image.old ++ payload page (columns_of columns.now)) }
     ensures metas { IfOk result (λ v. v.items ≡ column_metas page 0 (columns_of columns.now)) }
 {
     let mut lists = Vec::with_capacity(alloc, count as usize)?;

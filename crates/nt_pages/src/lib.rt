@@ -4,7 +4,7 @@
 //! hashed right after it is encoded. Keep both.
 //!
 //! Where to start: `building.rt` with `specs/Image` (the bytes of a cluster) and `specs/Metas`
-//! (where its pages lie); `page.rt` for one page.
+//! (where its pages lie); `page.rt` for one page; `partial.rt` for an image while it is written.
 //!
 //! Words: the *payload* is all pages one after the other; the *image* is the payload behind the
 //! *room* for its key; a *stored page* has its checksum behind it; a *place* counts from the
@@ -21,6 +21,9 @@
 //! Choices that bind nobody else:
 //! - An image is too large where its size is no number of 64 bits, or memory refuses it; both are want of memory. It is reserved
 //!   at once, and its size is computed before.
+//! - Memory of an earlier image isn't filled before it is written over. Filled with zeros, page by page, is what no earlier image
+//!   had, since a slice is of bytes that have values: the first image, the end of one that is longer than the one before it, and
+//!   an image whose memory is taken anew.
 //! - Zeros that are kept as their count are written as pages like any others: an image is that of the elements, however they are
 //!   kept.
 #![tactic(auto)]
@@ -30,6 +33,7 @@ mod columns;
 mod image;
 mod laws;
 mod page;
+mod partial;
 mod size;
 
 pub use building::{build, build_in};

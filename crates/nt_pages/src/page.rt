@@ -6,17 +6,13 @@ ghost use Rattle.nt_encode.specs.Pages.{page_size};
 ghost use Rattle.nt_lists.specs.Chunks.{chunks};
 ghost use Rattle.nt_pages.specs.Image.{key_room, checksum_len, stored_page, IsPageLimit, IsPageOfColumn};
 ghost use Rattle.nt_pages.specs.Metas.{page_meta};
+ghost use Rattle.nt_pages.specs.Written.{written_bytes};
 
+use crate::partial::{CHECKSUM, PartialImage, ROOM};
 use nt_book::PageMeta;
 use nt_column::ColumnBuf;
 use nt_encode::size_of;
 use std::alloc::AllocError;
-
-/// The bytes before the payload.
-pub const ROOM: usize = 42;
-
-/// The bytes of a checksum.
-pub const CHECKSUM: usize = 8;
 
 /// Writes the page of the elements from one place to before another, and its checksum.
 fn write_page(buffer: &ColumnBuf, from: usize, to: usize, out: &mut [u8])
@@ -36,21 +32,23 @@ fn put_part(
     buffer: &ColumnBuf,
     from: usize,
     to: usize,
-    image: &mut Vec<u8>,
+    image: &mut PartialImage,
 ) -> Result<PageMeta, AllocError>
     requires part { IsPageOfColumn (length buffer.now.column.elements) from to }
-    requires room { key_room ≤ length image.old.items }
+    requires room { key_room ≤ length (written_bytes image.old) }
     ensures image { OnOk result
-        (image.new.items ≡ image.old.items ++ stored_page buffer.now.column.kind
+        (written_bytes image.new ≡ written_bytes image.old ++ stored_page buffer.now.column.kind
         (slice_range buffer.now.column.elements from to)) }
     ensures meta { IfOk result
-        (λ m. m ≡ page_meta buffer.now.column.kind (length image.old.items - key_room)
+        (λ m. m ≡ page_meta buffer.now.column.kind (length (written_bytes image.old) - key_room)
         (slice_range buffer.now.column.elements from to)) }
 {
     let size = size_of(buffer.kind(), (to - from) as u64) as usize;
-    let start = image.len();
-    image.resize(start + size + CHECKSUM, 0)?;
-    write_page(buffer, from, to, &mut image[start..]);
+    let start = image.len;
+    let end = start + size + CHECKSUM;
+    image.grow(end)?;
+    write_page(buffer, from, to, &mut image.bytes[start..end]);
+    image.len = end;
     Ok(PageMeta {
         count: (to - from) as u32,
         place: (start - ROOM) as u64,
@@ -63,16 +61,16 @@ pub fn put_page(
     buffer: &ColumnBuf,
     page: u32,
     i: usize,
-    image: &mut Vec<u8>,
+    image: &mut PartialImage,
 ) -> Result<PageMeta, AllocError>
     requires limit { IsPageLimit page }
     requires within { i < length (chunks page buffer.now.column.elements) }
-    requires room { key_room ≤ length image.old.items }
+    requires room { key_room ≤ length (written_bytes image.old) }
     ensures image { OnOk result
-        (image.new.items ≡ image.old.items ++ stored_page buffer.now.column.kind
+        (written_bytes image.new ≡ written_bytes image.old ++ stored_page buffer.now.column.kind
         (slice_index_or (chunks page buffer.now.column.elements) i [])) }
     ensures meta { IfOk result
-        (λ m. m ≡ page_meta buffer.now.column.kind (length image.old.items - key_room)
+        (λ m. m ≡ page_meta buffer.now.column.kind (length (written_bytes image.old) - key_room)
         (slice_index_or (chunks page buffer.now.column.elements) i [])) }
 {
     let count = buffer.len();

@@ -4,7 +4,7 @@ ghost use Rattle.std.specs.Prelude.{◌≡◌, ◌<◌, ◌≤◌, length, IfSom
 ghost use Rattle.nt_column.specs.Column.{columns_of};
 ghost use Rattle.nt_pages.specs.Image.{max_page, column_bytes, image};
 
-use crate::page::{CHECKSUM, ROOM};
+use crate::partial::{CHECKSUM, ROOM};
 use nt_column::{ColumnBuf, ColumnSet, pages_have_their_size};
 use nt_encode::size_of;
 

@@ -5,6 +5,7 @@ use Rattle.nt_column.specs.Elements.{Element}
 use Rattle.nt_lists.specs.Chunks.{chunks}
 use Rattle.nt_pages.specs.Image.{stored_page}
 use Rattle.nt_pages.proofs.Pages.{bytes-next, place-next, metas-next}
+use Rattle.nt_pages.specs.Written.{written_bytes}
 use Rattle.nt_pages.proofs.columns.put_column.Goals as goal
 
 pub loop-i-preserved : goal.loop-i-preserved
@@ -15,9 +16,10 @@ loop-i-preserved c =
     drop_more groups c.loop-i.i [] within in
     let more = c.in_ok-put_page.ensures.image in
     let told = c.in_ok-push.ensures.items ∙ ap (λ (m : PageMeta). c.loop-i.metas.items ++ m ∷ []) c.in_ok-put_page.ensures.meta in
-    let grown : length c.put_page.new.image.items ≡ length c.loop-i.image.items + length
+    let grown : length (written_bytes c.put_page.new.image) ≡ length (written_bytes c.loop-i.image) + length
     (stored_page c.args.buffer.now.column.kind (get_or groups c.loop-i.i [])) =
-    ap length more ∙ length-append c.loop-i.image.items (stored_page c.args.buffer.now.column.kind (get_or groups c.loop-i.i [])) in
+    ap length more
+    ∙ length-append (written_bytes c.loop-i.image) (stored_page c.args.buffer.now.column.kind (get_or groups c.loop-i.i [])) in
     record {
       image = bytes-next (stored_page c.args.buffer.now.column.kind) _ _ _ _ _ _ next more c.loop-i.invariant.image;
       metas = metas-next c.args.buffer.now.column.kind _ _ _ _ _ _ _ _ next told
