@@ -6,6 +6,7 @@ ghost use Rattle.nt_format.specs.Envelopes.{envelope};
 ghost use Rattle.nt_frame.specs.Writing.{bytes_added};
 ghost use Rattle.nt_lists.specs.Answering.{Answers};
 ghost use Rattle.nt_files.specs.Headers.{header_text, header_payload_at};
+ghost use Rattle.nt_schema.specs.Whole.{AreWhole};
 ghost use Rattle.nt_meta.specs.Defects.{defect_of};
 
 use crate::descriptions::{read_feature_flags, read_rows};
@@ -37,6 +38,7 @@ pub fn read_header(alloc: Global, payload: &[u8]) -> Result<Schema, MetaError>
 }
 
 fn put_header(out: &mut FrameOut, schema: &Schema) -> Result<(), AllocError>
+    requires { AreWhole schema.now }
     ensures { OnOk result (out.new ≡ bytes_added (header_text schema.now) out.old) }
 {
     out.put_u64le(0)?; // no feature flags
@@ -50,6 +52,7 @@ fn put_header(out: &mut FrameOut, schema: &Schema) -> Result<(), AllocError>
 /// The payload of the header of a schema.
 #[tactic(auto, using(crate::proofs::Appended::all_of))]
 fn header_payload(alloc: Global, schema: &Schema) -> Result<Vec<u8>, AllocError>
+    requires { AreWhole schema.now }
     ensures { IfOk result (λ payload. payload.items ≡ header_text schema.now) }
 {
     let mut out = FrameOut::new(Vec::new(alloc));
@@ -60,6 +63,7 @@ fn header_payload(alloc: Global, schema: &Schema) -> Result<Vec<u8>, AllocError>
 /// The envelope of the header of a schema: the names of the ntuple and of this writer, and the rows
 /// that stand in the header.
 pub fn write_header(alloc: Global, schema: &Schema) -> Result<Vec<u8>, AllocError>
+    requires { AreWhole schema.now }
     ensures { IfOk result (λ sealed. sealed.items ≡ envelope 1 (header_text schema.now)) }
 {
     let payload = header_payload(alloc, schema)?;

@@ -8,9 +8,10 @@
 //!
 //! Proved: both readers answer exactly the reading, or its first fault (`Answers` of
 //! `page_list_at` and `footer_at`), and count what they read; both writers give exactly the envelope
-//! of the spelling. A count in a file costs nothing that its bytes don't keep: nothing is reserved
-//! for it, and lists grow by what was read. Only tested: time is linear in the payload, as no
-//! cluster looks at each column that it doesn't list.
+//! of the spelling; headers and footers are written of rows alone that a description holds whole
+//! (`AreWhole` of nt_schema). A count in a file costs nothing that its bytes don't keep: nothing is
+//! reserved for it, and lists grow by what was read. Only tested: time is linear in the payload, as
+//! no cluster looks at each column that it doesn't list.
 //!
 //! Choices that bind nobody else: a payload of 2^47 bytes or more, which no machine holds, is want
 //! of memory where it should be written; running sums of entries are 128 bits wide, and those of

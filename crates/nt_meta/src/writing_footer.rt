@@ -7,6 +7,7 @@ ghost use Rattle.nt_format.specs.Frames.{record_frame, list_frame};
 ghost use Rattle.nt_format.specs.Locators.{link};
 ghost use Rattle.nt_frame.specs.Writing.{bytes_added};
 ghost use Rattle.nt_pagelists.specs.FooterWriting.{group_text, group_texts, extension_text, footer_text};
+ghost use Rattle.nt_schema.specs.Whole.{AreWhole};
 
 use crate::sealing::seal;
 use nt_format::Link;
@@ -71,6 +72,7 @@ fn put_group_list(out: &mut FrameOut, groups: &[Group]) -> Result<(), AllocError
 #[tactic(auto, unfolding(nt_pagelists::specs::FooterWriting::extension_text))]
 /// The rows that do not stand in the header, or nothing where there are none.
 fn put_rows(out: &mut FrameOut, schema: &Schema) -> Result<(), AllocError>
+    requires { AreWhole schema.now }
     ensures { OnOk result (out.new ≡ bytes_added (extension_text schema.now) out.old) }
 {
     if schema.fields() <= schema.header_fields() && schema.columns() <= schema.header_columns() {
@@ -80,6 +82,7 @@ fn put_rows(out: &mut FrameOut, schema: &Schema) -> Result<(), AllocError>
 }
 
 fn put_extension(out: &mut FrameOut, schema: &Schema) -> Result<(), AllocError>
+    requires { AreWhole schema.now }
     ensures { OnOk result (out.new ≡ bytes_added (record_frame (extension_text schema.now)) out.old) }
 {
     out.begin_record()?;
@@ -94,7 +97,8 @@ fn put_footer(
     groups: &[Group],
     header_sum: u64,
 ) -> Result<(), AllocError>
-    requires { length groups.now < 2 ^ 32 }
+    requires few { length groups.now < 2 ^ 32 }
+    requires whole { AreWhole schema.now }
     ensures { OnOk result (out.new ≡ bytes_added (footer_text header_sum schema.now groups.now) out.old) }
 {
     out.put_u64le(0)?; // no feature flags
@@ -112,7 +116,8 @@ pub(crate) fn footer_payload(
     groups: &[Group],
     header_sum: u64,
 ) -> Result<Vec<u8>, AllocError>
-    requires { length groups.now < 2 ^ 32 }
+    requires few { length groups.now < 2 ^ 32 }
+    requires whole { AreWhole schema.now }
     ensures { IfOk result (λ payload. payload.items ≡ footer_text header_sum schema.now groups.now) }
 {
     let mut out = FrameOut::new(Vec::new(alloc));
@@ -128,7 +133,8 @@ pub fn write_footer(
     groups: &[Group],
     header_sum: u64,
 ) -> Result<Vec<u8>, AllocError>
-    requires { length groups.now < 2 ^ 32 }
+    requires few { length groups.now < 2 ^ 32 }
+    requires whole { AreWhole schema.now }
     ensures { IfOk result (λ sealed. sealed.items
         ≡ envelope 2 (footer_text header_sum schema.now groups.now)) }
 {
