@@ -1,2 +1,4 @@
 mod Arrays
+mod Decimals
 mod Numbers
+mod Places

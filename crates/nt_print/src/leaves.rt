@@ -7,7 +7,7 @@ ghost use Rattle.nt_types.specs.TreeData.{flag, num, text};
 ghost use Rattle.nt_trees.specs.Integers.{integer_of};
 ghost use Rattle.nt_trees.specs.TreeAt.{text_from};
 
-use itoa::Buffer;
+use crate::digits::put_digits;
 use nt_column::Columns;
 use nt_event::write_text;
 use std::alloc::{AllocError, Global};
@@ -42,13 +42,7 @@ fn put_unsigned(n: u64, out: &mut Vec<u8>) -> Result<(), AllocError>
     ensures ok { OnOk result (out.new.items ≡ out.old.items ++ compact_text (data_of (num (pos n)))) }
     ensures kept { take (length out.old.items) out.new.items ≡ out.old.items }
 {
-    let mut digits = Buffer::new();
-    // Most numbers are short, and 32 bits are printed faster than 64.
-    if n < 1 << 32 {
-        out.extend_from_slice(digits.format(n as u32).as_bytes())
-    } else {
-        out.extend_from_slice(digits.format(n).as_bytes())
-    }
+    put_digits(n, out)
 }
 
 /// Appends a number, with its sign if it is below zero.
@@ -57,8 +51,10 @@ fn put_signed(n: i64, out: &mut Vec<u8>) -> Result<(), AllocError>
     ensures ok { OnOk result (out.new.items ≡ out.old.items ++ compact_text (data_of (num n))) }
     ensures kept { take (length out.old.items) out.new.items ≡ out.old.items }
 {
-    let mut digits = Buffer::new();
-    out.extend_from_slice(digits.format(n).as_bytes())
+    if n < 0 {
+        out.push(b'-')?;
+    }
+    put_digits(n.unsigned_abs(), out)
 }
 
 /// The integer that an element of this width stands for, where it has a sign.
@@ -123,8 +119,7 @@ pub fn put_tag(tag: u32, out: &mut Vec<u8>) -> Result<(), AllocError>
     ensures kept { take (length out.old.items) out.new.items ≡ out.old.items }
 {
     out.push(b'[')?;
-    let mut digits = Buffer::new();
-    out.extend_from_slice(digits.format(tag).as_bytes())?;
+    put_digits(u64::from(tag), out)?;
     out.push(b',')?;
     Ok(())
 }

@@ -9,6 +9,7 @@ ghost use Rattle.nt_trees.specs.TreeAt.{tree_at, each_at, trees_from};
 ghost use Rattle.nt_join.specs.Readable.{Readable, ReadableTo, ReadableEach};
 
 use crate::leaves::{put_comma, put_flag, put_integer, put_part, put_tag};
+use crate::lists::put_lent;
 use nt_column::Columns;
 use nt_join::reading::{begin, number, tag};
 use nt_plans::{Plan, Plans};
@@ -66,6 +67,16 @@ fn put_range<C: Columns>(
         (trees_from (tree_at (plan_view of.now) (C.Columns.elements columns.now)) from (to - from))) }
     ensures kept { take (length out.old.items) out.new.items ≡ out.old.items }
 {
+    if let Plan::Number {
+        column,
+        bits,
+        signed,
+    } = of
+    {
+        if let Some(words) = columns.words(*column) {
+            return put_lent(words, *bits, *signed, from as usize, to as usize, out);
+        }
+    }
     out.push(b'[')?;
     let mut later = false;
     for i in from..to {

@@ -1,9 +1,11 @@
 use Rattle.std.proofs.Common.{rules, ◌≡◌, ◌<◌, ◌≤◌, ◌-◌, ◌+◌, ℕ, ◌∷◌, ◌++◌, map, length, drop, get_or, sym, ap, ◌∙◌, subst, arith, Box}
 use Rattle.std.proofs.Common.{Global}
 use Rattle.std.proofs.lemmas.List.{drop_more, drop_all, length-map}
+use Rattle.std.specs.Prelude.{OnOk}
+use Rattle.nt_column.specs.Words.{lent_elements}
 use Rattle.serde_json.specs.Written.{compact_text}
-use Rattle.nt_types.specs.TreeData.{TreeData, pick}
-use Rattle.nt_event.specs.Json.{data_of}
+use Rattle.nt_types.specs.TreeData.{TreeData, TreesData, pick}
+use Rattle.nt_event.specs.Json.{data_of, line_of}
 use Rattle.nt_event.proofs.Prints.{kept-on}
 use Rattle.nt_plans.specs.Plan.{text, list, choice, plans_of}
 use Rattle.nt_plans.specs.PlanViews.{plan_view, plans_view}
@@ -11,7 +13,7 @@ use Rattle.nt_plans.specs.declared.plan.Plan.{Plan, List as ListPlan, the_lemmas
 use Rattle.nt_plans.specs.declared.plan.Plans.{Plans}
 use Rattle.nt_plans.proofs.plan.Plan.TheLaws.{the_size}
 use Rattle.nt_plans.proofs.plan.Plans.TheLaws.{the_size as plans_size}
-use Rattle.nt_plans.proofs.PlanViews.{view-Text, view-List}
+use Rattle.nt_plans.proofs.PlanViews.{view-Number, view-Text, view-List}
 use Rattle.nt_trees.specs.Columns.{Cols}
 use Rattle.nt_trees.specs.TreeAt.{tree_at, each_at}
 use Rattle.nt_join.specs.Readable.{Readable, ReadableTo, ReadableEach}
@@ -19,7 +21,20 @@ use Rattle.nt_join.proofs.Plans.{plans_view-list}
 use Rattle.nt_join.proofs.Reach.{of_tag-at, readable-is, text-within, items-readable, tag-among, picked-readable, tree_at-picked}
 use Rattle.nt_print.proofs.Arrays.{pick-put, IsBegun-none, IsBegun-next, IsBegun-end, IsBegun-fails, kept-kept, trees_from-first}
 use Rattle.nt_print.proofs.Arrays.{trees_from-none}
+use Rattle.nt_print.proofs.Places.{lent-within, lent-trees}
 use Rattle.nt_print.proofs.values.+print.Goals as goal
+
+pub put_range-returns-in-Some-clause-ok : goal.put_range-returns-in-Some-clause-ok
+put_range-returns-in-Some-clause-ok g t c =
+    let cols = g.C.Columns.elements c.args.columns.now in
+    let n = c.in-Number in
+    let es = lent_elements c.in-Some.words in
+    let is = ap plan_view n.is ∙ view-Number n.column n.bits n.signed in
+    let within = lent-within (plan_view c.args.of.now) cols n.column n.bits n.signed es c.args.to is c.in-Some.ensures.words
+    c.requires.readable in
+    subst (λ (ts : TreesData). OnOk c.put_lent.result (c.put_lent.new.out.items ≡ c.args.out.now.items ++ line_of ts))
+    (lent-trees (plan_view c.args.of.now) cols n.column n.bits n.signed es c.args.from c.args.to is c.in-Some.ensures.words
+    c.requires.order within) c.put_lent.ensures.ok
 
 pub put_range-loop-i-init : goal.put_range-loop-i-init
 put_range-loop-i-init g t c = IsBegun-none _ _ _ c.in_ok-push.ensures.items
