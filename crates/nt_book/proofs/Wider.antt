@@ -17,7 +17,8 @@ use Rattle.nt_book.proofs.Counted.{each-at}
 use Rattle.nt_book.proofs.Fitting.{entries-fit}
 use Rattle.nt_book.proofs.OffsetRows.{elements_before-past}
 
-low-late : (entries : ℕ) (firsts : List ℕ) → entries ≤ 2 ^ 60 → AreLateFirsts entries firsts → AllByRecursion (λ first. first ≤ 2 ^ 60) firsts
+low-late : (entries : ℕ) (firsts : List ℕ) → entries ≤ 2 ^ 60 → AreLateFirsts entries firsts
+    → AllByRecursion (λ first. first ≤ 2 ^ 60) firsts
 low-late entries [] few late = tt
 low-late entries (first ∷ firsts) few late = (low first late.0, low-late entries firsts few late.1)
   where

@@ -79,7 +79,8 @@ module _ (columns : List KnownColumn) (book : BookData) (from count : ℕ) (h : 
     most-listed : length (cluster_at book k).meta.pages ≤ length columns
     most-listed = let lists = kept.lists in omega (arith, lists, as_many)
 
-    column-listed : (column : ℕ) → column < length (cluster_at book k).meta.pages → IsListedColumn summary columns (sums k) column (listed_column book k column)
+    column-listed : (column : ℕ) → column < length (cluster_at book k).meta.pages
+        → IsListedColumn summary columns (sums k) column (listed_column book k column)
     column-listed column listed =
         let less : column < length columns = omega (arith, listed, most-listed) in
         let c = slice_index_or columns column unknown_column in

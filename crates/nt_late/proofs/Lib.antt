@@ -1,0 +1,2 @@
+pub mod ZeroColumns
+pub mod Filling

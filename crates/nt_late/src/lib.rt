@@ -1,0 +1,19 @@
+//! Fields that were added behind entries: what is read of those entries. Nothing here runs.
+//!
+//! Start with `src/laws.rt`. A cluster that was written before a field was added lists none of its
+//! columns (`specs/LeftOut`): those with an element for each entry are read as zeros, and the others
+//! have no element (`specs/Missing`). So the field has its zero in each of these entries
+//! (`specs/Zeros`).
+//!
+//! Proved, each as the contract of a function with an empty body: columns of a field that are
+//! missing have no fault, and its trees are its zero (`missing_fields_are_zero`), which is that of
+//! its shape (`plans_have_the_zeros_of_their_shapes`); a cluster that was written before fields were
+//! added holds its entries with their zeros behind them (`earlier_clusters_are_filled`), and a file
+//! of such clusters means these (`files_mean_filled_entries`). Nothing is only tested.
+#![tactic(auto)]
+
+mod laws;
+mod missing;
+
+pub use laws::{earlier_clusters_are_filled, files_mean_filled_entries};
+pub use missing::{missing_fields_are_zero, plans_have_the_zeros_of_their_shapes};
