@@ -8,10 +8,10 @@ use Rattle.nt_grammar.specs.declared.rows.ColumnRow.{ColumnRow}
 use Rattle.nt_grammar.specs.Table.{Table}
 use Rattle.nt_container.specs.Spelling.{blob_key}
 use Rattle.nt_book.specs.declared.meta.ClusterMeta.{ClusterMeta}
-use Rattle.nt_book.specs.Ranges.{IsFromTo}
+use Rattle.nt_book.specs.Ranges.{IsFromTo, max_page}
 use Rattle.nt_column.specs.Column.{Column, elements_at}
 use Rattle.nt_pages.specs.declared.image.ClusterImage.{ClusterImage}
-use Rattle.nt_pages.specs.Image.{image, payload, key_room, max_page}
+use Rattle.nt_pages.specs.Image.{image, payload, key_room}
 use Rattle.nt_pages.specs.Metas.{cluster_meta}
 use Rattle.nt_pages.proofs.Paged.{cluster-paged, length-column_metas, image-bits}
 use Rattle.nt_plans.specs.Plan.{PlanData, PlansData, bool, number, text, list, record_of, choice, no_plans, plan}

@@ -12,9 +12,8 @@ use Rattle.nt_grammar.specs.Rows.{Rows}
 use Rattle.nt_turn.specs.Pass.{TurnState, PassState}
 use Rattle.nt_machine.specs.declared.entry.Entry.{Entry}
 use Rattle.nt_book.specs.declared.meta.ClusterMeta.{ClusterMeta}
-use Rattle.nt_book.specs.Ranges.{IsFromTo}
+use Rattle.nt_book.specs.Ranges.{IsFromTo, max_cluster, max_page}
 use Rattle.nt_column.specs.Column.{Column, elements_at}
-use Rattle.nt_pages.specs.Image.{max_page}
 use Rattle.nt_plans.specs.Place.{open_plans}
 use Rattle.nt_plans.specs.Types.{are_some}
 use Rattle.nt_trees.specs.Fits.{fits_entry}
@@ -47,10 +46,6 @@ pub record IsTableFor (columns : ℕ) (t : Table) : Type 0 where
 -- the type of a column is one of the table
 abbrev pub HasKnownType : ColumnRow → Type 0
 HasKnownType r = (t : ColumnType) × (code_of t ≡ r.code)
-
--- the most entries of a cluster
-abbrev pub max_cluster : ℕ
-max_cluster = 1000000
 
 -- so many entries, as columns have them
 abbrev pub entries_given : Table → List Column → ℕ → List TreesData

@@ -1,9 +1,9 @@
 //! A context that gathers entries.
 
 ghost use Rattle.std.specs.Prelude.{◌≡◌, ◌↔◌, [], length, Some, IsSome, IsTrue, IfOk, IfErr};
-ghost use Rattle.nt_book.specs.Ranges.{IsFromTo};
+ghost use Rattle.nt_book.specs.Ranges.{IsFromTo, max_page};
 ghost use Rattle.nt_column.specs.Column.{columns_of};
-ghost use Rattle.nt_pages.specs.Image.{image, max_page};
+ghost use Rattle.nt_pages.specs.Image.{image};
 ghost use Rattle.nt_pages.specs.Metas.{cluster_meta};
 ghost use Rattle.nt_trees.specs.Described.{AreDescribed};
 ghost use Rattle.nt_commit.specs.declared.error.CommitError.TheVariants.{Memory};

@@ -16,7 +16,8 @@ use Rattle.nt_column.specs.Column.{Column, elements_at}
 use Rattle.nt_column.proofs.Sizes.{length-page_of}
 use Rattle.nt_lists.specs.Chunks.{chunk, chunks}
 use Rattle.nt_lists.proofs.Groups.{length-chunk, chunks-joined}
-use Rattle.nt_pages.specs.Image.{max_page, stored_page, column_bytes, payload, image}
+use Rattle.nt_book.specs.Ranges.{max_page}
+use Rattle.nt_pages.specs.Image.{stored_page, column_bytes, payload, image}
 use Rattle.nt_pages.specs.Metas.{page_meta, page_metas, column_metas, cluster_meta}
 
 -- a page has a bit for each element

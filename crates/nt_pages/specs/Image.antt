@@ -1,10 +1,11 @@
 -- The bytes of a cluster: its columns one after the other, each cut into pages.
 -- RNTuple Binary Format Specification 1.0.0.0, sections Pages and Clusters.
-use Rattle.std.specs.Prelude.{ℕ, ◌-◌, ◌^◌, ◌<◌, ◌≤◌, List, ◌++◌, replicate}
+use Rattle.std.specs.Prelude.{ℕ, ◌-◌, ◌<◌, ◌≤◌, List, ◌++◌, replicate}
 use Rattle.std.specs.List.{flat_map}
 use Rattle.std.specs.Int.{w64, to_le_bytes}
 use Rattle.nt_types.specs.declared.column_type.ColumnType.{ColumnType}
 use Rattle.nt_xxh3.specs.Sum.{xxh3}
+use Rattle.nt_book.specs.Ranges.{max_page}
 use Rattle.nt_column.specs.Elements.{Element, page_of}
 use Rattle.nt_lists.specs.Chunks.{chunks}
 use Rattle.nt_column.specs.Column.{Column}
@@ -16,10 +17,6 @@ key_room = 42
 -- the bytes of a page's checksum
 abbrev pub checksum_len : ℕ
 checksum_len = 8
-
--- the most elements of a page
-abbrev pub max_page : ℕ
-max_page = 2 ^ 20
 
 -- how many elements pages may have at most
 pub record IsPageLimit (page : ℕ) : Type 0 where

@@ -2,7 +2,8 @@
 
 ghost use Rattle.std.specs.Prelude.{◌≡◌, ◌<◌, ◌≤◌, IfOk};
 ghost use Rattle.nt_column.specs.Column.{columns_of};
-ghost use Rattle.nt_pages.specs.Image.{max_page, image};
+ghost use Rattle.nt_book.specs.Ranges.{max_page};
+ghost use Rattle.nt_pages.specs.Image.{image};
 ghost use Rattle.nt_trees.specs.Described.{AreDescribed};
 ghost use Rattle.nt_pages.specs.Metas.{cluster_meta};
 

@@ -3,7 +3,8 @@
 ghost use Rattle.std.specs.Prelude.{◌≡◌, ◌*◌, ◌<◌, ◌≤◌, ℕ, List, length, map};
 ghost use Rattle.nt_column.specs.Column.{Column, elements_at};
 ghost use Rattle.nt_book.specs.Pages.{IsPaged};
-ghost use Rattle.nt_pages.specs.Image.{image, max_page, payload};
+ghost use Rattle.nt_book.specs.Ranges.{max_page};
+ghost use Rattle.nt_pages.specs.Image.{image, payload};
 ghost use Rattle.nt_pages.specs.Metas.{cluster_meta, column_metas, stored_at, stored_pages};
 
 /// At the place of each page lie its bytes, and behind them their checksum.

@@ -2,7 +2,8 @@
 
 ghost use Rattle.std.specs.Prelude.{◌≡◌, ◌<◌, ◌≤◌, length, IfSome};
 ghost use Rattle.nt_column.specs.Column.{columns_of};
-ghost use Rattle.nt_pages.specs.Image.{max_page, column_bytes, image};
+ghost use Rattle.nt_book.specs.Ranges.{max_page};
+ghost use Rattle.nt_pages.specs.Image.{column_bytes, image};
 
 use crate::partial::{CHECKSUM, ROOM};
 use nt_column::{ColumnBuf, ColumnSet, pages_have_their_size};
