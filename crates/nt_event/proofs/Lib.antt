@@ -1,6 +1,7 @@
 pub mod ReadBack
 pub mod TreeBack
 pub mod Digits
+pub mod WordDigits
 pub mod Plain
 pub mod Lexing
 pub mod InStrings

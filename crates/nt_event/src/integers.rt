@@ -1,15 +1,15 @@
 //! Integers in their compact form.
 
-ghost use Rattle.std.specs.Prelude.{◌≡◌, ◌≤◌, ◌<◌, ◌+◌, ◌-◌, ◌*◌, ◌^◌, length, decimal, true, IfSome, IsTrue, get_or, if◌then◌else◌};
-ghost use Rattle.std.specs.List.{slice_range};
+ghost use Rattle.std.specs.Prelude.{◌≡◌, ◌≤◌, ◌<◌, ◌+◌, ◌-◌, ◌*◌, ◌^◌, length, decimal, true, false, IfSome, IsTrue, pos, get_or, if◌then◌else◌};
 ghost use Rattle.std.specs.Char.{digit_value, is_ascii_digit};
-ghost use Rattle.std.specs.Str.Parse.{AllDigits, digits_value};
 ghost use Rattle.serde_json.specs.Written.{compact_text};
 ghost use Rattle.nt_types.specs.TreeData.{num};
 ghost use Rattle.nt_types.specs.Fits.{is_int};
 ghost use Rattle.nt_event.specs.Json.{data_of, InWord};
 ghost use Rattle.nt_event.specs.Standing.{StandsFrom};
+ghost use Rattle.nt_event.specs.Eight.{DigitsStand};
 
+use crate::eight::up_to_eight;
 use crate::marks::after;
 
 /// No zero stands before other digits.
@@ -20,20 +20,59 @@ fn has_no_zeros(text: &[u8], at: usize, end: usize) -> bool
     text[at] != b'0' || end - at == 1
 }
 
-/// The end of at most 19 digits, and their number.
-fn digits(text: &[u8], at: usize) -> (u64, usize)
-    requires { at ≤ length text.now }
-    ensures value { result.0 ≡ digits_value 10 (slice_range text.now at result.1) }
-    ensures digits { AllDigits 10 (slice_range text.now at result.1) }
-    ensures within { (at ≤ result.1) × (result.1 ≤ length text.now) × (result.1 ≤ at + 19) }
+/// The end of at most 19 digits, and their number, behind those that are known.
+fn digits_behind(text: &[u8], at: usize, from: usize, before: u64) -> (u64, usize)
+    requires { DigitsStand text.now at from before }
+    ensures { DigitsStand text.now at result.1 result.0 }
 {
-    let mut n: u64 = 0;
-    let mut i = at;
+    let mut n = before;
+    let mut i = from;
     while i < text.len() && i - at < 19 && text[i].is_ascii_digit() {
         n = n * 10 + u64::from(text[i] - b'0');
         i += 1;
     }
     (n, i)
+}
+
+/// The powers of ten up to the eighth.
+const TENS: [u64; 9] = [
+    1,
+    10,
+    100,
+    1_000,
+    10_000,
+    100_000,
+    1_000_000,
+    10_000_000,
+    100_000_000,
+];
+
+/// A power of ten.
+fn ten_to(exponent: usize) -> u64
+    requires { exponent ≤ 8 }
+    ensures { result ≡ 10 ^ exponent }
+{
+    TENS[exponent]
+}
+
+/// The end of at most 19 digits, and their number.
+fn digits(text: &[u8], at: usize) -> (u64, usize)
+    requires { at ≤ length text.now }
+    ensures { DigitsStand text.now at result.1 result.0 }
+{
+    if text.len() - at < 8 {
+        return digits_behind(text, at, at, 0);
+    }
+    let (n, few) = up_to_eight(text, at);
+    let i = at + few;
+    if few < 8 {
+        return (n, i);
+    }
+    if text.len() - i < 8 {
+        return digits_behind(text, at, i, n);
+    }
+    let (last, some) = up_to_eight(text, i);
+    digits_behind(text, at, i + some, n * ten_to(some) + last)
 }
 
 /// A number of 64 bits and one digit more, where 64 bits hold it.
@@ -81,6 +120,48 @@ fn most(bits: u8, signed: bool) -> Option<u64>
     }
 }
 
+/// An integer of a width without a sign, as it is printed.
+pub fn unsigned_integer(text: &[u8], at: usize, bits: u8) -> Option<(u64, usize)>
+    requires { at ≤ length text.now }
+    ensures spells { IfSome result
+        (λ r. StandsFrom (compact_text (data_of (num (pos r.0)))) text.now at r.1) }
+    ensures fits { IfSome result (λ r. is_int bits false (pos r.0) ≡ true) }
+{
+    let most = most(bits, false)?;
+    let (n, end) = number(text, at)?;
+    if n > most {
+        return None;
+    }
+    Some((n, end))
+}
+
+/// An integer of a width with a sign, as it is printed.
+pub fn signed_integer(text: &[u8], at: usize, bits: u8) -> Option<(i64, usize)>
+    requires { at ≤ length text.now }
+    ensures spells { IfSome result
+        (λ r. StandsFrom (compact_text (data_of (num r.0))) text.now at r.1) }
+    ensures fits { IfSome result (λ r. is_int bits true r.0 ≡ true) }
+    ensures range { IfSome result (λ r. InWord r.0) }
+{
+    let most = most(bits, true)?;
+    match after(text, at, b'-') {
+        None => {
+            let (n, end) = number(text, at)?;
+            if n > most {
+                return None;
+            }
+            Some((n as i64, end))
+        }
+        Some(digits) => {
+            let (n, end) = number(text, digits)?;
+            if n == 0 || n - 1 > most {
+                return None;
+            }
+            Some((-1 - (n - 1) as i64, end))
+        }
+    }
+}
+
 /// An integer of a width, as it is printed.
 pub fn integer(text: &[u8], at: usize, bits: u8, signed: bool) -> Option<(i128, usize)>
     requires { at ≤ length text.now }
@@ -89,21 +170,11 @@ pub fn integer(text: &[u8], at: usize, bits: u8, signed: bool) -> Option<(i128, 
     ensures fits { IfSome result (λ r. is_int bits signed r.0 ≡ true) }
     ensures range { IfSome result (λ r. InWord r.0) }
 {
-    let most = most(bits, signed)?;
-    match after(text, at, b'-') {
-        None => {
-            let (n, end) = number(text, at)?;
-            if n > most {
-                return None;
-            }
-            Some((i128::from(n), end))
-        }
-        Some(digits) => {
-            let (n, end) = number(text, digits)?;
-            if !signed || n == 0 || n - 1 > most {
-                return None;
-            }
-            Some((-i128::from(n), end))
-        }
+    if signed {
+        let (n, end) = signed_integer(text, at, bits)?;
+        Some((i128::from(n), end))
+    } else {
+        let (n, end) = unsigned_integer(text, at, bits)?;
+        Some((i128::from(n), end))
     }
 }

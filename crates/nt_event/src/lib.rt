@@ -8,11 +8,15 @@
 //! `serde_json` reads; what an entry's line is, `line_of` (specs/Json.antt); what the next line is, `GivesLine`
 //! (specs/Lines.antt). That a line is read back as its entry is the clause of [`lines_are_read_back`].
 //!
-//! Who reads values in another way takes their pieces from [`after`], [`comma`], [`integer`], [`plain_string`] and the others
-//! beside them; [`spelled_trees_are_read`] says that what they spell is what `read_line` reads.
+//! Who reads values in another way takes their pieces from [`after`], [`comma`], [`unsigned_integer`], [`plain_string`] and the
+//! others beside them; [`spelled_trees_are_read`] says that what they spell is what `read_line` reads.
+//!
+//! Choices that bind nobody else: digits are read eight at once, by one word (`eight.rt`), since most of a line's bytes are
+//! digits; byte by byte only near the end of a line.
 #![tactic(auto)]
 
 mod blanks;
+mod eight;
 mod entry;
 mod escapes;
 mod fault;
@@ -31,7 +35,7 @@ mod values;
 pub use blanks::blank;
 pub use entry::read_line;
 pub use fault::{TextError, TextKind};
-pub use integers::{integer, number};
+pub use integers::{integer, number, signed_integer, unsigned_integer};
 pub use laws::{lines_are_read_back, spelled_trees_are_read};
 pub use lines::{Line, LineError, LineReader};
 pub use marks::{after, after_blanks, comma, comma_if, null, truth};

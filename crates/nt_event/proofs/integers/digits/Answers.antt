@@ -1,50 +1,28 @@
-use Rattle.std.proofs.Common.{◌≡◌, ◌+◌, ◌*◌, get_or, arith, sym, ap, ◌∙◌, subst}
-use Rattle.std.specs.List.{slice_range}
-use Rattle.std.specs.Str.Parse.{AllDigits, digits_value}
-use Rattle.nt_event.proofs.Digits.{range-next, range-length, value-next, digits-next, value-short, digit-range}
+use Rattle.std.proofs.Common.{◌+◌, ◌*◌, sym, subst, arith}
+use Rattle.nt_event.specs.Eight.{DigitsStand}
+use Rattle.nt_event.proofs.Digits.{first-digits, more-digits, few-small}
 use Rattle.nt_event.proofs.integers.digits.Goals as goal
 
-pub overflow_mul-n : goal.overflow_mul-n
-overflow_mul-n c =
-    let v = c.loop-i.invariant in
-    omega (
-      arith,
-      v.value,
-      v.low,
-      c.if-i-at-lt19.true,
-      value-short _ v.digits (omega (
-        arith,
-        range-length c.args.text.now c.args.at c.loop-i.i v.low v.high,
-        v.low,
-        c.if-i-at-lt19.true,
-      )),
-    )
+-- the digits of both words
+both : (c : goal.After-ten_to) → DigitsStand c.args.text.now c.args.at (c.args.at + c.up_to_eight-n.result.1 + c.up_to_eight-last.result.1)
+    (c.up_to_eight-n.result.0 * c.ten_to.result + c.up_to_eight-last.result.0)
+both c =
+    let text = c.args.text.now in
+    let at = c.args.at in
+    let e = c.up_to_eight-n.ensures in
+    let f = c.up_to_eight-last.ensures in
+    let i = at + c.up_to_eight-n.result.1 in
+    let start = first-digits text at c.up_to_eight-n.result.1 c.up_to_eight-n.result.0 e.digits e.value
+    (omega (arith, c.if-text-at-lt8.false, c.requires, e.few)) (omega (arith, e.few)) in
+    subst (λ j. DigitsStand text at (i + c.up_to_eight-last.result.1) (c.up_to_eight-n.result.0 * j + c.up_to_eight-last.result.0))
+    (sym c.ten_to.ensures) (more-digits text at i c.up_to_eight-last.result.1 c.up_to_eight-n.result.0 c.up_to_eight-last.result.0 start
+    f.digits f.value (omega (arith, c.if-text-i-lt8.false, start.within, f.few)) (omega (arith, e.few, f.few)))
 
 pub overflow_add-n : goal.overflow_add-n
 overflow_add-n c =
-    let v = c.loop-i.invariant in
-    let short = value-short _ v.digits (omega (
-      arith,
-      range-length c.args.text.now c.args.at c.loop-i.i v.low v.high,
-      v.low,
-      c.if-i-at-lt19.true,
-    )) in
-    let digit = digit-range (get_or c.args.text.now c.loop-i.i 0) (sym c.is_ascii_digit.ensures.value ∙ c.if-is_ascii_digit.true) in
-    omega (arith, v.value, short, c.from.ensures, digit.1)
+    let b = both c in
+    let below = few-small c.args.text.now c.args.at _ b.past b.within b.few b.digits in
+    omega (arith, below, b.value)
 
-pub loop-i-preserved : goal.loop-i-preserved
-loop-i-preserved c =
-    let v = c.loop-i.invariant in
-    let xs = c.args.text.now in
-    let digit = digit-range (get_or c.args.text.now c.loop-i.i 0) (sym c.is_ascii_digit.ensures.value ∙ c.if-is_ascii_digit.true) in
-    let value = value-next (slice_range xs c.args.at c.loop-i.i) (get_or xs c.loop-i.i 0) in
-    let next = range-next xs c.args.at c.loop-i.i v.low c.loop-i-test.true in
-    let whole : c.loop-i.n * 10 + c.from.result ≡ digits_value 10 (slice_range xs c.args.at (c.loop-i.i + 1)) =
-    omega (arith, ap (digits_value 10) next, value, v.value, c.from.ensures, digit.2, digit.0) in
-    record {
-      low = omega (arith, v.low);
-      high = omega (arith, c.loop-i-test.true);
-      few = omega (arith, v.low, c.if-i-at-lt19.true);
-      digits = subst (AllDigits 10) (sym next) (digits-next _ _ v.digits (omega (arith, digit.1, digit.2)));
-      value = whole;
-    }
+pub digits_behind-requires-2 : goal.digits_behind-requires-2
+digits_behind-requires-2 c = both c

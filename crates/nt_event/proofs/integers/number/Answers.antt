@@ -10,10 +10,10 @@ returns-then-end-at-lt19 c =
     let at = c.args.at in
     let end = c.digits-n.result.1 in
     let e = c.digits-n.ensures in
-    let some : at < end = omega (arith, e.within.0, c.if-end-at.false) in
+    let some : at < end = omega (arith, e.past, c.if-end-at.false) in
     subst (λ n. StandsFrom (decimal n) t at end) (sym e.value)
-    (printed t at end some e.within.1 e.digits (c.if-not-has_no_zeros.ensures refl)
-    (few-small t at end e.within.0 e.within.1 e.within.2 e.digits))
+    (printed t at end some e.within e.digits (c.if-not-has_no_zeros.ensures refl)
+    (few-small t at end e.past e.within e.few e.digits))
 
 pub returns : goal.returns
 returns c =
@@ -22,8 +22,8 @@ returns c =
     let end = c.digits-n.result.1 in
     let e = c.digits-n.ensures in
     let m = c.in_ok-all.ensures in
-    let some : at < end = omega (arith, e.within.0, c.if-end-at.false) in
-    let lt : end < length t = omega (arith, e.within.1, c.if-end-text.false) in
+    let some : at < end = omega (arith, e.past, c.if-end-at.false) in
+    let lt : end < length t = omega (arith, e.within, c.if-end-text.false) in
     printed-next t at end c.in_ok-all.all some lt e.digits (c.if-not-has_no_zeros.ensures refl)
-    (omega (arith, e.within.2, c.if-end-at-lt19.false)) m.2
+    (omega (arith, e.few, c.if-end-at-lt19.false)) m.2
     (m.0 ∙ ap (λ n. n * 10 + digit_value (get_or t end 0)) e.value) m.1

@@ -1,0 +1,70 @@
+//! Up to eight digits at once, by eight bytes in one word.
+
+ghost use Rattle.std.specs.Prelude.{◌≡◌, ◌≤◌, ◌<◌, ◌+◌, ◌^◌, length, take, drop};
+ghost use Rattle.std.specs.List.{slice_range};
+ghost use Rattle.std.specs.Str.Parse.{AllDigits, digits_value};
+ghost use Rattle.nt_event.specs.Eight.{low_first, AreDigits, number_behind};
+
+/// The digit zero in each byte.
+const ZEROS: u64 = 0x3030_3030_3030_3030;
+
+/// What brings a byte above nine to its highest bit.
+const ABOVE_NINE: u64 = 0x7676_7676_7676_7676;
+
+/// The highest bit of each byte.
+const HIGHEST: u64 = 0x8080_8080_8080_8080;
+
+/// The eight bytes from a place, the first as the lowest.
+fn word_at(text: &[u8], at: usize) -> u64
+    requires { at + 8 ≤ length text.now }
+    ensures { result ≡ low_first (take 8 (drop at text.now)) }
+{
+    u64::from_le_bytes([
+        text[at],
+        text[at + 1],
+        text[at + 2],
+        text[at + 3],
+        text[at + 4],
+        text[at + 5],
+        text[at + 6],
+        text[at + 7],
+    ])
+}
+
+/// A bit for bytes that aren't below ten. The lowest one marks the first of them.
+fn marks(word: u64) -> u64
+    ensures { result ≡ 0 → AreDigits 8 word }
+{
+    (word & HIGHEST) | (word.wrapping_add(ABOVE_NINE) & HIGHEST)
+}
+
+/// The number that eight digits spell.
+fn number_of(digits: u64) -> u64
+    requires { AreDigits 8 digits }
+    ensures { result ≡ number_behind 8 0 digits }
+{
+    let pairs = digits * 10 + (digits >> 8);
+    let first = pairs % 256 * 100 + (pairs >> 16) % 256;
+    let last = (pairs >> 32) % 256 * 100 + (pairs >> 48) % 256;
+    first * 10_000 + last
+}
+
+/// Digits from a place on, up to eight: their number, and how many they are.
+pub fn up_to_eight(text: &[u8], at: usize) -> (u64, usize)
+    requires { at + 8 ≤ length text.now }
+    ensures value { result.0 ≡ digits_value 10 (slice_range text.now at (at + result.1)) }
+    ensures digits { AllDigits 10 (slice_range text.now at (at + result.1)) }
+    ensures few { result.1 ≤ 8 }
+{
+    let word = word_at(text, at);
+    let few = marks(word.wrapping_sub(ZEROS)).trailing_zeros() / 8;
+    if few == 0 {
+        return (0, 0);
+    }
+    let rest = 64 - 8 * few;
+    let digits = (word << rest).wrapping_sub(ZEROS << rest);
+    if marks(digits) != 0 {
+        return (0, 0);
+    }
+    (number_of(digits), few as usize)
+}
