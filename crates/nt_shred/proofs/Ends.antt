@@ -8,8 +8,8 @@ use Rattle.nt_types.specs.ColumnTable.{bits_of}
 use Rattle.nt_column.specs.Column.{Buffer, columns_of, TakesNumber}
 use Rattle.nt_plans.specs.Types.{is_index_type}
 use Rattle.nt_trees.specs.Views.{cols_of}
-use Rattle.nt_shred.specs.Frame.{Frame, set_frame, IsEnds, is_narrow, has_narrow, ends_below, capacity_at, HasRoomFor}
-use Rattle.nt_shred.proofs.Sets.{framed, capacity-here, capacity-before, columns-kept, cols-kept, frame-kept, elements-at, get-within}
+use Rattle.nt_shred.specs.Frame.{Frame, set_frame, IsEnds, is_narrow, has_narrow, ends_below, capacity_at, HasRoomIn, HasRoomFor}
+use Rattle.nt_shred.proofs.Sets.{framed, capacity-here, columns-kept, cols-kept, frame-kept, elements-at, get-within}
 use Rattle.std.proofs.Math.ListN.{set}
 
 narrow-found : (fr : Frame) (k : ℕ) (c : ColumnType × ℕ) → slice_get fr k ≡ Some c → is_narrow c.0 ≡ true → has_narrow fr ≡ true
@@ -90,26 +90,19 @@ pub record AreGrown (start now : List Buffer) (more n : ℕ) : Type 0 where
   pub memory : (k : ℕ) → k < n → length (cols_of now k) + more ≤ capacity_at now k
   pub ends : (k : ℕ) → k < n → length (cols_of now k) + more < ends_below (set_frame start)
 
-pub grown-next : (start now : List Buffer) (more n limit : ℕ) (b new : Buffer) → AreGrown start now more n
-    → slice_get now n ≡ Some b → new.column ≡ b.column → more ≤ new.spare
-    → length b.column.elements + more ≤ limit → limit + 1 ≡ ends_below (set_frame start) → AreGrown start (set now n new) more (n + 1)
-grown-next start now more n limit b new g at is room low top = record {
+pub grown-next : (start now new : List Buffer) (more n : ℕ) → AreGrown start now more n → columns_of new ≡ columns_of now
+    → ((k : ℕ) → capacity_at now k ≤ capacity_at new k) → HasRoomIn new n more → AreGrown start new more (n + 1)
+grown-next start now new more n g kept le here = record {
   same = kept ∙ g.same;
-  memory = λ k h. step (λ k. length (cols_of (set now n new) k) + more ≤ capacity_at (set now n new) k)
-      (λ k less. omega (arith, g.memory k less, stays k, capacity-before now n new k less))
-      (omega (arith, stays n, here, room, capacity-here now n new (get-within now n b at), ap (λ c. length c.elements) is)) k h;
-  ends = λ k h. step (λ k. length (cols_of (set now n new) k) + more < ends_below (set_frame start))
-      (λ k less. omega (arith, g.ends k less, stays k)) (omega (arith, stays n, here, low, top)) k h;
+  memory = λ k h. step (λ k. length (cols_of new k) + more ≤ capacity_at new k)
+      (λ k less. omega (arith, g.memory k less, stays k, le k)) here.memory k h;
+  ends = λ k h. step (λ k. length (cols_of new k) + more < ends_below (set_frame start))
+      (λ k less. omega (arith, g.ends k less, stays k))
+      (omega (arith, here.ends, ap ends_below (frame-kept start new (kept ∙ g.same)))) k h;
 }
   where
-    kept : columns_of (set now n new) ≡ columns_of now
-    kept = columns-kept now n b new at is
-
-    stays : (k : ℕ) → length (cols_of (set now n new) k) ≡ length (cols_of now k)
-    stays k = ap (λ c. length (c k)) (cols-kept now (set now n new) kept)
-
-    here : length (cols_of now n) ≡ length b.column.elements
-    here = ap length (elements-at now n b at)
+    stays : (k : ℕ) → length (cols_of new k) ≡ length (cols_of now k)
+    stays k = ap (λ c. length (c k)) (cols-kept now new kept)
 
     step : (P : ℕ → Type 0) → ((k : ℕ) → k < n → P k) → P n → (k : ℕ) → k < n + 1 → P k
     step P before last k h = go (cases_lt k n)
@@ -117,6 +110,20 @@ grown-next start now more n limit b new g at is room low top = record {
         go : (k < n) ⊎ (n ≤ k) → P k
         go (inl less) = before k less
         go (inr not) = let same : n ≡ k = omega (arith, h, not) in subst P same last
+
+-- one column has more room, and no column has changed
+pub grown-one : (bs : List Buffer) (k more : ℕ) (b new : Buffer) → slice_get bs k ≡ Some b → new.column ≡ b.column
+    → more ≤ new.spare → length b.column.elements + more < ends_below (set_frame bs) → HasRoomIn (set bs k new) k more
+grown-one bs k more b new at is room low = record {
+  memory = omega (arith, stays, here, room, capacity-here bs k new (get-within bs k b at), ap (λ c. length c.elements) is);
+  ends = omega (arith, stays, here, low, ap ends_below (frame-kept bs (set bs k new) (columns-kept bs k b new at is)));
+}
+  where
+    stays : length (cols_of (set bs k new) k) ≡ length (cols_of bs k)
+    stays = ap (λ c. length (c k)) (cols-kept bs (set bs k new) (columns-kept bs k b new at is))
+
+    here : length (cols_of bs k) ≡ length b.column.elements
+    here = ap length (elements-at bs k b at)
 
 pub grown-ends : (start now : List Buffer) (more n : ℕ) → AreGrown start now more n → length now ≤ n → HasRoomFor now more
 grown-ends start now more n g le = record {

@@ -151,6 +151,22 @@ frame-kept old new is = frame-columns new ∙ ap (map (λ (c : Column). (c.kind,
 pub cols-kept : (old new : List Buffer) → columns_of new ≡ columns_of old → cols_of new ≡ cols_of old
 cols-kept old new is = λ i k. elements_at (is i) k
 
+-- more memory for one column
+pub capacity-kept : (bs : List Buffer) (k : ℕ) (b new : Buffer) → slice_get bs k ≡ Some b → new.column ≡ b.column → b.spare ≤ new.spare
+    → (j : ℕ) → capacity_at bs j ≤ capacity_at (set bs k new) j
+capacity-kept [] k b new at is le j = omega arith
+capacity-kept (x ∷ bs) zero b new at is le zero =
+    let same : x ≡ b = cc in
+    omega (
+      arith,
+      le,
+      ap (λ (y : Buffer). length y.column.elements + y.spare) same,
+      ap (λ (c : Column). length c.elements) is,
+    )
+capacity-kept (x ∷ bs) zero b new at is le (suc j) = omega arith
+capacity-kept (x ∷ bs) (suc k) b new at is le zero = omega arith
+capacity-kept (x ∷ bs) (suc k) b new at is le (suc j) = capacity-kept bs k b new at is le j
+
 -- the capacity of a column that gets a new buffer, and of any other
 pub capacity-here : (bs : List Buffer) (k : ℕ) (new : Buffer) → k < length bs → capacity_at (set bs k new) k
     ≡ length new.column.elements + new.spare

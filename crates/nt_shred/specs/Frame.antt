@@ -75,3 +75,8 @@ pub record FitsIn (bs : List Buffer) (cols : Cols) : Type 0 where
 pub record HasRoomFor (bs : List Buffer) (more : ℕ) : Type 0 where
   pub memory : (k : ℕ) → k < length bs → length (cols_of bs k) + more ≤ capacity_at bs k
   pub ends : (k : ℕ) → k < length bs → length (cols_of bs k) + more < ends_below (set_frame bs)
+
+-- there is room for so many more elements in one column
+pub record HasRoomIn (bs : List Buffer) (k more : ℕ) : Type 0 where
+  pub memory : length (cols_of bs k) + more ≤ capacity_at bs k
+  pub ends : length (cols_of bs k) + more < ends_below (set_frame bs)

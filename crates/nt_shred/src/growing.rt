@@ -1,8 +1,9 @@
 //! Room for elements.
 
-ghost use Rattle.std.specs.Prelude.{◌≡◌, ◌≤◌, ◌+◌, ◌^◌, nat_le, length, OnOk};
+ghost use Rattle.std.specs.Prelude.{◌≡◌, ◌≤◌, ◌<◌, ◌+◌, ◌^◌, ℕ, length, IsTrue, IfOk, OnOk};
 ghost use Rattle.nt_column.specs.Column.{columns_of};
-ghost use Rattle.nt_shred.specs.Frame.{set_frame, is_narrow, has_narrow, ends_below, HasRoomFor};
+ghost use Rattle.nt_trees.specs.Views.{cols_of};
+ghost use Rattle.nt_shred.specs.Frame.{set_frame, is_narrow, has_narrow, ends_below, capacity_at, HasRoomIn, HasRoomFor};
 
 use nt_column::ColumnSet;
 use nt_types::ColumnType;
@@ -27,41 +28,44 @@ fn has_narrow(out: &ColumnSet) -> bool
     false
 }
 
-/// The most that all ends can count to.
-fn limit(out: &ColumnSet) -> usize
+/// Whether the ends of all columns can count so many elements and so many more.
+fn can_count(out: &ColumnSet, len: usize, more: usize) -> bool
     requires { length out.now ≤ 2 ^ 32 }
-    ensures { result + 1 ≡ ends_below (set_frame out.now) }
-{
-    if has_narrow(out) {
-        u32::MAX as usize
-    } else {
-        usize::MAX
-    }
-}
-
-/// Whether so many and so many more are up to the limit.
-fn is_within(len: usize, more: usize, limit: usize) -> bool
-    ensures { result ≡ nat_le (len + more) limit }
+    ensures { IsTrue result → len + more < ends_below (set_frame out.now) }
 {
     match len.checked_add(more) {
-        Some(sum) => sum <= limit,
+        // What any end can count needs no look at the columns.
+        Some(sum) => sum <= u32::MAX as usize || !has_narrow(out),
         None => false,
     }
 }
 
-/// Makes room for so many more elements in each column. What ends of 32 bits can't count has no
-/// room either.
+/// Makes room for so many more elements in a column, and gives how many it has. What ends of 32
+/// bits can't count has no room either.
+pub fn reserve_column(out: &mut ColumnSet, column: u32, more: usize) -> Result<usize, AllocError>
+    requires count { length out.old ≤ 2 ^ 32 }
+    requires column { column < length out.old }
+    ensures columns { columns_of out.new ≡ columns_of out.old }
+    ensures kept { (k : ℕ) → capacity_at out.old k ≤ capacity_at out.new k }
+    ensures ok { OnOk result (HasRoomIn out.new column more) }
+    ensures len { IfOk result (λ n. n ≡ length (cols_of out.old column)) }
+{
+    let len = out.column(column).len();
+    if !can_count(out, len, more) {
+        return Err(AllocError);
+    }
+    out.buffer(column).reserve(more)?;
+    Ok(len)
+}
+
+/// Makes room for so many more elements in each column.
 pub fn reserve(out: &mut ColumnSet, more: usize) -> Result<(), AllocError>
     requires { length out.old ≤ 2 ^ 32 }
     ensures columns { columns_of out.new ≡ columns_of out.old }
     ensures ok { OnOk result (HasRoomFor out.new more) }
 {
-    let limit = limit(out);
     for column in 0..out.columns() {
-        if !is_within(out.column(column as u32).len(), more, limit) {
-            return Err(AllocError);
-        }
-        out.buffer(column as u32).reserve(more)?;
+        reserve_column(out, column as u32, more)?;
     }
     Ok(())
 }

@@ -34,3 +34,18 @@ pub fn element(value: i128, bits: u8) -> u64
         highest - (-(value + 1)) as u64
     }
 }
+
+/// The element of an integer with a sign, which is in the range of a width.
+pub fn signed_element(value: i64, bits: u8) -> u64
+    requires bits { is_width bits ≡ true }
+    requires range { is_int bits true value ≡ true }
+    ensures element { result ≡ twos_complement bits value }
+    ensures fits { result < 2 ^ bits }
+{
+    let highest = highest(bits);
+    if value >= 0 {
+        value as u64
+    } else {
+        highest - (-1 - value) as u64
+    }
+}

@@ -2,7 +2,7 @@
 //!
 //! Start at `entry.rt` with nt_trees' `specs/Put` (what an entry adds), then `putting.rt`, the one
 //! walk over plans and trees. Its single steps are public too, for who adds values without trees:
-//! `reserve`, `push` and those beside it, `count` and `element`. Every entry that is written comes
+//! `reserve_column`, `push` and those beside it, `count` and `signed_element`. Every entry that is written comes
 //! through these, so keep them free of maps, of memory for single values, and of walks over the rows
 //! of a schema.
 //!
@@ -36,6 +36,6 @@ mod putting;
 
 pub use counting::count;
 pub use entry::shred;
-pub use growing::reserve;
-pub use integers::element;
+pub use growing::{reserve, reserve_column};
+pub use integers::{element, signed_element};
 pub use pushing::{push, push_bytes, push_end, push_tag};
