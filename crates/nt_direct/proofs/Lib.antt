@@ -4,4 +4,5 @@ pub mod Walks
 pub mod Equal
 pub mod Arms
 pub mod Cutting
+pub mod Noting
 pub mod Whole

@@ -1,11 +1,13 @@
 -- A text that is read by plans, straight to the columns: what is required before, and what is so after.
-use Rattle.std.specs.Prelude.{ℕ, ◌≡◌, ◌-◌, true, List, Option, Some, None}
-use Rattle.nt_types.specs.TreeData.{TreeData, trees_of}
-use Rattle.nt_types.specs.Fits.{all_trees}
-use Rattle.nt_event.specs.Json.{InRange, AllInRange}
-use Rattle.nt_event.specs.Standing.{ValueStands, ItemsStand, json_of, jsons_of}
+use Rattle.std.specs.Prelude.{ℕ, ℤ, ◌≡◌, ◌-◌, ◌<◌, ◌^◌, Bool, true, List, Option, Some, None}
+use Rattle.serde_json.specs.Written.{compact_text}
+use Rattle.nt_types.specs.TreeData.{TreeData, trees_of, num}
+use Rattle.nt_types.specs.Fits.{all_trees, is_int}
+use Rattle.nt_event.specs.Json.{InRange, AllInRange, InWord, data_of}
+use Rattle.nt_event.specs.Standing.{StandsFrom, ValueStands, ItemsStand, json_of, jsons_of}
 use Rattle.nt_column.specs.Column.{Buffer}
 use Rattle.nt_plans.specs.Plan.{PlanData, PlansData, Differ, AllDiffer}
+use Rattle.nt_trees.specs.Integers.{twos_complement}
 use Rattle.nt_trees.specs.Sound.{Sound, AllSound}
 use Rattle.nt_trees.specs.Put.{put_each, put_tree, put_trees}
 use Rattle.nt_trees.specs.Fits.{fits_plan, fit_plans}
@@ -29,6 +31,15 @@ pub record CanPutEach (ps : PlansData) (left : ℕ) (bs : List Buffer) : Type 0 
   pub differ : AllDiffer ps
   pub takes : AllTake ps (set_frame bs)
   pub room : HasRoomFor bs left
+
+-- from one place to another of a text stands an integer of a width, and this is its element
+pub record ElementStands (bits : ℕ) (signed : Bool) (n : ℕ) (text : List ℕ) (at end : ℕ) : Type 0 where
+  pub value : ℤ
+  pub is : n ≡ twos_complement bits value
+  pub below : n < 2 ^ bits
+  pub fitting : is_int bits signed value ≡ true
+  pub range : InWord value
+  pub stands : StandsFrom (compact_text (data_of (num value))) text at end
 
 -- from one place to another of a text stands a tree that the plan takes, and it is added, by no more elements a column than bytes
 pub record Puts (p : PlanData) (text : List ℕ) (at end : ℕ) (old new : List Buffer) : Type 0 where

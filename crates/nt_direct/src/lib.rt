@@ -9,13 +9,14 @@
 //!
 //! Proved: of a line that is taken, that it spells trees which fit the schema, and that the columns have
 //! exactly what nt_shred adds of these (`PutsEntry`); of a refused one, that no column has changed
-//! (`put_line`). Only tested: which lines are taken. Not proved: how long it takes.
+//! (`put_line`). Neither proved nor tested: which lines are taken, and how long it takes.
 //!
 //! Choices that bind nobody else:
 //! - Refused are strings with escapes, lines above 4096 bytes, and those for which there is no memory.
 //! - Each element stands in the line as one byte at least. So room for as many elements as the line has
 //!   bytes is made in each column, and then nothing can fail.
-//! - What was added of a refused line is cut off again, at the lengths that were noted before.
+//! - What was added of a refused line is cut off again, at the lengths that were noted as room was made.
+//! - Lists of integers, where most values are, have a loop of their own, without a look at the plan a value.
 #![tactic(auto)]
 
 mod leaves;

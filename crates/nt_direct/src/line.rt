@@ -1,20 +1,18 @@
 //! One line.
 
-ghost use Rattle.std.specs.Prelude.{◌≡◌, ◌≤◌, ◌^◌, length, MatchBool, OnOk};
+ghost use Rattle.std.specs.Prelude.{◌≡◌, ◌≤◌, ◌^◌, length, MatchBool};
 ghost use Rattle.nt_column.specs.Column.{columns_of};
 ghost use Rattle.nt_trees.specs.Views.{plans_in};
-ghost use Rattle.nt_shred.specs.Frame.{HasRoomFor};
-ghost use Rattle.nt_direct.specs.Places.{Grew, lengths_of};
+ghost use Rattle.nt_direct.specs.Places.{Grew};
 ghost use Rattle.nt_direct.specs.Walk.{CanPutEach};
 ghost use Rattle.nt_direct.specs.Lines.{PutsLine, IsSoundSet, PutsEntry};
 
-use crate::room::{cut_back, note};
+use crate::room::{cut_back, prepare};
 use crate::values::each;
 use nt_column::ColumnSet;
 use nt_event::{after, after_blanks};
 use nt_plans::{Plan, columns_differ, columns_have_types};
 use nt_schema::Schema;
-use nt_shred::reserve;
 use std::alloc::{AllocError, Global};
 
 /// The most bytes of a line that is taken.
@@ -48,17 +46,6 @@ impl Direct {
         }
     }
 
-    /// Makes room for as many elements in each column as a line has bytes, and notes the columns.
-    fn prepare(&mut self, out: &mut ColumnSet, more: usize) -> Result<(), AllocError>
-        requires { length out.old ≤ 2 ^ 32 }
-        ensures columns { columns_of out.new ≡ columns_of out.old }
-        ensures ok { OnOk result (HasRoomFor out.new more) }
-        ensures noted { OnOk result (self.new.marks.items ≡ lengths_of out.new) }
-    {
-        reserve(out, more)?;
-        note(out, &mut self.marks)
-    }
-
     /// Adds the entry of a line, whose LF is taken off, and says whether it took the line.
     pub fn put_line(&mut self, line: &[u8], schema: &Schema, out: &mut ColumnSet) -> bool
         requires { IsSoundSet schema.now out.old }
@@ -75,7 +62,7 @@ impl Direct {
         if let Err(_invalid) = simdutf8::compat::from_utf8(line) {
             return false;
         }
-        if let Err(AllocError) = self.prepare(out, line.len()) {
+        if let Err(AllocError) = prepare(out, line.len(), &mut self.marks) {
             return false;
         }
         if put_entry(out, schema.plans().as_slice(), line) {

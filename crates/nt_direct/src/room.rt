@@ -3,19 +3,24 @@
 ghost use Rattle.std.specs.Prelude.{◌≡◌, ◌≤◌, ◌^◌, List, length, true, OnOk};
 ghost use Rattle.nt_column.specs.Column.{Buffer, columns_of};
 ghost use Rattle.nt_trees.specs.Described.{are_stored};
+ghost use Rattle.nt_shred.specs.Frame.{HasRoomFor};
 ghost use Rattle.nt_direct.specs.Places.{Grew, lengths_of};
 
 use nt_column::ColumnSet;
+use nt_shred::reserve_column;
 use std::alloc::AllocError;
 
-/// Notes how many elements each column has.
-pub fn note(out: &ColumnSet, marks: &mut Vec<usize>) -> Result<(), AllocError>
-    requires { length out.now ≤ 2 ^ 32 }
-    ensures { OnOk result (marks.new.items ≡ lengths_of out.now) }
+/// Makes room for so many more elements in each column, and notes how many it has.
+pub fn prepare(out: &mut ColumnSet, more: usize, marks: &mut Vec<usize>) -> Result<(), AllocError>
+    requires { length out.old ≤ 2 ^ 32 }
+    ensures columns { columns_of out.new ≡ columns_of out.old }
+    ensures ok { OnOk result (HasRoomFor out.new more) }
+    ensures noted { OnOk result (marks.new.items ≡ lengths_of out.new) }
 {
     marks.clear();
     for column in 0..out.columns() {
-        marks.push(out.column(column as u32).len())?;
+        let len = reserve_column(out, column as u32, more)?;
+        marks.push(len)?;
     }
     Ok(())
 }

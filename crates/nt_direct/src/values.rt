@@ -6,7 +6,7 @@ ghost use Rattle.nt_plans.specs.PlanViews.{plan_view};
 ghost use Rattle.nt_trees.specs.Views.{plans_in};
 ghost use Rattle.nt_direct.specs.Walk.{CanPut, CanPutEach, Puts, PutsAll, PutsEach, Leaves};
 
-use crate::leaves::{flag, string, whole};
+use crate::leaves::{flag, string, whole, wholes};
 use nt_column::ColumnSet;
 use nt_event::{after, comma, comma_if, null, number};
 use nt_plans::Plan;
@@ -51,6 +51,14 @@ fn items(out: &mut ColumnSet, of: &Plan, line: &[u8], at: usize) -> Option<usize
     ensures { Leaves (λ end. PutsAll (plan_view of.now) line.now at end out.old out.new)
         out.old out.new result }
 {
+    if let Plan::Number {
+        column,
+        bits,
+        signed,
+    } = of
+    {
+        return wholes(out, *column, *bits, *signed, line, at);
+    }
     if let Some(end) = after(line, at, b']') {
         return Some(end);
     }

@@ -35,7 +35,7 @@ mod values;
 pub use blanks::blank;
 pub use entry::read_line;
 pub use fault::{TextError, TextKind};
-pub use integers::{integer, number, signed_integer, unsigned_integer};
+pub use integers::{number, signed_integer, unsigned_integer};
 pub use laws::{lines_are_read_back, spelled_trees_are_read};
 pub use lines::{Line, LineError, LineReader};
 pub use marks::{after, after_blanks, comma, comma_if, null, truth};
