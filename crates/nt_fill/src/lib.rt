@@ -1,8 +1,9 @@
 //! Contexts that gather entries in columns, and write them as clusters of one file beside each
 //! other.
 //!
-//! Begin at `FillContext` in `context.rt`. `fill` gathers an entry; a context that is `full` has a
-//! cluster's entries, and `flush` writes what is gathered: it makes the image, commits it in one hold
+//! Begin at `FillContext` in `context.rt`. `fill` gathers an entry, and `fill_line` that of a line of
+//! event text: it does what nt_event's `read_line` and then `fill` do, without a tree in between, or
+//! refuses the line, which is then to be read. A context that is `full` has a cluster's entries, and `flush` writes what is gathered: it makes the image, commits it in one hold
 //! of the turn, fills its range with the context's own pen outside the turn, and hands it back in
 //! another hold (`writing.rt`). `end` gives pass and pen back. A context is *alive* until its pen fails.
 //!
@@ -15,7 +16,8 @@
 //! (`limits`); a fault only where the own list gained a Faulted or a Spoiled entry, and then the pen
 //! is gone just where its range was spoiled, which was committed with the metadata of the gathered
 //! entries (`fault`); after any other refusal all is as before but
-//! what the pass has seen (`kept`); an entry is gathered whole or not at all (`fill`). What holds of
+//! what the pass has seen (`kept`); an entry is gathered whole or not at all (`fill`); of a line that `fill_line` takes, the entry that
+//! `read_line` reads is gathered, and of one that it refuses nothing. What holds of
 //! each context at any moment is `IsGathering`, the invariant.
 //!
 //! Neither proved nor promised: when the gate is called, which promises nothing; that a flush ever
