@@ -19,7 +19,7 @@ use Rattle.nt_trees.proofs.Stable.{each_at-stays}
 use Rattle.nt_machine.specs.History.{Cluster}
 use Rattle.nt_book.specs.declared.meta.PageMeta.{PageMeta}
 use Rattle.nt_book.specs.declared.meta.ClusterMeta.{ClusterMeta}
-use Rattle.nt_book.specs.Books.{BookData, cluster_at, no_cluster}
+use Rattle.nt_book.specs.Books.{BookData, cluster_at, first_entry, no_cluster}
 use Rattle.nt_pages.specs.Image.{payload}
 use Rattle.nt_pages.specs.Metas.{column_metas}
 use Rattle.nt_pagelists.specs.declared.cluster.ClusterList.{ClusterList}
@@ -35,7 +35,7 @@ use Rattle.nt_finished.proofs.Standing.{StandsThere, front_stands, back_stands, 
 use Rattle.nt_finished.proofs.Starts.{AreFollowing}
 use Rattle.nt_finished.proofs.Lengths.{AreTold, range-len}
 use Rattle.nt_finished.proofs.Needs.{any-entries}
-use Rattle.nt_finished.proofs.Sound.{length-metas}
+use Rattle.nt_finished.proofs.Sound.{length-metas, all-begun}
 use Rattle.nt_finished.proofs.Columns.{seen, seen-at, columns_held}
 
 -- ---- columns of which only the open ones are seen
@@ -91,12 +91,13 @@ lists-le book k n (l ∷ ls) h = omega (arith, lists-le book (k + 1) n ls h.1)
 
 -- ---- a cluster
 
-module _ (file : List ℕ) (t : Table) (needs : HaveNeeds t) (page : ℕ) (some : 0 < page)
-    (none : AllByRecursion (λ (c : ColumnRow). c.first ≡ 0) t.columns) where
-  cluster_held : (c : Cluster ClusterMeta) (l : ClusterList) (entries : List TreesData) (range : List ℕ) → IsListOf c l
-      → IsBlobOfEntries t page entries c.start range c.meta
+module _ (file : List ℕ) (t : Table) (needs : HaveNeeds t) (page : ℕ) (some : 0 < page) where
+  pub cluster_held : (begin : ℕ) (c : Cluster ClusterMeta) (l : ClusterList) (entries : List TreesData) (range : List ℕ) → IsListOf begin c l
+      → AllByRecursion (λ (r : ColumnRow). r.first ≤ begin) t.columns → IsBlobOfEntries t page entries c.start range c.meta
       → StandsThere file c.start range → HoldsCluster file t l entries
-  cluster_held c l entries range listed is there =
+  cluster_held begin c l entries range listed begun is there =
+      let rows : AllByRecursion (λ (r : ColumnRow). r.first ≤ l.first) t.columns =
+      subst (λ (n : ℕ). AllByRecursion (λ (r : ColumnRow). r.first ≤ n) t.columns) (sym listed.first_is) begun in
       let kept : c.meta.pages ≡ column_metas page 0 is.columns = ap (λ (m : ClusterMeta). m.pages) is.meta_is in
       let count : l.entries ≡ length entries = listed.entries ∙ ap (λ (m : ClusterMeta). m.entries) is.meta_is in
       let object : StandsThere file (payload_place c) (payload page is.columns) =
@@ -104,7 +105,7 @@ module _ (file : List ℕ) (t : Table) (needs : HaveNeeds t) (page : ℕ) (some 
       let first : payload_place c ≡ payload_place c + 0 = omega arith in
       record {
         columns = seen t 0 is.columns;
-        holds = columns_held file t l page (payload_place c) some 0 0 is.columns t.columns is.gives.set.described none is.gives.in_range
+        holds = columns_held file t l page (payload_place c) some 0 0 is.columns t.columns is.gives.set.described rows is.gives.in_range
             (λ j less.
             let same : 0 + j ≡ j = omega arith in
             let long : length c.meta.pages ≡ length is.columns = ap length kept ∙ length-metas page 0 is.columns in
@@ -122,10 +123,14 @@ module _ (file : List ℕ) (t : Table) (needs : HaveNeeds t) (page : ℕ) (some 
             (seen-gives t needs is.columns entries is.gives);
       }
 
-  cluster_read : (number : ℕ) (c : Cluster ClusterMeta) (l : ClusterList) (entries : List TreesData) (range : List ℕ) → IsListOf c l
+module _ (file : List ℕ) (t : Table) (needs : HaveNeeds t) (page : ℕ) (some : 0 < page)
+    (none : AllByRecursion (λ (c : ColumnRow). c.first ≡ 0) t.columns) where
+  cluster_read : (number begin : ℕ) (c : Cluster ClusterMeta) (l : ClusterList) (entries : List TreesData) (range : List ℕ)
+      → IsListOf begin c l
       → IsBlobOfEntries t page entries c.start range c.meta → StandsThere file c.start range → cluster_of file t number l ≡ Ok entries
-  cluster_read number c l entries range listed is there =
-      (cluster file t number l).reads entries (cluster_held c l entries range listed is there)
+  cluster_read number begin c l entries range listed is there =
+      (cluster file t number l).reads entries (cluster_held file t needs page some begin c l entries range listed
+      (all-begun begin t.columns none) is there)
 
   entries-chain : (number : ℕ) (l : ClusterList) (ls : List ClusterList) (entries : List TreesData) (others : List (List TreesData))
       → cluster_of file t number l ≡ Ok entries
@@ -148,11 +153,12 @@ module _ (file : List ℕ) (t : Table) (needs : HaveNeeds t) (page : ℕ) (some 
       follow told there =
       let same : k + 0 ≡ k = omega arith in
       let here : cluster_at book k ≡ c = ap (λ (j : ℕ). cluster_at book j) (sym same) ∙ sym (at 0 (omega arith)) in
-      let listed : IsListOf c l = subst (λ (x : Cluster ClusterMeta). IsListOf x l) here lists.0 in
+      let listed : IsListOf (first_entry book k) c l =
+      subst (λ (x : Cluster ClusterMeta). IsListOf (first_entry book k) x l) here lists.0 in
       let long : length range ≡ c.len = range-len t page entries c.start range c.meta first ∙ sym told.0 in
       let own : StandsThere file c.start range =
       subst (λ (p : ℕ). StandsThere file p range) (sym follow.0) (front_stands file range (concat left) place there) in
-      entries-chain k l ls entries others (cluster_read k c l entries range listed first own)
+      entries-chain k l ls entries others (cluster_read k (first_entry book k) c l entries range listed first own)
       (entries_read book n (k + 1) (place + c.len) others left ds ls more lists.1 (omega (arith, all))
       (λ j less. let next : k + suc j ≡ k + 1 + j = omega arith in at (suc j) (omega (arith, less))
       ∙ ap (λ (i : ℕ). cluster_at book i) next) follow.1 told.1

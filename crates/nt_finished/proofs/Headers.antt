@@ -30,6 +30,7 @@ use Rattle.nt_layout.specs.Headers.{header_object, header_sum, header_blob}
 use Rattle.nt_layout.specs.Groups.{ClusterSpan, list_len}
 use Rattle.nt_layout.specs.Finished.{spans, list_blobs, groups, footer_object, footer_place, footer_blob, anchor_of_file, blobs, finished}
 use Rattle.nt_layout.specs.Laid.{AreBlobsOf, Measures, AreMeasures, IsWithin, IsBookOf}
+use Rattle.nt_finished.specs.Ranged.{IsRangedBook}
 use Rattle.nt_finished.proofs.Standing.{StandsThere, front_stands, back_stands, middle_stands, object_stands, length-blob, length-envelope}
 use Rattle.nt_finished.proofs.Standing.{opened}
 use Rattle.nt_finished.proofs.Lengths.{blobs-are, footer_place-is, anchor_start-is, clusters_told, ranges-len, ranges-end, length-finished}
@@ -59,15 +60,23 @@ pub record AreStanding (t : Table) (book : BookData) (most : ℕ) (ranges : List
   pub lists : StandsThere file (book_end book) (concat (list_blobs t book most))
   pub footer : StandsThere file (footer_place t book most) (footer_blob t book most)
 
-pub parts_stand : (t : Table) (page most : ℕ) (clusters : List (List TreesData)) (ranges : List (List ℕ)) (book : BookData)
-    → IsBookOf t book
-    → AreBlobsOf t page clusters ranges (book_clusters book) → AreStanding t book most ranges (finished t book most ranges)
-parts_stand t page most clusters ranges book is are =
+-- blobs of entries are ranges as long as their clusters
+pub book-ranged : (t : Table) (page : ℕ) (clusters : List (List TreesData)) (ranges : List (List ℕ)) (book : BookData)
+    → IsBookOf t book → AreBlobsOf t page clusters ranges (book_clusters book) → IsRangedBook t book ranges
+book-ranged t page clusters ranges book is are = record {
+  kept = is.kept;
+  begin = is.begin;
+  firsts = is.firsts;
+  lens = ranges-len t page clusters ranges (book_clusters book) are (clusters_told book is.kept);
+}
+
+pub parts_stand : (t : Table) (most : ℕ) (ranges : List (List ℕ)) (book : BookData) → IsRangedBook t book ranges
+    → AreStanding t book most ranges (finished t book most ranges)
+parts_stand t most ranges book is =
     let file : List ℕ = finished t book most ranges in
     let lists : List ℕ = concat (list_blobs t book most) in
     let footer : List ℕ = footer_blob t book most in
-    let ends =
-    ranges-end t ranges book is.begin (ranges-len t page clusters ranges (book_clusters book) are (clusters_told book is.kept)) in
+    let ends = ranges-end t ranges book is.begin is.lens in
     let whole : StandsThere file begun_len (header_blob t ++ (concat ranges ++ (lists ++ footer))) =
     subst (λ (l : List ℕ). StandsThere file begun_len l) (blobs-are t book most ranges)
     (middle_stands (anchor_of_file t book most) (blobs t book most ranges)) in
@@ -93,9 +102,8 @@ sealed-sum : (kind sum : ℕ) (payload : List ℕ) → sum ≡ xxh3 (unsealed ki
     → sealed kind payload ≡ record { payload = payload; sum = sum }
 sealed-sum kind sum payload is = ap (λ (n : ℕ). record { payload = payload; sum = n }) (sym is)
 
-module _ (t : Table) (m : Measures) (clusters : List (List TreesData)) (ranges : List (List ℕ)) (book : BookData)
-    (is : IsDescribed t) (measures : AreMeasures m) (of : IsBookOf t book) (within : IsWithin t m book)
-    (are : AreBlobsOf t m.page clusters ranges (book_clusters book)) where
+module _ (t : Table) (m : Measures) (ranges : List (List ℕ)) (book : BookData)
+    (is : IsDescribed t) (measures : AreMeasures m) (of : IsRangedBook t book ranges) (within : IsWithin t m book) where
   abbrev file : List ℕ
   file = finished t book m.group ranges
 
@@ -142,7 +150,7 @@ module _ (t : Table) (m : Measures) (clusters : List (List TreesData)) (ranges :
   rows-few = few_fields sum t (groups t book m.group) (omega (arith, header-long, header-short)) (omega (arith, footer-long, footer-short))
 
   standing_parts : AreStanding t book m.group ranges file
-  standing_parts = parts_stand t m.page m.group clusters ranges book of are
+  standing_parts = parts_stand t m.group ranges book of
 
   anchor-is : IsAnchor anchor
   anchor-is = record {
@@ -156,8 +164,7 @@ module _ (t : Table) (m : Measures) (clusters : List (List TreesData)) (ranges :
 
   pub anchor-reads : anchor_of file ≡ Ok anchor
   anchor-reads =
-      let lens = ranges-len t m.page clusters ranges (book_clusters book) are (clusters_told book of.kept) in
-      let long = length-finished t ranges book of.begin lens m.group in
+      let long = length-finished t ranges book of.begin of.lens m.group in
       let a = within.file in
       let b = measures.file in
       finished_back anchor (blobs t book m.group ranges) anchor-is (omega (arith, long, a, b))

@@ -6,7 +6,7 @@ use Rattle.std.specs.List.{concat, AllByRecursion, range_with_len}
 use Rattle.std.proofs.lemmas.List.FromFn.{length-map-range_with_len, get_or-map-range_with_len}
 use Rattle.nt_format.specs.Reading.{standing}
 use Rattle.nt_format.specs.Envelopes.{envelope}
-use Rattle.nt_book.specs.Books.{BookData, book_clusters, cluster_at, elements_before}
+use Rattle.nt_book.specs.Books.{BookData, book_clusters, cluster_at, first_entry, elements_before}
 use Rattle.nt_pagelists.specs.declared.column.KnownColumn.{KnownColumn}
 use Rattle.nt_pagelists.specs.declared.group.Group.{Group}
 use Rattle.nt_pagelists.specs.declared.cluster.ClusterList.{ClusterList}
@@ -37,10 +37,20 @@ moved-pages p place [] id less = absurd (omega arith)
 moved-pages p place (c ∷ cs) zero less = refl
 moved-pages p place (c ∷ cs) (suc id) less = moved-pages p (place + length (column_list_text c)) cs id (omega arith)
 
+length-moved : (p place : ℕ) (cs : List ListedColumn) → length (map (moved_column p) (column_lists_from place cs)) ≡ length cs
+length-moved p place [] = refl
+length-moved p place (c ∷ cs) = ap suc (length-moved p (place + length (column_list_text c)) cs)
+
 module _ (book : BookData) where
-  listed : (p place k : ℕ) → IsListOf (cluster_at book k) (moved_cluster p (cluster_list_from place (listed_cluster book k)))
+  listed : (p place k : ℕ) → IsListOf (first_entry book k) (cluster_at book k) (moved_cluster p (cluster_list_from place (listed_cluster book k)))
   listed p place k =
       record {
+        first_is = refl;
+        few = omega (
+          arith,
+          length-moved p (place + 12) (map (listed_column book k) (range_with_len 0 (length (cluster_at book k).meta.pages))),
+          long k,
+        );
         entries = refl;
         pages = λ id less.
             moved-pages p (place + 12) (map (listed_column book k) (range_with_len 0 (length (cluster_at book k).meta.pages))) id

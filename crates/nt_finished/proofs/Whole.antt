@@ -11,7 +11,7 @@ use Rattle.nt_layout.specs.Finished.{finished}
 use Rattle.nt_layout.specs.Laid.{AreBlobsOf, Measures, AreMeasures, IsWithin, IsBookOf, IsLaid}
 use Rattle.nt_finished.proofs.Starts.{clusters_follow}
 use Rattle.nt_finished.proofs.Lengths.{clusters_told}
-use Rattle.nt_finished.proofs.Headers.{parts_stand}
+use Rattle.nt_finished.proofs.Headers.{book-ranged, parts_stand}
 use Rattle.nt_finished.proofs.Clusters.{HaveNeeds, entries_read}
 use Rattle.nt_finished.proofs.Outlines.{outlined}
 
@@ -26,7 +26,7 @@ finished-means : (t : Table) → HaveNeeds t → (m : Measures) (clusters : List
     → IsWithin t m book → AreBlobsOf t m.page clusters ranges (book_clusters book) → Means (finished t book m.group ranges) t clusters
 finished-means t needs m clusters ranges book is measures of within are =
     let outline = outlined t m clusters ranges book is measures of within are in
-    let stand = parts_stand t m.page m.group clusters ranges book of are in
+    let stand = parts_stand t m.group ranges book (book-ranged t m.page clusters ranges book of are) in
     file-chain (finished t book m.group ranges) t outline.0 clusters outline.1
     (entries_read (finished t book m.group ranges) t needs m.page measures.page of.none_deferred book
     (length (book_clusters book)) 0 book.begin clusters ranges (book_clusters book) outline.0

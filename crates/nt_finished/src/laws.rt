@@ -1,6 +1,6 @@
 //! The laws of finished files.
 
-ghost use Rattle.std.specs.Prelude.{◌≡◌, ℕ, Bool, List, ◌∷◌, ◌++◌, map, length, replicate, Ok};
+ghost use Rattle.std.specs.Prelude.{◌≡◌, ◌+◌, ◌≤◌, ℕ, Bool, List, ◌∷◌, ◌++◌, map, length, replicate, Ok};
 ghost use Rattle.std.specs.List.{concat};
 ghost use Rattle.nt_types.specs.ShapeData.{MemberData};
 ghost use Rattle.nt_types.specs.Rules.{AreFields};
@@ -13,12 +13,14 @@ ghost use Rattle.nt_book.specs.declared.meta.ClusterMeta.{ClusterMeta};
 ghost use Rattle.nt_book.specs.Books.{BookData, book_clusters};
 ghost use Rattle.nt_book.specs.Kept.{IsBookKept};
 ghost use Rattle.nt_pagelists.specs.declared.cluster.ClusterList.{ClusterList};
-ghost use Rattle.nt_files.specs.Outlines.{outline_of};
+ghost use Rattle.nt_pagelists.specs.SoundBooks.{HasSoundClusters};
+ghost use Rattle.nt_files.specs.Outlines.{known_columns, outline_of};
 ghost use Rattle.nt_files.specs.Files.{Means};
 ghost use Rattle.nt_layout.specs.Headers.{header_blob, clusters_place};
 ghost use Rattle.nt_layout.specs.Finished.{finished, file_len, tail, front};
 ghost use Rattle.nt_layout.specs.Laid.{AreBlobsOf, Measures, AreMeasures, IsWithin, IsBookOf, IsLaid};
 ghost use Rattle.nt_finished.specs.Listed.{AreListsOf};
+ghost use Rattle.nt_finished.specs.Ranged.{IsRangedBook};
 
 use nt_grammar::schemas_are_described;
 use nt_plans::columns_have_needs;
@@ -51,6 +53,18 @@ pub fn finished_files_are_outlined()
         (ranges : List (List ℕ)) (book : BookData)
         → IsDescribed t → AreMeasures m → IsBookOf t book → IsWithin t m book
         → AreBlobsOf t m.page clusters ranges (book_clusters book)
+        → (lists : List ClusterList)
+        × (outline_of (finished t book m.group ranges) ≡ Ok (record { table = t; clusters = lists }))
+        × AreListsOf book 0 (length (book_clusters book)) lists }
+{}
+
+/// Whatever stands in the ranges of a finished file, if they are as long as its book says, and a
+/// reader takes the clusters, it is read as the outline of its schema, with the clusters of its book.
+pub fn ranged_files_are_outlined()
+    ensures { (t : Table) (m : Measures) (ranges : List (List ℕ)) (book : BookData)
+        → IsDescribed t → AreMeasures m → IsRangedBook t book ranges → IsWithin t m book
+        → ((from count : ℕ) → from + count ≤ length (book_clusters book)
+        → HasSoundClusters (known_columns t) book from count)
         → (lists : List ClusterList)
         × (outline_of (finished t book m.group ranges) ≡ Ok (record { table = t; clusters = lists }))
         × AreListsOf book 0 (length (book_clusters book)) lists }
