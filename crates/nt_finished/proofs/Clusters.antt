@@ -92,7 +92,8 @@ lists-le book k n (l ∷ ls) h = omega (arith, lists-le book (k + 1) n ls h.1)
 -- ---- a cluster
 
 module _ (file : List ℕ) (t : Table) (needs : HaveNeeds t) (page : ℕ) (some : 0 < page) where
-  pub cluster_held : (begin : ℕ) (c : Cluster ClusterMeta) (l : ClusterList) (entries : List TreesData) (range : List ℕ) → IsListOf begin c l
+  pub cluster_held : (begin : ℕ) (c : Cluster ClusterMeta) (l : ClusterList) (entries : List TreesData) (range : List ℕ)
+      → IsListOf begin c l
       → AllByRecursion (λ (r : ColumnRow). r.first ≤ begin) t.columns → IsBlobOfEntries t page entries c.start range c.meta
       → StandsThere file c.start range → HoldsCluster file t l entries
   cluster_held begin c l entries range listed begun is there =

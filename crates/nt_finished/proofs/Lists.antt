@@ -42,7 +42,8 @@ length-moved p place [] = refl
 length-moved p place (c ∷ cs) = ap suc (length-moved p (place + length (column_list_text c)) cs)
 
 module _ (book : BookData) where
-  listed : (p place k : ℕ) → IsListOf (first_entry book k) (cluster_at book k) (moved_cluster p (cluster_list_from place (listed_cluster book k)))
+  listed : (p place k : ℕ)
+      → IsListOf (first_entry book k) (cluster_at book k) (moved_cluster p (cluster_list_from place (listed_cluster book k)))
   listed p place k =
       record {
         first_is = refl;

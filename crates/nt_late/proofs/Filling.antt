@@ -1,18 +1,17 @@
 -- A cluster that leaves fields out holds its entries with their zeros.
-use Rattle.std.proofs.Common.{◌≡◌, ℕ, zero, suc, ◌+◌, ◌-◌, ◌<◌, ◌≤◌, true, false, List, [], ◌∷◌, ◌++◌, map, length}
-use Rattle.std.proofs.Common.{Option, Some, None, Ok, refl, sym, ap, subst, ◌∙◌, ◌⊎◌, inl, inr, append-nil, arith}
+use Rattle.std.proofs.Common.{◌≡◌, ℕ, zero, suc, ◌+◌, ◌-◌, ◌<◌, ◌≤◌, List, [], ◌∷◌, ◌++◌, map, length}
+use Rattle.std.proofs.Common.{Option, None, Ok, refl, sym, ap, subst, ◌∙◌, ◌⊎◌, inl, inr, append-nil, arith}
 use Rattle.std.specs.Prelude.{slice_index_or}
 use Rattle.std.specs.List.{range_with_len}
-use Rattle.std.proofs.lemmas.Bool.{cases_lt, le-leb}
+use Rattle.std.proofs.lemmas.Bool.{cases_lt}
 use Rattle.std.proofs.lemmas.List.{length-append, get_or_append_left, get_or-append_right}
 use Rattle.nt_types.specs.TreeData.{TreeData, TreesData, no_trees, tree}
-use Rattle.nt_types.specs.declared.column_type.ColumnType.{ColumnType}
 use Rattle.nt_encode.specs.Elements.{Element}
 use Rattle.nt_grammar.specs.declared.rows.ColumnRow.{ColumnRow}
 use Rattle.nt_grammar.specs.Table.{Table}
 use Rattle.nt_plans.specs.Plan.{PlanData, PlansData, no_plans, plan, and_plan, has_any, Differ, AllDiffer}
 use Rattle.nt_plans.specs.Place.{open_plans}
-use Rattle.nt_plans.specs.Needs.{NeedData, entries, inside, under, need_in, need_of, is_entries}
+use Rattle.nt_plans.specs.Needs.{NeedData, entries, need_in, need_of}
 use Rattle.nt_trees.specs.Columns.{Cols}
 use Rattle.nt_trees.specs.Sound.{Sound, AllSound}
 use Rattle.nt_trees.specs.TreeAt.{tree_at, each_at}
@@ -20,92 +19,20 @@ use Rattle.nt_trees.specs.Faults.{fault_in}
 use Rattle.nt_trees.proofs.Elsewhere.{Agree, all_sound-agrees}
 use Rattle.nt_trees.proofs.Lists.{Extends}
 use Rattle.nt_trees.proofs.Stable.{each_at-stays}
-use Rattle.nt_pagelists.specs.declared.column.KnownColumn.{KnownColumn}
-use Rattle.nt_pagelists.specs.declared.page.PageItem.{PageItem}
 use Rattle.nt_pagelists.specs.declared.cluster.ClusterList.{ClusterList}
-use Rattle.nt_pagelists.specs.declared.cluster.ColumnList.{ColumnList}
-use Rattle.nt_files.specs.Outlines.{Outline, outline_of, known_column}
-use Rattle.nt_files.specs.Clusters.{kind_of_code, no_list, pages_listed, begins_behind, columns_by_id}
+use Rattle.nt_files.specs.Outlines.{Outline, outline_of}
+use Rattle.nt_files.specs.Clusters.{columns_by_id}
 use Rattle.nt_files.specs.Clusters.{cluster_of}
 use Rattle.nt_files.specs.Files.{entries_from, read_file, Means}
-use Rattle.nt_files.specs.Holds.{HoldsPages, no_page, HoldsColumn, closed, not_begun, untyped, in_pages, HoldsColumns, no_column}
-use Rattle.nt_files.specs.Holds.{and_column, HoldsCluster}
+use Rattle.nt_files.specs.Holds.{HoldsColumns}
+use Rattle.nt_files.specs.Holds.{HoldsCluster}
 use Rattle.nt_files.proofs.ClustersBack.{cluster}
-use Rattle.nt_late.specs.LeftOut.{AllBeginBehind, LeavesOut, and_trees, filled, LacksFields, lacks_none, lacks_one, AreFilled, none_filled}
+use Rattle.nt_late.specs.LeftOut.{IsLeftOut, and_trees, filled, LacksFields, lacks_none, lacks_one, AreFilled, none_filled}
 use Rattle.nt_late.specs.LeftOut.{and_filled}
 use Rattle.nt_late.specs.Missing.{missing_elements, AreMissing}
 use Rattle.nt_late.specs.Zeros.{zero_of}
-use Rattle.nt_late.proofs.ZeroColumns.{missing-fault, missing-tree}
-
--- ---- the columns that a cluster leaves out
-
--- the elements of columns whose ids go on from this one
-abbrev missing_from : Table → ℕ → ℕ → List ColumnRow → List (List Element)
-missing_from t n id [] = []
-missing_from t n id (c ∷ cs) = missing_elements (need_of t id) n ∷ missing_from t n (id + 1) cs
-
-past-columns : (ls : List ColumnList) (id : ℕ) → length ls ≤ id → slice_index_or ls id no_list ≡ no_list
-past-columns [] id past = refl
-past-columns (l ∷ ls) zero past = absurd (omega (arith, past))
-past-columns (l ∷ ls) (suc id) past = past-columns ls id (omega (arith, past))
-
-by-pages : (file : List ℕ) (k : ClusterList) (id : ℕ) (known : KnownColumn) (code : ℕ) (kind : Option ColumnType) → known.is_open ≡ true
-    → begins_behind k known ≡ false → kind_of_code code ≡ kind → pages_listed k id ≡ [] → HoldsColumn file k id known code []
-by-pages file k id known code None o b is none = untyped o b is
-by-pages file k id known code (Some kind) o b is none =
-    in_pages o b is (subst (λ (ps : List PageItem). HoldsPages file kind ps []) (sym none) no_page)
-
-missing-held : (file : List ℕ) (k : ClusterList) (id : ℕ) (need : Option NeedData) (c : ColumnRow) → pages_listed k id ≡ []
-    → (is_entries need ≡ true → k.first + k.entries ≤ c.first)
-    → HoldsColumn file k id (known_column need c) c.code (missing_elements need k.entries)
-missing-held file k id None c none behind = closed refl
-missing-held file k id (Some entries) c none behind = not_begun refl (le-leb (k.first + k.entries) c.first (behind refl)) refl
-missing-held file k id (Some (inside e)) c none behind =
-    by-pages file k id (known_column (Some (inside e)) c) c.code (kind_of_code c.code) refl refl refl none
-missing-held file k id (Some (under s tag)) c none behind =
-    by-pages file k id (known_column (Some (under s tag)) c) c.code (kind_of_code c.code) refl refl refl none
-
--- ---- the columns of a table with more behind them
-
-module _ (file : List ℕ) (k : ClusterList) (t new : Table) (p : PlanData) where
-  rows-held : (id : ℕ) (rows : List ColumnRow) → length k.columns ≤ id
-      → ((j : ℕ) → id ≤ j → need_of new j ≡ need_in entries p j) → AllBeginBehind k p id rows
-      → HoldsColumns file k new id rows (missing_from new k.entries id rows)
-  rows-held id [] unlisted needs begin = no_column
-  rows-held id (c ∷ cs) unlisted needs begin =
-      and_column
-      (missing-held file k id (need_of new id) c (ap (λ (l : ColumnList). l.pages) (past-columns k.columns id unlisted))
-      (λ is. begin.0 (ap is_entries (sym (needs id (omega arith))) ∙ is)))
-      (rows-held (id + 1) cs (omega (arith, unlisted)) (λ j from. needs j (omega (arith, from))) begin.1)
-
-  all-held : (id : ℕ) (old rows : List ColumnRow) (es others : List (List Element))
-      → ((j : ℕ) → j < id + length old → need_of new j ≡ need_of t j) → HoldsColumns file k t id old es
-      → HoldsColumns file k new (id + length old) rows others → HoldsColumns file k new id (old ++ rows) (es ++ others)
-  all-held id [] rows es others needs no_column more =
-      let same : id + 0 ≡ id = omega arith in
-      subst (λ (i : ℕ). HoldsColumns file k new i rows others) same more
-  all-held id (c ∷ cs) rows es others needs (and_column {es = first} {others = left} one held) more =
-      let next : id + length (c ∷ cs) ≡ id + 1 + length cs = omega arith in
-      and_column
-      (subst (λ (need : Option NeedData). HoldsColumn file k id (known_column need c) c.code first)
-      (sym (needs id (omega arith))) one)
-      (all-held (id + 1) cs rows left others (λ j less. needs j (omega (arith, less))) held
-      (subst (λ (i : ℕ). HoldsColumns file k new i rows others) next more))
-
-length-held : (file : List ℕ) (k : ClusterList) (t : Table) (id : ℕ) (rows : List ColumnRow) (es : List (List Element))
-    → HoldsColumns file k t id rows es → length es ≡ length rows
-length-held file k t id rows es no_column = refl
-length-held file k t id rows es (and_column {others = left} one held) = ap suc (length-held file k t _ _ left held)
-
-missing-at : (t : Table) (n id : ℕ) (rows : List ColumnRow) (j : ℕ) → j < length rows
-    → slice_index_or (missing_from t n id rows) j [] ≡ missing_elements (need_of t (id + j)) n
-missing-at t n id [] j less = absurd (omega (arith, less))
-missing-at t n id (c ∷ cs) zero less =
-    let same : id ≡ id + 0 = omega arith in
-    ap (λ (i : ℕ). missing_elements (need_of t i) n) same
-missing-at t n id (c ∷ cs) (suc j) less =
-    let same : id + 1 + j ≡ id + suc j = omega arith in
-    missing-at t n (id + 1) cs j (omega (arith, less)) ∙ ap (λ (i : ℕ). missing_elements (need_of t i) n) same
+use Rattle.nt_late.proofs.MissingColumns.{missing-fault, missing-tree}
+use Rattle.nt_late.proofs.LeftColumns.{missing_from, rows-held, all-held, length-held, missing-at}
 
 -- ---- plans with one more behind them
 
@@ -133,7 +60,8 @@ module _ (file : List ℕ) (t new : Table) (p : PlanData) (k : ClusterList) (dif
     (before : (j : ℕ) → j < length t.columns → need_of new j ≡ need_of t j)
     (behind : (j : ℕ) → length t.columns ≤ j → need_of new j ≡ need_in entries p j)
     (no_fault : (cols : Cols) (n : ℕ) → fault_in p cols n ≡ None → Sound p cols n)
-    (es : List TreesData) (held : HoldsCluster file t k es) (out : LeavesOut k t new p) where
+    (es : List TreesData) (held : HoldsCluster file t k es) (unlisted : length k.columns ≤ length t.columns)
+    (out : IsLeftOut (k.first + k.entries) t new p) where
   abbrev cols : List (List Element)
   cols = held.columns ++ missing_from new k.entries (length t.columns) out.rows
 
@@ -147,7 +75,7 @@ module _ (file : List ℕ) (t new : Table) (p : PlanData) (k : ClusterList) (dif
       (λ j less. before j (omega (arith, less))) held.holds
       (let same : length t.columns ≡ 0 + length t.columns = omega arith in
       subst (λ (i : ℕ). HoldsColumns file k new i out.rows (missing_from new k.entries (length t.columns) out.rows)) same
-      (rows-held file k t new p (length t.columns) out.rows out.unlisted behind out.begin)))
+      (rows-held file k t new p (length t.columns) out.rows unlisted behind out.begin)))
 
   cols-extend : Extends (columns_by_id held.columns) (columns_by_id cols)
   cols-extend j = by (cases_lt j (length held.columns))
@@ -238,18 +166,22 @@ filled-filled z zs (ts ∷ es) =
     ∙ ap (λ (l : List TreesData). and_trees ts (tree z zs) ∷ l) (filled-filled z zs es)
 
 module _ (step : (file : List ℕ) (t new : Table) (p : PlanData) (k : ClusterList) (es : List TreesData) → HoldsCluster file t k es
-    → LeavesOut k t new p → HoldsCluster file new k (filled (tree (zero_of p) no_trees) es)) where
+    → length k.columns ≤ length t.columns → IsLeftOut (k.first + k.entries) t new p
+    → HoldsCluster file new k (filled (tree (zero_of p) no_trees) es)) where
   each-filled : (file : List ℕ) (k : ClusterList) (new t : Table) (zeros : TreesData) (es : List TreesData) → HoldsCluster file t k es
-      → LacksFields k new t zeros → HoldsCluster file new k (filled zeros es)
-  each-filled file k new t zeros es held lacks_none =
+      → length k.columns ≤ length t.columns → LacksFields (k.first + k.entries) new t zeros → HoldsCluster file new k (filled zeros es)
+  each-filled file k new t zeros es held unlisted lacks_none =
       subst (λ (l : List TreesData). HoldsCluster file new k l) (sym (filled-none es)) held
-  each-filled file k new t zeros es held (lacks_one {s = s} {p = p} {zeros = zs} out more) =
+  each-filled file k new t zeros es held unlisted (lacks_one {s = s} {p = p} {zeros = zs} out more) =
+      let more_columns : length s.columns ≡ length t.columns + length out.rows =
+      ap length out.columns_behind ∙ length-append t.columns out.rows in
       subst (λ (l : List TreesData). HoldsCluster file new k l) (filled-filled (zero_of p) zs es)
-      (each-filled file k new s zs (filled (tree (zero_of p) no_trees) es) (step file t s p k es held out) more)
+      (each-filled file k new s zs (filled (tree (zero_of p) no_trees) es) (step file t s p k es held unlisted out)
+      (omega (arith, unlisted, more_columns)) more)
 
   pub all-filled : (file : List ℕ) (t new : Table) (zeros : TreesData) (k : ClusterList) (es : List TreesData) → HoldsCluster file t k es
-      → LacksFields k new t zeros → HoldsCluster file new k (filled zeros es)
-  all-filled file t new zeros k es held lacks = each-filled file k new t zeros es held lacks
+      → length k.columns ≤ length t.columns → LacksFields (k.first + k.entries) new t zeros → HoldsCluster file new k (filled zeros es)
+  all-filled file t new zeros k es held unlisted lacks = each-filled file k new t zeros es held unlisted lacks
 
 -- ---- a file
 
@@ -264,18 +196,18 @@ unfolding read_file
 file-chain file o clusters p q = rw (p, q) refl
 
 clusters-read : ((file : List ℕ) (t new : Table) (zeros : TreesData) (k : ClusterList) (es : List TreesData) → HoldsCluster file t k es
-    → LacksFields k new t zeros → HoldsCluster file new k (filled zeros es))
+    → length k.columns ≤ length t.columns → LacksFields (k.first + k.entries) new t zeros → HoldsCluster file new k (filled zeros es))
     → (file : List ℕ) (new : Table) (number : ℕ) (ks : List ClusterList) (clusters : List (List TreesData)) → AreFilled file new ks clusters
     → entries_from file new number ks ≡ Ok clusters
 clusters-read fill file new number ks clusters none_filled = refl
 clusters-read fill file new number ks clusters
-    (and_filled {k = k} {ks = ls} {t = t} {zeros = zeros} {es = es} {others = others} held lacks more) =
+    (and_filled {k = k} {ks = ls} {t = t} {zeros = zeros} {es = es} {others = others} held unlisted lacks more) =
     entries-chain file new number k ls (filled zeros es) others
-    ((cluster file new number k).reads (filled zeros es) (fill file t new zeros k es held lacks))
+    ((cluster file new number k).reads (filled zeros es) (fill file t new zeros k es held unlisted lacks))
     (clusters-read fill file new (number + 1) ls others more)
 
 pub file-filled : ((file : List ℕ) (t new : Table) (zeros : TreesData) (k : ClusterList) (es : List TreesData) → HoldsCluster file t k es
-    → LacksFields k new t zeros → HoldsCluster file new k (filled zeros es))
+    → length k.columns ≤ length t.columns → LacksFields (k.first + k.entries) new t zeros → HoldsCluster file new k (filled zeros es))
     → (file : List ℕ) (o : Outline) (clusters : List (List TreesData)) → outline_of file ≡ Ok o
     → AreFilled file o.table o.clusters clusters → Means file o.table clusters
 file-filled fill file o clusters outline are =

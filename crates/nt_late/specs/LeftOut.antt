@@ -10,19 +10,17 @@ use Rattle.nt_pagelists.specs.declared.cluster.ClusterList.{ClusterList}
 use Rattle.nt_files.specs.Holds.{HoldsCluster}
 use Rattle.nt_late.specs.Zeros.{zero_of}
 
--- of these columns of a plan, whose ids go on from this one, each principal one begins behind the entries of a cluster
-abbrev pub AllBeginBehind : ClusterList → PlanData → ℕ → List ColumnRow → Type 0
-AllBeginBehind k p id [] = Unit {0}
-AllBeginBehind k p id (c ∷ cs) =
-    (is_entries (need_in entries p id) ≡ true → k.first + k.entries ≤ c.first) × AllBeginBehind k p (id + 1) cs
+-- of these columns of a plan, whose ids go on from this one, each principal one begins behind so many entries
+abbrev pub AllBeginBehind : ℕ → PlanData → ℕ → List ColumnRow → Type 0
+AllBeginBehind before p id [] = Unit {0}
+AllBeginBehind before p id (c ∷ cs) = (is_entries (need_in entries p id) ≡ true → before ≤ c.first) × AllBeginBehind before p (id + 1) cs
 
--- a plan was added to those of a table, and its columns behind the others; a cluster lists none of these, and they begin behind it
-pub record LeavesOut (k : ClusterList) (t new : Table) (p : PlanData) : Type 0 where
+-- a plan was added to those of a table, and its columns behind the others, which begin behind so many entries
+pub record IsLeftOut (before : ℕ) (t new : Table) (p : PlanData) : Type 0 where
   pub grows : GrowsBy t new p
   pub rows : List ColumnRow
   pub columns_behind : new.columns ≡ t.columns ++ rows
-  pub unlisted : length k.columns ≤ length t.columns
-  pub begin : AllBeginBehind k p (length t.columns) rows
+  pub begin : AllBeginBehind before p (length t.columns) rows
 
 -- trees, and these behind them
 abbrev pub and_trees : TreesData → TreesData → TreesData
@@ -33,15 +31,16 @@ and_trees (tree t ts) others = tree t (and_trees ts others)
 abbrev pub filled : TreesData → List TreesData → List TreesData
 filled zeros es = map (λ ts. and_trees ts zeros) es
 
--- a table grew to another by plans that a cluster leaves out, one after the other; these are their zeros
-pub data LacksFields (k : ClusterList) (new : Table) : Table → TreesData → Type 0 where
-  lacks_none : LacksFields k new new no_trees
-  lacks_one : {t s : Table} {p : PlanData} {zeros : TreesData} → LeavesOut k t s p → LacksFields k new s zeros
-      → LacksFields k new t (tree (zero_of p) zeros)
+-- a table grew to another by plans that so many entries leave out, one after the other; these are their zeros
+pub data LacksFields (before : ℕ) (new : Table) : Table → TreesData → Type 0 where
+  lacks_none : LacksFields before new new no_trees
+  lacks_one : {t s : Table} {p : PlanData} {zeros : TreesData} → IsLeftOut before t s p → LacksFields before new s zeros
+      → LacksFields before new t (tree (zero_of p) zeros)
 
 -- each of these clusters holds the entries that it was written with under a table that grew to this one; these are its entries here
 pub data AreFilled (file : List ℕ) (new : Table) : List ClusterList → List (List TreesData) → Type 0 where
   none_filled : AreFilled file new [] []
   and_filled : {k : ClusterList} {ks : List ClusterList} {t : Table} {zeros : TreesData} {es : List TreesData}
-      {others : List (List TreesData)} → HoldsCluster file t k es → LacksFields k new t zeros → AreFilled file new ks others
+      {others : List (List TreesData)} → HoldsCluster file t k es → length k.columns ≤ length t.columns
+      → LacksFields (k.first + k.entries) new t zeros → AreFilled file new ks others
       → AreFilled file new (k ∷ ks) (filled zeros es ∷ others)

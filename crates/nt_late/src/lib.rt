@@ -9,11 +9,14 @@
 //! missing have no fault, and its trees are its zero (`missing_fields_are_zero`), which is that of
 //! its shape (`plans_have_the_zeros_of_their_shapes`); a cluster that was written before fields were
 //! added holds its entries with their zeros behind them (`earlier_clusters_are_filled`), and a file
-//! of such clusters means these (`files_mean_filled_entries`). Nothing is only tested.
+//! of such clusters means these (`files_mean_filled_entries`), as does the finished file that is laid
+//! out for them (`late_files_mean_their_entries`, with `specs/LateFiles`). Nothing is only tested.
 #![tactic(auto)]
 
 mod laws;
 mod missing;
 
-pub use laws::{earlier_clusters_are_filled, files_mean_filled_entries};
+pub use laws::{
+    earlier_clusters_are_filled, files_mean_filled_entries, late_files_mean_their_entries,
+};
 pub use missing::{missing_fields_are_zero, plans_have_the_zeros_of_their_shapes};

@@ -1,4 +1,4 @@
-use Rattle.nt_late.proofs.ZeroColumns.{missing-fault, missing-tree}
+use Rattle.nt_late.proofs.MissingColumns.{missing-fault, missing-tree}
 use Rattle.nt_late.proofs.missing.missing_fields_are_zero.Goals as goal
 
 pub returns-clause-fault : goal.returns-clause-fault
