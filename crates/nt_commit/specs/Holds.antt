@@ -1,8 +1,8 @@
 -- What each call does to the disk and the book, and what its pass knows of that.
-use Rattle.std.specs.Prelude.{◌≡◌, ℕ, ◌+◌, ◌≤◌, false, List, [], ◌∷◌, ◌++◌, length, Some, Result, Err}
+use Rattle.std.specs.Prelude.{◌≡◌, ℕ, ◌+◌, ◌≤◌, false, List, [], ◌∷◌, ◌++◌, length, Option, Some, Result, Err}
 use mathlib.Core.List.{IsPrefix}
 use Rattle.std.specs.List.{AllByRecursion}
-use Rattle.nt_turn.specs.Pass.{TurnState, PassState, next_pass}
+use Rattle.nt_turn.specs.Pass.{TurnState, PassState, AllJoined, next_pass}
 use Rattle.nt_outside.specs.Range.{ExtState, PenState}
 use Rattle.nt_outside.specs.Disk.{DiskState}
 use Rattle.nt_outside.specs.Faults.{Rose}
@@ -43,6 +43,11 @@ HasNoneOut entries = AllByRecursion (λ (c : Cluster ClusterMeta). is_out c.stat
 pub record AreAllIn {D : Type 0} (first : PassState (Entry ClusterMeta) (Birth D)) : Type 0 where
   pub own : HasNoneOut first.own
   pub kept : AllByRecursion (λ (k : ℕ × List (Entry ClusterMeta)). HasNoneOut k.1) first.kept
+
+-- each pass that was split off is joined to the first again, and no range of theirs is out
+pub record HaveAllLeft {D : Type 0} (first : PassState (Entry ClusterMeta) (Birth D)) : Type 0 where
+  pub joined : AllJoined first
+  pub none_out : AreAllIn first
 
 -- the pass of a context was joined to the first, which keeps its entries and has seen what it had, and nothing else of the first changed
 pub record LeavesAfter {D : Type 0} (old pass new : PassState (Entry ClusterMeta) (Birth D)) : Type 0 where
@@ -128,6 +133,12 @@ module _ {D : Type 0} (state : D → DiskState) where
     pub given : LockedState D
     pub commits : Commits tell meta taken given result
     pub hold : IsHold committer taken given commits.added old new
+
+  -- a hold in which a range was settled, with these bytes where the disk told what it held
+  abbrev pub SettlesInHold : TurnState (Birth D) → ℕ → Option (List ℕ) → PassState (Entry ClusterMeta) (Birth D)
+      → PassState (Entry ClusterMeta) (Birth D) → Type 0
+  SettlesInHold committer n bytes old new =
+      AddsInHold committer (settled_with old.number n (bytes_where_told (state committer.birth.begun).held bytes) ∷ []) old new
 
   -- a hold in which a range was spoiled
   pub record SpoilsInHold (committer : TurnState (Birth D)) (n : ℕ) (old new : PassState (Entry ClusterMeta) (Birth D)) : Type 0 where

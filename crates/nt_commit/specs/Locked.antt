@@ -1,5 +1,5 @@
 -- A disk and its book under the turn, and what is true of them while the turn is free.
-use Rattle.std.specs.Prelude.{◌≡◌, ℕ, ◌≤◌, List, ◌++◌, map, filter, length}
+use Rattle.std.specs.Prelude.{◌≡◌, ℕ, ◌≤◌, List, [], ◌++◌, map, filter, length}
 use Rattle.std.specs.List.{AllByRecursion}
 use Rattle.nt_outside.specs.declared.range.Range.{Range}
 use Rattle.nt_outside.specs.Held.{BecomesSome}
@@ -23,6 +23,17 @@ pub record LockedState (D : Type 0) : Type 0 where
 -- disk and book of this birth
 abbrev pub locked_by : {D : Type 0} → Birth D → D → BookData → LockedState D
 locked_by birth disk book = record { disk = disk; book = book; birth = birth }
+
+-- a book in which nothing was entered yet, which begins where the disk ends; no range of the disk is out
+pub record IsNewBookOn (disk : DiskState) (book : BookData) : Type 0 where
+  pub history : book.history ≡ []
+  pub end : book.begin ≡ disk.end
+  pub out : disk.out ≡ []
+
+-- what never changes of a disk that is begun with this new book, for so many contexts
+abbrev pub birth_with : {D : Type 0} → D → BookData → ℕ → Birth D
+birth_with disk book contexts =
+    record { begun = disk; limits = book.limits; columns = length book.firsts; firsts = book.firsts; contexts = contexts }
 
 -- what never changes of them
 abbrev pub birth_of : {D : Type 0} → LockedState D → Birth D

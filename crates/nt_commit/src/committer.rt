@@ -1,9 +1,9 @@
 //! The committer, from its disk and book to the end.
 
-ghost use Rattle.std.specs.Prelude.{◌≡◌, ◌≤◌, [], length, IfOk, IfErr};
-ghost use Rattle.nt_turn.specs.Pass.{AllJoined, Closes, first_pass};
-ghost use Rattle.nt_commit.specs.Holds.{IsFirstOf, AreAllIn};
-ghost use Rattle.nt_commit.specs.Locked.{IsInStep, birth_of, context_of, history_of_locked, locked_by};
+ghost use Rattle.std.specs.Prelude.{◌≡◌, ◌≤◌, [], IfOk, IfErr};
+ghost use Rattle.nt_turn.specs.Pass.{Closes, first_pass};
+ghost use Rattle.nt_commit.specs.Holds.{IsFirstOf, HaveAllLeft};
+ghost use Rattle.nt_commit.specs.Locked.{IsInStep, IsNewBookOn, birth_of, birth_with, context_of, history_of_locked, locked_by};
 
 use crate::locked::Locked;
 use nt_book::Book;
@@ -38,16 +38,9 @@ impl<D: Disk> Committer<D> {
         contexts: u32,
     ) -> Result<(Committer<D>, Pass<Locked<D>>), (D, Book, AllocError)>
         requires contexts { (1 ≤ contexts) × (contexts ≤ MOST_SEATS) }
-        requires history { book.history ≡ [] }
-        requires end { book.begin ≡ (D.state disk).end }
-        requires out { (D.state disk).out ≡ [] }
-        ensures ok { IfOk result (λ t. (t.0.seats ≡ contexts) × (t.0.birth ≡ record {
-          begun = disk;
-          limits = book.limits;
-          columns = length book.firsts;
-          firsts = book.firsts;
-          contexts = contexts;
-        }) × (t.1 ≡ first_pass t.0)) }
+        requires book { IsNewBookOn (D.state disk) book }
+        ensures ok { IfOk result (λ t. (t.0.seats ≡ contexts)
+            × (t.0.birth ≡ birth_with disk book contexts) × (t.1 ≡ first_pass t.0)) }
         ensures err { IfErr result (λ e. (e.0 ≡ disk) × (e.1 ≡ book)) }
     {
         let locked = Locked::new(disk, book, contexts);
@@ -64,8 +57,7 @@ impl<D: Disk> Committer<D> {
     /// on the disk then, and in the book, is what one history makes of them.
     pub fn finish(self, first: Pass<Locked<D>>) -> (D, Book)
         requires first { IsFirstOf self first }
-        requires joined { AllJoined first }
-        requires none_out { AreAllIn first }
+        requires left { HaveAllLeft first }
         ensures closes { Closes (history_of_locked D.state) birth_of context_of first (locked_by self.birth result.0 result.1) }
         ensures in_step { IsInStep D.state (locked_by self.birth result.0 result.1) }
         ensures out { (D.state result.0).out ≡ [] }

@@ -1,11 +1,10 @@
 //! How a context commits a cluster, and hands its range back.
 
-ghost use Rattle.std.specs.Prelude.{◌≡◌, ◌≤◌, ◌∷◌, [], true, false, if◌then◌else◌, is_ok};
+ghost use Rattle.std.specs.Prelude.{◌≡◌, ◌≤◌, [], true, false, if◌then◌else◌, is_ok};
 ghost use Rattle.nt_machine.specs.History.{ranges_of};
-ghost use Rattle.nt_commit.specs.Claims.{IsClaimOf, settled_with};
+ghost use Rattle.nt_commit.specs.Claims.{IsClaimOf};
 ghost use Rattle.nt_commit.specs.Images.{IsImageFor, image_after};
-ghost use Rattle.nt_commit.specs.Holds.{IsPassOf, IsCommittable, AddsInHold, CommitsInHold, SpoilsInHold};
-ghost use Rattle.nt_logged.specs.Steps.{bytes_where_told};
+ghost use Rattle.nt_commit.specs.Holds.{IsPassOf, IsCommittable, CommitsInHold, SettlesInHold, SpoilsInHold};
 
 use crate::claim::Claim;
 use crate::committer::CommitterOf;
@@ -64,8 +63,7 @@ impl<D: Disk> CommitterOf<Locked<D>> {
         requires pass { IsPassOf self.now pass.old }
         requires own { IsClaimOf D.Ext.state (ranges_of pass.old.own) pass.old.number claim }
         requires filled { (D.Ext.state claim.ext).filled ≡ true }
-        ensures settles { AddsInHold D.state self.now (settled_with pass.old.number claim.cluster
-            (bytes_where_told (D.state self.now.birth.begun).held (D.Ext.state claim.ext).content) ∷ [])
+        ensures settles { SettlesInHold D.state self.now claim.cluster (D.Ext.state claim.ext).content
             pass.old pass.new }
     {
         let context = pass.number();

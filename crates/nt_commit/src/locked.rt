@@ -1,7 +1,7 @@
 //! What the turn locks: a disk and its book.
 
-ghost use Rattle.std.specs.Prelude.{◌≡◌, ◌≤◌, [], length};
-ghost use Rattle.nt_commit.specs.Locked.{IsInStep};
+ghost use Rattle.std.specs.Prelude.{◌≡◌};
+ghost use Rattle.nt_commit.specs.Locked.{IsInStep, IsNewBookOn, birth_with, locked_by};
 
 use nt_book::{Book, Limits};
 use nt_machine::Entry;
@@ -78,20 +78,8 @@ impl<D: Disk> Logged for Locked<D> {
 impl<D: Disk> Locked<D> {
     /// A disk as it stands, with its new book.
     pub(crate) fn new(disk: D, book: Book, contexts: u32) -> Locked<D>
-        requires history { book.history ≡ [] }
-        requires end { book.begin ≡ (D.state disk).end }
-        requires out { (D.state disk).out ≡ [] }
-        ensures { result ≡ record {
-          disk = disk;
-          book = book;
-          birth = record {
-            begun = disk;
-            limits = book.limits;
-            columns = length book.firsts;
-            firsts = book.firsts;
-            contexts = contexts;
-          };
-        } }
+        requires { IsNewBookOn (D.state disk) book }
+        ensures { result ≡ locked_by (birth_with disk book contexts) disk book }
     {
         let begun = Snapshot::of(&disk);
         Locked {

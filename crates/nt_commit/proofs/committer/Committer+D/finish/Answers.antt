@@ -5,4 +5,5 @@ use Rattle.nt_commit.proofs.committer.Committer+D.finish.Goals as goal
 pub returns-clause-out : goal.returns-clause-out
 returns-clause-out g c =
     ap (λ d. (g.D.Disk.state d).out) c.into_parts.ensures.parts.0
-    ∙ nothing_out g.D.Disk.state c.args.first c.close-locked.result c.close-locked.ensures c.requires.none_out c.into_parts.ensures.in_step
+    ∙ nothing_out g.D.Disk.state c.args.first c.close-locked.result c.close-locked.ensures c.requires.left.none_out
+    c.into_parts.ensures.in_step
