@@ -3,6 +3,8 @@ mod Ending
 mod Following
 mod Handed
 mod Holding
+mod Owned
+mod Returning
 mod Short
 mod Stepping
 mod Telling

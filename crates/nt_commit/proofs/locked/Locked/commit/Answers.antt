@@ -1,8 +1,8 @@
 use Rattle.std.proofs.Common.{◌∙◌, ap, refl, arith, ◌++◌, ◌∷◌, [], ◌-◌, ◌≤◌, length}
 use Rattle.nt_book.specs.Books.{BookData, book_end, book_clusters}
 use Rattle.nt_book.specs.Entries.{committed_entry, faulted_entry}
-use Rattle.nt_commit.proofs.Stepping.{limits_are, range_fits, same_history, faulted, committed, new_claim, step_from, commits_from}
-use Rattle.nt_commit.proofs.Stepping.{limit_named, limit_refuses}
+use Rattle.nt_commit.proofs.Stepping.{limits_are, range_fits, same_history, faulted, committed, new_claim}
+use Rattle.nt_commit.proofs.Owned.{step_from, commits_from, limit_named, limit_refuses}
 use Rattle.nt_commit.proofs.locked.Locked.commit.Goals as goal
 
 pub reserve-requires : goal.reserve-requires

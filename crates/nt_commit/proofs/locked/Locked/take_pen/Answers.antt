@@ -1,5 +1,6 @@
 use Rattle.std.proofs.Common.{refl}
-use Rattle.nt_commit.proofs.Stepping.{same_history, step_from, keeps_from}
+use Rattle.nt_commit.proofs.Stepping.{same_history}
+use Rattle.nt_commit.proofs.Owned.{step_from, keeps_from}
 use Rattle.nt_commit.proofs.locked.Locked.take_pen.Goals as goal
 
 pub invariant_of-self : goal.invariant_of-self
