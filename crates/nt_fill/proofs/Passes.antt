@@ -3,7 +3,7 @@ use Rattle.std.proofs.Common.{◌≡◌, ◌∙◌, ap, sym, refl, ℕ, ◌-◌,
 use Rattle.std.proofs.Common.{append_assoc, append-nil, arith}
 use Rattle.std.proofs.lemmas.Bool.{false≢true}
 use Rattle.std.proofs.lemmas.List.{length-append, length-drop}
-use Rattle.std.specs.Prelude.{Result, Ok, Err, OnOk, is_ok, slice_get}
+use Rattle.std.specs.Prelude.{◌≢◌, Result, Ok, Err, OnOk, is_ok, slice_get}
 use mathlib.Core.List.{IsPrefix}
 use Rattle.nt_turn.specs.Pass.{TurnState, PassState}
 use Rattle.nt_turn.proofs.Prefixes.{prefix_more}
@@ -25,8 +25,8 @@ use Rattle.nt_logged.specs.Steps.{bytes_where_told}
 use Rattle.nt_commit.specs.declared.locked.Birth.{Birth}
 use Rattle.nt_commit.specs.declared.claim.Claim.{Claim}
 use Rattle.nt_commit.specs.declared.error.CommitError.{CommitError}
-use Rattle.nt_commit.specs.declared.error.CommitError.TheVariants.{Fault}
-use Rattle.nt_commit.specs.Claims.{IsClaimOf, limit_answered, settled_with}
+use Rattle.nt_commit.specs.declared.error.CommitError.TheVariants.{RangeTooLarge, FileTooLarge, TooManyClusters, Memory, Fault}
+use Rattle.nt_commit.specs.Claims.{IsClaimOf, RefusalAdds, limit_answered, settled_with}
 use Rattle.nt_commit.specs.Holds.{IsPassOf, HasNoneOut, IsHold, AddsInHold, CommitsInHold, SpoilsInHold, locked_end}
 use Rattle.nt_commit.specs.Locked.{LockedState, history_of_locked}
 use Rattle.nt_fill.specs.Passes.{gained, Gains, MeetsFault, SpoilsRange, NamesLimit, WritesImage}
@@ -55,6 +55,15 @@ pub keyed_length : (bytes : List ℕ) (place : ℕ) → key_room ≤ length byte
 keyed_length bytes place room =
     length-append (blob_key (length bytes - key_room) place) (drop key_room bytes)
     ∙ omega (arith, blob_key-len (length bytes - key_room) place, length-drop key_room bytes, room)
+
+-- a refusal but a fault adds nothing to a history
+refused_nothing : (was is context : ℕ) (e : CommitError) (added : List (Entry ClusterMeta)) → RefusalAdds was is context e added
+    → e ≢ Fault → added ≡ []
+refused_nothing was is context (RangeTooLarge len most) added adds apart = adds
+refused_nothing was is context (FileTooLarge end most) added adds apart = adds
+refused_nothing was is context TooManyClusters added adds apart = adds
+refused_nothing was is context Memory added adds apart = adds
+refused_nothing was is context Fault added adds apart = absurd (apart refl)
 
 module _ {D : Type 0} where
   -- two gains are one
@@ -125,6 +134,12 @@ module _ {D : Type 0} (state : D → DiskState) (committer : TurnState (Birth D)
           limits = subst (λ (b : Birth D). limit_error b.limits (end_after (state b.begun).end (ranges_of history))
               (length (ranges_of history)) meta.len ≡ limit_answered answer) c.hold.birth c.commits.limits ∙ same;
         }
+
+    -- a refusal but a fault
+    pub kept_by : (e : CommitError) → CommitsInHold state tell committer meta old mid (Err e) → e ≢ Fault → Gains [] old mid
+    kept_by e c apart =
+        subst (λ (l : List (Entry ClusterMeta)). Gains l old mid) (refused_nothing _ _ meta.context e c.commits.added c.commits.adds apart)
+        (gains_by c.taken c.given c.commits.added old mid c.hold)
 
     -- the disk failed
     pub fault_by : CommitsInHold state tell committer meta old mid (Err Fault) → meta.context ≡ old.number → MeetsFault old mid

@@ -1,5 +1,5 @@
 -- What a flush does to a context.
-use Rattle.std.specs.Prelude.{ℕ, ◌≡◌, List, [], length, Option, Some, IsSome, Result}
+use Rattle.std.specs.Prelude.{ℕ, ◌≡◌, ◌≢◌, List, [], length, Option, Some, IsSome, Result, Err, IsErrOf}
 use Rattle.nt_types.specs.TreeData.{TreesData}
 use Rattle.nt_grammar.specs.Table.{Table}
 use Rattle.nt_outside.specs.Held.{Held}
@@ -13,6 +13,7 @@ use Rattle.nt_pages.specs.Metas.{cluster_meta}
 use Rattle.nt_logged.specs.Steps.{bytes_where_told}
 use Rattle.nt_commit.specs.declared.locked.Birth.{Birth}
 use Rattle.nt_commit.specs.declared.error.CommitError.{CommitError}
+use Rattle.nt_commit.specs.declared.error.CommitError.TheVariants.{Fault}
 use Rattle.nt_layout.specs.Laid.{Gives, IsBlobOfEntries}
 use Rattle.nt_fill.specs.Context.{FillState, gathered}
 use Rattle.nt_fill.specs.Passes.{Gains, FailsToWrite, NamesLimit}
@@ -41,6 +42,11 @@ module _ {D P : Type 0} where
     pub gives : Gives old.table columns (gathered old)
     pub fails : FailsToWrite (cluster_meta old.page old.pass.number (length (gathered old)) columns) old.pass new.pass old.pen new.pen
     pub now : new ≡ record old { pass = new.pass; pen = new.pen }
+
+  -- refused, the context keeps what it has gathered; after a fault it failed to write that
+  pub record RefusesToFlush (old new : DiskContext D P) (result : Result Unit CommitError) : Type 0 where
+    pub kept : (e : CommitError) → result ≡ Err e → e ≢ Fault → KeepsEntries old new
+    pub fault : IsErrOf result Fault → FailsToFlush old new
 
   module _ (state : D → DiskState) where
     -- the gathered entries were written as one cluster, and none is gathered now

@@ -1,7 +1,10 @@
 -- What a pass knows after a cluster was written, or wasn't.
-use Rattle.std.specs.Prelude.{ℕ, ◌≡◌, ◌-◌, ◌⊎◌, List, [], ◌∷◌, ◌++◌, length, drop, Option, Some, None, Result}
+use Rattle.std.specs.Prelude.{ℕ, ◌≡◌, ◌≢◌, ◌-◌, ◌⊎◌, false, true, List, [], ◌∷◌, ◌++◌, length, drop, Option, Some, None, IsSome}
+use Rattle.std.specs.Prelude.{Result, Err, IsErrOf}
 use mathlib.Core.List.{IsPrefix}
 use Rattle.nt_turn.specs.Pass.{TurnState, PassState}
+use Rattle.nt_outside.specs.Held.{Held, WhereHeld}
+use Rattle.nt_outside.specs.Range.{ExtState}
 use Rattle.nt_outside.specs.Disk.{DiskState}
 use Rattle.nt_container.specs.Spelling.{blob_key}
 use Rattle.nt_machine.specs.declared.entry.Entry.{Entry}
@@ -14,8 +17,12 @@ use Rattle.nt_pages.specs.declared.image.ClusterImage.{ClusterImage}
 use Rattle.nt_pages.specs.Image.{key_room}
 use Rattle.nt_logged.specs.Steps.{bytes_where_told}
 use Rattle.nt_commit.specs.declared.locked.Birth.{Birth}
+use Rattle.nt_commit.specs.declared.claim.Claim.{Claim}
 use Rattle.nt_commit.specs.declared.error.CommitError.{CommitError}
-use Rattle.nt_commit.specs.Claims.{limit_answered}
+use Rattle.nt_commit.specs.declared.error.CommitError.TheVariants.{Fault}
+use Rattle.nt_commit.specs.Claims.{IsClaimOf, limit_answered}
+use Rattle.nt_commit.specs.Holds.{IsPassOf, HasNoneOut}
+use Rattle.nt_commit.specs.Images.{IsImageFor}
 
 module _ {D : Type 0} where
   -- the pass has seen this, and its own list gained these entries
@@ -45,7 +52,29 @@ module _ {D : Type 0} where
       → Option P → Option P → Type 0
   FailsToWrite meta old new pen pen' = (MeetsFault old new × (pen' ≡ pen)) ⊎ (SpoilsRange meta old new × (pen' ≡ None))
 
+  -- refused, pass and pen are as before, but that the pass has seen more; after a fault a range of this metadata failed to be written
+  pub record LeavesRefused {P : Type 0} (meta : ClusterMeta) (old new : PassState (Entry ClusterMeta) (Birth D)) (pen pen' : Option P)
+      (result : Result Unit CommitError) : Type 0 where
+    pub kept : (e : CommitError) → result ≡ Err e → e ≢ Fault → Gains [] old new × (pen' ≡ pen)
+    pub fault : IsErrOf result Fault → FailsToWrite meta old new pen pen'
+
+  -- an image may be written: it is one of this pass, no range of the pass is out, and its pen is there
+  pub record MayWrite {P : Type 0} (committer : TurnState (Birth D)) (pass : PassState (Entry ClusterMeta) (Birth D)) (pen : Option P)
+      (image : ClusterImage) : Type 0 where
+    pub of : IsPassOf committer pass
+    pub none_out : HasNoneOut pass.own
+    pub alive : IsSome pen
+    pub image_is : IsImageFor committer.birth.columns pass.number image
+
   module _ (state : D → DiskState) (committer : TurnState (Birth D)) where
+    -- the claim of a range of this pass, as long as these bytes, not filled yet, and told where the disk told what it held
+    pub record IsClaimFor {X : Type 0} (tell : X → ExtState) (pass : PassState (Entry ClusterMeta) (Birth D)) (bytes : List ℕ)
+        (claim : Claim X) : Type 0 where
+      pub own : IsClaimOf tell (ranges_of pass.own) pass.number claim
+      pub unfilled : (tell claim.ext).filled ≡ false
+      pub long : length bytes ≡ (tell claim.ext).range.len
+      pub tells : WhereHeld (state committer.birth.begun).held (λ h. (tell claim.ext).tells ≡ true)
+
     -- the answer names the limit that a range of this length passes behind a history that the pass has now seen, or none
     pub record NamesLimit (len : ℕ) (old new : PassState (Entry ClusterMeta) (Birth D)) (result : Result Unit CommitError) : Type 0 where
       pub history : List (Entry ClusterMeta)

@@ -1,9 +1,9 @@
 //! Gathered entries that are written.
 
-ghost use Rattle.std.specs.Prelude.{◌≡◌, ◌≢◌, ◌<◌, [], length, Ok, Err, IsSome, OnOk, IsErrOf};
-ghost use Rattle.nt_commit.specs.declared.error.CommitError.TheVariants.{Memory, Fault};
+ghost use Rattle.std.specs.Prelude.{◌≡◌, ◌≢◌, ◌<◌, [], length, Ok, Err, IsSome, OnOk};
+ghost use Rattle.nt_commit.specs.declared.error.CommitError.TheVariants.{Memory};
 ghost use Rattle.nt_fill.specs.Context.{gathered};
-ghost use Rattle.nt_fill.specs.Flushes.{KeepsEntries, FailsToFlush, WritesCluster, KeepsLimits};
+ghost use Rattle.nt_fill.specs.Flushes.{RefusesToFlush, WritesCluster, KeepsLimits};
 
 use crate::context::FillContext;
 use crate::writing::write_image;
@@ -23,8 +23,7 @@ impl<'a, D: Disk> FillContext<'a, D> {
             → OnOk result (WritesCluster D.state self.old self.new) }
         ensures limits { 0 < length (gathered self.old) → result ≢ Err Memory
             → KeepsLimits D.state self.old self.new result }
-        ensures kept { (e : _) → result ≡ Err e → e ≢ Fault → KeepsEntries self.old self.new }
-        ensures fault { IsErrOf result Fault → FailsToFlush self.old self.new }
+        ensures refused { RefusesToFlush self.old self.new result }
     {
         if self.store.entries == 0 {
             return Ok(());

@@ -15,9 +15,9 @@
 //! limit that it names is the one that this blob passes behind a history that the pass has then seen
 //! (`limits`); a fault only where the own list gained a Faulted or a Spoiled entry, and then the pen
 //! is gone just where its range was spoiled, which was committed with the metadata of the gathered
-//! entries (`fault`); after any other refusal all is as before but
-//! what the pass has seen (`kept`); an entry is gathered whole or not at all (`fill`); of a line that `fill_line` takes, the entry that
-//! `read_line` reads is gathered, and of one that it refuses nothing. What holds of
+//! entries (`refused.fault`); after any other refusal all is as before but
+//! what the pass has seen (`refused.kept`); an entry is gathered whole or not at all (`fill`); of a line that `fill_line` takes, the
+//! entry that `read_line` reads is gathered, and of one that it refuses nothing. What holds of
 //! each context at any moment is `IsGathering`, the invariant.
 //!
 //! Neither proved nor promised: when the gate is called, which promises nothing; that a flush ever

@@ -1,14 +1,9 @@
 //! How the image of a cluster gets to the disk.
 
-ghost use Rattle.std.specs.Prelude.{◌≡◌, ◌≢◌, false, true, [], ◌∷◌, length, Some, None, Err, IsSome, OnOk, OnErr, IsErrOf};
-ghost use Rattle.nt_outside.specs.Held.{WhereHeld};
-ghost use Rattle.nt_machine.specs.History.{ranges_of};
-ghost use Rattle.nt_logged.specs.Steps.{bytes_where_told};
-ghost use Rattle.nt_commit.specs.Claims.{IsClaimOf, settled_with};
-ghost use Rattle.nt_commit.specs.Holds.{IsPassOf, HasNoneOut, AddsInHold, SpoilsInHold};
-ghost use Rattle.nt_commit.specs.Images.{IsImageFor};
+ghost use Rattle.std.specs.Prelude.{◌≡◌, Some, None, IsSome, OnOk, IfErr};
+ghost use Rattle.nt_commit.specs.Holds.{IsPassOf, HasNoneOut, SettlesInHold, SpoilsInHold};
 ghost use Rattle.nt_commit.specs.declared.error.CommitError.TheVariants.{Fault};
-ghost use Rattle.nt_fill.specs.Passes.{Gains, FailsToWrite, NamesLimit, WritesImage};
+ghost use Rattle.nt_fill.specs.Passes.{IsClaimFor, MayWrite, LeavesRefused, NamesLimit, WritesImage};
 
 use nt_commit::{Claim, CommitError, Committer, Locked};
 use nt_outside::{Disk, Gate, Pen, Point};
@@ -27,19 +22,12 @@ fn fill_range<D: Disk>(
     bytes: &[u8],
 ) -> Result<(), CommitError>
     requires pass { IsPassOf committer.now pass.old }
-    requires own { IsClaimOf D.Ext.state (ranges_of pass.old.own) pass.old.number claim }
     requires alive { IsSome pen.old }
-    requires empty { ((D.Ext.state claim.ext).filled ≡ false)
-        × (length bytes.now ≡ (D.Ext.state claim.ext).range.len) }
-    requires tells { WhereHeld (D.state committer.now.birth.begun).held
-        (λ h. (D.Ext.state claim.ext).tells ≡ true) }
-    ensures ok { OnOk result (AddsInHold D.state committer.now
-        (settled_with pass.old.number claim.cluster
-        (bytes_where_told (D.state committer.now.birth.begun).held (Some bytes.now)) ∷ [])
+    requires claim { IsClaimFor D.state committer.now D.Ext.state pass.old bytes.now claim }
+    ensures ok { OnOk result (SettlesInHold D.state committer.now claim.cluster (Some bytes.now)
         pass.old pass.new × IsSome pen.new) }
-    ensures err { OnErr result (SpoilsInHold D.state committer.now claim.cluster pass.old pass.new
-        × (pen.new ≡ None)) }
-    ensures fault { (e : _) → result ≡ Err e → e ≡ Fault }
+    ensures err { IfErr result (λ e. (e ≡ Fault)
+        × SpoilsInHold D.state committer.now claim.cluster pass.old pass.new × (pen.new ≡ None)) }
 {
     let mut claim = claim;
     let filled = match pen {
@@ -66,17 +54,12 @@ pub(crate) fn write_image<D: Disk, G: Gate>(
     pen: &mut Option<D::Pen>,
     image: &mut ClusterImage,
 ) -> Result<(), CommitError>
-    requires pass { IsPassOf committer.now pass.old × HasNoneOut pass.old.own }
-    requires alive { IsSome pen.old }
-    requires image { IsImageFor committer.now.birth.columns pass.old.number image.old }
+    requires { MayWrite committer.now pass.old pen.old image.old }
     ensures pass { IsPassOf committer.now pass.new × HasNoneOut pass.new.own }
     ensures limits { NamesLimit D.state committer.now image.old.meta.len pass.old pass.new result }
     ensures ok { OnOk result
         (WritesImage D.state committer.now image.old pass.old pass.new × IsSome pen.new) }
-    ensures kept { (e : _) → result ≡ Err e → e ≢ Fault
-        → Gains [] pass.old pass.new × (pen.new ≡ pen.old) }
-    ensures fault { IsErrOf result Fault
-        → FailsToWrite image.old.meta pass.old pass.new pen.old pen.new }
+    ensures refused { LeavesRefused image.old.meta pass.old pass.new pen.old pen.new result }
 {
     let context = pass.number();
     gate.at(context, Point::BeforeCommit);

@@ -1,75 +1,90 @@
-use Rattle.std.proofs.Common.{◌≡◌, ◌∙◌, ◌≤◌, ap, sym, refl, subst, length, inl, inr}
+use Rattle.std.proofs.Common.{◌≡◌, ◌∙◌, ◌≤◌, ap, sym, refl, subst, true, length, inl, inr}
 use Rattle.std.proofs.lemmas.Result.{err_from_is_err_and}
 use Rattle.std.specs.Prelude.{Ok, Err}
+use Rattle.nt_outside.specs.Held.{WhereHeld}
 use Rattle.nt_pages.specs.declared.image.ClusterImage.{ClusterImage}
+use Rattle.nt_commit.specs.declared.locked.Birth.{Birth}
 use Rattle.nt_commit.specs.declared.error.CommitError.{CommitError}
 use Rattle.nt_commit.specs.declared.error.CommitError.TheVariants.{Fault}
 use Rattle.nt_commit.specs.Claims.{limit_answered}
 use Rattle.nt_commit.specs.Holds.{CommitsInHold}
-use Rattle.nt_fill.proofs.Passes.{claim_is, writes, spoils, names, fault_by, pass_after, writes_in, spoil_in, adds_seen, spoils_seen}
+use Rattle.nt_fill.proofs.Passes.{claim_is, writes, spoils, names, kept_by, fault_by, pass_after, writes_in, spoil_in, adds_seen, spoils_seen}
 use Rattle.nt_fill.proofs.Passes.{keyed_length}
 use Rattle.nt_fill.proofs.writing.write_image.Goals as goal
 
-pub returns-in_err-claim-clause-fault : goal.returns-in_err-claim-clause-fault
-returns-in_err-claim-clause-fault g c =
+pub returns-in_err-claim-clause-refused : goal.returns-in_err-claim-clause-refused
+returns-in_err-claim-clause-refused g c =
     let p = err_from_is_err_and c.from_residual.result c.from_residual.ensures.1 in
-    λ is.
-    let same : c.in_err-claim.field-0.0 ≡ Fault = cc (p.1, p.2, is) in
-    inl (
-      fault_by g.D.Disk.state c.args.committer.now g.D.Ext.Ext.state c.args.image.now.meta c.args.pass.now c.commit.new.pass
-          (subst (λ (e : CommitError). CommitsInHold g.D.Disk.state g.D.Ext.Ext.state c.args.committer.now c.args.image.now.meta
-          c.args.pass.now c.commit.new.pass (Err e)) same c.in_err-claim.ensures.commits) c.requires.image.context_is,
-      refl,
-    )
+    record {
+      kept = λ e is apart.
+          let same : c.in_err-claim.field-0.0 ≡ e = cc (p.1, p.2, is) in (
+            kept_by g.D.Disk.state c.args.committer.now g.D.Ext.Ext.state c.args.image.now.meta c.args.pass.now c.commit.new.pass
+                c.in_err-claim.field-0.0 c.in_err-claim.ensures.commits (λ fault. apart (sym same ∙ fault)),
+            refl,
+          );
+      fault = λ is.
+          let same : c.in_err-claim.field-0.0 ≡ Fault = cc (p.1, p.2, is) in
+          inl (
+            fault_by g.D.Disk.state c.args.committer.now g.D.Ext.Ext.state c.args.image.now.meta c.args.pass.now c.commit.new.pass
+                (subst (λ (e : CommitError). CommitsInHold g.D.Disk.state g.D.Ext.Ext.state c.args.committer.now c.args.image.now.meta
+                c.args.pass.now c.commit.new.pass (Err e)) same c.in_err-claim.ensures.commits) c.requires.image_is.context_is,
+            refl,
+          );
+    }
 
-pub fill_range-requires-clause-own : goal.fill_range-requires-clause-own
-fill_range-requires-clause-own g c =
-    claim_is g.D.Disk.state c.args.committer.now g.D.Ext.Ext.state c.args.image.now.meta c.args.pass.now c.commit.new.pass
-    c.in_ok-claim.claim c.in_ok-claim.ensures.commits c.requires.image.context_is
-
-pub fill_range-requires-clause-empty : goal.fill_range-requires-clause-empty
-fill_range-requires-clause-empty g c =
-    let new = c.in_ok-claim.ensures.commits.commits.adds.0 in
-    let room = subst (λ n. 42 ≤ n) c.requires.image.whole c.requires.image.room in (
-      new.unfilled,
-      ap length c.as_slice.ensures ∙ (ap (λ (i : ClusterImage). length i.bytes) c.in_ok-claim.ensures.image
-          ∙ (keyed_length c.args.image.now.bytes _ room ∙ (sym c.requires.image.whole ∙ sym (ap (λ r. r.len) new.range)))),
-    )
+pub fill_range-requires-clause-claim : goal.fill_range-requires-clause-claim
+fill_range-requires-clause-claim g c =
+    let commits = c.in_ok-claim.ensures.commits in
+    let new = commits.commits.adds.0 in
+    let room = subst (λ n. 42 ≤ n) c.requires.image_is.whole c.requires.image_is.room in
+    record {
+      own = claim_is g.D.Disk.state c.args.committer.now g.D.Ext.Ext.state c.args.image.now.meta c.args.pass.now c.commit.new.pass
+          c.in_ok-claim.claim commits c.requires.image_is.context_is;
+      unfilled = new.unfilled;
+      long = ap length c.as_slice.ensures ∙ (ap (λ (i : ClusterImage). length i.bytes) c.in_ok-claim.ensures.image
+          ∙ (keyed_length c.args.image.now.bytes _ room ∙ (sym c.requires.image_is.whole ∙ sym (ap (λ r. r.len) new.range))));
+      tells = subst (λ (b : Birth _). WhereHeld (g.D.Disk.state b.begun).held (λ h. (g.D.Ext.Ext.state c.in_ok-claim.claim.ext).tells
+          ≡ true)) commits.hold.birth new.tells;
+    }
 
 pub returns-in_err-fill_range-clause-pass : goal.returns-in_err-fill_range-clause-pass
 returns-in_err-fill_range-clause-pass g c =
     let s = spoils g.D.Disk.state c.args.committer.now g.D.Ext.Ext.state c.args.image.now.meta c.args.pass.now c.commit.new.pass
-    c.in_ok-claim.claim c.in_ok-claim.ensures.commits c.requires.image.context_is c.fill_range.new.pass
-    c.in_err-fill_range.ensures.err.0 in (
-      pass_after g.D.Disk.state c.args.committer.now _ c.args.pass.now c.fill_range.new.pass s.gains c.requires.pass.0,
-      spoil_in c.args.image.now.meta c.args.pass.now c.fill_range.new.pass c.requires.pass.1 s,
+    c.in_ok-claim.claim c.in_ok-claim.ensures.commits c.requires.image_is.context_is c.fill_range.new.pass
+    c.in_err-fill_range.ensures.err.1 in (
+      pass_after g.D.Disk.state c.args.committer.now _ c.args.pass.now c.fill_range.new.pass s.gains c.requires.of,
+      spoil_in c.args.image.now.meta c.args.pass.now c.fill_range.new.pass c.requires.none_out s,
     )
 
 pub returns-in_err-fill_range-clause-limits : goal.returns-in_err-fill_range-clause-limits
 returns-in_err-fill_range-clause-limits g c =
     let p = err_from_is_err_and c.from_residual-in_err-fill_range.result c.from_residual-in_err-fill_range.ensures.1 in
-    let fault = c.in_err-fill_range.ensures.fault _ refl in
+    let fault = c.in_err-fill_range.ensures.err.0 in
     let same : c.from_residual-in_err-fill_range.result ≡ Err Fault = cc (p.1, p.2, fault) in
     names g.D.Disk.state c.args.committer.now g.D.Ext.Ext.state c.args.image.now.meta c.args.pass.now c.commit.new.pass
     (Ok c.in_ok-claim.claim) c.in_ok-claim.ensures.commits c.from_residual-in_err-fill_range.result
     (sym (ap limit_answered same)) c.fill_range.new.pass
-    (spoils_seen g.D.Disk.state c.args.committer.now _ c.commit.new.pass c.fill_range.new.pass c.in_err-fill_range.ensures.err.0)
+    (spoils_seen g.D.Disk.state c.args.committer.now _ c.commit.new.pass c.fill_range.new.pass c.in_err-fill_range.ensures.err.1)
 
-pub returns-in_err-fill_range-clause-fault : goal.returns-in_err-fill_range-clause-fault
-returns-in_err-fill_range-clause-fault g c =
+pub returns-in_err-fill_range-clause-refused : goal.returns-in_err-fill_range-clause-refused
+returns-in_err-fill_range-clause-refused g c =
     let s = spoils g.D.Disk.state c.args.committer.now g.D.Ext.Ext.state c.args.image.now.meta c.args.pass.now c.commit.new.pass
-    c.in_ok-claim.claim c.in_ok-claim.ensures.commits c.requires.image.context_is c.fill_range.new.pass
-    c.in_err-fill_range.ensures.err.0 in
-    λ is. inr (s, c.in_err-fill_range.ensures.err.1)
+    c.in_ok-claim.claim c.in_ok-claim.ensures.commits c.requires.image_is.context_is c.fill_range.new.pass
+    c.in_err-fill_range.ensures.err.1 in
+    let p = err_from_is_err_and c.from_residual-in_err-fill_range.result c.from_residual-in_err-fill_range.ensures.1 in
+    record {
+      kept = λ e is apart. absurd (apart (cc (p.1, p.2, is, c.in_err-fill_range.ensures.err.0)));
+      fault = λ is. inr (s, c.in_err-fill_range.ensures.err.2);
+    }
 
 pub returns-clause-pass : goal.returns-clause-pass
 returns-clause-pass g c =
     let w = writes g.D.Disk.state c.args.committer.now g.D.Ext.Ext.state c.args.image.now.meta c.args.pass.now c.commit.new.pass
-    c.in_ok-claim.claim c.in_ok-claim.ensures.commits c.requires.image.context_is c.args.image.now c.as_slice.result.now
+    c.in_ok-claim.claim c.in_ok-claim.ensures.commits c.requires.image_is.context_is c.args.image.now c.as_slice.result.now
     c.fill_range.new.pass refl (c.as_slice.ensures ∙ ap (λ (i : ClusterImage). i.bytes) c.in_ok-claim.ensures.image)
     c.in_ok-fill_range.ensures.ok.0 in (
-      pass_after g.D.Disk.state c.args.committer.now _ c.args.pass.now c.fill_range.new.pass w.gains c.requires.pass.0,
-      writes_in g.D.Disk.state c.args.committer.now c.args.image.now c.args.pass.now c.fill_range.new.pass c.requires.pass.1 w,
+      pass_after g.D.Disk.state c.args.committer.now _ c.args.pass.now c.fill_range.new.pass w.gains c.requires.of,
+      writes_in g.D.Disk.state c.args.committer.now c.args.image.now c.args.pass.now c.fill_range.new.pass c.requires.none_out w,
     )
 
 pub returns-clause-limits : goal.returns-clause-limits
@@ -81,7 +96,7 @@ returns-clause-limits g c =
 pub returns-clause-ok : goal.returns-clause-ok
 returns-clause-ok g c = (
   writes g.D.Disk.state c.args.committer.now g.D.Ext.Ext.state c.args.image.now.meta c.args.pass.now c.commit.new.pass
-      c.in_ok-claim.claim c.in_ok-claim.ensures.commits c.requires.image.context_is c.args.image.now c.as_slice.result.now
+      c.in_ok-claim.claim c.in_ok-claim.ensures.commits c.requires.image_is.context_is c.args.image.now c.as_slice.result.now
       c.fill_range.new.pass refl (c.as_slice.ensures ∙ ap (λ (i : ClusterImage). i.bytes) c.in_ok-claim.ensures.image)
       c.in_ok-fill_range.ensures.ok.0,
   c.in_ok-fill_range.ensures.ok.1,

@@ -1,4 +1,5 @@
 use Rattle.std.proofs.Common.{◌∙◌, ap, sym, refl, subst, ℕ, ◌-◌, List, [], ◌++◌, length, drop, arith}
+use Rattle.std.specs.Prelude.{IsSome}
 use Rattle.std.proofs.lemmas.Result.{err_from_is_err_and}
 use Rattle.nt_container.specs.Spelling.{blob_key}
 use Rattle.nt_book.specs.declared.meta.ClusterMeta.{ClusterMeta}
@@ -13,8 +14,8 @@ use Rattle.nt_fill.proofs.Emptied.{emptied_gives}
 use Rattle.nt_fill.proofs.Images.{image_for, blob_of}
 use Rattle.nt_fill.proofs.flushing.FillContext+D.flush.Goals as goal
 
-pub write_image-requires-clause-image : goal.write_image-requires-clause-image
-write_image-requires-clause-image g c =
+pub write_image-requires : goal.write_image-requires
+write_image-requires g c =
     let t = c.self.inside.schema.now in
     let columns = columns_of c.self.inside.store.columns in
     let n = c.self.inside.store.entries in
@@ -22,38 +23,24 @@ write_image-requires-clause-image g c =
     let number = c.self.inside.pass.number in
     let is = c.in_ok-image.ensures.meta ∙ (ap (λ (i : ℕ). cluster_meta page i n columns) c.number.ensures
     ∙ ap (λ (m : ℕ). cluster_meta page number m columns) (sym (entries_count t columns n))) in
-    image_for t columns (entries_given t columns n) c.self.invariant.gives page number c.self.inside.committer.now.birth.columns
-    (c.columns_have_types.ensures t) c.self.invariant.some c.self.invariant.count c.self.invariant.page
-    c.in_ok-image.image c.in_ok-image.ensures.bytes is
+    record {
+      of = c.self.invariant.of;
+      none_out = c.self.invariant.none_out;
+      alive = subst (λ s. IsSome s.pen) (sym c.self.view_is) c.requires.alive;
+      image_is = image_for t columns (entries_given t columns n) c.self.invariant.gives page number
+          c.self.inside.committer.now.birth.columns
+          (c.columns_have_types.ensures t) c.self.invariant.some c.self.invariant.count c.self.invariant.page
+          c.in_ok-image.image c.in_ok-image.ensures.bytes is;
+    }
 
 pub returns-in_err-write_image-clause-nothing : goal.returns-in_err-write_image-clause-nothing
 returns-in_err-write_image-clause-nothing g c = λ none.
     let zero = ap (λ s. s.entries) c.self.view_is ∙ (sym (gathered_length c.args.self.now) ∙ ap length none) in
     absurd (omega (arith, zero, c.if-self-eq0.false))
 
-pub returns-in_err-write_image-clause-kept : goal.returns-in_err-write_image-clause-kept
-returns-in_err-write_image-clause-kept g c =
+pub returns-in_err-write_image-clause-refused : goal.returns-in_err-write_image-clause-refused
+returns-in_err-write_image-clause-refused g c =
     let p = err_from_is_err_and c.from_residual-in_err-write_image.result c.from_residual-in_err-write_image.ensures.1 in
-    λ e is apart.
-    let kept = c.in_err-write_image.ensures.kept e (cc (p.1, p.2, is)) apart in
-    rw (← c.self.view_is) (record {
-      gains = kept.0;
-      now = ap (λ q. record {
-        committer = c.self.inside.committer.now;
-        table = c.self.inside.schema.now;
-        cluster = c.self.inside.store.cluster;
-        page = c.self.inside.store.page;
-        pass = c.write_image.new.pass;
-        pen = q;
-        columns = columns_of c.self.inside.store.columns;
-        entries = c.self.inside.store.entries;
-      }) kept.1;
-    })
-
-pub returns-in_err-write_image-clause-fault : goal.returns-in_err-write_image-clause-fault
-returns-in_err-write_image-clause-fault g c =
-    let p = err_from_is_err_and c.from_residual-in_err-write_image.result c.from_residual-in_err-write_image.ensures.1 in
-    λ is.
     let columns = columns_of c.self.inside.store.columns in
     let n = c.self.inside.store.entries in
     let page = c.self.inside.store.page in
@@ -62,14 +49,33 @@ returns-in_err-write_image-clause-fault g c =
     let meta =
     c.in_ok-image.ensures.meta
     ∙ (ap (λ (i : ℕ). cluster_meta page i n columns) c.number.ensures ∙ ap (λ (m : ℕ). cluster_meta page number m columns) count) in
-    rw (← c.self.view_is) (record {
-      columns = columns;
-      gives = c.self.invariant.gives;
-      fails = subst
-          (λ (m : ClusterMeta). FailsToWrite m c.self.inside.pass c.write_image.new.pass c.self.inside.pen c.write_image.new.pen) meta
-          (c.in_err-write_image.ensures.fault (cc (p.1, p.2, is)));
-      now = refl;
-    })
+    record {
+      kept = λ e is apart.
+          let kept = c.in_err-write_image.ensures.refused.kept e (cc (p.1, p.2, is)) apart in
+          rw (← c.self.view_is) (record {
+            gains = kept.0;
+            now = ap (λ q. record {
+              committer = c.self.inside.committer.now;
+              table = c.self.inside.schema.now;
+              cluster = c.self.inside.store.cluster;
+              page = c.self.inside.store.page;
+              pass = c.write_image.new.pass;
+              pen = q;
+              columns = columns_of c.self.inside.store.columns;
+              entries = c.self.inside.store.entries;
+            }) kept.1;
+          });
+      fault = λ is.
+          rw (← c.self.view_is) (record {
+            columns = columns;
+            gives = c.self.invariant.gives;
+            fails = subst
+                (λ (m : ClusterMeta). FailsToWrite m c.self.inside.pass c.write_image.new.pass c.self.inside.pen
+                c.write_image.new.pen) meta
+                (c.in_err-write_image.ensures.refused.fault (cc (p.1, p.2, is)));
+            now = refl;
+          });
+    }
 
 pub invariant_of-self-2 : goal.invariant_of-self-2
 invariant_of-self-2 g c =
