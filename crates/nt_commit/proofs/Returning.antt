@@ -74,7 +74,8 @@ module _ {D : Type 0} (state : D → DiskState) (begun d : D) (contexts : ℕ) (
         let bytes = bytes_where_told (state begun).held ext.content in
         let start : ext.range.start ≡ out.cluster.start = ap (λ (r : Range). r.start) (sym range) in
         let len : ext.range.len ≡ out.cluster.len = ap (λ (r : Range). r.len) (sym range) in
-        grows_to state begun d contexts b was d' b' (settled_entry i n) (settled_with i n bytes) spare (Settle ext.range.start ext.range.len ext.content ∷ []) is
+        let step = Settle ext.range.start ext.range.len ext.content in
+        grows_to state begun d contexts b was d' b' (settled_entry i n) (settled_with i n bytes) spare (step ∷ []) is
         (λ h was. let next = log h was in (next.0, next.1, next.2.log))
         (told-settled (state begun).held i n ext.range.start ext.range.len ext.content)
         (Follows-back (state begun) (state d) (state d') contexts history was.follows i n (Settled bytes) (entry.Settled n bytes)

@@ -8,8 +8,8 @@ use Rattle.nt_commit.specs.declared.error.CommitError.{CommitError}
 use Rattle.nt_commit.specs.declared.error.CommitError.TheVariants.{Fault}
 use Rattle.nt_commit.specs.Claims.{limit_answered}
 use Rattle.nt_commit.specs.Holds.{CommitsInHold}
-use Rattle.nt_fill.proofs.Passes.{claim_is, writes, spoils, names, kept_by, fault_by, pass_after, writes_in, spoil_in, adds_seen, spoils_seen}
-use Rattle.nt_fill.proofs.Passes.{keyed_length}
+use Rattle.nt_fill.proofs.Passes.{claim_is, writes, spoils, names, kept_by, fault_by, pass_after, writes_in, spoil_in, adds_seen}
+use Rattle.nt_fill.proofs.Passes.{spoils_seen, keyed_length}
 use Rattle.nt_fill.proofs.writing.write_image.Goals as goal
 
 pub returns-in_err-claim-clause-refused : goal.returns-in_err-claim-clause-refused
