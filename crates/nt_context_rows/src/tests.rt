@@ -18,6 +18,13 @@ struct Ran {
     host: MemHost,
 }
 
+impl Ran {
+    /// It left the file of this run, and the line of its order.
+    fn is_as(&self, other: &Ran) -> bool {
+        self.host.file("o") == other.host.file("o") && self.host.out() == other.host.out()
+    }
+}
+
 /// The names of the inputs, in order.
 const NAMES: [&str; 4] = ["a", "b", "c", "d"];
 

@@ -1,14 +1,28 @@
 //! Contexts that fail while others go on.
 
-use super::{host_of, write_of};
+use super::{Ran, host_of, write_of};
 use crate::gates::{InOrder, LONG, SHORT};
 use nt_app::Status;
 use nt_memory::Object;
 use nt_outside::NoGate;
+use std::alloc::{AllocError, Global};
+use std::sync::Wait;
 use std::test::*;
+use std::thread::Threads;
 
 /// The bytes of the blob of a cluster of one number: its key, the page and the checksum.
 const BLOB: usize = 42 + 8 + 8;
+
+/// A run whose clusters are committed in this order.
+fn write_in_order<R: Threads + Wait + Sync>(
+    rt: &R,
+    alloc: Global,
+    inputs: &[&[u8]],
+    order: &[u32],
+) -> Result<Ran, AllocError> {
+    let host = host_of(alloc, inputs)?;
+    write_of(rt, alloc, host, "1", 2, &InOrder::new(order, LONG))
+}
 
 #[test]
 fn the_lowest_input_with_a_bad_line_is_told(rt: HostRuntime) -> Result<(), Fail> {
@@ -30,14 +44,7 @@ fn a_pen_that_fails_spoils_its_range_alone(rt: HostRuntime) -> Result<(), Fail> 
     let alloc = rt.alloc();
     let inputs: [&[u8]; 2] = [b"[1]\n[2]\n", b"[3]\n[4]\n"];
     let order: &[u32] = &[0, 1, 0, 1];
-    let whole = write_of(
-        &rt,
-        alloc,
-        host_of(alloc, &inputs)?,
-        "1",
-        2,
-        &InOrder::new(order, LONG),
-    )?;
+    let whole = write_in_order(&rt, alloc, &inputs, order)?;
     assert_eq!(rt; whole.status, Status::Done);
     let mut host = host_of(alloc, &inputs)?;
     host.fail(Object::Pen(1), 2)?;
@@ -70,15 +77,10 @@ fn each_call_that_fails_leaves_no_finished_file(rt: HostRuntime) -> Result<(), F
     let alloc = rt.alloc();
     let inputs: [&[u8]; 2] = [b"[1]\n", b"[2]\n"];
     let order: &[u32] = &[0, 1];
-    let whole = write_of(
-        &rt,
-        alloc,
-        host_of(alloc, &inputs)?,
-        "1",
-        2,
-        &InOrder::new(order, LONG),
-    )?;
+    let whole = write_in_order(&rt, alloc, &inputs, order)?;
     assert_eq!(rt; whole.host.out(), b"order 0 1\n".as_slice());
+    let turned = write_in_order(&rt, alloc, &inputs, &[1, 0])?;
+    assert_eq!(rt; turned.host.out(), b"order 1 0\n".as_slice());
     for (object, calls) in CALLS {
         for call in 1..calls + 1 {
             let mut host = host_of(alloc, &inputs)?;
@@ -89,11 +91,9 @@ fn each_call_that_fails_leaves_no_finished_file(rt: HostRuntime) -> Result<(), F
             match ran.host.file("o") {
                 Some(file) => {
                     let opened = file.first() == Some(&b'r');
-                    let in_order = ran.host.out() == b"order 0 1\n".as_slice();
                     // a context that waits too long for the other goes first
-                    let turned = ran.host.out() == b"order 1 0\n".as_slice();
-                    assert!(rt; !opened || in_order || turned, "{object:?} {call}");
-                    assert!(rt; !opened || turned || Some(file) == whole.host.file("o"));
+                    let is_whole = ran.is_as(&whole) || ran.is_as(&turned);
+                    assert!(rt; !opened || is_whole, "{object:?} {call}");
                 }
                 None => assert_eq!(rt; ran.host.out(), b"".as_slice()),
             }
