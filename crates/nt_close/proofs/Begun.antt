@@ -3,17 +3,18 @@ use Rattle.std.proofs.Common.{◌≡◌, ◌∙◌, ◌+◌, ◌≤◌, ℕ, Lis
 use Rattle.std.specs.declared.alloc.AllocError.{AllocError}
 use Rattle.nt_types.specs.ShapeData.{MemberData}
 use Rattle.nt_outside.specs.Faults.{Rose}
-use Rattle.nt_outside.specs.Held.{Becomes, BecomesSome}
+use Rattle.nt_outside.specs.Held.{BecomesSome}
 use Rattle.nt_outside.specs.Disk.{DiskState, TakesRoom}
 use Rattle.nt_container.specs.Spelling.{begun}
+use Rattle.nt_container.proofs.Gate.{begin-len}
 use Rattle.nt_grammar.specs.Table.{Table}
 use Rattle.nt_grammar.specs.Rows.{Rows}
 use Rattle.nt_book.specs.Books.{BookData}
 use Rattle.nt_book.specs.declared.params.Params.{Params}
-use Rattle.nt_layout.specs.Headers.{header_blob, clusters_place}
-use Rattle.nt_close.specs.Steps.{begun_on, IsBegunSoFar}
+use Rattle.nt_layout.specs.Headers.{clusters_place}
+use Rattle.nt_close.specs.Steps.{begun_on, IsBegunSoFar, IsBegunWith}
 use Rattle.nt_close.specs.Passing.{passed_by_begin}
-use Rattle.nt_close.specs.Beginning.{new_book, IsBegun, IsBeginCut}
+use Rattle.nt_close.specs.Beginning.{new_book, IsHeaderBlob, IsBegun, IsBeginCut}
 
 module _ (ps : List MemberData) (p : Params) (t : Table) (rows : Rows ps p.plain t) (within : passed_by_begin p.limits t ≡ None) where
   -- the new book
@@ -29,24 +30,23 @@ module _ (ps : List MemberData) (p : Params) (t : Table) (rows : Rows ps p.plain
   pub begun-is : (bytes blob : List ℕ) (len columns steps more : ℕ) (book : BookData) (old mid new : DiskState)
       (room : Result (Unit {0}) AllocError)
       → book ≡ record { begin = 226 + len; limits = p.limits; firsts = replicate columns 0; history = []; spare = 0 }
-      → len ≡ length bytes → 226 + length bytes ≡ clusters_place t → columns ≡ length t.columns → blob ≡ bytes → bytes ≡ header_blob t
+      → len ≡ length bytes → columns ≡ length t.columns → blob ≡ bytes → IsHeaderBlob t bytes
       → TakesRoom steps more old mid room → old.end ≡ 0
-      → Becomes mid.held new.held (begun_on (begun 0 0 0) blob) → new.end ≡ mid.end + 226 + length blob → new.out
-      ≡ mid.out → mid.faults ≤ new.faults
+      → IsBegunWith (begun 0 0 0) blob mid new → new.out ≡ mid.out → mid.faults ≤ new.faults
       → IsBegun ps p old new book t
-  begun-is bytes blob len columns steps more book old mid new room is len-is place long same header takes empty ok end out later = record {
+  begun-is bytes blob len columns steps more book old mid new room is len-is long same header takes empty ok out later = record {
     rows = rows;
-    book_is = book_is len columns book is (omega (arith, len-is, place)) long;
+    book_is = book_is len columns book is (omega (arith, len-is, header.place)) long;
     within = within;
-    held = λ h was. ok h (takes.held ∙ was) ∙ ap (λ (l : List ℕ). Some (begun_on (begun 0 0 0) l h)) (same ∙ header);
-    end = end ∙ omega (arith, takes.end, empty, place, ap length same);
+    held = λ h was. ok.held h (takes.held ∙ was) ∙ ap (λ (l : List ℕ). Some (begun_on (begun 0 0 0) l h)) (same ∙ header.bytes_are);
+    end = ok.end ∙ omega (arith, takes.end, empty, header.place, ap length same, begin-len 0 0 0);
     out = out ∙ takes.out;
     later = subst (λ (n : ℕ). n ≤ new.faults) takes.faults later;
   }
 
   -- a step failed
   pub begin-cut : (bytes blob : List ℕ) (steps more : ℕ) (old mid new : DiskState) (room : Result (Unit {0}) AllocError)
-      → blob ≡ bytes → bytes ≡ header_blob t → TakesRoom steps more old mid room
+      → blob ≡ bytes → IsHeaderBlob t bytes → TakesRoom steps more old mid room
       → BecomesSome mid.held new.held (IsBegunSoFar (begun 0 0 0) blob) → new.out ≡ mid.out → Rose mid.faults new.faults
       → IsBeginCut ps p old new
   begin-cut bytes blob steps more old mid new room same header takes left out rose = record {
@@ -55,7 +55,7 @@ module _ (ps : List MemberData) (p : Params) (t : Table) (rows : Rows ps p.plain
     within = within;
     held = λ h was.
         let stands = left h (takes.held ∙ was) in
-        (stands.0, stands.1, subst (λ (l : List ℕ). IsBegunSoFar (begun 0 0 0) l h stands.0) (same ∙ header) stands.2);
+        (stands.0, stands.1, subst (λ (l : List ℕ). IsBegunSoFar (begun 0 0 0) l h stands.0) (same ∙ header.bytes_are) stands.2);
     out = out ∙ takes.out;
     rose = subst (λ (n : ℕ). Rose n new.faults) takes.faults rose;
   }

@@ -1,14 +1,14 @@
 -- What the steps of the end leave, with the parts of the finished file.
 use Rattle.std.proofs.Common.{◌≡◌, ◌∙◌, ◌≤◌, ℕ, List, [], Some, ap, subst}
 use Rattle.nt_outside.specs.Faults.{Rose}
-use Rattle.nt_outside.specs.Held.{Becomes, BecomesSome}
+use Rattle.nt_outside.specs.Held.{BecomesSome}
 use Rattle.nt_outside.specs.Disk.{DiskState}
 use Rattle.nt_container.specs.declared.parts.FileFields.{FileFields}
 use Rattle.nt_grammar.specs.Table.{Table}
 use Rattle.nt_book.specs.Books.{BookData}
 use Rattle.nt_layout.specs.Headers.{clusters_place}
 use Rattle.nt_layout.specs.Finished.{tail, front}
-use Rattle.nt_close.specs.Steps.{closed_on, IsClosedSoFar}
+use Rattle.nt_close.specs.Steps.{closed_on, IsClosedSoFar, IsEndedWith}
 use Rattle.nt_close.specs.Making.{IsEnding, front_with}
 use Rattle.nt_close.specs.Closing.{IsClosed, IsCloseCut, BecomesFinished}
 use Rattle.nt_close.proofs.Finishing.{closed-is}
@@ -19,31 +19,31 @@ module _ (t : Table) (book : BookData) (most : ℕ) where
   front_is bytes f is = ap front_with is.fields_are
 
   -- all steps were taken on a disk for which there was room
-  pub closed : (bytes : List ℕ) (f : FileFields) (old mid new : DiskState) → IsEnding t book most bytes f → mid.held ≡ old.held
-      → mid.faults ≡ old.faults
-      → Becomes mid.held new.held (closed_on bytes (front_with f)) → new.out ≡ [] → mid.faults ≤ new.faults
+  pub closed : (bytes text lead : List ℕ) (f : FileFields) (old mid new : DiskState) → IsEnding t book most bytes f → text ≡ bytes
+      → lead ≡ front_with f → mid.held ≡ old.held → mid.faults ≡ old.faults
+      → IsEndedWith text lead mid new → new.out ≡ [] → mid.faults ≤ new.faults
       → IsClosed (tail t book most) (front t book most) old new
-  closed bytes f old mid new is held faults ok out later = record {
+  closed bytes text lead f old mid new is text-is lead-is held faults ok out later = record {
     held = λ h was.
-        ok h (held ∙ was)
-        ∙ (ap (λ (l : List ℕ). Some (closed_on l (front_with f) h)) is.bytes_are
-        ∙ ap (λ (l : List ℕ). Some (closed_on (tail t book most) l h)) (front_is bytes f is));
+        ok.held h (held ∙ was)
+        ∙ (ap (λ (l : List ℕ). Some (closed_on l lead h)) (text-is ∙ is.bytes_are)
+        ∙ ap (λ (l : List ℕ). Some (closed_on (tail t book most) l h)) (lead-is ∙ front_is bytes f is));
     out = out;
     later = subst (λ (n : ℕ). n ≤ new.faults) faults later;
   }
 
   -- a step failed
-  pub cut : (bytes : List ℕ) (f : FileFields) (old mid new : DiskState) → IsEnding t book most bytes f → mid.held ≡ old.held
-      → mid.faults ≡ old.faults
-      → BecomesSome mid.held new.held (IsClosedSoFar bytes (front_with f)) → new.out ≡ [] → Rose mid.faults new.faults
+  pub cut : (bytes text lead : List ℕ) (f : FileFields) (old mid new : DiskState) → IsEnding t book most bytes f → text ≡ bytes
+      → lead ≡ front_with f → mid.held ≡ old.held → mid.faults ≡ old.faults
+      → BecomesSome mid.held new.held (IsClosedSoFar text lead) → new.out ≡ [] → Rose mid.faults new.faults
       → IsCloseCut (tail t book most) (front t book most) old new
-  cut bytes f old mid new is held faults left out rose = record {
+  cut bytes text lead f old mid new is text-is lead-is held faults left out rose = record {
     held = λ h was.
         let stands = left h (held ∙ was) in (
           stands.0,
           stands.1,
-          subst (λ (l : List ℕ). IsClosedSoFar (tail t book most) l h stands.0) (front_is bytes f is)
-              (subst (λ (l : List ℕ). IsClosedSoFar l (front_with f) h stands.0) is.bytes_are stands.2),
+          subst (λ (l : List ℕ). IsClosedSoFar (tail t book most) l h stands.0) (lead-is ∙ front_is bytes f is)
+              (subst (λ (l : List ℕ). IsClosedSoFar l lead h stands.0) (text-is ∙ is.bytes_are) stands.2),
         );
     out = out;
     rose = subst (λ (n : ℕ). Rose n new.faults) faults rose;

@@ -1,9 +1,10 @@
 -- What the beginning of a file leaves.
-use Rattle.std.specs.Prelude.{◌≡◌, ◌≤◌, List, [], length, replicate, Option, Some, None}
+use Rattle.std.specs.Prelude.{ℕ, ◌≡◌, ◌+◌, ◌≤◌, List, [], length, replicate, Option, Some, None}
 use Rattle.nt_types.specs.ShapeData.{MemberData}
 use Rattle.nt_outside.specs.Faults.{Rose}
 use Rattle.nt_outside.specs.Held.{Becomes, BecomesSome}
 use Rattle.nt_outside.specs.Disk.{DiskState, KeepsPlace}
+use Rattle.nt_container.specs.Lengths.{begun_len}
 use Rattle.nt_container.specs.Spelling.{begun}
 use Rattle.nt_grammar.specs.Table.{Table}
 use Rattle.nt_grammar.specs.Rows.{Rows}
@@ -53,6 +54,11 @@ pub record IsBeginCut (ps : List MemberData) (p : Params) (old new : DiskState) 
   pub held : BecomesSome old.held new.held (IsBegunSoFar (begun 0 0 0) (header_blob table))
   pub out : new.out ≡ old.out
   pub rose : Rose old.faults new.faults
+
+-- the header's blob, behind which the clusters begin
+pub record IsHeaderBlob (t : Table) (bytes : List ℕ) : Type 0 where
+  pub bytes_are : bytes ≡ header_blob t
+  pub place : begun_len + length bytes ≡ clusters_place t
 
 -- why the file of these fields isn't begun, and what is left then
 abbrev pub IsNotBegun : List MemberData → Params → DiskState → DiskState → BeginError → Type 0

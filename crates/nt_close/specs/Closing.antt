@@ -6,6 +6,7 @@ use Rattle.nt_outside.specs.Held.{Held, Becomes, BecomesSome}
 use Rattle.nt_outside.specs.Disk.{DiskState}
 use Rattle.nt_machine.specs.History.{Cluster}
 use Rattle.nt_grammar.specs.Table.{Table}
+use Rattle.nt_schema.specs.Whole.{AreWhole}
 use Rattle.nt_book.specs.declared.meta.ClusterMeta.{ClusterMeta}
 use Rattle.nt_book.specs.declared.params.Params.{Params}
 use Rattle.nt_book.specs.declared.limits.LimitError.{LimitError}
@@ -22,11 +23,13 @@ use Rattle.nt_close.specs.Passing.{measures_of}
 use Rattle.nt_close.specs.Beginning.{IsUntouched}
 use Rattle.nt_close.specs.Spoiled.{NoneSpoiled, IsFirstSpoiled}
 
--- a file can be closed: the book's ranges begin behind the header of its schema, the last one ends the file, and none is out
+-- a file can be closed: the book's ranges begin behind the header of its schema, the last one ends the file, and none is out; and a
+-- description holds the rows whole
 pub record IsClosable (disk : DiskState) (book : BookData) (t : Table) : Type 0 where
   pub begin : book.begin ≡ clusters_place t
   pub end : disk.end ≡ book_end book
   pub out : disk.out ≡ []
+  pub whole : AreWhole t
 
 -- the cause of an answer, in this order: the lowest spoiled range; a limit, the first that is passed; a step that failed. Want of
 -- memory has none

@@ -1,5 +1,5 @@
 -- What stands behind the ranges of a file's clusters, made part by part.
-use Rattle.std.specs.Prelude.{◌≡◌, ℕ, ◌+◌, List, [], ◌∷◌, ◌++◌, length, drop, Option, Some}
+use Rattle.std.specs.Prelude.{◌≡◌, ℕ, ◌+◌, ◌<◌, ◌≤◌, ◌^◌, List, [], ◌∷◌, ◌++◌, length, drop, Option, Some}
 use Rattle.std.specs.List.{concat}
 use Rattle.nt_format.specs.Envelopes.{envelope}
 use Rattle.nt_files.specs.Envelopes.{footer_kind}
@@ -8,6 +8,7 @@ use Rattle.nt_container.specs.declared.parts.FileFields.{FileFields}
 use Rattle.nt_container.specs.Lengths.{begun_len, anchor_part_len, key_list_part_len, free_list_part_len}
 use Rattle.nt_container.specs.Spelling.{header_part, record_part, anchor_part, key_list_part, free_list_part}
 use Rattle.nt_grammar.specs.Table.{Table}
+use Rattle.nt_schema.specs.Whole.{AreWhole}
 use Rattle.nt_book.specs.declared.limits.Limits.{Limits}
 use Rattle.nt_book.specs.declared.limits.LimitError.{LimitError}
 use Rattle.nt_book.specs.declared.limits.LimitError.TheVariants as limit
@@ -54,6 +55,13 @@ pub record AreHeaderFacts (t : Table) (facts : HeaderFacts) : Type 0 where
 pub record AddsList (sum : ℕ) (book : BookData) (s : ClusterSpan) (old new : List ℕ) (groups more : List Group) : Type 0 where
   pub bytes : new ≡ old ++ blob (book_end book + length old) (list_object sum book s)
   pub group : more ≡ groups ++ span_group sum book (book_end book + length old) s ∷ []
+
+-- a footer of these groups can be written behind bytes that begin at a place, by what is said of the header
+pub record CanHaveFooter (t : Table) (start : ℕ) (gs : List Group) (facts : HeaderFacts) : Type 0 where
+  pub low : start ≤ 2 ^ 56
+  pub few : length gs < 2 ^ 32
+  pub header : AreHeaderFacts t facts
+  pub whole : AreWhole t
 
 -- the footer of these groups
 unfoldable pub footer_with : Table → List Group → List ℕ

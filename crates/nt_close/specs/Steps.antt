@@ -1,6 +1,7 @@
 -- The steps of a disk by which a file is begun and closed, in their order. A step that fails ends them.
-use Rattle.std.specs.Prelude.{ℕ, ◌≡◌, List, [], ◌∷◌, length}
-use Rattle.nt_outside.specs.Held.{Held, appended, written, synced, IsTornAppend, IsTornWrite}
+use Rattle.std.specs.Prelude.{ℕ, ◌≡◌, ◌+◌, ◌≤◌, ◌^◌, List, [], ◌∷◌, length}
+use Rattle.nt_outside.specs.Held.{Held, Becomes, WhereHeld, nothing_held, appended, written, synced, IsTornAppend, IsTornWrite}
+use Rattle.nt_outside.specs.Disk.{DiskState}
 
 -- head and header blob are appended, and stay
 abbrev pub begun_on : List ℕ → List ℕ → Held → Held
@@ -16,6 +17,18 @@ pub data IsBegunSoFar (head blob : List ℕ) (h left : Held) : Type 0 where
   not_kept : left ≡ appended blob (appended head h) → IsBegunSoFar head blob h left
   -- none
   begun_whole : left ≡ begun_on head blob h → IsBegunSoFar head blob h left
+
+-- an empty disk has room for these steps, with so many bytes in head and header blob
+pub record HasRoomToBegin (disk : DiskState) (len : ℕ) : Type 0 where
+  pub empty : WhereHeld disk.held (λ (h : Held). h ≡ nothing_held)
+  pub sum : disk.end + len ≤ 2 ^ 63
+  pub steps : 3 ≤ disk.spare_steps
+  pub bytes : len ≤ disk.spare_bytes
+
+-- a disk on which they were taken
+pub record IsBegunWith (head blob : List ℕ) (old new : DiskState) : Type 0 where
+  pub held : Becomes old.held new.held (begun_on head blob)
+  pub end : new.end ≡ old.end + length head + length blob
 
 -- the byte that a finished file begins with
 abbrev pub first_byte : List ℕ
@@ -43,3 +56,16 @@ pub data IsClosedSoFar (tail front : List ℕ) (h left : Held) : Type 0 where
   not_kept_open : left ≡ written 0 first_byte (synced (shut_on tail front h)) → IsClosedSoFar tail front h left
   -- none
   closed_whole : left ≡ closed_on tail front h → IsClosedSoFar tail front h left
+
+-- a disk of which no range is out has room for these steps, with so many bytes behind the clusters and behind the first byte
+pub record HasRoomToEnd (disk : DiskState) (tail front : ℕ) : Type 0 where
+  pub steps : 5 ≤ disk.spare_steps
+  pub bytes : tail + front + 1 ≤ disk.spare_bytes
+  pub sum : disk.end + tail ≤ 2 ^ 63
+  pub inside : 1 + front ≤ disk.end
+  pub out : disk.out ≡ []
+
+-- a disk on which they were taken
+pub record IsEndedWith (tail front : List ℕ) (old new : DiskState) : Type 0 where
+  pub held : Becomes old.held new.held (closed_on tail front)
+  pub end : new.end ≡ old.end + length tail

@@ -4,14 +4,15 @@ ghost use Rattle.std.specs.Prelude.{◌≡◌, ◌+◌, ◌≤◌, ◌^◌, ◌�
 ghost use Rattle.nt_types.specs.Rules.{AreFields};
 ghost use Rattle.nt_types.specs.Views.{members_view};
 ghost use Rattle.nt_outside.specs.Faults.{HasCause};
-ghost use Rattle.nt_outside.specs.Held.{Becomes, BecomesSome, WhereHeld, nothing_held};
+ghost use Rattle.nt_outside.specs.Held.{BecomesSome, WhereHeld, nothing_held};
 ghost use Rattle.nt_container.specs.Lengths.{begun_len};
 ghost use Rattle.nt_container.specs.Spelling.{begun};
 ghost use Rattle.nt_layout.specs.Blobs.{blob_len};
-ghost use Rattle.nt_layout.specs.Headers.{header_blob, clusters_place};
-ghost use Rattle.nt_close.specs.Steps.{begun_on, IsBegunSoFar};
+ghost use Rattle.nt_layout.specs.Headers.{clusters_place};
+ghost use Rattle.nt_schema.specs.Whole.{AreWhole};
+ghost use Rattle.nt_close.specs.Steps.{HasRoomToBegin, IsBegunWith, IsBegunSoFar};
 ghost use Rattle.nt_close.specs.Passing.{first_passed, passed_by_begin};
-ghost use Rattle.nt_close.specs.Beginning.{IsBeginPassed, IsBegun, IsNotBegun};
+ghost use Rattle.nt_close.specs.Beginning.{IsHeaderBlob, IsBeginPassed, IsBegun, IsNotBegun};
 
 use crate::blobs::{KEY, put_blob};
 use crate::error::BeginError;
@@ -63,8 +64,8 @@ fn check_header(header: &[u8], limits: &Limits) -> Result<(), BeginError>
 /// The blob of the header of a schema.
 #[tactic(auto, using(crate::proofs::Groups::blob_length), unfolding(nt_layout::specs::Headers::header_object))]
 fn header_of(alloc: Global, schema: &Schema, limits: &Limits) -> Result<Vec<u8>, BeginError>
-    ensures ok { IfOk result (λ blob. blob.items ≡ header_blob schema.now) }
-    ensures place { IfOk result (λ blob. begun_len + length blob.items ≡ clusters_place schema.now) }
+    requires { AreWhole schema.now }
+    ensures ok { IfOk result (λ blob. IsHeaderBlob schema.now blob.items) }
     ensures within { OnOk result (passed_by_begin limits.now schema.now ≡ None) }
     ensures end { OnOk result (clusters_place schema.now ≤ limits.now.file) }
     ensures err { IfErr result (IsBeginPassed (passed_by_begin limits.now schema.now)) }
@@ -78,13 +79,9 @@ fn header_of(alloc: Global, schema: &Schema, limits: &Limits) -> Result<Vec<u8>,
 
 /// Writes what begins a file for which there is memory.
 fn write_head<D: Disk>(disk: &mut D, blob: &[u8]) -> Result<(), Failed>
-    requires empty { WhereHeld (D.state disk.old).held (λ h. h ≡ nothing_held) }
-    requires sum { (D.state disk.old).end + 226 + length blob.now ≤ 2 ^ 63 }
-    requires steps { 3 ≤ (D.state disk.old).spare_steps }
-    requires bytes { 226 + length blob.now ≤ (D.state disk.old).spare_bytes }
-    ensures ok { OnOk result (Becomes (D.state disk.old).held (D.state disk.new).held (begun_on (begun 0 0 0) blob.now)) }
+    requires { HasRoomToBegin (D.state disk.old) (226 + length blob.now) }
+    ensures ok { OnOk result (IsBegunWith (begun 0 0 0) blob.now (D.state disk.old) (D.state disk.new)) }
     ensures left { BecomesSome (D.state disk.old).held (D.state disk.new).held (IsBegunSoFar (begun 0 0 0) blob.now) }
-    ensures end { OnOk result ((D.state disk.new).end ≡ (D.state disk.old).end + 226 + length blob.now) }
     ensures out { (D.state disk.new).out ≡ (D.state disk.old).out }
     ensures cause { HasCause (D.state disk.old).faults (D.state disk.new).faults result }
 {

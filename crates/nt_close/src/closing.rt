@@ -7,8 +7,9 @@ ghost use Rattle.nt_close.specs.Closing.{IsClosable, HasCloseCause, LeavesClosed
 
 use crate::ending::ending_of;
 use crate::error::CloseError;
-use crate::front::write_ending;
+use crate::front::front_of;
 use crate::spoiled::refuse_spoiled;
+use crate::steps::write_end;
 use nt_book::{Book, Params};
 use nt_outside::Disk;
 use nt_schema::Schema;
@@ -37,6 +38,7 @@ pub fn close<D: Disk>(
     refuse_spoiled(book)?;
     let ending = ending_of(alloc, book, schema, params)?;
     disk.room(5, ending.tail.len() as u64 + 226)?;
-    write_ending(disk, &ending)?;
+    let front = front_of(&ending.fields);
+    write_end(disk, &ending.tail, &front)?;
     Ok(())
 }

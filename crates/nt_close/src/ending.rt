@@ -3,8 +3,9 @@
 ghost use Rattle.std.specs.Prelude.{◌≡◌, ◌+◌, ◌<◌, ◌≤◌, ◌^◌, ◌++◌, None, length, OnOk, IfOk, IfErr};
 ghost use Rattle.nt_tfile.specs.Places.{ArePlaces};
 ghost use Rattle.nt_layout.specs.Blobs.{blob_len};
+ghost use Rattle.nt_schema.specs.Whole.{AreWhole};
 ghost use Rattle.nt_close.specs.Passing.{blobs_behind, passed_by_close};
-ghost use Rattle.nt_close.specs.Making.{IsPassed, IsPassedBy, ArePassedBy, NonePassed, AreHeaderFacts, footer_with, AddsFooter, container_behind, fields_behind, AreBlobsBehind, IsEnding};
+ghost use Rattle.nt_close.specs.Making.{IsPassed, IsPassedBy, ArePassedBy, NonePassed, CanHaveFooter, footer_with, AddsFooter, container_behind, fields_behind, AreBlobsBehind, IsEnding};
 
 use crate::blobs::{KEY, LAST_PLACE, put_blob};
 use crate::error::CloseError;
@@ -92,9 +93,7 @@ fn put_footer(
     limits: &Limits,
     header: &HeaderFacts,
 ) -> Result<Blobs, CloseError>
-    requires low { start ≤ 2 ^ 56 }
-    requires few { length lists.groups.items < 2 ^ 32 }
-    requires header { AreHeaderFacts schema.now header.now }
+    requires { CanHaveFooter schema.now start lists.groups.items header.now }
     ensures ok { IfOk result (λ blobs. AddsFooter schema.now start lists.groups.items
         lists.bytes.items blobs.bytes.items blobs.anchor) }
     ensures fits { OnOk result (blob_len (length (footer_with schema.now lists.groups.items)) ≤ limits.now.range) }
@@ -125,6 +124,7 @@ fn blobs_of(
     schema: &Schema,
     params: &Params,
 ) -> Result<Blobs, CloseError>
+    requires { AreWhole schema.now }
     ensures ok { IfOk result (λ blobs. AreBlobsBehind schema.now book.now params.now.group
         blobs.bytes.items blobs.anchor) }
     ensures fit { OnOk result (NonePassed params.now.limits (blobs_behind schema.now book.now params.now.group)) }
@@ -143,6 +143,7 @@ pub(crate) fn ending_of(
     schema: &Schema,
     params: &Params,
 ) -> Result<Ending, CloseError>
+    requires { AreWhole schema.now }
     ensures ok { IfOk result (λ ending. IsEnding schema.now book.now params.now.group
         ending.tail.items ending.fields) }
     ensures within { OnOk result (passed_by_close params.now schema.now book.now ≡ None) }

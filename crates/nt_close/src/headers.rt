@@ -1,6 +1,7 @@
 //! What a file's other parts say of its header.
 
 ghost use Rattle.std.specs.Prelude.{IfOk};
+ghost use Rattle.nt_schema.specs.Whole.{AreWhole};
 ghost use Rattle.nt_close.specs.Making.{AreHeaderFacts};
 
 use nt_meta::write_header;
@@ -20,6 +21,7 @@ pub(crate) struct HeaderFacts {
 /// What is said of the header of a schema.
 #[tactic(auto, unfolding(nt_layout::specs::Headers::header_object, nt_layout::specs::Headers::header_sum))]
 pub(crate) fn header_facts(alloc: Global, schema: &Schema) -> Result<HeaderFacts, AllocError>
+    requires { AreWhole schema.now }
     ensures { IfOk result (AreHeaderFacts schema.now) }
 {
     let header = write_header(alloc, schema)?;

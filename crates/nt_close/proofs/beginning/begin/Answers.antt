@@ -16,6 +16,6 @@ returns-clause-begun g c =
     let long : c.len.result ≡ length c.in_ok-blob.blob.items = search rules in
     begun-is _ _ _ c.in_ok-schema.ensures.rows c.in_ok-blob.ensures.within _ _ _ _ _ _ _ (g.D.Disk.state c.args.disk.now)
     (g.D.Disk.state c.room.new.self) (g.D.Disk.state c.write_head.new.disk) _
-    c.in_ok-book.ensures long c.in_ok-blob.ensures.place c.columns.ensures c.deref.ensures.value c.in_ok-blob.ensures.ok
+    c.in_ok-book.ensures long c.columns.ensures c.deref.ensures.value c.in_ok-blob.ensures.ok
     c.room.ensures c.requires.end
-    c.in_ok-write_head.ensures.ok c.in_ok-write_head.ensures.end c.write_head.ensures.out c.write_head.ensures.cause.later
+    c.in_ok-write_head.ensures.ok c.write_head.ensures.out c.write_head.ensures.cause.later

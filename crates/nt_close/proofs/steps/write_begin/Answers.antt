@@ -1,4 +1,4 @@
-use Rattle.std.proofs.Common.{refl, ◌∙◌}
+use Rattle.std.proofs.Common.{refl, ◌∙◌, rules}
 use Rattle.nt_close.specs.Steps.{torn_head, torn_blob, not_kept, begun_whole}
 use Rattle.nt_close.proofs.steps.write_begin.Goals as goal
 
@@ -15,7 +15,10 @@ returns-in_err-sync-clause-left g c h is =
     (_, c.in_err-sync.ensures.err ∙ c.in_ok-append-2.ensures.ok _ (c.in_ok-append.ensures.ok h is), not_kept refl)
 
 pub returns-clause-ok : goal.returns-clause-ok
-returns-clause-ok g c h is = c.in_ok-sync.ensures.ok _ (c.in_ok-append-2.ensures.ok _ (c.in_ok-append.ensures.ok h is))
+returns-clause-ok g c = record {
+  held = λ h is. c.in_ok-sync.ensures.ok _ (c.in_ok-append-2.ensures.ok _ (c.in_ok-append.ensures.ok h is));
+  end = search rules;
+}
 
 pub returns-clause-left : goal.returns-clause-left
 returns-clause-left g c h is = (

@@ -1,4 +1,4 @@
-use Rattle.std.proofs.Common.{refl, ◌∙◌}
+use Rattle.std.proofs.Common.{refl, ◌∙◌, rules}
 use Rattle.nt_close.specs.Steps.{torn_tail, torn_front, not_kept_shut, torn_first, not_kept_open, closed_whole}
 use Rattle.nt_close.proofs.steps.write_end.Goals as goal
 
@@ -26,9 +26,12 @@ returns-in_err-sync-2-clause-left g c h is =
     (_, c.in_err-sync-2.ensures.err ∙ c.in_ok-write_at-2.ensures.ok _ kept, not_kept_open refl)
 
 pub returns-clause-ok : goal.returns-clause-ok
-returns-clause-ok g c h is =
-    let kept = c.in_ok-sync.ensures.ok _ (c.in_ok-write_at.ensures.ok _ (c.in_ok-append.ensures.ok h is)) in
-    c.in_ok-sync-2.ensures.ok _ (c.in_ok-write_at-2.ensures.ok _ kept)
+returns-clause-ok g c = record {
+  held = λ h is.
+      let kept = c.in_ok-sync.ensures.ok _ (c.in_ok-write_at.ensures.ok _ (c.in_ok-append.ensures.ok h is)) in
+      c.in_ok-sync-2.ensures.ok _ (c.in_ok-write_at-2.ensures.ok _ kept);
+  end = search rules;
+}
 
 pub returns-clause-left : goal.returns-clause-left
 returns-clause-left g c h is =
