@@ -41,7 +41,8 @@ fn check_header(header: &[u8], limits: &Limits) -> Result<(), BeginError>
         (begun_len + blob_len (length header.now)) ≡ None) }
     ensures low { OnOk result (blob_len (length header.now) ≤ limits.now.range) }
     ensures end { OnOk result (begun_len + blob_len (length header.now) ≤ limits.now.file) }
-    ensures err { IfErr result (IsBeginPassed (first_passed limits.now (blob_len (length header.now) ∷ [])
+    ensures err { IfErr result (IsBeginPassed
+        (first_passed limits.now (blob_len (length header.now) ∷ [])
         (begun_len + blob_len (length header.now)))) }
 {
     let len = KEY + header.len() as u64;
@@ -80,8 +81,10 @@ fn header_of(alloc: Global, schema: &Schema, limits: &Limits) -> Result<Vec<u8>,
 /// Writes what begins a file for which there is memory.
 fn write_head<D: Disk>(disk: &mut D, blob: &[u8]) -> Result<(), Failed>
     requires { HasRoomToBegin (D.state disk.old) (226 + length blob.now) }
-    ensures ok { OnOk result (IsBegunWith (begun 0 0 0) blob.now (D.state disk.old) (D.state disk.new)) }
-    ensures left { BecomesSome (D.state disk.old).held (D.state disk.new).held (IsBegunSoFar (begun 0 0 0) blob.now) }
+    ensures ok { OnOk result (IsBegunWith (begun 0 0 0) blob.now (D.state disk.old)
+        (D.state disk.new)) }
+    ensures left { BecomesSome (D.state disk.old).held (D.state disk.new).held
+        (IsBegunSoFar (begun 0 0 0) blob.now) }
     ensures out { (D.state disk.new).out ≡ (D.state disk.old).out }
     ensures cause { HasCause (D.state disk.old).faults (D.state disk.new).faults result }
 {

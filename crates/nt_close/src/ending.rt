@@ -96,8 +96,10 @@ fn put_footer(
     requires { CanHaveFooter schema.now start lists.groups.items header.now }
     ensures ok { IfOk result (λ blobs. AddsFooter schema.now start lists.groups.items
         lists.bytes.items blobs.bytes.items blobs.anchor) }
-    ensures fits { OnOk result (blob_len (length (footer_with schema.now lists.groups.items)) ≤ limits.now.range) }
-    ensures err { IfErr result (IsPassedBy limits.now (blob_len (length (footer_with schema.now lists.groups.items)))) }
+    ensures fits { OnOk result
+        (blob_len (length (footer_with schema.now lists.groups.items)) ≤ limits.now.range) }
+    ensures err { IfErr result (IsPassedBy limits.now
+        (blob_len (length (footer_with schema.now lists.groups.items)))) }
 {
     let Lists { mut bytes, groups } = lists;
     let footer = write_footer(alloc, schema, &groups, header.sum)?;
@@ -127,8 +129,10 @@ fn blobs_of(
     requires { AreWhole schema.now }
     ensures ok { IfOk result (λ blobs. AreBlobsBehind schema.now book.now params.now.group
         blobs.bytes.items blobs.anchor) }
-    ensures fit { OnOk result (NonePassed params.now.limits (blobs_behind schema.now book.now params.now.group)) }
-    ensures err { IfErr result (ArePassedBy params.now.limits (blobs_behind schema.now book.now params.now.group)) }
+    ensures fit { OnOk result (NonePassed params.now.limits
+        (blobs_behind schema.now book.now params.now.group)) }
+    ensures err { IfErr result (ArePassedBy params.now.limits
+        (blobs_behind schema.now book.now params.now.group)) }
 {
     book.keeps();
     let header = header_facts(alloc, schema)?;

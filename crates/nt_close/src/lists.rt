@@ -92,9 +92,11 @@ fn put_list(
 ) -> Result<(), CloseError>
     requires some { from < to }
     requires inside { to ≤ length (book_clusters book.now) }
-    ensures ok { OnOk result (AddsList header_sum book.now (record { from = from; count = to - from })
+    ensures ok { OnOk result (AddsList header_sum book.now
+        (record { from = from; count = to - from })
         lists.old.bytes.items lists.new.bytes.items lists.old.groups.items lists.new.groups.items) }
-    ensures fits { OnOk result (list_len header_sum book.now (record { from = from; count = to - from }) ≤ limits.now.range) }
+    ensures fits { OnOk result (list_len header_sum book.now
+        (record { from = from; count = to - from }) ≤ limits.now.range) }
     ensures err { IfErr result (IsPassedBy limits.now
         (list_len header_sum book.now (record { from = from; count = to - from }))) }
 {
@@ -116,12 +118,15 @@ pub(crate) fn lists_of(
     header_sum: u64,
 ) -> Result<Lists, CloseError>
     ensures bytes { IfOk result (λ lists. lists.bytes.items
-        ≡ concat (lists_from header_sum book.now (book_end book.now) (spans book.now params.now.group))) }
+        ≡ concat (lists_from header_sum book.now (book_end book.now)
+        (spans book.now params.now.group))) }
     ensures groups { IfOk result (λ lists. lists.groups.items
         ≡ groups_from header_sum book.now (book_end book.now) (spans book.now params.now.group)) }
     ensures few { IfOk result (λ lists. length lists.groups.items < 2 ^ 32) }
-    ensures fit { OnOk result (NonePassed params.now.limits (map (list_len header_sum book.now) (spans book.now params.now.group))) }
-    ensures err { IfErr result (ArePassedBy params.now.limits (map (list_len header_sum book.now) (spans book.now params.now.group))) }
+    ensures fit { OnOk result (NonePassed params.now.limits
+        (map (list_len header_sum book.now) (spans book.now params.now.group))) }
+    ensures err { IfErr result (ArePassedBy params.now.limits
+        (map (list_len header_sum book.now) (spans book.now params.now.group))) }
 {
     let mut lists = Lists {
         bytes: Vec::new(alloc),

@@ -15,7 +15,8 @@ const FIRST: &[u8] = b"r";
 pub fn write_begin<D: Disk>(disk: &mut D, head: &[u8], blob: &[u8]) -> Result<(), Failed>
     requires { HasRoomToBegin (D.state disk.old) (length head.now + length blob.now) }
     ensures ok { OnOk result (IsBegunWith head.now blob.now (D.state disk.old) (D.state disk.new)) }
-    ensures left { BecomesSome (D.state disk.old).held (D.state disk.new).held (IsBegunSoFar head.now blob.now) }
+    ensures left { BecomesSome (D.state disk.old).held (D.state disk.new).held
+        (IsBegunSoFar head.now blob.now) }
     ensures out { (D.state disk.new).out ≡ (D.state disk.old).out }
     ensures cause { HasCause (D.state disk.old).faults (D.state disk.new).faults result }
 {
@@ -30,8 +31,10 @@ pub fn write_begin<D: Disk>(disk: &mut D, head: &[u8], blob: &[u8]) -> Result<()
 #[tactic(auto, using(crate::proofs::Apart::nothing_out))]
 pub fn write_end<D: Disk>(disk: &mut D, tail: &[u8], front: &[u8]) -> Result<(), Failed>
     requires { HasRoomToEnd (D.state disk.old) (length tail.now) (length front.now) }
-    ensures ok { OnOk result (IsEndedWith tail.now front.now (D.state disk.old) (D.state disk.new)) }
-    ensures left { BecomesSome (D.state disk.old).held (D.state disk.new).held (IsClosedSoFar tail.now front.now) }
+    ensures ok { OnOk result (IsEndedWith tail.now front.now (D.state disk.old)
+        (D.state disk.new)) }
+    ensures left { BecomesSome (D.state disk.old).held (D.state disk.new).held
+        (IsClosedSoFar tail.now front.now) }
     ensures out { (D.state disk.new).out ≡ [] }
     ensures cause { HasCause (D.state disk.old).faults (D.state disk.new).faults result }
 {

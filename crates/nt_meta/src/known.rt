@@ -26,7 +26,8 @@ impl Model for KnownColumns {
 
     ghost view = { λ k. k.columns.items };
 
-    ghost invariant = { λ k. (vec_len k.columns < 2 ^ 32) × AreLeast k.columns.items k.firsts.items };
+    ghost invariant = { λ k. (vec_len k.columns < 2 ^ 32)
+        × AreLeast k.columns.items k.firsts.items };
 }
 
 impl KnownColumns {
@@ -72,7 +73,8 @@ pub(crate) fn ends_before(cluster: &ClusterSummary, first: u64) -> bool
 }
 
 fn with_column(column: &KnownColumn, least: u64) -> u64
-    ensures { (cs : List KnownColumn) → least ≡ least_first cs → result ≡ least_first (column.now ∷ cs) }
+    ensures { (cs : List KnownColumn) → least ≡ least_first cs
+        → result ≡ least_first (column.now ∷ cs) }
 {
     if column.is_open && column.is_principal && column.first < least {
         column.first

@@ -81,7 +81,8 @@ fn count_elements(pages: &[PageItem]) -> u64
 
 fn count_column(lists: &[ColumnList], id: usize) -> u64
     requires { id < length lists.now }
-    ensures { (d : ColumnList) → result ≡ min (paged_elements (slice_index_or lists.now id d).pages) (2 ^ 64 - 1) }
+    ensures { (d : ColumnList) → result ≡ min (paged_elements (slice_index_or lists.now id d).pages)
+        (2 ^ 64 - 1) }
 {
     count_elements(lists[id].pages.as_slice())
 }

@@ -18,7 +18,8 @@ use std::alloc::Global;
 
 #[tactic(auto, unfolding(nt_pagelists::specs::Footers::extension_at))]
 fn read_extension(cur: &mut Cur, schema: &mut Schema) -> Result<(), MetaError>
-    ensures { Answers (λ _. (schema.new, cur.new)) defect_of result (extension_at schema.old cur.old) }
+    ensures { Answers (λ _. (schema.new, cur.new)) defect_of result
+        (extension_at schema.old cur.old) }
 {
     let mut inside = read_record(cur)?;
     if inside.left() != 0 {

@@ -21,7 +21,8 @@ const NOT_SIMPLE: u32 = 1 << 31;
 
 #[tactic(auto, unfolding(nt_pagelists::specs::ClusterGroups::minimum_entry_at))]
 fn read_minimum(cur: &mut Cur, entries: u64, frame: usize) -> Result<u64, MetaError>
-    ensures { Answers (λ n. (n, cur.new)) defect_of result (minimum_entry_at entries frame cur.old) }
+    ensures { Answers (λ n. (n, cur.new)) defect_of result
+        (minimum_entry_at entries frame cur.old) }
 {
     let word = read_u64(cur)?;
     if word != entries {
@@ -32,7 +33,8 @@ fn read_minimum(cur: &mut Cur, entries: u64, frame: usize) -> Result<u64, MetaEr
 
 #[tactic(auto, unfolding(nt_pagelists::specs::ClusterGroups::entry_span_at))]
 fn read_span(cur: &mut Cur, entries: u64, frame: usize) -> Result<u64, MetaError>
-    ensures told { Answers (λ n. (n, cur.new)) defect_of result (entry_span_at entries frame cur.old) }
+    ensures told { Answers (λ n. (n, cur.new)) defect_of result
+        (entry_span_at entries frame cur.old) }
     ensures few { IfOk result (λ n. entries + n < 2 ^ 64) }
 {
     let word = read_u64(cur)?;
@@ -44,7 +46,8 @@ fn read_span(cur: &mut Cur, entries: u64, frame: usize) -> Result<u64, MetaError
 
 #[tactic(auto, unfolding(nt_pagelists::specs::ClusterGroups::cluster_count_at))]
 fn read_count(cur: &mut Cur, clusters: u32, frame: usize) -> Result<u32, MetaError>
-    ensures told { Answers (λ n. (n, cur.new)) defect_of result (cluster_count_at clusters frame cur.old) }
+    ensures told { Answers (λ n. (n, cur.new)) defect_of result
+        (cluster_count_at clusters frame cur.old) }
     ensures few { IfOk result (λ n. clusters + n < 2 ^ 32) }
 {
     let word = read_u32(cur)?;
@@ -72,7 +75,8 @@ fn read_group_link(cur: &mut Cur, frame: usize) -> Result<Link, MetaError>
 
 #[tactic(auto, unfolding(nt_pagelists::specs::ClusterGroups::group_at))]
 fn read_group(cur: &mut Cur, entries: u64, clusters: u32) -> Result<Group, MetaError>
-    ensures told { Answers (λ g. (g, cur.new)) defect_of result (group_at entries clusters cur.old) }
+    ensures told { Answers (λ g. (g, cur.new)) defect_of result
+        (group_at entries clusters cur.old) }
     ensures entries { IfOk result (λ g. entries + g.span < 2 ^ 64) }
     ensures clusters { IfOk result (λ g. clusters + g.clusters < 2 ^ 32) }
 {
@@ -94,7 +98,8 @@ fn read_group(cur: &mut Cur, entries: u64, clusters: u32) -> Result<Group, MetaE
 /// Reads so many groups. Nothing is taken on the word of the count.
 fn push_groups(cur: &mut Cur, count: u32, groups: &mut Vec<Group>) -> Result<(), MetaError>
     requires { groups.old.items ≡ [] }
-    ensures { Answers (λ _. (groups.new.items, cur.new)) defect_of result (groups_on count 0 0 [] cur.old) }
+    ensures { Answers (λ _. (groups.new.items, cur.new)) defect_of result
+        (groups_on count 0 0 [] cur.old) }
 {
     let mut entries = 0;
     let mut clusters = 0;

@@ -32,7 +32,8 @@ fn read_count(cur: &mut Cur, cluster: u32, column: u32) -> Result<u32, MetaError
 
 #[tactic(auto, unfolding(nt_pagelists::specs::Pages::page_size_at))]
 fn read_size(cur: &mut Cur, cluster: u32, column: u32, item: usize) -> Result<u32, MetaError>
-    ensures { Answers (λ n. (n, cur.new)) defect_of result (page_size_at cluster column item cur.old) }
+    ensures { Answers (λ n. (n, cur.new)) defect_of result
+        (page_size_at cluster column item cur.old) }
 {
     let word = read_u32(cur)?;
     if word >= TOP {
@@ -43,7 +44,8 @@ fn read_size(cur: &mut Cur, cluster: u32, column: u32, item: usize) -> Result<u3
 
 #[tactic(auto, unfolding(nt_pagelists::specs::Pages::page_item_at))]
 fn read_item(cur: &mut Cur, cluster: u32, column: u32) -> Result<PageItem, MetaError>
-    ensures { Answers (λ page. (page, cur.new)) defect_of result (page_item_at cluster column cur.old) }
+    ensures { Answers (λ page. (page, cur.new)) defect_of result
+        (page_item_at cluster column cur.old) }
 {
     let item = cur.place();
     let word = read_count(cur, cluster, column)?;

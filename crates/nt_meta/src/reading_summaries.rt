@@ -23,7 +23,8 @@ const FLAGS: u64 = 1 << 56;
 
 #[tactic(auto, unfolding(nt_pagelists::specs::Clusters::first_entry_at))]
 fn read_first(cur: &mut Cur, number: u32, entries: u128, frame: usize) -> Result<u64, MetaError>
-    ensures { Answers (λ n. (n, cur.new)) defect_of result (first_entry_at number entries frame cur.old) }
+    ensures { Answers (λ n. (n, cur.new)) defect_of result
+        (first_entry_at number entries frame cur.old) }
 {
     let word = read_u64(cur)?;
     if u128::from(word) != entries {
@@ -34,7 +35,8 @@ fn read_first(cur: &mut Cur, number: u32, entries: u128, frame: usize) -> Result
 
 #[tactic(auto, unfolding(nt_pagelists::specs::Clusters::entry_count_at))]
 fn read_entries(cur: &mut Cur, number: u32, frame: usize) -> Result<u64, MetaError>
-    ensures told { Answers (λ n. (n, cur.new)) defect_of result (entry_count_at number frame cur.old) }
+    ensures told { Answers (λ n. (n, cur.new)) defect_of result
+        (entry_count_at number frame cur.old) }
     ensures few { IfOk result (λ n. n < 2 ^ 56) }
 {
     let word = read_u64(cur)?;
@@ -46,7 +48,8 @@ fn read_entries(cur: &mut Cur, number: u32, frame: usize) -> Result<u64, MetaErr
 
 #[tactic(auto, unfolding(nt_pagelists::specs::Clusters::summary_at))]
 fn read_summary(cur: &mut Cur, number: u32, entries: u128) -> Result<ClusterSummary, MetaError>
-    ensures told { Answers (λ k. (k, cur.new)) defect_of result (summary_at number entries cur.old) }
+    ensures told { Answers (λ k. (k, cur.new)) defect_of result
+        (summary_at number entries cur.old) }
     ensures few { IfOk result (λ k. k.entries < 2 ^ 56) }
 {
     let frame = cur.place();

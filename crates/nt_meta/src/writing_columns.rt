@@ -25,7 +25,8 @@ fn negative(count: u32) -> u32
 /// A page of a cluster whose payload begins there.
 fn put_page(out: &mut FrameOut, payload: u64, page: &PageMeta) -> Result<(), AllocError>
     requires { payload + page.now.place < 2 ^ 64 }
-    ensures { OnOk result (out.new ≡ bytes_added (page_item_text (page_item payload page.now)) out.old) }
+    ensures { OnOk result (out.new ≡ bytes_added
+        (page_item_text (page_item payload page.now)) out.old) }
 {
     out.put_u32le(negative(page.count))?;
     out.put_u32le(page.size)?;
@@ -36,7 +37,8 @@ fn put_page(out: &mut FrameOut, payload: u64, page: &PageMeta) -> Result<(), All
 #[tactic(auto, using(crate::proofs::Appended::made_steps))]
 fn put_pages(out: &mut FrameOut, payload: u64, pages: &[PageMeta]) -> Result<(), AllocError>
     requires { AllByRecursion (λ p. payload + p.place < 2 ^ 64) pages.now }
-    ensures { OnOk result (out.new ≡ bytes_added (page_item_texts (map (page_item payload) pages.now)) out.old) }
+    ensures { OnOk result (out.new ≡ bytes_added
+        (page_item_texts (map (page_item payload) pages.now)) out.old) }
 {
     for page in pages {
         put_page(out, payload, page)?;
@@ -45,7 +47,8 @@ fn put_pages(out: &mut FrameOut, payload: u64, pages: &[PageMeta]) -> Result<(),
 }
 
 fn put_offset(out: &mut FrameOut, offset: u64) -> Result<(), AllocError>
-    ensures { OnOk result (out.new ≡ bytes_added (to_le_bytes w64 offset ++ to_le_bytes w32 0) out.old) }
+    ensures { OnOk result (out.new ≡ bytes_added
+        (to_le_bytes w64 offset ++ to_le_bytes w32 0) out.old) }
 {
     out.put_u64le(offset)?;
     out.put_u32le(0)?; // no compression
@@ -100,7 +103,8 @@ fn put_columns(
 /// The columns of a cluster.
 pub(crate) fn put_cluster(out: &mut FrameOut, book: &Book, cluster: u32) -> Result<(), AllocError>
     requires { cluster < length (book_clusters book.now) }
-    ensures { OnOk result (out.new ≡ bytes_added (cluster_list_text (listed_cluster book.now cluster)) out.old) }
+    ensures { OnOk result (out.new ≡ bytes_added
+        (cluster_list_text (listed_cluster book.now cluster)) out.old) }
 {
     book.keeps();
     let lists = book.meta(cluster).pages.as_slice();

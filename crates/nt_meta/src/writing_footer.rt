@@ -61,7 +61,8 @@ fn put_groups(out: &mut FrameOut, groups: &[Group]) -> Result<(), AllocError>
 #[tactic(auto, using(crate::proofs::Appended::list_of))]
 fn put_group_list(out: &mut FrameOut, groups: &[Group]) -> Result<(), AllocError>
     requires { length groups.now < 2 ^ 32 }
-    ensures { OnOk result (out.new ≡ bytes_added (list_frame (length groups.now) (group_texts groups.now)) out.old) }
+    ensures { OnOk result (out.new ≡ bytes_added
+        (list_frame (length groups.now) (group_texts groups.now)) out.old) }
 {
     out.begin_list(groups.len() as u32)?;
     put_groups(out, groups)?;
@@ -83,7 +84,8 @@ fn put_rows(out: &mut FrameOut, schema: &Schema) -> Result<(), AllocError>
 
 fn put_extension(out: &mut FrameOut, schema: &Schema) -> Result<(), AllocError>
     requires { AreWhole schema.now }
-    ensures { OnOk result (out.new ≡ bytes_added (record_frame (extension_text schema.now)) out.old) }
+    ensures { OnOk result (out.new ≡ bytes_added
+        (record_frame (extension_text schema.now)) out.old) }
 {
     out.begin_record()?;
     put_rows(out, schema)?;
@@ -99,7 +101,8 @@ fn put_footer(
 ) -> Result<(), AllocError>
     requires few { length groups.now < 2 ^ 32 }
     requires whole { AreWhole schema.now }
-    ensures { OnOk result (out.new ≡ bytes_added (footer_text header_sum schema.now groups.now) out.old) }
+    ensures { OnOk result (out.new ≡ bytes_added
+        (footer_text header_sum schema.now groups.now) out.old) }
 {
     out.put_u64le(0)?; // no feature flags
     out.put_u64le(header_sum)?;
@@ -118,7 +121,8 @@ pub(crate) fn footer_payload(
 ) -> Result<Vec<u8>, AllocError>
     requires few { length groups.now < 2 ^ 32 }
     requires whole { AreWhole schema.now }
-    ensures { IfOk result (λ payload. payload.items ≡ footer_text header_sum schema.now groups.now) }
+    ensures { IfOk result (λ payload. payload.items
+        ≡ footer_text header_sum schema.now groups.now) }
 {
     let mut out = FrameOut::new(Vec::new(alloc));
     put_footer(&mut out, schema, groups, header_sum)?;

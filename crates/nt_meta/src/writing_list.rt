@@ -21,7 +21,8 @@ const PAGE_LIST: u16 = 3;
 #[tactic(auto, using(crate::proofs::Appended::record_of))]
 fn put_summary(out: &mut FrameOut, book: &Book, cluster: u32) -> Result<(), AllocError>
     requires { cluster < length (book_clusters book.now) }
-    ensures { OnOk result (out.new ≡ bytes_added (summary_text (listed_cluster book.now cluster).summary) out.old) }
+    ensures { OnOk result (out.new ≡ bytes_added
+        (summary_text (listed_cluster book.now cluster).summary) out.old) }
 {
     out.begin_record()?;
     out.put_u64le(book.first(cluster))?;
@@ -34,7 +35,8 @@ fn put_summary(out: &mut FrameOut, book: &Book, cluster: u32) -> Result<(), Allo
 fn put_summaries(out: &mut FrameOut, book: &Book, from: u32, to: u32) -> Result<(), AllocError>
     requires some { from ≤ to }
     requires inside { to ≤ length (book_clusters book.now) }
-    ensures { OnOk result (out.new ≡ bytes_added (summary_texts (listed_clusters book.now from (to - from))) out.old) }
+    ensures { OnOk result (out.new ≡ bytes_added
+        (summary_texts (listed_clusters book.now from (to - from))) out.old) }
 {
     for cluster in from..to {
         put_summary(out, book, cluster)?;
@@ -46,7 +48,8 @@ fn put_summaries(out: &mut FrameOut, book: &Book, from: u32, to: u32) -> Result<
 fn put_clusters(out: &mut FrameOut, book: &Book, from: u32, to: u32) -> Result<(), AllocError>
     requires some { from ≤ to }
     requires inside { to ≤ length (book_clusters book.now) }
-    ensures { OnOk result (out.new ≡ bytes_added (cluster_list_texts (listed_clusters book.now from (to - from))) out.old) }
+    ensures { OnOk result (out.new ≡ bytes_added
+        (cluster_list_texts (listed_clusters book.now from (to - from))) out.old) }
 {
     for cluster in from..to {
         put_cluster(out, book, cluster)?;
@@ -59,7 +62,8 @@ fn put_summary_list(out: &mut FrameOut, book: &Book, from: u32, to: u32) -> Resu
     requires some { from ≤ to }
     requires inside { to ≤ length (book_clusters book.now) }
     ensures { OnOk result (out.new ≡ bytes_added
-        (list_frame (to - from) (summary_texts (listed_clusters book.now from (to - from)))) out.old) }
+        (list_frame (to - from) (summary_texts
+        (listed_clusters book.now from (to - from)))) out.old) }
 {
     out.begin_list(to - from)?;
     put_summaries(out, book, from, to)?;
@@ -72,7 +76,8 @@ fn put_cluster_list(out: &mut FrameOut, book: &Book, from: u32, to: u32) -> Resu
     requires some { from ≤ to }
     requires inside { to ≤ length (book_clusters book.now) }
     ensures { OnOk result (out.new ≡ bytes_added
-        (list_frame (to - from) (cluster_list_texts (listed_clusters book.now from (to - from)))) out.old) }
+        (list_frame (to - from) (cluster_list_texts
+        (listed_clusters book.now from (to - from)))) out.old) }
 {
     out.begin_list(to - from)?;
     put_clusters(out, book, from, to)?;
