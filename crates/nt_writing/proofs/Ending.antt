@@ -28,7 +28,7 @@ use Rattle.nt_writing.specs.declared.error.ContextError.{ContextError}
 use Rattle.nt_writing.specs.declared.error.ContextError.TheVariants.{Text, Limit, Outside, Memory}
 use Rattle.nt_writing.specs.declared.seats.Seat.{Seat}
 use Rattle.nt_writing.specs.Reading.{left_of, GivesJust}
-use Rattle.nt_writing.specs.Filling.{HaveFaults, IsFor, IsOpen, IsSameContext}
+use Rattle.nt_writing.specs.Filling.{HaveFaults, IsFor, IsOpen, IsAtStart, IsSameContext}
 use Rattle.nt_writing.specs.Running.{Ended}
 use Rattle.nt_writing.specs.Seats.{DiskPass, EndsTold, Ran}
 use Rattle.nt_writing.proofs.Committing.{committed-first, committed-none}
@@ -187,7 +187,7 @@ new_context committer t cluster page pass pen columns =
 
 module _ {D P : Type 0} (committer : TurnState (Birth D)) (t : Table) (cluster page : ℕ) (pass : DiskPass D) (pen : P) (c : DiskContext D P)
     (is : c ≡ new_context committer t cluster page pass pen c.columns) where
-  pub new_open : 0 < cluster → IsOpen c
+  new_open : 0 < cluster → IsOpen c
   new_open some =
       let there : IsOpen (new_context committer t cluster page pass pen c.columns) = record { alive = refl; room = some } in
       subst (λ (d : DiskContext D P). IsOpen d) (sym is) there
@@ -199,5 +199,10 @@ module _ {D P : Type 0} (committer : TurnState (Birth D)) (t : Table) (cluster p
     rows = subst (λ (s : Table). Rows fields plain s) (sym (ap (λ (d : DiskContext D P). d.table) is)) rows;
   }
 
-  pub new_empty : gathered c ≡ []
-  new_empty = ap (λ (d : DiskContext D P). gathered d) is
+  pub new_start : (lines : LinesState) → 0 < cluster → pass.own ≡ [] → lines.number ≡ 0 → IsAtStart lines c
+  new_start lines some unused first = record {
+    is_open = new_open some;
+    unused = ap (λ (d : DiskContext D P). d.pass.own) is ∙ unused;
+    empty = ap (λ (d : DiskContext D P). gathered d) is;
+    first = first;
+  }

@@ -1,5 +1,5 @@
 -- What a context has done with the entries that it took.
-use Rattle.std.specs.Prelude.{◌≡◌, ℕ, ◌<◌, Bool, List, ◌++◌, map, length, Option, Some, IsSome, slice_get}
+use Rattle.std.specs.Prelude.{◌≡◌, ℕ, ◌<◌, Bool, List, [], ◌++◌, map, length, Option, Some, IsSome, slice_get}
 use Rattle.std.specs.List.{AllByRecursion, flat_map}
 use Rattle.nt_types.specs.ShapeData.{MemberData}
 use Rattle.nt_types.specs.TreeData.{TreesData}
@@ -13,6 +13,7 @@ use Rattle.nt_machine.specs.declared.entry.Entry.{Entry}
 use Rattle.nt_machine.specs.Faults.{HasFaults}
 use Rattle.nt_machine.specs.History.{Cluster, ranges_of}
 use Rattle.nt_book.specs.declared.meta.ClusterMeta.{ClusterMeta}
+use Rattle.nt_event.specs.Lines.{LinesState}
 use Rattle.nt_fill.specs.Context.{gathered}
 use Rattle.nt_fill.specs.Flushes.{DiskContext}
 use Rattle.nt_dealing.specs.Limits.{AreKeptOf, NextPasses}
@@ -51,6 +52,13 @@ module _ {D P : Type 0} where
   pub record IsOpen (c : DiskContext D P) : Type 0 where
     pub alive : IsSome c.pen
     pub room : length (gathered c) < c.cluster
+
+  -- the context is open, and has neither read nor written anything
+  pub record IsAtStart (lines : LinesState) (c : DiskContext D P) : Type 0 where
+    pub is_open : IsOpen c
+    pub unused : c.pass.own ≡ []
+    pub empty : gathered c ≡ []
+    pub first : lines.number ≡ 0
 
   module _ (state : D → DiskState) where
     -- what the disk held at the beginning

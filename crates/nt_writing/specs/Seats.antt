@@ -1,7 +1,9 @@
 -- The seat of a context, before and after it ran.
-use Rattle.std.specs.Prelude.{⊤, ◌≡◌, ◌⊎◌, ◌≤◌, ℕ, List, [], Some, None, IsSome, Result, Ok, Err}
+use Rattle.std.specs.Prelude.{⊤, ◌≡◌, ◌⊎◌, ◌≤◌, ℕ, Bool, List, [], length, Some, None, IsSome, Result, Ok, Err}
 use Rattle.nt_types.specs.ShapeData.{MemberData}
 use Rattle.nt_types.specs.TreeData.{TreesData}
+use Rattle.nt_types.specs.Rules.{AreFields}
+use Rattle.nt_grammar.specs.Rows.{Rows}
 use Rattle.nt_grammar.specs.Table.{Table}
 use Rattle.nt_outside.specs.Disk.{DiskState}
 use Rattle.nt_outside.specs.Faults.{Rose}
@@ -24,6 +26,12 @@ use Rattle.nt_writing.specs.Filling.{HaveFaults}
 -- the pass of a context over a disk
 abbrev pub DiskPass : Type 0 → Type 0
 DiskPass D = PassState (Entry ClusterMeta) (Birth D)
+
+-- a schema of these fields, which keep the rules of a schema text, with as many columns as the committer's clusters have
+pub record IsSchemaFor {D : Type 0} (committer : TurnState (Birth D)) (fields : List MemberData) (plain : Bool) (t : Table) : Type 0 where
+  pub rules : AreFields fields
+  pub rows : Rows fields plain t
+  pub columns : length t.columns ≡ committer.birth.columns
 
 module _ {D S P : Type 0} where
   -- a context that has read and written nothing, with a pass of the committer and a pen

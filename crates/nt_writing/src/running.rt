@@ -1,13 +1,13 @@
 //! A context from the first line of its input to the last.
 
-ghost use Rattle.std.specs.Prelude.{◌≡◌, ◌≤◌, ℕ, List, [], length, Option};
+ghost use Rattle.std.specs.Prelude.{◌≤◌, ℕ, List, length, Option};
 ghost use Rattle.nt_types.specs.ShapeData.{parts_of};
 ghost use Rattle.nt_types.specs.Views.{members_view};
 ghost use Rattle.nt_types.specs.TreeData.{TreesData};
 ghost use Rattle.nt_fill.specs.Context.{gathered};
 ghost use Rattle.nt_fill.specs.Flushes.{DiskContext};
 ghost use Rattle.nt_writing.specs.Reading.{left_of};
-ghost use Rattle.nt_writing.specs.Filling.{IsFor, IsOpen, HasTaken};
+ghost use Rattle.nt_writing.specs.Filling.{IsFor, IsOpen, IsAtStart, HasTaken};
 ghost use Rattle.nt_writing.specs.Running.{GoesOn, ReadsLine, Ended};
 ghost use Rattle.nt_writing.specs.Taking.{WritesRest};
 
@@ -82,10 +82,7 @@ pub(crate) fn read_all<D: Disk, S: Source, G: Gate>(
     fill: &mut FillContext<'_, D>,
 ) -> Result<(), ContextError>
     requires fields { IsFor (members_view fields.now) fill.old }
-    requires is_open { IsOpen fill.old }
-    requires unused { fill.old.pass.own ≡ [] }
-    requires empty { gathered fill.old ≡ [] }
-    requires first { (left_of S.state lines.old).number ≡ 0 }
+    requires start { IsAtStart (left_of S.state lines.old) fill.old }
     ensures ended { Ended D.state (parts_of (members_view fields.now)) (left_of S.state lines.old).left fill.old
         (left_of S.state lines.old) (left_of S.state lines.new) fill.new result }
     ensures later { (left_of S.state lines.old).faults ≤ (left_of S.state lines.new).faults }

@@ -1,12 +1,10 @@
 //! Contexts that run beside each other.
 
-ghost use Rattle.std.specs.Prelude.{◌≡◌, ◌<◌, ℕ, [], Some, None, All, vec_len, slice_index_or, length};
+ghost use Rattle.std.specs.Prelude.{◌≡◌, ◌<◌, ℕ, [], Some, None, All, vec_len, slice_index_or};
 ghost use Rattle.nt_types.specs.Views.{members_view};
-ghost use Rattle.nt_types.specs.Rules.{AreFields};
-ghost use Rattle.nt_grammar.specs.Rows.{Rows};
 ghost use Rattle.nt_commit.specs.Holds.{IsPassOf};
 ghost use Rattle.nt_writing.specs.Reading.{left_of};
-ghost use Rattle.nt_writing.specs.Seats.{IsFresh, Ran};
+ghost use Rattle.nt_writing.specs.Seats.{IsSchemaFor, IsFresh, Ran};
 
 use crate::error::ContextError;
 use crate::running::read_all;
@@ -58,9 +56,7 @@ fn run_context<D: Disk, S: Source, G: Gate>(
     pass: Pass<Locked<D>>,
     pen: D::Pen,
 ) -> (Pass<Locked<D>>, Option<D::Pen>, Result<(), ContextError>)
-    requires rules { AreFields (members_view fields.now) }
-    requires rows { Rows (members_view fields.now) params.now.plain schema.now }
-    requires columns { length schema.now.columns ≡ committer.now.birth.columns }
+    requires schema { IsSchemaFor committer.now (members_view fields.now) params.now.plain schema.now }
     requires pass { IsPassOf committer.now pass × (pass.own ≡ []) }
     requires first { (left_of S.state lines.old).number ≡ 0 }
     ensures { Ran D.state S.state (members_view fields.now) schema.now params.now committer.now
@@ -88,9 +84,7 @@ fn run_one<D: Disk, S: Source, G: Gate>(
     gate: &G,
     seat: &mut SeatOf<D, S>,
 )
-    requires rules { AreFields (members_view fields.now) }
-    requires rows { Rows (members_view fields.now) params.now.plain schema.now }
-    requires columns { length schema.now.columns ≡ committer.now.birth.columns }
+    requires schema { IsSchemaFor committer.now (members_view fields.now) params.now.plain schema.now }
     requires fresh { IsFresh S.state committer.now seat.old }
     ensures { Ran D.state S.state (members_view fields.now) schema.now params.now committer.now
         seat.old seat.new }
@@ -132,9 +126,7 @@ where
     D::Ext: Send,
     D::Pen: Send,
     requires some { 0 < vec_len seats.old }
-    requires rules { AreFields (members_view fields.now) }
-    requires rows { Rows (members_view fields.now) params.now.plain schema.now }
-    requires columns { length schema.now.columns ≡ committer.now.birth.columns }
+    requires schema { IsSchemaFor committer.now (members_view fields.now) params.now.plain schema.now }
     requires fresh { All (IsFresh S.state committer.now) seats.old.items }
     ensures count { vec_len seats.new ≡ vec_len seats.old }
     ensures ran { (i : ℕ) (d : _) → i < vec_len seats.old

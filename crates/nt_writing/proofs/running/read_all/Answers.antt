@@ -11,10 +11,10 @@ pub loop-count-init : goal.loop-count-init
 loop-count-init g c =
     let lines = left_of g.S.Source.state c.args.lines.now in
     record {
-      on = begun g.D.Disk.state (parts_of (members_view c.args.fields.now)) lines.left c.args.fill.now lines refl c.requires.first
-          c.requires.is_open c.requires.unused c.requires.empty;
-      counted = c.requires.first;
-      low = omega (arith, c.requires.first);
+      on = begun g.D.Disk.state (parts_of (members_view c.args.fields.now)) lines.left c.args.fill.now lines refl c.requires.start.first
+          c.requires.start.is_open c.requires.start.unused c.requires.start.empty;
+      counted = c.requires.start.first;
+      low = omega (arith, c.requires.start.first);
       later = omega arith;
     }
 

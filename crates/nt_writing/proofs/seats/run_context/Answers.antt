@@ -1,25 +1,21 @@
 use Rattle.std.proofs.Common.{sym, ap, refl, Some}
 use Rattle.nt_types.specs.Views.{members_view}
 use Rattle.nt_fill.specs.Flushes.{DiskContext}
-use Rattle.nt_writing.proofs.Ending.{ended_ran, unbegun, new_open, new_for, new_empty}
+use Rattle.nt_writing.specs.Reading.{left_of}
+use Rattle.nt_writing.proofs.Ending.{ended_ran, unbegun, new_start, new_for}
 use Rattle.nt_writing.proofs.seats.run_context.Goals as goal
 
 pub read_all-ended-requires-clause-fields : goal.read_all-ended-requires-clause-fields
 read_all-ended-requires-clause-fields g c =
     new_for c.args.committer.now c.args.schema.now c.args.params.now.cluster c.args.params.now.page c.args.pass c.args.pen c.in-Ok.fill
     c.in-Ok.ensures.ok
-    (members_view c.args.fields.now) c.args.params.now.plain c.requires.rules c.requires.rows
+    (members_view c.args.fields.now) c.args.params.now.plain c.requires.schema.rules c.requires.schema.rows
 
-pub read_all-ended-requires-clause-is_open : goal.read_all-ended-requires-clause-is_open
-read_all-ended-requires-clause-is_open g c =
-    new_open c.args.committer.now c.args.schema.now c.args.params.now.cluster c.args.params.now.page c.args.pass c.args.pen c.in-Ok.fill
-    c.in-Ok.ensures.ok
-    c.args.params.now.cluster_range.0
-
-pub read_all-ended-requires-clause-empty : goal.read_all-ended-requires-clause-empty
-read_all-ended-requires-clause-empty g c =
-    new_empty c.args.committer.now c.args.schema.now c.args.params.now.cluster c.args.params.now.page c.args.pass c.args.pen c.in-Ok.fill
-    c.in-Ok.ensures.ok
+pub read_all-ended-requires-clause-start : goal.read_all-ended-requires-clause-start
+read_all-ended-requires-clause-start g c =
+    new_start c.args.committer.now c.args.schema.now c.args.params.now.cluster c.args.params.now.page c.args.pass c.args.pen c.in-Ok.fill
+    c.in-Ok.ensures.ok (left_of g.S.Source.state c.args.lines.now)
+    c.args.params.now.cluster_range.0 c.requires.pass.1 c.requires.first
 
 pub returns-in-Ok : goal.returns-in-Ok
 returns-in-Ok g c =

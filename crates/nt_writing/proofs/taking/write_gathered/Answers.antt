@@ -8,4 +8,4 @@ pub returns-in-Err : goal.returns-in-Err
 returns-in-Err g c =
     subst (λ (e : ContextError). Writes g.D.Disk.state c.args.fill.now c.flush.new.self (Err e)) (sym c.from.ensures)
     (write_refused g.D.Disk.state c.args.fill.now c.flush.new.self c.in-Err.error
-    (c.in-Err.ensures.limits c.requires.some) c.in-Err.ensures.kept c.in-Err.ensures.fault)
+    (c.in-Err.ensures.limits c.requires.some) c.in-Err.ensures.refused.kept c.in-Err.ensures.refused.fault)
