@@ -1,2 +1,4 @@
 pub mod Back
 pub mod Sums
+pub mod Counting
+pub mod Adding

@@ -1,4 +1,5 @@
 pub mod Numbers
 pub mod Totals
+pub mod Adding
 pub mod Lines
 pub mod Made
