@@ -83,7 +83,8 @@ module _ (contexts : ℕ) (order : List ℕ) (before : List (List TreesData)) (c
       at true same =
           let same_place : j ≡ i = eqb-true j i same in
           ap (λ (k : ℕ). get_or (with_named (Some k) c old) i d) same_place
-          ∙ (get_or-set_same old i (with_cluster c (get_or old i empty_total)) d (let long = length-totals_of contexts order before in omega (arith, less, long))
+          ∙ (get_or-set_same old i (with_cluster c (get_or old i empty_total)) d
+          (let long = length-totals_of contexts order before in omega (arith, less, long))
           ∙ (ap (with_cluster c) (totals-at contexts order before i empty_total less)
           ∙ sym (context_total-push (named_clusters i order before) c)))
       at false differ =

@@ -62,11 +62,13 @@ pub made_total-is : (most events s : ℕ) → 0 < most → events ≤ most_event
     → context_total (chunks most (events_behind events s)) ≡ made_total most events s
 made_total-is most events s some h =
     let made = events_behind events s in
-    let long : length (chunks most made) ≡ div_ceil events most = length-chunks most made ∙ ap (λ (n : ℕ). div_ceil n most) (length-events_behind events s) in
+    let long : length (chunks most made) ≡ div_ceil events most = length-chunks most made
+    ∙ ap (λ (n : ℕ). div_ceil n most) (length-events_behind events s) in
     let joined = chunks-joined most made some in
     let entries : sum_by length (chunks most made) ≡ events =
     sym (length-flat_map (λ (l : List TreesData). l) (chunks most made)) ∙ (ap length joined ∙ length-events_behind events s) in
-    let sum : sum_by entries_sum (chunks most made) ≡ entries_sum made = sum_by-joined entry_sum (chunks most made) ∙ ap entries_sum joined in
+    let sum : sum_by entries_sum (chunks most made) ≡ entries_sum made = sum_by-joined entry_sum (chunks most made)
+    ∙ ap entries_sum joined in
     let below = events-below events s in
     let clusters_fit = few events most some h in
     let one : counted_to (length (chunks most made)) ≡ div_ceil events most = ap counted_to long ∙ omega (arith, clusters_fit) in
