@@ -43,8 +43,7 @@ fn can_count(out: &ColumnSet, len: usize, more: usize) -> bool
 /// Makes room for so many more elements in a column, and gives how many it has. What ends of 32
 /// bits can't count has no room either.
 pub fn reserve_column(out: &mut ColumnSet, column: u32, more: usize) -> Result<usize, AllocError>
-    requires count { length out.old ≤ 2 ^ 32 }
-    requires column { column < length out.old }
+    requires column { (column < length out.old) × (length out.old ≤ 2 ^ 32) }
     ensures columns { columns_of out.new ≡ columns_of out.old }
     ensures kept { (k : ℕ) → capacity_at out.old k ≤ capacity_at out.new k }
     ensures ok { OnOk result (HasRoomIn out.new column more) }
