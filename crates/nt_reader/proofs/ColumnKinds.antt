@@ -15,7 +15,7 @@ use Rattle.nt_types.specs.declared.column_type.ColumnType.TheVariants.{SplitInde
 use Rattle.nt_column.specs.Column.{Column, empty}
 use Rattle.nt_grammar.specs.declared.rows.ColumnRow.{ColumnRow}
 use Rattle.nt_files.specs.Clusters.{column_kinds, kind_of_code}
-use Rattle.nt_reader.specs.Columns.{kind_or_bit, kept_empty}
+use Rattle.nt_reader.specs.Columns.{kind_or_bit, kept_empty, AreOfTypes}
 
 -- each type is found by its code
 kind-found : (t : ColumnType) → kind_of_code (code_of t) ≡ Some t
@@ -41,6 +41,10 @@ kind-found SplitInt64 = refl
 kind-found SplitUInt64 = refl
 kind-found SplitIndex32 = refl
 kind-found SplitIndex64 = refl
+
+-- no two types share a code
+pub code-kind : (a b : ColumnType) → code_of a ≡ code_of b → a ≡ b
+code-kind a b same = some_is a b (sym (kind-found a) ∙ (ap kind_of_code same ∙ kind-found b))
 
 -- what is found passes
 found-passes : (p : ColumnType → Bool) (ts : List ColumnType) (t : ColumnType) → find p ts ≡ Some t → p t ≡ true
@@ -85,3 +89,23 @@ pub kinds-all : (rows : List ColumnRow) (n : ℕ) (kinds given : List ColumnType
 kinds-all rows n kinds given cs is le same made =
     made ∙ ap (λ (l : List ColumnType). map empty l) (same ∙ is ∙ ap (λ (l : List ColumnRow). map kept_kind l) (take_all n rows le))
     ∙ empty-all rows
+
+-- one column more is of its row's type
+pub types-more : (rows : List ColumnRow) (cs : List Column) (id : ℕ) (row : ColumnRow) (c : Column)
+    → AreOfTypes (take id rows) (take id cs) → slice_get cs id ≡ Some c → id < length cs
+    → slice_get rows id ≡ Some row → id < length rows → c.kind ≡ kept_kind row → AreOfTypes (take (id + 1) rows) (take (id + 1) cs)
+types-more rows cs id row c so_far here within there lt is =
+    let emptied = λ (x : Column). empty x.kind in
+    let front : List Column = map kept_empty (take id rows) in
+    map_more emptied cs id c within
+    ∙ (ap (λ (x : Column). map emptied (take id cs) ++ empty x.kind ∷ []) (get_or_from_slice_get cs id c c here)
+    ∙ (ap (λ (l : List Column). l ++ empty c.kind ∷ []) so_far
+    ∙ (ap (λ (k : ColumnType). front ++ empty k ∷ []) is
+    ∙ (ap (λ (r : ColumnRow). front ++ kept_empty r ∷ []) (sym (get_or_from_slice_get rows id row row there))
+    ∙ sym (map_more kept_empty rows id row lt)))))
+
+pub types-all : (rows : List ColumnRow) (cs : List Column) (n : ℕ) → length rows ≤ n → length cs ≤ n
+    → AreOfTypes (take n rows) (take n cs) → AreOfTypes rows cs
+types-all rows cs n le many is =
+    ap (λ (l : List Column). map (λ (x : Column). empty x.kind) l) (sym (take_all n cs many))
+    ∙ (is ∙ ap (λ (l : List ColumnRow). map kept_empty l) (take_all n rows le))

@@ -22,6 +22,10 @@ kind_or_bit None = Bit
 abbrev pub kept_empty : ColumnRow → Column
 kept_empty row = empty (kind_or_bit (kind_of_code row.code))
 
+-- columns are of the types by which those of these rows are kept
+abbrev pub AreOfTypes : List ColumnRow → List Column → Type 0
+AreOfTypes rows cs = map (λ (c : Column). empty c.kind) cs ≡ map kept_empty rows
+
 -- the column with this id
 abbrev pub held_column : List Column → ℕ → Column
 held_column cs id = slice_index_or cs id (empty Bit)

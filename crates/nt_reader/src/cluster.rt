@@ -73,6 +73,13 @@ impl<'a> ClusterRead<'a> {
     {
         nt_print::write_entry(alloc, &self.columns, self.schema, i, out)
     }
+
+    /// The columns, whose memory another cluster can take.
+    pub fn into_columns(self) -> ColumnSet
+        ensures { held_elements result ≡ self.entry.columns }
+    {
+        self.columns
+    }
 }
 
 /// The place of the frame that shows a column of a cluster.
@@ -125,20 +132,22 @@ fn check(
     }
 }
 
-/// The cluster of this number, by what a page list tells of it; or its first fault.
+/// The cluster of this number, by what a page list tells of it; or its first fault. It is read in the
+/// memory of other columns where they are such.
 pub fn read_cluster<'a, F: ReadAt>(
     alloc: Global,
     file: &mut F,
     schema: &'a Schema,
     number: u32,
     cluster: &ClusterList,
+    kept: Option<ColumnSet>,
 ) -> Result<ClusterRead<'a>, ReadFailure>
     ensures file { Serves (F.state file.old) (F.state file.new) result }
     ensures read { ReadsFile (λ c. given_entries c)
         (λ told. cluster_of told schema.now number cluster.now) (F.state file.old) result }
 {
     let size = file.size()?;
-    let columns = read_columns(alloc, file, size, number, cluster, schema)?;
+    let columns = read_columns(alloc, file, size, number, cluster, schema, kept)?;
     check(&columns, schema, number, cluster)?;
     Ok(ClusterRead {
         schema,

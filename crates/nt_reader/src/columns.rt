@@ -9,6 +9,7 @@ ghost use Rattle.nt_reader.specs.Columns.{kind_or_bit, kept_empty, elements_in, 
 
 use crate::known::known_column;
 use crate::pages::push_pages;
+use crate::reuse::reused_columns;
 use crate::wanting::Wanting;
 use nt_column::ColumnSet;
 use nt_grammar::ColumnRow;
@@ -27,7 +28,7 @@ fn kind_of_row(row: &ColumnRow) -> Option<ColumnType>
 }
 
 /// The type by which a column is kept.
-fn kept_kind(row: &ColumnRow) -> ColumnType
+pub fn kept_kind(row: &ColumnRow) -> ColumnType
     ensures { result ≡ kind_or_bit (kind_of_code row.now.code) }
 {
     match kind_of_row(row) {
@@ -37,7 +38,7 @@ fn kept_kind(row: &ColumnRow) -> ColumnType
 }
 
 /// A column without elements for each of the schema.
-fn empty_columns(alloc: Global, schema: &Schema) -> Result<ColumnSet, Wanting>
+pub fn empty_columns(alloc: Global, schema: &Schema) -> Result<ColumnSet, Wanting>
     ensures { IfOk result (λ set. columns_of set ≡ map kept_empty schema.now.columns) }
 {
     let mut kinds = Vec::new(alloc);
@@ -127,7 +128,7 @@ fn read_column<F: ReadAt>(
     }
 }
 
-/// Reads the columns of a cluster, by id.
+/// Reads the columns of a cluster, by id, in the memory of other columns where they are such.
 pub fn read_columns<F: ReadAt>(
     alloc: Global,
     file: &mut F,
@@ -135,13 +136,14 @@ pub fn read_columns<F: ReadAt>(
     number: u32,
     cluster: &ClusterList,
     schema: &Schema,
+    kept: Option<ColumnSet>,
 ) -> Result<ColumnSet, ReadFailure>
     requires { HasSize (F.state file.old) size }
     ensures file { Serves (F.state file.old) (F.state file.new) result }
     ensures read { let rows = schema.now.columns in ReadsFile (λ set. held_elements set)
         (λ told. columns_from told number cluster.now schema.now 0 rows) (F.state file.old) result }
 {
-    let mut columns = empty_columns(alloc, schema)?;
+    let mut columns = reused_columns(alloc, schema, kept)?;
     for id in 0..schema.columns() {
         read_column(alloc, file, size, number, cluster, schema, id, &mut columns)?;
     }

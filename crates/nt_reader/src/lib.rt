@@ -2,21 +2,23 @@
 //!
 //! Start with `Reader::attach`, which reads the anchor, header and footer of a file and the page lists
 //! of its groups (`describing`, `groups`), and then `Reader::cluster`, which reads the pages of a
-//! cluster's open columns and looks at their values (`columns`, `pages`, `cluster`);
+//! cluster's open columns and looks at their values (`columns`, `pages`, `cluster`), or
+//! `Reader::cluster_in`, which does that in the memory of columns of before (`reuse`);
 //! `ClusterRead::entry` gives the trees of an entry, and `ClusterRead::write_entry` its line. What they
 //! answer is said in nt_files.
 //!
 //! Words: those of nt_files; an `Envelope` here is one that was read, its payload and its checksum;
 //! a *window* is a run of bytes of a file that were read at once.
 //!
-//! Proved: wherever the file tells its bytes, `attach` answers exactly `outline_of` and `cluster`
-//! exactly `cluster_of` of nt_files, the first fault and its place included (`read`); a fault of the
-//! outside comes only where the file's count rose (`file`); an entry is that of the cluster (`entry`), and
-//! its line is that of event text (`write_entry`).
+//! Proved: wherever the file tells its bytes, `attach` answers exactly `outline_of`, and `cluster` and
+//! `cluster_in` exactly `cluster_of` of nt_files, the first fault and its place included (`read`); a
+//! fault of the outside comes only where the file's count rose (`file`); an entry is that of the cluster
+//! (`entry`), and its line is that of event text (`write_entry`).
 //!
 //! Not proved: that pages which follow one another in the file are read by one call, at most 1 MiB at
-//! once (only tested); that memory is that of the page lists and of one cluster, whatever a file
-//! claims: nothing is reserved for a number in it before the bytes that bear it out were found.
+//! once (only tested); that memory is that of the page lists and of one cluster, the largest of those
+//! that use it one after the other, whatever a file claims: nothing is reserved for a number in it
+//! before the bytes that bear it out were found.
 //!
 //! Choices that bind nobody else:
 //! - `ClusterRead` borrows the schema of its reader, so that `entry` takes none.
@@ -35,6 +37,7 @@ mod known;
 mod moving;
 mod pages;
 mod reader;
+mod reuse;
 mod wanting;
 mod window;
 

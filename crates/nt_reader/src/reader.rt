@@ -9,6 +9,7 @@ ghost use Rattle.nt_reader.specs.Columns.{given_entries};
 use crate::cluster::{ClusterRead, read_cluster};
 use crate::describing::read_described;
 use crate::groups::read_clusters;
+use nt_column::ColumnSet;
 use nt_outside::ReadAt;
 use nt_pagelists::ClusterList;
 use nt_schema::Schema;
@@ -98,6 +99,30 @@ impl Reader {
         ensures read { ReadsFile (λ c. given_entries c)
             (entries_in self.now k) (F.state file.old) result }
     {
-        read_cluster(alloc, file, &self.schema, k, &self.clusters[k as usize])
+        self.cluster_in(alloc, file, k, None)
+    }
+
+    /// Reads a cluster as `cluster` does, in the memory of the columns of one that was read before.
+    /// Any columns do: those of other types than the file's are dropped.
+    pub fn cluster_in<F: ReadAt>(
+        &self,
+        alloc: Global,
+        file: &mut F,
+        k: u32,
+        kept: Option<ColumnSet>,
+    ) -> Result<ClusterRead<'_>, ReadFailure>
+        requires { k < length self.now.clusters }
+        ensures file { Serves (F.state file.old) (F.state file.new) result }
+        ensures read { ReadsFile (λ c. given_entries c)
+            (entries_in self.now k) (F.state file.old) result }
+    {
+        read_cluster(
+            alloc,
+            file,
+            &self.schema,
+            k,
+            &self.clusters[k as usize],
+            kept,
+        )
     }
 }
