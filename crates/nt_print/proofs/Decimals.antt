@@ -1,13 +1,12 @@
 -- The digits of a number, some at a time.
-use Rattle.std.proofs.Common.{◌≡◌, ℕ, zero, suc, ◌+◌, ◌-◌, ◌*◌, ◌/◌, ◌%◌, ◌^◌, ◌<◌, ◌≤◌, Bool, true, false}
-use Rattle.std.proofs.Common.{◌&&◌, T, eqb, List, [], ◌∷◌, ◌++◌, get_or}
-use Rattle.std.proofs.Common.{ℤ, pos, negsuc, refl, sym, ap, ◌∙◌, inl, inr, arith, eq-zero-or-pos, eqb→eq, append_assoc, decimal}
+use Rattle.std.proofs.Common.{◌≡◌, ℕ, zero, suc, ◌+◌, ◌-◌, ◌*◌, ◌/◌, ◌%◌, ◌^◌, ◌<◌, ◌≤◌, Bool, true, ◌&&◌, T, eqb, List, []}
+use Rattle.std.proofs.Common.{◌∷◌, ◌++◌, get_or, refl, sym, ap, ◌∙◌, inl, inr, arith, eq-zero-or-pos, eqb→eq, append_assoc, decimal}
 use Rattle.std.specs.Global.{Vec}
 use Rattle.std.proofs.lemmas.Fmt.{decimal_digit}
 use Rattle.itoa.proofs.Decimal.{pair, decimal_two, decimal_pair, decimal_four}
 use lib.Ieee.Fits.{and_l, and_r}
 use Rattle.std.specs.Prelude.{vec_len, vec_capacity}
-use Rattle.nt_print.specs.Digits.{last_digits, PutsText}
+use Rattle.nt_print.specs.Digits.{last_digits, PutsWithin}
 use Rattle.nt_print.specs.declared.digits.TheConstants.{PAIRS}
 
 -- the table has the digits of so many numbers
@@ -87,16 +86,16 @@ pub decimal-low_eight : (n : ℕ) → 100000000 ≤ n → n < 2 ^ 64
 decimal-low_eight n lo hi = ap (λ (l : List ℕ). decimal (n / 100000000) ++ l) (last_digits-low_eight n) ∙ decimal-eight n lo hi
 
 -- a text that is put behind another
-pub Puts-then : (a b c : ℕ) (x y z : List ℕ) (u v w : Vec ℕ) → PutsText a x u v → PutsText b y v w → a + b ≤ c → x ++ y ≡ z
-    → PutsText c z u w
-Puts-then a b c x y z u v w first second most is = record {
+pub PutsWithin-then : (a b c : ℕ) (x y z : List ℕ) (u v w : Vec ℕ) → PutsWithin a x u v → PutsWithin b y v w
+    → a + b ≤ c → x ++ y ≡ z → PutsWithin c z u w
+PutsWithin-then a b c x y z u v w first second most is = record {
   items = second.items ∙ (ap (λ (l : List ℕ). l ++ y) first.items ∙ (append_assoc u.items x y ∙ ap (λ (l : List ℕ). u.items ++ l) is));
   len = omega (arith, first.len, second.len, most);
   capacity = second.capacity ∙ first.capacity;
 }
 
-pub Puts-is : (a c : ℕ) (x z : List ℕ) (u v : Vec ℕ) → PutsText a x u v → a ≤ c → x ≡ z → PutsText c z u v
-Puts-is a c x z u v p most is = record {
+pub PutsWithin-is : (a c : ℕ) (x z : List ℕ) (u v : Vec ℕ) → PutsWithin a x u v → a ≤ c → x ≡ z → PutsWithin c z u v
+PutsWithin-is a c x z u v p most is = record {
   items = p.items ∙ ap (λ (l : List ℕ). u.items ++ l) is;
   len = omega (arith, p.len, most);
   capacity = p.capacity;
@@ -104,7 +103,7 @@ Puts-is a c x z u v p most is = record {
 
 -- one digit and two, pushed
 pub digit-put : (n : ℕ) (u v : Vec ℕ) → n < 10 → v.items ≡ u.items ++ (48 + n) ∷ [] → vec_len v ≡ vec_len u + 1
-    → vec_capacity v ≡ vec_capacity u → PutsText 2 (decimal n) u v
+    → vec_capacity v ≡ vec_capacity u → PutsWithin 2 (decimal n) u v
 digit-put n u v lt items len capacity = record {
   items = items ∙ ap (λ (l : List ℕ). u.items ++ l) (sym (decimal_digit n lt));
   len = omega (arith, len);
@@ -113,7 +112,7 @@ digit-put n u v lt items len capacity = record {
 
 pub pair-put : (n : ℕ) (u v w : Vec ℕ) → n < 100 → v.items ≡ u.items ++ get_or PAIRS (2 * n) 0 ∷ []
     → w.items ≡ v.items ++ get_or PAIRS (2 * n + 1) 0 ∷ [] → vec_len v ≡ vec_len u + 1 → vec_len w ≡ vec_len v + 1
-    → vec_capacity v ≡ vec_capacity u → vec_capacity w ≡ vec_capacity v → PutsText 2 (last_digits 2 n) u w
+    → vec_capacity v ≡ vec_capacity u → vec_capacity w ≡ vec_capacity v → PutsWithin 2 (last_digits 2 n) u w
 pair-put n u v w lt first second len more capacity same =
     let p = PAIRS-at n lt in
     let a = get_or PAIRS (2 * n) 0 in

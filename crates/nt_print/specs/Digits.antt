@@ -8,7 +8,7 @@ last_digits zero n = []
 last_digits (suc places) n = last_digits places (n / 10) ++ (48 + n % 10) ∷ []
 
 -- a text of at most so many bytes was put behind what was there, within the capacity
-pub record PutsText (most : ℕ) (text : List ℕ) (old new : Vec ℕ) : Type 0 where
+pub record PutsWithin (most : ℕ) (text : List ℕ) (old new : Vec ℕ) : Type 0 where
   pub items : new.items ≡ old.items ++ text
   pub len : vec_len new ≤ vec_len old + most
   pub capacity : vec_capacity new ≡ vec_capacity old

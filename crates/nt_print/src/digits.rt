@@ -1,7 +1,7 @@
 //! Numbers by their digits.
 
 ghost use Rattle.std.specs.Prelude.{◌≡◌, ◌+◌, ◌/◌, ◌%◌, ◌<◌, ◌≤◌, ◌∷◌, [], ◌++◌, length, take, decimal, vec_len, vec_capacity, OnOk};
-ghost use Rattle.nt_print.specs.Digits.{last_digits, PutsText};
+ghost use Rattle.nt_print.specs.Digits.{last_digits, PutsWithin};
 
 use std::alloc::AllocError;
 
@@ -17,7 +17,7 @@ static PAIRS: [u8; 200] =
 fn put_pair(n: u32, out: &mut Vec<u8>)
     requires less { n < 100 }
     requires room { vec_len out.old + 2 ≤ vec_capacity out.old }
-    ensures { PutsText 2 (last_digits 2 n) out.old out.new }
+    ensures { PutsWithin 2 (last_digits 2 n) out.old out.new }
 {
     let at = 2 * n as usize;
     out.push_reserved(PAIRS[at]);
@@ -29,7 +29,7 @@ fn put_pair(n: u32, out: &mut Vec<u8>)
 fn put_first(n: u32, out: &mut Vec<u8>)
     requires less { n < 100 }
     requires room { vec_len out.old + 2 ≤ vec_capacity out.old }
-    ensures { PutsText 2 (decimal n) out.old out.new }
+    ensures { PutsWithin 2 (decimal n) out.old out.new }
 {
     if n < 10 {
         out.push_reserved(b'0' + n as u8);
@@ -43,7 +43,7 @@ fn put_first(n: u32, out: &mut Vec<u8>)
 fn put_four(n: u32, out: &mut Vec<u8>)
     requires less { n < 10000 }
     requires room { vec_len out.old + 4 ≤ vec_capacity out.old }
-    ensures { PutsText 4 (decimal n) out.old out.new }
+    ensures { PutsWithin 4 (decimal n) out.old out.new }
 {
     if n < 100 {
         put_first(n, out);
@@ -57,7 +57,7 @@ fn put_four(n: u32, out: &mut Vec<u8>)
 #[inline(always)]
 fn put_low_four(n: u32, out: &mut Vec<u8>)
     requires room { vec_len out.old + 4 ≤ vec_capacity out.old }
-    ensures { PutsText 4 (last_digits 4 n) out.old out.new }
+    ensures { PutsWithin 4 (last_digits 4 n) out.old out.new }
 {
     let low = n % 10_000;
     put_pair(low / 100, out);
@@ -69,7 +69,7 @@ fn put_low_four(n: u32, out: &mut Vec<u8>)
 fn put_eight(n: u32, out: &mut Vec<u8>)
     requires less { n < 100000000 }
     requires room { vec_len out.old + 8 ≤ vec_capacity out.old }
-    ensures { PutsText 8 (decimal n) out.old out.new }
+    ensures { PutsWithin 8 (decimal n) out.old out.new }
 {
     if n < 10_000 {
         put_four(n, out);
@@ -83,7 +83,7 @@ fn put_eight(n: u32, out: &mut Vec<u8>)
 #[inline(always)]
 fn put_low_eight(n: u32, out: &mut Vec<u8>)
     requires room { vec_len out.old + 8 ≤ vec_capacity out.old }
-    ensures { PutsText 8 (last_digits 8 n) out.old out.new }
+    ensures { PutsWithin 8 (last_digits 8 n) out.old out.new }
 {
     put_low_four(n / 10_000, out);
     put_low_four(n, out);
@@ -94,7 +94,7 @@ fn put_low_eight(n: u32, out: &mut Vec<u8>)
 fn put_sixteen(n: u64, out: &mut Vec<u8>)
     requires less { n < 10000000000000000 }
     requires room { vec_len out.old + 16 ≤ vec_capacity out.old }
-    ensures { PutsText 16 (decimal n) out.old out.new }
+    ensures { PutsWithin 16 (decimal n) out.old out.new }
 {
     if n < EIGHT_DIGITS {
         put_eight(n as u32, out);
@@ -108,7 +108,7 @@ fn put_sixteen(n: u64, out: &mut Vec<u8>)
 fn put_many(n: u64, out: &mut Vec<u8>)
     requires more { 100000000 ≤ n }
     requires room { vec_len out.old + 24 ≤ vec_capacity out.old }
-    ensures { PutsText 24 (decimal n) out.old out.new }
+    ensures { PutsWithin 24 (decimal n) out.old out.new }
 {
     put_sixteen(n / EIGHT_DIGITS, out);
     put_low_eight((n % EIGHT_DIGITS) as u32, out);

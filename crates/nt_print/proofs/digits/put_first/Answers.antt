@@ -1,5 +1,5 @@
 use Rattle.std.proofs.Common.{arith}
-use Rattle.nt_print.proofs.Decimals.{digit-put, decimal-two, Puts-is}
+use Rattle.nt_print.proofs.Decimals.{digit-put, decimal-two, PutsWithin-is}
 use Rattle.nt_print.proofs.digits.put_first.Goals as goal
 
 pub returns-then-n-lt10 : goal.returns-then-n-lt10
@@ -9,4 +9,4 @@ returns-then-n-lt10 c =
 
 pub returns-else-n-lt10 : goal.returns-else-n-lt10
 returns-else-n-lt10 c =
-    Puts-is 2 2 _ _ _ _ c.put_pair.ensures (omega arith) (decimal-two c.args.n (omega (arith, c.if-n-lt10.false)) c.requires.less)
+    PutsWithin-is 2 2 _ _ _ _ c.put_pair.ensures (omega arith) (decimal-two c.args.n (omega (arith, c.if-n-lt10.false)) c.requires.less)
