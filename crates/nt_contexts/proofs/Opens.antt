@@ -270,9 +270,7 @@ module _ {D : Type 0} (committer : TurnState (Birth D)) where
         let count = opened-count all left seats next opened in
         let empty : length left ≡ 0 = ap (λ (l : List S). length l) none in
         record {
-          rules = may.rules;
-          rows = may.rows;
-          columns = may.columns;
+          schema = may.schema;
           some = omega (arith, may.some, count, empty);
           few = omega (arith, may.few, count, empty);
           seated = omega (arith, may.seated, count, empty);

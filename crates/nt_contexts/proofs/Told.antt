@@ -21,6 +21,7 @@ use Rattle.nt_book.specs.declared.limits.LimitError.{LimitError}
 use Rattle.nt_book.specs.declared.limits.LimitError.TheVariants as limit
 use Rattle.nt_book.specs.Books.{BookData, book_clusters, book_end}
 use Rattle.nt_commit.specs.declared.locked.Birth.{Birth}
+use Rattle.nt_commit.specs.Locked.{birth_with}
 use Rattle.nt_layout.specs.Headers.{clusters_place}
 use Rattle.nt_close.specs.Beginning.{new_book}
 use Rattle.nt_dealing.specs.Texts.{all_chunks}
@@ -119,13 +120,7 @@ runs-nothing fields t p disk book sources n ready = record {
 module _ {D : Type 0} (state : D → DiskState) (fields : List MemberData) (t : Table) (p : Params) (committer : TurnState (Birth D)) where
   -- a new committer over a file that was begun
   pub newly : (first : DiskPass D) (disk : D) (book : BookData) (n : ℕ) → IsReady fields p t book (state disk) n → committer.seats ≡ n
-      → committer.birth ≡ record {
-        begun = disk;
-        limits = book.limits;
-        columns = length book.firsts;
-        firsts = book.firsts;
-        contexts = n;
-      } → first ≡ first_pass committer
+      → committer.birth ≡ birth_with disk book n → first ≡ first_pass committer
       → MayWork committer fields t p n first
   newly first disk book n ready seats born is =
       let columns : committer.birth.columns ≡ length book.firsts = ap (λ (b : Birth D). b.columns) born in
@@ -151,9 +146,11 @@ module _ {D : Type 0} (state : D → DiskState) (fields : List MemberData) (t : 
         unused = refl;
       } in
       record {
-        rules = ready.rules;
-        rows = ready.rows;
-        columns = sym (columns ∙ (ap (λ (l : List ℕ). length l) firsts ∙ length-replicate (length t.columns) 0));
+        schema = record {
+          rules = ready.rules;
+          rows = ready.rows;
+          columns = sym (columns ∙ (ap (λ (l : List ℕ). length l) firsts ∙ length-replicate (length t.columns) 0));
+        };
         some = omega (arith, ready.some);
         few = ready.few;
         seated = omega (arith, contexts);
@@ -161,7 +158,7 @@ module _ {D : Type 0} (state : D → DiskState) (fields : List MemberData) (t : 
       }
 
   pub born-for : (disk : D) (book : BookData) (n : ℕ) → IsReady fields p t book (state disk) n
-      → committer.birth ≡ record { begun = disk; limits = book.limits; columns = length book.firsts; firsts = book.firsts; contexts = n }
+      → committer.birth ≡ birth_with disk book n
       → IsBornFor state committer.birth t p
   born-for disk book n ready born = record {
     limits = ap (λ (b : Birth D). b.limits) born ∙ ap (λ (b : BookData). b.limits) ready.book_is;
@@ -169,7 +166,7 @@ module _ {D : Type 0} (state : D → DiskState) (fields : List MemberData) (t : 
   }
 
   pub born-firsts : (disk : D) (book : BookData) (n : ℕ) → IsReady fields p t book (state disk) n
-      → committer.birth ≡ record { begun = disk; limits = book.limits; columns = length book.firsts; firsts = book.firsts; contexts = n }
+      → committer.birth ≡ birth_with disk book n
       → committer.birth.firsts ≡ replicate (length t.columns) 0
   born-firsts disk book n ready born = ap (λ (b : Birth D). b.firsts) born ∙ ap (λ (b : BookData). b.firsts) ready.book_is
 
@@ -177,7 +174,7 @@ module _ {D : Type 0} (state : D → DiskState) (fields : List MemberData) (t : 
   pub runs-given : (disk : D) (after : DiskState) (book book' : BookData) (n : ℕ) (sources sources' : List SourceState) (answer : Result
       Unit RunError)
       → IsReady fields p t book (state disk) n
-      → committer.birth ≡ record { begun = disk; limits = book.limits; columns = length book.firsts; firsts = book.firsts; contexts = n }
+      → committer.birth ≡ birth_with disk book n
       → RunsContexts t fields p (state committer.birth.begun) after (new_book t p.limits) book' sources sources' answer
       → RunsContexts t fields p (state disk) after book book' sources sources' answer
   runs-given disk after book book' n sources sources' answer ready born ran =

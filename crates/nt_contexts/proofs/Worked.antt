@@ -148,9 +148,12 @@ module _ {D S P : Type 0} (state : D → DiskState) (fields : List MemberData) (
       let sources : back' ≡ seat_sources seats = left.sources ∙ ap (λ (l : List S). l ++ seat_sources seats) empty in
       record {
         of = left.of;
-        joined = all-joined committer n old new (all_kept seats) let_in now count (run-numbered state fields t p committer source 0
-            states seats run);
-        all_in = all-in committer n old new (all_kept seats) let_in now (run-none_out state fields t p committer source 0 states seats run);
+        all_left = record {
+          joined = all-joined committer n old new (all_kept seats) let_in now count (run-numbered state fields t p committer source 0
+              states seats run);
+          none_out = all-in committer n old new (all_kept seats) let_in now (run-none_out state fields t p committer source 0 states
+              seats run);
+        };
         later = subst (λ (l : List S). AreLater states (map source l)) (sym sources) (run-later state fields t p committer source 0
             states seats run);
         blamed = λ is.
@@ -177,8 +180,10 @@ module _ {D S P : Type 0} (state : D → DiskState) (fields : List MemberData) (
       let own : new.own ≡ old.own = ap (λ (f : DiskPass D). f.own) now in
       record {
         of = turns.of;
-        joined = all-joined committer n old new (all_kept seats) let_in now count (new-numbered committer source 0 states seats fresh);
-        all_in = all-in committer n old new (all_kept seats) let_in now (new-none_out committer source 0 states seats fresh);
+        all_left = record {
+          joined = all-joined committer n old new (all_kept seats) let_in now count (new-numbered committer source 0 states seats fresh);
+          none_out = all-in committer n old new (all_kept seats) let_in now (new-none_out committer source 0 states seats fresh);
+        };
         later = subst (λ (l : List S). AreLater (states ++ others) (map source l)) (sym turns.sources) (new-later committer source 0
             states others seats rest fresh after);
         blamed = λ is.
@@ -202,10 +207,12 @@ module _ {D : Type 0} (state : D → DiskState) (fields : List MemberData) (t : 
       → HasWorked state fields t p committer states states first (Err Memory)
   idle-worked states first h = record {
     of = h.of;
-    joined = λ n less none. omega (arith, less, h.splits);
-    all_in = record {
-      own = subst (λ (l : List (Entry ClusterMeta)). HasNoneOut l) (sym h.unused) tt;
-      kept = subst (λ (l : Kept). AllByRecursion (λ (k : ℕ × List (Entry ClusterMeta)). HasNoneOut k.1) l) (sym h.kept) tt;
+    all_left = record {
+      joined = λ n less none. omega (arith, less, h.splits);
+      none_out = record {
+        own = subst (λ (l : List (Entry ClusterMeta)). HasNoneOut l) (sym h.unused) tt;
+        kept = subst (λ (l : Kept). AllByRecursion (λ (k : ℕ × List (Entry ClusterMeta)). HasNoneOut k.1) l) (sym h.kept) tt;
+      };
     };
     later = same-later states;
     blamed = λ is. cc;

@@ -3,9 +3,7 @@ use Rattle.std.specs.Prelude.{◌≡◌, ℕ, ◌+◌, ◌≤◌, ◌<◌, List,
 use mathlib.Core.List.{IsPrefix}
 use Rattle.std.specs.List.{AllByRecursion}
 use Rattle.nt_types.specs.ShapeData.{MemberData}
-use Rattle.nt_types.specs.Rules.{AreFields}
 use Rattle.nt_grammar.specs.Table.{Table}
-use Rattle.nt_grammar.specs.Rows.{Rows}
 use Rattle.nt_outside.specs.Source.{SourceState}
 use Rattle.nt_outside.specs.declared.fault.Refused.{Refused}
 use Rattle.nt_outside.specs.declared.fault.Refused.TheVariants as refused
@@ -20,7 +18,7 @@ use Rattle.nt_event.specs.Lines.{before_first_line}
 use Rattle.nt_writing.specs.declared.seats.Seat.{Seat}
 use Rattle.nt_writing.specs.Reading.{left_of}
 use Rattle.nt_writing.specs.Filling.{HaveFaults}
-use Rattle.nt_writing.specs.Seats.{DiskPass, IsFresh}
+use Rattle.nt_writing.specs.Seats.{DiskPass, IsFresh, IsSchemaFor}
 use Rattle.nt_contexts.specs.declared.error.RunError.{RunError}
 use Rattle.nt_contexts.specs.Contexts.{AreLater}
 use Rattle.nt_contexts.specs.Answers.{answer_from}
@@ -60,9 +58,7 @@ module _ {D : Type 0} (committer : TurnState (Birth D)) where
 
   -- contexts may come in, of these fields: at least one, and no more than the committer takes
   pub record MayWork (fields : List MemberData) (t : Table) (p : Params) (sources : ℕ) (first : DiskPass D) : Type 0 where
-    pub rules : AreFields fields
-    pub rows : Rows fields p.plain t
-    pub columns : length t.columns ≡ committer.birth.columns
+    pub schema : IsSchemaFor committer fields p.plain t
     pub some : 0 < sources
     pub few : sources ≤ 64
     pub seated : sources ≤ committer.birth.contexts
@@ -129,9 +125,7 @@ module _ {D : Type 0} (committer : TurnState (Birth D)) where
       -- contexts in their seats may run: there are some, all fresh, no more than the committer takes, and of these fields
       pub record CanRun (fields : List MemberData) (t : Table) (p : Params) (seats : List (Seat S (DiskPass D) P)) (first : DiskPass D)
           : Type 0 where
-        pub rules : AreFields fields
-        pub rows : Rows fields p.plain t
-        pub columns : length t.columns ≡ committer.birth.columns
+        pub schema : IsSchemaFor committer fields p.plain t
         pub some : 0 < length seats
         pub few : length seats ≤ 64
         pub seated : length seats ≤ committer.birth.contexts

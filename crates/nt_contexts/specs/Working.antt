@@ -7,13 +7,13 @@ use Rattle.nt_grammar.specs.Table.{Table}
 use Rattle.nt_outside.specs.Disk.{DiskState}
 use Rattle.nt_outside.specs.Faults.{Rose}
 use Rattle.nt_outside.specs.Source.{SourceState}
-use Rattle.nt_turn.specs.Pass.{TurnState, AllJoined}
+use Rattle.nt_turn.specs.Pass.{TurnState}
 use Rattle.nt_machine.specs.declared.entry.Entry.{Entry}
 use Rattle.nt_book.specs.declared.meta.ClusterMeta.{ClusterMeta}
 use Rattle.nt_book.specs.declared.params.Params.{Params}
 use Rattle.nt_book.specs.declared.limits.LimitError.{LimitError}
 use Rattle.nt_commit.specs.declared.locked.Birth.{Birth}
-use Rattle.nt_commit.specs.Holds.{IsPassOf, IsFirstOf, HasNoneOut, AreAllIn}
+use Rattle.nt_commit.specs.Holds.{IsPassOf, IsFirstOf, HasNoneOut, HaveAllLeft}
 use Rattle.nt_dealing.specs.Texts.{text_chunks, chunks_of, AreSound, IsFirstBad}
 use Rattle.nt_dealing.specs.Written.{WroteChunks, CommittedFirst, HaveWritten, HaveCommitted}
 use Rattle.nt_dealing.specs.Limits.{NextPasses}
@@ -58,8 +58,7 @@ module _ {D : Type 0} (state : D → DiskState) (fields : List MemberData) (t : 
   -- all contexts were joined, and no range is out; what is known by the answer
   pub record HasWorked (sources sources' : List SourceState) (first : DiskPass D) (result : Result Unit RunError) : Type 0 where
     pub of : IsFirstOf committer first
-    pub joined : AllJoined first
-    pub all_in : AreAllIn first
+    pub all_left : HaveAllLeft first
     pub later : AreLater sources sources'
     pub blamed : result ≡ Err Outside → SomeRose sources sources' ⊎ KeepsFaults first
     pub wrote : result ≡ Ok tt

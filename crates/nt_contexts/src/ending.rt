@@ -1,7 +1,6 @@
 //! How a committer ends whose contexts were joined.
 
-ghost use Rattle.nt_turn.specs.Pass.{AllJoined};
-ghost use Rattle.nt_commit.specs.Holds.{IsFirstOf, AreAllIn};
+ghost use Rattle.nt_commit.specs.Holds.{IsFirstOf, HaveAllLeft};
 ghost use Rattle.nt_contexts.specs.Ending.{HasEnded};
 
 use nt_book::Book;
@@ -13,8 +12,7 @@ use nt_turn::Pass;
 /// Ends the committer: disk and book are what the contexts made of them.
 pub(crate) fn end<D: Disk>(committer: Committer<D>, first: Pass<Locked<D>>) -> (D, Book)
     requires first { IsFirstOf committer first }
-    requires joined { AllJoined first }
-    requires none_out { AreAllIn first }
+    requires left { HaveAllLeft first }
     ensures { HasEnded D.state committer.birth first result.0 result.1 }
 {
     commits_are_dealt::<D>();

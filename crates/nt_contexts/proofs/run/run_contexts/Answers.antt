@@ -12,9 +12,11 @@ new-requires g c =
     let ready = c.requires in
     record {
       contexts = (omega (arith, ready.some), omega (arith, ready.few));
-      history = ap (λ b. b.history) ready.book_is;
-      end = ap (λ b. b.begin) ready.book_is ∙ sym ready.end;
-      out = ready.out;
+      book = record {
+        history = ap (λ b. b.history) ready.book_is;
+        end = ap (λ b. b.begin) ready.book_is ∙ sym ready.end;
+        out = ready.out;
+      };
     }
 
 pub run_under-requires-clause-may : goal.run_under-requires-clause-may
