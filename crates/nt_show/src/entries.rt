@@ -10,6 +10,7 @@ ghost use Rattle.nt_show.specs.Shown.{entries_shown, ShowsFile};
 
 use crate::entry_range::EntryRange;
 use crate::lines::put_entry;
+use nt_column::ColumnSet;
 use nt_num::ReadError;
 use nt_outside::{Host, ReadAt, Refused, Stream, print_all};
 use nt_reader::{ClusterRead, Reader};
@@ -39,13 +40,15 @@ fn put_entries<H: Host>(
 }
 
 /// Reads a cluster, and then gathers the lines of its entries that lie in the range, which goes on
-/// behind them; or says the cluster's first fault.
+/// behind them; or says the cluster's first fault. Its columns are kept, so that the next one has
+/// their memory.
 fn put_cluster<H: Host, F: ReadAt>(
     alloc: Global,
     host: &mut H,
     file: &mut F,
     reader: &Reader,
     k: u32,
+    kept: &mut Option<ColumnSet>,
     range: &mut EntryRange,
     waiting: &mut Vec<u8>,
 ) -> Result<Option<ReadError>, Refused>
@@ -56,10 +59,11 @@ fn put_cluster<H: Host, F: ReadAt>(
     ensures cause { HasCauses (H.state host.old) (H.state host.new) (F.state file.old) (F.state file.new) result }
     ensures rest { OnlyPrints (H.state host.old) (H.state host.new) }
 {
-    match reader.cluster(alloc, file, k) {
+    match reader.cluster_in(alloc, file, k, kept.take()) {
         Ok(cluster) => {
             put_entries(alloc, host, waiting, &cluster, range)?;
             *range = range.past(cluster.entries());
+            *kept = Some(cluster.into_columns());
             Ok(None)
         }
         Err(ReadFailure::Defect(fault)) => Ok(Some(fault)),
@@ -83,8 +87,9 @@ fn put_clusters<H: Host, F: ReadAt>(
     ensures rest { OnlyPrints (H.state host.old) (H.state host.new) }
 {
     let mut left = range;
+    let mut kept = None;
     for k in 0..reader.clusters() {
-        let fault = put_cluster(alloc, host, file, reader, k, &mut left, waiting)?;
+        let fault = put_cluster(alloc, host, file, reader, k, &mut kept, &mut left, waiting)?;
         if fault.is_some() {
             return Ok(fault);
         }
