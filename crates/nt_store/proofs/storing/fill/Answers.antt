@@ -2,6 +2,7 @@ use Rattle.std.proofs.Common.{◌∙◌, ◌<◌, ap, arith}
 use Rattle.nt_types.specs.Views.{members_view}
 use Rattle.nt_book.specs.Books.{BookData}
 use Rattle.nt_layout.specs.Headers.{clusters_place}
+use Rattle.nt_schema.proofs.WholeRows.{described_whole}
 use Rattle.nt_store.proofs.Filling.{filled_from, run_err, run_ok, run_fails, dealt_from, finish_told}
 use Rattle.nt_store.proofs.Crashing.{run_crashes, finish_crashes}
 use Rattle.nt_store.proofs.storing.fill.Goals as goal
@@ -11,6 +12,7 @@ finish-finished-requires-clause-closable g c = record {
   begin = c.run_contexts-disk.ensures.book_on.begin ∙ ap (λ (b : BookData). b.begin) c.requires.ready.book_is;
   end = c.run_contexts-disk.ensures.end;
   out = c.run_contexts-disk.ensures.out;
+  whole = described_whole _ _ _ c.requires.ready.rows;
 }
 
 pub returns-in-Ok-clause-told : goal.returns-in-Ok-clause-told
