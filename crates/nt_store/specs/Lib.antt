@@ -6,5 +6,6 @@ pub mod Texts
 pub mod Whole
 pub mod Writing
 pub mod Crashes
+pub mod Leaving
 pub mod Stored
 pub mod Laws

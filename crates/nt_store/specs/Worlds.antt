@@ -24,6 +24,11 @@ abbrev pub AsksFor : {T E : Type 0} → List Asked → List Asked → List Asked
 AsksFor objects old new (Ok value) = new ≡ old ++ objects
 AsksFor objects old new (Err e) = AsksFirst objects old new
 
+-- these objects were asked for, or the first of them, and what the host holds stays
+pub record AsksOnly {T E : Type 0} (objects : List Asked) (old new : HostState) (result : Result T E) : Type 0 where
+  pub asked : AsksFor objects old.asked new.asked result
+  pub world : new.world ≡ old.world
+
 -- a count of faults never falls, and it rose where the outside failed
 pub record HasStoreCause {T : Type 0} (before now : ℕ) (result : Result T StoreError) : Type 0 where
   pub later : before ≤ now

@@ -1,19 +1,15 @@
 //! A file that is written from texts.
 
-ghost use Rattle.std.specs.Prelude.{◌≡◌, ℕ, List, Some, None, length, map};
+ghost use Rattle.std.specs.Prelude.{◌≡◌, None, length, map};
 ghost use Rattle.nt_types.specs.Views.{members_view};
-ghost use Rattle.nt_types.specs.Rules.{AreFields};
-ghost use Rattle.nt_outside.specs.Held.{Held, nothing_held};
-ghost use Rattle.nt_outside.specs.World.{World};
+ghost use Rattle.nt_outside.specs.Held.{nothing_held};
 ghost use Rattle.nt_close.specs.Closing.{IsClosable};
 ghost use Rattle.nt_close.specs.Spoiled.{NoneSpoiled};
 ghost use Rattle.nt_close.specs.Passing.{passed_by_begin};
-ghost use Rattle.nt_close.specs.Laws.{IsShut};
-ghost use Rattle.nt_contexts.specs.Contexts.{IsReady, TellTexts};
+ghost use Rattle.nt_contexts.specs.Contexts.{IsReady};
 ghost use Rattle.nt_book.specs.Ranges.{IsFromTo};
-ghost use Rattle.nt_store.specs.Writing.{as_begun, FinishTold, FileTold, KeepsOrder, IsInOrderFrom, FailsOnEither, IsEmptyDisk};
-ghost use Rattle.nt_store.specs.Writing.{AsksNothing, TakesTextsBack};
-ghost use Rattle.nt_store.specs.Crashes.{FinishSteps, CrashesTo};
+ghost use Rattle.nt_store.specs.Writing.{as_begun, FailsOnEither, AsksNothing, TakesTextsBack};
+ghost use Rattle.nt_store.specs.Leaving.{MayWriteFile, WritesFile, FinishesFile};
 ghost use Rattle.nt_store.specs.Stored.{Stores};
 
 use crate::error::StoreError;
@@ -49,11 +45,8 @@ fn finish<H: Host>(
 ) -> Result<(), StoreError>
     requires closable { IsClosable (H.Out.state disk.old) book.now schema.now }
     requires unspoiled { NoneSpoiled book.now }
-    ensures told { (w : World) (h : Held) → (H.state host.old).world ≡ Some w → (H.Out.state disk.old).held ≡ Some h → IsShut h.image
-        → FinishTold schema.now params.now book.now w (H.state host.new).world (Some h) (H.Out.state disk.new).held result }
-    ensures order { KeepsOrder (H.Out.state disk.old).held (H.Out.state disk.new).held }
-    ensures steps { (w : World) (h : Held) → (H.state host.old).world ≡ Some w → (H.Out.state disk.old).held ≡ Some h
-        → FinishSteps schema.now params.now book.now w (H.state host.new).world h (H.Out.state disk.new).held result }
+    ensures file { FinishesFile schema.now params.now book.now (H.state host.old) (H.state host.new)
+        (H.Out.state disk.old) (H.Out.state disk.new) result }
     ensures cause { FailsOnEither (H.Out.state disk.new) (H.state host.old) (H.state host.new) result }
     ensures rest { AsksNothing (H.state host.old) (H.state host.new) }
 {
@@ -87,13 +80,8 @@ where
     G: Gate + Sync,
     requires ready { IsReady (members_view fields.now) params.now schema.now book (H.Out.state disk) (length texts.items) }
     requires within { passed_by_begin params.now.limits schema.now ≡ None }
-    ensures told { (w : World) (ts : List (List ℕ)) → (H.state host.old).world ≡ Some w → TellTexts (map H.Text.state texts.items) ts
-        → (H.Out.state disk).held ≡ Some (as_begun schema.now)
-        → FileTold (members_view fields.now) params.now ts w (H.state host.new).world (H.Out.state result.0).held result.1 }
-    ensures order { IsInOrderFrom (as_begun schema.now) (H.Out.state disk).held (H.Out.state result.0).held }
-    ensures crash { (w : World) (ts : List (List ℕ)) → (H.state host.old).world ≡ Some w → TellTexts (map H.Text.state texts.items) ts
-        → (H.Out.state disk).held ≡ Some (as_begun schema.now)
-        → CrashesTo (members_view fields.now) params.now ts w (H.state host.new).world (H.Out.state result.0).held result.1 }
+    ensures file { WritesFile (members_view fields.now) params.now (map H.Text.state texts.items) (as_begun schema.now)
+        (H.state host.old) (H.state host.new) (H.Out.state disk) (H.Out.state result.0) result.1 }
     ensures cause { FailsOnEither (H.Out.state result.0) (H.state host.old) (H.state host.new) result.1 }
     ensures rest { TakesTextsBack (length texts.items) (H.state host.old) (H.state host.new) }
 {
@@ -136,16 +124,9 @@ where
     <H::Out as nt_outside::Disk>::Pen: Send,
     <H::Out as nt_outside::Disk>::Ext: Send,
     G: Gate + Sync,
-    requires fields { AreFields (members_view fields.now) }
-    requires number { IsFromTo 1 64 (length texts.items) }
-    requires empty { IsEmptyDisk (H.Out.state disk) }
-    ensures told { (w : World) (ts : List (List ℕ)) → (H.state host.old).world ≡ Some w → TellTexts (map H.Text.state texts.items) ts
-        → (H.Out.state disk).held ≡ Some nothing_held
-        → FileTold (members_view fields.now) params.now ts w (H.state host.new).world (H.Out.state result.0).held result.1 }
-    ensures order { IsInOrderFrom nothing_held (H.Out.state disk).held (H.Out.state result.0).held }
-    ensures crash { (w : World) (ts : List (List ℕ)) → (H.state host.old).world ≡ Some w → TellTexts (map H.Text.state texts.items) ts
-        → (H.Out.state disk).held ≡ Some nothing_held
-        → CrashesTo (members_view fields.now) params.now ts w (H.state host.new).world (H.Out.state result.0).held result.1 }
+    requires may { MayWriteFile (members_view fields.now) (length texts.items) (H.Out.state disk) }
+    ensures file { WritesFile (members_view fields.now) params.now (map H.Text.state texts.items) nothing_held
+        (H.state host.old) (H.state host.new) (H.Out.state disk) (H.Out.state result.0) result.1 }
     ensures cause { FailsOnEither (H.Out.state result.0) (H.state host.old) (H.state host.new) result.1 }
     ensures rest { TakesTextsBack (length texts.items) (H.state host.old) (H.state host.new) }
 {

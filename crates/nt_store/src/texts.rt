@@ -5,7 +5,7 @@ ghost use Rattle.nt_types.specs.Views.{members_view};
 ghost use Rattle.nt_types.specs.Rules.{AreFields};
 ghost use Rattle.nt_outside.specs.World.{World, Text as asked_text, file};
 ghost use Rattle.nt_store.specs.Schemas.{TellsFields, TellsSchema};
-ghost use Rattle.nt_store.specs.Worlds.{AsksFor, HasStoreCause, LeavesOut, PutsTexts, AreOpenTexts};
+ghost use Rattle.nt_store.specs.Worlds.{AsksOnly, HasStoreCause, LeavesOut, PutsTexts, AreOpenTexts};
 ghost use Rattle.nt_store.specs.Errors.{IsRefusal};
 
 use crate::error::StoreError;
@@ -31,8 +31,7 @@ pub(crate) fn read_schema<H: Host>(
     host: &mut H,
     name: &str,
 ) -> Result<Fields, StoreError>
-    ensures asked { AsksFor (asked_text name.now ∷ []) (H.state host.old).asked (H.state host.new).asked result }
-    ensures world { (H.state host.new).world ≡ (H.state host.old).world }
+    ensures asks { AsksOnly (asked_text name.now ∷ []) (H.state host.old) (H.state host.new) result }
     ensures told { (w : World) → (H.state host.old).world ≡ Some w → TellsSchema (file w name.now) result }
     ensures rules { IfOk result (λ fields. AreFields (members_view fields)) }
     ensures cause { HasStoreCause (H.state host.old).faults (H.state host.new).faults result }
@@ -62,8 +61,8 @@ pub(crate) fn open_texts<H: Host>(
     host: &mut H,
     names: &[&str],
 ) -> Result<Vec<H::Text>, StoreError>
-    ensures asked { AsksFor (map asked_text (map (λ name. name.now) names.now)) (H.state host.old).asked (H.state host.new).asked result }
-    ensures world { (H.state host.new).world ≡ (H.state host.old).world }
+    ensures asks { AsksOnly (map asked_text (map (λ name. name.now) names.now))
+        (H.state host.old) (H.state host.new) result }
     ensures texts { IfOk result (λ texts. AreOpenTexts (H.state host.old).world (map (λ name. name.now) names.now) (map H.Text.state
         texts.items)) }
     ensures cause { HasStoreCause (H.state host.old).faults (H.state host.new).faults result }

@@ -8,27 +8,29 @@ use Rattle.nt_store.proofs.Asking.{cause_next}
 use Rattle.nt_store.proofs.Crashed.{none_left, back_safe}
 use Rattle.nt_store.proofs.storing.store.Goals as goal
 
-pub write_file-disk-requires-clause-fields : goal.write_file-disk-requires-clause-fields
-write_file-disk-requires-clause-fields g c κs within = c.in_ok-fields.ensures.rules
-
-pub write_file-disk-requires-clause-number : goal.write_file-disk-requires-clause-number
-write_file-disk-requires-clause-number g c κs within =
+pub write_file-disk-requires-clause-may : goal.write_file-disk-requires-clause-may
+write_file-disk-requires-clause-may g c κs within =
     let st = g.H.Text.Source.state in
     let names = map (λ name. name.now) c.args.names.inputs.now in
     let count = texts_counted _ names (map st c.in_ok-texts.texts.items) c.in_ok-texts.ensures.texts in
     let texts = map_length st c.in_ok-texts.texts.items in
     let asked = map_length (λ name. name.now) c.args.names.inputs.now in
-    (omega (arith, count, texts, asked, c.requires.0), omega (arith, count, texts, asked, c.requires.1))
+    let made = c.in-Ok.ensures.disk in
+    record {
+      rules = c.in_ok-fields.ensures.rules;
+      number = (omega (arith, count, texts, asked, c.requires.0), omega (arith, count, texts, asked, c.requires.1));
+      empty = record { held = made.empty; end = made.end; out = made.out };
+    }
 
 pub returns-in_err-fields : goal.returns-in_err-fields
 returns-in_err-fields g c =
     let p = err_from_is_err_and c.from_residual.result c.from_residual.ensures.1 in
     rw (p.1, p.2) (record {
-      told = λ w is. schema_told _ _ _ _ w _ c.in_err-fields.field-0.0 (c.in_err-fields.ensures.told w is) (c.read_schema.ensures.world
+      told = λ w is. schema_told _ _ _ _ w _ c.in_err-fields.field-0.0 (c.in_err-fields.ensures.told w is) (c.read_schema.ensures.asks.world
           ∙ is);
-      order = nothing_made _ _ _ c.read_schema.ensures.world;
-      crash = none_left _ _ _ _ _ _ _ c.read_schema.ensures.world;
-      asked = schema_asked _ _ _ _ _ c.in_err-fields.ensures.asked;
+      order = nothing_made _ _ _ c.read_schema.ensures.asks.world;
+      crash = none_left _ _ _ _ _ _ _ c.read_schema.ensures.asks.world;
+      asked = schema_asked _ _ _ _ _ c.in_err-fields.ensures.asks.asked;
       cause = cause_first c.in_err-fields.field-0.0 _ _ c.in_err-fields.ensures.cause;
       back = c.read_schema.ensures.rest;
     })
@@ -37,11 +39,11 @@ pub returns-in_err-texts : goal.returns-in_err-texts
 returns-in_err-texts g c =
     let p = err_from_is_err_and c.from_residual-in_err-texts.result c.from_residual-in_err-texts.ensures.1 in
     rw (p.1, p.2) (record {
-      told = λ w is. refused_told _ _ _ _ w _ c.in_err-texts.field-0.0 c.in_err-texts.ensures.refused (c.open_texts.ensures.world
-          ∙ c.read_schema.ensures.world ∙ is);
-      order = nothing_made _ _ _ (c.open_texts.ensures.world ∙ c.read_schema.ensures.world);
-      crash = none_left _ _ _ _ _ _ _ (c.open_texts.ensures.world ∙ c.read_schema.ensures.world);
-      asked = texts_asked _ _ _ _ _ _ c.in_ok-fields.ensures.asked c.in_err-texts.ensures.asked;
+      told = λ w is. refused_told _ _ _ _ w _ c.in_err-texts.field-0.0 c.in_err-texts.ensures.refused (c.open_texts.ensures.asks.world
+          ∙ c.read_schema.ensures.asks.world ∙ is);
+      order = nothing_made _ _ _ (c.open_texts.ensures.asks.world ∙ c.read_schema.ensures.asks.world);
+      crash = none_left _ _ _ _ _ _ _ (c.open_texts.ensures.asks.world ∙ c.read_schema.ensures.asks.world);
+      asked = texts_asked _ _ _ _ _ _ c.in_ok-fields.ensures.asks.asked c.in_err-texts.ensures.asks.asked;
       cause = cause_next c.in_err-texts.field-0.0 _ _ _ c.read_schema.ensures.cause.later c.in_err-texts.ensures.cause;
       back = record {
         err_faults = c.in_err-texts.ensures.rest.1.err_faults ∙ c.read_schema.ensures.rest.err_faults;
@@ -60,32 +62,34 @@ returns-in-Ok g c =
     let made = c.in-Ok.ensures.creates in
     record {
       told = λ w is.
-          let at_texts = c.open_texts.ensures.world ∙ c.read_schema.ensures.world ∙ is in
-          let open_at = c.read_schema.ensures.world ∙ is in
+          let at_texts = c.open_texts.ensures.asks.world ∙ c.read_schema.ensures.asks.world ∙ is in
+          let open_at = c.read_schema.ensures.asks.world ∙ is in
           let tell = texts_told w _ names (map st c.in_ok-texts.texts.items) open_at c.in_ok-texts.ensures.texts in
           out_told c.args.names.out.now c.args.names.schema.now names c.args.params.now _ tell.texts w
           (record { schema_is = c.in_ok-fields.ensures.told w is; inputs_are = tell.are }) _ _ _ c.put_disk.ensures.world
           c.write_file-disk.result.1
-          (wrote.told (creates c.args.names.out.now w) tell.texts (made.ok w at_texts) tell.tell (c.in-Ok.ensures.disk.held w at_texts));
+          (wrote.file.told (creates c.args.names.out.now w) tell.texts (made.ok w at_texts) tell.tell
+          (c.in-Ok.ensures.disk.held w at_texts));
       order = λ w w' is is'.
-          let at_texts = c.open_texts.ensures.world ∙ c.read_schema.ensures.world ∙ is in
-          let open_at = c.read_schema.ensures.world ∙ is in
+          let at_texts = c.open_texts.ensures.asks.world ∙ c.read_schema.ensures.asks.world ∙ is in
+          let open_at = c.read_schema.ensures.asks.world ∙ is in
           let tell = texts_told w _ names (map st c.in_ok-texts.texts.items) open_at c.in_ok-texts.ensures.texts in
           let empty = c.in-Ok.ensures.disk.held w at_texts in
           back_in_order c.args.names.out.now c.args.names.schema.now names c.args.params.now _ tell.texts w
           (record { schema_is = c.in_ok-fields.ensures.told w is; inputs_are = tell.are }) _ _ _ c.put_disk.ensures.world _ _
-          c.write_file-disk.result.1 empty wrote.order
-          (wrote.told (creates c.args.names.out.now w) tell.texts (made.ok w at_texts) tell.tell empty) w w' is is';
+          c.write_file-disk.result.1 empty wrote.file.order
+          (wrote.file.told (creates c.args.names.out.now w) tell.texts (made.ok w at_texts) tell.tell empty) w w' is is';
       crash = λ w w' is is' made-disk.
-          let at_texts = c.open_texts.ensures.world ∙ c.read_schema.ensures.world ∙ is in
-          let open_at = c.read_schema.ensures.world ∙ is in
+          let at_texts = c.open_texts.ensures.asks.world ∙ c.read_schema.ensures.asks.world ∙ is in
+          let open_at = c.read_schema.ensures.asks.world ∙ is in
           let tell = texts_told w _ names (map st c.in_ok-texts.texts.items) open_at c.in_ok-texts.ensures.texts in
           let empty = c.in-Ok.ensures.disk.held w at_texts in
           back_safe c.args.names.out.now c.args.names.schema.now names c.args.params.now _ tell.texts w
           (record { schema_is = c.in_ok-fields.ensures.told w is; inputs_are = tell.are }) _ _ _ c.put_disk.ensures.world
-          c.write_file-disk.result.1 (wrote.told (creates c.args.names.out.now w) tell.texts (made.ok w at_texts) tell.tell empty)
-          (wrote.crash (creates c.args.names.out.now w) tell.texts (made.ok w at_texts) tell.tell empty) w' is';
-      asked = all_asked _ _ _ _ c.write_file-disk.result.1 _ _ _ _ c.in_ok-fields.ensures.asked c.in_ok-texts.ensures.asked made.asks.ok
+          c.write_file-disk.result.1 (wrote.file.told (creates c.args.names.out.now w) tell.texts (made.ok w at_texts) tell.tell empty)
+          (wrote.file.crash (creates c.args.names.out.now w) tell.texts (made.ok w at_texts) tell.tell empty) w' is';
+      asked = all_asked _ _ _ _ c.write_file-disk.result.1 _ _ _ _ c.in_ok-fields.ensures.asks.asked c.in_ok-texts.ensures.asks.asked
+          made.asks.ok
           (c.put_disk.ensures.back.asked ∙ wrote.rest.asked);
       cause = cause_back _ _ _ _ _ c.write_file-disk.result.1 (omega (
         arith,
@@ -119,12 +123,13 @@ returns g c =
     let asked = map_length (λ name. name.now) c.args.names.inputs.now in
     let made = c.in-Err.ensures.creates in
     let back = c.put_texts.ensures in
-    let stays = back.world ∙ (made.err ∙ (c.open_texts.ensures.world ∙ c.read_schema.ensures.world)) in
+    let stays = back.world ∙ (made.err ∙ (c.open_texts.ensures.asks.world ∙ c.read_schema.ensures.asks.world)) in
     record {
       told = λ w is. rw c.from.ensures (refused_told _ _ _ _ w _ _ (refusal_is c.in-Err.refused) (stays ∙ is));
       order = nothing_made _ _ _ stays;
       crash = none_left _ _ _ _ _ _ _ stays;
-      asked = disk_refused _ _ _ _ _ c.in-Err.refused _ _ _ _ c.in_ok-fields.ensures.asked c.in_ok-texts.ensures.asked made.asks.failed
+      asked = disk_refused _ _ _ _ _ c.in-Err.refused _ _ _ _ c.in_ok-fields.ensures.asks.asked c.in_ok-texts.ensures.asks.asked
+          made.asks.failed
           made.asks.memory back.asked;
       cause = record {
         later = omega (arith, c.read_schema.ensures.cause.later, c.open_texts.ensures.cause.later, made.asks.cause.later, back.later);

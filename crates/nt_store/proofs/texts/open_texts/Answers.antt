@@ -33,10 +33,12 @@ loop-name-preserved g c =
       omega (arith, so-far.1, c.push_reserved.ensures.capacity),
     )
 
-pub returns-in-Err-clause-asked : goal.returns-in-Err-clause-asked
-returns-in-Err-clause-asked g c =
-    asked_refused _ c.in-Err.refused c.args.names.now c.loop-name.name-index _ _ _ _ _ c.loop-name-test.true
-    c.loop-name.invariant.0.asked c.in-Err.ensures.opens.asks.failed c.in-Err.ensures.opens.asks.memory c.put_texts.ensures.asked
+pub returns-in-Err-clause-asks : goal.returns-in-Err-clause-asks
+returns-in-Err-clause-asks g c = record {
+  asked = asked_refused _ c.in-Err.refused c.args.names.now c.loop-name.name-index _ _ _ _ _ c.loop-name-test.true
+      c.loop-name.invariant.0.asked c.in-Err.ensures.opens.asks.failed c.in-Err.ensures.opens.asks.memory c.put_texts.ensures.asked;
+  world = c.put_texts.ensures.world ∙ (c.in-Err.ensures.opens.world ∙ c.loop-name.invariant.0.world);
+}
 
 pub returns-in-Err-clause-rest : goal.returns-in-Err-clause-rest
 returns-in-Err-clause-rest g c =
