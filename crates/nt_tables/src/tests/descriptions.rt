@@ -5,8 +5,8 @@ mod opening;
 mod reading;
 
 use self::data::{
-    DEFERRED, FIVE, FIVE_BYTES, FIVE_COLUMNS, FIVE_FIELDS, FLAGS, OTHER_BYTES, OTHER_COLUMNS,
-    OTHER_FIELDS, OTHERS,
+    DEFERRED, FIVE, FIVE_BYTES, FIVE_COLUMNS, FIVE_FIELDS, FLAGS, FOREIGN, NO_FLAGS, NO_ROWS,
+    OTHER_BYTES, OTHER_COLUMNS, OTHER_FIELDS, OTHERS,
 };
 use super::rows::{Field, described, has_columns, has_fields, schema_of};
 use nt_frame::FrameOut;
@@ -22,10 +22,19 @@ fn read(alloc: Global, bytes: &[u8]) -> Result<Schema, DescriptionError> {
     Ok(schema)
 }
 
-fn written(alloc: Global, schema: &Schema, part: Part) -> Result<Vec<u8>, AllocError> {
+/// Whether the rows of a part can be written whole, as these bytes.
+fn is_written(
+    alloc: Global,
+    schema: &Schema,
+    part: Part,
+    bytes: &[u8],
+) -> Result<bool, AllocError> {
+    if !schema.is_whole() {
+        return Ok(false);
+    }
     let mut out = FrameOut::new(Vec::new(alloc));
     write_description(schema, part, &mut out)?;
-    Ok(out.into_bytes())
+    Ok(out.into_bytes().as_slice() == bytes)
 }
 
 #[test]
@@ -52,18 +61,31 @@ fn no_rows(rt: HostRuntime) {
 fn worked_bytes(rt: HostRuntime) -> Result<(), Fail> {
     for (text, plain, bytes) in [(FIVE, false, FIVE_BYTES), (OTHERS, true, OTHER_BYTES)] {
         let schema = described(rt.alloc(), text, plain)?;
-        assert!(rt; written(rt.alloc(), &schema, Part::Header)?.as_slice() == bytes);
-        assert_eq!(rt; written(rt.alloc(), &schema, Part::Extension)?.len(), 48);
+        assert!(rt; is_written(rt.alloc(), &schema, Part::Header, bytes)?);
+        assert!(rt; is_written(rt.alloc(), &schema, Part::Extension, NO_ROWS)?);
     }
     Ok(())
 }
 
 #[test]
 fn bytes_of_both_parts(rt: HostRuntime) -> Result<(), Fail> {
-    let mut schema = read(rt.alloc(), FLAGS)?;
+    let mut schema = read(rt.alloc(), NO_FLAGS)?;
     read_description(&mut Cur::new(DEFERRED), &mut schema, Part::Extension)?;
-    assert!(rt; written(rt.alloc(), &schema, Part::Header)?.as_slice() == FLAGS);
-    assert!(rt; written(rt.alloc(), &schema, Part::Extension)?.as_slice() == DEFERRED);
+    assert!(rt; is_written(rt.alloc(), &schema, Part::Header, NO_FLAGS)?);
+    assert!(rt; is_written(rt.alloc(), &schema, Part::Extension, DEFERRED)?);
+    Ok(())
+}
+
+#[test]
+fn flags_without_their_words(rt: HostRuntime) -> Result<(), Fail> {
+    for (bytes, whole) in [
+        (FLAGS, false),
+        (FOREIGN, false),
+        (NO_FLAGS, true),
+        (FIVE_BYTES, true),
+    ] {
+        assert_eq!(rt; read(rt.alloc(), bytes)?.is_whole(), whole);
+    }
     Ok(())
 }
 

@@ -107,6 +107,18 @@ pub const FLAGS: &[u8] =
     \0\0\0\0\0\x04\0\x08\0\0\0\0\0\0\0\x03\0\xf4\xff\xff\xff\xff\xff\xff\xff\0\0\0\0\xf4\xff\xff\
     \xff\xff\xff\xff\xff\0\0\0\0";
 
+/// The same field without its flag.
+pub const NO_FLAGS: &[u8] =
+    b"\xc8\xff\xff\xff\xff\xff\xff\xff\x01\0\0\0,\0\0\0\0\0\0\0\0\0\0\0\0\0\0\0\0\0\0\0\x02\0\0\
+    \0\x01\0\0\0r\x03\0\0\0odd\0\0\0\0\0\0\0\0\xe0\xff\xff\xff\xff\xff\xff\xff\x01\0\0\0\x14\0\0\
+    \0\0\0\0\0\x04\0\x08\0\0\0\0\0\0\0\x03\0\xf4\xff\xff\xff\xff\xff\xff\xff\0\0\0\0\xf4\xff\xff\
+    \xff\xff\xff\xff\xff\0\0\0\0";
+
+/// No fields, no columns, no alias columns and no type information.
+pub const NO_ROWS: &[u8] =
+    b"\xf4\xff\xff\xff\xff\xff\xff\xff\0\0\0\0\xf4\xff\xff\xff\xff\xff\xff\xff\0\0\0\0\
+    \xf4\xff\xff\xff\xff\xff\xff\xff\0\0\0\0\xf4\xff\xff\xff\xff\xff\xff\xff\0\0\0\0";
+
 /// A field and a column with a first element.
 pub const DEFERRED: &[u8] =
     b"\xbe\xff\xff\xff\xff\xff\xff\xff\x01\0\0\06\0\0\0\0\0\0\0\0\0\0\0\0\0\0\0\x01\0\0\0\0\0\0\0\
