@@ -50,6 +50,27 @@ fn worked_rows(rt: HostRuntime) -> Result<(), Fail> {
     Ok(())
 }
 
+/// A text of so many fields, each with one column.
+fn many_fields(alloc: Global, count: u32) -> Result<Vec<u8>, AllocError> {
+    let mut text = Vec::new(alloc);
+    for id in 0..count {
+        for digit in [id / 676, id / 26, id] {
+            text.push(b'a' + (digit % 26) as u8)?;
+        }
+        text.extend_from_slice(b" u8\n")?;
+    }
+    Ok(text)
+}
+
+#[test]
+fn five_thousand_rows(rt: HostRuntime) -> Result<(), Fail> {
+    let text = many_fields(rt.alloc(), 2500)?;
+    let schema = described(rt.alloc(), &text, false)?;
+    assert_eq!(rt; (schema.fields(), schema.columns()), (2500, 2500));
+    assert_eq!(rt; schema.find(b"adr"), Some(95));
+    Ok(())
+}
+
 #[test]
 fn no_rows(rt: HostRuntime) {
     let schema = Schema::new(rt.alloc());
