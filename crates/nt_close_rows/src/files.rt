@@ -7,6 +7,7 @@ ghost use Rattle.nt_outside.specs.Held.{WhereHeld, nothing_held};
 ghost use Rattle.nt_memory.specs.Disk.{state_of};
 ghost use Rattle.nt_book.specs.Pages.{IsPaged};
 ghost use Rattle.nt_layout.specs.Headers.{clusters_place};
+ghost use Rattle.nt_schema.specs.Whole.{AreWhole};
 
 use nt_book::{Book, ClusterMeta, Limits, PageList, PageLists, PageMeta, Params};
 use nt_close::{BeginError, CloseError, begin, close};
@@ -83,25 +84,23 @@ fn blob_of(alloc: Global, place: u64, page: &[u8]) -> Result<Vec<u8>, AllocError
     Ok(blob)
 }
 
-/// Appends the cluster of a page of so many numbers, and enters it in the book; its range is spoiled
-/// after so many faults, if there are any.
+/// Appends the cluster of a page of numbers, and enters it in the book; its range is spoiled after so
+/// many faults, if there are any.
 fn add(
     alloc: Global,
     disk: &mut MemDisk,
     book: &mut Book,
     page: &[u8],
-    count: u32,
     faults: u64,
 ) -> Result<(), AllocError>
-    requires count { count < 1000 }
-    requires page { length page.now ≡ 8 * count }
+    requires page { length page.now < 8000 }
     requires columns { length book.old.firsts ≡ 1 }
     ensures columns { length book.new.firsts ≡ 1 }
     ensures begin { book.new.begin ≡ book.old.begin }
     ensures out { (state_of disk.new).out ≡ (state_of disk.old).out }
 {
     book.keeps();
-    let mut meta = meta_of(alloc, count)?;
+    let mut meta = meta_of(alloc, (page.len() / 8) as u32)?;
     if disk.end() != book.end() || book.check(meta.len).is_err() {
         return Err(AllocError);
     }
@@ -131,6 +130,7 @@ fn fill(
     requires begin { book.old.begin ≡ clusters_place schema.now }
     requires columns { length book.old.firsts ≡ 1 }
     requires out { (state_of disk.old).out ≡ [] }
+    requires whole { AreWhole schema.now }
 {
     for (k, page) in pages.iter().enumerate() {
         let count = page.len() / 8;
@@ -138,7 +138,7 @@ fn fill(
             return Err(AllocError);
         }
         let faults = if k < spoiled { 0 } else { k as u64 };
-        add(alloc, disk, book, page, count as u32, faults)?;
+        add(alloc, disk, book, page, faults)?;
     }
     if disk.end() != book.end() {
         return Err(AllocError);
