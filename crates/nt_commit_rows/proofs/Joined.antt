@@ -2,12 +2,13 @@
 use Rattle.std.proofs.Common.{◌≡◌, ◌∙◌, refl, ap, sym, subst, ℕ, ◌+◌, ◌<◌, List, [], ◌∷◌, ◌++◌, append-nil, Result, Ok, Err}
 use Rattle.std.specs.List.{AllByRecursion}
 use Rattle.nt_turn.specs.History.{HasNone}
-use Rattle.nt_turn.specs.Pass.{TurnState, PassState, JoinsSince, next_pass}
-use Rattle.nt_turn.proofs.Joining.{joins_since}
+use Rattle.nt_turn.specs.Pass.{TurnState, PassState, JoinsSince, first_pass, next_pass}
+use Rattle.nt_turn.proofs.Joining.{joins_since, all_joined}
 use Rattle.nt_machine.specs.declared.entry.Entry.{Entry}
 use Rattle.nt_book.specs.declared.meta.ClusterMeta.{ClusterMeta}
 use Rattle.nt_commit.specs.declared.locked.Birth.{Birth}
-use Rattle.nt_commit.specs.Holds.{IsPassOf, IsFirstOf, HasNoneOut, AreAllIn, AddsInHold, OpensInHold, RefusesPen, EntersAfter, LeavesAfter}
+use Rattle.nt_commit.specs.Holds.{IsPassOf, IsFirstOf, HasNoneOut, AreAllIn, HaveAllLeft, AddsInHold, OpensInHold, RefusesPen}
+use Rattle.nt_commit.specs.Holds.{EntersAfter, LeavesAfter}
 use Rattle.nt_commit_rows.specs.Joined.{Seat, IsEntered, HasLeft, HasAllBack}
 
 module _ {D : Type 0} (committer : TurnState (Birth D)) where
@@ -49,3 +50,10 @@ module _ {D : Type 0} (committer : TurnState (Birth D)) where
       → HasLeft committer mid done new → HasAllBack committer old new
   back-alone old mid new pass done entered number left =
       back-around old mid mid new pass done entered (back-itself mid entered.first) number left
+
+  -- of a first pass that is as it began, but that contexts came and went, all have left
+  pub all-left : (old new : Seat D) → old ≡ first_pass committer → HasAllBack committer old new → HaveAllLeft new
+  all-left old new is back = record {
+    joined = all_joined old new (ap (λ (p : Seat D). p.splits) is) back.since;
+    none_out = back.back (subst (λ (p : Seat D). AreAllIn p) (sym is) (record { own = tt; kept = tt }));
+  }

@@ -1,7 +1,7 @@
 -- How a context gets its one range, and hands it back.
 use Rattle.std.proofs.Common.{◌≡◌, ◌∙◌, refl, ap, sym, subst, ℕ, zero, suc, ◌==◌, ◌&&◌, Bool, true, false, cond, List, [], ◌∷◌, ◌++◌, ◌+◌}
 use Rattle.std.proofs.Common.{◌-◌, ◌≤◌, map, length, drop, append-nil, length-append, length-drop, arith, Some, Option, Result, Ok, Err}
-use Rattle.std.specs.Prelude.{slice_get, IfOk, IfErr}
+use Rattle.std.specs.Prelude.{slice_get}
 use Rattle.std.specs.List.{AllByRecursion, fold}
 use Rattle.std.proofs.lemmas.List.Sums.{fold-append}
 use Rattle.std.proofs.lemmas.Bool.{eq-eqb}
@@ -25,7 +25,7 @@ use Rattle.nt_container.proofs.Lengths.{blob_key-len}
 use Rattle.nt_commit.specs.Images.{image_after}
 use Rattle.nt_book.specs.Entries.{faulted_entry, spoiled_entry}
 use Rattle.nt_commit.specs.Holds.{HasNoneOut, CommitsInHold, AddsInHold, SpoilsInHold, locked_end, locked_count}
-use Rattle.nt_commit_rows.specs.Sole.{IsSoleClaim}
+use Rattle.nt_commit_rows.specs.Sole.{IsSoleClaim, LeavesAtMostOne}
 
 abbrev Entries : Type 0
 Entries = List (Entry ClusterMeta)
@@ -176,21 +176,13 @@ module _ {D X : Type 0} (state : D → DiskState) (tell : X → ExtState) (commi
   none-refused meta old new Memory back h = stays old.own new.own _ back (own-grows meta old new _ h) h.commits.adds
   none-refused meta old new Fault back h = stays-faulted old.own new.own _ _ _ back (own-grows meta old new _ h) h.commits.adds.1
 
-  -- what an answer leaves: the claim of the one range that is out
-  pub claim-if-ok : (meta : ClusterMeta) (old new : PassState (Entry ClusterMeta) (Birth D)) (len : ℕ)
+  -- what an answer leaves: the claim of the one range that is out, or none
+  pub left-by-answer : (meta : ClusterMeta) (old new : PassState (Entry ClusterMeta) (Birth D)) (len : ℕ)
       (result : Result (Claim X) CommitError) → HasNoneOut old.own
-      → meta.context ≡ old.number → meta.len ≡ len → Hold meta old new result
-      → IfOk result (λ claim. IsSoleClaim tell new.own old.number len claim)
-  claim-if-ok meta old new len (Ok claim) back context is h =
+      → meta.context ≡ old.number → meta.len ≡ len → Hold meta old new result → LeavesAtMostOne tell new.own old.number len result
+  left-by-answer meta old new len (Ok claim) back context is h =
       subst (λ (n : ℕ). IsSoleClaim tell new.own old.number n claim) is (sole-commit meta old new claim back context h)
-  claim-if-ok meta old new len (Err e) back context is h = tt
-
-  -- or none
-  pub none-if-err : (meta : ClusterMeta) (old new : PassState (Entry ClusterMeta) (Birth D)) (result : Result (Claim X) CommitError)
-      → HasNoneOut old.own
-      → Hold meta old new result → IfErr result (λ e. HasNoneOut new.own)
-  none-if-err meta old new (Ok claim) back h = tt
-  none-if-err meta old new (Err e) back h = none-refused meta old new e back h
+  left-by-answer meta old new len (Err e) back context is h = none-refused meta old new e back h
 
 module _ {X : Type 0} (tell : X → ExtState) where
   -- an image keeps its length

@@ -1,5 +1,5 @@
 -- A first pass to which others are joined, none of whose ranges is out.
-use Rattle.std.specs.Prelude.{◌≡◌, ℕ, ◌+◌, [], ◌∷◌, ◌++◌}
+use Rattle.std.specs.Prelude.{◌≡◌, ℕ, ◌+◌, ◌≤◌, [], ◌∷◌, ◌++◌}
 use Rattle.nt_turn.specs.Pass.{TurnState, PassState, JoinsSince}
 use Rattle.nt_machine.specs.declared.entry.Entry.{Entry}
 use Rattle.nt_book.specs.declared.meta.ClusterMeta.{ClusterMeta}
@@ -11,6 +11,12 @@ use Rattle.nt_commit.specs.Holds.{IsPassOf, IsFirstOf, HasNoneOut, AreAllIn}
 -- a pass with its entries
 abbrev pub Seat : Type 0 → Type 0
 Seat D = PassState (Entry ClusterMeta) (Birth D)
+
+-- so many contexts more may be let in, whose clusters have no column
+pub record MayLetIn {D : Type 0} (committer : TurnState (Birth D)) (more : ℕ) (first : Seat D) : Type 0 where
+  pub first_is : IsFirstOf committer first
+  pub room : first.splits + more ≤ committer.birth.contexts
+  pub columns : committer.birth.columns ≡ 0
 
 -- each pass that was split off since is joined again, and if no range was out, none is
 pub record HasAllBack {D : Type 0} (committer : TurnState (Birth D)) (old new : Seat D) : Type 0 where

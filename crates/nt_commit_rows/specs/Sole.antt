@@ -1,11 +1,13 @@
 -- A context of which one range is out.
-use Rattle.std.specs.Prelude.{◌≡◌, ℕ, false, List, [], ◌∷◌, ◌++◌}
+use Rattle.std.specs.Prelude.{◌≡◌, ℕ, false, List, [], ◌∷◌, ◌++◌, Result, Ok, Err}
 use Rattle.std.specs.List.{AllByRecursion}
 use Rattle.nt_outside.specs.Range.{ExtState}
 use Rattle.nt_machine.specs.declared.entry.Entry.{Entry}
 use Rattle.nt_machine.specs.History.{Cluster, Out, is_out, ranges_of}
 use Rattle.nt_book.specs.declared.meta.ClusterMeta.{ClusterMeta}
 use Rattle.nt_commit.specs.declared.claim.Claim.{Claim}
+use Rattle.nt_commit.specs.declared.error.CommitError.{CommitError}
+use Rattle.nt_commit.specs.Holds.{HasNoneOut}
 use Rattle.nt_commit.specs.Locked.{place_of}
 
 -- the claim is of the last range of a context's entries, so many bytes long, and no other range of theirs is out
@@ -21,3 +23,8 @@ pub record IsSoleClaim {X : Type 0} (tell : X → ExtState) (entries : List (Ent
   pub range : place_of last ≡ (tell claim.ext).range
   pub unfilled : (tell claim.ext).filled ≡ false
   pub len_is : (tell claim.ext).range.len ≡ len
+
+-- what an answer to a commit leaves out of a context's ranges: that of the claim alone, or none
+abbrev pub LeavesAtMostOne : {X : Type 0} → (X → ExtState) → List (Entry ClusterMeta) → ℕ → ℕ → Result (Claim X) CommitError → Type 0
+LeavesAtMostOne tell entries context len (Ok claim) = IsSoleClaim tell entries context len claim
+LeavesAtMostOne tell entries context len (Err e) = HasNoneOut entries

@@ -3,7 +3,7 @@
 ghost use Rattle.std.specs.Prelude.{◌≡◌, ◌<◌, ◌≤◌, ◌+◌, length, IfOk, IfErr};
 ghost use Rattle.nt_commit.specs.Holds.{IsPassOf, IsFirstOf, HasNoneOut};
 ghost use Rattle.nt_commit.specs.Images.{IsImageFor};
-ghost use Rattle.nt_commit_rows.specs.Sole.{IsSoleClaim};
+ghost use Rattle.nt_commit_rows.specs.Sole.{IsSoleClaim, LeavesAtMostOne};
 ghost use Rattle.nt_commit_rows.specs.Joined.{IsReadyToWrite, IsDone, IsEntered, HasAllBack, HasLeft};
 
 use nt_book::{ClusterMeta, PageLists};
@@ -45,14 +45,12 @@ pub fn commit_one<D: Disk>(
     pass: &mut Pass<Locked<D>>,
     image: &mut ClusterImage,
 ) -> Result<Claim<D::Ext>, CommitError>
-    requires pass { IsPassOf committer.now pass.old }
-    requires back { HasNoneOut pass.old.own }
-    requires image { IsImageFor committer.now.birth.columns pass.old.number image.old }
+    requires { IsReadyToWrite committer.now pass.old image.old }
     ensures pass { IsPassOf committer.now pass.new }
     ensures number { pass.new.number ≡ pass.old.number }
     ensures len { length image.new.bytes ≡ length image.old.bytes }
-    ensures claim { IfOk result (λ claim. IsSoleClaim D.Ext.state pass.new.own pass.old.number (length image.old.bytes) claim) }
-    ensures refused { IfErr result (λ e. HasNoneOut pass.new.own) }
+    ensures left { LeavesAtMostOne D.Ext.state pass.new.own pass.old.number
+        (length image.old.bytes) result }
 {
     committer.commit(rt, pass, image)
 }
@@ -96,8 +94,7 @@ pub fn hand_back_any<D: Disk>(
     bytes: &[u8],
 ) -> (Option<D::Pen>, Option<CommitError>)
     requires pass { IsPassOf committer.now pass.old }
-    requires claim { IfOk answer (λ claim. IsSoleClaim D.Ext.state pass.old.own pass.old.number (length bytes.now) claim) }
-    requires refused { IfErr answer (λ e. HasNoneOut pass.old.own) }
+    requires left { LeavesAtMostOne D.Ext.state pass.old.own pass.old.number (length bytes.now) answer }
     ensures pass { IsPassOf committer.now pass.new }
     ensures number { pass.new.number ≡ pass.old.number }
     ensures back { HasNoneOut pass.new.own }
@@ -130,8 +127,8 @@ fn finish_one<D: Disk>(
     answer: Result<Claim<D::Ext>, CommitError>,
 ) -> Done<D>
     requires pass { IsPassOf committer.now context.pass }
-    requires claim { IfOk answer (λ claim. IsSoleClaim D.Ext.state context.pass.own context.pass.number (length context.image.bytes) claim) }
-    requires refused { IfErr answer (λ e. HasNoneOut context.pass.own) }
+    requires left { LeavesAtMostOne D.Ext.state context.pass.own context.pass.number
+        (length context.image.bytes) answer }
     ensures { IsDone committer.now context.pass.number result.pass }
 {
     let Context {

@@ -1,9 +1,8 @@
 //! Two contexts that write a cluster each, in each way.
 
-ghost use Rattle.std.specs.Prelude.{◌≡◌, ◌+◌, ◌<◌, ◌≤◌, []};
+ghost use Rattle.std.specs.Prelude.{◌≡◌, []};
 ghost use Rattle.nt_outside.specs.Disk.{DiskState};
-ghost use Rattle.nt_commit.specs.Holds.{IsPassOf, IsFirstOf, HasNoneOut};
-ghost use Rattle.nt_commit_rows.specs.Joined.{IsReadyToWrite, IsDone, HasAllBack};
+ghost use Rattle.nt_commit_rows.specs.Joined.{IsReadyToWrite, IsDone, HasAllBack, MayLetIn};
 
 use crate::contexts::{Context, Done, enter_one, image_of, leave_one, write_beside, write_one};
 use nt_book::{Book, Limits};
@@ -86,9 +85,7 @@ fn write_with_another<D: Disk>(
     way: Way,
     b_leads: bool,
 ) -> (Done<D>, Option<CommitError>)
-    requires first { IsFirstOf committer.now first.old }
-    requires room { first.old.splits < committer.now.birth.contexts }
-    requires columns { committer.now.birth.columns ≡ 0 }
+    requires letting { MayLetIn committer.now 1 first.old }
     requires ready { IsReadyToWrite committer.now a.pass a.image }
     ensures done { IsDone committer.now a.pass.number result.0.pass }
     ensures all { HasAllBack committer.now first.old first.new }
@@ -116,9 +113,7 @@ fn write_two<D: Disk>(
     way: Way,
     b_leads: bool,
 ) -> Refusals
-    requires first { IsFirstOf committer.now first.old }
-    requires room { first.old.splits + 2 ≤ committer.now.birth.contexts }
-    requires columns { committer.now.birth.columns ≡ 0 }
+    requires { MayLetIn committer.now 2 first.old }
     ensures { HasAllBack committer.now first.old first.new }
 {
     let Ok((pass, pen)) = enter_one(rt, committer, first) else {

@@ -3,8 +3,8 @@
 ghost use Rattle.std.specs.Prelude.{◌≡◌, ◌+◌, ◌≤◌, []};
 ghost use Rattle.std.specs.Thread.{IsSync};
 ghost use Rattle.nt_memory.specs.Disk.{state_of};
-ghost use Rattle.nt_commit.specs.Holds.{IsPassOf, IsFirstOf, HasNoneOut};
-ghost use Rattle.nt_commit_rows.specs.Joined.{IsDone, HasAllBack};
+ghost use Rattle.nt_commit.specs.Holds.{IsPassOf, HasNoneOut};
+ghost use Rattle.nt_commit_rows.specs.Joined.{IsDone, HasAllBack, MayLetIn};
 
 use crate::contexts::{commit_one, enter_one, hand_back_any, image_of, leave_one};
 use nt_book::{Book, Limits, RangeState};
@@ -55,9 +55,7 @@ fn write_beside_each_other<R: Threads + Wait + Sync>(
     contexts: u32,
     clusters: usize,
 )
-    requires first { IsFirstOf committer.now first.old }
-    requires room { first.old.splits + contexts ≤ committer.now.birth.contexts }
-    requires columns { committer.now.birth.columns ≡ 0 }
+    requires letting { MayLetIn committer.now contexts first.old }
     requires few { clusters ≤ 100 }
     ensures { HasAllBack committer.now first.old first.new }
 {
@@ -76,7 +74,7 @@ fn write_beside_each_other<R: Threads + Wait + Sync>(
             ensures { IsDone committer.entry.now pass.entry.number pass.exit }
         { write_many(rt, alloc, committer, &mut pass, &mut pen, clusters) },
         &mut ||
-            requires { IsSync R.row × IsFirstOf committer.now first.now × (first.now.splits + rest ≤ committer.now.birth.contexts) × (committer.now.birth.columns ≡ 0) × (clusters ≤ 100) }
+            requires { IsSync R.row × MayLetIn committer.now rest first.now × (clusters ≤ 100) }
             ensures { HasAllBack committer.entry.now first.entry.now first.exit.now }
         { write_beside_each_other(rt, alloc, committer, first, rest, clusters) },
     );
