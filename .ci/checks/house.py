@@ -5,6 +5,7 @@
 - Each path that a document names is there.
 - No name of a definition stands in the specs of two crates, but for those of SHARED.
 - No line of specs or proofs has more than 140 characters.
+- A function has at most five clauses.
 - What an edit in must-fail/ changes stands once in the file that it names.
 - Bodies of functions over 40 lines and files over 250 are named; they are no failure.
 """
@@ -114,6 +115,23 @@ def long_lines(files):
                     yield f"{path}:{number}: a line of {len(line)} characters"
 
 
+def many_clauses(files):
+    for path in files:
+        if not path.endswith(".rt"):
+            continue
+        name, count = None, 0
+        for line in lines_of(path):
+            found = re.match(r"\s*(?:pub(?:\([^)]*\))? )?(?:const )?(?:unsafe )?(?:extern \"C\" )?fn (\w+)", line)
+            if found:
+                name, count = found.group(1), 0
+            elif name and re.match(r"\s*(requires|ensures)\b", line):
+                count += 1
+                if count == 6:
+                    yield f"{path}: {name} has more than five clauses"
+            elif line.strip() == "{":
+                name = None
+
+
 def edits(files):
     for path in files:
         found = re.match(r"(crates/\w+)/must-fail/.*\.edit$", path)
@@ -159,7 +177,7 @@ def main():
     layers = layers_of("docs/ARCHITECTURE.md")
     for note in long_bodies(files):
         print("long: " + note)
-    amiss = [*check_crates(crates, layers), *check_paths(crates, files), *check_names(files), *long_lines(files), *edits(files)]
+    amiss = [*check_crates(crates, layers), *check_paths(crates, files), *check_names(files), *long_lines(files), *many_clauses(files), *edits(files)]
     for fault in amiss:
         print("amiss: " + fault, file=sys.stderr)
     return 1 if amiss else 0
