@@ -1,6 +1,6 @@
 -- What is known of the columns of a table that grew.
 use Rattle.std.proofs.Common.{◌≡◌, ℕ, zero, suc, ◌+◌, ◌-◌, ◌<◌, ◌≤◌, true, List, [], ◌∷◌, length, refl, sym, ap, ◌∙◌}
-use Rattle.std.proofs.Common.{◌⊎◌, inl, inr, arith}
+use Rattle.std.proofs.Common.{◌⊎◌, inl, inr, Some, slice_get, add-zero, arith}
 use Rattle.std.specs.Prelude.{slice_index_or}
 use Rattle.std.proofs.lemmas.Bool.{cases_lt}
 use Rattle.std.proofs.lemmas.List.{length-append, get_or_append_left, get_or-append_right}
@@ -39,6 +39,17 @@ begin-at before p id (c ∷ cs) zero h less is =
 begin-at before p id (c ∷ cs) (suc j) h less is =
     let same : id + 1 + j ≡ id + suc j = omega arith in
     begin-at before p (id + 1) cs j h.1 (omega (arith, less)) (ap (λ (i : ℕ). is_entries (need_in entries p i)) same ∙ is)
+
+pub all-begin : (low : ℕ) (p : PlanData) (id : ℕ) (rows : List ColumnRow)
+    → ((k : ℕ) (c : ColumnRow) → slice_get rows k ≡ Some c → is_entries (need_in entries p (id + k)) ≡ true → low ≤ c.first)
+    → AllBeginBehind low p id rows
+all-begin low p id [] h = tt
+all-begin low p id (c ∷ cs) h = (
+  λ e. h 0 c refl (ap (λ (i : ℕ). is_entries (need_in entries p i)) (add-zero id) ∙ e),
+  all-begin low p (id + 1) cs (λ k d at e.
+      let next : id + suc k ≡ (id + 1) + k = omega arith in
+      h (suc k) d at (ap (λ (i : ℕ). is_entries (need_in entries p i)) next ∙ e)),
+)
 
 -- ---- the columns of a table that grew
 

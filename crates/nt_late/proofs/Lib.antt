@@ -4,3 +4,6 @@ pub mod LeftColumns
 pub mod Filling
 pub mod GrownTables
 pub mod LaidLate
+pub mod AddedColumns
+pub mod AddedBegin
+pub mod AddedFields

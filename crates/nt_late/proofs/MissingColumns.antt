@@ -51,7 +51,7 @@ or-other : (o other : Option NeedData) → is_entries o ≡ false → is_entries
 or-other None other a b = b
 or-other (Some x) other a b = a
 
-at-other : (above : NeedData) (k j : ℕ) → is_entries (Some above) ≡ false → is_entries (need_at above k j) ≡ false
+pub at-other : (above : NeedData) (k j : ℕ) → is_entries (Some above) ≡ false → is_entries (need_at above k j) ≡ false
 at-other above k j h = by (j == k)
   where
     by : (b : Bool) → is_entries (if b then Some above else None) ≡ false
@@ -59,7 +59,7 @@ at-other above k j h = by (j == k)
     by false = refl
 
 mutual
-  in-other : (above : NeedData) (p : PlanData) (j : ℕ) → is_entries (Some above) ≡ false → is_entries (need_in above p j) ≡ false
+  pub in-other : (above : NeedData) (p : PlanData) (j : ℕ) → is_entries (Some above) ≡ false → is_entries (need_in above p j) ≡ false
   in-other above (bool k) j h = at-other above k j h
   in-other above (number k bits signed) j h = at-other above k j h
   in-other above (text ends bytes) j h =
@@ -74,7 +74,7 @@ mutual
   any-other above no_plans j h = refl
   any-other above (plan p ps) j h = or-other (need_in above p j) (need_in_any above ps j) (in-other above p j h) (any-other above ps j h)
 
-  under-other : (tags tag : ℕ) (ps : PlansData) (j : ℕ) → is_entries (need_under tags tag ps j) ≡ false
+  pub under-other : (tags tag : ℕ) (ps : PlansData) (j : ℕ) → is_entries (need_under tags tag ps j) ≡ false
   under-other tags tag no_plans j = refl
   under-other tags tag (plan p ps) j =
       or-other (need_in (under tags tag) p j) (need_under tags (suc tag) ps j) (in-other (under tags tag) p j refl)

@@ -1,3 +1,4 @@
+pub mod AddedFields
 pub mod LateFiles
 pub mod LeftOut
 pub mod Missing
