@@ -3,6 +3,7 @@
 ghost use Rattle.std.specs.Prelude.{◌≡◌, ◌<◌, ◌≤◌, ◌+◌, length, IfOk, IfErr};
 ghost use Rattle.nt_commit.specs.Holds.{IsPassOf, IsFirstOf, HasNoneOut};
 ghost use Rattle.nt_commit.specs.Images.{IsImageFor};
+ghost use Rattle.nt_pages.specs.Image.{key_room};
 ghost use Rattle.nt_commit_rows.specs.Sole.{IsSoleClaim, LeavesAtMostOne};
 ghost use Rattle.nt_commit_rows.specs.Joined.{IsReadyToWrite, IsDone, IsEntered, HasAllBack, HasLeft};
 
@@ -23,7 +24,7 @@ pub fn image_of(
     len: usize,
 ) -> Result<ClusterImage, AllocError>
     requires { len ≤ 1000 }
-    ensures { IfOk result (λ image. IsImageFor 0 context image × (length image.bytes ≡ 42 + len)) }
+    ensures { IfOk result (λ image. IsImageFor 0 context image × (length image.bytes ≡ key_room + len)) }
 {
     let bytes = vec![in alloc; byte; 42 + len]?;
     let meta = ClusterMeta {

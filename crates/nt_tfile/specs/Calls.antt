@@ -1,5 +1,5 @@
 -- How the calls of the reader answer.
-use Rattle.std.specs.Prelude.{ℕ, ◌≡◌, ◌≤◌, List, length, Some, Result, Ok, Err, IsErrOf}
+use Rattle.std.specs.Prelude.{ℕ, ◌≡◌, ◌≤◌, ◌^◌, List, length, Some, Result, Ok, Err, IsErrOf}
 use Rattle.nt_num.specs.Place.{At}
 use Rattle.nt_num.specs.declared.cursor.Short.{Short}
 use Rattle.nt_num.specs.declared.fault.ReadError.{ReadError}
@@ -11,6 +11,10 @@ use Rattle.nt_outside.specs.File.{FileState}
 use Rattle.nt_outside.specs.Faults.{Rose}
 use Rattle.nt_tfile.specs.declared.failure.ReadFailure.{ReadFailure}
 use Rattle.nt_tfile.specs.declared.failure.ReadFailure.TheVariants.{Defect, Fault, Memory}
+
+-- how many bytes of a file are read at once, at most
+abbrev pub most_at_once : ℕ
+most_at_once = 2 ^ 20
 
 -- a call that ended at this place answers what a reading gives; where it is short, that is the place
 abbrev pub ReadsOn : {V W : Type 0} → (V → W) → Result V Short → At → Result (W × At) ℕ → Type 0

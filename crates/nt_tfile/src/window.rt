@@ -1,9 +1,9 @@
 //! Windows of a file, read into memory.
 
-ghost use Rattle.std.specs.Prelude.{◌≡◌, ◌+◌, ◌≤◌, ◌^◌, ℕ, List, ◌++◌, take, drop, Some, IfOk, OnOk};
+ghost use Rattle.std.specs.Prelude.{◌≡◌, ◌+◌, ◌≤◌, ℕ, List, ◌++◌, take, drop, Some, IfOk, OnOk};
 ghost use Rattle.nt_outside.specs.Faults.{RoseOnFailed};
 ghost use Rattle.nt_format.specs.Pieces.{window};
-ghost use Rattle.nt_tfile.specs.Calls.{HasSize};
+ghost use Rattle.nt_tfile.specs.Calls.{HasSize, most_at_once};
 
 use nt_outside::{ReadAt, Refused};
 use std::alloc::Global;
@@ -18,7 +18,7 @@ fn read_more<F: ReadAt>(
     step: usize,
     bytes: &mut Vec<u8>,
 ) -> Result<(), Refused>
-    requires { step ≤ 2 ^ 20 }
+    requires { step ≤ most_at_once }
     ensures same { (F.state file.new).bytes ≡ (F.state file.old).bytes }
     ensures cause { RoseOnFailed (F.state file.old).faults (F.state file.new).faults result }
     ensures bytes { (told : List ℕ) → (F.state file.old).bytes ≡ Some told
