@@ -15,6 +15,7 @@ const ABOVE_NINE: u64 = 0x7676_7676_7676_7676;
 const HIGHEST: u64 = 0x8080_8080_8080_8080;
 
 /// The eight bytes from a place, the first as the lowest.
+#[inline(always)]
 fn word_at(text: &[u8], at: usize) -> u64
     requires { at + 8 ≤ length text.now }
     ensures { result ≡ low_first (take 8 (drop at text.now)) }
@@ -32,6 +33,7 @@ fn word_at(text: &[u8], at: usize) -> u64
 }
 
 /// A bit for bytes that aren't below ten. The lowest one marks the first of them.
+#[inline(always)]
 fn marks(word: u64) -> u64
     ensures { result ≡ 0 → AreDigits 8 word }
 {
@@ -39,6 +41,7 @@ fn marks(word: u64) -> u64
 }
 
 /// The number that eight digits spell.
+#[inline(always)]
 fn number_of(digits: u64) -> u64
     requires { AreDigits 8 digits }
     ensures { result ≡ number_behind 8 0 digits }
@@ -50,6 +53,7 @@ fn number_of(digits: u64) -> u64
 }
 
 /// Digits from a place on, up to eight: their number, and how many they are.
+#[inline(always)]
 pub fn up_to_eight(text: &[u8], at: usize) -> (u64, usize)
     requires { at + 8 ≤ length text.now }
     ensures value { result.0 ≡ digits_value 10 (slice_range text.now at (at + result.1)) }

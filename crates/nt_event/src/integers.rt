@@ -13,6 +13,7 @@ use crate::eight::up_to_eight;
 use crate::marks::after;
 
 /// No zero stands before other digits.
+#[inline(always)]
 fn has_no_zeros(text: &[u8], at: usize, end: usize) -> bool
     requires { (at < end) × (end ≤ length text.now) }
     ensures { IsTrue result → get_or text.now at 0 ≡ 48 → end ≤ at + 1 }
@@ -48,6 +49,7 @@ const TENS: [u64; 9] = [
 ];
 
 /// A power of ten.
+#[inline(always)]
 fn ten_to(exponent: usize) -> u64
     requires { exponent ≤ 8 }
     ensures { result ≡ 10 ^ exponent }
@@ -56,6 +58,7 @@ fn ten_to(exponent: usize) -> u64
 }
 
 /// The end of at most 19 digits, and their number.
+#[inline(always)]
 fn digits(text: &[u8], at: usize) -> (u64, usize)
     requires { at ≤ length text.now }
     ensures { DigitsStand text.now at result.1 result.0 }
@@ -87,6 +90,7 @@ fn then_digit(n: u64, byte: u8) -> Option<u64>
 }
 
 /// A number of 64 bits, as it is printed.
+#[inline(always)]
 pub fn number(text: &[u8], at: usize) -> Option<(u64, usize)>
     requires { at ≤ length text.now }
     ensures { IfSome result (λ r. StandsFrom (decimal r.0) text.now at r.1) }
@@ -121,6 +125,7 @@ fn most(bits: u8, signed: bool) -> Option<u64>
 }
 
 /// An integer of a width without a sign, as it is printed.
+#[inline(always)]
 pub fn unsigned_integer(text: &[u8], at: usize, bits: u8) -> Option<(u64, usize)>
     requires { at ≤ length text.now }
     ensures spells { IfSome result

@@ -12,7 +12,8 @@
 //! others beside them; [`spelled_trees_are_read`] says that what they spell is what `read_line` reads.
 //!
 //! Choices that bind nobody else: digits are read eight at once, by one word (`eight.rt`), since most of a line's bytes are
-//! digits; byte by byte only near the end of a line.
+//! digits; byte by byte only near the end of a line. What reads a number without a sign is inlined whole, so that a loop over
+//! many of them makes no calls.
 #![tactic(auto)]
 
 mod blanks;
