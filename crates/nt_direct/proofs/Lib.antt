@@ -1,6 +1,7 @@
 pub mod Growing
 pub mod Singles
 pub mod Walks
+pub mod OneColumn
 pub mod Equal
 pub mod Arms
 pub mod Cutting

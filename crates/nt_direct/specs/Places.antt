@@ -1,5 +1,8 @@
 -- Columns that grow while a text is read.
-use Rattle.std.specs.Prelude.{ℕ, ◌≡◌, ◌+◌, ◌≤◌, ◌++◌, List, length, map}
+use Rattle.std.specs.Prelude.{ℕ, ◌≡◌, ◌≢◌, ◌+◌, ◌≤◌, ◌++◌, true, List, length, map}
+use Rattle.nt_types.specs.declared.column_type.ColumnType.TheVariants.{Switch}
+use Rattle.nt_types.specs.ColumnTable.{bits_of}
+use Rattle.nt_types.specs.Spelling.{is_width}
 use Rattle.nt_column.specs.Column.{Buffer}
 use Rattle.nt_column.specs.Elements.{Element}
 use Rattle.nt_trees.specs.Views.{cols_of}
@@ -17,3 +20,11 @@ pub record Grew (old new : List Buffer) : Type 0 where
 -- how many elements each column has
 abbrev pub lengths_of : List Buffer → List ℕ
 lengths_of bs = map (λ (b : Buffer). length b.column.elements) bs
+
+-- a column of integers of a width, with room for so many
+pub record TakesIntegers (bits left : ℕ) (b : Buffer) : Type 0 where
+  pub other : b.column.kind ≢ Switch
+  pub stored : b.column.zeros ≡ 0
+  pub width : bits_of b.column.kind ≡ bits
+  pub known : is_width bits ≡ true
+  pub room : left ≤ b.spare

@@ -1,13 +1,13 @@
 //! Values without parts.
 
-ghost use Rattle.std.specs.Prelude.{◌≡◌, ◌-◌, ◌≤◌, length, true, IfSome};
-ghost use Rattle.nt_types.specs.Spelling.{is_width};
+ghost use Rattle.std.specs.Prelude.{◌-◌, ◌≤◌, length};
 ghost use Rattle.nt_plans.specs.Plan.{bool, number, text};
-ghost use Rattle.nt_direct.specs.Walk.{CanPut, ElementStands, Puts, PutsAll, Leaves};
+ghost use Rattle.nt_direct.specs.Walk.{CanPut, Puts, Leaves};
 
+use crate::integers::element_at;
 use nt_column::{ColumnSet, Columns};
-use nt_event::{after, comma, plain_string, signed_integer, truth, unsigned_integer};
-use nt_shred::{push, push_bytes, push_end, signed_element};
+use nt_event::{plain_string, truth};
+use nt_shred::{push, push_bytes, push_end};
 
 /// Adds a truth value.
 pub fn flag(out: &mut ColumnSet, column: u32, line: &[u8], at: usize) -> Option<usize>
@@ -18,21 +18,6 @@ pub fn flag(out: &mut ColumnSet, column: u32, line: &[u8], at: usize) -> Option<
     let (value, end) = truth(line, at)?;
     push(out, column, u64::from(value));
     Some(end)
-}
-
-/// The element of an integer that stands at a place, and its end.
-fn element_at(line: &[u8], at: usize, bits: u8, signed: bool) -> Option<(u64, usize)>
-    requires within { at ≤ length line.now }
-    requires width { is_width bits ≡ true }
-    ensures { IfSome result (λ r. ElementStands bits signed r.0 line.now at r.1) }
-{
-    if signed {
-        let (value, end) = signed_integer(line, at, bits)?;
-        Some((signed_element(value, bits), end))
-    } else {
-        let (value, end) = unsigned_integer(line, at, bits)?;
-        Some((value, end))
-    }
 }
 
 /// Adds an integer.
@@ -52,30 +37,6 @@ pub fn whole(
     let (value, end) = element_at(line, at, bits, signed)?;
     push(out, column, value);
     Some(end)
-}
-
-/// Adds integers, the items of a list, up to its bracket.
-pub fn wholes(
-    out: &mut ColumnSet,
-    column: u32,
-    bits: u8,
-    signed: bool,
-    line: &[u8],
-    at: usize,
-) -> Option<usize>
-    requires within { at ≤ length line.now }
-    requires can { CanPut (number column bits signed) (length line.now - at) out.old }
-    ensures { Leaves (λ end. PutsAll (number column bits signed) line.now at end out.old out.new)
-        out.old out.new result }
-{
-    if let Some(end) = after(line, at, b']') {
-        return Some(end);
-    }
-    let mut i = whole(out, column, bits, signed, line, at)?;
-    while let Some(next) = comma(line, i) {
-        i = whole(out, column, bits, signed, line, next)?;
-    }
-    after(line, i, b']')
 }
 
 /// Adds a text, and its end.

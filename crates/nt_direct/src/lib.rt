@@ -1,8 +1,8 @@
 //! Lines of event text straight to columns, without a tree in between.
 //!
 //! Start at [`Direct`] in `line.rt`: `put_line` reads a line as it adds its elements, or refuses it. Then
-//! `values.rt`, the one walk over plans and text, `leaves.rt`, the values without parts, and `room.rt`,
-//! what is done before and after a line. Nearly every entry that is written comes through here.
+//! `values.rt`, the one walk over plans and text, `leaves.rt`, the values without parts, `integers.rt`, lists of
+//! integers, and `room.rt`, what is done before and after a line. Nearly every entry that is written comes through here.
 //!
 //! Words: those of nt_event and nt_shred. A line is *taken* where its entry was added, and *refused* where
 //! nothing was; of a refused line nothing is said, and it is to be read as trees.
@@ -16,9 +16,11 @@
 //! - Each element stands in the line as one byte at least. So room for as many elements as the line has
 //!   bytes is made in each column, and then nothing can fail.
 //! - What was added of a refused line is cut off again, at the lengths that were noted as room was made.
-//! - Lists of integers, where most values are, have a loop of their own, without a look at the plan a value.
+//! - Lists of integers, where most values are, have a loop of their own, in which the plan, the sign and the column are
+//!   looked up once.
 #![tactic(auto)]
 
+mod integers;
 mod leaves;
 mod line;
 mod room;

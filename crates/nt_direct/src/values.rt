@@ -6,7 +6,8 @@ ghost use Rattle.nt_plans.specs.PlanViews.{plan_view};
 ghost use Rattle.nt_trees.specs.Views.{plans_in};
 ghost use Rattle.nt_direct.specs.Walk.{CanPut, CanPutEach, Puts, PutsAll, PutsEach, Leaves};
 
-use crate::leaves::{flag, string, whole, wholes};
+use crate::integers::wholes;
+use crate::leaves::{flag, string, whole};
 use nt_column::ColumnSet;
 use nt_event::{after, comma, comma_if, null, number};
 use nt_plans::Plan;

@@ -1,0 +1,75 @@
+//! Integers, one and the items of a list.
+
+ghost use Rattle.std.specs.Prelude.{◌≡◌, ◌-◌, ◌≤◌, ℕ, List, length, true, Some, IfSome, slice_get, slice_set};
+ghost use Rattle.nt_types.specs.Spelling.{is_width};
+ghost use Rattle.nt_column.specs.Column.{Buffer};
+ghost use Rattle.nt_plans.specs.Plan.{number};
+ghost use Rattle.nt_direct.specs.Places.{TakesIntegers};
+ghost use Rattle.nt_direct.specs.Walk.{CanPut, ElementStands, PutsAll, Leaves};
+
+use nt_column::{ColumnBuf, ColumnSet};
+use nt_event::{after, comma, signed_integer, unsigned_integer};
+use nt_shred::signed_element;
+
+/// The element of an integer that stands at a place, and its end.
+#[inline(always)]
+pub(crate) fn element_at(line: &[u8], at: usize, bits: u8, signed: bool) -> Option<(u64, usize)>
+    requires within { at ≤ length line.now }
+    requires width { is_width bits ≡ true }
+    ensures { IfSome result (λ r. ElementStands bits signed r.0 line.now at r.1) }
+{
+    if signed {
+        let (value, end) = signed_integer(line, at, bits)?;
+        Some((signed_element(value, bits), end))
+    } else {
+        let (value, end) = unsigned_integer(line, at, bits)?;
+        Some((value, end))
+    }
+}
+
+/// Adds integers to a column, the items of a list that has some, up to its bracket. Inlined, so that a loop has one sign alone.
+#[inline(always)]
+fn items(column: &mut ColumnBuf, bits: u8, signed: bool, line: &[u8], at: usize) -> Option<usize>
+    requires within { at ≤ length line.now }
+    requires takes { TakesIntegers bits (length line.now - at) column.old }
+    ensures { (k : ℕ) (start : List Buffer) → slice_get start k ≡ Some column.old
+        → CanPut (number k bits signed) (length line.now - at) start
+        → Leaves (λ end. PutsAll (number k bits signed) line.now at end start (slice_set start k column.new))
+        start (slice_set start k column.new) result }
+{
+    let (first, end) = element_at(line, at, bits, signed)?;
+    column.push(first);
+    let mut i = end;
+    while let Some(next) = comma(line, i) {
+        let (value, end) = element_at(line, next, bits, signed)?;
+        column.push(value);
+        i = end;
+    }
+    after(line, i, b']')
+}
+
+/// Adds integers, the items of a list, up to its bracket.
+pub fn wholes(
+    out: &mut ColumnSet,
+    column: u32,
+    bits: u8,
+    signed: bool,
+    line: &[u8],
+    at: usize,
+) -> Option<usize>
+    requires within { at ≤ length line.now }
+    requires can { CanPut (number column bits signed) (length line.now - at) out.old }
+    ensures { Leaves (λ end. PutsAll (number column bits signed) line.now at end out.old out.new)
+        out.old out.new result }
+{
+    if let Some(end) = after(line, at, b']') {
+        return Some(end);
+    }
+    // The column is looked up once for all of them.
+    let column = out.buffer(column);
+    if signed {
+        items(column, bits, true, line, at)
+    } else {
+        items(column, bits, false, line, at)
+    }
+}
