@@ -26,9 +26,9 @@ use std::marker::Model;
 #[derive(Drop)]
 pub struct ColumnBuf {
     kind: ColumnType,
-    store: Store,
+    pub(crate) store: Store,
     /// So many zeros are the column; then `store` is empty.
-    zeros: usize,
+    pub(crate) zeros: usize,
 }
 
 impl Model for ColumnBuf {

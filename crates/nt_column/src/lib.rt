@@ -1,7 +1,7 @@
 //! Columns in memory: buffers that keep each element at its own width, and sets of them by column.
 //!
-//! `push`, `push_page` and `number` are on the hot path of every event: they take no memory, and
-//! `reserve` does it before. `Columns` is how others read columns; keep it free of buffers.
+//! `push`, `push_page` and `number` are on the hot path of every event: they take no memory, and `reserve`
+//! does it before, or `ready`, which gives the count too. `Columns` is how others read columns; keep it free of buffers.
 //!
 //! Where to start: `buffer.rt` with `specs/Column` (what a buffer holds) and `specs/Elements` (the
 //! elements and their page); `store_page.rt` for the pages of each width; `set.rt` and `columns.rt` for columns by id.
@@ -35,6 +35,7 @@ mod laws;
 mod low_bytes;
 mod pairs;
 mod ranges;
+mod room;
 mod set;
 mod store;
 mod store_page;

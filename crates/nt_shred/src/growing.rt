@@ -49,11 +49,10 @@ pub fn reserve_column(out: &mut ColumnSet, column: u32, more: usize) -> Result<u
     ensures ok { OnOk result (HasRoomIn out.new column more) }
     ensures len { IfOk result (λ n. n ≡ length (cols_of out.old column)) }
 {
-    let len = out.column(column).len();
+    let len = out.buffer(column).ready(more)?;
     if !can_count(out, len, more) {
         return Err(AllocError);
     }
-    out.buffer(column).reserve(more)?;
     Ok(len)
 }
 
