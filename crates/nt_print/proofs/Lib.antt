@@ -2,3 +2,5 @@ mod Arrays
 mod Decimals
 mod Numbers
 mod Places
+mod Trailing
+mod Triples

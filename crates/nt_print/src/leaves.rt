@@ -1,27 +1,37 @@
 //! Values that hold no others, and the pieces between values.
 
-ghost use Rattle.std.specs.Prelude.{◌≡◌, ◌≤◌, ◌-◌, ◌++◌, ◌∷◌, [], length, take, true, pos, decimal, OnOk};
-ghost use Rattle.serde_json.specs.Written.{compact_text, comma_if};
+ghost use Rattle.std.specs.Prelude.{◌≡◌, ◌≤◌, ◌-◌, ◌++◌, ◌∷◌, length, take, true, decimal, OnOk};
+ghost use Rattle.serde_json.specs.Written.{compact_text};
 ghost use Rattle.nt_event.specs.Json.{data_of};
 ghost use Rattle.nt_types.specs.TreeData.{flag, num, text};
 ghost use Rattle.nt_trees.specs.Integers.{integer_of};
 ghost use Rattle.nt_trees.specs.TreeAt.{text_from};
+ghost use Rattle.nt_print.specs.Marks.{mark_before, end_of};
 
 use crate::digits::put_digits;
 use nt_column::Columns;
 use nt_event::write_text;
 use std::alloc::{AllocError, Global};
 
-/// Appends a comma, where something stands before.
+/// What stands in front of a value of an array.
+#[inline(always)]
+pub fn mark_before(later: bool) -> u8
+    ensures { result ≡ mark_before later }
+{
+    if later { b',' } else { b'[' }
+}
+
+/// Appends what stands behind the last value of an array.
 #[inline]
-pub fn put_comma(later: bool, out: &mut Vec<u8>) -> Result<(), AllocError>
-    ensures ok { OnOk result (out.new.items ≡ out.old.items ++ comma_if later) }
+pub fn put_end(later: bool, out: &mut Vec<u8>) -> Result<(), AllocError>
+    ensures ok { OnOk result (out.new.items ≡ out.old.items ++ end_of later) }
     ensures kept { take (length out.old.items) out.new.items ≡ out.old.items }
 {
     if later {
-        out.push(b',')?;
+        out.extend_from_slice(b"]")
+    } else {
+        out.extend_from_slice(b"[]")
     }
-    Ok(())
 }
 
 /// Appends a truth value.
@@ -36,25 +46,17 @@ pub fn put_flag(holds: bool, out: &mut Vec<u8>) -> Result<(), AllocError>
     }
 }
 
-/// Appends a number without a sign.
-#[inline]
-fn put_unsigned(n: u64, out: &mut Vec<u8>) -> Result<(), AllocError>
-    ensures ok { OnOk result (out.new.items ≡ out.old.items ++ compact_text (data_of (num (pos n)))) }
+/// Appends a mark, and then a number with its sign if it is below zero.
+fn put_signed(mark: u8, n: i64, out: &mut Vec<u8>) -> Result<(), AllocError>
+    ensures ok { OnOk result (out.new.items ≡ out.old.items ++ mark ∷ compact_text (data_of (num n))) }
     ensures kept { take (length out.old.items) out.new.items ≡ out.old.items }
 {
-    put_digits(n, out)
-}
-
-/// Appends a number, with its sign if it is below zero.
-#[inline]
-fn put_signed(n: i64, out: &mut Vec<u8>) -> Result<(), AllocError>
-    ensures ok { OnOk result (out.new.items ≡ out.old.items ++ compact_text (data_of (num n))) }
-    ensures kept { take (length out.old.items) out.new.items ≡ out.old.items }
-{
-    if n < 0 {
-        out.push(b'-')?;
+    if n >= 0 {
+        return put_digits(mark, n.unsigned_abs(), out);
     }
-    put_digits(n.unsigned_abs(), out)
+    out.push(mark)?;
+    put_digits(b'-', n.unsigned_abs(), out)?;
+    Ok(())
 }
 
 /// The integer that an element of this width stands for, where it has a sign.
@@ -73,25 +75,27 @@ fn signed_of(element: u64, bits: u8) -> i64
     }
 }
 
-/// Appends the integer that an element of this width and sign stands for.
+/// Appends a mark, and then the integer that an element of this width and sign stands for.
+#[inline]
 pub fn put_integer(
+    mark: u8,
     element: u64,
     bits: u8,
     signed: bool,
     out: &mut Vec<u8>,
 ) -> Result<(), AllocError>
-    ensures ok { OnOk result (out.new.items ≡ out.old.items ++ compact_text
+    ensures ok { OnOk result (out.new.items ≡ out.old.items ++ mark ∷ compact_text
         (data_of (num (integer_of bits signed element)))) }
     ensures kept { take (length out.old.items) out.new.items ≡ out.old.items }
 {
     if !signed {
-        return put_unsigned(element, out);
+        return put_digits(mark, element, out);
     }
     // A width of more than 64 bits: no element is as large as half of it.
     if bits > 64 {
-        return put_unsigned(element, out);
+        return put_digits(mark, element, out);
     }
-    put_signed(signed_of(element, bits), out)
+    put_signed(mark, signed_of(element, bits), out)
 }
 
 /// Appends the text of the bytes from one place to before another.
@@ -113,13 +117,10 @@ pub fn put_part<C: Columns>(
     write_text(alloc, bytes.as_slice(), out)
 }
 
-/// Appends what stands before the value of an alternative: a bracket, the tag and a comma.
+/// Appends what stands before the value of an alternative and its mark: a bracket and the tag.
 pub fn put_tag(tag: u32, out: &mut Vec<u8>) -> Result<(), AllocError>
-    ensures ok { OnOk result (out.new.items ≡ out.old.items ++ 91 ∷ (decimal tag ++ 44 ∷ [])) }
+    ensures ok { OnOk result (out.new.items ≡ out.old.items ++ 91 ∷ decimal tag) }
     ensures kept { take (length out.old.items) out.new.items ≡ out.old.items }
 {
-    out.push(b'[')?;
-    put_digits(u64::from(tag), out)?;
-    out.push(b',')?;
-    Ok(())
+    put_digits(b'[', u64::from(tag), out)
 }

@@ -2,9 +2,11 @@
 //!
 //! Start at `write_entry`, which appends the line of one entry. It goes over any `Columns` by the plans
 //! of a schema's open fields, as nt_join does for trees; nothing here reads rows. Most values are the
-//! numbers of lists: `lists.rt` prints these from where their column lies, and `digits.rt` digit by digit.
+//! numbers of lists: `lists.rt` prints these from where their column lies, and `digits.rt` by words of
+//! six digits.
 //!
-//! Words: those of nt_trees and nt_event; a *line* is the JSON array of an entry, and its LF.
+//! Words: those of nt_trees and nt_event; a *line* is the JSON array of an entry, and its LF; a *mark* is
+//! the byte in front of a value: the bracket of its array, or a comma.
 //!
 //! Proved: `write_entry` appends exactly the line (`line_of` of nt_event) of the trees that nt_join's
 //! `entry` gives, the definition `each_at`; where memory runs out it appends nothing.
@@ -13,8 +15,9 @@
 //! where it lies; one that is not UTF-8 is first written as hex.
 //!
 //! Choices that bind nobody else:
-//! - Numbers are printed as 64-bit integers, since no element is wider. Room for the longest is made
-//!   before each, so that its digits are pushed without a look at the room.
+//! - Numbers are printed as 64-bit integers, since no element is wider. A number of up to six digits and
+//!   its mark are one word, which is appended whole and cut to its digits; longer ones take a word more
+//!   for each six.
 //! - A list of numbers whose column isn't lent, as one of zeros, is printed an element at a time.
 //! - It goes as deep as the plans do, which is at most 64 levels.
 #![tactic(auto)]

@@ -8,7 +8,7 @@ ghost use Rattle.nt_column.specs.Words.{lent_elements};
 ghost use Rattle.nt_event.specs.Json.{line_of};
 ghost use Rattle.nt_print.specs.Integers.{integer_trees};
 
-use crate::leaves::{put_comma, put_integer};
+use crate::leaves::{mark_before, put_end, put_integer};
 use nt_column::WordSlice;
 use std::alloc::AllocError;
 
@@ -72,14 +72,12 @@ fn put_words<W: Word>(
         ++ line_of (integer_trees bits signed (map W.number words.now))) }
     ensures kept { take (length out.old.items) out.new.items ≡ out.old.items }
 {
-    out.push(b'[')?;
     let mut later = false;
     for word in words {
-        put_comma(later, out)?;
-        put_integer(word.number(), bits, signed, out)?;
+        put_integer(mark_before(later), word.number(), bits, signed, out)?;
         later = true;
     }
-    out.push(b']')?;
+    put_end(later, out)?;
     Ok(())
 }
 

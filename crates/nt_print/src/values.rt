@@ -1,6 +1,6 @@
 //! Values at elements, printed by their plans.
 
-ghost use Rattle.std.specs.Prelude.{◌≡◌, ◌≤◌, ◌-◌, ◌++◌, length, map, take, OnOk};
+ghost use Rattle.std.specs.Prelude.{◌≡◌, ◌≤◌, ◌-◌, ◌++◌, ◌∷◌, length, map, take, OnOk};
 ghost use Rattle.serde_json.specs.Written.{compact_text};
 ghost use Rattle.nt_event.specs.Json.{data_of, line_of};
 ghost use Rattle.nt_plans.specs.Plan.{choice, plans_of};
@@ -8,46 +8,63 @@ ghost use Rattle.nt_plans.specs.PlanViews.{plan_view, plans_view};
 ghost use Rattle.nt_trees.specs.TreeAt.{tree_at, each_at, trees_from};
 ghost use Rattle.nt_join.specs.Readable.{Readable, ReadableTo, ReadableEach};
 
-use crate::leaves::{put_comma, put_flag, put_integer, put_part, put_tag};
+use crate::leaves::{mark_before, put_end, put_flag, put_integer, put_part, put_tag};
 use crate::lists::put_lent;
 use nt_column::Columns;
 use nt_join::reading::{begin, number, tag};
 use nt_plans::{Plan, Plans};
 use std::alloc::{AllocError, Global};
 
-/// Appends the value of an element.
+/// Appends a mark, and then the value of an element.
 #[cycle(print)]
 fn put_value<C: Columns>(
     alloc: Global,
     columns: &C,
     plan: &Plan,
     i: u64,
+    mark: u8,
     out: &mut Vec<u8>,
 ) -> Result<(), AllocError>
     requires { Readable (plan_view plan.now) (C.Columns.elements columns.now) i }
-    ensures ok { OnOk result (out.new.items ≡ out.old.items ++ compact_text
+    ensures ok { OnOk result (out.new.items ≡ out.old.items ++ mark ∷ compact_text
         (data_of (tree_at (plan_view plan.now) (C.Columns.elements columns.now) i))) }
     ensures kept { take (length out.old.items) out.new.items ≡ out.old.items }
 {
     match plan {
-        Plan::Bool { column } => put_flag(number(columns, *column, i) == 1, out),
         Plan::Number {
             column,
             bits,
             signed,
-        } => put_integer(number(columns, *column, i), *bits, *signed, out),
+        } => put_integer(mark, number(columns, *column, i), *bits, *signed, out),
+        Plan::Bool { column } => {
+            out.push(mark)?;
+            put_flag(number(columns, *column, i) == 1, out)?;
+            Ok(())
+        }
         Plan::Text { ends, bytes } => {
+            out.push(mark)?;
             let from = begin(columns, *ends, i);
             let to = number(columns, *ends, i);
-            put_part(alloc, columns, *bytes, from, to, out)
+            put_part(alloc, columns, *bytes, from, to, out)?;
+            Ok(())
         }
         Plan::List { ends, of } => {
+            out.push(mark)?;
             let from = begin(columns, *ends, i);
             let to = number(columns, *ends, i);
-            put_range(alloc, columns, of, from, to, out)
+            put_range(alloc, columns, of, from, to, out)?;
+            Ok(())
         }
-        Plan::Record(parts) => put_each(alloc, columns, &parts.list, i, out),
-        Plan::Choice { tags, of } => put_choice(alloc, columns, *tags, of, i, out),
+        Plan::Record(parts) => {
+            out.push(mark)?;
+            put_each(alloc, columns, &parts.list, i, out)?;
+            Ok(())
+        }
+        Plan::Choice { tags, of } => {
+            out.push(mark)?;
+            put_choice(alloc, columns, *tags, of, i, out)?;
+            Ok(())
+        }
     }
 }
 
@@ -77,14 +94,12 @@ fn put_range<C: Columns>(
             return put_lent(words, *bits, *signed, from as usize, to as usize, out);
         }
     }
-    out.push(b'[')?;
     let mut later = false;
     for i in from..to {
-        put_comma(later, out)?;
-        put_value(alloc, columns, of, i, out)?;
+        put_value(alloc, columns, of, i, mark_before(later), out)?;
         later = true;
     }
-    out.push(b']')?;
+    put_end(later, out)?;
     Ok(())
 }
 
@@ -102,14 +117,12 @@ pub fn put_each<C: Columns>(
         (each_at (plans_of (map plan_view parts.now)) (C.Columns.elements columns.now) i)) }
     ensures kept { take (length out.old.items) out.new.items ≡ out.old.items }
 {
-    out.push(b'[')?;
     let mut later = false;
     for part in parts {
-        put_comma(later, out)?;
-        put_value(alloc, columns, part, i, out)?;
+        put_value(alloc, columns, part, i, mark_before(later), out)?;
         later = true;
     }
-    out.push(b']')?;
+    put_end(later, out)?;
     Ok(())
 }
 
@@ -135,7 +148,7 @@ fn put_choice<C: Columns>(
     let chosen = &of.list[tag as usize - 1];
     let at = number(columns, tags, i);
     put_tag(tag, out)?;
-    put_value(alloc, columns, chosen, at, out)?;
+    put_value(alloc, columns, chosen, at, b',', out)?;
     out.push(b']')?;
     Ok(())
 }

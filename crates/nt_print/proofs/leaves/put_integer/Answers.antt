@@ -1,4 +1,4 @@
-use Rattle.std.proofs.Common.{rules, ◌≡◌, ◌++◌, ◌∙◌, ℤ, true, ap, sym, subst, arith}
+use Rattle.std.proofs.Common.{rules, ◌≡◌, ◌++◌, ◌∷◌, ◌∙◌, ℤ, true, ap, sym, subst, arith}
 use Rattle.std.specs.Prelude.{OnOk}
 use Rattle.serde_json.specs.Written.{compact_text}
 use Rattle.nt_types.specs.TreeData.{num}
@@ -12,6 +12,6 @@ returns-then-bits-gt64-clause-ok c =
     let on : c.args.signed ≡ true = search (rules, c.if-not-signed.false) in
     let wide = ap (λ b. integer_of c.args.bits b c.args.element) on
     ∙ integer_of-wide c.args.bits c.args.element (omega (arith, c.if-bits-gt64.true)) c.ranges.element.fits in
-    let put = c.put_unsigned-then-bits-gt64 in
-    subst (λ (z : ℤ). OnOk put.result (put.new.out.items ≡ c.args.out.now.items ++ compact_text (data_of (num z))))
+    let put = c.put_digits-then-bits-gt64 in
+    subst (λ (z : ℤ). OnOk put.result (put.new.out.items ≡ c.args.out.now.items ++ c.args.mark ∷ compact_text (data_of (num z))))
     (sym wide) put.ensures.ok

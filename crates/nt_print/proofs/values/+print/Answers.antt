@@ -1,10 +1,10 @@
-use Rattle.std.proofs.Common.{rules, ◌≡◌, ◌<◌, ◌≤◌, ◌-◌, ◌+◌, ℕ, ◌∷◌, ◌++◌, map, length, drop, get_or, sym, ap, ◌∙◌, subst, arith, Box}
-use Rattle.std.proofs.Common.{Global}
+use Rattle.std.proofs.Common.{rules, ◌==◌, ◌≡◌, ◌<◌, ◌≤◌, ◌-◌, ◌+◌, ℕ, ◌∷◌, ◌++◌, map, length, drop, get_or, sym, ap, ◌∙◌, subst}
+use Rattle.std.proofs.Common.{arith, Box, Global}
 use Rattle.std.proofs.lemmas.List.{drop_more, drop_all, length-map}
 use Rattle.std.specs.Prelude.{OnOk}
 use Rattle.nt_column.specs.Words.{lent_elements}
 use Rattle.serde_json.specs.Written.{compact_text}
-use Rattle.nt_types.specs.TreeData.{TreeData, TreesData, pick}
+use Rattle.nt_types.specs.TreeData.{TreeData, TreesData, flag, text as text_tree, items, parts, pick}
 use Rattle.nt_event.specs.Json.{data_of, line_of}
 use Rattle.nt_event.proofs.Prints.{kept-on}
 use Rattle.nt_plans.specs.Plan.{text, list, choice, plans_of}
@@ -13,13 +13,13 @@ use Rattle.nt_plans.specs.declared.plan.Plan.{Plan, List as ListPlan, the_lemmas
 use Rattle.nt_plans.specs.declared.plan.Plans.{Plans}
 use Rattle.nt_plans.proofs.plan.Plan.TheLaws.{the_size}
 use Rattle.nt_plans.proofs.plan.Plans.TheLaws.{the_size as plans_size}
-use Rattle.nt_plans.proofs.PlanViews.{view-Number, view-Text, view-List}
-use Rattle.nt_trees.specs.Columns.{Cols}
-use Rattle.nt_trees.specs.TreeAt.{tree_at, each_at}
+use Rattle.nt_plans.proofs.PlanViews.{view-Bool, view-Number, view-Text, view-List, view-Record, view-Choice}
+use Rattle.nt_trees.specs.Columns.{Cols, begin_at}
+use Rattle.nt_trees.specs.TreeAt.{tree_at, each_at, trees_from, text_from}
 use Rattle.nt_join.specs.Readable.{Readable, ReadableTo, ReadableEach}
 use Rattle.nt_join.proofs.Plans.{plans_view-list}
 use Rattle.nt_join.proofs.Reach.{of_tag-at, readable-is, text-within, items-readable, tag-among, picked-readable, tree_at-picked}
-use Rattle.nt_print.proofs.Arrays.{pick-put, IsBegun-none, IsBegun-next, IsBegun-end, IsBegun-fails, kept-kept, trees_from-first}
+use Rattle.nt_print.proofs.Arrays.{pick-put, IsBegun-none, IsBegun-next, IsBegun-end, kept-kept, mark-put, trees_from-first}
 use Rattle.nt_print.proofs.Arrays.{trees_from-none}
 use Rattle.nt_print.proofs.Places.{lent-within, lent-trees}
 use Rattle.nt_print.proofs.values.+print.Goals as goal
@@ -37,33 +37,32 @@ put_range-returns-in-Some-clause-ok g t c =
     c.requires.order within) c.put_lent.ensures.ok
 
 pub put_range-loop-i-init : goal.put_range-loop-i-init
-put_range-loop-i-init g t c = IsBegun-none _ _ _ c.in_ok-push.ensures.items
+put_range-loop-i-init g t c = IsBegun-none _ _
 
 pub put_range-loop-i-preserved : goal.put_range-loop-i-preserved
 put_range-loop-i-preserved g t c =
     let f = tree_at (plan_view c.args.of.now) (g.C.Columns.elements c.args.columns.now) in
     let i = c.loop-i.i in
-    IsBegun-next _ c.loop-i.out.items c.put_comma.new.out.items c.put_value.new.out.items c.loop-i.later (f i) _ _ _
-    (trees_from-first f i c.args.to (omega (arith, c.loop-i-test.true))) c.loop-i.invariant c.in_ok-put_comma.ensures.ok
-    c.in_ok-put_value.ensures.ok
-
-pub put_range-returns-in_err-put_comma-clause-kept : goal.put_range-returns-in_err-put_comma-clause-kept
-put_range-returns-in_err-put_comma-clause-kept g t c =
-    kept-kept _ c.loop-i.out.items c.put_comma.new.out.items c.loop-i.invariant.kept c.put_comma.ensures.kept
+    IsBegun-next _ c.loop-i.out.items c.put_value.new.out.items c.loop-i.later (f i) _ _ _
+    (trees_from-first f i c.args.to (omega (arith, c.loop-i-test.true))) c.loop-i.invariant
+    (c.in_ok-put_value.ensures.ok ∙ ap (λ n. c.loop-i.out.items ++ n ∷ compact_text (data_of (f i))) c.mark_before.ensures)
 
 pub put_range-returns-in_err-put_value-clause-kept : goal.put_range-returns-in_err-put_value-clause-kept
 put_range-returns-in_err-put_value-clause-kept g t c =
-    IsBegun-fails _ c.loop-i.out.items c.put_comma.new.out.items c.put_value.new.out.items c.loop-i.later _ _ c.loop-i.invariant
-    c.in_ok-put_comma.ensures.ok c.put_value.ensures.kept
+    kept-kept _ c.loop-i.out.items c.put_value.new.out.items c.loop-i.invariant.kept c.put_value.ensures.kept
+
+pub put_range-returns-in_err-put_end-clause-kept : goal.put_range-returns-in_err-put_end-clause-kept
+put_range-returns-in_err-put_end-clause-kept g t c =
+    kept-kept _ c.loop-i.out.items c.put_end.new.out.items c.loop-i.invariant.kept c.put_end.ensures.kept
 
 pub put_range-returns-clause-ok : goal.put_range-returns-clause-ok
 put_range-returns-clause-ok g t c =
     let f = tree_at (plan_view c.args.of.now) (g.C.Columns.elements c.args.columns.now) in
     IsBegun-end _ c.loop-i.out.items _ c.loop-i.later _ _ (trees_from-none f c.loop-i.i c.args.to (omega (arith, c.loop-i-test.false)))
-    c.loop-i.invariant c.in_ok-push-2.ensures.items
+    c.loop-i.invariant c.in_ok-put_end.ensures.ok
 
 pub put_each-loop-part-init : goal.put_each-loop-part-init
-put_each-loop-part-init g t c = record { readable = c.requires; begun = IsBegun-none _ _ _ c.in_ok-push.ensures.items }
+put_each-loop-part-init g t c = record { readable = c.requires; begun = IsBegun-none _ _ }
 
 pub put_each-loop-part-preserved : goal.put_each-loop-part-preserved
 put_each-loop-part-preserved g t c =
@@ -78,26 +77,26 @@ put_each-loop-part-preserved g t c =
     let sound = subst (λ ps. ReadableEach (plans_of (map plan_view ps)) cols i) next v.readable in
     record {
       readable = record { size = sound.size; sound = sound.sound.1; within = sound.within };
-      begun = IsBegun-next _ c.loop-part.out.items c.put_comma.new.out.items c.put_value.new.out.items c.loop-part.later
+      begun = IsBegun-next _ c.loop-part.out.items c.put_value.new.out.items c.loop-part.later
           (tree_at (plan_view first) cols i) _ _ _ (ap (λ ps. each_at (plans_of (map plan_view ps)) cols i) next) v.begun
-          c.in_ok-put_comma.ensures.ok c.in_ok-put_value.ensures.ok;
+          (c.in_ok-put_value.ensures.ok
+          ∙ ap (λ n. c.loop-part.out.items ++ n ∷ compact_text (data_of (tree_at (plan_view first) cols i))) c.mark_before.ensures);
     }
-
-pub put_each-returns-in_err-put_comma-clause-kept : goal.put_each-returns-in_err-put_comma-clause-kept
-put_each-returns-in_err-put_comma-clause-kept g t c =
-    kept-kept _ c.loop-part.out.items c.put_comma.new.out.items c.loop-part.invariant.begun.kept c.put_comma.ensures.kept
 
 pub put_each-returns-in_err-put_value-clause-kept : goal.put_each-returns-in_err-put_value-clause-kept
 put_each-returns-in_err-put_value-clause-kept g t c =
-    IsBegun-fails _ c.loop-part.out.items c.put_comma.new.out.items c.put_value.new.out.items c.loop-part.later _ _
-    c.loop-part.invariant.begun c.in_ok-put_comma.ensures.ok c.put_value.ensures.kept
+    kept-kept _ c.loop-part.out.items c.put_value.new.out.items c.loop-part.invariant.begun.kept c.put_value.ensures.kept
+
+pub put_each-returns-in_err-put_end-clause-kept : goal.put_each-returns-in_err-put_end-clause-kept
+put_each-returns-in_err-put_end-clause-kept g t c =
+    kept-kept _ c.loop-part.out.items c.put_end.new.out.items c.loop-part.invariant.begun.kept c.put_end.ensures.kept
 
 pub put_each-returns-clause-ok : goal.put_each-returns-clause-ok
 put_each-returns-clause-ok g t c =
     let cols = g.C.Columns.elements c.args.columns.now in
     let none = drop_all c.loop-part.part-index c.args.parts.now c.loop-part-test.false in
     IsBegun-end _ c.loop-part.out.items _ c.loop-part.later _ _ (ap (λ ps. each_at (plans_of (map plan_view ps)) cols c.args.i) none)
-    c.loop-part.invariant.begun c.in_ok-push-2.ensures.items
+    c.loop-part.invariant.begun c.in_ok-put_end.ensures.ok
 
 pub put_value-put_part-requires-clause-within : goal.put_value-put_part-requires-clause-within
 put_value-put_part-requires-clause-within g t c =
@@ -197,3 +196,79 @@ put_choice-returns-clause-ok g t c =
     (ap (λ j. pick tag (tree_at (plan_view x) cols j)) c.number-at.ensures
     ∙ sym (tree_at-picked s (plans_of (map plan_view l)) tag (plan_view x) cols i n is some)
     ∙ ap (λ ls. tree_at (choice s (plans_of ls)) cols i) (sym (plans_view-list ps)))
+
+-- each value behind its mark
+pub put_value-returns-in_ok-put_flag-in-Bool-clause-ok : goal.put_value-returns-in_ok-put_flag-in-Bool-clause-ok
+put_value-returns-in_ok-put_flag-in-Bool-clause-ok g t c =
+    let cols = g.C.Columns.elements c.args.columns.now in
+    let i = c.args.i in
+    let k = c.in-Bool.column in
+    mark-put c.args.out.now.items _ _ c.args.mark (flag (c.number-in-Bool.result == 1)) _
+    c.in_ok-push-in-Bool.ensures.items c.in_ok-put_flag-in-Bool.ensures.ok
+    (ap (λ n. flag (n == 1)) c.number-in-Bool.ensures ∙ ap (λ p. tree_at p cols i) (sym (ap plan_view c.in-Bool.is ∙ view-Bool k)))
+
+pub put_value-returns-in_ok-put_part-in-Text-clause-ok : goal.put_value-returns-in_ok-put_part-in-Text-clause-ok
+put_value-returns-in_ok-put_part-in-Text-clause-ok g t c =
+    let cols = g.C.Columns.elements c.args.columns.now in
+    let i = c.args.i in
+    let e = c.in-Text.ends in
+    let b = c.in-Text.bytes in
+    let to = c.number-to.result in
+    let begin = begin_at (cols e) i in
+    mark-put c.args.out.now.items _ _ c.args.mark (text_tree (text_from (cols b) c.begin-from.result (to - c.begin-from.result))) _
+    c.in_ok-push-in-Text.ensures.items c.in_ok-put_part-in-Text.ensures.ok
+    (ap (λ n. text_tree (text_from (cols b) n (to - n))) c.begin-from.ensures
+    ∙ ap (λ n. text_tree (text_from (cols b) begin (n - begin))) c.number-to.ensures
+    ∙ ap (λ p. tree_at p cols i) (sym (ap plan_view c.in-Text.is ∙ view-Text e b)))
+
+pub put_value-returns-in_ok-put_range-in-List-clause-ok : goal.put_value-returns-in_ok-put_range-in-List-clause-ok
+put_value-returns-in_ok-put_range-in-List-clause-ok g t c =
+    let cols = g.C.Columns.elements c.args.columns.now in
+    let i = c.args.i in
+    let k = c.in-List.ends in
+    let of = plan_view c.deref.result.now in
+    let to = c.number-to-in-List.result in
+    let begin = begin_at (cols k) i in
+    let is = ap plan_view c.in-List.is ∙ view-List k c.in-List.of ∙ ap (λ p. list k (plan_view p)) (sym c.deref.ensures) in
+    mark-put c.args.out.now.items _ _ c.args.mark
+    (items (trees_from (tree_at of cols) c.begin-from-in-List.result (to - c.begin-from-in-List.result))) _
+    c.in_ok-push-in-List.ensures.items c.in_ok-put_range-in-List.ensures.ok
+    (ap (λ n. items (trees_from (tree_at of cols) n (to - n))) c.begin-from-in-List.ensures
+    ∙ ap (λ n. items (trees_from (tree_at of cols) begin (n - begin))) c.number-to-in-List.ensures
+    ∙ ap (λ p. tree_at p cols i) (sym is))
+
+pub put_value-returns-in_ok-put_each-in-Record-clause-ok : goal.put_value-returns-in_ok-put_each-in-Record-clause-ok
+put_value-returns-in_ok-put_each-in-Record-clause-ok g t c =
+    let cols = g.C.Columns.elements c.args.columns.now in
+    let i = c.args.i in
+    let ps = c.in-Record.parts in
+    let same : map plan_view c.deref-in-Record.result.now ≡ plans_view ps =
+    ap (map plan_view) c.deref-in-Record.ensures.value ∙ sym (plans_view-list ps) in
+    mark-put c.args.out.now.items _ _ c.args.mark (parts (each_at (plans_of (map plan_view c.deref-in-Record.result.now)) cols i)) _
+    c.in_ok-push-in-Record.ensures.items c.in_ok-put_each-in-Record.ensures.ok
+    (ap (λ l. parts (each_at (plans_of l) cols i)) same ∙ ap (λ p. tree_at p cols i) (sym (ap plan_view c.in-Record.is ∙ view-Record ps)))
+
+pub put_value-returns-in_ok-put_choice-in-Choice-clause-ok : goal.put_value-returns-in_ok-put_choice-in-Choice-clause-ok
+put_value-returns-in_ok-put_choice-in-Choice-clause-ok g t c =
+    let cols = g.C.Columns.elements c.args.columns.now in
+    let i = c.args.i in
+    let k = c.in-Choice.tags in
+    let ps = c.in-Choice.of in
+    mark-put c.args.out.now.items _ _ c.args.mark (tree_at (choice k (plans_of (plans_view ps))) cols i) _
+    c.in_ok-push-in-Choice.ensures.items c.in_ok-put_choice-in-Choice.ensures.ok
+    (ap (λ p. tree_at p cols i) (sym (ap plan_view c.in-Choice.is ∙ view-Choice k ps)))
+
+pub put_value-returns-in_err-put_part-in-Text-clause-kept : goal.put_value-returns-in_err-put_part-in-Text-clause-kept
+put_value-returns-in_err-put_part-in-Text-clause-kept g t c =
+    kept-on c.args.out.now.items _ _ _
+    c.in_ok-push-in-Text.ensures.items c.put_part.ensures.kept
+
+pub put_value-returns-in_err-put_range-in-List-clause-kept : goal.put_value-returns-in_err-put_range-in-List-clause-kept
+put_value-returns-in_err-put_range-in-List-clause-kept g t c =
+    kept-on c.args.out.now.items _ _ _
+    c.in_ok-push-in-List.ensures.items c.put_range.ensures.kept
+
+pub put_value-returns-in_err-put_choice-in-Choice-clause-kept : goal.put_value-returns-in_err-put_choice-in-Choice-clause-kept
+put_value-returns-in_err-put_choice-in-Choice-clause-kept g t c =
+    kept-on c.args.out.now.items _ _ _
+    c.in_ok-push-in-Choice.ensures.items c.put_choice.ensures.kept

@@ -1,0 +1,8 @@
+use Rattle.std.proofs.Common.{arith}
+use Rattle.nt_print.proofs.Triples.{TRIPLES-at}
+use Rattle.nt_print.proofs.digits.triple.Goals as goal
+
+pub returns : goal.returns
+returns c =
+    let t = TRIPLES-at c.args.n c.requires in
+    omega (arith, c.from.ensures, c.from_le_bytes.ensures, t.first, t.second, t.third, t.blank)
