@@ -2,3 +2,4 @@ pub mod Draws
 pub mod Events
 pub mod Lines
 pub mod Source
+pub mod Making

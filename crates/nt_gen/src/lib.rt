@@ -1,6 +1,6 @@
 //! Events that are made of drawn numbers, the same ones at each run.
 //!
-//! Start at [`EventSource`], the event text of one context, which makes its lines as it is read.
+//! Start at [`EventSource`], the event text of one context, which makes its lines as it is read; [`Making`] is how much is made.
 //!
 //! Words: a *draw* makes a number of the last one (`specs/Draws.antt`); the *event behind* a number is made of its draws, a run, ids
 //! and a tag (`specs/Events.antt`); the number of a context is that from which its draws go on.
@@ -12,9 +12,11 @@
 mod drawing;
 mod laws;
 mod lines;
+mod making;
 mod source;
 #[cfg(test)]
 mod tests;
 
 pub use laws::made_lines_are_read;
+pub use making::Making;
 pub use source::EventSource;
