@@ -1,6 +1,6 @@
 -- How long pages are, one after the other.
-use Rattle.std.proofs.Common.{◌≡◌, ℕ, zero, suc, ◌+◌, ◌-◌, ◌*◌, ◌/◌, ◌%◌, ◌<◌, ◌≤◌, min, List, ◌∷◌, length, map, refl, sym, ◌∙◌, ap, arith}
-use Rattle.std.proofs.Common.{replicate, add-zero, zero-add, Option, None, Some}
+use Rattle.std.proofs.Common.{◌≡◌, ℕ, zero, suc, ◌+◌, ◌-◌, ◌*◌, ◌/◌, ◌%◌, ◌^◌, ◌<◌, ◌≤◌, min, List, ◌∷◌, length, map, refl, sym, arith}
+use Rattle.std.proofs.Common.{◌∙◌, ap, replicate, add-zero, zero-add, Option, None, Some}
 use Rattle.std.specs.Option.{SomeIff, IfSome}
 use Rattle.std.specs.Int.{w64, to_le_bytes, div_ceil}
 use Rattle.std.specs.List.{flat_map, range_with_len}
@@ -94,6 +94,31 @@ size-short kind sized n es s some rest is =
     let last = last-group kind sized n es (length es / n) 0 (omega arith) (omega arith) in
     rw count (is ∙ sym (rw left at last))
 
+-- the full pages of a column are no longer than all
+least-by : (kind : ColumnType) → Sized kind → (n : ℕ) (es : List Element) (r : ℕ) → 0 < n → length es % n ≡ r
+    → length es / n * (page_size kind n + 8) ≤ length (flat_map (stored_page kind) (chunks n es))
+least-by kind sized n es zero some is =
+    let whole : length es / n * (page_size kind n + 8) ≡ length (flat_map (stored_page kind) (chunks n es)) =
+    size-full kind sized n es (length es / n * (page_size kind n + 8)) some is refl in
+    omega arith
+least-by kind sized n es (suc r) some is =
+    let whole : length es / n * (page_size kind n + 8) + (page_size kind (length es % n) + 8)
+    ≡ length (flat_map (stored_page kind) (chunks n es)) =
+    size-short kind sized n es _ some (omega arith) refl in
+    omega arith
+
+pub full-least : (kind : ColumnType) → Sized kind → (n : ℕ) (es : List Element) → 0 < n
+    → length es / n * (page_size kind n + 8) ≤ length (flat_map (stored_page kind) (chunks n es))
+full-least kind sized n es some = least-by kind sized n es (length es % n) some refl
+
+-- what a number that is too large to be told is at most is too large as well
+pub none-is : (v w : ℕ) → (v < 2 ^ 64 → ⊥) → v ≤ w → 2 ^ 64 ≤ w
+none-is v w large most = omega (arith, large)
+
+pub none-of : (r : Option ℕ) (v w : ℕ) → SomeIff r (v < 2 ^ 64) v → v ≡ w → r ≡ None → 2 ^ 64 ≤ w
+none-of None v w large same is = none-is v w large (omega arith)
+none-of (Some n) v w large same is = cc
+
 -- a sum that was checked
 pub sum-is : (r : Option ℕ) (P : Type 0) (v w : ℕ) → SomeIff r P v → v ≡ w → IfSome r (λ n. n ≡ w)
 sum-is None P v w answer same = tt
@@ -102,6 +127,14 @@ sum-is (Some n) P v w answer same = answer.1 ∙ same
 -- the size of an image begins with its room
 pub size-first : (page : ℕ) (cs : List Column) → 42 + length (flat_map (column_bytes page) cs) ≡ length (image page cs)
 size-first page cs = sym (length-append (replicate {A = ℕ} 42 0) (payload page cs) ∙ rw (length-replicate {A = ℕ} 42 0) refl)
+
+-- the columns up to one are no longer than all
+pub size-least : (page old all : ℕ) (left rest : List Column) (c : Column) → left ≡ c ∷ rest
+    → old + length (flat_map (column_bytes page) left) ≡ all → old + length (column_bytes page c) ≤ all
+size-least page old all left rest c parts is =
+    let split : length (flat_map (column_bytes page) left) ≡ length (column_bytes page c) + length (flat_map (column_bytes page) rest) =
+    rw parts (length-append (column_bytes page c) (flat_map (column_bytes page) rest)) in
+    omega arith
 
 -- and goes on by a column
 pub size-next : (page old new all : ℕ) (left rest : List Column) (c : Column) → left ≡ c ∷ rest → new ≡ old + length (column_bytes page c)
