@@ -1,9 +1,10 @@
 -- The fault of a column, by its first element that isn't as it must be.
 use Rattle.std.proofs.Common.{◌≡◌, ℕ, ◌<◌, ◌≤◌, ◌⊎◌, inl, inr, ◌==◌, nat_lt, if◌then◌else◌, List, length, Some, None, refl, ap, sym, ◌∙◌}
-use Rattle.std.proofs.Common.{arith}
+use Rattle.std.proofs.Common.{arith, map, get_or}
+use Rattle.std.proofs.Math.ListN.{get_or-map}
 use Rattle.std.proofs.lemmas.Bool.{lt-ltb, le-ltb, cases_lt}
-use Rattle.nt_column.specs.Elements.{Element}
-use Rattle.nt_trees.specs.Columns.{Cols}
+use Rattle.nt_column.specs.Elements.{Element, plain}
+use Rattle.nt_trees.specs.Columns.{Cols, number_at}
 use Rattle.nt_trees.specs.Faults.{Demand, free, is_met, first_failing, spot_in, column_fault}
 use Rattle.nt_trees.proofs.NoFault.{first_failing-none, first_failing-at}
 use Rattle.nt_join.specs.Sweeps.{IsFirstUnmet}
@@ -31,3 +32,7 @@ column_fault-first d cols k n first u =
 -- a column of values has no such element
 pub IsFirstUnmet-free : (es : List Element) → IsFirstUnmet free es (length es)
 IsFirstUnmet-free es = record { within = omega arith; before = λ i l. refl; unmet = λ l. absurd (omega (arith, l)) }
+
+-- the number of an element that is one
+pub number_at-plain : (ns : List ℕ) (i : ℕ) → number_at (map plain ns) i ≡ get_or ns i 0
+number_at-plain ns i = ap (λ (e : Element). e.0) (get_or-map plain ns i 0)

@@ -1,18 +1,37 @@
 //! Sweeps over a column.
 
-ghost use Rattle.std.specs.Prelude.{◌≡◌, option_map};
+ghost use Rattle.std.specs.Prelude.{◌≡◌, map, option_map};
+ghost use Rattle.nt_column.specs.Elements.{plain};
 ghost use Rattle.nt_trees.specs.Faults.{rising, free, column_fault};
 ghost use Rattle.nt_join.specs.Spots.{spot_of};
 ghost use Rattle.nt_join.specs.Sweeps.{IsFirstUnmet};
 
 use crate::fault::{ValueFault, first_in};
 use crate::reading::number;
-use nt_column::Columns;
+use nt_column::{Columns, WordSlice};
+
+/// The first of these ends that is below the one before, or their number.
+fn first_fall_in(ends: &[u64]) -> usize
+    ensures { IsFirstUnmet rising (map plain ends.now) result }
+{
+    let mut last: u64 = 0;
+    for i in 0..ends.len() {
+        let end = ends[i];
+        if end < last {
+            return i;
+        }
+        last = end;
+    }
+    ends.len()
+}
 
 /// The first end that is below the one before, or the number of elements.
 fn first_fall<C: Columns>(columns: &C, column: u32) -> u64
     ensures { IsFirstUnmet rising (C.Columns.elements columns.now column) result }
 {
+    if let Some(WordSlice::Words64(ends)) = columns.words(column) {
+        return first_fall_in(ends) as u64;
+    }
     let len = columns.len(column);
     let mut last: u64 = 0;
     for i in 0..len {
