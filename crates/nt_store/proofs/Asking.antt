@@ -16,7 +16,7 @@ use Rattle.nt_store.specs.Stored.{asked_for}
 use Rattle.nt_store.specs.Worlds.{AsksFirst, AsksFor, HasStoreCause, AreOpenTexts}
 
 -- the first objects were asked for
-asks_front : (old new objects front rest : List Asked) → new ≡ old ++ front → objects ≡ front ++ rest → AsksFirst objects old new
+pub asks_front : (old new objects front rest : List Asked) → new ≡ old ++ front → objects ≡ front ++ rest → AsksFirst objects old new
 asks_front old new objects front rest is objects-are = (
   length front,
   is ∙ ap (λ (l : List Asked). old ++ l) (sym (ap (λ (l : List Asked). take (length front) l) objects-are
@@ -24,7 +24,7 @@ asks_front old new objects front rest is objects-are = (
 )
 
 -- all of them were
-asks_all : (result : Result Unit StoreError) (old new objects : List Asked) → new ≡ old ++ objects → AsksFor objects old new result
+pub asks_all : {T E : Type 0} (result : Result T E) (old new objects : List Asked) → new ≡ old ++ objects → AsksFor objects old new result
 asks_all (Ok value) old new objects is = is
 asks_all (Err e) old new objects is = asks_front old new objects objects [] is (sym (append-nil objects))
 

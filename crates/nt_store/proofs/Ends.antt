@@ -35,10 +35,11 @@ stored_other : (files : Files) (name other : List ℕ) (s : Stored) → other �
     → map.get (map.insert files name s) other ≡ map.get files other
 stored_other files name other s differs = grind (arith, gets, differs, exact_bytes other name)
 
-there : (P : List ℕ → Type 0) (found : Option (List ℕ)) (bytes : List ℕ) → found ≡ Some bytes → P bytes → IsThereWith P found
+-- what is found has a form that its bytes have
+pub there : (P : List ℕ → Type 0) (found : Option (List ℕ)) (bytes : List ℕ) → found ≡ Some bytes → P bytes → IsThereWith P found
 there P found bytes is has = subst (IsThereWith P) (sym is) has
 
-file_kept : (out : List ℕ) (h : Held) (v : World) → file (keeps_disk out h v) out ≡ Some h.image
+pub file_kept : (out : List ℕ) (h : Held) (v : World) → file (keeps_disk out h v) out ≡ Some h.image
 file_kept out h v =
     ap (λ (o : Option Stored). option_map (λ (s : Stored). s.bytes) o) (stored_kept v.files out (record {
       bytes = h.image;
@@ -46,10 +47,11 @@ file_kept out h v =
           h.log;
     }))
 
-kept_open : (out : List ℕ) (h : Held) (v : World) → BeginsOpen h.image → IsLeftOpen out (keeps_disk out h v)
+-- a file that is open on the disk is so under its name
+pub kept_open : (out : List ℕ) (h : Held) (v : World) → BeginsOpen h.image → IsLeftOpen out (keeps_disk out h v)
 kept_open out h v begins = there BeginsOpen (file (keeps_disk out h v) out) h.image (file_kept out h v) begins
 
-kept_never_begun : (out : List ℕ) (h : Held) (v : World) → NeverBegan h → IsNeverBegun out (keeps_disk out h v)
+pub kept_never_begun : (out : List ℕ) (h : Held) (v : World) → NeverBegan h → IsNeverBegun out (keeps_disk out h v)
 kept_never_begun out h v began = record {
   at = record { bytes = h.image; log = Some h.log };
   len = began.0;
@@ -57,7 +59,7 @@ kept_never_begun out h v began = record {
   log = ap (λ (l : List Step). Some l) began.1;
 }
 
-others_kept : (out : List ℕ) (h : Held) (v : World) → OthersStay out v (keeps_disk out h v)
+pub others_kept : (out : List ℕ) (h : Held) (v : World) → OthersStay out v (keeps_disk out h v)
 others_kept out h v other differs = stored_other v.files out other (record { bytes = h.image; log = Some h.log }) differs
 
 -- a disk comes back under the name that it was made for

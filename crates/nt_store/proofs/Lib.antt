@@ -4,11 +4,14 @@ pub mod Files
 pub mod Back
 pub mod Opening
 pub mod Begun
+pub mod Sound
 pub mod Whole
 pub mod Passing
-pub mod Finishing
-pub mod Filling
-pub mod Ends
 pub mod Crashing
+pub mod Filled
+pub mod Answered
+pub mod Closed
+pub mod Printing
+pub mod Ends
 pub mod Crashed
 pub mod Asking

@@ -1,16 +1,11 @@
 -- What a crash leaves of a file that is written from texts, wherever it cuts the steps off.
-use Rattle.std.specs.Prelude.{◌≡◌, ◌⊎◌, ℕ, List, ◌++◌, Option, Some, Result, Ok, Err}
+use Rattle.std.specs.Prelude.{◌≡◌, ℕ, List, ◌++◌, Option, Some, Result, Ok, Err}
 use Rattle.nt_types.specs.ShapeData.{MemberData}
 use Rattle.nt_outside.specs.declared.stream.Stream.TheVariants.{ToOut}
 use Rattle.nt_outside.specs.Log.{Step}
 use Rattle.nt_outside.specs.Held.{Held}
 use Rattle.nt_outside.specs.World.{World, Stored, prints, stored}
-use Rattle.nt_grammar.specs.Table.{Table}
 use Rattle.nt_book.specs.declared.params.Params.{Params}
-use Rattle.nt_book.specs.Books.{BookData}
-use Rattle.nt_layout.specs.Finished.{tail, front}
-use Rattle.nt_close.specs.Steps.{closed_on, IsClosedSoFar}
-use Rattle.nt_close.specs.Closing.{StaysWithin}
 use Rattle.nt_crash.specs.Cuts.{LeavesUnfinished, LeavesUnfinishedOr, LeavesOnly}
 use Rattle.nt_store.specs.declared.error.StoreError.{StoreError}
 use Rattle.nt_store.specs.declared.error.StoreError.TheVariants.{Outside, Memory, Schema, Line, Limit}
@@ -18,7 +13,7 @@ use Rattle.nt_store.specs.Orders.{order_line}
 use Rattle.nt_store.specs.Texts.{AreTexts}
 use Rattle.nt_store.specs.Whole.{IsStored}
 use Rattle.nt_store.specs.Worlds.{MakesDisk}
-use Rattle.nt_store.specs.Writing.{HoldsNow, PrintsOrder}
+use Rattle.nt_store.specs.Writing.{HoldsNow}
 
 -- behind the first sync what is unfinished is left; the whole only once the first byte is written over; behind all steps of Ok just that
 abbrev pub CrashLeaves : (List ℕ → Type 0) → List Step → Result Unit StoreError → Type 0
@@ -62,19 +57,3 @@ pub record EndsAsWhole (fields : List MemberData) (p : Params) (texts : List (Li
 -- what a crash leaves of a file on a disk that tells its steps
 abbrev pub CrashesTo : List MemberData → Params → List (List ℕ) → World → Option World → Option Held → Result Unit StoreError → Type 0
 CrashesTo fields p texts w new held result = HoldsNow held (λ h. CrashLeaves (EndsAsWhole fields p texts w new) h.log result)
-
--- a file is closed within the limits, behind the line of its order
-pub record ClosesBehind (t : Table) (p : Params) (book : BookData) (w : World) (new : Option World) : Type 0 where
-  pub within : StaysWithin t p book
-  pub printed : PrintsOrder book w new
-
--- the steps that the end of a file takes, by the answer: all that close it, or those up to one that failed, or none
-abbrev pub FinishSteps : Table → Params → BookData → World → Option World → Held → Option Held → Result Unit StoreError → Type 0
-FinishSteps t p book w new h held' (Ok done) =
-    ClosesBehind t p book w new × (held' ≡ Some (closed_on (tail t book p.group) (front t book p.group) h))
-FinishSteps t p book w new h held' (Err Outside) =
-    (held' ≡ Some h) ⊎ (ClosesBehind t p book w new × HoldsNow held' (IsClosedSoFar (tail t book p.group) (front t book p.group) h))
-FinishSteps t p book w new h held' (Err Memory) = held' ≡ Some h
-FinishSteps t p book w new h held' (Err (Limit reached most)) = held' ≡ Some h
-FinishSteps t p book w new h held' (Err (Schema line kind)) = ⊥
-FinishSteps t p book w new h held' (Err (Line input line kind)) = ⊥

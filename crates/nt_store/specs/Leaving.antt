@@ -10,11 +10,11 @@ use Rattle.nt_outside.specs.World.{World, HostState}
 use Rattle.nt_book.specs.Ranges.{IsFromTo}
 use Rattle.nt_book.specs.declared.params.Params.{Params}
 use Rattle.nt_book.specs.Books.{BookData}
-use Rattle.nt_close.specs.Laws.{IsShut}
 use Rattle.nt_contexts.specs.Contexts.{TellTexts}
 use Rattle.nt_store.specs.declared.error.StoreError.{StoreError}
-use Rattle.nt_store.specs.Writing.{FinishTold, FileTold, KeepsOrder, IsInOrderFrom, IsEmptyDisk}
-use Rattle.nt_store.specs.Crashes.{FinishSteps, CrashesTo}
+use Rattle.nt_store.specs.Writing.{FileTold, KeepsOrder, IsInOrderFrom, IsEmptyDisk}
+use Rattle.nt_store.specs.Crashes.{CrashesTo}
+use Rattle.nt_store.specs.Filling.{IsFilledFile}
 
 -- a file may be written: of fields that keep the rules of a schema text and of 1 to 64 texts, on an empty disk
 pub record MayWriteFile (fields : List MemberData) (texts : ℕ) (disk : DiskState) : Type 0 where
@@ -34,7 +34,8 @@ pub record WritesFile (fields : List MemberData) (p : Params) (texts : List Sour
 -- the order of a book's clusters was told and their file closed, or not
 pub record FinishesFile (t : Table) (p : Params) (book : BookData) (old new : HostState) (disk disk' : DiskState)
     (result : Result Unit StoreError) : Type 0 where
-  pub told : (w : World) (h : Held) → old.world ≡ Some w → disk.held ≡ Some h → IsShut h.image
-      → FinishTold t p book w new.world (Some h) disk'.held result
+  pub told : (fields : List MemberData) (texts : List (List ℕ)) (w : World) (h : Held) → old.world ≡ Some w → disk.held ≡ Some h
+      → IsFilledFile fields p texts t book h → FileTold fields p texts w new.world disk'.held result
   pub order : KeepsOrder disk.held disk'.held
-  pub steps : (w : World) (h : Held) → old.world ≡ Some w → disk.held ≡ Some h → FinishSteps t p book w new.world h disk'.held result
+  pub crash : (fields : List MemberData) (texts : List (List ℕ)) (w : World) (h : Held) → old.world ≡ Some w → disk.held ≡ Some h
+      → IsFilledFile fields p texts t book h → CrashesTo fields p texts w new.world disk'.held result

@@ -6,6 +6,7 @@ pub mod Texts
 pub mod Whole
 pub mod Writing
 pub mod Crashes
+pub mod Laws
+pub mod Filling
 pub mod Leaving
 pub mod Stored
-pub mod Laws

@@ -16,8 +16,6 @@ use Rattle.nt_container.specs.Spelling.{begun}
 use Rattle.nt_layout.specs.Headers.{header_blob}
 use Rattle.nt_close.specs.Steps.{begun_on}
 use Rattle.nt_close.specs.Laws.{IsShut}
-use Rattle.nt_close.specs.Passing.{passed_by_close}
-use Rattle.nt_close.specs.Closing.{BecomesFinished, StaysWithin}
 use Rattle.nt_book.specs.declared.limits.LimitError.{LimitError}
 use Rattle.nt_book.specs.declared.limits.LimitError.TheVariants as limit
 use Rattle.nt_dealing.specs.Dealt.{commit_order}
@@ -47,18 +45,6 @@ PrintsOrder book w new = new ≡ Some (prints ToOut (order_line (commit_order bo
 -- the limit that the closing of a file passes
 abbrev pub IsPassedAs : Option LimitError → ℕ → ℕ → Type 0
 IsPassedAs passed reached most = (passed ≡ Some (limit.RangeTooLarge reached most)) ⊎ (passed ≡ Some (limit.FileTooLarge reached most))
-
--- what the end of a file leaves, by the answer: its order is told, and it is finished, unless a print, a step, a limit or memory says no
-abbrev pub FinishTold : Table → Params → BookData → World → Option World → Option Held → Option Held → Result Unit StoreError → Type 0
-FinishTold t p book w new held held' (Ok done) = PrintsOrder book w new × BecomesFinished t book p.group held held' × StaysWithin t p book
-FinishTold t p book w new held held' (Err Outside) =
-    (PrintsOrderFront w new × HoldsNow held' (λ h. BeginsOpen h.image)) ⊎ (PrintsOrder book w new × BecomesFinished t book p.group held
-    held' × StaysWithin t p book)
-FinishTold t p book w new held held' (Err Memory) = PrintsOrderFront w new × (held' ≡ held)
-FinishTold t p book w new held held' (Err (Limit reached most)) = PrintsOrder book w new × (held' ≡ held) × IsPassedAs (passed_by_close p
-    t book) reached most
-FinishTold t p book w new held held' (Err (Schema line kind)) = ⊥
-FinishTold t p book w new held held' (Err (Line input line kind)) = ⊥
 
 -- the file is whole, and out gained the line of its order
 pub record EndsWhole (fields : List MemberData) (p : Params) (texts : List (List ℕ)) (w : World) (new : Option World) (held : Option

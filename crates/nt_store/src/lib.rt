@@ -1,9 +1,11 @@
 //! Writes a file from a schema text and event texts of a host: the work of the command `write`.
 //!
-//! Start at `storing.rt` (`store`). `texts.rt` reads the schema text, opens the inputs and gives them back; `orders.rt` makes the
-//! line of the commit order; `laws.rt` joins what the crates below say of finished files; `error.rt` is why a file isn't written.
+//! Start at `storing.rt` (`store`). `texts.rt` reads the schema text, opens the inputs and gives them back; `filling.rt` begins a file
+//! and fills it by contexts, `closing.rt` closes it, both also for other commands that write; `orders.rt` makes the line of the commit
+//! order; `laws.rt` joins what the crates below say of finished files; `error.rt` is why a file isn't written.
 //!
-//! Words: a file is *stored* that is whole, laid out within the limits for the chunks of its texts and means them (`specs/Whole.antt`);
+//! Words: a file is *filled* whose clusters are the chunks of its texts, and which can't pass for finished yet (`specs/Filling.antt`);
+//! it is *stored* that is whole, laid out within the limits for the chunks of its texts and means them (`specs/Whole.antt`);
 //! it is *left open* where it can't pass for finished (`specs/Worlds.antt`); what a crash *leaves* is nt_outside's, and what of that is
 //! *unfinished* nt_crash's (`specs/Crashes.antt`).
 //!
@@ -16,11 +18,15 @@
 //! rose, and each object that was opened comes back. Nothing is only tested.
 #![tactic(auto)]
 
+mod closing;
 mod error;
+mod filling;
 mod laws;
 mod orders;
 mod storing;
 mod texts;
 
+pub use closing::close_file;
 pub use error::StoreError;
+pub use filling::fill_file;
 pub use storing::{Names, store};

@@ -1,24 +1,20 @@
 //! A file that is written from texts.
 
-ghost use Rattle.std.specs.Prelude.{◌≡◌, None, length, map};
+ghost use Rattle.std.specs.Prelude.{length, map};
 ghost use Rattle.nt_types.specs.Views.{members_view};
 ghost use Rattle.nt_outside.specs.Held.{nothing_held};
-ghost use Rattle.nt_close.specs.Closing.{IsClosable};
-ghost use Rattle.nt_close.specs.Spoiled.{NoneSpoiled};
-ghost use Rattle.nt_close.specs.Passing.{passed_by_begin};
-ghost use Rattle.nt_contexts.specs.Contexts.{IsReady};
 ghost use Rattle.nt_book.specs.Ranges.{IsFromTo};
-ghost use Rattle.nt_store.specs.Writing.{as_begun, FailsOnEither, AsksNothing, TakesTextsBack};
+ghost use Rattle.nt_store.specs.Writing.{FailsOnEither, AsksNothing, TakesTextsBack};
+ghost use Rattle.nt_store.specs.Filling.{MayClose};
 ghost use Rattle.nt_store.specs.Leaving.{MayWriteFile, WritesFile, FinishesFile};
 ghost use Rattle.nt_store.specs.Stored.{Stores};
 
+use crate::closing::close_file;
 use crate::error::StoreError;
-use crate::laws::{chunks_in_files, crashes_leave_chunks_or_none};
+use crate::filling::fill_file;
 use crate::orders::order_line;
 use crate::texts::{open_texts, put_texts, read_schema};
 use nt_book::{Book, Params};
-use nt_close::{begin, close};
-use nt_contexts::{Ended, run_contexts};
 use nt_outside::{Gate, Host, Stream, print_all};
 use nt_schema::Schema;
 use nt_types::Fields;
@@ -43,8 +39,7 @@ fn finish<H: Host>(
     schema: &Schema,
     params: &Params,
 ) -> Result<(), StoreError>
-    requires closable { IsClosable (H.Out.state disk.old) book.now schema.now }
-    requires unspoiled { NoneSpoiled book.now }
+    requires may { MayClose (H.Out.state disk.old) book.now schema.now }
     ensures file { FinishesFile schema.now params.now book.now (H.state host.old) (H.state host.new)
         (H.Out.state disk.old) (H.Out.state disk.new) result }
     ensures cause { FailsOnEither (H.Out.state disk.new) (H.state host.old) (H.state host.new) result }
@@ -53,56 +48,7 @@ fn finish<H: Host>(
     let order = book.order(alloc)?;
     let line = order_line(alloc, &order)?;
     print_all(host, Stream::ToOut, &line)?;
-    close(alloc, disk, book, schema, params)?;
-    Ok(())
-}
-
-/// Runs the contexts on the disk of a file that was begun, gives the texts back, and finishes the file.
-fn fill<R, H, G>(
-    rt: &R,
-    alloc: Global,
-    host: &mut H,
-    disk: H::Out,
-    book: Book,
-    schema: &Schema,
-    fields: &Fields,
-    params: &Params,
-    texts: Vec<H::Text>,
-    gate: &G,
-) -> (H::Out, Result<(), StoreError>)
-where
-    R: Threads + Wait + Sync,
-    H: Host,
-    H::Text: Send,
-    H::Out: Send,
-    <H::Out as nt_outside::Disk>::Pen: Send,
-    <H::Out as nt_outside::Disk>::Ext: Send,
-    G: Gate + Sync,
-    requires ready { IsReady (members_view fields.now) params.now schema.now book (H.Out.state disk) (length texts.items) }
-    requires within { passed_by_begin params.now.limits schema.now ≡ None }
-    ensures file { WritesFile (members_view fields.now) params.now (map H.Text.state texts.items) (as_begun schema.now)
-        (H.state host.old) (H.state host.new) (H.Out.state disk) (H.Out.state result.0) result.1 }
-    ensures cause { FailsOnEither (H.Out.state result.0) (H.state host.old) (H.state host.new) result.1 }
-    ensures rest { TakesTextsBack (length texts.items) (H.state host.old) (H.state host.new) }
-{
-    let Ended {
-        disk,
-        book,
-        sources,
-        ended,
-    } = run_contexts(rt, alloc, disk, book, schema, fields, params, texts, gate);
-    put_texts(host, sources);
-    book.keeps();
-    chunks_in_files();
-    crashes_leave_chunks_or_none();
-    match ended {
-        Ok(()) => {
-            let mut disk = disk;
-            let finished = finish(alloc, host, &mut disk, &book, schema, params);
-            (disk, finished)
-        }
-        Err(error) => (disk, Err(StoreError::from(error))),
-    }
+    close_file(alloc, disk, book, schema, params)
 }
 
 /// Writes the file of these fields and texts on an empty disk. The texts go back to the host, and the disk to the caller.
@@ -130,16 +76,15 @@ where
     ensures cause { FailsOnEither (H.Out.state result.0) (H.state host.old) (H.state host.new) result.1 }
     ensures rest { TakesTextsBack (length texts.items) (H.state host.old) (H.state host.new) }
 {
-    let mut disk = disk;
-    crashes_leave_chunks_or_none();
-    match begin(alloc, &mut disk, fields, params) {
-        Ok((book, schema)) => fill(
-            rt, alloc, host, disk, book, &schema, fields, params, texts, gate,
-        ),
-        Err(error) => {
-            put_texts(host, texts);
-            (disk, Err(StoreError::from(error)))
+    let (disk, texts, filled) = fill_file(rt, alloc, disk, fields, params, texts, gate);
+    put_texts(host, texts);
+    match filled {
+        Ok((book, schema)) => {
+            let mut disk = disk;
+            let finished = finish(alloc, host, &mut disk, &book, &schema, params);
+            (disk, finished)
         }
+        Err(error) => (disk, Err(error)),
     }
 }
 

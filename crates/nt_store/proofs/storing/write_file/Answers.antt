@@ -1,46 +1,45 @@
-use Rattle.std.proofs.Common.{◌∙◌, inl}
-use Rattle.nt_outside.specs.Held.{nothing_held}
-use Rattle.nt_store.proofs.Filling.{begin_told, begin_order, begin_fails}
-use Rattle.nt_store.proofs.Crashing.{begin_crashes}
+use Rattle.std.proofs.Common.{◌≡◌, ◌⊎◌, ◌∙◌, inl, inr, arith}
+use Rattle.nt_store.proofs.Answered.{ok_filled, ok_holds, err_why, err_left, either_failed}
+use Rattle.nt_store.proofs.Crashing.{leaves_open}
+use Rattle.nt_store.proofs.Printing.{unfilled_told}
 use Rattle.nt_store.proofs.storing.write_file.Goals as goal
 
-pub fill-requires-clause-ready : goal.fill-requires-clause-ready
-fill-requires-clause-ready g c κs within = record {
-  rules = c.requires.may.rules;
-  rows = c.in-Ok.ensures.begun.rows;
-  book_is = c.in-Ok.ensures.begun.book_is;
-  end = c.in-Ok.ensures.begun.end;
-  out = c.in-Ok.ensures.begun.out ∙ c.requires.may.empty.out;
-  some = c.requires.may.number.0;
-  few = c.requires.may.number.1;
-}
+pub finish-finished-requires : goal.finish-finished-requires
+finish-finished-requires g c = record { may = ok_holds _ _ _ c.in-Ok.is c.fill_file-disk.ensures.may_close }
 
 pub returns-in-Ok-clause-file : goal.returns-in-Ok-clause-file
 returns-in-Ok-clause-file g c =
-    let wrote = c.fill.ensures.file in
-    let begun = c.in-Ok.ensures.begun in
+    let fills = c.fill_file-disk.ensures in
+    let finishes = c.finish-finished.ensures.file in
     record {
-      told = λ w ts is tell held. wrote.told w ts is tell (begun.held nothing_held held);
-      order = λ held. wrote.order (begun.held nothing_held held);
-      crash = λ w ts is tell held. wrote.crash w ts is tell (begun.held nothing_held held);
+      told = λ w ts is tell held.
+          let left = ok_filled _ c.args.params.now ts _ _ _ c.in-Ok.is (fills.left ts tell held) in
+          finishes.told _ ts w left.0 (c.put_texts.ensures.world ∙ is) left.1 left.2;
+      order = λ held.
+          let left = ok_holds _ _ _ c.in-Ok.is fills.shut held in
+          let ordered = finishes.order left.0 left.1 in
+          (ordered.0, ordered.1, ordered.2 left.2.0 left.2.1);
+      crash = λ w ts is tell held.
+          let left = ok_filled _ c.args.params.now ts _ _ _ c.in-Ok.is (fills.left ts tell held) in
+          finishes.crash _ ts w left.0 (c.put_texts.ensures.world ∙ is) left.1 left.2;
     }
 
 pub returns-in-Err-clause-file : goal.returns-in-Err-clause-file
 returns-in-Err-clause-file g c =
-    let disk = g.H.Out.Disk.state c.args.disk in
+    let fills = c.fill_file-disk.ensures in
     record {
       told = λ w ts is tell held.
-          rw c.from.ensures (begin_told c.in-Err.error _ c.args.params.now ts disk _ w _ c.in-Err.ensures.refused
-          held (c.put_texts.ensures.world ∙ is));
-      order = λ held. begin_order c.in-Err.error _ c.args.params.now disk _ c.in-Err.ensures.refused held;
+          unfilled_told _ c.args.params.now ts w _ _ c.in-Err.error (c.put_texts.ensures.world ∙ is)
+          (err_why _ c.args.params.now ts _ _ c.in-Err.is (fills.why ts tell))
+          (err_left _ c.args.params.now ts _ _ _ c.in-Err.is (fills.left ts tell held));
+      order = fills.order;
       crash = λ w ts is tell held.
-          rw c.from.ensures (begin_crashes c.crashes_leave_chunks_or_none.ensures _ c.args.params.now ts c.in-Err.error
-          disk _ w _ c.in-Err.ensures.refused held);
+          let left = fills.crash held in
+          (left.0, left.1, leaves_open _ left.0.log c.in-Err.error left.2);
     }
 
 pub returns-in-Err-clause-cause : goal.returns-in-Err-clause-cause
 returns-in-Err-clause-cause g c = record {
   later = c.put_texts.ensures.later;
-  failed = λ is. inl (begin_fails c.in-Err.error _ c.args.params.now (g.H.Out.Disk.state c.args.disk) _ c.in-Err.ensures.refused (cc
-      (c.from.ensures, is)));
+  failed = λ is. either_failed _ _ _ _ _ _ c.in-Err.is c.fill_file-disk.ensures.failed c.put_texts.ensures.failed (cc is);
 }

@@ -1,4 +1,4 @@
--- What the writing of a file leaves on its disk, by what its parts say.
+-- What the filling of a file leaves on its disk, by what its parts say.
 use Rattle.std.proofs.Common.{◌≡◌, ◌⊎◌, ◌∙◌, inl, inr, sym, subst, refl, ℕ, ◌<◌, List, [], ◌∷◌, ◌++◌, Option, Some, None, Result, Ok, Err}
 use Rattle.std.proofs.Common.{◌≤◌, arith}
 use Rattle.std.specs.List.{AllByRecursion, concat}
@@ -9,7 +9,6 @@ use Rattle.nt_outside.specs.Held.{Held, BecomesSome, nothing_held}
 use Rattle.nt_outside.specs.Disk.{DiskState}
 use Rattle.nt_outside.specs.Order.{FirstByteLast}
 use Rattle.nt_outside.specs.Source.{SourceState}
-use Rattle.nt_outside.specs.World.{World}
 use Rattle.nt_grammar.specs.Table.{Table}
 use Rattle.nt_grammar.specs.Rows.{Rows}
 use Rattle.nt_machine.specs.History.{Cluster}
@@ -19,7 +18,8 @@ use Rattle.nt_book.specs.declared.limits.LimitError.TheVariants as limit
 use Rattle.nt_book.specs.Books.{BookData, book_clusters}
 use Rattle.nt_book.specs.Kept.{IsBookKept}
 use Rattle.nt_machine.specs.Legal.{IsLegal}
-use Rattle.nt_layout.specs.Headers.{header_blob, file_begun}
+use Rattle.nt_layout.specs.Headers.{header_blob, file_begun, clusters_place}
+use Rattle.nt_crash.specs.Cuts.{LeavesUnfinished}
 use Rattle.nt_crash.specs.Fillings.{IsFilled}
 use Rattle.nt_close.specs.declared.error.BeginError.{BeginError}
 use Rattle.nt_close.specs.declared.error.BeginError.TheVariants as begin
@@ -37,10 +37,11 @@ use Rattle.nt_store.specs.declared.error.StoreError.{StoreError}
 use Rattle.nt_store.specs.declared.error.StoreError.TheVariants.{Outside, Memory, Schema, Line, Limit}
 use Rattle.nt_store.specs.Errors.{error_of_begin, error_of_run}
 use Rattle.nt_store.specs.Worlds.{SomeFailed}
-use Rattle.nt_store.specs.Writing.{as_begun, FinishTold, FileTold, EndsWhole, IsInOrderFrom}
-use Rattle.nt_store.specs.Laws.{HoldsChunks, RangesAreAsLong, FinishedAreStored, PassedAreOver}
+use Rattle.nt_store.specs.Writing.{as_begun, IsInOrderFrom}
+use Rattle.nt_store.specs.Laws.{CrashesLeave}
+use Rattle.nt_store.specs.Filling.{IsFilledFile, WhyUnfilled, FillLeaves}
 use Rattle.nt_store.proofs.Begun.{begun_known, shut_open, filled_shut, filled_order}
-use Rattle.nt_store.proofs.Finishing.{none_printed, whole_printed}
+use Rattle.nt_store.proofs.Crashing.{run_crash}
 use Rattle.nt_store.proofs.Passing.{begun_over}
 
 -- what the contexts left on the disk of a file that was begun: its first byte is 0
@@ -49,44 +50,47 @@ pub record IsFilledShut (t : Table) (held : Option Held) : Type 0 where
   pub is : held ≡ Some h
   pub shut : IsShut h.image
   pub order : FirstByteLast h.log
+  pub unfinished : LeavesUnfinished h.log
 
 begun_order : (t : Table) → FirstByteLast (as_begun t).log
 begun_order t = begins_in_order (header_blob t) (as_begun t) (begun_whole refl)
 
-pub filled_from : (t : Table) (begin : ℕ) (old new : Option Held) → 0 < begin → old ≡ Some (as_begun t)
-    → BecomesSome old new (FillsBehind begin) → IsFilledShut t new
-filled_from t begin old new some is fills =
+pub filled_from : CrashesLeave → (t : Table) (begin : ℕ) (old new : Option Held) → begin ≡ clusters_place t → 0 < begin
+    → old ≡ Some (as_begun t) → BecomesSome old new (FillsBehind begin) → IsFilledShut t new
+filled_from leave t begin old new place some is fills =
     let left = fills (as_begun t) is in
     record {
       h = left.0;
       is = left.1;
       shut = filled_shut t begin left.0 left.2;
       order = filled_order begin (as_begun t) left.0 some left.2 (begun_order t);
+      unfinished = run_crash leave t begin left.0 place left.2;
     }
 
 -- why contexts end early
-pub run_told : (e : RunError) (t : Table) (fields : List MemberData) (p : Params) (texts : List (List ℕ)) (disk disk' : DiskState) (book
-    : BookData) (w : World) (new : Option World)
-    → Rows fields p.plain t → ContextsTold t fields p texts disk disk' book (Err e) → IsFilledShut t disk'.held → new ≡ Some w
-    → FileTold fields p texts w new disk'.held (Err (error_of_run e))
-run_told run.Outside t fields p texts disk disk' book w new rows told filled is =
-    inl (none_printed w new is, (filled.h, filled.is, inl (shut_open filled.h.image filled.shut)))
-run_told run.Memory t fields p texts disk disk' book w new rows told filled is =
-    (none_printed w new is, (filled.h, filled.is, shut_open filled.h.image filled.shut))
-run_told (run.Line input line kind) t fields p texts disk disk' book w new rows told filled is =
-    (told, is, (filled.h, filled.is, shut_open filled.h.image filled.shut))
-run_told (run.Limit reached most) t fields p texts disk disk' book w new rows told filled is =
-    (record { table = t; rows = rows; over = told }, none_printed w new is, (filled.h, filled.is, shut_open filled.h.image filled.shut))
+why_told : (T : Type 0) (e : RunError) (t : Table) (fields : List MemberData) (p : Params) (texts : List (List ℕ)) (disk disk' : DiskState)
+    (book : BookData) → Rows fields p.plain t → ContextsTold t fields p texts disk disk' book (Err e)
+    → WhyUnfilled {T = T} fields p texts (Err (error_of_run e))
+why_told T run.Outside t fields p texts disk disk' book rows told = tt
+why_told T run.Memory t fields p texts disk disk' book rows told = tt
+why_told T (run.Line input line kind) t fields p texts disk disk' book rows told = told
+why_told T (run.Limit reached most) t fields p texts disk disk' book rows told = record { table = t; rows = rows; over = told }
 
 -- the same of an answer that is one of these
-pub run_err : (r : Result Unit RunError) (e : RunError) (t : Table) (fields : List MemberData) (p : Params) (texts : List (List ℕ)) (disk
-    disk' : DiskState) (book : BookData) (w : World)
-    (new : Option World) → r ≡ Err e → Rows fields p.plain t → ContextsTold t fields p texts disk disk' book r
-    → IsFilledShut t disk'.held → new ≡ Some w
-    → FileTold fields p texts w new disk'.held (Err (error_of_run e))
-run_err r e t fields p texts disk disk' book w new is rows told filled same =
-    run_told e t fields p texts disk disk' book w new rows (subst (λ (o : Result Unit RunError). ContextsTold t fields p texts disk disk'
-    book o) is told) filled same
+pub run_why : (T : Type 0) (r : Result Unit RunError) (e : RunError) (t : Table) (fields : List MemberData) (p : Params)
+    (texts : List (List ℕ)) (disk disk' : DiskState) (book : BookData) → r ≡ Err e → Rows fields p.plain t
+    → ContextsTold t fields p texts disk disk' book r → WhyUnfilled {T = T} fields p texts (Err (error_of_run e))
+run_why T r e t fields p texts disk disk' book is rows told =
+    why_told T e t fields p texts disk disk' book rows
+    (subst (λ (o : Result Unit RunError). ContextsTold t fields p texts disk disk' book o) is told)
+
+-- what they leave then
+pub run_leaves : (e : RunError) (t : Table) (fields : List MemberData) (p : Params) (texts : List (List ℕ)) (held : Option Held)
+    → IsFilledShut t held → FillLeaves fields p texts held (Err (error_of_run e))
+run_leaves run.Outside t fields p texts held filled = (filled.h, filled.is, inl (shut_open filled.h.image filled.shut))
+run_leaves run.Memory t fields p texts held filled = (filled.h, filled.is, shut_open filled.h.image filled.shut)
+run_leaves (run.Line input line kind) t fields p texts held filled = (filled.h, filled.is, shut_open filled.h.image filled.shut)
+run_leaves (run.Limit reached most) t fields p texts held filled = (filled.h, filled.is, shut_open filled.h.image filled.shut)
 
 pub run_ok : (r : Result Unit RunError) (t : Table) (fields : List MemberData) (p : Params) (texts : List (List ℕ)) (disk disk' :
     DiskState) (book : BookData) → r ≡ Ok tt
@@ -109,21 +113,14 @@ rose_failed (s ∷ old) [] rose = absurd rose
 rose_failed (s ∷ old) (s' ∷ new) (inl rose) = inl (omega (arith, rose))
 rose_failed (s ∷ old) (s' ∷ new) (inr rose) = inr (rose_failed old new rose)
 
--- the chunks were dealt out on the disk of a file that was begun
-pub record IsDealtShut (fields : List MemberData) (p : Params) (texts : List (List ℕ)) (t : Table) (book : BookData) (h : Held) : Type 0
-  where
-    pub ranges : List (List ℕ)
-    pub holds : HoldsChunks fields p texts t book ranges
-    pub image : h.image ≡ file_begun t ++ concat ranges
-    pub filled : IsFilled t ranges h.log
-
+-- once all ended well, the file is filled
 pub dealt_from : (fields : List MemberData) (p : Params) (texts : List (List ℕ)) (t : Table) (given book : BookData) (old new : Option Held)
     (h : Held) → AreFields fields → Rows fields p.plain t → passed_by_begin p.limits t ≡ None → given ≡ new_book t p.limits
     → IsBookKept book → IsBookOn given book
     → AllByRecursion (λ (c : Cluster ClusterMeta). c.len ≤ given.limits.range) (book_clusters book) → AreSound fields texts
-    → IsDealtOut t p.page (chunks_of p.cluster fields texts) book old new → old ≡ Some (as_begun t) → new ≡ Some h
-    → IsDealtShut fields p texts t book h
-dealt_from fields p texts t given book old new h rules rows within given_is kept on short sound dealt begun is =
+    → IsDealtOut t p.page (chunks_of p.cluster fields texts) book old new → old ≡ Some (as_begun t) → new ≡ Some h → IsShut h.image
+    → LeavesUnfinished h.log → IsFilledFile fields p texts t book h
+dealt_from fields p texts t given book old new h rules rows within given_is kept on short sound dealt begun is shut unfinished =
     let book_on : IsBookOn (new_book t p.limits) book = subst (λ (b : BookData). IsBookOn b book) given_is on in
     let left = dealt.stand (as_begun t) begun in
     let same : left.0 ≡ h = held_is left.0 h (sym left.1 ∙ is) in
@@ -149,74 +146,43 @@ dealt_from fields p texts t given book old new h rules rows within given_is kept
         };
         settled = left.2.settled;
       });
+      shut = shut;
+      unfinished = unfinished;
     }
   where
     held_is : (a b : Held) → ◌≡◌ {A = Option Held} (Some a) (Some b) → a ≡ b
     held_is a b e = cc
 
-module _ (long : RangesAreAsLong) (stored : FinishedAreStored) (over : PassedAreOver) where
-  module _ (fields : List MemberData) (p : Params) (texts : List (List ℕ)) (t : Table) (book : BookData) (w : World) (new : Option World)
-      (h : Held) (held : Option Held)
-      (dealt : IsDealtShut fields p texts t book h) (shut : IsShut h.image) where
-    ends_whole : FinishTold t p book w new (Some h) held (Ok tt) → EndsWhole fields p texts w new held
-    ends_whole told =
-        let left = told.1 dealt.ranges (long fields p texts t book dealt.ranges dealt.holds) h refl dealt.image in
-        record {
-          order = commit_order book;
-          file = (left.0, left.1, stored fields p texts t book dealt.ranges left.0.image dealt.holds told.2 left.2);
-          printed = told.0;
-        }
-
-    -- what the end of the file leaves
-    pub finish_told : (result : Result Unit StoreError) → FinishTold t p book w new (Some h) held result
-        → FileTold fields p texts w new held result
-    finish_told (Ok value) told = ends_whole told
-    finish_told (Err Outside) (inl (front, (left, is, begins))) = inl (front, (left, is, inl begins))
-    finish_told (Err Outside) (inr told) = inr (ends_whole told)
-    finish_told (Err Memory) told = (told.0, (h, told.1, shut_open h.image shut))
-    finish_told (Err (Limit reached most)) told = (
-      record { table = t; rows = dealt.holds.rows; over = over fields p texts t book dealt.ranges reached most dealt.holds told.2 },
-      whole_printed book w new told.0,
-      (h, told.1, shut_open h.image shut),
-    )
-    finish_told (Err (Schema line kind)) told = absurd told
-    finish_told (Err (Line input line kind)) told = absurd told
-
 -- why a file isn't begun
-pub begin_told : (e : BeginError) (fields : List MemberData) (p : Params) (texts : List (List ℕ)) (old new : DiskState) (w : World)
-    (world : Option World) → IsNotBegun fields p old new e
-    → old.held ≡ Some nothing_held → world ≡ Some w → FileTold fields p texts w world new.held (Err (error_of_begin e))
-begin_told begin.Memory fields p texts old new w world left is same = (none_printed w world same, (nothing_held, left.place.held ∙ is, tt))
-begin_told (begin.RangeTooLarge len most) fields p texts old new w world left is same = (
-  record {
-    table = left.table;
-    rows = left.rows;
-    over = begun_over left.table p (all_chunks p.cluster fields texts) (limit.RangeTooLarge len most) len most left.passed_is (inl refl);
-  },
-  none_printed w world same,
-  (nothing_held, left.untouched.place.held ∙ is, tt),
-)
-begin_told (begin.FileTooLarge end most) fields p texts old new w world left is same = (
-  record {
-    table = left.table;
-    rows = left.rows;
-    over = begun_over left.table p (all_chunks p.cluster fields texts) (limit.FileTooLarge end most) end most left.passed_is (inr refl);
-  },
-  none_printed w world same,
-  (nothing_held, left.untouched.place.held ∙ is, tt),
-)
-begin_told begin.Fault fields p texts old new w world left is same =
-    let some = left.held nothing_held is in
-    inl (
-      none_printed w world same,
-      (
-        some.0,
-        some.1,
-        elim (begins_shut (header_blob left.table) some.0 some.2) [
-          | inl shut ↦ inl (shut_open some.0.image shut)
-          | inr torn ↦ inr torn
-        ],
-      ),
+pub begin_why : (T : Type 0) (e : BeginError) (fields : List MemberData) (p : Params) (texts : List (List ℕ)) (old new : DiskState)
+    → IsNotBegun fields p old new e → WhyUnfilled {T = T} fields p texts (Err (error_of_begin e))
+begin_why T begin.Memory fields p texts old new left = tt
+begin_why T (begin.RangeTooLarge len most) fields p texts old new left = record {
+  table = left.table;
+  rows = left.rows;
+  over = begun_over left.table p (all_chunks p.cluster fields texts) (limit.RangeTooLarge len most) len most left.passed_is (inl refl);
+}
+begin_why T (begin.FileTooLarge end most) fields p texts old new left = record {
+  table = left.table;
+  rows = left.rows;
+  over = begun_over left.table p (all_chunks p.cluster fields texts) (limit.FileTooLarge end most) end most left.passed_is (inr refl);
+}
+begin_why T begin.Fault fields p texts old new left = tt
+
+-- what is left of it then
+pub begin_leaves : (e : BeginError) (fields : List MemberData) (p : Params) (texts : List (List ℕ)) (old new : DiskState)
+    → IsNotBegun fields p old new e → old.held ≡ Some nothing_held → FillLeaves fields p texts new.held (Err (error_of_begin e))
+begin_leaves begin.Memory fields p texts old new left is = (nothing_held, left.place.held ∙ is, tt)
+begin_leaves (begin.RangeTooLarge len most) fields p texts old new left is = (nothing_held, left.untouched.place.held ∙ is, tt)
+begin_leaves (begin.FileTooLarge end most) fields p texts old new left is = (nothing_held, left.untouched.place.held ∙ is, tt)
+begin_leaves begin.Fault fields p texts old new left is =
+    let some = left.held nothing_held is in (
+      some.0,
+      some.1,
+      elim (begins_shut (header_blob left.table) some.0 some.2) [
+        | inl shut ↦ inl (shut_open some.0.image shut)
+        | inr torn ↦ inr torn
+      ],
     )
 
 pub begin_order : (e : BeginError) (fields : List MemberData) (p : Params) (old new : DiskState) → IsNotBegun fields p old new e
@@ -235,11 +201,10 @@ begin_fails (begin.RangeTooLarge len most) fields p old new left is = absurd (cc
 begin_fails (begin.FileTooLarge end most) fields p old new left is = absurd (cc is)
 begin_fails begin.Fault fields p old new left is = omega (arith, left.rose)
 
--- where contexts failed the disk has failed, or the count of the host rose as their sources came back
-pub run_fails : (r : Result Unit RunError) (e : RunError) (disk disk' old new : ℕ) (sources sources' : List SourceState) → r ≡ Err e
-    → (r ≡ Err run.Outside → Rose disk disk' ⊎ SomeRose sources sources') → (SomeFailed sources' → Rose old new)
-    → error_of_run e ≡ Outside → (0 < disk') ⊎ Rose old new
-run_fails r e disk disk' old new sources sources' is failed back outside = elim (failed (is ∙ run_outside e outside)) [
+-- where contexts failed the disk or a source has failed
+pub run_fails : (r : Result Unit RunError) (e : RunError) (disk disk' : ℕ) (sources sources' : List SourceState) → r ≡ Err e
+    → (r ≡ Err run.Outside → Rose disk disk' ⊎ SomeRose sources sources') → error_of_run e ≡ Outside → (0 < disk') ⊎ SomeFailed sources'
+run_fails r e disk disk' sources sources' is failed outside = elim (failed (is ∙ run_outside e outside)) [
   | inl rose ↦ inl (omega (arith, rose))
-  | inr some ↦ inr (back (rose_failed sources sources' some))
+  | inr some ↦ inr (rose_failed sources sources' some)
 ]

@@ -1,0 +1,99 @@
+//! A file that is begun, and filled by contexts.
+
+ghost use Rattle.std.specs.Prelude.{◌≡◌, None, length, map};
+ghost use Rattle.nt_types.specs.Views.{members_view};
+ghost use Rattle.nt_outside.specs.Held.{nothing_held};
+ghost use Rattle.nt_close.specs.Passing.{passed_by_begin};
+ghost use Rattle.nt_contexts.specs.Contexts.{IsReady};
+ghost use Rattle.nt_store.specs.Writing.{as_begun};
+ghost use Rattle.nt_store.specs.Leaving.{MayWriteFile};
+ghost use Rattle.nt_store.specs.Filling.{FillsFile};
+
+use crate::error::StoreError;
+use crate::laws::crashes_leave_chunks_or_none;
+use nt_book::{Book, Params};
+use nt_close::begin;
+use nt_contexts::{Ended, run_contexts};
+use nt_outside::{Disk, Gate, Source};
+use nt_schema::Schema;
+use nt_types::Fields;
+use std::alloc::Global;
+use std::sync::Wait;
+use std::thread::Threads;
+
+/// Runs a context for each source on the disk of a file that was begun.
+fn fill_begun<R, D, S, G>(
+    rt: &R,
+    alloc: Global,
+    disk: D,
+    book: Book,
+    schema: Schema,
+    fields: &Fields,
+    params: &Params,
+    sources: Vec<S>,
+    gate: &G,
+) -> (D, Vec<S>, Result<(Book, Schema), StoreError>)
+where
+    R: Threads + Wait + Sync,
+    D: Disk + Send,
+    D::Pen: Send,
+    D::Ext: Send,
+    S: Source + Send,
+    G: Gate + Sync,
+    requires ready { IsReady (members_view fields.now) params.now schema book (D.state disk) (length sources.items) }
+    requires within { passed_by_begin params.now.limits schema ≡ None }
+    ensures { FillsFile (members_view fields.now) params.now (as_begun schema) (map S.state sources.items) (map S.state result.1.items)
+        (D.state disk) (D.state result.0) result.2 }
+{
+    let Ended {
+        disk,
+        book,
+        sources,
+        ended,
+    } = run_contexts(
+        rt, alloc, disk, book, &schema, fields, params, sources, gate,
+    );
+    book.keeps();
+    crashes_leave_chunks_or_none();
+    match ended {
+        Ok(()) => (disk, sources, Ok((book, schema))),
+        Err(error) => (disk, sources, Err(StoreError::from(error))),
+    }
+}
+
+/// Begins the file of these fields on an empty disk, and runs a context for each source beside the others, which writes the chunks of its
+/// text. The file is still to be closed, by the book and the schema that are given. The sources come back in their order.
+///
+/// # Errors
+///
+/// `Line` is the first bad line of a source, `Limit` a limit that the file would pass. `Outside` comes only where the disk or a source
+/// failed. `Schema` never comes.
+pub fn fill_file<R, D, S, G>(
+    rt: &R,
+    alloc: Global,
+    disk: D,
+    fields: &Fields,
+    params: &Params,
+    sources: Vec<S>,
+    gate: &G,
+) -> (D, Vec<S>, Result<(Book, Schema), StoreError>)
+where
+    R: Threads + Wait + Sync,
+    D: Disk + Send,
+    D::Pen: Send,
+    D::Ext: Send,
+    S: Source + Send,
+    G: Gate + Sync,
+    requires may { MayWriteFile (members_view fields.now) (length sources.items) (D.state disk) }
+    ensures { FillsFile (members_view fields.now) params.now nothing_held (map S.state sources.items) (map S.state result.1.items)
+        (D.state disk) (D.state result.0) result.2 }
+{
+    let mut disk = disk;
+    crashes_leave_chunks_or_none();
+    match begin(alloc, &mut disk, fields, params) {
+        Ok((book, schema)) => fill_begun(
+            rt, alloc, disk, book, schema, fields, params, sources, gate,
+        ),
+        Err(error) => (disk, sources, Err(StoreError::from(error))),
+    }
+}
