@@ -16,7 +16,7 @@ fn empty_key() -> [u8; KEY] {
 }
 
 /// Writes the key of a blob that starts there into the room of an image.
-pub(crate) fn write_key(image: &mut ClusterImage, start: u64)
+pub fn write_key(image: &mut ClusterImage, start: u64)
     requires room { key_room ≤ length image.old.bytes }
     requires fits { length image.old.bytes < 2 ^ 32 }
     requires start { start ≤ most_place }

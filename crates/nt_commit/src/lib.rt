@@ -32,5 +32,6 @@ mod shared;
 pub use claim::Claim;
 pub use committer::{Committer, CommitterOf};
 pub use error::CommitError;
+pub use key::write_key;
 pub use locked::{Birth, Locked};
 pub use shared::committers_cross_threads;

@@ -1,7 +1,7 @@
-mod Bytes
-mod Described
-mod Emptied
-mod Entries
-mod Images
-mod Passes
+pub mod Bytes
+pub mod Described
+pub mod Emptied
+pub mod Entries
+pub mod Images
+pub mod Passes
 mod Ranges

@@ -37,7 +37,7 @@ fn kinds_of(alloc: Global, schema: &Schema) -> Result<Vec<ColumnType>, AllocErro
 }
 
 /// The columns of a schema, which give no entry yet.
-pub(crate) fn empty_columns(alloc: Global, schema: &Schema) -> Result<ColumnSet, AllocError>
+pub fn empty_columns(alloc: Global, schema: &Schema) -> Result<ColumnSet, AllocError>
     requires { (k : ℕ) (r : ColumnRow) → slice_get schema.now.columns k ≡ Some r → HasKnownType r }
     ensures { IfOk result (λ s. Gives schema.now (columns_of s) []) }
 {

@@ -42,4 +42,5 @@ mod filling;
 mod flushing;
 mod writing;
 
+pub use columns::empty_columns;
 pub use context::{FillContext, FillContextOf, Gathering};

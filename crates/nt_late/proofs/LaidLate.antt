@@ -56,7 +56,7 @@ late-at new page first clusters ranges cs (late_blob {others = others} {ranges =
     subst (λ (n : ℕ). IsSomeLate new page n (slice_index_or ds k no_cluster)) same
     (late-at new page (first + c.meta.entries) others left ds more k (omega (arith, less)))
 
-lens-late : (new : Table) (page first : ℕ) (clusters : List (List TreesData)) (ranges : List (List ℕ)) (cs : List (Cluster ClusterMeta))
+pub lens-late : (new : Table) (page first : ℕ) (clusters : List (List TreesData)) (ranges : List (List ℕ)) (cs : List (Cluster ClusterMeta))
     → AreLateBlobs new page first clusters ranges cs → AreTold cs → map length ranges ≡ map (λ (c : Cluster ClusterMeta). c.len) cs
 lens-late new page first clusters ranges cs no_blob told = refl
 lens-late new page first clusters ranges cs
