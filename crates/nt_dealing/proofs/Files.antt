@@ -16,11 +16,12 @@ use Rattle.nt_grammar.specs.Table.{Table}
 use Rattle.nt_machine.specs.History.{Cluster}
 use Rattle.nt_book.specs.declared.meta.ClusterMeta.{ClusterMeta}
 use Rattle.nt_book.specs.Books.{BookData, book_clusters, book_end, no_cluster}
+use Rattle.nt_book.specs.Kept.{IsBookKept}
 use Rattle.nt_files.specs.Envelopes.{footer_kind}
 use Rattle.nt_pagelists.specs.declared.group.Group.{Group}
 use Rattle.nt_pagelists.specs.FooterWriting.{group_text, group_texts, extension_text, footer_text}
 use Rattle.nt_layout.specs.Blobs.{blob, blob_len}
-use Rattle.nt_layout.specs.Headers.{header_sum}
+use Rattle.nt_layout.specs.Headers.{header_sum, clusters_place}
 use Rattle.nt_layout.specs.Groups.{ClusterSpan, cluster_span, spans_of, list_object, list_len, lists_from, groups_from}
 use Rattle.nt_layout.specs.Finished.{spans, groups, footer_object, footer_place, anchor_start, file_len}
 use Rattle.nt_layout.specs.Laid.{IsBookOf}
@@ -142,7 +143,7 @@ module _ (sum : ℕ) (book : BookData) (most : ℕ) where
       ∙ ap (λ (n : ℕ). page_list_len [] * div_ceil (length (metas cs)) most + n) joined)))
 
 -- the ranges are as long as what is kept of them says
-ranges-told : (cs : List (Cluster ClusterMeta)) → ((k : ℕ) → k < length cs → (slice_index_or cs k no_cluster).len
+pub ranges-told : (cs : List (Cluster ClusterMeta)) → ((k : ℕ) → k < length cs → (slice_index_or cs k no_cluster).len
     ≡ (slice_index_or cs k no_cluster).meta.len)
     → sum_by (λ (c : Cluster ClusterMeta). c.len) cs ≡ sum_by (λ (m : ClusterMeta). m.len) (metas cs)
 ranges-told [] h = refl
@@ -155,19 +156,24 @@ ranges-told (c ∷ cs) h =
       ranges-told cs (λ k less. h (suc k) (omega (arith, less))),
     )
 
--- the whole file
-pub length-file : (t : Table) (book : BookData) (most : ℕ) → IsBookOf t book → 0 < most
+-- the whole file, whose ranges begin behind the header
+pub length-file_of : (t : Table) (book : BookData) (most : ℕ) → IsBookKept book → book.begin ≡ clusters_place t → 0 < most
     → file_len t book most ≡ whole_len t most (metas (book_clusters book))
 unfolding anchor_start footer_place
-length-file t book most is some =
+length-file_of t book most kept begin some =
     let cs = book_clusters book in
     let counts : length (metas cs) ≡ length cs = length-map cs (λ (d : Cluster ClusterMeta). d.meta) in
     let footer : blob_len (length (footer_object t book most)) ≡ footer_len t (group_count most (length (metas cs))) =
     length-footer_object t book most ∙ ap (λ (n : ℕ). footer_len t (group_count most n)) (sym counts) in
     omega (
       arith,
-      is.begin,
-      ranges-told cs (λ k less. (is.kept.clusters k less).len),
+      begin,
+      ranges-told cs (λ k less. (kept.clusters k less).len),
       length-all_lists (header_sum t) book most (book_end book) some,
       footer,
     )
+
+-- the same of a book without deferred columns
+pub length-file : (t : Table) (book : BookData) (most : ℕ) → IsBookOf t book → 0 < most
+    → file_len t book most ≡ whole_len t most (metas (book_clusters book))
+length-file t book most is some = length-file_of t book most is.kept is.begin some

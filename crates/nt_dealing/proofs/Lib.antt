@@ -3,8 +3,8 @@ mod Filled
 mod Dealt
 pub mod EventLines
 mod Lists
-mod Lengths
-mod Files
+pub mod Lengths
+pub mod Files
 pub mod ReadFits
 pub mod TableFits
 mod Takings

@@ -57,7 +57,7 @@ pick_same f g same nothing = refl
 
 mutual
   -- a tuple takes what the record takes that it is read as
-  as_read-fits : (k : ShapeData) (t : TreeData) → fits (as_read k) t ≡ fits k t
+  pub as_read-fits : (k : ShapeData) (t : TreeData) → fits (as_read k) t ≡ fits k t
   as_read-fits kinds.bool t = refl
   as_read-fits kinds.char t = refl
   as_read-fits kinds.byte t = refl
@@ -86,7 +86,7 @@ mutual
   kinds_as_read-fit (kind k ks) (suc (suc n)) t = kinds_as_read-fit ks (suc n) t
 
 -- rows whose fields lie inside others before them
-abbrev AreInside : ℕ → List NodeData → Type 0
+abbrev pub AreInside : ℕ → List NodeData → Type 0
 AreInside id [] = Unit {0}
 AreInside id (n ∷ ns) = (n.parent < id) × AreInside (id + 1) ns
 
@@ -115,7 +115,7 @@ inside-shape id j (kinds.fields ps) less = inside-members id j ps less
 inside-shape id j (kinds.tuple ks) less = inside-places id 0 j ks less
 inside-shape id j (kinds.choice ks) less = inside-places id 0 j ks less
 
-inside-all : (id : ℕ) (front ms : List NodeData) → ms ≡ front ++ all_inside id ms → AreInside (id + length front) (all_inside id ms)
+pub inside-all : (id : ℕ) (front ms : List NodeData) → ms ≡ front ++ all_inside id ms → AreInside (id + length front) (all_inside id ms)
 inside-all id front [] e = tt
 inside-all id [] (m ∷ ms) e = let none : m ∷ ms ≡ [] = all_inside-self id (m ∷ ms) e in cc
 inside-all id (q ∷ front) (m ∷ ms) e =
@@ -128,7 +128,7 @@ inside-all id (q ∷ front) (m ∷ ms) e =
     (inside-shape id (id + suc (length front)) m.of (omega arith))
     (subst (λ (n : ℕ). AreInside n (all_inside (id + 1) ms)) place later)
 
-below-other : (a b : ℕ) → a < b → (a == b) ≡ false
+pub below-other : (a b : ℕ) → a < b → (a == b) ≡ false
 below-other a b less = at (a == b) refl
   where
     at : (c : Bool) → (a == b) ≡ c → (a == b) ≡ false
@@ -180,7 +180,7 @@ module _ (fs : List FieldRow) (cs : List ColumnRow) where
       let next : id + 1 + j ≡ id + suc j = omega arith in
       top_row (id + 1) ps rest j p is ∙ ap (λ (n : ℕ). Some (row_at n p)) next
 
-length-at_top : (id : ℕ) (ps : List MemberData) → length (at_top id ps) ≡ length ps
+pub length-at_top : (id : ℕ) (ps : List MemberData) → length (at_top id ps) ≡ length ps
 length-at_top id [] = refl
 length-at_top id (p ∷ ps) = ap suc (length-at_top (id + 1) ps)
 

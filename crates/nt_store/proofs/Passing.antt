@@ -94,23 +94,23 @@ zip_drop R (suc n) (x ∷ xs) [] all = absurd all
 zip_drop R (suc n) (x ∷ xs) (y ∷ ys) all = zip_drop R n xs ys all.1
 
 -- groups lie among the clusters, and none is too large
-inside : (k n : ℕ) (ss : List ClusterSpan) → AreInOrder k n ss → AllByRecursion (λ (s : ClusterSpan). s.from + s.count ≤ n) ss
+pub inside : (k n : ℕ) (ss : List ClusterSpan) → AreInOrder k n ss → AllByRecursion (λ (s : ClusterSpan). s.from + s.count ≤ n) ss
 inside k n [] order = tt
 inside k n (s ∷ ss) order =
     let least = order-le (k + s.count) n ss order.2 in
     (omega (arith, order.0, least), inside (k + s.count) n ss order.2)
 
-small : (most n i m : ℕ) → AllByRecursion (λ (s : ClusterSpan). s.count ≤ most) (map (cluster_span most n) (range_with_len i m))
+pub small : (most n i m : ℕ) → AllByRecursion (λ (s : ClusterSpan). s.count ≤ most) (map (cluster_span most n) (range_with_len i m))
 small most n i zero = tt
 small most n i (suc m) = (omega arith, small most n (i + 1) m)
 
 -- the first blob of these that is passed
-record PassesBlob {X : Type 0} (f : X → ℕ) (P Q : X → Type 0) (limits : Limits) (e : LimitError) : Type 0 where
-  x : X
-  first : P x
-  second : Q x
-  above : limits.range < f x
-  is : e ≡ limit.RangeTooLarge (f x) limits.range
+pub record PassesBlob {X : Type 0} (f : X → ℕ) (P Q : X → Type 0) (limits : Limits) (e : LimitError) : Type 0 where
+  pub x : X
+  pub first : P x
+  pub second : Q x
+  pub above : limits.range < f x
+  pub is : e ≡ limit.RangeTooLarge (f x) limits.range
 
 some_is : (a b : LimitError) → ◌≡◌ {A = Option LimitError} (Some a) (Some b) → a ≡ b
 some_is a b e = cc
@@ -122,7 +122,7 @@ one_blob f P Q limits x e more true first second above is =
     inl (record { x = x; first = first; second = second; above = grind (arith, nat_tests, above); is = sym (some_is _ _ is) })
 one_blob f P Q limits x e more false first second above is = inr is
 
-blobs_or : {X : Type 0} (f : X → ℕ) (P Q : X → Type 0) (limits : Limits) (xs : List X) (more : List ℕ) (end : ℕ) (e : LimitError)
+pub blobs_or : {X : Type 0} (f : X → ℕ) (P Q : X → Type 0) (limits : Limits) (xs : List X) (more : List ℕ) (end : ℕ) (e : LimitError)
     → AllByRecursion P xs → AllByRecursion Q xs
     → first_passed limits (map f xs ++ more) end ≡ Some e → PassesBlob f P Q limits e ⊎ (first_passed limits more end ≡ Some e)
 blobs_or f P Q limits [] more end e first second is = inr is
@@ -138,7 +138,7 @@ ends_by : (limits : Limits) (end : ℕ) (e : LimitError) (b : Bool) → nat_lt l
 ends_by limits end e true above is = (grind (arith, nat_tests, above), sym (some_is _ _ is))
 ends_by limits end e false above is = absurd (cc is)
 
-ends : (limits : Limits) (end : ℕ) (e : LimitError) → first_passed limits [] end ≡ Some e
+pub ends : (limits : Limits) (end : ℕ) (e : LimitError) → first_passed limits [] end ≡ Some e
     → (limits.file < end) × (e ≡ limit.FileTooLarge end limits.file)
 ends limits end e is = ends_by limits end e (nat_lt limits.file end) refl is
 
@@ -146,12 +146,12 @@ ends limits end e is = ends_by limits end e (nat_lt limits.file end) refl is
 abbrev pub Names : LimitError → ℕ → ℕ → Type 0
 Names e reached most = (e ≡ limit.RangeTooLarge reached most) ⊎ (e ≡ limit.FileTooLarge reached most)
 
-range_named : (e : LimitError) (reached most len range : ℕ) → Names e reached most → e ≡ limit.RangeTooLarge len range
+pub range_named : (e : LimitError) (reached most len range : ℕ) → Names e reached most → e ≡ limit.RangeTooLarge len range
     → (reached ≡ len) × (most ≡ range)
 range_named e reached most len range (inl is) named = (cc, cc)
 range_named e reached most len range (inr is) named = absurd (cc)
 
-file_named : (e : LimitError) (reached most end file : ℕ) → Names e reached most → e ≡ limit.FileTooLarge end file
+pub file_named : (e : LimitError) (reached most end file : ℕ) → Names e reached most → e ≡ limit.FileTooLarge end file
     → (reached ≡ end) × (most ≡ file)
 file_named e reached most end file (inl is) named = absurd (cc)
 file_named e reached most end file (inr is) named = (cc, cc)

@@ -1,7 +1,7 @@
-mod Chunking
+pub mod Chunking
 mod Committing
 mod Writing
-mod Reading
+pub mod Reading
 mod TakenLines
 mod Lines
 mod Ending

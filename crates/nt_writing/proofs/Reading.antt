@@ -27,7 +27,7 @@ not_above most n few = at (nat_lt most n) refl
     at false e = e
 
 -- a line that is not beyond the limits
-within : (number : ℕ) (line : List ℕ) → number ≤ max_number → length line ≤ max_line → is_beyond number line ≡ false
+pub within : (number : ℕ) (line : List ℕ) → number ≤ max_number → length line ≤ max_line → is_beyond number line ≡ false
 within number line low short = ap (λ (b : Bool). b || nat_lt max_line (length line)) (not_above max_number number low)
     ∙ not_above max_line (length line) short
 
@@ -59,7 +59,7 @@ module _ (F : MembersData) where
   abbrev from_here : LinesState → List ℕ → EventText
   from_here now rest = entries_of_lines F (now.number + 1) (text_lines rest)
 
-  next_line : (old new : LinesState) (line : Line) (text : List ℕ) → old.left ≡ Some text → IsNextLine old new line
+  pub next_line : (old new : LinesState) (line : Line) (text : List ℕ) → old.left ≡ Some text → IsNextLine old new line
       → LineOff old new line.bytes text
   next_line old new line text is next =
       line_off old new line.bytes text new.left is refl next.one_line
@@ -145,11 +145,11 @@ module _ (F : MembersData) where
       read.whole ∙ (ap (λ (l : List ℕ). behind entries (from_here now l)) none ∙ no_more entries None)
 
 -- the first line, and those behind it
-record First (P : List ℕ → Type 0) (lines : List (List ℕ)) : Type 0 where
-  line : List ℕ
-  others : List (List ℕ)
-  are : lines ≡ line ∷ others
-  holds : P line
+pub record First (P : List ℕ → Type 0) (lines : List (List ℕ)) : Type 0 where
+  pub line : List ℕ
+  pub others : List (List ℕ)
+  pub are : lines ≡ line ∷ others
+  pub holds : P line
 
 first_onto : (n : ℕ) (byte : ℕ) (lines : List (List ℕ)) → (n ≡ 0) ⊎ First (λ (l : List ℕ). n ≤ length l) lines
     → First (λ (l : List ℕ). n + 1 ≤ length l) (onto_first byte lines)
@@ -201,7 +201,7 @@ or_true : (b : Bool) → (b || true) ≡ true
 or_true true = refl
 or_true false = refl
 
-beyond : (number : ℕ) (line : List ℕ) → (max_number < number) ⊎ (max_line < length line) → is_beyond number line ≡ true
+pub beyond : (number : ℕ) (line : List ℕ) → (max_number < number) ⊎ (max_line < length line) → is_beyond number line ≡ true
 beyond number line (inl high) = ap (λ (b : Bool). b || nat_lt max_line (length line)) (above max_number number high)
 beyond number line (inr long) = ap (λ (b : Bool). nat_lt max_number number || b) (above max_line (length line) long)
     ∙ or_true (nat_lt max_number number)
@@ -220,7 +220,7 @@ taken_from text front None h = absurd h
 taken_from text front (Some ys) h = (ys, h)
 
 module _ (F : MembersData) where
-  bad_next : (number : ℕ) (text : List ℕ) → BeginsTooLong (Some text) ⊎ ((max_number < number) × HasMore (Some text))
+  pub bad_next : (number : ℕ) (text : List ℕ) → BeginsTooLong (Some text) ⊎ ((max_number < number) × HasMore (Some text))
       → First (λ (l : List ℕ). (max_number < number) ⊎ (max_line < length l)) (text_lines text)
   bad_next number text (inl b) =
       let t = taken_from text b.front b.begins.rest b.begins.taken in
