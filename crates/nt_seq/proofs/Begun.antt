@@ -1,0 +1,101 @@
+-- A writer whose file is begun.
+use Rattle.std.proofs.Common.{◌≡◌, ◌∙◌, ap, sym, refl, subst, ℕ, ◌≤◌, List, [], ◌∷◌, map, length, replicate, true, Some, arith}
+use Rattle.std.specs.List.{AllByRecursion}
+use Rattle.nt_types.specs.ShapeData.{MemberData}
+use Rattle.nt_outside.specs.Held.{Held, Becomes, WhereHeld, nothing_held}
+use Rattle.nt_outside.specs.Disk.{DiskState}
+use Rattle.nt_container.specs.Spelling.{begun}
+use Rattle.nt_grammar.specs.declared.rows.ColumnRow.{ColumnRow}
+use Rattle.nt_grammar.specs.Table.{Table}
+use Rattle.nt_machine.specs.History.{Cluster}
+use Rattle.nt_book.specs.declared.meta.ClusterMeta.{ClusterMeta}
+use Rattle.nt_book.specs.declared.params.Params.{Params}
+use Rattle.nt_book.specs.Books.{BookData, book_clusters, book_end, entry_count}
+use Rattle.nt_schema.specs.Whole.{AreWhole}
+use Rattle.nt_layout.specs.Headers.{header_blob}
+use Rattle.nt_layout.specs.Laid.{AreBlobsOf, none_left}
+use Rattle.nt_close.specs.Beginning.{IsBegun}
+use Rattle.nt_close.specs.Closing.{IsClosable}
+use Rattle.nt_close.specs.Steps.{begun_on}
+use Rattle.nt_late.specs.LateFiles.{AreLateBlobs, no_blob}
+use Rattle.nt_column.specs.Column.{Column}
+use Rattle.nt_grammar.specs.ReadingBack.{IsDescribed}
+use Rattle.nt_seq.specs.Standing.{IsSettledCluster, IsFitToBegin, IsWriting}
+use Rattle.nt_seq.specs.Written.{file_so_far, HasClusters}
+use Rattle.nt_seq.proofs.AddedRows.{described-first}
+
+firsts-none : (rows : List ColumnRow) → AllByRecursion (λ (c : ColumnRow). c.first ≡ 0) rows
+    → map (λ (c : ColumnRow). c.first) rows ≡ replicate (length rows) 0
+firsts-none [] none = refl
+firsts-none (c ∷ rows) none =
+    ap (λ (n : ℕ). n ∷ map (λ (r : ColumnRow). r.first) rows) none.0 ∙ ap (λ (l : List ℕ). 0 ∷ l) (firsts-none rows none.1)
+
+begun-none : (entries : ℕ) (rows : List ColumnRow) → AllByRecursion (λ (c : ColumnRow). c.first ≡ 0) rows
+    → AllByRecursion (λ (c : ColumnRow). c.first ≤ entries) rows
+begun-none entries [] none = tt
+begun-none entries (c ∷ rows) none = let first = none.0 in (omega (arith, first), begun-none entries rows none.1)
+
+module _ (fields : List MemberData) (p : Params) (given new : DiskState) (book : BookData) (t : Table)
+    (is : IsBegun fields p given new book t) (empty : WhereHeld given.held (λ (h : Held). h ≡ nothing_held)) where
+  pub held-begun : Becomes given.held new.held (λ h. file_so_far t [])
+  held-begun h told = is.held h told ∙ ap (λ (k : Held). Some (begun_on (begun 0 0 0) (header_blob t) k)) (empty h told)
+
+  none-yet : book_clusters book ≡ []
+  none-yet = ap book_clusters is.book_is
+
+  -- no cluster is written
+  pub clusters-none : (page : ℕ) → HasClusters given new t page book []
+  clusters-none page = record {
+    ranges = [];
+    late = subst (λ (cs : List (Cluster ClusterMeta)). AreLateBlobs t page 0 [] [] cs) (sym none-yet) no_blob;
+    first = λ first. subst (λ (cs : List (Cluster ClusterMeta)). AreBlobsOf t page [] [] cs) (sym none-yet) none_left;
+    held = held-begun;
+  }
+
+  pub closable-begun : given.out ≡ [] → AreWhole t → IsClosable new book t
+  closable-begun out whole = record {
+    begin = ap (λ (b : BookData). b.begin) is.book_is;
+    end = let ends = ap book_end is.book_is in omega (arith, is.end, ends);
+    out = is.out ∙ out;
+    whole = whole;
+  }
+
+  pub firsts-begun : map (λ (c : ColumnRow). c.first) t.columns ≡ book.firsts
+  firsts-begun =
+      firsts-none t.columns (described-first fields p.plain t is.rows) ∙ sym (ap (λ (b : BookData). b.firsts) is.book_is)
+
+  pub columns-begun : AllByRecursion (λ (c : ColumnRow). c.first ≤ entry_count (book_clusters book)) t.columns
+  columns-begun = begun-none (entry_count (book_clusters book)) t.columns (described-first fields p.plain t is.rows)
+
+  pub settled-begun : AllByRecursion IsSettledCluster (book_clusters book)
+  settled-begun = subst (λ (cs : List (Cluster ClusterMeta)). AllByRecursion IsSettledCluster cs) (sym none-yet) tt
+
+-- the writer can go on
+pub writing-begun : {D : Type 0} (state : D → DiskState) (fields : List MemberData) (p : Params) (disk new : D) (book : BookData)
+    (t : Table) (columns : List Column) → IsBegun fields p (state disk) (state new) book t
+    → WhereHeld (state disk).held (λ (h : Held). h ≡ nothing_held) → (state disk).out ≡ [] → IsDescribed t → IsFitToBegin t columns
+    → IsWriting state (record {
+      given = disk;
+      disk = new;
+      book = book;
+      table = t;
+      params = p;
+      columns = columns;
+      entries = 0;
+      alive = true;
+    })
+writing-begun state fields p disk new book t columns is empty out described ready = record {
+  ranges = [];
+  held = held-begun fields p (state disk) (state new) book t is empty;
+  closable = closable-begun fields p (state disk) (state new) book t is empty out ready.whole;
+  within = is.within;
+  limits = ap (λ (b : BookData). b.limits) is.book_is;
+  firsts = firsts-begun fields p (state disk) (state new) book t is empty;
+  begun = columns-begun fields p (state disk) (state new) book t is empty;
+  settled = settled-begun fields p (state disk) (state new) book t is empty;
+  described = described;
+  few = ready.few;
+  some = ready.some;
+  gives = ready.gives;
+  full = omega arith;
+}

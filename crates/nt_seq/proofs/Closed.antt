@@ -1,0 +1,162 @@
+-- The file of a writer that was closed.
+use Rattle.std.proofs.Common.{◌≡◌, ◌∙◌, ap, sym, refl, subst, ℕ, zero, suc, ◌<◌, ◌≤◌, inl, inr, Bool, true, false, List, [], ◌∷◌}
+use Rattle.std.proofs.Common.{length, Option, Some, None, arith}
+use Rattle.std.specs.Prelude.{slice_index_or, Ok, Err, nat_lt, if◌then◌else◌}
+use Rattle.std.specs.List.{AllByRecursion}
+use Rattle.std.proofs.lemmas.Bool.Decides.{nat_tests}
+use Rattle.nt_types.specs.TreeData.{TreesData}
+use Rattle.nt_outside.specs.Held.{Held}
+use Rattle.nt_outside.specs.Disk.{DiskState}
+use Rattle.nt_outside.specs.Order.{FirstByteLast}
+use Rattle.nt_outside.specs.Reads.{Reads}
+use Rattle.nt_grammar.specs.Table.{Table}
+use Rattle.nt_machine.specs.History.{Cluster}
+use Rattle.nt_book.specs.declared.meta.ClusterMeta.{ClusterMeta}
+use Rattle.nt_book.specs.declared.limits.Limits.{Limits}
+use Rattle.nt_book.specs.declared.limits.LimitError.{LimitError}
+use Rattle.nt_book.specs.Books.{book_clusters, no_cluster}
+use Rattle.nt_book.specs.Kept.{IsBookKept}
+use Rattle.nt_layout.specs.Blobs.{blob_len}
+use Rattle.nt_layout.specs.Headers.{header_object, clusters_place}
+use Rattle.nt_layout.specs.Finished.{finished, tail, front}
+use Rattle.nt_close.specs.declared.error.CloseError.{CloseError}
+use Rattle.nt_close.specs.declared.error.CloseError.TheVariants.{Spoiled, Memory, RangeTooLarge, FileTooLarge, Fault}
+use Rattle.nt_close.specs.Closing.{HasCloseCause, LeavesClosed, AreRangesOf}
+use Rattle.nt_close.specs.Passing.{first_passed, passed_by_begin, passed_by_close}
+use Rattle.nt_close.specs.Spoiled.{IsUnspoiled}
+use Rattle.nt_close.specs.Steps.{closed_on, IsClosedSoFar, closed_whole}
+use Rattle.nt_close.proofs.Finishing.{closed-is}
+use Rattle.nt_close.proofs.FirstByte.{closes_shut, closes_in_order}
+use Rattle.nt_close.proofs.Within.{within}
+use Rattle.nt_finished.proofs.Lengths.{clusters_told}
+use Rattle.nt_late.proofs.LaidLate.{lens-late}
+use Rattle.nt_seq.specs.Closing.{IsFileOf, IsShutOrWhole}
+use Rattle.nt_seq.specs.Standing.{IsSettledCluster, IsWriting}
+use Rattle.nt_seq.specs.Writer.{SeqState}
+use Rattle.nt_seq.specs.Written.{HasWritten, file_so_far, IsUnclosed}
+use Rattle.nt_seq.proofs.AddedRows.{described-first}
+use Rattle.nt_seq.proofs.Files.{image-file, shut-unclosed, order-unclosed}
+
+-- ---- no range is spoiled
+
+pub none-spoiled : (cs : List (Cluster ClusterMeta)) → AllByRecursion IsSettledCluster cs → (k : ℕ) → k < length cs
+    → IsUnspoiled (slice_index_or cs k no_cluster).state
+none-spoiled [] all k less = absurd (omega (arith, less))
+none-spoiled (c ∷ cs) all zero less = subst IsUnspoiled (sym all.0) tt
+none-spoiled (c ∷ cs) all (suc k) less = none-spoiled cs all.1 k (omega (arith, less))
+
+-- ---- the header
+
+not_above : (most n : ℕ) (b : Bool) (l : LimitError) (more : Option LimitError) → nat_lt most n ≡ b
+    → (if b then Some l else more) ≡ None → n ≤ most
+not_above most n true l more above none = absurd (cc none)
+not_above most n false l more above none = grind (arith, nat_tests, above)
+
+header-within : (limits : Limits) (t : Table) → passed_by_begin limits t ≡ None → blob_len (length (header_object t)) ≤ limits.range
+header-within limits t none =
+    not_above limits.range (blob_len (length (header_object t))) (nat_lt limits.range (blob_len (length (header_object t)))) _
+    (first_passed limits [] (clusters_place t)) refl none
+
+same_held : (held : Option Held) (h k : Held) → held ≡ Some h → held ≡ Some k → h ≡ k
+same_held held h k one two = cc (one, two)
+
+module _ {D : Type 0} (state : D → DiskState) (w : SeqState D) (is : IsWriting state w) (kept : IsBookKept w.book)
+    (reads : (h : Held) → (state w.disk).held ≡ Some h → Reads h.log h.image) (first : Held)
+    (told : (state w.given).held ≡ Some first) where
+  abbrev behind : List ℕ
+  behind = tail w.table w.book w.params.group
+
+  abbrev before : List ℕ
+  before = front w.table w.book w.params.group
+
+  abbrev h : Held
+  h = file_so_far w.table is.ranges
+
+  held : (state w.disk).held ≡ Some h
+  held = is.held first told
+
+  unclosed : IsUnclosed h
+  unclosed = record { table = w.table; ranges = is.ranges; steps = inl refl }
+
+  lens : (clusters : List (List TreesData)) (has : HasWritten state w clusters) → AreRangesOf w.book has.ranges
+  lens clusters has =
+      lens-late w.table w.params.page 0 clusters has.ranges (book_clusters w.book) has.late (clusters_told w.book kept)
+
+  image-is : (clusters : List (List TreesData)) (has : HasWritten state w clusters)
+      → (closed_on behind before h).image ≡ finished w.table w.book w.params.group has.ranges
+  image-is clusters has =
+      closed-is w.table w.book w.params.group has.ranges h is.closable.begin (lens clusters has)
+      (ap (λ (k : Held). k.image) (same_held (state w.disk).held h (file_so_far w.table has.ranges) held (has.held first told))
+      ∙ image-file w.table has.ranges)
+
+  -- the finished file is that of the clusters
+  whole : passed_by_close w.params w.table w.book ≡ None → IsFileOf state w (closed_on behind before h).image
+  whole passed =
+      let stays = within w.table w.params w.book passed (header-within w.params.limits w.table is.within) in
+      record {
+        described = is.described;
+        late = λ clusters has. record {
+          book = w.book;
+          kept = kept;
+          begin = is.closable.begin;
+          firsts = is.firsts;
+          within = stays;
+          ranges = has.ranges;
+          blobs_are = has.late;
+          is = image-is clusters has;
+        };
+        first = λ fields rows clusters has. record {
+          book = w.book;
+          is_of = record {
+            kept = kept;
+            begin = is.closable.begin;
+            firsts = is.firsts;
+            none_deferred = described-first fields w.params.plain w.table rows;
+          };
+          within = stays;
+          ranges = has.ranges;
+          blobs_are = has.first rows.fields_in_header;
+          is = image-is clusters has;
+        };
+      }
+
+  -- ---- the steps of a close
+
+  some : 0 < length h.image
+  some = let shut = shut-unclosed h unclosed in omega (arith, ap length shut.1)
+
+  in-order : (left : Held) → IsClosedSoFar behind before h left → FirstByteLast left.log
+  in-order left so_far = closes_in_order behind before h some (reads h held) (order-unclosed h unclosed) left so_far
+
+  abbrev IsLeft : DiskState → (Held → Type 0) → Type 0
+  IsLeft new P = (left : Held) × (new.held ≡ Some left) × FirstByteLast left.log × P left
+
+  stays-open : (new : DiskState) → new.held ≡ (state w.disk).held → IsLeft new (λ left. IsShutOrWhole state w left.image)
+  stays-open new same = (h, same ∙ held, order-unclosed h unclosed, inl (shut-unclosed h unclosed))
+
+  pub left-open : (new : DiskState) (e : CloseError) → LeavesClosed behind before (state w.disk) new (Err e)
+      → HasCloseCause w.book (passed_by_close w.params w.table w.book) (Err e) → IsLeft new (λ left. IsShutOrWhole state w left.image)
+  left-open new (Spoiled cluster faults) left cause = stays-open new left.place.held
+  left-open new Memory left cause = stays-open new left.place.held
+  left-open new (RangeTooLarge len most) left cause = stays-open new left.place.held
+  left-open new (FileTooLarge end most) left cause = stays-open new left.place.held
+  left-open new Fault left cause =
+      let cut = left.held h held in
+      let shown = closes_shut behind before h cut.0 (shut-unclosed h unclosed) cut.2 in (
+        cut.0,
+        cut.1,
+        in-order cut.0 cut.2,
+        elim shown as (λ _. IsShutOrWhole state w cut.0.image) [
+          | inl shut ↦ inl shut
+          | inr same ↦ inr (subst (λ (file : List ℕ). IsFileOf state w file) (sym same) (whole cause.1))
+        ],
+      )
+
+  pub left-whole : (new : DiskState) → LeavesClosed behind before (state w.disk) new (Ok tt)
+      → HasCloseCause w.book (passed_by_close w.params w.table w.book) (Ok tt) → IsLeft new (λ left. IsFileOf state w left.image)
+  left-whole new left cause = (
+    closed_on behind before h,
+    left.held h held,
+    in-order (closed_on behind before h) (closed_whole refl),
+    whole cause.1,
+  )

@@ -1,0 +1,73 @@
+-- A cluster that is committed and handed back behind those of a history.
+use Rattle.std.proofs.Common.{◌≡◌, ◌∙◌, ap, sym, refl, ℕ, ◌-◌, List, [], ◌∷◌, ◌++◌, length, None, Some}
+use Rattle.std.specs.Prelude.{slice_get}
+use Rattle.std.proofs.Math.ListN.{set}
+use Rattle.nt_machine.specs.declared.entry.Entry.{Entry}
+use Rattle.nt_machine.specs.History.{Cluster, Out, Settled, ranges_of}
+use Rattle.nt_machine.specs.Legal.{IsOut, IsAllowed, IsLegal}
+use Rattle.nt_machine.proofs.Legality.{ranges_of-snoc, ranges_of-back, IsLegalAfter-snoc}
+use Rattle.nt_book.specs.declared.meta.ClusterMeta.{ClusterMeta}
+use Rattle.nt_book.specs.Books.{BookData, book_clusters, book_end}
+use Rattle.nt_book.specs.Entries.{committed_entry, settled_entry}
+use Rattle.nt_seq.specs.Appending.{settled_cluster, GainsCluster}
+
+-- the item behind a list
+item-behind : {A : Type 0} (xs : List A) (x : A) → slice_get (xs ++ x ∷ []) (length xs) ≡ Some x
+item-behind [] x = refl
+item-behind (y ∷ xs) x = item-behind xs x
+
+set-behind : {A : Type 0} (xs : List A) (x y : A) → set (xs ++ x ∷ []) (length xs) y ≡ xs ++ y ∷ []
+set-behind [] x y = refl
+set-behind (z ∷ xs) x y = ap (λ (l : List _). z ∷ l) (set-behind xs x y)
+
+module _ (history : List (Entry ClusterMeta)) (start : ℕ) (meta : ClusterMeta) (n : ℕ) (is : n ≡ length (ranges_of history)) where
+  abbrev pub committed : List (Entry ClusterMeta)
+  committed = history ++ committed_entry n start meta ∷ []
+
+  abbrev cluster : Cluster ClusterMeta
+  cluster = record { context = meta.context; number = n; start = start; len = meta.len; meta = meta; state = Out }
+
+  clusters-committed : ranges_of committed ≡ ranges_of history ++ cluster ∷ []
+  clusters-committed = ranges_of-snoc history (committed_entry n start meta)
+
+  -- its range is out
+  pub out-committed : IsOut (ranges_of committed) meta.context n
+  out-committed = record {
+    cluster = cluster;
+    at = ap (λ (cs : List (Cluster ClusterMeta)). slice_get cs n) clusters-committed
+        ∙ (ap (λ (k : ℕ). slice_get (ranges_of history ++ cluster ∷ []) k) is ∙ item-behind (ranges_of history) cluster);
+    own = refl;
+    out = refl;
+  }
+
+  -- and then it is settled
+  clusters-settled : (place : ℕ) → IsLegal place committed
+      → ranges_of (committed ++ settled_entry meta.context n ∷ []) ≡ ranges_of history ++ settled_cluster n start meta ∷ []
+  unfolding out-committed
+  clusters-settled place legal =
+      ranges_of-snoc committed (settled_entry meta.context n)
+      ∙ (ranges_of-back place meta.context n (Settled None) committed legal out-committed
+      ∙ (ap (λ (cs : List (Cluster ClusterMeta)). set cs n (settled_cluster n start meta)) clusters-committed
+      ∙ (ap (λ (k : ℕ). set (ranges_of history ++ cluster ∷ []) k (settled_cluster n start meta)) is
+      ∙ set-behind (ranges_of history) cluster (settled_cluster n start meta))))
+
+-- a book into which it was entered
+module _ (book mid next : BookData) (meta : ClusterMeta) (n : ℕ) (is : n ≡ length (book_clusters book))
+    (legal : IsLegal book.begin book.history)
+    (allowed : IsAllowed book.begin (ranges_of book.history) (committed_entry n (book_end book) meta))
+    (first : mid ≡ record book { history = book.history ++ committed_entry n (book_end book) meta ∷ []; spare = book.spare - 1 })
+    (then_settled : next ≡ record mid { history = mid.history ++ settled_entry meta.context n ∷ [] }) where
+  next-is : next ≡ record book {
+    history = committed book.history (book_end book) meta n is ++ settled_entry meta.context n ∷ [];
+    spare = book.spare - 1;
+  }
+  next-is = then_settled ∙ ap (λ (b : BookData). record b { history = b.history ++ settled_entry meta.context n ∷ [] }) first
+
+  pub gains : GainsCluster meta book next
+  gains = record {
+    clusters = ap book_clusters next-is
+        ∙ (clusters-settled book.history (book_end book) meta n is book.begin
+        (IsLegalAfter-snoc book.begin [] book.history (committed_entry n (book_end book) meta) legal allowed)
+        ∙ ap (λ (k : ℕ). book_clusters book ++ settled_cluster k (book_end book) meta ∷ []) is);
+    same = next-is ∙ ap (λ (b : BookData). record book { history = b.history; spare = b.spare }) (sym next-is);
+  }

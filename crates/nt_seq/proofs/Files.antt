@@ -1,0 +1,87 @@
+-- A file that isn't closed: its bytes, its first byte, and the order of its steps.
+use Rattle.std.proofs.Common.{◌≡◌, ◌∙◌, ap, sym, refl, subst, ℕ, ◌<◌, List, [], ◌∷◌, ◌++◌, map, length, inl, inr, arith}
+use Rattle.std.proofs.Common.{append-nil, append_assoc}
+use Rattle.std.proofs.lemmas.List.{length-append, length-map}
+use Rattle.std.specs.List.{concat}
+use Rattle.nt_outside.specs.Log.{Step, Append}
+use Rattle.nt_outside.specs.Held.{Held, nothing_held, appended}
+use Rattle.nt_outside.specs.Order.{FirstByteLast}
+use Rattle.nt_outside.specs.Reads.{Known, exactly, after_step, known_from, known_of}
+use Rattle.nt_outside.proofs.Order.{one_follows, torn_append_follows}
+use Rattle.nt_container.specs.Spelling.{begun}
+use Rattle.nt_container.proofs.Gate.{begin-len}
+use Rattle.nt_grammar.specs.Table.{Table}
+use Rattle.nt_layout.specs.Headers.{header_blob, file_begun}
+use Rattle.nt_close.specs.Steps.{begun_on, begun_whole}
+use Rattle.nt_close.specs.Laws.{IsShut}
+use Rattle.nt_close.proofs.FirstByte.{begins_shut, begins_in_order}
+use Rattle.nt_seq.specs.Written.{ranges_on, file_so_far, IsUnclosed}
+
+-- one range more
+pub ranges_on-push : (ranges : List (List ℕ)) (range : List ℕ) (h : Held)
+    → ranges_on (ranges ++ range ∷ []) h ≡ appended range (ranges_on ranges h)
+ranges_on-push [] range h = refl
+ranges_on-push (r ∷ ranges) range h = ranges_on-push ranges range (appended r h)
+
+-- the ranges stand behind what was there
+image-ranges_on : (ranges : List (List ℕ)) (h : Held) → (ranges_on ranges h).image ≡ h.image ++ concat ranges
+image-ranges_on [] h = sym (append-nil h.image)
+image-ranges_on (r ∷ ranges) h = image-ranges_on ranges (appended r h) ∙ append_assoc h.image r (concat ranges)
+
+pub image-file : (t : Table) (ranges : List (List ℕ)) → (file_so_far t ranges).image ≡ file_begun t ++ concat ranges
+image-file t ranges = image-ranges_on ranges (begun_on (begun 0 0 0) (header_blob t) nothing_held)
+
+-- ---- its first byte
+
+shut-behind : (xs ys image : List ℕ) → IsShut xs → image ≡ xs ++ ys → IsShut image
+shut-behind xs ys image shut is = (shut.0 ++ ys, is ∙ ap (λ (l : List ℕ). l ++ ys) shut.1)
+
+shut-begun : (blob : List ℕ) → IsShut (begun_on (begun 0 0 0) blob nothing_held).image
+shut-begun blob =
+    elim (begins_shut blob (begun_on (begun 0 0 0) blob nothing_held) (begun_whole refl)) [
+      | inl shut ↦ shut
+      | inr failed ↦ absurd (cc failed.1)
+    ]
+
+shut-file : (t : Table) (ranges : List (List ℕ)) → IsShut (file_so_far t ranges).image
+shut-file t ranges =
+    shut-behind (begun_on (begun 0 0 0) (header_blob t) nothing_held).image (concat ranges) (file_so_far t ranges).image
+    (shut-begun (header_blob t)) (image-ranges_on ranges (begun_on (begun 0 0 0) (header_blob t) nothing_held))
+
+pub shut-unclosed : (h : Held) → IsUnclosed h → IsShut h.image
+shut-unclosed h is =
+    elim is.steps [
+      | inl whole ↦ subst (λ (k : Held). IsShut k.image) (sym whole) (shut-file is.table is.ranges)
+      | inr torn ↦ shut-behind (file_so_far is.table is.ranges).image torn.1.junk h.image (shut-file is.table is.ranges) torn.1.image
+    ]
+
+-- ---- the order of its steps
+
+known_from-push : (known : List Known) (log : List Step) (s : Step)
+    → known_from known (log ++ s ∷ []) ≡ after_step (known_from known log) s
+known_from-push known [] s = refl
+known_from-push known (x ∷ log) s = known_from-push (after_step known x) log s
+
+order-ranges_on : (ranges : List (List ℕ)) (h : Held) → 0 < length (known_of h.log) → FirstByteLast h.log
+    → FirstByteLast (ranges_on ranges h).log
+order-ranges_on [] h some order = order
+order-ranges_on (r ∷ ranges) h some order =
+    let more : length (known_of (h.log ++ Append r ∷ [])) ≡ length (known_of h.log ++ map exactly r) =
+    ap length (known_from-push [] h.log (Append r)) in
+    let long = length-append (known_of h.log) (map exactly r) in
+    order-ranges_on ranges (appended r h) (omega (arith, some, more, long))
+    (one_follows h.log (Append r) order (λ none. absurd (omega (arith, some, ap length none))))
+
+order-file : (t : Table) (ranges : List (List ℕ)) → FirstByteLast (file_so_far t ranges).log
+order-file t ranges =
+    let h = begun_on (begun 0 0 0) (header_blob t) nothing_held in
+    let head = length-append (map exactly (begun 0 0 0)) (map exactly (header_blob t)) in
+    let long = length-map (begun 0 0 0) exactly in
+    order-ranges_on ranges h (omega (arith, head, long, begin-len 0 0 0)) (begins_in_order (header_blob t) h (begun_whole refl))
+
+pub order-unclosed : (h : Held) → IsUnclosed h → FirstByteLast h.log
+order-unclosed h is =
+    elim is.steps [
+      | inl whole ↦ subst (λ (k : Held). FirstByteLast k.log) (sym whole) (order-file is.table is.ranges)
+      | inr torn ↦ torn_append_follows torn.0 (file_so_far is.table is.ranges) h torn.1 (order-file is.table is.ranges)
+    ]

@@ -1,0 +1,12 @@
+pub mod Entered
+pub mod Blobs
+pub mod Grown
+pub mod Files
+pub mod AddedRows
+pub mod Flushed
+pub mod Refused
+pub mod Widened
+pub mod Closed
+pub mod Begun
+pub mod Appended
+pub mod Filled

@@ -1,0 +1,125 @@
+-- A writer that was refused a flush.
+use Rattle.std.proofs.Common.{◌≡◌, ◌∙◌, ap, sym, refl, subst, ℕ, ◌≤◌, List, inl, inr}
+use Rattle.std.specs.List.{AllByRecursion}
+use Rattle.nt_outside.specs.Held.{Becomes, BecomesSome, IsTornAppend}
+use Rattle.nt_outside.specs.Disk.{DiskState}
+use Rattle.nt_grammar.specs.declared.rows.ColumnRow.{ColumnRow}
+use Rattle.nt_grammar.specs.Table.{Table}
+use Rattle.nt_book.specs.Books.{BookData, book_clusters, book_end, entry_count}
+use Rattle.nt_commit.specs.declared.error.CommitError.{CommitError}
+use Rattle.nt_commit.specs.declared.error.CommitError.TheVariants.{RangeTooLarge, FileTooLarge, TooManyClusters, Memory, Fault}
+use Rattle.std.proofs.lemmas.Bool.{false≢true}
+use Rattle.std.proofs.Common.{◌≢◌, Bool, false}
+use Rattle.nt_seq.specs.Appending.{KeepsDiskAndBook, CutsImage}
+use Rattle.nt_seq.specs.Standing.{IsSettledCluster, IsWriting, IsSequential}
+use Rattle.nt_seq.specs.Writer.{SeqState}
+use Rattle.nt_seq.specs.Written.{file_so_far, HasClusters, IsUnclosed}
+use Rattle.nt_seq.specs.Changing.{StaysAsItWas}
+use Rattle.nt_types.specs.TreeData.{TreesData}
+use Rattle.nt_layout.specs.Laid.{AreBlobsOf}
+use Rattle.nt_late.specs.LateFiles.{AreLateBlobs}
+
+-- a writer whose disk failed
+unclosed-cut : (given old new : DiskState) (t : Table) (ranges : List (List ℕ)) (len : ℕ)
+    → Becomes given.held old.held (λ h. file_so_far t ranges) → BecomesSome old.held new.held (IsTornAppend len)
+    → BecomesSome given.held new.held (λ h h'. IsUnclosed h')
+unclosed-cut given old new t ranges len told cut h is =
+    let left = cut (file_so_far t ranges) (told h is) in
+    (left.0, left.1, record { table = t; ranges = ranges; steps = inr (len, left.2) })
+
+-- a writer that stays as it was, but for memory
+module _ {D : Type 0} (state : D → DiskState) (w : SeqState D) (disk : D) (room : BookData) (is : IsWriting state w)
+    (kept : KeepsDiskAndBook (state w.disk) (state disk) w.book room) where
+  writing-kept : IsWriting state (record w { disk = disk; book = room })
+  writing-kept =
+      let book = kept.book_is in
+      let place = kept.untouched.place in
+      record {
+        ranges = is.ranges;
+        held = λ h told. place.held ∙ is.held h told;
+        closable = record {
+          begin = ap (λ (b : BookData). b.begin) book ∙ is.closable.begin;
+          end = place.end ∙ (is.closable.end ∙ sym (ap book_end book));
+          out = place.out ∙ is.closable.out;
+          whole = is.closable.whole;
+        };
+        within = is.within;
+        limits = ap (λ (b : BookData). b.limits) book ∙ is.limits;
+        firsts = is.firsts ∙ sym (ap (λ (b : BookData). b.firsts) book);
+        begun = subst (λ (b : BookData). AllByRecursion (λ (c : ColumnRow). c.first ≤ entry_count (book_clusters b)) w.table.columns)
+            (sym book) is.begun;
+        settled = subst (λ (b : BookData). AllByRecursion IsSettledCluster (book_clusters b)) (sym book) is.settled;
+        described = is.described;
+        few = is.few;
+        some = is.some;
+        gives = is.gives;
+        full = is.full;
+      }
+
+-- whether it is alive is said beside what holds of it
+pub writing-alive : {D : Type 0} (state : D → DiskState) (w : SeqState D) (alive : Bool) → IsWriting state w
+    → IsWriting state (record w { alive = alive })
+writing-alive state w alive is = record {
+  ranges = is.ranges;
+  held = is.held;
+  closable = is.closable;
+  within = is.within;
+  limits = is.limits;
+  firsts = is.firsts;
+  begun = is.begun;
+  settled = is.settled;
+  described = is.described;
+  few = is.few;
+  some = is.some;
+  gives = is.gives;
+  full = is.full;
+}
+
+-- a writer that was refused a flush
+module _ {D : Type 0} (state : D → DiskState) (w : SeqState D) (is : IsWriting state w) (disk : D) (room : BookData) (alive : Bool)
+    (len : ℕ) where
+  abbrev left : SeqState D
+  left = record w { disk = disk; book = room; alive = alive }
+
+  kept-on : KeepsDiskAndBook (state w.disk) (state disk) w.book room → IsSequential state left
+  kept-on kept = record {
+    unclosed = λ h told. (
+      _,
+      kept.untouched.place.held ∙ is.held h told,
+      record { table = w.table; ranges = is.ranges; steps = inl refl },
+    );
+    writing = λ _. writing-alive state (record w { disk = disk; book = room }) alive (writing-kept state w disk room is kept);
+  }
+
+  pub after-error : (e : CommitError)
+      → (e ≢ Fault → KeepsDiskAndBook (state w.disk) (state disk) w.book room × (alive ≡ w.alive))
+      → (e ≡ Fault → CutsImage len (state w.disk) (state disk) w.book room × (alive ≡ false)) → IsSequential state left
+  after-error (RangeTooLarge n most) kept cut = kept-on (kept (λ same. cc same)).0
+  after-error (FileTooLarge n most) kept cut = kept-on (kept (λ same. cc same)).0
+  after-error TooManyClusters kept cut = kept-on (kept (λ same. cc same)).0
+  after-error Memory kept cut = kept-on (kept (λ same. cc same)).0
+  after-error Fault kept cut =
+      let torn = cut refl in
+      record {
+        unclosed = unclosed-cut (state w.given) (state w.disk) (state disk) w.table is.ranges len is.held torn.0.held;
+        writing = λ on. absurd (false≢true (sym torn.1 ∙ on));
+      }
+
+-- clusters stay where a disk and its book do
+pub clusters-kept : (given old new : DiskState) (t : Table) (page : ℕ) (book room : BookData) → KeepsDiskAndBook old new book room
+    → (clusters : List (List TreesData)) → HasClusters given old t page book clusters → HasClusters given new t page room clusters
+clusters-kept given old new t page book room kept clusters has = record {
+  ranges = has.ranges;
+  late = subst (λ (b : BookData). AreLateBlobs t page 0 clusters has.ranges (book_clusters b)) (sym kept.book_is) has.late;
+  first = λ first. subst (λ (b : BookData). AreBlobsOf t page clusters has.ranges (book_clusters b)) (sym kept.book_is) (has.first first);
+  held = λ h told. kept.untouched.place.held ∙ has.held h told;
+}
+
+-- nothing changed
+pub stays : {D : Type 0} (state : D → DiskState) (w : SeqState D) → StaysAsItWas state w w
+stays state w = record {
+  untouched = record { place = record { held = refl; end = refl; out = refl }; faults = refl };
+  book = refl;
+  written = λ clusters has. has;
+  now = refl;
+}

@@ -1,0 +1,152 @@
+-- A writer to whose schema a field was added.
+use Rattle.std.proofs.Common.{◌≡◌, ◌∙◌, ap, sym, subst, ℕ, suc, ◌+◌, ◌*◌, ◌<◌, ◌≤◌, ◌^◌, Bool, List, [], ◌∷◌, ◌++◌, map, length, None}
+use Rattle.std.proofs.Common.{Some, arith}
+use Rattle.std.specs.Prelude.{slice_index_or, drop}
+use Rattle.std.specs.List.{AllByRecursion, sum_by}
+use Rattle.std.proofs.lemmas.List.Sums.{sum_by-cons}
+use Rattle.nt_types.specs.ShapeData.{MemberData}
+use Rattle.nt_types.specs.TreeData.{TreeData, TreesData, no_trees, tree}
+use Rattle.nt_outside.specs.Held.{Becomes, nothing_held}
+use Rattle.nt_outside.specs.Disk.{DiskState}
+use Rattle.nt_container.specs.Lengths.{begun_len}
+use Rattle.nt_container.specs.Spelling.{begun}
+use Rattle.nt_grammar.specs.Added.{Added}
+use Rattle.nt_grammar.specs.ReadingBack.{IsDescribed}
+use Rattle.nt_grammar.specs.Table.{Table, IsFew}
+use Rattle.nt_grammar.specs.declared.rows.ColumnRow.{ColumnRow}
+use Rattle.nt_schema.specs.Whole.{AreWhole}
+use Rattle.nt_column.specs.Column.{Column}
+use Rattle.nt_fill.specs.Context.{entries_given}
+use Rattle.nt_layout.specs.Laid.{Gives}
+use Rattle.nt_plans.specs.Place.{open_plans}
+use Rattle.nt_plans.specs.Types.{are_some}
+use Rattle.nt_machine.specs.History.{Cluster}
+use Rattle.nt_plans.specs.Plan.{PlanData}
+use Rattle.nt_book.specs.declared.limits.Limits.{Limits}
+use Rattle.nt_book.specs.declared.meta.ClusterMeta.{ClusterMeta}
+use Rattle.nt_book.specs.Books.{BookData, book_clusters, book_end, no_cluster, entry_count}
+use Rattle.nt_book.specs.Kept.{IsKeptCluster, IsBookKept}
+use Rattle.nt_layout.specs.Blobs.{blob, blob_len}
+use Rattle.nt_layout.specs.Headers.{header_object, clusters_place}
+use Rattle.nt_close.specs.Passing.{first_passed, passed_by_begin}
+use Rattle.nt_close.specs.Steps.{begun_on}
+use Rattle.nt_late.specs.LateFiles.{AreLateBlobs}
+use Rattle.nt_late.specs.LeftOut.{IsLeftOut, filled}
+use Rattle.nt_late.specs.Zeros.{zero_of, zero_tree}
+use Rattle.nt_seq.specs.Standing.{IsSettledCluster, IsWriting}
+use Rattle.nt_seq.specs.Widening.{first_elements}
+use Rattle.nt_seq.specs.Writer.{SeqState, gathered_by}
+use Rattle.nt_seq.specs.Written.{file_so_far, ranges_on, HasClusters, HasWritten, zero_behind}
+use Rattle.nt_seq.proofs.AddedRows.{header-kept, not_first, all-firsts, all-begun, some-more}
+use Rattle.nt_seq.proofs.Grown.{late-grown}
+
+-- ---- how many entries a book can have
+
+few-entries : (columns : ℕ) (cs : List (Cluster ClusterMeta))
+    → ((k : ℕ) → k < length cs → IsKeptCluster columns (slice_index_or cs k no_cluster))
+    → entry_count cs ≤ 8 * sum_by (λ (c : Cluster ClusterMeta). c.len) cs
+few-entries columns [] kept = omega arith
+few-entries columns (c ∷ cs) kept =
+    let here = kept 0 (omega arith) in
+    let paged = here.paged.entries in
+    let len = here.len in
+    omega (
+      arith,
+      paged,
+      len,
+      few-entries columns cs (λ k less. kept (suc k) (omega (arith, less))),
+      sum_by-cons (λ (x : Cluster ClusterMeta). x.meta.entries) c cs,
+      sum_by-cons (λ (x : Cluster ClusterMeta). x.len) c cs,
+    )
+
+pub entries-short : (book : BookData) → IsBookKept book → entry_count (book_clusters book) < 2 ^ 63
+entries-short book kept =
+    omega (arith, few-entries (length book.firsts) (book_clusters book) kept.clusters, kept.end)
+
+-- ---- a header that stays
+
+module _ (t new : Table) (same : header_object new ≡ header_object t) where
+  pub place-kept : clusters_place new ≡ clusters_place t
+  place-kept = ap (λ (object : List ℕ). begun_len + blob_len (length object)) same
+
+  pub within-kept : (limits : Limits) → passed_by_begin limits t ≡ None → passed_by_begin limits new ≡ None
+  within-kept limits within =
+      ap (λ (object : List ℕ). first_passed limits (blob_len (length object) ∷ []) (begun_len + blob_len (length object))) same ∙ within
+
+  pub file-kept : (ranges : List (List ℕ)) → file_so_far new ranges ≡ file_so_far t ranges
+  file-kept ranges = ap (λ (object : List ℕ). ranges_on ranges (begun_on (begun 0 0 0) (blob begun_len object) nothing_held)) same
+
+  pub held-kept : (given disk : DiskState) (ranges : List (List ℕ)) → Becomes given.held disk.held (λ h. file_so_far t ranges)
+      → Becomes given.held disk.held (λ h. file_so_far new ranges)
+  held-kept given disk ranges told h is = told h is ∙ ap Some (sym (file-kept ranges))
+
+-- the clusters have the zero of the field
+pub clusters-grown : (given disk : DiskState) (t new : Table) (page : ℕ) (book next : BookData) (field : MemberData) (p : PlanData)
+    (plain : Bool) → book_clusters next ≡ book_clusters book → IsDescribed t → Added t field plain (entry_count (book_clusters book)) new
+    → IsLeftOut (entry_count (book_clusters book)) t new p → zero_of p ≡ zero_tree field.of
+    → (clusters : List (List TreesData)) → HasClusters given disk t page book clusters
+    → HasClusters given disk new page next (map (filled (zero_behind field)) clusters)
+clusters-grown given disk t new page book next field p plain same described added out none clusters has =
+    let high = entry_count (book_clusters book) in
+    record {
+      ranges = has.ranges;
+      late = subst (λ (z : TreesData). AreLateBlobs new page 0 (map (filled z) clusters) has.ranges (book_clusters next))
+          (ap (λ (z : TreeData). tree z no_trees) none)
+          (subst (λ (cs : List (Cluster ClusterMeta)). AreLateBlobs new page 0 (map (filled (tree (zero_of p) no_trees)) clusters)
+          has.ranges cs) (sym same)
+          (late-grown t new p high out page 0 clusters has.ranges (book_clusters book) (omega arith) has.late));
+      first = λ is. absurd (not_first t field plain high new added described is);
+      held = held-kept t new (header-kept t field plain high new added described) given disk has.ranges has.held;
+    }
+
+-- the writer goes on
+module _ {D : Type 0} (state : D → DiskState) (w : SeqState D) (next : BookData) (new : Table) (columns : List Column) (field : MemberData)
+    (p : PlanData) (is : IsWriting state w) (none : w.entries ≡ 0)
+    (added : Added w.table field w.params.plain (entry_count (book_clusters w.book)) new)
+    (out : IsLeftOut (entry_count (book_clusters w.book)) w.table new p)
+    (next_is : next ≡ record w.book { firsts = w.book.firsts ++ first_elements (drop (length w.table.columns) new.columns) })
+    (described : IsDescribed new) (few : IsFew new) (whole : AreWhole new) (gives : Gives new columns []) where
+  abbrev widened : SeqState D
+  widened = record w { book = next; table = new; columns = columns }
+
+  abbrev entries : ℕ
+  entries = entry_count (book_clusters w.book)
+
+  same-header : header_object new ≡ header_object w.table
+  same-header = header-kept w.table field w.params.plain entries new added is.described
+
+  pub same-clusters : book_clusters next ≡ book_clusters w.book
+  same-clusters = ap book_clusters next_is
+
+  pub none-gathered : gathered_by widened ≡ []
+  none-gathered = ap (λ (n : ℕ). entries_given new columns n) none
+
+  pub writing-widened : IsWriting state widened
+  writing-widened = record {
+    ranges = is.ranges;
+    held = held-kept w.table new same-header (state w.given) (state w.disk) is.ranges is.held;
+    closable = record {
+      begin = ap (λ (b : BookData). b.begin) next_is ∙ (is.closable.begin ∙ sym (place-kept w.table new same-header));
+      end = is.closable.end ∙ sym (ap book_end next_is);
+      out = is.closable.out;
+      whole = whole;
+    };
+    within = within-kept w.table new same-header w.params.limits is.within;
+    limits = ap (λ (b : BookData). b.limits) next_is ∙ is.limits;
+    firsts = all-firsts w.table field w.params.plain entries new added w.book.firsts is.firsts
+        ∙ sym (ap (λ (b : BookData). b.firsts) next_is);
+    begun = subst (λ (cs : List (Cluster ClusterMeta)). AllByRecursion (λ (c : ColumnRow). c.first ≤ entry_count cs) new.columns)
+        (sym same-clusters) (all-begun w.table field w.params.plain entries new added is.begun);
+    settled = subst (λ (cs : List (Cluster ClusterMeta)). AllByRecursion IsSettledCluster cs) (sym same-clusters) is.settled;
+    described = described;
+    few = few;
+    some = ap are_some out.grows.plans ∙ some-more (open_plans w.table) p;
+    gives = subst (λ (es : List TreesData). Gives new columns es) (sym none-gathered) gives;
+    full = is.full;
+  }
+
+  pub written-widened : zero_of p ≡ zero_tree field.of → (clusters : List (List TreesData)) → HasWritten state w clusters
+      → HasWritten state widened (map (filled (zero_behind field)) clusters)
+  written-widened nothing clusters has =
+      clusters-grown (state w.given) (state w.disk) w.table new w.params.page w.book next field p w.params.plain same-clusters is.described
+      added out nothing clusters has

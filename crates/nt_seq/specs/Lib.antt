@@ -1,0 +1,7 @@
+pub mod Writer
+pub mod Written
+pub mod Appending
+pub mod Changing
+pub mod Closing
+pub mod Standing
+pub mod Widening

@@ -1,0 +1,61 @@
+-- What holds of each sequential writer.
+use Rattle.std.specs.Prelude.{ℕ, ◌≡◌, ◌≤◌, true, List, [], map, None}
+use Rattle.std.specs.List.{AllByRecursion}
+use Rattle.nt_outside.specs.Held.{Becomes, BecomesSome, WhereHeld, nothing_held}
+use Rattle.nt_outside.specs.Disk.{DiskState}
+use Rattle.nt_machine.specs.History.{Cluster, Settled}
+use Rattle.nt_grammar.specs.declared.rows.ColumnRow.{ColumnRow}
+use Rattle.nt_grammar.specs.ReadingBack.{IsDescribed}
+use Rattle.nt_grammar.specs.Table.{Table, IsFew}
+use Rattle.nt_schema.specs.Whole.{AreWhole}
+use Rattle.nt_column.specs.Column.{Column}
+use Rattle.nt_book.specs.declared.meta.ClusterMeta.{ClusterMeta}
+use Rattle.nt_book.specs.Books.{book_clusters, entry_count}
+use Rattle.nt_plans.specs.Place.{open_plans}
+use Rattle.nt_plans.specs.Types.{are_some}
+use Rattle.nt_layout.specs.Laid.{Gives}
+use Rattle.nt_close.specs.Passing.{passed_by_begin}
+use Rattle.nt_close.specs.Closing.{IsClosable}
+use Rattle.nt_seq.specs.Writer.{SeqState, gathered_by}
+use Rattle.nt_seq.specs.Written.{IsUnclosed, file_so_far}
+
+-- the range of a cluster was handed back filled
+abbrev pub IsSettledCluster : Cluster ClusterMeta → Type 0
+IsSettledCluster c = c.state ≡ Settled None
+
+-- a disk on which nothing was written
+pub record IsBlankDisk (disk : DiskState) : Type 0 where
+  pub held : WhereHeld disk.held (λ h. h ≡ nothing_held)
+  pub end : disk.end ≡ 0
+  pub out : disk.out ≡ []
+
+-- a schema and columns with which a writer can begin
+pub record IsFitToBegin (t : Table) (columns : List Column) : Type 0 where
+  pub few : IsFew t
+  pub whole : AreWhole t
+  pub some : are_some (open_plans t) ≡ true
+  pub gives : Gives t columns []
+
+module _ {D : Type 0} (state : D → DiskState) where
+  -- a writer that is alive: its file is begun, with ranges behind the header, and can be closed; each range of the book is settled, the
+  -- first elements of the columns are those of the schema and stand behind no more entries than are written, and the columns give what is
+  -- gathered
+  pub record IsWriting (w : SeqState D) : Type 0 where
+    pub ranges : List (List ℕ)
+    pub held : Becomes (state w.given).held (state w.disk).held (λ h. file_so_far w.table ranges)
+    pub closable : IsClosable (state w.disk) w.book w.table
+    pub within : passed_by_begin w.params.limits w.table ≡ None
+    pub limits : w.book.limits ≡ w.params.limits
+    pub firsts : map (λ (c : ColumnRow). c.first) w.table.columns ≡ w.book.firsts
+    pub begun : AllByRecursion (λ (c : ColumnRow). c.first ≤ entry_count (book_clusters w.book)) w.table.columns
+    pub settled : AllByRecursion IsSettledCluster (book_clusters w.book)
+    pub described : IsDescribed w.table
+    pub few : IsFew w.table
+    pub some : are_some (open_plans w.table) ≡ true
+    pub gives : Gives w.table w.columns (gathered_by w)
+    pub full : w.entries ≤ w.params.cluster
+
+  -- a writer: its file isn't closed, as far as it is told, and while it is alive it can be
+  pub record IsSequential (w : SeqState D) : Type 0 where
+    pub unclosed : BecomesSome (state w.given).held (state w.disk).held (λ h h'. IsUnclosed h')
+    pub writing : w.alive ≡ true → IsWriting w

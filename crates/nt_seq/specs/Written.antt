@@ -1,0 +1,56 @@
+-- What a sequential writer has written.
+use Rattle.std.specs.Prelude.{ℕ, ◌≡◌, ◌⊎◌, List, [], ◌∷◌, length}
+use Rattle.std.specs.List.{sum_by}
+use Rattle.nt_types.specs.ShapeData.{MemberData}
+use Rattle.nt_types.specs.TreeData.{TreesData, no_trees, tree}
+use Rattle.nt_outside.specs.Held.{Held, Becomes, nothing_held, appended, IsTornAppend}
+use Rattle.nt_outside.specs.Disk.{DiskState}
+use Rattle.nt_container.specs.Spelling.{begun}
+use Rattle.nt_grammar.specs.Table.{Table}
+use Rattle.nt_book.specs.Books.{BookData, book_clusters}
+use Rattle.nt_layout.specs.Headers.{header_blob}
+use Rattle.nt_layout.specs.Laid.{AreBlobsOf}
+use Rattle.nt_close.specs.Steps.{begun_on}
+use Rattle.nt_late.specs.LateFiles.{AreLateBlobs}
+use Rattle.nt_late.specs.Zeros.{zero_tree}
+use Rattle.nt_seq.specs.Writer.{SeqState}
+
+-- these ranges are appended, one behind the other
+abbrev pub ranges_on : List (List ℕ) → Held → Held
+ranges_on [] h = h
+ranges_on (range ∷ ranges) h = ranges_on ranges (appended range h)
+
+-- what is held of a file of this schema that is begun, with these ranges behind its header
+abbrev pub file_so_far : Table → List (List ℕ) → Held
+file_so_far t ranges = ranges_on ranges (begun_on (begun 0 0 0) (header_blob t) nothing_held)
+
+-- what is held before a file is closed: it is begun, ranges stand behind its header, and the append of one more may have failed
+pub record IsUnclosed (h : Held) : Type 0 where
+  pub table : Table
+  pub ranges : List (List ℕ)
+  pub steps : (h ≡ file_so_far table ranges) ⊎ ((most : ℕ) × IsTornAppend most (file_so_far table ranges) h)
+
+-- no field was added: all rows stand in the header
+abbrev pub IsFirstSchema : Table → Type 0
+IsFirstSchema t = t.header_fields ≡ length t.fields
+
+-- a disk holds the file of a schema that is begun, where the one that was given tells what it holds, with a range for each of these
+-- clusters, which is the blob of its entries: those of fields that were added behind it are zeros
+pub record HasClusters (given disk : DiskState) (t : Table) (page : ℕ) (book : BookData) (clusters : List (List TreesData)) : Type 0 where
+  pub ranges : List (List ℕ)
+  pub late : AreLateBlobs t page 0 clusters ranges (book_clusters book)
+  pub first : IsFirstSchema t → AreBlobsOf t page clusters ranges (book_clusters book)
+  pub held : Becomes given.held disk.held (λ h. file_so_far t ranges)
+
+-- the entries of clusters
+abbrev pub entries_of_clusters : List (List TreesData) → ℕ
+entries_of_clusters clusters = sum_by (λ (entries : List TreesData). length entries) clusters
+
+-- the zero of a field, as it stands behind the trees of an entry
+abbrev pub zero_behind : MemberData → TreesData
+zero_behind field = tree (zero_tree field.of) no_trees
+
+module _ {D : Type 0} (state : D → DiskState) where
+  -- these are the clusters that a writer has written, each as the list of its entries by the schema as it is now
+  abbrev pub HasWritten : SeqState D → List (List TreesData) → Type 0
+  HasWritten w clusters = HasClusters (state w.given) (state w.disk) w.table w.params.page w.book clusters

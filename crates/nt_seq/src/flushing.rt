@@ -1,0 +1,77 @@
+//! Gathered entries that are written.
+
+ghost use Rattle.std.specs.Prelude.{◌≡◌, ◌≢◌, ◌<◌, [], true, length, Ok, Err, OnOk, IfOk, IfErr, IsErrOf};
+ghost use Rattle.nt_commit.specs.declared.error.CommitError.{CommitError};
+ghost use Rattle.nt_commit.specs.declared.error.CommitError.TheVariants.{Memory, Fault};
+ghost use Rattle.nt_book.specs.Ranges.{IsFromTo, max_page};
+ghost use Rattle.nt_column.specs.Column.{columns_of};
+ghost use Rattle.nt_pages.specs.Image.{image};
+ghost use Rattle.nt_pages.specs.Metas.{cluster_meta};
+ghost use Rattle.nt_trees.specs.Described.{AreDescribed};
+ghost use Rattle.nt_seq.specs.Writer.{gathered_by};
+ghost use Rattle.nt_seq.specs.Changing.{WritesNext, RefusesNext, NamesPassed};
+
+use crate::appending::append_image;
+use crate::writer::SeqWriter;
+use nt_column::ColumnSet;
+use nt_commit::CommitError;
+use nt_outside::Disk;
+use nt_pages::{ClusterImage, build_in};
+use nt_plans::columns_have_types;
+use nt_schema::Schema;
+use std::alloc::{AllocError, Global};
+use std::mem;
+
+/// The image of the cluster of so many entries, in memory that an earlier image had.
+fn image_in(
+    memory: Vec<u8>,
+    alloc: Global,
+    columns: &ColumnSet,
+    schema: &Schema,
+    page: u32,
+    entries: u32,
+) -> Result<ClusterImage, CommitError>
+    requires page { IsFromTo 1 max_page page }
+    requires columns { AreDescribed (columns_of columns.now) schema.now.columns }
+    ensures bytes { IfOk result (λ i. i.bytes ≡ image page (columns_of columns.now)) }
+    ensures meta { IfOk result (λ i. i.meta ≡ cluster_meta page 0 entries (columns_of columns.now)) }
+    ensures err { IfErr result (λ e. e ≡ Memory) }
+{
+    match build_in(memory, alloc, columns, schema, page, 0, u64::from(entries)) {
+        Ok(image) => Ok(image),
+        Err(AllocError) => Err(CommitError::Memory),
+    }
+}
+
+impl<D: Disk> SeqWriter<D> {
+    /// Writes all gathered entries as the next cluster, in one step of the disk. With nothing gathered
+    /// it does nothing. All memory is taken, and all limits are tested, before that step.
+    pub fn flush(&mut self) -> Result<(), CommitError>
+        requires alive { self.old.alive ≡ true }
+        ensures nothing { gathered_by self.old ≡ [] → (result ≡ Ok tt) × (self.new ≡ self.old) }
+        ensures ok { 0 < length (gathered_by self.old)
+            → OnOk result (WritesNext D.state self.old self.new) }
+        ensures limits { 0 < length (gathered_by self.old) → result ≢ Err Memory
+            → NamesPassed self.old result }
+        ensures refused { RefusesNext D.state self.old self.new result }
+    {
+        if self.entries == 0 {
+            return Ok(());
+        }
+        columns_have_types();
+        let memory = mem::replace(&mut self.spare, Vec::new(self.alloc));
+        let mut image = image_in(
+            memory,
+            self.alloc,
+            &self.columns,
+            &self.schema,
+            self.params.page,
+            self.entries,
+        )?;
+        append_image(&mut self.disk, &mut self.book, &mut image, &mut self.alive)?;
+        self.spare = image.bytes.into_vec();
+        self.columns.clear();
+        self.entries = 0;
+        Ok(())
+    }
+}

@@ -1,0 +1,48 @@
+//! A writer of clusters one after the other, on a disk of its own, to whose schema fields can be
+//! added between clusters.
+//!
+//! Start at `SeqWriter` in `writer.rt`. `new` begins the file; `fill` gathers an entry, and
+//! `fill_line` that of a line of event text: it does what nt_event's `read_line` and then `fill`
+//! do, without a tree in between, or refuses the line, which is then to be read. `flush` writes
+//! what is gathered as the next cluster, in one append; `extend` adds a field behind all entries
+//! so far; `close` closes the file, and `abandon` gives the disk back as it is.
+//!
+//! Words: those of nt_fill and nt_late. The *clusters* of a writer are the lists of the entries
+//! that it has written, each entry with the zeros of the fields that were added behind it
+//! (`HasWritten` in `specs/Written`); a writer is *alive* until a call on its disk fails, or
+//! memory is wanting while a field is added; *given* is the disk as it was before all calls, by
+//! which it is known what is told.
+//!
+//! Proved, as a relation of what the writer is before and after each call (`specs/Changing`): an
+//! entry is gathered whole or not at all (`fill`, `fill_line`); a flush makes the gathered
+//! entries the next cluster (`ok`), names exactly the limit of its book that they pass
+//! (`limits`), leaves all as it was where it is refused, and fails only where the disk's count of
+//! faults rose (`refused`); a field is added exactly where none at the top level has its name and
+//! there aren't too many, behind as many entries as are written, and each earlier entry gets its
+//! zero (`extend`). Once it is closed, the file is laid out for the clusters, and as any other
+//! where no field was added; after a refusal its first byte is 0, or it stands there whole; and
+//! its steps are in order in any case (`file`). The cause of each answer is that of nt_close,
+//! where no range is spoiled (`cause`). Of a file that isn't closed the first byte is 0
+//! (`unclosed_files_are_shut`). What holds of each writer at any moment is `IsSequential`, the
+//! invariant. Nothing is only tested.
+//!
+//! Choices that bind nobody else:
+//! - Fields are described once more before the file is begun, since the columns are made of their
+//!   schema, and want of memory for these leaves the disk empty.
+//! - The columns are made anew when a field is added. Columns and image keep their memory from
+//!   flush to flush; after a refused flush the next image takes its memory anew.
+//! - A range is neither reserved nor settled on the disk: there is no pen, so its image is
+//!   appended as it is. In the book it is both, at once, for the context 0.
+#![tactic(auto)]
+
+mod appending;
+mod closing;
+mod extending;
+mod filling;
+mod flushing;
+mod laws;
+mod widening;
+mod writer;
+
+pub use laws::{unclosed_files_are_shut, written_clusters_are_counted};
+pub use writer::SeqWriter;
