@@ -1,6 +1,6 @@
 -- What a parse finds under the name of an option whose value is a number.
 use Rattle.std.proofs.Common.{◌≡◌, ◌≢◌, ◌∙◌, inl, inr, ap, sym, subst, refl, ℕ, ◌<◌, List, [], ◌∷◌, length, option_map, Option, Some, None}
-use Rattle.std.proofs.Common.{true, false, arith}
+use Rattle.std.proofs.Common.{true, false, is_some, arith}
 use Rattle.std.specs.List.{All, slice_index_or}
 use Rattle.std.specs.Borrow.{Bor}
 use Rattle.std.specs.Str.{bytes_eq}
@@ -22,12 +22,12 @@ use Rattle.clap.specs.declared.builder.value_parser.ValueParser.TheVariants.{Uns
 use Rattle.clap.specs.declared.parser.matches.ArgMatches.{ArgMatches}
 use Rattle.clap.specs.declared.parser.matches.MatchedArg.{MatchedArg}
 use Rattle.clap.specs.declared.parser.matches.Found.{Found}
-use Rattle.nt_words.specs.CommandLine.{number_option, number_said}
-use Rattle.nt_words.specs.Arguments.{IsCommandOf, HasNumber, IsNumberFound, is_only_at}
+use Rattle.nt_words.specs.CommandLine.{number_option, number_operand, number_said}
+use Rattle.nt_words.specs.Arguments.{IsCommandOf, HasMatch, HasNumber, IsNumberThere, IsNumberFound, is_only_at}
 use Rattle.clap.specs.Words.{Rule}
 use Rattle.clap.proofs.CallerLemmas.{entry_by_id, same_rules_by_id}
 use Rattle.nt_words.proofs.Kept.{kept_at, only_at}
-use Rattle.nt_words.proofs.Found.{IsOwn}
+use Rattle.nt_words.proofs.Found.{IsOwn, number_operand_there}
 
 -- the argument of this number in a command takes numbers in this range, and no other has its name
 pub record IsNumberAt (c : Command) (k low high : ℕ) (id : List ℕ) : Type 0 where
@@ -156,22 +156,49 @@ one_at_none f id none = go (matched_of f id) refl
     go None e = rw e refl
     go (Some x) e = rw e (at x x.vals.items (rw e at none))
 
--- under the name of an option with a number stands one
-pub number_there : (name : List ℕ) (rules : List Rule) (c : Command) (m : ArgMatches) (k low high : ℕ) (id : List ℕ) → IsOwn id
-    → IsCommandOf name rules c → slice_get rules k ≡ Some (number_option id low high) → is_only_at k id rules ≡ true → IsParsedFrom c m
-    → HasNumber low high m id
-number_there name rules c m k low high id own is at only parsed = λ word first.
-    let t = kept_at rules (args_of c) k (number_option id low high) is.args at in
-    number_is_read c k low high id word m parsed is.plain is.globals (record {
+-- under the name of an argument whose value is a number stands one
+number_by_rule : (name : List ℕ) (rules : List Rule) (c : Command) (m : ArgMatches) (k low high : ℕ) (rule : Rule) → IsOwn rule.id
+    → rule.parser ≡ Some (Unsigned low high) → IsCommandOf name rules c → slice_get rules k ≡ Some rule
+    → is_only_at k rule.id rules ≡ true → IsParsedFrom c m → HasNumber low high m rule.id
+number_by_rule name rules c m k low high rule own parser is at only parsed = λ word first.
+    let t = kept_at rules (args_of c) k rule is.args at in
+    number_is_read c k low high rule.id word m parsed is.plain is.globals (record {
       arg = t.arg;
       below = t.below;
       arg_is = t.arg_is;
       id_is = t.kept.id;
-      parser = t.kept.parser (Unsigned low high) refl;
-      alone = only_at rules (args_of c) k id is.args only;
+      parser = t.kept.parser (Unsigned low high) parser;
+      alone = only_at rules (args_of c) k rule.id is.args only;
       named = own.some;
       own = own.not_auto t.arg t.kept.id;
     }) first
+
+-- an option
+pub number_there : (name : List ℕ) (rules : List Rule) (c : Command) (m : ArgMatches) (k low high : ℕ) (id : List ℕ) → IsOwn id
+    → IsCommandOf name rules c → slice_get rules k ≡ Some (number_option id low high) → is_only_at k id rules ≡ true → IsParsedFrom c m
+    → HasNumber low high m id
+number_there name rules c m k low high id own is at only parsed =
+    number_by_rule name rules c m k low high (number_option id low high) own refl is at only parsed
+
+-- or an operand
+pub operand_number_there : (name : List ℕ) (rules : List Rule) (c : Command) (m : ArgMatches) (k low high : ℕ) (id : List ℕ) → IsOwn id
+    → IsCommandOf name rules c → slice_get rules k ≡ Some (number_operand id low high) → is_only_at k id rules ≡ true → IsParsedFrom c m
+    → HasNumber low high m id × IsNumberThere m id
+operand_number_there name rules c m k low high id own is at only parsed =
+    let number = number_by_rule name rules c m k low high (number_operand id low high) own refl is at only parsed in
+    let there = number_operand_there name rules c m k low high id own is at only parsed in
+    (number, record { low = low; high = high; number = number; there = there })
+
+-- so a number is found there
+pub number_is_there : (m : ArgMatches) (id : List ℕ) (low high : ℕ) (r : Option ℕ) → HasMatch m id
+    → IsNumberFound low high (first_value (found_of m) id) r → r ≡ None → ⊥
+number_is_there m id low high r there found none = go (first_value (found_of m) id) there found.0
+  where
+    go : (o : Option (List ℕ)) → is_some o ≡ true → r ≡ option_map number_said o → ⊥
+    go None some is = cc
+    go (Some word) some is =
+        let bad : None ≡ Some (number_said word) = sym none ∙ is in
+        cc
 
 -- a word that is such a number is read as it
 read_number : {E : Type 0} (G : List ℕ → Result ℕ E → Type 0) (word : List ℕ) (low high : ℕ) (r : Option ℕ) → ReadsOne G word r

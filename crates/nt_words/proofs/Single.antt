@@ -1,11 +1,14 @@
 -- Words say at most one command.
-use Rattle.std.proofs.Common.{◌≡◌, ◌∙◌, ap, sym, subst, refl, ℕ, ◌≤◌, ◌^◌, Bool, List, codes, Option, Some, None}
+use Rattle.std.proofs.Common.{◌≡◌, ◌∙◌, ap, sym, subst, ℕ, ◌≤◌, ◌^◌, Bool, List, Option, Some}
 use Rattle.std.specs.Coded.{×_prop, le_prop}
 use Rattle.nt_book.specs.declared.limits.Limits.{Limits}
 use Rattle.nt_book.specs.declared.params.Params.{Params}
 use Rattle.nt_book.specs.Ranges.{IsFromTo}
 use Rattle.nt_words.specs.CommandLine.{IsEntries, IsSchemaCommand}
-use Rattle.nt_words.specs.WriteWords.{AreLimitsSaid, AreParamsSaid, IsWrite}
+use Rattle.clap.specs.Words.{App}
+use Rattle.nt_words.specs.Options.{AreParamsSaid}
+use Rattle.nt_words.specs.WriteWords.{write_app, IsWrite}
+use Rattle.nt_words.specs.GenWords.{IsGen}
 
 some_is : (x y : List ℕ) → Some x ≡ Some y → x ≡ y
 some_is x y e = cc
@@ -18,7 +21,8 @@ any_bounds : (r f c : ℕ) (a a' : r ≤ 2 ^ 30) (b b' : f ≤ 2 ^ 56) → limit
 any_bounds r f c a a' b b' = ap (λ (x : r ≤ 2 ^ 30). limits r f c x b) (le_prop a a')
     ∙ ap (λ (x : f ≤ 2 ^ 56). limits r f c a' x) (le_prop b b')
 
-same_limits : (l m : Limits) → l.range ≡ m.range → l.file ≡ m.file → l.clusters ≡ m.clusters → l ≡ m
+-- so are limits
+pub same_limits : (l m : Limits) → l.range ≡ m.range → l.file ≡ m.file → l.clusters ≡ m.clusters → l ≡ m
 same_limits l m range file clusters =
     subst (λ (r : ℕ). (x : r ≤ 2 ^ 30) → l ≡ limits r m.file m.clusters x m.file_bound) range
     (subst (λ (f : ℕ). (y : f ≤ 2 ^ 56) (x : l.range ≤ 2 ^ 30) → l ≡ limits l.range f m.clusters x y) file
@@ -37,20 +41,24 @@ any_ranges c p g plain l x x' y y' z z' =
     ∙ ap (λ (v : IsFromTo 1 1048576 p). params c p g plain l x' v z) (×_prop le_prop le_prop y y')
     ∙ ap (λ (v : IsFromTo 1 10000 g). params c p g plain l x' y' v) (×_prop le_prop le_prop z z')
 
-same_params : (words : List (List ℕ)) (p q : Params) → AreParamsSaid words p → AreParamsSaid words q → p ≡ q
-same_params words p q one other =
-    let same : p.limits ≡ q.limits =
-    same_limits p.limits q.limits (one.limits.range ∙ sym other.limits.range) (one.limits.file ∙ sym other.limits.file)
-    (one.limits.clusters ∙ sym other.limits.clusters) in
-    subst (λ (c : ℕ). (x : IsFromTo 1 1000000 c) → p ≡ params c q.page q.group q.plain q.limits x q.page_range q.group_range)
-    (one.cluster ∙ sym other.cluster)
+-- parameters of the same numbers are the same
+pub params_are : (p q : Params) → p.cluster ≡ q.cluster → p.page ≡ q.page → p.group ≡ q.group → p.plain ≡ q.plain → p.limits ≡ q.limits
+    → p ≡ q
+params_are p q cluster page group plain limits-are =
+    subst (λ (c : ℕ). (x : IsFromTo 1 1000000 c) → p ≡ params c q.page q.group q.plain q.limits x q.page_range q.group_range) cluster
     (subst (λ (n : ℕ). (y : IsFromTo 1 1048576 n) (x : IsFromTo 1 1000000 p.cluster)
-    → p ≡ params p.cluster n q.group q.plain q.limits x y q.group_range) (one.page ∙ sym other.page)
+    → p ≡ params p.cluster n q.group q.plain q.limits x y q.group_range) page
     (subst (λ (n : ℕ). (z : IsFromTo 1 10000 n) (y : IsFromTo 1 1048576 p.page) (x : IsFromTo 1 1000000 p.cluster)
-    → p ≡ params p.cluster p.page n q.plain q.limits x y z) (one.group ∙ sym other.group)
+    → p ≡ params p.cluster p.page n q.plain q.limits x y z) group
     (λ z y x. any_ranges p.cluster p.page p.group p.plain p.limits p.cluster_range x p.page_range y p.group_range z
-    ∙ ap (λ (b : Bool). params p.cluster p.page p.group b p.limits x y z) (one.plain ∙ sym other.plain)
-    ∙ ap (λ (l : Limits). params p.cluster p.page p.group q.plain l x y z) same) q.group_range) q.page_range) q.cluster_range
+    ∙ ap (λ (b : Bool). params p.cluster p.page p.group b p.limits x y z) plain
+    ∙ ap (λ (l : Limits). params p.cluster p.page p.group q.plain l x y z) limits-are) q.group_range) q.page_range) q.cluster_range
+
+same_params : (a : App) (words : List (List ℕ)) (p q : Params) → AreParamsSaid a words p → AreParamsSaid a words q → p ≡ q
+same_params a words p q one other =
+    params_are p q (one.cluster ∙ sym other.cluster) (one.page ∙ sym other.page) (one.group ∙ sym other.group) (one.plain ∙ sym other.plain)
+    (same_limits p.limits q.limits (one.limits.range ∙ sym other.limits.range) (one.limits.file ∙ sym other.limits.file)
+    (one.limits.clusters ∙ sym other.limits.clusters))
 
 -- what holds of one reading of the words of `write` holds of another
 pub same_write : (P : List ℕ → List ℕ → List (List ℕ) → Params → Type 0) (words : List (List ℕ)) (o s o' s' : List ℕ)
@@ -59,11 +67,25 @@ same_write P words o s o' s' is is' p p' one other holds =
     let out : o ≡ o' = some_is o o' (sym one.names.out_is ∙ other.names.out_is) in
     let schema : s ≡ s' = some_is s s' (sym one.names.schema_is ∙ other.names.schema_is) in
     let inputs : is ≡ is' = one.names.inputs_are ∙ sym other.names.inputs_are in
-    let params : p ≡ p' = same_params words p p' one.params other.params in
+    let params : p ≡ p' = same_params write_app words p p' one.params other.params in
     subst (λ (l : List ℕ). P l s' is' p') out (subst (λ (l : List ℕ). P o l is' p') schema
     (subst (λ (l : List (List ℕ)). P o s l p') inputs (subst (P o s is) params holds)))
 
--- and so of `entries`
+some_number_is : (m n : ℕ) → Some m ≡ Some n → m ≡ n
+some_number_is m n e = cc
+
+-- and so of `gen`
+pub same_gen : (P : ℕ → ℕ → ℕ → List ℕ → Type 0) (words : List (List ℕ)) (c e s c' e' s' : ℕ) (o o' : List ℕ) → IsGen words c e s o
+    → IsGen words c' e' s' o' → P c e s o → P c' e' s' o'
+same_gen P words c e s c' e' s' o o' one other holds =
+    let contexts : c ≡ c' = some_number_is c c' (sym one.contexts_is ∙ other.contexts_is) in
+    let events : e ≡ e' = some_number_is e e' (sym one.events_is ∙ other.events_is) in
+    let seed : s ≡ s' = some_number_is s s' (sym one.seed_is ∙ other.seed_is) in
+    let out : o ≡ o' = some_is o o' (sym one.out_is ∙ other.out_is) in
+    subst (λ (n : ℕ). P n e' s' o') contexts (subst (λ (n : ℕ). P c n s' o') events
+    (subst (λ (n : ℕ). P c e n o') seed (subst (P c e s) out holds)))
+
+-- of `entries`
 pub same_entries : (P : Option ℕ → Option ℕ → List ℕ → Type 0) (words : List (List ℕ)) (f c f' c' : Option ℕ) (n n' : List ℕ)
     → IsEntries words f c n → IsEntries words f' c' n' → P f c n → P f' c' n'
 same_entries P words f c f' c' n n' one other holds =

@@ -1,5 +1,5 @@
 -- What is said of words, from what clap found in them.
-use Rattle.std.proofs.Common.{◌≡◌, ◌⊎◌, ◌∙◌, inl, inr, ap, sym, subst, refl, ℕ, suc, ◌<◌, Bool, true, false, ◌&&◌, ◌||◌, List, [], ◌∷◌}
+use Rattle.std.proofs.Common.{◌≡◌, ◌∙◌, ap, sym, subst, refl, ℕ, Bool, true, false, ◌&&◌, ◌||◌, List, [], ◌∷◌}
 use Rattle.std.proofs.Common.{length, arith, codes, Option, Some, None}
 use Rattle.std.specs.Prelude.{IfSome, String, get_or, ◌≤◌, option_map, unwrap_or}
 use Rattle.std.specs.Borrow.{Bor}
@@ -12,9 +12,10 @@ use Rattle.clap.specs.Words.{is_simple_and_free}
 use Rattle.clap.specs.declared.parser.matches.ArgMatches.{ArgMatches}
 use Rattle.clap.proofs.WalkLemmas.{first_value-rows, raw_values-rows}
 use Rattle.nt_words.specs.CommandLine.{texts, app, operand, entries_rules, entries_app, schema_app, is_true_word, number_said, number_found}
-use Rattle.nt_words.specs.CommandLine.{is_flag_found, Begins, IsTaken, word_found, words_found}
-use Rattle.nt_words.specs.WriteWords.{write_rules, write_app, NamesOfWrite, AreApart, IsWrongWrite, is_among}
-use Rattle.nt_words.specs.Commands.{names_of, IsNoCommand, IsWrong}
+use Rattle.nt_words.specs.CommandLine.{is_flag_found, Begins, IsTaken, word_found, words_found, is_among}
+use Rattle.nt_words.specs.WriteWords.{write_rules, write_app, NamesOfWrite}
+use Rattle.nt_words.specs.GenWords.{gen_rules, gen_app}
+use Rattle.nt_words.specs.Commands.{names_of}
 use Rattle.nt_words.specs.Arguments.{ReadsWords}
 
 and_first : (a b : Bool) → (a && b) ≡ true → a ≡ true
@@ -71,39 +72,6 @@ in_range_or low high None other r is within from to = (subst (λ (n : ℕ). low 
 in_range_or low high (Some n) other r is within from to =
     (subst (λ (k : ℕ). low ≤ k) (sym is) within.0, subst (λ (k : ℕ). k ≤ high) (sym is) within.1)
 
--- words that begin with `write` and are wrong
-pub wrong_write : (words : List (List ℕ)) → Begins words (codes "write") → IsWrongWrite words → IsWrong words
-wrong_write words begins why = record {
-  write = λ auto. why;
-  entries = λ other taken. let bad = sym begins ∙ other in cc;
-  schema = λ other taken. let bad = sym begins ∙ other in cc;
-}
-
--- words that begin with `entries` and are wrong
-pub wrong_entries : (words : List (List ℕ)) → Begins words (codes "entries") → (IsTaken entries_app words → ⊥) → IsWrong words
-wrong_entries words begins why = record {
-  write = λ other. let bad = sym begins ∙ other in cc;
-  entries = λ auto. why;
-  schema = λ other taken. let bad = sym begins ∙ other in cc;
-}
-
--- words that begin with `schema` and are wrong
-pub wrong_schema : (words : List (List ℕ)) → Begins words (codes "schema") → (IsTaken schema_app words → ⊥) → IsWrong words
-wrong_schema words begins why = record {
-  write = λ other. let bad = sym begins ∙ other in cc;
-  entries = λ other taken. let bad = sym begins ∙ other in cc;
-  schema = λ auto. why;
-}
-
--- words that begin with none of them
-pub wrong_first : (words : List (List ℕ)) → (Begins words (codes "write") → ⊥) → (Begins words (codes "entries") → ⊥)
-    → (Begins words (codes "schema") → ⊥) → IsWrong words
-wrong_first words no-write no-entries no-schema = record {
-  write = λ begins. absurd (no-write begins);
-  entries = λ begins taken. no-entries begins;
-  schema = λ begins taken. no-schema begins;
-}
-
 -- the first of some words
 pub begins_by : (words : List (String Global)) (first : String Global) (name : List ℕ) → 1 ≤ length words
     → first ≡ get_or words 0 first → string_bytes first ≡ name → Begins (texts words) name
@@ -111,72 +79,11 @@ begins_by [] first name some is same = absurd (omega arith)
 begins_by (x ∷ words) first name some is same = ap (λ (s : String Global). Some (string_bytes s)) (sym is)
     ∙ ap (λ (t : List ℕ). Some t) same
 
-same_some : (o : Option (List ℕ)) (x y : List ℕ) → o ≡ Some x → o ≡ Some y → x ≡ y
-same_some o x y one two = ap (λ (p : Option (List ℕ)). unwrap_or p x) (sym one ∙ two)
-
--- words that are wrong are no command
-pub wrong_is_none : (words : List (List ℕ)) → IsWrong words → IsNoCommand words
-wrong_is_none words wrong = record {
-  no_write = λ out schema inputs p is.
-      elim (wrong.write is.begins) [
-        | inl refuses ↦ refuses is.taken
-        | inr clash ↦
-            let out-is = same_some _ _ _ clash.names.out_is is.names.out_is in
-            let schema-is = same_some _ _ _ clash.names.schema_is is.names.schema_is in
-            let inputs-are = clash.names.inputs_are ∙ sym is.names.inputs_are in
-            clash.clash (subst (λ (o : List ℕ). AreApart o clash.schema clash.inputs) (sym out-is)
-            (subst (λ (s : List ℕ). AreApart out s clash.inputs) (sym schema-is)
-            (subst (λ (l : List (List ℕ)). AreApart out schema l) (sym inputs-are) is.apart)))
-      ];
-  no_entries = λ from count file is. wrong.entries is.begins is.taken;
-  no_schema = λ file is. wrong.schema is.begins is.taken;
-}
-
 -- a name among names, as they were found
 pub among_found : (names : List (Bor (List ℕ))) (name : List ℕ) → list_any (λ other. bytes_eq other.now name) names
     ≡ is_among name (names_of names)
 among_found [] name = refl
 among_found (x ∷ names) name = ap (λ (b : Bool). bytes_eq x.now name || b) (among_found names name)
-
-names_length : (names : List (Bor (List ℕ))) → length (names_of names) ≡ length names
-names_length [] = refl
-names_length (x ∷ names) = ap suc (names_length names)
-
--- names that may be those of `write`
-pub apart_by : (out schema : List ℕ) (inputs : List (Bor (List ℕ))) → 1 ≤ length inputs → length inputs ≤ 64
-    → bytes_eq schema out ≡ false → is_among out (names_of inputs) ≡ false → AreApart out schema (names_of inputs)
-apart_by out schema inputs some few differ none = record {
-  some = subst (λ (n : ℕ). 1 ≤ n) (sym (names_length inputs)) some;
-  few = subst (λ (n : ℕ). n ≤ 64) (sym (names_length inputs)) few;
-  apart = ap (λ (b : Bool). b || is_among out (names_of inputs)) differ ∙ none;
-}
-
--- too few or too many
-pub number_wrong : (out schema : List ℕ) (inputs : List (Bor (List ℕ))) → (length inputs ≡ 0) ⊎ (64 < length inputs)
-    → AreApart out schema (names_of inputs) → ⊥
-number_wrong out schema inputs (inl none) is =
-    let some = is.some in
-    let same = names_length inputs in
-    omega arith
-number_wrong out schema inputs (inr lots) is =
-    let few = is.few in
-    let same = names_length inputs in
-    omega arith
-
--- OUT is SCHEMA, or an input
-pub schema_wrong : (out schema : List ℕ) (inputs : List (List ℕ)) → bytes_eq schema out ≡ true → AreApart out schema inputs → ⊥
-schema_wrong out schema inputs same is =
-    let bad : true ≡ false = sym (ap (λ (b : Bool). b || is_among out inputs) same) ∙ is.apart in
-    cc
-
-or_right : (a b : Bool) → b ≡ true → (a || b) ≡ true
-or_right true b is = refl
-or_right false b is = is
-
-pub input_wrong : (out schema : List ℕ) (inputs : List (List ℕ)) → is_among out inputs ≡ true → AreApart out schema inputs → ⊥
-input_wrong out schema inputs same is =
-    let bad : true ≡ false = sym (or_right (bytes_eq schema out) (is_among out inputs) same) ∙ is.apart in
-    cc
 
 -- the commands, opened
 pub write_is : app (codes "write") write_rules ≡ write_app
@@ -193,6 +100,10 @@ names_by words m out schema inputs rows out-is schema-is inputs-are = record {
   schema_is = found_by write_app words m (codes "SCHEMA") schema rows schema-is;
   inputs_are = all_by write_app words m (codes "IN") inputs rows inputs-are;
 }
+
+pub gen_is : app (codes "gen") gen_rules ≡ gen_app
+unfolding gen_app
+gen_is = refl
 
 pub entries_is : app (codes "entries") entries_rules ≡ entries_app
 unfolding entries_app

@@ -66,16 +66,23 @@ HasNumber low high m id =
     (word : List ℕ) → first_value (found_of m) id ≡ Some word
     → (one_text (found_of m) id ≡ Some word) × IsUnsignedIn low high word
 
+-- a word stands under this name, and is a number
+pub record IsNumberThere (m : ArgMatches) (id : List ℕ) : Type 0 where
+  pub low : ℕ
+  pub high : ℕ
+  pub number : HasNumber low high m id
+  pub there : HasMatch m id
+
 -- a number that was found, in its range, or none where no word was
 abbrev pub IsNumberFound : ℕ → ℕ → Option (List ℕ) → Option ℕ → Type 0
 IsNumberFound low high word number = (number ≡ option_map number_said word) × IfSome number (λ n. (low ≤ n) × (n ≤ high))
 
--- under the limits of `write` stand numbers
+-- under the limits of a file that is written stand numbers
 pub record HasLimits (m : ArgMatches) : Type 0 where
   pub range : HasNumber 1024 (2 ^ 30) m (codes "max-range")
   pub file : HasNumber 1024 (2 ^ 56) m (codes "max-file")
 
--- under each option of `write` with a number stands one
+-- under each option of a command that writes a file, if it has a number, stands one
 pub record HasNumbers (m : ArgMatches) : Type 0 where
   pub cluster : HasNumber 1 1000000 m (codes "cluster")
   pub page : HasNumber 1 1048576 m (codes "page")

@@ -2,6 +2,7 @@
 use Rattle.std.specs.Prelude.{◌≡◌, ℕ, Bool, true, false, List, [], ◌∷◌, codes, map, slice_get, Option, Some, option_map, String}
 use Rattle.std.specs.declared.alloc.Global.{Global}
 use Rattle.std.specs.Option.{option_map_or}
+use Rattle.std.specs.List.{list_any}
 use Rattle.std.specs.String.{string_bytes}
 use Rattle.std.specs.Str.{bytes_eq}
 use Rattle.std.specs.Str.Parse.{digits_value, without_leading_plus}
@@ -26,6 +27,10 @@ operands id = record (new_rule id) {
   action = Some Append;
   range = Some (record { start_inclusive = 1; end_inclusive = usize_max });
 }
+
+-- an argument that is read by its place, has to be there, and is a number from one to another
+abbrev pub number_operand : List ℕ → ℕ → ℕ → Rule
+number_operand id low high = record (new_rule id) { required = true; action = Some Set; parser = Some (Unsigned low high) }
 
 -- an option whose value is a number from one to another
 abbrev pub number_option : List ℕ → ℕ → ℕ → Rule
@@ -90,6 +95,10 @@ is_true_word word = option_map_or (λ w. bytes_eq w (codes "true")) word false
 -- clap finds the flag of this name
 abbrev pub is_flag_found : App → List (List ℕ) → List ℕ → Bool
 is_flag_found a words id = is_true_word (word_found a words id)
+
+-- a name is one of some names
+abbrev pub is_among : List ℕ → List (List ℕ) → Bool
+is_among name names = list_any (λ other. bytes_eq other name) names
 
 -- `entries [--from A] [--count C] FILE`, as clap reads it: from and count are none where the words don't say them
 pub record IsEntries (words : List (List ℕ)) (from count : Option ℕ) (file : List ℕ) : Type 0 where

@@ -1,4 +1,6 @@
 pub mod CommandLine
+pub mod Options
 pub mod WriteWords
+pub mod GenWords
 pub mod Commands
 pub mod Arguments

@@ -2,9 +2,9 @@
 
 ghost use Rattle.std.specs.Prelude.{◌≡◌, ℕ, true, List, [], Some, option_map, unwrap_or, IfOk, IfSome};
 ghost use Rattle.clap.specs.Words.{app_of, is_simple_and_free, first_value, found_of, matched_of, raw_values, IsParsedFrom};
-ghost use Rattle.nt_words.specs.CommandLine.{texts, operand, operands, number_option, flag, is_true_word};
+ghost use Rattle.nt_words.specs.CommandLine.{texts, operand, operands, number_operand, number_option, flag, is_true_word, is_among};
 ghost use Rattle.nt_words.specs.Commands.{names_of};
-ghost use Rattle.nt_words.specs.Arguments.{IsArg, IsCommandOf, HasMatch, HasNumber, IsNumberFound, ReadsWords};
+ghost use Rattle.nt_words.specs.Arguments.{IsArg, IsCommandOf, HasMatch, HasNumber, IsNumberThere, IsNumberFound, ReadsWords};
 
 use clap::builder::ValueParser;
 use clap::error::ErrorKind;
@@ -26,6 +26,13 @@ pub(crate) fn operands<'a>(alloc: Global, id: &'a str) -> Arg<'a>
         .required(true)
         .num_args(1..)
         .action(ArgAction::Append)
+}
+
+/// An argument that is read by its place, has to be there, and is a number from one to another.
+pub(crate) fn number_operand<'a>(alloc: Global, id: &'a str, low: u64, high: u64) -> Arg<'a>
+    ensures { IsArg (number_operand id.entry.now low high) result }
+{
+    operand(alloc, id).value_parser(ValueParser::unsigned(low, high))
 }
 
 /// An option whose value is a number from one to another.
@@ -107,6 +114,25 @@ pub(crate) fn number_in(matches: &ArgMatches<'_>, id: &str) -> Option<u64>
         → IsNumberFound low high (first_value (found_of matches.now) id.now) result }
 {
     matches.get_one::<u64>(id)
+}
+
+/// The number that was found under the name of an operand.
+pub(crate) fn operand_number(matches: &ArgMatches<'_>, id: &str) -> u64
+    requires { IsNumberThere matches.now id.now }
+    ensures { (low high : ℕ) → HasNumber low high matches.now id.now
+        → IsNumberFound low high (first_value (found_of matches.now) id.now) (Some result) }
+{
+    match number_in(matches, id) {
+        Some(number) => number,
+        None => unreachable!(),
+    }
+}
+
+/// Whether a name is one of these.
+pub(crate) fn is_among(name: &str, names: &[&str]) -> bool
+    ensures { result ≡ is_among name.now (names_of names.now) }
+{
+    names.contains(&name)
 }
 
 /// Whether a flag was found.

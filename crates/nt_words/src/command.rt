@@ -4,6 +4,8 @@ ghost use Rattle.std.specs.Prelude.{ℕ, List, IfOk};
 ghost use Rattle.nt_words.specs.CommandLine.{texts};
 ghost use Rattle.nt_words.specs.Commands.{Says, IsNoCommand, IsWrong};
 
+use crate::gen_words::GenWords;
+use crate::generate::gen_of;
 use crate::show::{entries_of, schema_of};
 use crate::write::{WriteWords, write_of};
 use std::alloc::{AllocError, Global};
@@ -12,6 +14,7 @@ use std::alloc::{AllocError, Global};
 #[derive(Drop)]
 pub enum Command<'a> {
     Write(WriteWords<'a>),
+    Gen(GenWords<'a>),
     /// The entries from `from` on, and at most `count` of them, where the words say so.
     Entries {
         from: Option<u64>,
@@ -30,6 +33,7 @@ pub fn command_of<'a>(alloc: Global, words: &'a [String]) -> Result<Command<'a>,
 {
     match words {
         [first, ..] if first.as_str() == "write" => write_of(alloc, words),
+        [first, ..] if first.as_str() == "gen" => gen_of(alloc, words),
         [first, ..] if first.as_str() == "entries" => entries_of(alloc, words),
         [first, ..] if first.as_str() == "schema" => schema_of(alloc, words),
         _ => Ok(Command::Unknown),

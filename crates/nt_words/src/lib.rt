@@ -1,21 +1,26 @@
 //! The words of the command line: which command they say, its names and its numbers, as clap reads them.
 //!
-//! Start at `command.rt` (`command_of`). `write.rt` has the words of `write`, `show.rt` those of `entries` and `schema`, and
-//! `arguments.rt` what they share: arguments and commands of clap's, and what it finds.
+//! Start at `command.rt` (`command_of`). `write.rt` and `generate.rt` have the words of the commands that write a file,
+//! `show.rt` those of `entries` and `schema`; `options.rt` has the options of a command that writes a file, and `arguments.rt` what
+//! all share: arguments and commands of clap's, and what it finds.
 //!
 //! Words: what clap *finds* under a name is what its matches have there; it *takes* the words of a command that it doesn't refuse.
 //!
 //! Proved: words are the command that `command_of` answers exactly as clap's definition of simple commands reads them, and `Unknown`
 //! only where the first word is no command, clap refuses the others for another cause than memory, `write` has no or too many
-//! inputs, or its OUT has the name of a text that is read.
+//! inputs, or its OUT has the name of a text that is read. The numbers of `gen` lie in their ranges (`GenWords`).
 //!
 //! A choice that binds nobody else: that there are no inputs is looked at once more, though clap refuses that by itself.
 #![tactic(auto)]
 
 mod arguments;
 mod command;
+mod gen_words;
+mod generate;
+mod options;
 mod show;
 mod write;
 
 pub use command::{Command, command_of, wrong_words_are_no_command};
+pub use gen_words::GenWords;
 pub use write::WriteWords;

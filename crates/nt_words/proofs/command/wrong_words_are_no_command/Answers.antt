@@ -1,4 +1,4 @@
-use Rattle.nt_words.proofs.Spoken.{wrong_is_none}
+use Rattle.nt_words.proofs.Wrong.{wrong_is_none}
 use Rattle.nt_words.proofs.command.wrong_words_are_no_command.Goals as goal
 
 pub returns : goal.returns

@@ -3,7 +3,8 @@ use Rattle.clap.specs.Words.{app_of, IsParsedFrom}
 use Rattle.nt_words.specs.CommandLine.{texts, entries_rules, entries_app}
 use Rattle.nt_words.proofs.Found.{own_by, operand_there}
 use Rattle.nt_words.proofs.Numbers.{number_there}
-use Rattle.nt_words.proofs.Spoken.{held, reads_of, refused_of, wrong_entries, entries_is, found_by, number_by}
+use Rattle.nt_words.proofs.Spoken.{held, reads_of, refused_of, entries_is, found_by, number_by}
+use Rattle.nt_words.proofs.Wrong.{wrong_entries}
 use Rattle.nt_words.proofs.show.entries_of.Goals as goal
 
 pub name_in-requires : goal.name_in-requires

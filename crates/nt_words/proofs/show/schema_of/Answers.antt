@@ -2,7 +2,8 @@ use Rattle.std.proofs.Common.{◌∙◌, codes, refl, [], ◌∷◌}
 use Rattle.clap.specs.Words.{app_of, IsParsedFrom}
 use Rattle.nt_words.specs.CommandLine.{texts, operand, schema_app}
 use Rattle.nt_words.proofs.Found.{own_by, operand_there}
-use Rattle.nt_words.proofs.Spoken.{held, reads_of, refused_of, wrong_schema, schema_is, found_by}
+use Rattle.nt_words.proofs.Spoken.{held, reads_of, refused_of, schema_is, found_by}
+use Rattle.nt_words.proofs.Wrong.{wrong_schema}
 use Rattle.nt_words.proofs.show.schema_of.Goals as goal
 
 pub name_in-requires : goal.name_in-requires

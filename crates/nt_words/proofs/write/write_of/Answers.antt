@@ -1,12 +1,13 @@
-use Rattle.std.proofs.Common.{◌≡◌, ◌∙◌, ap, subst, codes, refl, inl, inr, rules, ℕ, List, ◌^◌}
+use Rattle.std.proofs.Common.{◌≡◌, ◌∙◌, ap, subst, codes, refl, inl, inr, rules, ℕ, List, [], ◌∷◌}
 use Rattle.std.specs.Borrow.{Bor}
 use Rattle.clap.specs.Words.{app_of, IsParsedFrom}
-use Rattle.nt_words.specs.CommandLine.{texts}
+use Rattle.nt_words.specs.CommandLine.{texts, operand, operands}
 use Rattle.nt_words.specs.WriteWords.{write_app, write_rules, AreApart}
 use Rattle.nt_words.specs.Commands.{names_of}
 use Rattle.nt_words.proofs.Found.{own_by, operand_there}
-use Rattle.nt_words.proofs.Numbers.{number_there}
-use Rattle.nt_words.proofs.Spoken.{held, reads_of, refused_of, write_is, names_by, wrong_write}
+use Rattle.nt_words.proofs.Settings.{numbers_there}
+use Rattle.nt_words.proofs.Spoken.{held, reads_of, refused_of, write_is, names_by}
+use Rattle.nt_words.proofs.Wrong.{wrong_write}
 use Rattle.nt_words.proofs.write.write_of.Goals as goal
 
 pub returns-in_default : goal.returns-in_default
@@ -28,18 +29,10 @@ name_in-schema-requires c =
 
 pub params_in-requires : goal.params_in-requires
 params_in-requires c =
-    let is = c.in_ok-write_command.ensures in
-    let parsed = held (IsParsedFrom c.in_ok-write_command.field-0) _ c.in-Some.matches c.in-Some.is c.in_ok-matches.ensures.parsed in
-    let there = number_there (codes "write") write_rules c.in_ok-write_command.field-0 c.in-Some.matches in
-    record {
-      cluster = there 0 1 1000000 (codes "cluster") (own_by (codes "cluster") refl refl refl) is refl refl parsed;
-      page = there 1 1 1048576 (codes "page") (own_by (codes "page") refl refl refl) is refl refl parsed;
-      group = there 2 1 10000 (codes "group") (own_by (codes "group") refl refl refl) is refl refl parsed;
-      limits = record {
-        range = there 4 1024 (2 ^ 30) (codes "max-range") (own_by (codes "max-range") refl refl refl) is refl refl parsed;
-        file = there 5 1024 (2 ^ 56) (codes "max-file") (own_by (codes "max-file") refl refl refl) is refl refl parsed;
-      };
-    }
+    numbers_there (codes "write") (operand (codes "OUT") ∷ operand (codes "SCHEMA") ∷ operands (codes "IN") ∷ [])
+    c.in_ok-write_command.field-0 c.in-Some.matches c.in_ok-write_command.ensures
+    (record { cluster = refl; page = refl; group = refl; range = refl; file = refl })
+    (held (IsParsedFrom c.in_ok-write_command.field-0) _ c.in-Some.matches c.in-Some.is c.in_ok-matches.ensures.parsed)
 
 pub returns-then-not-are_apart : goal.returns-then-not-are_apart
 returns-then-not-are_apart c =
@@ -67,7 +60,7 @@ returns c =
       taken = read.0;
       names = names_by words c.in-Some.matches c.name_in-out.result.now c.name_in-schema.result.now
           (names_of c.in_ok-inputs.inputs.items) read.1 c.name_in-out.ensures c.name_in-schema.ensures c.in_ok-inputs.ensures;
-      params = c.params_in.ensures words read.1;
+      params = c.params_in.ensures write_app words read.1;
       apart = subst (λ (l : List (Bor (List ℕ))). AreApart c.name_in-out.result.now c.name_in-schema.result.now (names_of l)) items
           c.if-not-are_apart.ensures;
     }

@@ -3,11 +3,11 @@ use Rattle.std.proofs.lemmas.Result.{IfOk-weaker}
 use Rattle.clap.specs.Words.{Rule}
 use Rattle.nt_words.specs.CommandLine.{number_option, flag}
 use Rattle.nt_words.proofs.Kept.{one_more}
-use Rattle.nt_words.proofs.write.options.Goals as goal
+use Rattle.nt_words.proofs.options.with_options.Goals as goal
 
 pub returns : goal.returns
 returns c =
-    let name : List ℕ = codes "write" in
+    let name : List ℕ = c.args.name.now in
     let cluster : Rule = number_option (codes "cluster") 1 1000000 in
     let page : Rule = number_option (codes "page") 1 1048576 in
     let group : Rule = number_option (codes "group") 1 10000 in

@@ -1,8 +1,7 @@
 use Rattle.std.proofs.Common.{◌≡◌, codes, ◌^◌, ◌∙◌, ap, arith, Option, ℕ, true, false}
 use Rattle.std.specs.Prelude.{unwrap_or}
-use Rattle.nt_words.specs.WriteWords.{write_app}
 use Rattle.nt_words.proofs.Spoken.{number_by, in_range_or}
-use Rattle.nt_words.proofs.write.limits_in.Goals as goal
+use Rattle.nt_words.proofs.options.limits_in.Goals as goal
 
 pub unreachable-requires : goal.unreachable-requires
 unreachable-requires c =
@@ -14,13 +13,13 @@ unreachable-requires c =
     cc
 
 pub returns : goal.returns
-returns c = λ words rows.
+returns c = λ a words rows.
     let m = c.args.matches.now in
     record {
       range = c.in-Some.ensures.some.0 ∙ (c.unwrap_or-range.ensures ∙ ap (λ (o : Option ℕ). unwrap_or o (2 ^ 30))
-          (number_by write_app words m (codes "max-range") c.number_in.result rows (c.number_in.ensures 1024 (2 ^ 30) c.requires.range).0));
+          (number_by a words m (codes "max-range") c.number_in.result rows (c.number_in.ensures 1024 (2 ^ 30) c.requires.range).0));
       file = c.in-Some.ensures.some.1 ∙ (c.unwrap_or-file.ensures ∙ ap (λ (o : Option ℕ). unwrap_or o (2 ^ 40))
-          (number_by write_app words m (codes "max-file") c.number_in-2.result rows
+          (number_by a words m (codes "max-file") c.number_in-2.result rows
           (c.number_in-2.ensures 1024 (2 ^ 56) c.requires.file).0));
       clusters = c.in-Some.ensures.some.2;
     }
