@@ -1,0 +1,42 @@
+-- What the making of a file leaves of a host.
+use Rattle.std.specs.Prelude.{◌≡◌, ◌⊎◌, ℕ, List, [], ◌∷◌, ◌++◌, Some, Result, Ok, Err}
+use Rattle.nt_outside.specs.World.{World, Out, File, HostState}
+use Rattle.nt_book.specs.declared.params.Params.{Params}
+use Rattle.nt_gen.specs.declared.making.Making.{Making}
+use Rattle.nt_store.specs.Worlds.{AsksFor, KeepsFiles, OthersStay, MakesDisk, IsLeftOpen, LeavesOpen, WritesInOrder}
+use Rattle.nt_generate.specs.declared.error.GenerateError.{GenerateError}
+use Rattle.nt_generate.specs.declared.error.GenerateError.TheVariants.{Outside, Memory, Limit, Defect}
+use Rattle.nt_generate.specs.Made.{made_lines, PassesMade}
+use Rattle.nt_generate.specs.Leaving.{IsServed, IsWhole, IsMadeByFailure, MadeCrashTold}
+
+-- out gained the front of the lines
+pub record GainsMadeFront (p : Params) (m : Making) (w w' : World) : Type 0 where
+  pub printed : List ℕ
+  pub left : List ℕ
+  pub out : w'.out ≡ w.out ++ printed
+  pub lines : made_lines p m ≡ printed ++ left
+
+-- where want of memory leaves the files: as before, or, once a disk was made, with one that is open or whole
+abbrev pub IsMadeByMemory : Params → Making → List ℕ → World → World → Type 0
+IsMadeByMemory p m name w w' = KeepsFiles w w' ⊎ (MakesDisk name w w' × (IsLeftOpen name w' ⊎ IsWhole p m name w'))
+
+-- what is left, by the answer: that the file read back has a fault never comes
+abbrev pub GenerateTold : List ℕ → Params → Making → World → World → Result Unit GenerateError → Type 0
+GenerateTold name p m w w' (Ok done) = MakesDisk name w w' × IsWhole p m name w' × (w'.out ≡ w.out ++ made_lines p m)
+GenerateTold name p m w w' (Err Outside) = IsMadeByFailure p m name w w' × GainsMadeFront p m w w'
+GenerateTold name p m w w' (Err Memory) = IsMadeByMemory p m name w w' × GainsMadeFront p m w w'
+GenerateTold name p m w w' (Err (Limit reached most)) = PassesMade p m reached most × LeavesOpen name w w' × (w'.out ≡ w.out)
+GenerateTold name p m w w' (Err (Defect e)) = ⊥
+
+-- a file is made and read back, or why not
+pub record Generates (name : List ℕ) (p : Params) (m : Making) (old new : HostState) (result : Result Unit GenerateError) : Type 0 where
+  -- where the host tells what it holds
+  pub told : (w : World) → old.world ≡ Some w
+      → (w' : World) × (new.world ≡ Some w') × (w'.err ≡ w.err) × OthersStay name w w' × GenerateTold name p m w w' result
+  -- where the file was begun, its first byte came only when all the rest stayed
+  pub order : WritesInOrder name old.world new.world
+  -- and a crash leaves it unfinished or whole
+  pub crash : MadeCrashTold name p m old.world new.world result
+  pub asked : AsksFor (Out name ∷ File name ∷ []) old.asked new.asked result
+  -- the outside is blamed only where it failed, and each object that was opened came back
+  pub served : IsServed old new result

@@ -1,0 +1,5 @@
+pub mod Made
+pub mod Errors
+pub mod Writing
+pub mod Leaving
+pub mod Generated

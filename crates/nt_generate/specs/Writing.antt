@@ -1,0 +1,58 @@
+-- What the writing of events that are made leaves of a disk.
+use Rattle.std.specs.Prelude.{◌≡◌, ◌⊎◌, ℕ, ◌<◌, List, Option, Some, Result, Ok, Err, IsErrOf}
+use Rattle.nt_types.specs.ShapeData.{MemberData}
+use Rattle.nt_outside.specs.Log.{Step}
+use Rattle.nt_outside.specs.Order.{BeginsOpen}
+use Rattle.nt_outside.specs.Source.{SourceState}
+use Rattle.nt_outside.specs.Held.{Held, nothing_held}
+use Rattle.nt_outside.specs.Disk.{DiskState}
+use Rattle.nt_grammar.specs.Table.{Table}
+use Rattle.nt_book.specs.declared.params.Params.{Params}
+use Rattle.nt_book.specs.Books.{BookData}
+use Rattle.nt_contexts.specs.Contexts.{TellTexts}
+use Rattle.nt_crash.specs.Cuts.{LeavesUnfinished, LeavesUnfinishedOr, LeavesOnly}
+use Rattle.nt_gen.specs.declared.making.Making.{Making}
+use Rattle.nt_gen.specs.Events.{event_fields}
+use Rattle.nt_store.specs.Writing.{HoldsNow, NeverBegan, IsInOrderFrom, KeepsOrder, IsEmptyDisk}
+use Rattle.nt_store.specs.Filling.{IsFilledFile}
+use Rattle.nt_generate.specs.declared.error.GenerateError.{GenerateError}
+use Rattle.nt_generate.specs.declared.error.GenerateError.TheVariants.{Outside, Memory, Limit, Defect}
+use Rattle.nt_generate.specs.Made.{made_texts, IsMade, IsMadeFile, PassesMade}
+
+-- what is made may be written: these fields, and the text of each context, on an empty disk
+pub record MayWriteMade (fields : List MemberData) (m : Making) (sources : List SourceState) (disk : DiskState) : Type 0 where
+  pub fields_are : fields ≡ event_fields
+  pub texts : TellTexts sources (made_texts m)
+  pub empty : IsEmptyDisk disk
+
+-- what is left, by the answer, which names the order of the commits
+abbrev pub WriteLeaves : {V : Type 0} → (V → List ℕ) → Params → Making → Option Held → Result V GenerateError → Type 0
+WriteLeaves order p m held (Ok made) = HoldsNow held (λ h. IsMade p m (order made) h.image)
+WriteLeaves order p m held (Err Outside) = HoldsNow held (λ h. BeginsOpen h.image ⊎ NeverBegan h ⊎ IsMadeFile p m h.image)
+WriteLeaves order p m held (Err Memory) = HoldsNow held (λ h. BeginsOpen h.image)
+WriteLeaves order p m held (Err (Limit reached most)) = PassesMade p m reached most × HoldsNow held (λ h. BeginsOpen h.image)
+WriteLeaves order p m held (Err (Defect e)) = ⊥
+
+-- behind the first sync what is unfinished is left; the whole only once the first byte is written over; behind all steps of Ok just that
+abbrev pub MadeCrash : {V : Type 0} → (List ℕ → Type 0) → List Step → Result V GenerateError → Type 0
+MadeCrash Whole log (Ok made) = LeavesUnfinishedOr Whole log × LeavesOnly Whole log
+MadeCrash Whole log (Err Outside) = LeavesUnfinishedOr Whole log
+MadeCrash Whole log (Err Memory) = LeavesUnfinishedOr Whole log
+MadeCrash Whole log (Err (Limit reached most)) = LeavesUnfinished log
+MadeCrash Whole log (Err (Defect e)) = LeavesUnfinishedOr Whole log
+
+-- what is made was written on a disk, or why not
+pub record WritesMade {V : Type 0} (order : V → List ℕ) (p : Params) (m : Making) (old new : DiskState) (result : Result V GenerateError) :
+    Type 0 where
+  pub left : old.held ≡ Some nothing_held → WriteLeaves order p m new.held result
+  pub order_kept : IsInOrderFrom nothing_held old.held new.held
+  pub crash : old.held ≡ Some nothing_held → HoldsNow new.held (λ h. MadeCrash (IsMadeFile p m) h.log result)
+  pub failed : IsErrOf result Outside → 0 < new.faults
+
+-- a file that was filled with what is made was closed, or why not
+pub record ClosesMade {V : Type 0} (order : V → List ℕ) (t : Table) (p : Params) (m : Making) (book : BookData) (old new : DiskState)
+    (result : Result V GenerateError) : Type 0 where
+  pub left : (h : Held) → old.held ≡ Some h → IsFilledFile event_fields p (made_texts m) t book h
+      → WriteLeaves order p m new.held result × HoldsNow new.held (λ h'. MadeCrash (IsMadeFile p m) h'.log result)
+  pub order_kept : KeepsOrder old.held new.held
+  pub failed : IsErrOf result Outside → 0 < new.faults
