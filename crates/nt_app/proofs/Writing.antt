@@ -68,7 +68,7 @@ whole_after o s is p w v err told = record {
   printed = told.printed;
 }
 
-left_after : (o : List ℕ) (w v : World) (err : List ℕ) → IsLeftByFailure o w v → IsLeftByFailure o w (record v { err = err })
+pub left_after : (o : List ℕ) (w v : World) (err : List ℕ) → IsLeftByFailure o w v → IsLeftByFailure o w (record v { err = err })
 left_after o w v err (inl kept) = inl kept
 left_after o w v err (inr (made, inl unfinished)) = inr (made, inl unfinished)
 left_after o w v err (inr (made, inr never)) = inr (
@@ -119,7 +119,7 @@ texts_are (x ∷ xs) (y ∷ ys) same =
     let head = both.0 in
     cc
 
-same_fields : (found : Option (List ℕ)) (fields fields' : List MemberData) → IsThereWith (λ text. schema_text text ≡ Ok fields) found
+pub same_fields : (found : Option (List ℕ)) (fields fields' : List MemberData) → IsThereWith (λ text. schema_text text ≡ Ok fields) found
     → IsThereWith (λ text. schema_text text ≡ Ok fields') found → fields ≡ fields'
 same_fields None fields fields' one other = absurd one
 same_fields (Some text) fields fields' one other = fields_are fields fields' (sym one ∙ other)
@@ -133,7 +133,7 @@ same_texts w s is f f' ts ts' P one other holds =
     subst (λ (l : List (List ℕ)). P f' l) texts (subst (λ (l : List MemberData). P l ts) fields holds)
 
 -- a schema text has fields or a first fault
-not_both : (fields : List MemberData) (line : ℕ) (kind : SchemaKind) (found : Option (List ℕ))
+pub not_both : (fields : List MemberData) (line : ℕ) (kind : SchemaKind) (found : Option (List ℕ))
     → IsThereWith (λ text. schema_text text ≡ Ok fields) found
     → IsThereWith (λ text. schema_text text ≡ Err (at_line line kind)) found → ⊥
 not_both fields line kind found one other =
@@ -143,7 +143,7 @@ not_both fields line kind found one other =
 fault_is : (x y : SchemaFault) → ◌≡◌ {A = Result (List MemberData) SchemaFault} (Err x) (Err y) → x ≡ y
 fault_is x y e = cc
 
-same_fault : (line line' : ℕ) (kind kind' : SchemaKind) (found : Option (List ℕ))
+pub same_fault : (line line' : ℕ) (kind kind' : SchemaKind) (found : Option (List ℕ))
     → IsThereWith (λ text. schema_text text ≡ Err (at_line line kind)) found
     → IsThereWith (λ text. schema_text text ≡ Err (at_line line' kind')) found
     → status.Text None line (fault.Schema kind) ≡ status.Text None line' (fault.Schema kind')

@@ -2,4 +2,5 @@ pub mod Statuses
 pub mod Reports
 pub mod Shows
 pub mod Writes
+pub mod Gens
 pub mod Runs

@@ -1,11 +1,13 @@
 -- What the program does to a host, whole: the command, and then its message on err.
-use Rattle.std.specs.Prelude.{⊤, ◌≡◌, ◌⊎◌, ℕ, List, Option, Some, unwrap_or}
+use Rattle.std.specs.Prelude.{⊤, ◌≡◌, ◌⊎◌, ℕ, List, codes, Option, Some, unwrap_or}
 use Rattle.nt_outside.specs.World.{World, HostState}
 use Rattle.nt_book.specs.declared.params.Params.{Params}
+use Rattle.nt_gen.specs.declared.making.Making.{Making}
 use Rattle.nt_show.specs.declared.entry_range.EntryRange.{EntryRange}
 use Rattle.nt_show.specs.Shown.{entries_shown, fields_shown}
-use Rattle.nt_words.specs.CommandLine.{IsEntries, IsSchemaCommand}
+use Rattle.nt_words.specs.CommandLine.{Begins, IsEntries, IsSchemaCommand}
 use Rattle.nt_words.specs.WriteWords.{IsWrite}
+use Rattle.nt_words.specs.GenWords.{IsGen}
 use Rattle.nt_words.specs.Commands.{IsNoCommand, IsWrong}
 use Rattle.nt_store.specs.Worlds.{KeepsFiles}
 use Rattle.nt_app.specs.declared.status.Status.{Status}
@@ -14,6 +16,7 @@ use Rattle.nt_app.specs.Statuses.{message_of}
 use Rattle.nt_app.specs.Reports.{SaysOnErr}
 use Rattle.nt_app.specs.Shows.{ShowsNamed, Shows}
 use Rattle.nt_app.specs.Writes.{WritesNamed, RunsWrite}
+use Rattle.nt_app.specs.Gens.{IsMakingOf, GenNamed, RunsGen}
 
 -- the words were no command, which is said unless memory runs out: nothing was asked for, no disk was made, and no file changed
 pub record RefusesWords (old new : HostState) (answer : Status) : Type 0 where
@@ -40,18 +43,26 @@ RunsSchema name old new answer = Shows fields_shown name old new answer
 abbrev pub SayWriting : List (List ℕ) → Type 0
 SayWriting words = (out schema : List ℕ) × (inputs : List (List ℕ)) × (p : Params) × IsWrite words out schema inputs p
 
+-- the words are `gen ..`
+abbrev pub SayMaking : List (List ℕ) → Type 0
+SayMaking words = (contexts events seed : ℕ) × (out : List ℕ) × IsGen words contexts events seed out
+
 -- the words are `entries ..` or `schema ..`
 abbrev pub SayReading : List (List ℕ) → Type 0
 SayReading words =
     ((from count : Option ℕ) × (name : List ℕ) × IsEntries words from count name) ⊎ ((name : List ℕ) × IsSchemaCommand words name)
 
+-- the first word is that of a command that has contexts: `write` or `gen`
+abbrev pub HasContexts : List (List ℕ) → Type 0
+HasContexts words = Begins words (codes "write") ⊎ Begins words (codes "gen")
+
 -- each answer comes of some commands alone, and `Usage` of words that are wrong
 abbrev pub IsAnswerTo : List (List ℕ) → Status → Type 0
-IsAnswerTo words status.Done = SayWriting words ⊎ SayReading words
+IsAnswerTo words status.Done = SayWriting words ⊎ SayMaking words ⊎ SayReading words
 IsAnswerTo words status.Usage = IsWrong words
-IsAnswerTo words (status.File fault) = SayReading words
-IsAnswerTo words status.Outside = SayWriting words ⊎ SayReading words
-IsAnswerTo words (status.Limit reached limit) = SayWriting words
+IsAnswerTo words (status.File fault) = SayMaking words ⊎ SayReading words
+IsAnswerTo words status.Outside = SayWriting words ⊎ SayMaking words ⊎ SayReading words
+IsAnswerTo words (status.Limit reached limit) = SayWriting words ⊎ SayMaking words
 IsAnswerTo words (status.Text input number kind) = SayWriting words
 IsAnswerTo words status.Memory = ⊤
 
@@ -59,6 +70,8 @@ IsAnswerTo words status.Memory = ⊤
 pub record Obeys (words : List (List ℕ)) (old new : HostState) (answer : Status) : Type 0 where
   pub write : (out schema : List ℕ) (inputs : List (List ℕ)) (p : Params) → IsWrite words out schema inputs p
       → WritesNamed out schema inputs p old new answer
+  pub gen : (contexts events seed : ℕ) (out : List ℕ) → IsGen words contexts events seed out
+      → GenNamed contexts events seed out old new answer
   pub entries : (from count : Option ℕ) (name : List ℕ) → IsEntries words from count name
       → ShowsNamed (entries_shown (range_said from count)) name old new answer
   pub schema : (name : List ℕ) → IsSchemaCommand words name → ShowsNamed fields_shown name old new answer
@@ -69,6 +82,8 @@ pub record Obeys (words : List (List ℕ)) (old new : HostState) (answer : Statu
 pub record Runs (words : List (List ℕ)) (old new : HostState) (answer : Status) : Type 0 where
   pub write : (out schema : List ℕ) (inputs : List (List ℕ)) (p : Params) → IsWrite words out schema inputs p
       → RunsWrite out schema inputs p old new answer
+  pub gen : (contexts events seed : ℕ) (out : List ℕ) → IsGen words contexts events seed out
+      → (p : Params) (m : Making) → IsMakingOf contexts events seed p m → RunsGen out p m old new answer
   pub entries : (from count : Option ℕ) (name : List ℕ) → IsEntries words from count name → RunsEntries from count name old new answer
   pub schema : (name : List ℕ) → IsSchemaCommand words name → RunsSchema name old new answer
   pub usage : IsNoCommand words → RefusesWords old new answer

@@ -1,9 +1,9 @@
-//! The commands of the program over any host: `write` makes an RNTuple file of a schema text and event texts, `entries` prints the
-//! entries of any file, and `schema` its fields. All that is promised of the program is said of the one call `run`.
+//! The commands of the program over any host: `write` makes an RNTuple file of a schema text and event texts, `gen` of events
+//! that it makes; `entries` prints the entries of any file, and `schema` its fields. All that is promised of the program is said of the one call `run`.
 //!
-//! Start at `program.rt`: `run`, and `run_alone` of those commands that wait for nobody. `write.rt` and `show.rt` are the commands,
-//! `status.rt` and `message.rt` the answers and their lines. The words are read by nt_words, a file is written by nt_store, and what
-//! is read of one is shown by nt_show.
+//! Start at `program.rt`: `run`, and `run_alone` of those commands that wait for nobody. `write.rt`, `generate.rt` and `show.rt`
+//! are the commands, `status.rt` and `message.rt` the answers and their lines. The words are read by nt_words, a file is
+//! written by nt_store and nt_generate, and what is read of one is shown by nt_show.
 //!
 //! Words: `run` *reports* an answer where it prints its line on err; a status is *an answer to* words that may be answered so
 //! (`specs/Runs.antt`).
@@ -12,6 +12,7 @@
 //! answer with its line, and each call of the outside failing in turn.
 #![tactic(auto)]
 
+mod generate;
 mod message;
 mod program;
 mod show;

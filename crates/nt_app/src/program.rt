@@ -1,15 +1,12 @@
 //! The top calls.
 
-ghost use Rattle.std.specs.Prelude.{◌≡◌, List, ℕ, codes, true, false, Option, None, IfSome};
-ghost use Rattle.nt_book.specs.declared.params.Params.{Params};
-ghost use Rattle.nt_words.specs.CommandLine.{texts, Begins, IsEntries, IsSchemaCommand};
-ghost use Rattle.nt_words.specs.WriteWords.{IsWrite};
-ghost use Rattle.nt_words.specs.Commands.{IsNoCommand};
+ghost use Rattle.std.specs.Prelude.{◌≡◌, true, false, None, IfSome};
+ghost use Rattle.nt_words.specs.CommandLine.{texts};
 ghost use Rattle.nt_app.specs.Statuses.{message_of};
 ghost use Rattle.nt_app.specs.Reports.{Reports};
-ghost use Rattle.nt_app.specs.Writes.{RunsWrite};
-ghost use Rattle.nt_app.specs.Runs.{Obeys, Runs, RefusesWords, RunsEntries, RunsSchema, IsAnswerTo};
+ghost use Rattle.nt_app.specs.Runs.{HasContexts, Obeys, Runs};
 
+use crate::generate::make;
 use crate::message::message_of;
 use crate::show::{entries, schema};
 use crate::status::Status;
@@ -29,20 +26,20 @@ fn report<H: Host>(host: &mut H, status: &Status)
     let _ = print_all(host, Stream::ToErr, line.as_str().as_bytes());
 }
 
-/// Whether the first word is `write`.
-fn is_write(words: &[String]) -> bool
-    ensures yes { result ≡ true → Begins (texts words.now) (codes "write") }
-    ensures no { result ≡ false → Begins (texts words.now) (codes "write") → ⊥ }
+/// Whether the first word is that of a command that has contexts.
+fn has_contexts(words: &[String]) -> bool
+    ensures yes { result ≡ true → HasContexts (texts words.now) }
+    ensures no { result ≡ false → HasContexts (texts words.now) → ⊥ }
 {
     match words {
-        [first, ..] => first.as_str() == "write",
+        [first, ..] => first.as_str() == "write" || first.as_str() == "gen",
         [] => false,
     }
 }
 
-/// Does what words say that don't begin with `write`.
-fn show<H: Host>(alloc: Global, words: &[String], host: &mut H) -> Status
-    requires { Begins (texts words.now) (codes "write") → ⊥ }
+/// Does what words say whose command has no contexts.
+fn do_alone<H: Host>(alloc: Global, words: &[String], host: &mut H) -> Status
+    requires { HasContexts (texts words.now) → ⊥ }
     ensures { Obeys (texts words.entry.now) (H.state host.old) (H.state host.new) result }
 {
     let Ok(command) = command_of(alloc, words) else {
@@ -55,12 +52,18 @@ fn show<H: Host>(alloc: Global, words: &[String], host: &mut H) -> Status
         }
         Command::Schema { file } => schema(alloc, host, file),
         Command::Unknown => Status::Usage,
-        Command::Write(_) => unreachable!(),
+        Command::Write(_) | Command::Gen(_) => unreachable!(),
     }
 }
 
-/// Does what words say that begin with `write`.
-fn write_by<R, H, G>(rt: &R, alloc: Global, words: &[String], host: &mut H, gate: &G) -> Status
+/// Does what words say whose command has contexts.
+fn do_with_contexts<R, H, G>(
+    rt: &R,
+    alloc: Global,
+    words: &[String],
+    host: &mut H,
+    gate: &G,
+) -> Status
 where
     R: Threads + Wait + Sync,
     H: Host,
@@ -69,7 +72,7 @@ where
     <H::Out as Disk>::Pen: Send,
     <H::Out as Disk>::Ext: Send,
     G: Gate + Sync,
-    requires { Begins (texts words.now) (codes "write") }
+    requires { HasContexts (texts words.now) }
     ensures { Obeys (texts words.entry.now) (H.state host.old) (H.state host.new) result }
 {
     let Ok(command) = command_of(alloc, words) else {
@@ -77,22 +80,23 @@ where
     };
     match command {
         Command::Write(said) => write(rt, alloc, host, &said, gate),
+        Command::Gen(said) => make(rt, alloc, host, &said, gate),
         Command::Unknown => Status::Usage,
         _ => unreachable!(),
     }
 }
 
 /// Does what the words after the program's name say, as `run` does, where that waits for nobody: all but words that begin with
-/// `write`. Of these nothing is done.
+/// `write` or `gen`. Of these nothing is done.
 pub fn run_alone<H: Host>(alloc: Global, words: &[String], host: &mut H) -> Option<Status>
     ensures some { IfSome result (Runs (texts words.now) (H.state host.old) (H.state host.new)) }
-    ensures none { result ≡ None → Begins (texts words.now) (codes "write") × (H.state host.new ≡ H.state host.old) }
-    ensures only { Begins (texts words.now) (codes "write") → result ≡ None }
+    ensures none { result ≡ None → HasContexts (texts words.now) × (H.state host.new ≡ H.state host.old) }
+    ensures only { HasContexts (texts words.now) → result ≡ None }
 {
-    if is_write(words) {
+    if has_contexts(words) {
         return None;
     }
-    let status = show(alloc, words, host);
+    let status = do_alone(alloc, words, host);
     report(host, &status);
     Some(status)
 }
@@ -100,9 +104,10 @@ pub fn run_alone<H: Host>(alloc: Global, words: &[String], host: &mut H) -> Opti
 /// Does what the words after the program's name say, over a host, and answers how that ended.
 ///
 /// Commands are `write [--cluster N] [--page P] [--group G] [--plain] [--max-range B] [--max-file B] OUT SCHEMA IN..`, of 1 to 64
-/// inputs, where OUT is another name than those that are read, `entries [--from A] [--count C] FILE` and `schema FILE`; clap reads
-/// the words after the first.
-/// `rt` is the runtime of `write`, which has a context for each input, and `gate` is told the steps of each context's clusters.
+/// inputs, where OUT is another name than those that are read, `gen C E SEED OUT`,
+/// `entries [--from A] [--count C] FILE` and `schema FILE`; clap reads the words after the first.
+/// `rt` is the runtime of `write`, which has a context for each input, and of `gen`; `gate` is told the steps of each context's
+/// clusters.
 pub fn run<R, H, G>(rt: &R, alloc: Global, words: Vec<String>, host: &mut H, gate: &G) -> Status
 where
     R: Threads + Wait + Sync,
@@ -112,18 +117,12 @@ where
     <H::Out as Disk>::Pen: Send,
     <H::Out as Disk>::Ext: Send,
     G: Gate + Sync,
-    ensures write { (out schema : List ℕ) (inputs : List (List ℕ)) (p : Params) → IsWrite (texts words.items) out schema inputs p
-        → RunsWrite out schema inputs p (H.state host.old) (H.state host.new) result }
-    ensures entries { (from count : Option ℕ) (name : List ℕ) → IsEntries (texts words.items) from count name
-        → RunsEntries from count name (H.state host.old) (H.state host.new) result }
-    ensures schema { (name : List ℕ) → IsSchemaCommand (texts words.items) name → RunsSchema name (H.state host.old) (H.state host.new) result }
-    ensures usage { IsNoCommand (texts words.items) → RefusesWords (H.state host.old) (H.state host.new) result }
-    ensures answers { IsAnswerTo (texts words.items) result }
+    ensures { Runs (texts words.items) (H.state host.old) (H.state host.new) result }
 {
     match run_alone(alloc, &words, host) {
         Some(status) => status,
         None => {
-            let status = write_by(rt, alloc, &words, host, gate);
+            let status = do_with_contexts(rt, alloc, &words, host, gate);
             report(host, &status);
             status
         }

@@ -1,8 +1,9 @@
 use Rattle.std.proofs.Common.{subst}
 use Rattle.nt_words.specs.CommandLine.{texts}
 use Rattle.nt_words.specs.Commands.{names_of, Says}
-use Rattle.nt_app.proofs.Running.{no_memory, written_words}
-use Rattle.nt_app.proofs.program.write_by.Goals as goal
+use Rattle.nt_app.proofs.Running.{no_memory}
+use Rattle.nt_app.proofs.Obeying.{written_words, made_words}
+use Rattle.nt_app.proofs.program.do_with_contexts.Goals as goal
 
 pub returns-in_default : goal.returns-in_default
 returns-in_default g c = no_memory _ _
@@ -12,3 +13,9 @@ returns-in-Write g c =
     let said = c.in-Write.said in
     written_words _ said.out.now said.schema.now (names_of said.inputs.items) said.params _ _ _
     (subst (Says (texts c.args.words.now)) c.in-Write.is c.in-Ok.ensures) c.write.ensures
+
+pub returns-in-Gen : goal.returns-in-Gen
+returns-in-Gen g c =
+    let said = c.in-Gen.said in
+    made_words _ said.contexts said.events said.seed said.out.now _ _ _
+    (subst (Says (texts c.args.words.now)) c.in-Gen.is c.in-Ok.ensures) c.make.ensures

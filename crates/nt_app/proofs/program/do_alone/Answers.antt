@@ -3,8 +3,9 @@ use Rattle.nt_show.specs.Shown.{entries_shown}
 use Rattle.nt_words.specs.CommandLine.{texts}
 use Rattle.nt_words.specs.Commands.{Says}
 use Rattle.nt_app.specs.Shows.{ShowsNamed}
-use Rattle.nt_app.proofs.Running.{no_memory, listed_words}
-use Rattle.nt_app.proofs.program.show.Goals as goal
+use Rattle.nt_app.proofs.Running.{no_memory}
+use Rattle.nt_app.proofs.Obeying.{listed_words}
+use Rattle.nt_app.proofs.program.do_alone.Goals as goal
 
 pub returns-in_default : goal.returns-in_default
 returns-in_default g c = no_memory _ _

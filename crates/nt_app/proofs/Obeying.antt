@@ -1,0 +1,96 @@
+-- What words say, done: each command by itself.
+use Rattle.std.proofs.Common.{inl, inr, sym, subst, refl, ℕ, List, Option, Result, Ok, Err}
+use Rattle.nt_outside.specs.World.{HostState}
+use Rattle.nt_book.specs.declared.params.Params.{Params}
+use Rattle.nt_show.specs.Shown.{entries_shown, fields_shown}
+use Rattle.nt_words.specs.CommandLine.{IsEntries, IsSchemaCommand}
+use Rattle.nt_words.specs.WriteWords.{IsWrite}
+use Rattle.nt_words.specs.GenWords.{IsGen}
+use Rattle.nt_words.proofs.Wrong.{begins_once}
+use Rattle.nt_words.proofs.Single.{same_write, same_gen, same_entries, same_schema}
+use Rattle.nt_store.specs.declared.error.StoreError.{StoreError}
+use Rattle.nt_store.specs.declared.error.StoreError.TheVariants as store
+use Rattle.nt_generate.specs.declared.error.GenerateError.{GenerateError}
+use Rattle.nt_generate.specs.declared.error.GenerateError.TheVariants as generate
+use Rattle.nt_app.specs.declared.status.Status.{Status}
+use Rattle.nt_app.specs.declared.status.Status.TheVariants as status
+use Rattle.nt_app.specs.Shows.{IsAnswerOfReading, ShowsNamed}
+use Rattle.nt_app.specs.Writes.{status_of_store, WritesNamed}
+use Rattle.nt_app.specs.Gens.{status_of_generate, GenNamed}
+use Rattle.nt_app.specs.Runs.{SayWriting, SayMaking, SayReading, range_said, IsAnswerTo, Obeys}
+
+store_answers : (words : List (List ℕ)) (stored : Result Unit StoreError) → SayWriting words → IsAnswerTo words (status_of_store stored)
+store_answers words (Ok done) said = inl said
+store_answers words (Err store.Outside) said = inl said
+store_answers words (Err store.Memory) said = tt
+store_answers words (Err (store.Schema line kind)) said = said
+store_answers words (Err (store.Line input line kind)) said = said
+store_answers words (Err (store.Limit reached limit)) said = inl said
+
+generate_answers : (words : List (List ℕ)) (made : Result Unit GenerateError) → SayMaking words
+    → IsAnswerTo words (status_of_generate made)
+generate_answers words (Ok done) said = inr (inl said)
+generate_answers words (Err generate.Outside) said = inr (inl said)
+generate_answers words (Err generate.Memory) said = tt
+generate_answers words (Err (generate.Limit reached limit)) said = inr said
+generate_answers words (Err (generate.Defect fault)) said = inl said
+
+reading_answers : (words : List (List ℕ)) (answer : Status) → IsAnswerOfReading answer → SayReading words → IsAnswerTo words answer
+reading_answers words status.Done is said = inr (inr said)
+reading_answers words status.Usage is said = absurd is
+reading_answers words (status.File fault) is said = inr said
+reading_answers words status.Outside is said = inr (inr said)
+reading_answers words (status.Limit reached limit) is said = absurd is
+reading_answers words (status.Text input number kind) is said = absurd is
+reading_answers words status.Memory is said = tt
+
+-- `write`
+pub written_words : (words : List (List ℕ)) (o s : List ℕ) (is : List (List ℕ)) (p : Params) (old new : HostState) (answer : Status)
+    → IsWrite words o s is p → WritesNamed o s is p old new answer → Obeys words old new answer
+written_words words o s is p old new answer said writes = record {
+  write = λ o' s' is' p' other. same_write (λ a b c d. WritesNamed a b c d old new answer) words o s o' s' is is' p p' said other writes;
+  gen = λ c e s' o' other. absurd (begins_once words _ _ refl said.begins other.begins);
+  entries = λ from count name other. absurd (begins_once words _ _ refl said.begins other.begins);
+  schema = λ name other. absurd (begins_once words _ _ refl said.begins other.begins);
+  usage = λ none. absurd (none.no_write o s is p said);
+  answers = subst (IsAnswerTo words) (sym writes.answer_is) (store_answers words writes.stored (o, s, is, p, said));
+}
+
+-- `gen`
+pub made_words : (words : List (List ℕ)) (c e s : ℕ) (o : List ℕ) (old new : HostState) (answer : Status) → IsGen words c e s o
+    → GenNamed c e s o old new answer → Obeys words old new answer
+made_words words c e s o old new answer said makes = record {
+  write = λ o' s' is p' other. absurd (begins_once words _ _ refl said.begins other.begins);
+  gen = λ c' e' s' o' other.
+      same_gen (λ a b d n. GenNamed a b d n old new answer) words c e s c' e' s' o o' said other makes;
+  entries = λ from count name other. absurd (begins_once words _ _ refl said.begins other.begins);
+  schema = λ name other. absurd (begins_once words _ _ refl said.begins other.begins);
+  usage = λ none. absurd (none.no_gen c e s o said);
+  answers = subst (IsAnswerTo words) (sym makes.answer_is) (generate_answers words makes.made (c, e, s, o, said));
+}
+
+-- `entries`
+pub listed_words : (words : List (List ℕ)) (from count : Option ℕ) (name : List ℕ) (old new : HostState) (answer : Status)
+    → IsEntries words from count name → ShowsNamed (entries_shown (range_said from count)) name old new answer → Obeys words old new answer
+listed_words words from count name old new answer said shows = record {
+  write = λ o s is p other. absurd (begins_once words _ _ refl said.begins other.begins);
+  gen = λ c e s o other. absurd (begins_once words _ _ refl said.begins other.begins);
+  entries = λ from' count' name' other.
+      same_entries (λ f c n. ShowsNamed (entries_shown (range_said f c)) n old new answer) words from count from' count' name name'
+      said other shows;
+  schema = λ name' other. absurd (begins_once words _ _ refl said.begins other.begins);
+  usage = λ none. absurd (none.no_entries from count name said);
+  answers = reading_answers words answer shows.answer_is (inl (from, count, name, said));
+}
+
+-- `schema`
+pub outlined_words : (words : List (List ℕ)) (name : List ℕ) (old new : HostState) (answer : Status) → IsSchemaCommand words name
+    → ShowsNamed fields_shown name old new answer → Obeys words old new answer
+outlined_words words name old new answer said shows = record {
+  write = λ o s is p other. absurd (begins_once words _ _ refl said.begins other.begins);
+  gen = λ c e s o other. absurd (begins_once words _ _ refl said.begins other.begins);
+  entries = λ from count name' other. absurd (begins_once words _ _ refl said.begins other.begins);
+  schema = λ name' other. same_schema (λ n. ShowsNamed fields_shown n old new answer) words name name' said other shows;
+  usage = λ none. absurd (none.no_schema name said);
+  answers = reading_answers words answer shows.answer_is (inr (name, said));
+}

@@ -1,0 +1,73 @@
+-- What a command `gen` does to a host, by its answer.
+use Rattle.std.specs.Prelude.{◌≡◌, ◌⊎◌, ℕ, ◌-◌, ◌^◌, false, List, [], ◌∷◌, Some, Result, Ok, Err}
+use Rattle.nt_outside.specs.Faults.{Rose}
+use Rattle.nt_outside.specs.World.{World, Out, File, HostState}
+use Rattle.nt_book.specs.declared.params.Params.{Params}
+use Rattle.nt_gen.specs.declared.making.Making.{Making}
+use Rattle.nt_store.specs.Worlds.{AsksFor, OthersStay, WritesInOrder}
+use Rattle.nt_generate.specs.declared.error.GenerateError.{GenerateError}
+use Rattle.nt_generate.specs.declared.error.GenerateError.TheVariants as generate
+use Rattle.nt_generate.specs.Made.{PassesMade}
+use Rattle.nt_generate.specs.Leaving.{MadeCrashTold}
+use Rattle.nt_generate.specs.Generated.{GenerateTold, Generates}
+use Rattle.nt_app.specs.declared.status.Status.{Status}
+use Rattle.nt_app.specs.declared.status.Status.TheVariants as status
+use Rattle.nt_app.specs.Statuses.{message_of}
+use Rattle.nt_app.specs.Reports.{SaysOnErr, Served}
+
+-- the answer of a file that was made, or of what came in place of that
+abbrev pub status_of_generate : Result Unit GenerateError → Status
+status_of_generate (Ok done) = status.Done
+status_of_generate (Err generate.Outside) = status.Outside
+status_of_generate (Err generate.Memory) = status.Memory
+status_of_generate (Err (generate.Limit reached limit)) = status.Limit reached limit
+status_of_generate (Err (generate.Defect fault)) = status.File fault
+
+-- how a file is written where no words say it: 10000 entries a cluster, 4096 elements a page, 1000 clusters a group, at most 2^30 bytes a
+-- range and 2^40 the file
+pub record AreDefaults (p : Params) : Type 0 where
+  pub cluster : p.cluster ≡ 10000
+  pub page : p.page ≡ 4096
+  pub group : p.group ≡ 1000
+  pub plain : p.plain ≡ false
+  pub range : p.limits.range ≡ 2 ^ 30
+  pub file : p.limits.file ≡ 2 ^ 40
+  pub clusters : p.limits.clusters ≡ 2 ^ 32 - 1
+
+-- what the numbers of the words say: what is made, by the defaults
+pub record IsMakingOf (contexts events seed : ℕ) (p : Params) (m : Making) : Type 0 where
+  pub contexts_are : m.contexts ≡ contexts
+  pub events_are : m.events ≡ events
+  pub seed_is : m.seed ≡ seed
+  pub defaults : AreDefaults p
+
+-- the command before its message is printed
+pub record GenNamed (contexts events seed : ℕ) (out : List ℕ) (old new : HostState) (answer : Status) : Type 0 where
+  pub made : Result Unit GenerateError
+  pub answer_is : answer ≡ status_of_generate made
+  pub generates : (p : Params) (m : Making) → IsMakingOf contexts events seed p m → Generates out p m old new made
+
+-- what is made passes no limit
+abbrev pub FitsMade : Params → Making → Type 0
+FitsMade p m = (reached limit : ℕ) → PassesMade p m reached limit → ⊥
+
+-- the words were `gen C E SEED OUT`, and this is made by these parameters
+pub record RunsGen (out : List ℕ) (p : Params) (m : Making) (old new : HostState) (answer : Status) : Type 0 where
+  -- how it ended, which the answer tells
+  pub made : Result Unit GenerateError
+  pub answer_is : answer ≡ status_of_generate made
+  -- where the host tells what it holds
+  pub told : (w : World) → old.world ≡ Some w → (w' : World) × (new.world ≡ Some w') × SaysOnErr (message_of answer) old new w w'
+      × OthersStay out w w' × GenerateTold out p m w w' made
+  -- where the file was begun, its first byte came only when all the rest stayed
+  pub order : WritesInOrder out old.world new.world
+  -- and wherever a crash comes behind the first sync, it leaves a file that is refused as unfinished, or the whole one
+  pub crash : MadeCrashTold out p m old.world new.world made
+  -- what was asked for: the name to write and then to read where all is done, and else the first of that
+  pub asked : AsksFor (Out out ∷ File out ∷ []) old.asked new.asked made
+  -- the outside is blamed only where it failed
+  pub failed : answer ≡ status.Outside → Rose old.faults new.faults
+  -- each object that was opened came back
+  pub opened : new.opened ≡ old.opened
+  -- where the outside serves and no limit is passed, all is done unless memory runs out
+  pub complete : (w : World) → old.world ≡ Some w → Served old new → FitsMade p m → (answer ≡ status.Done) ⊎ (answer ≡ status.Memory)

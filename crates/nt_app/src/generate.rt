@@ -1,0 +1,75 @@
+//! The command `gen`: numbers in, one file of events that are made and the lines of its totals out.
+
+ghost use Rattle.std.specs.Prelude.{◌≡◌};
+ghost use Rattle.nt_book.specs.declared.params.Params.{Params as ParamsData};
+ghost use Rattle.nt_app.specs.Gens.{status_of_generate, AreDefaults, IsMakingOf, GenNamed};
+
+use crate::status::Status;
+use nt_book::{Limits, Params};
+use nt_gen::Making;
+use nt_generate::{GenerateError, generate};
+use nt_outside::{Disk, Gate, Host};
+use nt_words::GenWords;
+use std::alloc::Global;
+use std::sync::Wait;
+use std::thread::Threads;
+
+/// The answer of a file that was made, or of what came in place of that.
+fn status_of_generate(made: Result<(), GenerateError>) -> Status
+    ensures { result ≡ status_of_generate made }
+{
+    match made {
+        Ok(()) => Status::Done,
+        Err(GenerateError::Outside) => Status::Outside,
+        Err(GenerateError::Memory) => Status::Memory,
+        Err(GenerateError::Limit { reached, limit }) => Status::Limit { reached, limit },
+        Err(GenerateError::Defect(fault)) => Status::File(fault),
+    }
+}
+
+/// The parameters of a file where no words say them.
+fn default_params() -> Params
+    ensures { AreDefaults result }
+{
+    let Some(limits) = Limits::new(1 << 30, 1 << 40, u32::MAX) else {
+        unreachable!()
+    };
+    match Params::new(10_000, 4096, 1000, false, limits) {
+        Some(params) => params,
+        None => unreachable!(),
+    }
+}
+
+/// What the numbers of the words say.
+fn making_of(words: &GenWords<'_>) -> Making
+    ensures { (p : ParamsData) → AreDefaults p → IsMakingOf words.now.contexts words.now.events words.now.seed p result }
+{
+    match Making::new(words.contexts, words.events, words.seed) {
+        Some(making) => making,
+        None => unreachable!(),
+    }
+}
+
+/// The whole command `gen`.
+pub(crate) fn make<R, H, G>(
+    rt: &R,
+    alloc: Global,
+    host: &mut H,
+    words: &GenWords<'_>,
+    gate: &G,
+) -> Status
+where
+    R: Threads + Wait + Sync,
+    H: Host,
+    H::Out: Send,
+    <H::Out as Disk>::Pen: Send,
+    <H::Out as Disk>::Ext: Send,
+    G: Gate + Sync,
+    ensures { GenNamed words.now.contexts words.now.events words.now.seed words.now.out.now
+        (H.state host.old) (H.state host.new) result }
+{
+    let params = default_params();
+    let making = making_of(words);
+    let made = generate(rt, alloc, host, words.out, &making, &params, gate);
+    status_of_generate(made)
+}
