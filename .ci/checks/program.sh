@@ -204,6 +204,18 @@ printf '\n \t\nx\tu64 \t\r\n' >blanks.txt
 expect 0 '' write --plain blanks.root blanks.txt events.txt
 same blanks.root "$two"
 
+# events that are drawn
+expect 0 '' gen 1 1 1 drawn.root
+printf 'context 0 clusters 1 entries 1 sum 1115794\n' | cmp - out || fail 'another sum of one drawn event'
+expect 0 '' entries drawn.root
+printf '[271,[394886,720637],"t1"]\n' | cmp - out || fail 'another event is drawn'
+expect 0 '' gen 2 0 1 drawn.root
+printf 'context 0 clusters 0 entries 0 sum 0\ncontext 1 clusters 0 entries 0 sum 0\n' | cmp - out || fail 'sums of no events'
+for numbers in '0 1 1' '65 1 1' '1 1000001 1' '1 1 0' '1 1 1000001' '1 1'; do
+    expect 2 'ntuple: usage' gen $numbers never.root
+done
+[ ! -e never.root ] || fail 'words that are no command made a file'
+
 # files of another form
 : >empty.root
 expect 3 'ntuple: file: 1 Unfinished at 0' entries empty.root

@@ -4,7 +4,10 @@
   out the chunks of each input, whole, once and in their order, and the lines that are printed are just these chunks.
 - An input of 100000 events is written with the defaults, listed, and printed again; what is printed is written again as the same file.
 - Eight inputs of 100000 drawn events each are written with the defaults: ten clusters of each, dealt out in the order that is told.
+- The generator makes these eight inputs' events ten times, with the same lines each time; its file has just their chunks, each context's
+  in their order. Of one context its file is that which `write` makes of the text.
 """
+import json
 import os
 import subprocess
 import sys
@@ -132,6 +135,50 @@ def eight_long(program):
         raise Amiss(f"the entries aren't the chunks in the order {order}")
 
 
+def totals_of(texts):
+    """The generator's lines: the clusters and entries of each context, and the sum of its runs and ids."""
+    lines = []
+    for context, text in enumerate(texts):
+        events = [json.loads(line) for line in text]
+        total = sum(run + sum(ids) for run, ids, _ in events)
+        lines.append(f"context {context} clusters {-(-len(text) // 10000)} entries {len(text)} sum {total}\n")
+    return "".join(lines)
+
+
+def order_among(lines, chunks):
+    """The order in which chunks stand one behind the other as these lines, each context's in their order."""
+    left = [list(of) for of in chunks]
+    order = []
+    while lines:
+        context = next((i for i, of in enumerate(left) if of and lines[:len(of[0])] == of[0]), None)
+        if context is None:
+            raise Amiss(f"no context's next chunk stands behind {order}")
+        lines = lines[len(left[context].pop(0)):]
+        order.append(context)
+    if any(left):
+        raise Amiss(f"chunks are missing: {order}")
+    return order
+
+
+def generated(program):
+    """Makes the same eight inputs by the generator, ten times; how many orders they came in."""
+    texts = [drawn_lines(1 + context) for context in range(8)]
+    chunks = [[text[at:at + 10000] for at in range(0, len(text), 10000)] for text in texts]
+    totals = totals_of(texts)
+    orders = set()
+    for _ in range(10):
+        if call(program, "gen", "8", "100000", "1", "made.root") != totals:
+            raise Amiss("the generator's lines are others")
+        orders.add(tuple(order_among(call(program, "entries", "made.root").splitlines(keepends=True), chunks)))
+    if call(program, "gen", "1", "100000", "3", "one.root") != totals_of(texts[2:3]):
+        raise Amiss("the generator's line of one context is another")
+    save("drawn-2", "".join(texts[2]))
+    call(program, "write", "other.root", "long.schema", "drawn-2")
+    if bytes_of("one.root") != bytes_of("other.root"):
+        raise Amiss("the generator's file of one context isn't that of its text")
+    return len(orders)
+
+
 def main():
     program = os.path.abspath(sys.argv[1])
     begun = time.monotonic()
@@ -141,12 +188,13 @@ def main():
             orders = small_runs(program)
             long_run(program)
             eight_long(program)
+            made = generated(program)
         except Amiss as fault:
             print(f"amiss: {fault}", file=sys.stderr)
             return 1
         finally:
             os.chdir("/")
-    print(f"runs: {RUNS} of eight inputs in {orders} orders, a long one, and eight long ones, in {time.monotonic() - begun:.1f} seconds")
+    print(f"runs: {RUNS} of eight inputs in {orders} orders, a long one, eight long ones, and what the generator makes in {made} orders, in {time.monotonic() - begun:.1f} seconds")
     return 0
 
 
