@@ -26,9 +26,9 @@ use std::marker::Model;
 #[derive(Drop)]
 pub struct ColumnBuf {
     kind: ColumnType,
-    pub(crate) store: Store,
+    store: Store,
     /// So many zeros are the column; then `store` is empty.
-    pub(crate) zeros: usize,
+    zeros: usize,
 }
 
 impl Model for ColumnBuf {
@@ -98,6 +98,17 @@ impl ColumnBuf {
         ensures spare { self.old.spare ≤ self.new.spare }
     {
         self.store.reserve(more)
+    }
+
+    /// Takes the memory that so many more elements need, as `reserve` does, and gives how many there are.
+    pub fn ready(&mut self, more: usize) -> Result<usize, AllocError>
+        ensures column { self.new.column ≡ self.old.column }
+        ensures ok { OnOk result (more ≤ self.new.spare) }
+        ensures len { IfOk result (λ n. n ≡ length self.old.column.elements) }
+        ensures spare { self.old.spare ≤ self.new.spare }
+    {
+        self.store.reserve(more)?;
+        Ok(self.len())
     }
 
     /// Adds an element of any type but Switch.

@@ -35,7 +35,6 @@ mod laws;
 mod low_bytes;
 mod pairs;
 mod ranges;
-mod room;
 mod set;
 mod store;
 mod store_page;

@@ -53,6 +53,14 @@ impl PairList {
         self.indices.len()
     }
 
+    /// How many more pairs there is room for.
+    pub fn spare(&self) -> usize
+        ensures { result ≡ self.now.spare }
+    {
+        let spare = self.indices.capacity() - self.indices.len();
+        spare.min(self.tags.capacity() - self.tags.len())
+    }
+
     /// Takes the memory for so many more pairs.
     pub fn reserve(&mut self, more: usize) -> Result<(), AllocError>
         ensures elements { self.new.elements ≡ self.old.elements }

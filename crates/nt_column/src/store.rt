@@ -1,6 +1,6 @@
 //! The elements of a buffer, each kept at the width of its type.
 
-ghost use Rattle.std.specs.Prelude.{◌≡◌, ◌≢◌, ◌+◌, ◌-◌, ◌<◌, ◌≤◌, ◌^◌, [], ◌∷◌, ◌++◌, length, map, take, slice_index, IfOk, OnOk};
+ghost use Rattle.std.specs.Prelude.{◌≡◌, ◌≢◌, ◌+◌, ◌-◌, ◌<◌, ◌≤◌, ◌^◌, [], ◌∷◌, ◌++◌, length, map, take, slice_index, OnOk};
 ghost use Rattle.std.specs.List.{slice_range};
 ghost use Rattle.nt_types.specs.ColumnTable.{bits_of};
 ghost use Rattle.nt_encode.specs.Pages.{page_size};
@@ -11,7 +11,6 @@ ghost use Rattle.nt_column.specs.Widths.{pair_width};
 use crate::filling::{push_8, push_16, push_32, push_64, push_bits};
 use crate::pairs::PairList;
 use crate::ranges::{bits_in_range, bytes_in_range, in_range_16, in_range_32, in_range_64};
-use crate::room::with_room;
 use nt_types::ColumnType;
 use std::alloc::{AllocError, Global};
 
@@ -56,8 +55,35 @@ impl Store {
         }
     }
 
-    /// Takes the memory for so many more elements.
+    /// How many more elements there is room for.
+    fn spare(&self) -> usize
+        ensures { result ≡ spare_of self.now }
+    {
+        match self {
+            Store::Bits(list) => list.capacity() - list.len(),
+            Store::Bytes(list) => list.capacity() - list.len(),
+            Store::Words16(list) => list.capacity() - list.len(),
+            Store::Words32(list) => list.capacity() - list.len(),
+            Store::Words64(list) => list.capacity() - list.len(),
+            Store::Pairs(pairs) => pairs.spare(),
+        }
+    }
+
+    /// Takes the memory for so many more elements. Mostly there is room, which is seen without a look at their width.
     pub fn reserve(&mut self, more: usize) -> Result<(), AllocError>
+        ensures elements { elements_of self.new ≡ elements_of self.old }
+        ensures width { width_of self.new ≡ width_of self.old }
+        ensures ok { OnOk result (more ≤ spare_of self.new) }
+        ensures spare { spare_of self.old ≤ spare_of self.new }
+    {
+        if more <= self.spare() {
+            return Ok(());
+        }
+        self.grow(more)
+    }
+
+    /// Takes the memory for so many more elements, for which there is no room yet.
+    fn grow(&mut self, more: usize) -> Result<(), AllocError>
         ensures elements { elements_of self.new ≡ elements_of self.old }
         ensures width { width_of self.new ≡ width_of self.old }
         ensures ok { OnOk result (more ≤ spare_of self.new) }
@@ -70,27 +96,6 @@ impl Store {
             Store::Words32(list) => list.reserve(more),
             Store::Words64(list) => list.reserve(more),
             Store::Pairs(pairs) => pairs.reserve(more),
-        }
-    }
-
-    /// Takes the memory for so many more elements, and gives how many there are.
-    pub fn ready(&mut self, more: usize) -> Result<usize, AllocError>
-        ensures elements { elements_of self.new ≡ elements_of self.old }
-        ensures width { width_of self.new ≡ width_of self.old }
-        ensures ok { OnOk result (more ≤ spare_of self.new) }
-        ensures len { IfOk result (λ n. n ≡ length (elements_of self.old)) }
-        ensures spare { spare_of self.old ≤ spare_of self.new }
-    {
-        match self {
-            Store::Bits(list) => with_room(list, more),
-            Store::Bytes(list) => with_room(list, more),
-            Store::Words16(list) => with_room(list, more),
-            Store::Words32(list) => with_room(list, more),
-            Store::Words64(list) => with_room(list, more),
-            Store::Pairs(pairs) => {
-                pairs.reserve(more)?;
-                Ok(pairs.len())
-            }
         }
     }
 
