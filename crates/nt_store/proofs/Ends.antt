@@ -192,7 +192,7 @@ module _ (out schema : List ℕ) (inputs : List (List ℕ)) (p : Params) (fields
         some_is : (a b : World) → ◌≡◌ {A = Option World} (Some a) (Some b) → a ≡ b
         some_is a b e = cc
 
-world_is : (a b : World) → ◌≡◌ {A = Option World} (Some a) (Some b) → a ≡ b
+pub world_is : (a b : World) → ◌≡◌ {A = Option World} (Some a) (Some b) → a ≡ b
 world_is a b e = cc
 
 -- where nothing changed no disk was made

@@ -50,7 +50,7 @@ header_within limits t none =
     (first_passed limits [] (clusters_place t)) refl none
 
 -- parameters keep the largest limits
-measures : (p : Params) → AreMeasures (measures_of p)
+pub measures : (p : Params) → AreMeasures (measures_of p)
 measures p = record {
   page = omega (arith, p.page_range.0);
   group = omega (arith, p.group_range.0);

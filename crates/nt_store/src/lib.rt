@@ -30,3 +30,4 @@ pub use closing::close_file;
 pub use error::StoreError;
 pub use filling::fill_file;
 pub use storing::{Names, store};
+pub use texts::read_schema;

@@ -26,11 +26,7 @@ fn fields_of(alloc: Global, text: &[u8]) -> Result<Fields, StoreError>
 }
 
 /// Reads the fields of the schema text of this name.
-pub(crate) fn read_schema<H: Host>(
-    alloc: Global,
-    host: &mut H,
-    name: &str,
-) -> Result<Fields, StoreError>
+pub fn read_schema<H: Host>(alloc: Global, host: &mut H, name: &str) -> Result<Fields, StoreError>
     ensures asks { AsksOnly (asked_text name.now ∷ []) (H.state host.old) (H.state host.new) result }
     ensures told { (w : World) → (H.state host.old).world ≡ Some w → TellsSchema (file w name.now) result }
     ensures rules { IfOk result (λ fields. AreFields (members_view fields)) }
