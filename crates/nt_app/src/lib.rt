@@ -1,5 +1,6 @@
 //! The commands of the program over any host: `write` makes an RNTuple file of a schema text and event texts, `gen` of events
-//! that it makes; `entries` prints the entries of any file, and `schema` its fields. All that is promised of the program is said of the one call `run`.
+//! that it makes; `entries` prints the entries of any file, and `schema` its fields. All that is promised of the program is
+//! said of the one call `run`.
 //!
 //! Start at `program.rt`: `run`, and `run_alone` of those commands that wait for nobody. `write.rt`, `generate.rt` and `show.rt`
 //! are the commands, `status.rt` and `message.rt` the answers and their lines. The words are read by nt_words, a file is

@@ -1,11 +1,11 @@
 //! Contexts that gather entries in columns, and write them as clusters of one file beside each
 //! other.
 //!
-//! Begin at `FillContext` in `context.rt`. `fill` gathers an entry, and `fill_line` that of a line of
-//! event text: it does what nt_event's `read_line` and then `fill` do, without a tree in between, or
-//! refuses the line, which is then to be read. A context that is `full` has a cluster's entries, and `flush` writes what is gathered: it makes the image, commits it in one hold
-//! of the turn, fills its range with the context's own pen outside the turn, and hands it back in
-//! another hold (`writing.rt`). `end` gives pass and pen back. A context is *alive* until its pen fails.
+//! Begin at `FillContext` in `context.rt`. `fill` gathers an entry, and `fill_line` that of a line of event text: it does what
+//! nt_event's `read_line` and then `fill` do, without a tree in between, or refuses the line, which is then to be read. A
+//! context that is `full` has a cluster's entries, and `flush` writes what is gathered: it makes the image, commits it in one
+//! hold of the turn, fills its range with the context's own pen outside the turn, and hands it back in another hold
+//! (`writing.rt`). `end` gives pass and pen back. A context is *alive* until its pen fails.
 //!
 //! Words: those of nt_commit; what a context has *gathered* are the entries that its columns give
 //! (`specs/Context`). A pass *gains* entries in its own list.

@@ -10,11 +10,10 @@
 //! *room* for its key; a *stored page* has its checksum behind it; a *place* counts from the
 //! beginning of the payload; a *meta* is what is kept of a page or of a cluster.
 //!
-//! Proved: `build` gives the image and its metas (`bytes`, `meta`), and so does `build_in`, in the memory of an earlier one; the size that is reserved is
-//! the image's (`image_size`); at the place of each page lie its bytes and their checksum
-//! (`pages_lie_where_said`); what is kept of a cluster is what a book asks (`clusters_are_paged`); a
-//! key is written into its room (`put_key`); an image can move to another thread
-//! (`images_can_move`).
+//! Proved: `build` gives the image and its metas (`bytes`, `meta`), and so does `build_in`, in the memory of an earlier one;
+//! the size that is reserved is the image's (`image_size`); at the place of each page lie its bytes and their checksum
+//! (`pages_lie_where_said`); what is kept of a cluster is what a book asks (`clusters_are_paged`); a key is written into its
+//! room (`put_key`); an image can move to another thread (`images_can_move`).
 //!
 //! Only tested: that no more memory is taken than that; images against tables made outside.
 //!

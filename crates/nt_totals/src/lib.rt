@@ -8,10 +8,11 @@
 //! Words: the clusters *of* a context are those at whose places the order of the commits names it; its *total* is what they come to;
 //! what is *counted* stands still at the last number of its type.
 //!
-//! Proved: the numbers of an entry are added to a sum, which stands still at the last number of its type (`add_entry`); one cluster after
-//! the other adds up to the totals (`clusters_add_up`); the lines are those of the totals (`total_lines`); in whatever order chunks are dealt out, the clusters of each context are
-//! its own chunks (`dealt_chunks_come_back`); the totals of events that are made are their number, that of their chunks, and the sum of
-//! their runs and ids (`made_events_have_totals`). Nothing is only tested.
+//! Proved: the numbers of an entry are added to a sum, which stands still at the last number of its type (`add_entry`); one
+//! cluster after the other adds up to the totals (`clusters_add_up`); the lines are those of the totals (`total_lines`); in
+//! whatever order chunks are dealt out, the clusters of each context are its own chunks (`dealt_chunks_come_back`); the totals
+//! of events that are made are their number, that of their chunks, and the sum of their runs and ids
+//! (`made_events_have_totals`). Nothing is only tested.
 #![tactic(auto)]
 
 mod entries;
