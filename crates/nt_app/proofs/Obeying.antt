@@ -2,6 +2,7 @@
 use Rattle.std.proofs.Common.{inl, inr, sym, subst, refl, ℕ, List, Option, Result, Ok, Err}
 use Rattle.nt_outside.specs.World.{HostState}
 use Rattle.nt_book.specs.declared.params.Params.{Params}
+use Rattle.nt_gen.specs.declared.making.Making.{Making}
 use Rattle.nt_show.specs.Shown.{entries_shown, fields_shown}
 use Rattle.nt_words.specs.CommandLine.{IsEntries, IsSchemaCommand}
 use Rattle.nt_words.specs.WriteWords.{IsWrite}
@@ -49,7 +50,7 @@ pub written_words : (words : List (List ℕ)) (o s : List ℕ) (is : List (List 
     → IsWrite words o s is p → WritesNamed o s is p old new answer → Obeys words old new answer
 written_words words o s is p old new answer said writes = record {
   write = λ o' s' is' p' other. same_write (λ a b c d. WritesNamed a b c d old new answer) words o s o' s' is is' p p' said other writes;
-  gen = λ c e s' o' other. absurd (begins_once words _ _ refl said.begins other.begins);
+  gen = λ o' m other. absurd (begins_once words _ _ refl said.begins other.begins);
   entries = λ from count name other. absurd (begins_once words _ _ refl said.begins other.begins);
   schema = λ name other. absurd (begins_once words _ _ refl said.begins other.begins);
   usage = λ none. absurd (none.no_write o s is p said);
@@ -57,16 +58,15 @@ written_words words o s is p old new answer said writes = record {
 }
 
 -- `gen`
-pub made_words : (words : List (List ℕ)) (c e s : ℕ) (o : List ℕ) (old new : HostState) (answer : Status) → IsGen words c e s o
-    → GenNamed c e s o old new answer → Obeys words old new answer
-made_words words c e s o old new answer said makes = record {
+pub made_words : (words : List (List ℕ)) (o : List ℕ) (m : Making) (old new : HostState) (answer : Status) → IsGen words m o
+    → GenNamed o m old new answer → Obeys words old new answer
+made_words words o m old new answer said makes = record {
   write = λ o' s' is p' other. absurd (begins_once words _ _ refl said.begins other.begins);
-  gen = λ c' e' s' o' other.
-      same_gen (λ a b d n. GenNamed a b d n old new answer) words c e s c' e' s' o o' said other makes;
+  gen = λ o' m' other. same_gen (λ n l. GenNamed l n old new answer) words m m' o o' said other makes;
   entries = λ from count name other. absurd (begins_once words _ _ refl said.begins other.begins);
   schema = λ name other. absurd (begins_once words _ _ refl said.begins other.begins);
-  usage = λ none. absurd (none.no_gen c e s o said);
-  answers = subst (IsAnswerTo words) (sym makes.answer_is) (generate_answers words makes.made (c, e, s, o, said));
+  usage = λ none. absurd (none.no_gen m o said);
+  answers = subst (IsAnswerTo words) (sym makes.answer_is) (generate_answers words makes.made (m, o, said));
 }
 
 -- `entries`
@@ -74,7 +74,7 @@ pub listed_words : (words : List (List ℕ)) (from count : Option ℕ) (name : L
     → IsEntries words from count name → ShowsNamed (entries_shown (range_said from count)) name old new answer → Obeys words old new answer
 listed_words words from count name old new answer said shows = record {
   write = λ o s is p other. absurd (begins_once words _ _ refl said.begins other.begins);
-  gen = λ c e s o other. absurd (begins_once words _ _ refl said.begins other.begins);
+  gen = λ o m other. absurd (begins_once words _ _ refl said.begins other.begins);
   entries = λ from' count' name' other.
       same_entries (λ f c n. ShowsNamed (entries_shown (range_said f c)) n old new answer) words from count from' count' name name'
       said other shows;
@@ -88,7 +88,7 @@ pub outlined_words : (words : List (List ℕ)) (name : List ℕ) (old new : Host
     → ShowsNamed fields_shown name old new answer → Obeys words old new answer
 outlined_words words name old new answer said shows = record {
   write = λ o s is p other. absurd (begins_once words _ _ refl said.begins other.begins);
-  gen = λ c e s o other. absurd (begins_once words _ _ refl said.begins other.begins);
+  gen = λ o m other. absurd (begins_once words _ _ refl said.begins other.begins);
   entries = λ from count name' other. absurd (begins_once words _ _ refl said.begins other.begins);
   schema = λ name' other. same_schema (λ n. ShowsNamed fields_shown n old new answer) words name name' said other shows;
   usage = λ none. absurd (none.no_schema name said);

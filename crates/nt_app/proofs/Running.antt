@@ -43,7 +43,7 @@ pub runs : (words : List (List ℕ)) (old mid new : HostState) (answer : Status)
     → Runs words old new answer
 runs words old mid new answer obeys reports = record {
   write = λ o s is p said. run_write o s is p old mid new answer (obeys.write o s is p said) reports;
-  gen = λ c e s o said p m is. run_gen c e s o p m old mid new answer is (obeys.gen c e s o said) reports;
+  gen = λ o m said. run_gen o m old mid new answer (obeys.gen o m said) reports;
   entries = λ from count name said. run_shows (entries_shown (range_said from count)) name old mid new answer
       (obeys.entries from count name said) reports;
   schema = λ name said. run_shows fields_shown name old mid new answer (obeys.schema name said) reports;
@@ -68,7 +68,7 @@ runs_after words' words one old mid new answer same stays obeys reports =
 pub no_memory : (words : List (List ℕ)) (state : HostState) → Obeys words state state status.Memory
 no_memory words state = record {
   write = λ o s is p said. memory_writes o s is p state;
-  gen = λ c e s o said. memory_makes c e s o state;
+  gen = λ o m said. memory_makes o m state;
   entries = λ from count name said. memory_shows (entries_shown (range_said from count)) name state;
   schema = λ name said. memory_shows fields_shown name state;
   usage = λ none. (inr refl, refl);
@@ -81,7 +81,7 @@ wrong_words words state wrong =
     let none = wrong_is_none words wrong in
     record {
       write = λ o s is p said. absurd (none.no_write o s is p said);
-      gen = λ c e s o said. absurd (none.no_gen c e s o said);
+      gen = λ o m said. absurd (none.no_gen m o said);
       entries = λ from count name said. absurd (none.no_entries from count name said);
       schema = λ name said. absurd (none.no_schema name said);
       usage = λ auto. (inl refl, refl);

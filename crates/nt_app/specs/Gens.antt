@@ -34,25 +34,23 @@ pub record AreDefaults (p : Params) : Type 0 where
   pub file : p.limits.file ≡ 2 ^ 40
   pub clusters : p.limits.clusters ≡ 2 ^ 32 - 1
 
--- what the numbers of the words say: what is made, by the defaults
-pub record IsMakingOf (contexts events seed : ℕ) (p : Params) (m : Making) : Type 0 where
-  pub contexts_are : m.contexts ≡ contexts
-  pub events_are : m.events ≡ events
-  pub seed_is : m.seed ≡ seed
-  pub defaults : AreDefaults p
-
 -- the command before its message is printed
-pub record GenNamed (contexts events seed : ℕ) (out : List ℕ) (old new : HostState) (answer : Status) : Type 0 where
+pub record GenNamed (out : List ℕ) (m : Making) (old new : HostState) (answer : Status) : Type 0 where
+  pub p : Params
+  pub defaults : AreDefaults p
   pub made : Result Unit GenerateError
   pub answer_is : answer ≡ status_of_generate made
-  pub generates : (p : Params) (m : Making) → IsMakingOf contexts events seed p m → Generates out p m old new made
+  pub generates : Generates out p m old new made
 
 -- what is made passes no limit
 abbrev pub FitsMade : Params → Making → Type 0
 FitsMade p m = (reached limit : ℕ) → PassesMade p m reached limit → ⊥
 
--- the words were `gen C E SEED OUT`, and this is made by these parameters
-pub record RunsGen (out : List ℕ) (p : Params) (m : Making) (old new : HostState) (answer : Status) : Type 0 where
+-- the words were `gen C E SEED OUT`, and so much is made
+pub record RunsGen (out : List ℕ) (m : Making) (old new : HostState) (answer : Status) : Type 0 where
+  -- by which parameters: the defaults
+  pub p : Params
+  pub defaults : AreDefaults p
   -- how it ended, which the answer tells
   pub made : Result Unit GenerateError
   pub answer_is : answer ≡ status_of_generate made

@@ -16,7 +16,7 @@ use Rattle.nt_app.specs.Statuses.{message_of}
 use Rattle.nt_app.specs.Reports.{SaysOnErr}
 use Rattle.nt_app.specs.Shows.{ShowsNamed, Shows}
 use Rattle.nt_app.specs.Writes.{WritesNamed, RunsWrite}
-use Rattle.nt_app.specs.Gens.{IsMakingOf, GenNamed, RunsGen}
+use Rattle.nt_app.specs.Gens.{GenNamed, RunsGen}
 
 -- the words were no command, which is said unless memory runs out: nothing was asked for, no disk was made, and no file changed
 pub record RefusesWords (old new : HostState) (answer : Status) : Type 0 where
@@ -45,7 +45,7 @@ SayWriting words = (out schema : List ℕ) × (inputs : List (List ℕ)) × (p :
 
 -- the words are `gen ..`
 abbrev pub SayMaking : List (List ℕ) → Type 0
-SayMaking words = (contexts events seed : ℕ) × (out : List ℕ) × IsGen words contexts events seed out
+SayMaking words = (m : Making) × (out : List ℕ) × IsGen words m out
 
 -- the words are `entries ..` or `schema ..`
 abbrev pub SayReading : List (List ℕ) → Type 0
@@ -70,8 +70,7 @@ IsAnswerTo words status.Memory = ⊤
 pub record Obeys (words : List (List ℕ)) (old new : HostState) (answer : Status) : Type 0 where
   pub write : (out schema : List ℕ) (inputs : List (List ℕ)) (p : Params) → IsWrite words out schema inputs p
       → WritesNamed out schema inputs p old new answer
-  pub gen : (contexts events seed : ℕ) (out : List ℕ) → IsGen words contexts events seed out
-      → GenNamed contexts events seed out old new answer
+  pub gen : (out : List ℕ) (m : Making) → IsGen words m out → GenNamed out m old new answer
   pub entries : (from count : Option ℕ) (name : List ℕ) → IsEntries words from count name
       → ShowsNamed (entries_shown (range_said from count)) name old new answer
   pub schema : (name : List ℕ) → IsSchemaCommand words name → ShowsNamed fields_shown name old new answer
@@ -82,8 +81,7 @@ pub record Obeys (words : List (List ℕ)) (old new : HostState) (answer : Statu
 pub record Runs (words : List (List ℕ)) (old new : HostState) (answer : Status) : Type 0 where
   pub write : (out schema : List ℕ) (inputs : List (List ℕ)) (p : Params) → IsWrite words out schema inputs p
       → RunsWrite out schema inputs p old new answer
-  pub gen : (contexts events seed : ℕ) (out : List ℕ) → IsGen words contexts events seed out
-      → (p : Params) (m : Making) → IsMakingOf contexts events seed p m → RunsGen out p m old new answer
+  pub gen : (out : List ℕ) (m : Making) → IsGen words m out → RunsGen out m old new answer
   pub entries : (from count : Option ℕ) (name : List ℕ) → IsEntries words from count name → RunsEntries from count name old new answer
   pub schema : (name : List ℕ) → IsSchemaCommand words name → RunsSchema name old new answer
   pub usage : IsNoCommand words → RefusesWords old new answer

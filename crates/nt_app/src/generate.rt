@@ -1,12 +1,10 @@
 //! The command `gen`: numbers in, one file of events that are made and the lines of its totals out.
 
 ghost use Rattle.std.specs.Prelude.{◌≡◌};
-ghost use Rattle.nt_book.specs.declared.params.Params.{Params as ParamsData};
-ghost use Rattle.nt_app.specs.Gens.{status_of_generate, AreDefaults, IsMakingOf, GenNamed};
+ghost use Rattle.nt_app.specs.Gens.{status_of_generate, AreDefaults, GenNamed};
 
 use crate::status::Status;
 use nt_book::{Limits, Params};
-use nt_gen::Making;
 use nt_generate::{GenerateError, generate};
 use nt_outside::{Disk, Gate, Host};
 use nt_words::GenWords;
@@ -40,16 +38,6 @@ fn default_params() -> Params
     }
 }
 
-/// What the numbers of the words say.
-fn making_of(words: &GenWords<'_>) -> Making
-    ensures { (p : ParamsData) → AreDefaults p → IsMakingOf words.now.contexts words.now.events words.now.seed p result }
-{
-    match Making::new(words.contexts, words.events, words.seed) {
-        Some(making) => making,
-        None => unreachable!(),
-    }
-}
-
 /// The whole command `gen`.
 pub(crate) fn make<R, H, G>(
     rt: &R,
@@ -65,11 +53,9 @@ where
     <H::Out as Disk>::Pen: Send,
     <H::Out as Disk>::Ext: Send,
     G: Gate + Sync,
-    ensures { GenNamed words.now.contexts words.now.events words.now.seed words.now.out.now
-        (H.state host.old) (H.state host.new) result }
+    ensures { GenNamed words.now.out.now words.now.making (H.state host.old) (H.state host.new) result }
 {
     let params = default_params();
-    let making = making_of(words);
-    let made = generate(rt, alloc, host, words.out, &making, &params, gate);
+    let made = generate(rt, alloc, host, words.out, &words.making, &params, gate);
     status_of_generate(made)
 }

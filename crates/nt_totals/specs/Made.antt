@@ -3,13 +3,14 @@ use Rattle.std.specs.Prelude.{ℕ, List, map}
 use Rattle.std.specs.Int.{div_ceil}
 use Rattle.std.specs.List.{range_with_len}
 use Rattle.nt_gen.specs.Events.{events_behind}
+use Rattle.nt_gen.specs.Making.{max_events}
 use Rattle.nt_totals.specs.declared.total.Total.{Total}
 use Rattle.nt_totals.specs.Numbers.{entries_sum}
 use Rattle.nt_totals.specs.Lines.{total_lines}
 
 -- the most events of a context
 abbrev pub most_events : ℕ
-most_events = 1000000
+most_events = max_events
 
 -- of so many events behind a number, of which a cluster has at most so many: the clusters, the events, and the sum of their runs and ids
 abbrev pub made_total : ℕ → ℕ → ℕ → Total

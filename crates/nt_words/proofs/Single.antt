@@ -4,6 +4,8 @@ use Rattle.std.specs.Coded.{×_prop, le_prop}
 use Rattle.nt_book.specs.declared.limits.Limits.{Limits}
 use Rattle.nt_book.specs.declared.params.Params.{Params}
 use Rattle.nt_book.specs.Ranges.{IsFromTo}
+use Rattle.nt_gen.specs.Making.{max_events, max_seed, AreContexts}
+use Rattle.nt_gen.specs.declared.making.Making.{Making}
 use Rattle.nt_words.specs.CommandLine.{IsEntries, IsSchemaCommand}
 use Rattle.clap.specs.Words.{App}
 use Rattle.nt_words.specs.Options.{AreParamsSaid}
@@ -74,16 +76,34 @@ same_write P words o s o' s' is is' p p' one other holds =
 some_number_is : (m n : ℕ) → Some m ≡ Some n → m ≡ n
 some_number_is m n e = cc
 
+-- what is made of these numbers, which lie in their ranges
+abbrev making : (c e s : ℕ) → AreContexts c → e ≤ max_events → s ≤ max_seed → Making
+making c e s x y z = record { contexts = c; events = e; seed = s; contexts_range = x; events_range = y; seed_range = z }
+
+any_making : (c e s : ℕ) (x x' : AreContexts c) (y y' : e ≤ max_events) (z z' : s ≤ max_seed) → making c e s x y z ≡ making c e s x' y' z'
+any_making c e s x x' y y' z z' =
+    ap (λ (v : AreContexts c). making c e s v y z) (×_prop le_prop le_prop x x')
+    ∙ ap (λ (v : e ≤ max_events). making c e s x' v z) (le_prop y y') ∙ ap (λ (v : s ≤ max_seed). making c e s x' y' v) (le_prop z z')
+
+-- what is made of the same numbers is the same
+making_is : (m n : Making) → m.contexts ≡ n.contexts → m.events ≡ n.events → m.seed ≡ n.seed → m ≡ n
+making_is m n contexts events seed =
+    subst (λ (c : ℕ). (x : AreContexts c) → m ≡ making c n.events n.seed x n.events_range n.seed_range) contexts
+    (subst (λ (e : ℕ). (y : e ≤ max_events) (x : AreContexts m.contexts) → m ≡ making m.contexts e n.seed x y n.seed_range) events
+    (subst (λ (s : ℕ). (z : s ≤ max_seed) (y : m.events ≤ max_events) (x : AreContexts m.contexts)
+    → m ≡ making m.contexts m.events s x y z) seed
+    (λ z y x. any_making m.contexts m.events m.seed m.contexts_range x m.events_range y m.seed_range z) n.seed_range) n.events_range)
+    n.contexts_range
+
 -- and so of `gen`
-pub same_gen : (P : ℕ → ℕ → ℕ → List ℕ → Type 0) (words : List (List ℕ)) (c e s c' e' s' : ℕ) (o o' : List ℕ) → IsGen words c e s o
-    → IsGen words c' e' s' o' → P c e s o → P c' e' s' o'
-same_gen P words c e s c' e' s' o o' one other holds =
-    let contexts : c ≡ c' = some_number_is c c' (sym one.contexts_is ∙ other.contexts_is) in
-    let events : e ≡ e' = some_number_is e e' (sym one.events_is ∙ other.events_is) in
-    let seed : s ≡ s' = some_number_is s s' (sym one.seed_is ∙ other.seed_is) in
+pub same_gen : (P : Making → List ℕ → Type 0) (words : List (List ℕ)) (m m' : Making) (o o' : List ℕ) → IsGen words m o
+    → IsGen words m' o' → P m o → P m' o'
+same_gen P words m m' o o' one other holds =
+    let contexts : m.contexts ≡ m'.contexts = some_number_is _ _ (sym one.contexts_is ∙ other.contexts_is) in
+    let events : m.events ≡ m'.events = some_number_is _ _ (sym one.events_is ∙ other.events_is) in
+    let seed : m.seed ≡ m'.seed = some_number_is _ _ (sym one.seed_is ∙ other.seed_is) in
     let out : o ≡ o' = some_is o o' (sym one.out_is ∙ other.out_is) in
-    subst (λ (n : ℕ). P n e' s' o') contexts (subst (λ (n : ℕ). P c n s' o') events
-    (subst (λ (n : ℕ). P c e n o') seed (subst (P c e s) out holds)))
+    subst (λ (n : Making). P n o') (making_is m m' contexts events seed) (subst (P m) out holds)
 
 -- of `entries`
 pub same_entries : (P : Option ℕ → Option ℕ → List ℕ → Type 0) (words : List (List ℕ)) (f c f' c' : Option ℕ) (n n' : List ℕ)

@@ -65,7 +65,7 @@ wrong_is_none words wrong = record {
             (subst (λ (s : List ℕ). AreApart out s clash.inputs) (sym schema-is)
             (subst (λ (l : List (List ℕ)). AreApart out schema l) (sym inputs-are) is.apart)))
       ];
-  no_gen = λ contexts events seed out is. wrong.gen is.begins is.taken;
+  no_gen = λ m out is. wrong.gen is.begins is.taken;
   no_entries = λ from count file is. wrong.entries is.begins is.taken;
   no_schema = λ file is. wrong.schema is.begins is.taken;
 }

@@ -2,6 +2,7 @@
 use Rattle.std.specs.Prelude.{ℕ, List, map, codes, Option}
 use Rattle.std.specs.Borrow.{Bor}
 use Rattle.nt_book.specs.declared.params.Params.{Params}
+use Rattle.nt_gen.specs.declared.making.Making.{Making}
 use Rattle.nt_words.specs.declared.command.Command.{Command}
 use Rattle.nt_words.specs.declared.command.Command.TheVariants.{Write, Gen, Entries, Schema, Unknown}
 use Rattle.nt_words.specs.CommandLine.{entries_app, schema_app, Begins, IsTaken, IsEntries, IsSchemaCommand}
@@ -15,7 +16,7 @@ names_of = map (λ name. name.now)
 -- no command has these words
 pub record IsNoCommand (words : List (List ℕ)) : Type 0 where
   pub no_write : (out schema : List ℕ) (inputs : List (List ℕ)) (p : Params) → IsWrite words out schema inputs p → ⊥
-  pub no_gen : (contexts events seed : ℕ) (out : List ℕ) → IsGen words contexts events seed out → ⊥
+  pub no_gen : (m : Making) (out : List ℕ) → IsGen words m out → ⊥
   pub no_entries : (from count : Option ℕ) (file : List ℕ) → IsEntries words from count file → ⊥
   pub no_schema : (file : List ℕ) → IsSchemaCommand words file → ⊥
 
@@ -30,7 +31,7 @@ pub record IsWrong (words : List (List ℕ)) : Type 0 where
 -- the words say this command
 abbrev pub Says : List (List ℕ) → Command → Type 0
 Says words (Write w) = IsWrite words w.out.now w.schema.now (names_of w.inputs.items) w.params
-Says words (Gen g) = IsGen words g.contexts g.events g.seed g.out.now
+Says words (Gen g) = IsGen words g.making g.out.now
 Says words (Entries from count file) = IsEntries words from count file.now
 Says words (Schema file) = IsSchemaCommand words file.now
 Says words Unknown = IsWrong words

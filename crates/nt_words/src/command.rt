@@ -4,8 +4,7 @@ ghost use Rattle.std.specs.Prelude.{ℕ, List, IfOk};
 ghost use Rattle.nt_words.specs.CommandLine.{texts};
 ghost use Rattle.nt_words.specs.Commands.{Says, IsNoCommand, IsWrong};
 
-use crate::gen_words::GenWords;
-use crate::generate::gen_of;
+use crate::generate::{GenWords, gen_of};
 use crate::show::{entries_of, schema_of};
 use crate::write::{WriteWords, write_of};
 use std::alloc::{AllocError, Global};

@@ -8,8 +8,15 @@ ghost use Rattle.nt_words.specs.Arguments.{IsCommandOf};
 
 use crate::arguments::{bare, matches_of, name_in, number_operand, operand, operand_number};
 use crate::command::Command;
-use crate::gen_words::GenWords;
+use nt_gen::Making;
 use std::alloc::{AllocError, Global};
+
+/// The numbers and the name of `gen`: a file of this name is written of events that are made.
+#[derive(Drop)]
+pub struct GenWords<'a> {
+    pub making: Making,
+    pub out: &'a str,
+}
 
 /// `gen C E SEED OUT`.
 fn gen_command<'a>(alloc: Global) -> Result<clap::Command<'a>, AllocError>
@@ -32,10 +39,11 @@ pub(crate) fn gen_of<'a>(alloc: Global, words: &'a [String]) -> Result<Command<'
     let contexts = operand_number(&matches, "C") as u32;
     let events = operand_number(&matches, "E") as u32;
     let seed = operand_number(&matches, "SEED") as u32;
+    let Some(making) = Making::new(contexts, events, seed) else {
+        unreachable!()
+    };
     Ok(Command::Gen(GenWords {
-        contexts,
-        events,
-        seed,
+        making,
         out: name_in(&matches, "OUT"),
     }))
 }

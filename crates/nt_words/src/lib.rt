@@ -8,19 +8,18 @@
 //!
 //! Proved: words are the command that `command_of` answers exactly as clap's definition of simple commands reads them, and `Unknown`
 //! only where the first word is no command, clap refuses the others for another cause than memory, `write` has no or too many
-//! inputs, or its OUT has the name of a text that is read. The numbers of `gen` lie in their ranges (`GenWords`).
+//! inputs, or its OUT has the name of a text that is read. The numbers of `gen` lie in their ranges (`Making` of nt_gen).
 //!
 //! A choice that binds nobody else: that there are no inputs is looked at once more, though clap refuses that by itself.
 #![tactic(auto)]
 
 mod arguments;
 mod command;
-mod gen_words;
 mod generate;
 mod options;
 mod show;
 mod write;
 
 pub use command::{Command, command_of, wrong_words_are_no_command};
-pub use gen_words::GenWords;
+pub use generate::GenWords;
 pub use write::WriteWords;

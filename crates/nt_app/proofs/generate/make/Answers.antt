@@ -1,7 +1,10 @@
-use Rattle.nt_app.proofs.Generating.{named_by}
 use Rattle.nt_app.proofs.generate.make.Goals as goal
 
 pub returns : goal.returns
-returns g c =
-    named_by _ _ _ _ _ _ _ _ _ _ c.status_of_generate.ensures (c.making_of-making.ensures _ c.default_params-params.ensures)
-    c.generate-made.ensures
+returns g c = record {
+  p = c.default_params-params.result;
+  defaults = c.default_params-params.ensures;
+  made = c.generate-made.result;
+  answer_is = c.status_of_generate.ensures;
+  generates = c.generate-made.ensures;
+}

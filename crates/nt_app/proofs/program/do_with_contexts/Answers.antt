@@ -17,5 +17,5 @@ returns-in-Write g c =
 pub returns-in-Gen : goal.returns-in-Gen
 returns-in-Gen g c =
     let said = c.in-Gen.said in
-    made_words _ said.contexts said.events said.seed said.out.now _ _ _
+    made_words _ said.out.now said.making _ _ _
     (subst (Says (texts c.args.words.now)) c.in-Gen.is c.in-Ok.ensures) c.make.ensures

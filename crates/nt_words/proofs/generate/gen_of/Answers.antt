@@ -1,7 +1,8 @@
-use Rattle.std.proofs.Common.{◌∙◌, sym, codes, refl, arith, Some}
+use Rattle.std.proofs.Common.{◌≡◌, ◌∙◌, ap, sym, codes, refl, ℕ, true, false, arith, Some}
 use Rattle.clap.specs.Words.{app_of, IsParsedFrom}
 use Rattle.clap.specs.declared.builder.command.Command.{Command}
 use Rattle.clap.specs.declared.parser.matches.ArgMatches.{ArgMatches}
+use Rattle.nt_gen.specs.Making.{max_contexts, max_events, max_seed}
 use Rattle.nt_words.specs.CommandLine.{texts}
 use Rattle.nt_words.specs.GenWords.{gen_app, gen_rules}
 use Rattle.nt_words.specs.Arguments.{IsCommandOf, HasNumber, IsNumberThere}
@@ -13,17 +14,17 @@ use Rattle.nt_words.proofs.generate.gen_of.Goals as goal
 
 -- what stands under the names of the numbers
 record HasNumbersOfGen (m : ArgMatches) : Type 0 where
-  contexts : HasNumber 1 64 m (codes "C") × IsNumberThere m (codes "C")
-  events : HasNumber 0 1000000 m (codes "E") × IsNumberThere m (codes "E")
-  seed : HasNumber 1 1000000 m (codes "SEED") × IsNumberThere m (codes "SEED")
+  contexts : HasNumber 1 max_contexts m (codes "C") × IsNumberThere m (codes "C")
+  events : HasNumber 0 max_events m (codes "E") × IsNumberThere m (codes "E")
+  seed : HasNumber 1 max_seed m (codes "SEED") × IsNumberThere m (codes "SEED")
 
 numbers_of_gen : (c : Command) (m : ArgMatches) → IsCommandOf (codes "gen") gen_rules c → IsParsedFrom c m → HasNumbersOfGen m
 numbers_of_gen c m is parsed =
     let there = operand_number_there (codes "gen") gen_rules c m in
     record {
-      contexts = there 0 1 64 (codes "C") (own_by (codes "C") refl refl refl) is refl refl parsed;
-      events = there 1 0 1000000 (codes "E") (own_by (codes "E") refl refl refl) is refl refl parsed;
-      seed = there 2 1 1000000 (codes "SEED") (own_by (codes "SEED") refl refl refl) is refl refl parsed;
+      contexts = there 0 1 max_contexts (codes "C") (own_by (codes "C") refl refl refl) is refl refl parsed;
+      events = there 1 0 max_events (codes "E") (own_by (codes "E") refl refl refl) is refl refl parsed;
+      seed = there 2 1 max_seed (codes "SEED") (own_by (codes "SEED") refl refl refl) is refl refl parsed;
     }
 
 pub returns-in_default : goal.returns-in_default
@@ -41,7 +42,7 @@ pub overflow_cast-contexts : goal.overflow_cast-contexts
 overflow_cast-contexts c =
     let has = numbers_of_gen c.in_ok-gen_command.field-0 c.in-Some.matches c.in_ok-gen_command.ensures
     (held (IsParsedFrom c.in_ok-gen_command.field-0) _ c.in-Some.matches c.in-Some.is c.in_ok-matches.ensures.parsed) in
-    let within = (c.operand_number-contexts.ensures 1 64 has.contexts.0).1 in
+    let within = (c.operand_number-contexts.ensures 1 max_contexts has.contexts.0).1 in
     omega arith
 
 pub operand_number-events-requires : goal.operand_number-events-requires
@@ -54,7 +55,7 @@ pub overflow_cast-events : goal.overflow_cast-events
 overflow_cast-events c =
     let has = numbers_of_gen c.in_ok-gen_command.field-0 c.in-Some.matches c.in_ok-gen_command.ensures
     (held (IsParsedFrom c.in_ok-gen_command.field-0) _ c.in-Some.matches c.in-Some.is c.in_ok-matches.ensures.parsed) in
-    let within = (c.operand_number-events.ensures 0 1000000 has.events.0).1 in
+    let within = (c.operand_number-events.ensures 0 max_events has.events.0).1 in
     omega arith
 
 pub operand_number-seed-requires : goal.operand_number-seed-requires
@@ -67,7 +68,7 @@ pub overflow_cast-seed : goal.overflow_cast-seed
 overflow_cast-seed c =
     let has = numbers_of_gen c.in_ok-gen_command.field-0 c.in-Some.matches c.in_ok-gen_command.ensures
     (held (IsParsedFrom c.in_ok-gen_command.field-0) _ c.in-Some.matches c.in-Some.is c.in_ok-matches.ensures.parsed) in
-    let within = (c.operand_number-seed.ensures 1 1000000 has.seed.0).1 in
+    let within = (c.operand_number-seed.ensures 1 max_seed has.seed.0).1 in
     omega arith
 
 pub name_in-requires : goal.name_in-requires
@@ -76,15 +77,15 @@ name_in-requires c =
     (own_by (codes "OUT") refl refl refl) c.in_ok-gen_command.ensures refl refl
     (held (IsParsedFrom c.in_ok-gen_command.field-0) _ c.in-Some.matches c.in-Some.is c.in_ok-matches.ensures.parsed)
 
-pub invariant_of-result : goal.invariant_of-result
-invariant_of-result c =
+pub unreachable-requires : goal.unreachable-requires
+unreachable-requires c =
     let has = numbers_of_gen c.in_ok-gen_command.field-0 c.in-Some.matches c.in_ok-gen_command.ensures
     (held (IsParsedFrom c.in_ok-gen_command.field-0) _ c.in-Some.matches c.in-Some.is c.in_ok-matches.ensures.parsed) in
-    record {
-      contexts_range = (c.operand_number-contexts.ensures 1 64 has.contexts.0).1;
-      events_range = (c.operand_number-events.ensures 0 1000000 has.events.0).1.1;
-      seed_range = (c.operand_number-seed.ensures 1 1000000 has.seed.0).1;
-    }
+    let contexts = (c.operand_number-contexts.ensures 1 max_contexts has.contexts.0).1 in
+    let events = (c.operand_number-events.ensures 0 max_events has.events.0).1.1 in
+    let seed = (c.operand_number-seed.ensures 1 max_seed has.seed.0).1.1 in
+    let bad : false ≡ true = c.in_default-new.ensures.exact.1 (contexts, events, seed) in
+    cc
 
 pub returns : goal.returns
 returns c =
@@ -98,10 +99,13 @@ returns c =
       begins = c.requires;
       taken = read.0;
       contexts_is = sym (number_by gen_app words m (codes "C") (Some c.operand_number-contexts.result) read.1
-          (c.operand_number-contexts.ensures 1 64 has.contexts.0).0);
+          (c.operand_number-contexts.ensures 1 max_contexts has.contexts.0).0)
+          ∙ ap (λ (n : ℕ). Some n) (sym c.in-Some-new.ensures.numbers.0);
       events_is = sym (number_by gen_app words m (codes "E") (Some c.operand_number-events.result) read.1
-          (c.operand_number-events.ensures 0 1000000 has.events.0).0);
+          (c.operand_number-events.ensures 0 max_events has.events.0).0)
+          ∙ ap (λ (n : ℕ). Some n) (sym c.in-Some-new.ensures.numbers.1);
       seed_is = sym (number_by gen_app words m (codes "SEED") (Some c.operand_number-seed.result) read.1
-          (c.operand_number-seed.ensures 1 1000000 has.seed.0).0);
+          (c.operand_number-seed.ensures 1 max_seed has.seed.0).0)
+          ∙ ap (λ (n : ℕ). Some n) (sym c.in-Some-new.ensures.numbers.2);
       out_is = found_by gen_app words m (codes "OUT") c.name_in.result.now read.1 c.name_in.ensures;
     }
