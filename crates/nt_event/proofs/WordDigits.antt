@@ -2,11 +2,10 @@
 use Rattle.std.proofs.Common.{◌≡◌, ℕ, zero, suc, ◌+◌, ◌-◌, ◌*◌, ◌/◌, ◌%◌, ◌^◌, ◌<◌, ◌≤◌, List, [], ◌∷◌, ◌++◌, length, take, drop, get_or}
 use Rattle.std.proofs.Common.{refl, sym, ap, ◌∙◌, arith, subst, length-drop, length-take-le}
 use Rattle.std.proofs.Math.Nat.{mul_assoc, mul_comm}
-use Rattle.std.proofs.lemmas.Nat.{and_block, and_mask, le_or_l, le_or_r, pow-add, mod-mul-add, shl_below}
+use Rattle.std.proofs.lemmas.Nat.{pow-add, pow_pos, mod_below, mod-mul-add, mod-pow-add, div-add-mod', same_from_place, shl_below}
 use Rattle.std.proofs.lemmas.List.{take-take, take-append-drop}
 use Rattle.std.proofs.lemmas.Str.{digit_value_digit}
 use Rattle.std.specs.List.{slice_range}
-use Rattle.std.specs.Int.Bits.{bit_and, bit_or}
 use Rattle.std.specs.Char.{digit_value}
 use Rattle.std.specs.Str.Parse.{AllDigits, digits_value_after, digits_value}
 use Rattle.nt_event.specs.Eight.{low_first, AreDigits, number_behind}
@@ -69,25 +68,6 @@ pub low_first-below : (xs : List ℕ) → AllBytes xs → low_first xs < size (l
 low_first-below [] bytes = omega arith
 low_first-below (x ∷ xs) bytes = omega (arith, size-suc (length xs), low_first-below xs bytes.1, bytes.0)
 
--- the first bytes are what is left of a word that is shifted by the others
-pub shifted : (xs zs : List ℕ) (m : ℕ) → length xs + m ≡ 8 → AllBytes xs
-    → (low_first (xs ++ zs) * size m) % 2 ^ 64 ≡ low_first xs * size m
-shifted xs zs m all bytes =
-    let k = length xs in
-    let l = low_first xs in
-    let z = low_first zs in
-    let bits : 8 * k + 8 * m ≡ 64 = omega (arith, all) in
-    let whole : size k * size m ≡ 2 ^ 64 =
-    sym (pow-add 2 (8 * k) (8 * m)) ∙ ap (λ n. 2 ^ n) bits in
-    let high : (size k * z) * size m ≡ z * 2 ^ 64 =
-    ap (λ n. n * size m) (mul_comm (size k) z) ∙ mul_assoc z (size k) (size m) ∙ ap (λ n. z * n) whole in
-    let below : l * size m < 2 ^ 64 = subst (λ n. l * size m < 2 ^ n) bits (shl_below l (8 * k) (8 * m)
-    (low_first-below xs bytes)) in
-    let split : (l + size k * z) * size m ≡ z * 2 ^ 64 + l * size m = omega (arith, high) in
-    let parts : low_first (xs ++ zs) * size m ≡ z * 2 ^ 64 + l * size m =
-    ap (λ n. n * size m) (low_first-append xs zs) ∙ split in
-    ap (λ n. n % 2 ^ 64) parts ∙ mod-mul-add z (2 ^ 64) (l * size m) below
-
 -- a word behind zeros, less what stands there for digits
 pub record Behind (k c w n : ℕ) : Type 0 where
   pub rest : ℕ
@@ -148,97 +128,102 @@ pub are-bytes : (xs : List ℕ) → ((i : ℕ) → get_or xs i 0 < 256) → AllB
 are-bytes [] below = tt
 are-bytes (x ∷ xs) below = (below 0, are-bytes xs (λ i. below (suc i)))
 
--- the digits that a word was shifted to, less their zeros
-pub eight-read : (text : List ℕ) (at k m w c y : ℕ) → at + 8 ≤ length text → k + m ≡ 8 → AllBytes (take 8 (drop at text))
-    → w ≡ (low_first (take 8 (drop at text)) * size m) % 2 ^ 64 → c ≡ (low_first (nulls 8) * size m) % 2 ^ 64
-    → y ≡ (w + (2 ^ 64 - c)) % 2 ^ 64 → AreDigits 8 y
-    → AllDigits 10 (slice_range text at (at + k)) × (number_behind 8 0 y ≡ digits_value 10 (slice_range text at (at + k)))
-eight-read text at k m w c y within all bytes w_is c_is y_is small =
+-- the digits that stand from a place on, as a word whose lowest bytes they are
+pub record EightRead (text : List ℕ) (at k y : ℕ) : Type 0 where
+  pub eight : AreDigits 8 y
+  pub digits : AllDigits 10 (slice_range text at (at + k))
+  pub value : number_behind 8 0 y ≡ digits_value 10 (slice_range text at (at + k))
+
+-- a byte and the rest of a number
+byte-of : (x r y : ℕ) → x ≡ r * 256 + y % 256 → (x % 256 ≡ y % 256) × (x / 256 ≡ r)
+byte-of x r y is = (omega (arith, is), omega (arith, is))
+
+-- the lowest byte of what is left of a number below a size, and the rest of it
+pub low-part : (k n : ℕ) → (n % size (suc k) % 256 ≡ n % 256) × (n % size (suc k) / 256 ≡ n / 256 % size k)
+low-part k n =
+    let up : 8 * suc k ≡ 8 * k + 8 = omega arith in
+    byte-of (n % size (suc k)) (n / 256 % size k) n (ap (λ j. n % 2 ^ j) up ∙ mod-pow-add n (8 * k) 8)
+
+digits-low : (k n : ℕ) → AreDigits k n → AreDigits k (n % size k)
+digits-low zero n small = tt
+digits-low (suc k) n small =
+    let p = low-part k n in
+    (subst (λ d. d < 10) (sym p.0) small.0, subst (AreDigits k) (sym p.1) (digits-low k (n / 256) small.1))
+
+digits-up : (m k r : ℕ) → AreDigits k r → AreDigits (m + k) (r * size m)
+digits-up zero k r small =
+    let same : zero + k ≡ k = omega arith in
+    let one : r * size zero ≡ r = omega arith in
+    subst (λ j. AreDigits j (r * size zero)) (sym same) (subst (AreDigits k) (sym one) small)
+digits-up (suc m) k r small =
+    let up : suc m + k ≡ suc (m + k) = omega arith in
+    let more : r * size (suc m) ≡ 256 * (r * size m) = ap (λ n. r * n) (size-suc m ∙ mul_comm 256 (size m))
+    ∙ sym (mul_assoc r (size m) 256) ∙ mul_comm (r * size m) 256 in
+    let next : 256 * (r * size m) / 256 ≡ r * size m = omega arith in
+    let low : 256 * (r * size m) % 256 < 10 = omega arith in
+    subst (λ j. AreDigits j (r * size (suc m))) (sym up) (subst (AreDigits (suc (m + k))) (sym more)
+    (low, subst (AreDigits (m + k)) (sym next) (digits-up m k r small)))
+
+-- of two numbers that differ by a word less another, the lowest parts differ by those of the words
+low-less : (s m j q z r c h l w n : ℕ) → s * m ≡ 2 ^ 64 → j * s + r ≡ w → 3472328296227680304 ≡ c + s * z → n ≡ l + s * h
+    → (n + (2 ^ 64 - 3472328296227680304)) / 2 ^ 64 ≡ q → (n + (2 ^ 64 - 3472328296227680304)) % 2 ^ 64 ≡ w
+    → r + c < s → l < s → r + c ≡ l
+low-less s m j q z r c h l w n whole w_is c_is n_is q_is rest few low =
+    let ms : m * s ≡ 2 ^ 64 = mul_comm m s ∙ whole in
+    let qm : q * m * s ≡ q * 2 ^ 64 = mul_assoc q m s ∙ ap (λ x. q * x) ms in
+    let zs : s * z ≡ z * s = mul_comm s z in
+    let hs : s * h ≡ h * s = mul_comm s h in
+    let sum : (j + q * m + z) * s ≡ j * s + q * m * s + z * s = omega arith in
+    let other : (h + m) * s ≡ h * s + m * s = omega arith in
+    let same : (j + q * m + z) * s + (r + c) ≡ (h + m) * s + l =
+    omega (arith, sum, other, ms, qm, zs, hs, w_is, c_is, n_is, q_is, rest) in
+    (same_from_place (j + q * m + z) (r + c) (h + m) l s few low same).1
+
+-- the lowest bytes of a word less the zeros are digits, and are shifted to its end
+pub eight-read : (text : List ℕ) (at k m w : ℕ) → at + 8 ≤ length text → k + m ≡ 8 → AllBytes (take 8 (drop at text))
+    → (low_first (take 8 (drop at text)) + (2 ^ 64 - 3472328296227680304)) % 2 ^ 64 ≡ w → AreDigits k w
+    → EightRead text at k ((w * size m) % 2 ^ 64)
+eight-read text at k m w within all bytes w_is small =
     let bs = take 8 (drop at text) in
     let xs = take k bs in
     let count : length bs ≡ 8 = length-take-le 8 (drop at text) (omega (arith, length-drop at text)) in
     let len : length xs ≡ k = length-take-le k bs (omega (arith, count, all)) in
     let own = take-bytes k bs bytes in
-    let left : w ≡ low_first xs * size m = w_is ∙ ap (λ l. (low_first l * size m) % 2 ^ 64) (sym (take-append-drop k bs))
-    ∙ shifted xs (drop k bs) m (omega (arith, len, all)) own in
-    let cut : nulls 8 ≡ nulls k ++ nulls m = ap nulls (sym all) ∙ nulls-append k m in
-    let zeros : c ≡ low_first (nulls k) * size m = c_is ∙ ap (λ l. (low_first l * size m) % 2 ^ 64) cut
-    ∙ shifted (nulls k) (nulls m) m (omega (arith, length-nulls k, all)) (nulls-bytes k) in
+    let s = size k in
     let bits : 8 * k + 8 * m ≡ 64 = omega (arith, all) in
-    let low : low_first (nulls k) * 5 * size m < 2 ^ 64 =
-    subst (λ n. low_first (nulls k) * 5 * size m < 2 ^ n) bits (shl_below (low_first (nulls k) * 5) (8 * k) (8 * m)
-    (nulls-few k)) in
-    let few : c * 5 < 2 ^ 64 = omega (arith, zeros, low) in
-    let below : y < 2 ^ 64 = omega (arith, y_is) in
-    let tiny : y * 28 < 2 ^ 64 = digits-few 8 y below small in
-    let sum : y + c ≡ w = omega (arith, y_is, few, tiny, w_is) in
+    let whole : s * size m ≡ 2 ^ 64 = sym (pow-add 2 (8 * k) (8 * m)) ∙ ap (λ n. 2 ^ n) bits in
+    let word : low_first bs ≡ low_first xs + s * low_first (drop k bs) = ap low_first (sym (take-append-drop k bs))
+    ∙ low_first-append xs (drop k bs) ∙ ap (λ n. low_first xs + size n * low_first (drop k bs)) len in
+    let zeros : 3472328296227680304 ≡ low_first (nulls k) + s * low_first (nulls m) = ap (λ n. low_first (nulls n)) (sym all)
+    ∙ ap low_first (nulls-append k m) ∙ low_first-append (nulls k) (nulls m)
+    ∙ ap (λ n. low_first (nulls k) + size n * low_first (nulls m)) (length-nulls k) in
+    let r = w % s in
+    let parts : w / s * s + r ≡ w = div-add-mod' w s in
+    let low : r < s = mod_below w s (pow_pos (8 * k)) in
+    let few = digits-few k r low (digits-low k w small) in
+    let sum : r + low_first (nulls k) < s = omega (arith, few, nulls-few k) in
+    let below : low_first xs < s = subst (λ n. low_first xs < size n) len (low_first-below xs own) in
+    let apart : r + low_first (nulls k) ≡ low_first xs = low-less s (size m) (w / s) _ (low_first (nulls m)) r (low_first (nulls k))
+    (low_first (drop k bs)) (low_first xs) w (low_first bs) whole parts zeros word refl w_is sum below in
+    let up : r * size m < 2 ^ 64 = subst (λ n. r * size m < 2 ^ n) bits (shl_below r (8 * k) (8 * m) low) in
+    let high : w / s * s * size m ≡ w / s * 2 ^ 64 = mul_assoc (w / s) s (size m) ∙ ap (λ n. w / s * n) whole in
+    let spread : (w / s * s + r) * size m ≡ w / s * 2 ^ 64 + r * size m = omega (arith, high) in
+    let y_is : (w * size m) % 2 ^ 64 ≡ r * size m = ap (λ n. (n * size m) % 2 ^ 64) (sym parts) ∙ ap (λ n. n % 2 ^ 64) spread
+    ∙ mod-mul-add (w / s) (2 ^ 64) (r * size m) up in
     let turn : m + k ≡ 8 = omega (arith, all) in
-    let is : y + low_first (nulls k) * size m ≡ low_first xs * size m = omega (arith, sum, left, zeros) in
-    let b = zeros-passed m k y (low_first (nulls k)) (low_first xs) is (subst (λ n. AreDigits n y) (sym turn) small) in
-    let same : number_behind 8 0 y ≡ number_behind k 0 b.rest = ap (λ n. number_behind n 0 y) (sym turn) ∙ b.same in
+    let eight = digits-up m k r (digits-low k w small) in
+    let is : r * size m + low_first (nulls k) * size m ≡ low_first xs * size m = omega (arith, ap (λ n. n * size m) apart) in
+    let b = zeros-passed m k (r * size m) (low_first (nulls k)) (low_first xs) is eight in
+    let same : number_behind 8 0 (r * size m) ≡ number_behind k 0 b.rest =
+    ap (λ n. number_behind n 0 (r * size m)) (sym turn) ∙ b.same in
     let spelled = digits-spelled xs b.rest 0 own (ap (λ n. b.rest + low_first (nulls n)) len ∙ b.is)
     (subst (λ n. AreDigits n b.rest) (sym len) b.digits) in
     let count-back : k ≡ (at + k) - at = omega arith in
     let there : xs ≡ slice_range text at (at + k) =
-    take-take k 8 (drop at text) (omega (arith, all)) ∙ ap (λ n. take n (drop at text)) count-back in (
-      subst (AllDigits 10) there spelled.0,
-      same ∙ ap (λ n. number_behind n 0 b.rest) (sym len) ∙ spelled.1 ∙ ap (digits_value 10) there,
-    )
-
--- ---- the marks
-
--- the highest bit of each of so many bytes
-abbrev pub highest : ℕ → ℕ
-highest zero = 0
-highest (suc k) = 128 + 256 * highest k
-
--- 118 in each of so many bytes
-abbrev pub above_nine : ℕ → ℕ
-above_nine zero = 0
-above_nine (suc k) = 118 + 256 * above_nine k
-
--- so many of the lowest bytes have no highest bit
-abbrev pub AreLow : ℕ → ℕ → Type 0
-AreLow zero n = Unit {0}
-AreLow (suc k) n = (n % 256 < 128) × AreLow k (n / 256)
-
--- a byte without its highest bit
-low-byte : (r : ℕ) → r < 256 → bit_and r 128 ≡ 0 → r < 128
-low-byte r below none =
-    let cut : r ≡ r / 128 * 2 ^ 7 + r % 128 = omega arith in
-    let e : bit_and r 128 ≡ bit_and (r / 128) 1 * 2 ^ 7 + bit_and (r % 128) 0 =
-    ap (λ n. bit_and n 128) cut ∙ and_block 7 (r / 128) 1 (r % 128) 0 (omega arith) (omega arith) in
-    omega (arith, e, none, and_mask (r / 128) 1, below)
-
-pub low-bytes : (k n : ℕ) → bit_and n (highest k) ≡ 0 → AreLow k n
-low-bytes zero n none = tt
-low-bytes (suc k) n none =
-    let cut : n ≡ n / 256 * 2 ^ 8 + n % 256 = omega arith in
-    let mask : highest (suc k) ≡ highest k * 2 ^ 8 + 128 = omega arith in
-    let e : bit_and n (highest (suc k)) ≡ bit_and (n / 256) (highest k) * 2 ^ 8 + bit_and (n % 256) 128 =
-    ap (λ j. bit_and j (highest (suc k))) cut ∙ ap (λ j. bit_and (n / 256 * 2 ^ 8 + n % 256) j) mask
-    ∙ and_block 8 (n / 256) (highest k) (n % 256) 128 (omega arith) (omega arith) in
-    (low-byte (n % 256) (omega arith) (omega (arith, e, none)), low-bytes k (n / 256) (omega (arith, e, none)))
-
-pub low-digits : (k n : ℕ) → AreLow k n → AreLow k (n + above_nine k) → AreDigits k n
-low-digits zero n low high = tt
-low-digits (suc k) n low high =
-    let next : (n + above_nine (suc k)) / 256 ≡ n / 256 + above_nine k = omega (arith, low.0) in
-    (omega (arith, low.0, high.0), low-digits k (n / 256) low.1 (subst (AreLow k) next high.1))
-
-pub low-few : (k n : ℕ) → n < size k → AreLow k n → n * 2 < size k
-low-few zero n below low = omega (arith, below)
-low-few (suc k) n below low =
-    let s = size-suc k in
-    omega (arith, s, low-few k (n / 256) (omega (arith, s, below)) low.1, low.0)
-
--- no byte has a mark
-pub unmarked : (n : ℕ) → n < 2 ^ 64 → bit_or (bit_and n (highest 8)) (bit_and ((n + above_nine 8) % 2 ^ 64) (highest 8)) ≡ 0 → AreDigits 8 n
-unmarked n below none =
-    let first = bit_and n (highest 8) in
-    let second = bit_and ((n + above_nine 8) % 2 ^ 64) (highest 8) in
-    let low = low-bytes 8 n (omega (arith, none, le_or_l first second)) in
-    let high = low-bytes 8 ((n + above_nine 8) % 2 ^ 64) (omega (arith, none, le_or_r first second)) in
-    let few = low-few 8 n below low in
-    let whole : (n + above_nine 8) % 2 ^ 64 ≡ n + above_nine 8 = omega (arith, few) in
-    low-digits 8 n low (subst (AreLow 8) whole high)
+    take-take k 8 (drop at text) (omega (arith, all)) ∙ ap (λ n. take n (drop at text)) count-back in
+    record {
+      eight = subst (AreDigits 8) (sym y_is) (subst (λ n. AreDigits n (r * size m)) turn eight);
+      digits = subst (AllDigits 10) there spelled.0;
+      value = ap (number_behind 8 0) y_is ∙ same ∙ ap (λ n. number_behind n 0 b.rest) (sym len) ∙ spelled.1
+          ∙ ap (digits_value 10) there;
+    }
