@@ -2,10 +2,8 @@
 use Rattle.std.proofs.Common.{◌≡◌, ℕ, ◌+◌, ◌-◌, ◌*◌, ◌/◌, ◌%◌, ◌^◌, ◌<◌, ◌≤◌, List, [], ◌∷◌, ◌++◌, take, refl, sym, ap, ◌∙◌}
 use Rattle.std.proofs.Common.{inl, inr, arith, eq-zero-or-pos, append_assoc, append-nil, decimal}
 use Rattle.std.specs.Int.{to_le_bytes, w64}
-use Rattle.std.specs.Int.Count.{count_trailing_zeros}
 use Rattle.std.proofs.lemmas.Fmt.{decimal_digit, decimal_step}
 use Rattle.nt_print.specs.Digits.{last_digits, digit_bytes}
-use Rattle.nt_print.proofs.Trailing.{zeros-skip, zeros-stop}
 
 -- ---- digits as a list, the first in front
 
@@ -77,95 +75,91 @@ bytes-eight a b c d e f g h n pa pb pc pd pe pf pg ph is =
     (cons _ _ _ _ (omega (arith, t3, pd)) (cons _ _ _ _ (omega (arith, t4, pe)) (cons _ _ _ _ (omega (arith, t5, pf))
     (cons _ _ _ _ (omega (arith, t6, pg)) (cons _ _ _ _ (omega (arith, t7, ph)) refl)))))))
 
--- a word of a mark and of digits of which so many in front were shifted out
-abbrev shifted_word : ℕ → ℕ → ℕ → ℕ
-shifted_word w m none = w * 256 / 2 ^ (8 * none) + 13563782407139328 + m
+-- the text of a mark and a word of digits from which so many in front were shifted out
+abbrev kept_text : ℕ → ℕ → ℕ → ℕ → List ℕ
+kept_text w m none count = take count (to_le_bytes w64 (w / 2 ^ (8 * none) * 256 + m))
 
--- what is kept of it
-abbrev kept_text : ℕ → ℕ → ℕ → List ℕ
-kept_text w m none = take (7 - none) (to_le_bytes w64 (shifted_word w m none))
+-- the bytes of a mark and of others behind it
+marked-bytes : (m w p q r s t u v : ℕ) → m < 256 → p < 256 → q < 256 → r < 256 → s < 256 → t < 256 → u < 256 → v < 256
+    → w ≡ bytes_word (p ∷ q ∷ r ∷ s ∷ t ∷ u ∷ v ∷ []) → to_le_bytes w64 (w * 256 + m) ≡ m ∷ p ∷ q ∷ r ∷ s ∷ t ∷ u ∷ v ∷ []
+marked-bytes m w p q r s t u v pm pp pq pr ps pt pu pv is =
+    bytes-eight m p q r s t u v (w * 256 + m) pm pp pq pr ps pt pu pv (omega (arith, is))
 
-kept-shifted : (m w n none a b c d e f : ℕ) (t : List ℕ) → m < 256 → AreDigits (a ∷ b ∷ c ∷ d ∷ e ∷ f ∷ [])
-    → w * 256 / 2 ^ (8 * none) ≡ 256 * bytes_word (a ∷ b ∷ c ∷ d ∷ e ∷ f ∷ [])
-    → take (7 - none) (m ∷ (digit_text (a ∷ b ∷ c ∷ d ∷ e ∷ f ∷ []) ++ 0 ∷ [])) ≡ m ∷ t → decimal n ≡ t
-    → kept_text w m none ≡ m ∷ decimal n
-kept-shifted m w n none a b c d e f t pm (pa, (pb, (pc, (pd, (pe, (pf, _)))))) is cut text =
-    let word : shifted_word w m none
-    ≡ bytes_word (m ∷ (48 + a) ∷ (48 + b) ∷ (48 + c) ∷ (48 + d) ∷ (48 + e) ∷ (48 + f) ∷ 0 ∷ []) = omega (arith, is) in
-    let bytes = bytes-eight m (48 + a) (48 + b) (48 + c) (48 + d) (48 + e) (48 + f) 0 (shifted_word w m none) pm (omega (arith, pa))
-    (omega (arith, pb)) (omega (arith, pc)) (omega (arith, pd)) (omega (arith, pe)) (omega (arith, pf)) (omega arith) word in
-    ap (take (7 - none)) bytes ∙ (cut ∙ ap (λ l. m ∷ l) (sym text))
+-- as many are shifted out as are zeros in front
+kept-at : (w m none k : ℕ) (count : ℕ → ℕ) (t : List ℕ) → none ≡ k → kept_text w m k (count k) ≡ t → kept_text w m none (count none) ≡ t
+kept-at w m none k count t is text = ap (λ j. kept_text w m j (count j)) is ∙ text
 
--- of six digits, those from the first on that isn't zero, or the last
-short-digits : (m a b c d e f n w : ℕ) → m < 256 → AreDigits (a ∷ b ∷ c ∷ d ∷ e ∷ f ∷ [])
-    → n ≡ spelled a (b ∷ c ∷ d ∷ e ∷ f ∷ []) → w ≡ bytes_word (a ∷ b ∷ c ∷ d ∷ e ∷ f ∷ [])
-    → kept_text w m (count_trailing_zeros 64 (w + 17592186044416) / 8) ≡ m ∷ decimal n
-short-digits m a b c d e f n w pm (pa, (pb, (pc, (pd, (pe, (pf, _)))))) number word =
-    let y5 = f + 16 in
-    let y4 = e + 256 * y5 in
-    let y3 = d + 256 * y4 in
-    let y2 = c + 256 * y3 in
-    let y1 = b + 256 * y2 in
-    let all : w + 17592186044416 ≡ a + 256 * y1 = omega (arith, word) in
-    let fits : n < 2 ^ 64 = omega (arith, number, pa, pb, pc, pd, pe, pf) in
-    let last : count_trailing_zeros 24 y5 / 8 ≡ 0 =
-    ap (λ x. count_trailing_zeros 24 x / 8) (omega arith) ∙ zeros-stop 16 y5 0 (omega arith) (omega (arith, pf)) in
-    let at : (k : ℕ) → count_trailing_zeros 64 (a + 256 * y1) / 8 ≡ k → kept_text w m k ≡ m ∷ decimal n
-    → kept_text w m (count_trailing_zeros 64 (w + 17592186044416) / 8) ≡ m ∷ decimal n =
-    λ k is text. ap (kept_text w m) (ap (λ x. count_trailing_zeros 64 x / 8) all ∙ is) ∙ text in
+-- of three digits, those from the first on that isn't zero, or the last
+small-digits : (m a b c n w none : ℕ) → m < 256 → AreDigits (a ∷ b ∷ c ∷ []) → n ≡ spelled a (b ∷ c ∷ [])
+    → w ≡ bytes_word ((48 + a) ∷ (48 + b) ∷ (48 + c) ∷ 32 ∷ []) → (n < 10 → none ≡ 2) → (10 ≤ n → n < 100 → none ≡ 1) → (100 ≤ n → none ≡ 0)
+    → kept_text w m none (4 - none) ≡ m ∷ decimal n
+small-digits m a b c n w none pm (pa, (pb, (pc, _))) number word units tens hundreds =
+    let fits : n < 2 ^ 64 = omega (arith, number, pa, pb, pc) in
+    let ba : 48 + a < 256 = omega (arith, pa) in
+    let bb : 48 + b < 256 = omega (arith, pb) in
+    let bc : 48 + c < 256 = omega (arith, pc) in
+    let blank : 32 < 256 = omega arith in
+    let nil : 0 < 256 = omega arith in
     elim (eq-zero-or-pos a) [
       | inr g ↦
-          at 0 (omega (arith, zeros-stop 56 a y1 g (omega (arith, pa))))
-          (kept-shifted m w n 0 a b c d e f (digit_text (a ∷ b ∷ c ∷ d ∷ e ∷ f ∷ [])) pm
-          (pa, (pb, (pc, (pd, (pe, (pf, tt))))))
-          (omega (arith, word)) refl
-          (decimal-first a (b ∷ c ∷ d ∷ e ∷ f ∷ []) n g (pa, (pb, (pc, (pd, (pe, (pf, tt)))))) (omega (arith, number)) fits))
+          kept-at w m none 0 (λ k. 4 - k) _ (hundreds (omega (arith, number, g)))
+          (ap (take 4) (marked-bytes m (w / 2 ^ (8 * 0)) (48 + a) (48 + b) (48 + c) 32 0 0 0 pm ba bb bc blank nil nil nil
+          (omega (arith, word)))
+          ∙ ap (λ l. m ∷ l) (sym (decimal-first a (b ∷ c ∷ []) n g (pa, (pb, (pc, tt))) number fits)))
       | inl za ↦
-          let sa = zeros-skip 56 a y1 za in
           elim (eq-zero-or-pos b) [
             | inr g ↦
-                at 1 (omega (arith, sa, zeros-stop 48 b y2 g (omega (arith, pb))))
-                (kept-shifted m w n 1 b c d e f 0 (digit_text (b ∷ c ∷ d ∷ e ∷ f ∷ [])) pm
-                (pb, (pc, (pd, (pe, (pf, (omega arith, tt))))))
-                (omega (arith, word, za)) refl
-                (decimal-first b (c ∷ d ∷ e ∷ f ∷ []) n g (pb, (pc, (pd, (pe, (pf, tt))))) (omega (arith, number, za)) fits))
+                kept-at w m none 1 (λ k. 4 - k) _ (tens (omega (arith, number, g)) (omega (arith, number, za, pb, pc)))
+                (ap (take 3) (marked-bytes m (w / 2 ^ (8 * 1)) (48 + b) (48 + c) 32 0 0 0 0 pm bb bc blank nil nil nil nil
+                (omega (arith, word, pa)))
+                ∙ ap (λ l. m ∷ l) (sym (decimal-first b (c ∷ []) n g (pb, (pc, tt)) (omega (arith, number, za)) fits)))
             | inl zb ↦
-                let sb = zeros-skip 48 b y2 zb in
-                elim (eq-zero-or-pos c) [
-                  | inr g ↦
-                      at 2 (omega (arith, sa, sb, zeros-stop 40 c y3 g (omega (arith, pc))))
-                      (kept-shifted m w n 2 c d e f 0 0 (digit_text (c ∷ d ∷ e ∷ f ∷ [])) pm
-                      (pc, (pd, (pe, (pf, (omega arith, (omega arith, tt))))))
-                      (omega (arith, word, za, zb)) refl
-                      (decimal-first c (d ∷ e ∷ f ∷ []) n g (pc, (pd, (pe, (pf, tt)))) (omega (arith, number, za, zb)) fits))
-                  | inl zc ↦
-                      let sc = zeros-skip 40 c y3 zc in
-                      elim (eq-zero-or-pos d) [
-                        | inr g ↦
-                            at 3 (omega (arith, sa, sb, sc, zeros-stop 32 d y4 g (omega (arith, pd))))
-                            (kept-shifted m w n 3 d e f 0 0 0 (digit_text (d ∷ e ∷ f ∷ [])) pm
-                            (pd, (pe, (pf, (omega arith, (omega arith, (omega arith, tt))))))
-                            (omega (arith, word, za, zb, zc)) refl
-                            (decimal-first d (e ∷ f ∷ []) n g (pd, (pe, (pf, tt))) (omega (arith, number, za, zb, zc)) fits))
-                        | inl zd ↦
-                            let sd = zeros-skip 32 d y4 zd in
-                            elim (eq-zero-or-pos e) [
-                              | inr g ↦
-                                  at 4 (omega (arith, sa, sb, sc, sd, zeros-stop 24 e y5 g (omega (arith, pe))))
-                                  (kept-shifted m w n 4 e f 0 0 0 0 (digit_text (e ∷ f ∷ [])) pm
-                                  (pe, (pf, (omega arith, (omega arith, (omega arith, (omega arith, tt))))))
-                                  (omega (arith, word, za, zb, zc, zd)) refl
-                                  (decimal-first e (f ∷ []) n g (pe, (pf, tt)) (omega (arith, number, za, zb, zc, zd)) fits))
-                              | inl ze ↦
-                                  let se = zeros-skip 24 e y5 ze in
-                                  at 5 (omega (arith, sa, sb, sc, sd, se, last))
-                                  (kept-shifted m w n 5 f 0 0 0 0 0 (digit_text (f ∷ [])) pm
-                                  (pf, (omega arith, (omega arith, (omega arith, (omega arith, (omega arith, tt))))))
-                                  (omega (arith, word, za, zb, zc, zd, ze)) refl
-                                  (ap decimal (omega (arith, number, za, zb, zc, zd, ze)) ∙ decimal_digit f pf))
-                            ]
-                      ]
-                ]
+                kept-at w m none 2 (λ k. 4 - k) _ (units (omega (arith, number, za, zb, pc)))
+                (ap (take 2) (marked-bytes m (w / 2 ^ (8 * 2)) (48 + c) 32 0 0 0 0 0 pm bc blank nil nil nil nil nil
+                (omega (arith, word, pa, pb)))
+                ∙ ap (λ l. m ∷ l) (sym (ap decimal (omega (arith, number, za, zb)) ∙ decimal_digit c pc)))
+          ]
+    ]
+
+-- of six digits, those from the first on that isn't zero
+short-digits : (m a b c d e f n w none : ℕ) → m < 256 → AreDigits (a ∷ b ∷ c ∷ d ∷ e ∷ f ∷ [])
+    → n ≡ spelled a (b ∷ c ∷ d ∷ e ∷ f ∷ []) → 1000 ≤ n
+    → w ≡ bytes_word ((48 + a) ∷ (48 + b) ∷ (48 + c) ∷ (48 + d) ∷ (48 + e) ∷ (48 + f) ∷ 32 ∷ [])
+    → (n / 1000 < 10 → none ≡ 2) → (10 ≤ n / 1000 → n / 1000 < 100 → none ≡ 1) → (100 ≤ n / 1000 → none ≡ 0)
+    → kept_text w m none (7 - none) ≡ m ∷ decimal n
+short-digits m a b c d e f n w none pm (pa, (pb, (pc, (pd, (pe, (pf, _)))))) number large word units tens hundreds =
+    let fits : n < 2 ^ 64 = omega (arith, number, pa, pb, pc, pd, pe, pf) in
+    let front : n / 1000 ≡ (a * 10 + b) * 10 + c = omega (arith, number, pd, pe, pf) in
+    let ba : 48 + a < 256 = omega (arith, pa) in
+    let bb : 48 + b < 256 = omega (arith, pb) in
+    let bc : 48 + c < 256 = omega (arith, pc) in
+    let bd : 48 + d < 256 = omega (arith, pd) in
+    let be : 48 + e < 256 = omega (arith, pe) in
+    let bf : 48 + f < 256 = omega (arith, pf) in
+    let blank : 32 < 256 = omega arith in
+    let nil : 0 < 256 = omega arith in
+    elim (eq-zero-or-pos a) [
+      | inr g ↦
+          kept-at w m none 0 (λ k. 7 - k) _ (hundreds (omega (arith, front, g)))
+          (ap (take 7) (marked-bytes m (w / 2 ^ (8 * 0)) (48 + a) (48 + b) (48 + c) (48 + d) (48 + e) (48 + f) 32 pm ba bb bc bd be bf blank
+          (omega (arith, word)))
+          ∙ ap (λ l. m ∷ l)
+          (sym (decimal-first a (b ∷ c ∷ d ∷ e ∷ f ∷ []) n g (pa, (pb, (pc, (pd, (pe, (pf, tt)))))) number fits)))
+      | inl za ↦
+          elim (eq-zero-or-pos b) [
+            | inr g ↦
+                kept-at w m none 1 (λ k. 7 - k) _ (tens (omega (arith, front, g)) (omega (arith, front, za, pb, pc)))
+                (ap (take 6) (marked-bytes m (w / 2 ^ (8 * 1)) (48 + b) (48 + c) (48 + d) (48 + e) (48 + f) 32 0 pm bb bc bd be bf blank nil
+                (omega (arith, word, pa)))
+                ∙ ap (λ l. m ∷ l)
+                (sym (decimal-first b (c ∷ d ∷ e ∷ f ∷ []) n g (pb, (pc, (pd, (pe, (pf, tt))))) (omega (arith, number, za)) fits)))
+            | inl zb ↦
+                let some : 0 < c = omega (arith, front, large, za, zb) in
+                kept-at w m none 2 (λ k. 7 - k) _ (units (omega (arith, front, za, zb, pc)))
+                (ap (take 5) (marked-bytes m (w / 2 ^ (8 * 2)) (48 + c) (48 + d) (48 + e) (48 + f) 32 0 0 pm bc bd be bf blank nil nil
+                (omega (arith, word, pa, pb)))
+                ∙ ap (λ l. m ∷ l)
+                (sym (decimal-first c (d ∷ e ∷ f ∷ []) n some (pc, (pd, (pe, (pf, tt)))) (omega (arith, number, za, zb)) fits)))
           ]
     ]
 
@@ -181,12 +175,23 @@ are-digits n = (omega arith, (omega arith, (omega arith, (omega arith, (omega ar
 spelled-six : (n q : ℕ) → n < 1000000 → spelled q (six_digits n) ≡ q * 1000000 + n
 spelled-six n q lt = omega (arith, lt)
 
-pub short-text : (m n w : ℕ) → m < 256 → n < 1000000 → w ≡ digit_bytes 6 n
-    → take (7 - count_trailing_zeros 64 (w + 17592186044416) / 8)
-    (to_le_bytes w64 (w * 256 / 2 ^ (8 * (count_trailing_zeros 64 (w + 17592186044416) / 8)) + 13563782407139328 + m)) ≡ m ∷ decimal n
-short-text m n w pm lt is =
-    short-digits m (n / 10 / 10 / 10 / 10 / 10 % 10) (n / 10 / 10 / 10 / 10 % 10) (n / 10 / 10 / 10 % 10) (n / 10 / 10 % 10) (n / 10 % 10)
-    (n % 10) n w pm (are-digits n) (omega (arith, spelled-six n 0 lt)) (omega (arith, is))
+pub small-text : (m n w none : ℕ) → m < 256 → n < 1000 → w ≡ digit_bytes 3 n + 540028976
+    → (n < 10 → none ≡ 2) → (10 ≤ n → n < 100 → none ≡ 1) → (100 ≤ n → none ≡ 0)
+    → take (4 - none) (to_le_bytes w64 (w / 2 ^ (8 * none) * 256 + m)) ≡ m ∷ decimal n
+small-text m n w none pm lt is units tens hundreds =
+    small-digits m (n / 10 / 10 % 10) (n / 10 % 10) (n % 10) n w none pm (omega arith, (omega arith, (omega arith, tt)))
+    (omega (arith, lt)) (omega (arith, is)) units tens hundreds
+
+pub short-text : (m n w v none : ℕ) → m < 256 → 1000 ≤ n → n < 1000000 → w ≡ digit_bytes 3 (n / 1000) + 540028976
+    → v ≡ digit_bytes 3 (n % 1000) + 540028976
+    → (n / 1000 < 10 → none ≡ 2) → (10 ≤ n / 1000 → n / 1000 < 100 → none ≡ 1) → (100 ≤ n / 1000 → none ≡ 0)
+    → take (7 - none) (to_le_bytes w64 ((w + (v - 32) * 16777216) / 2 ^ (8 * none) * 256 + m)) ≡ m ∷ decimal n
+short-text m n w v none pm large lt front last units tens hundreds =
+    let q = n / 1000 in
+    let r = n % 1000 in
+    short-digits m (q / 10 / 10 % 10) (q / 10 % 10) (q % 10) (r / 10 / 10 % 10) (r / 10 % 10) (r % 10) n (w + (v - 32) * 16777216) none pm
+    (omega arith, (omega arith, (omega arith, (omega arith, (omega arith, (omega arith, tt)))))) (omega (arith, lt)) large
+    (omega (arith, front, last)) units tens hundreds
 
 -- ---- a long number behind a mark
 

@@ -2,5 +2,4 @@ mod Arrays
 mod Decimals
 mod Numbers
 mod Places
-mod Trailing
 mod Triples

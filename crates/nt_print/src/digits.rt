@@ -92,18 +92,48 @@ fn six_digits(n: u32) -> u64
     first + last * 0x100_0000 - 0x20_3030_5030_3030
 }
 
-/// A mark and the digits of a number below a million as the lowest bytes of a word, and how many
-/// bytes they are.
+/// How many of the three digits of a number are zeros in front of it; a zero is its own last digit.
 #[inline(always)]
-fn short_word(mark: u8, n: u32) -> (u64, usize)
-    requires { n < 1000000 }
+fn zeros_before(n: u32) -> u32
+    ensures units { n < 10 → result ≡ 2 }
+    ensures tens { 10 ≤ n → n < 100 → result ≡ 1 }
+    ensures hundreds { 100 ≤ n → result ≡ 0 }
+    ensures few { result ≤ 2 }
+{
+    if n < 10 {
+        2
+    } else if n < 100 {
+        1
+    } else {
+        0
+    }
+}
+
+/// A mark and the digits of a number below 1000 as the lowest bytes of a word, and how many bytes they are.
+#[inline(always)]
+fn small_word(mark: u8, n: u32) -> (u64, usize)
+    requires { n < 1000 }
     ensures text { take result.1 (to_le_bytes w64 result.0) ≡ mark ∷ decimal n }
     ensures few { result.1 ≤ 8 }
 {
-    let digits = six_digits(n);
-    // A bit in the last digit's byte, which none of the digits has.
-    let none = (digits + 0x1000_0000_0000).trailing_zeros() / 8;
-    let text = ((digits * 256) >> (8 * none)) + ZEROS * 256 + u64::from(mark);
+    let none = zeros_before(n);
+    let text = (triple(n) >> (8 * none)) * 256 + u64::from(mark);
+    (text, 4 - none as usize)
+}
+
+/// The same of a number of four to six digits.
+#[inline(always)]
+fn short_word(mark: u8, n: u32) -> (u64, usize)
+    requires large { 1000 ≤ n }
+    requires small { n < 1000000 }
+    ensures text { take result.1 (to_le_bytes w64 result.0) ≡ mark ∷ decimal n }
+    ensures few { result.1 ≤ 8 }
+{
+    let front = n / 1000;
+    let none = zeros_before(front);
+    // The last digits stand in place of the blank.
+    let digits = triple(front) + (triple(n % 1000) - 0x20) * 0x100_0000;
+    let text = (digits >> (8 * none)) * 256 + u64::from(mark);
     (text, 7 - none as usize)
 }
 
@@ -121,6 +151,7 @@ fn put_bytes(word: u64, count: usize, out: &mut Vec<u8>) -> Result<(), AllocErro
 }
 
 /// Appends the last six digits of a number.
+#[inline(always)]
 fn put_six(n: u32, out: &mut Vec<u8>) -> Result<(), AllocError>
     requires { n < 1000000 }
     ensures ok { OnOk result (out.new.items ≡ out.old.items ++ last_digits 6 n) }
@@ -136,8 +167,50 @@ fn put_short(mark: u8, n: u32, out: &mut Vec<u8>) -> Result<(), AllocError>
     ensures ok { OnOk result (out.new.items ≡ out.old.items ++ mark ∷ decimal n) }
     ensures kept { take (length out.old.items) out.new.items ≡ out.old.items }
 {
-    let (word, count) = short_word(mark, n);
+    let (word, count) = if n < 1000 {
+        small_word(mark, n)
+    } else {
+        short_word(mark, n)
+    };
     put_bytes(word, count, out)
+}
+
+/// Appends a mark, and then a number of 7 to 12 digits.
+#[inline(always)]
+fn put_twelve(mark: u8, n: u64, out: &mut Vec<u8>) -> Result<(), AllocError>
+    requires large { 1000000 ≤ n }
+    requires small { n < 1000000000000 }
+    ensures ok { OnOk result (out.new.items ≡ out.old.items ++ mark ∷ decimal n) }
+    ensures kept { take (length out.old.items) out.new.items ≡ out.old.items }
+{
+    put_short(mark, (n / MILLION) as u32, out)?;
+    put_six((n % MILLION) as u32, out)?;
+    Ok(())
+}
+
+/// Appends a mark, and then a number of 13 to 18 digits.
+#[inline(always)]
+fn put_eighteen(mark: u8, n: u64, out: &mut Vec<u8>) -> Result<(), AllocError>
+    requires large { 1000000000000 ≤ n }
+    requires small { n < 1000000000000000000 }
+    ensures ok { OnOk result (out.new.items ≡ out.old.items ++ mark ∷ decimal n) }
+    ensures kept { take (length out.old.items) out.new.items ≡ out.old.items }
+{
+    put_twelve(mark, n / MILLION, out)?;
+    put_six((n % MILLION) as u32, out)?;
+    Ok(())
+}
+
+/// Appends a mark, and then a number of 19 or 20 digits.
+#[inline(always)]
+fn put_twenty(mark: u8, n: u64, out: &mut Vec<u8>) -> Result<(), AllocError>
+    requires { 1000000000000000000 ≤ n }
+    ensures ok { OnOk result (out.new.items ≡ out.old.items ++ mark ∷ decimal n) }
+    ensures kept { take (length out.old.items) out.new.items ≡ out.old.items }
+{
+    put_eighteen(mark, n / MILLION, out)?;
+    put_six((n % MILLION) as u32, out)?;
+    Ok(())
 }
 
 /// Appends a mark, and then a number of at least seven digits.
@@ -147,14 +220,13 @@ fn put_long(mark: u8, n: u64, out: &mut Vec<u8>) -> Result<(), AllocError>
     ensures ok { OnOk result (out.new.items ≡ out.old.items ++ mark ∷ decimal n) }
     ensures kept { take (length out.old.items) out.new.items ≡ out.old.items }
 {
-    let front = n / MILLION;
-    if front < MILLION {
-        put_short(mark, front as u32, out)?;
+    if n < MILLION * MILLION {
+        put_twelve(mark, n, out)
+    } else if n < MILLION * MILLION * MILLION {
+        put_eighteen(mark, n, out)
     } else {
-        put_long(mark, front, out)?;
+        put_twenty(mark, n, out)
     }
-    put_six((n % MILLION) as u32, out)?;
-    Ok(())
 }
 
 /// Appends a mark, and then a number.
