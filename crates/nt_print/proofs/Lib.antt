@@ -2,4 +2,5 @@ mod Arrays
 mod Decimals
 mod Numbers
 mod Places
+mod SimpleTexts
 mod Triples

@@ -1,3 +1,4 @@
 pub mod Digits
 pub mod Integers
 pub mod Marks
+pub mod Simple

@@ -9,8 +9,8 @@ ghost use Rattle.nt_trees.specs.TreeAt.{text_from};
 ghost use Rattle.nt_print.specs.Marks.{mark_before, end_of};
 
 use crate::digits::put_digits;
+use crate::texts::put_text;
 use nt_column::Columns;
-use nt_event::write_text;
 use std::alloc::{AllocError, Global};
 
 /// What stands in front of a value of an array.
@@ -98,23 +98,24 @@ pub fn put_integer(
     put_signed(mark, signed_of(element, bits), out)
 }
 
-/// Appends the text of the bytes from one place to before another.
+/// Appends a mark, and then the text of the bytes from one place to before another.
 pub fn put_part<C: Columns>(
     alloc: Global,
     columns: &C,
     column: u32,
     from: u64,
     to: u64,
+    mark: u8,
     out: &mut Vec<u8>,
 ) -> Result<(), AllocError>
     requires order { from ≤ to }
     requires within { to ≤ length (C.Columns.elements columns.now column) }
-    ensures ok { OnOk result (out.new.items ≡ out.old.items ++ compact_text
+    ensures ok { OnOk result (out.new.items ≡ out.old.items ++ mark ∷ compact_text
         (data_of (text (text_from (C.Columns.elements columns.now column) from (to - from))))) }
     ensures kept { take (length out.old.items) out.new.items ≡ out.old.items }
 {
     let bytes = columns.text(alloc, column, from, to)?;
-    write_text(alloc, bytes.as_slice(), out)
+    put_text(alloc, mark, bytes.as_slice(), out)
 }
 
 /// Appends what stands before the value of an alternative and its mark: a bracket and the tag.

@@ -3,7 +3,7 @@
 //! Start at `write_entry`, which appends the line of one entry. It goes over any `Columns` by the plans
 //! of a schema's open fields, as nt_join does for trees; nothing here reads rows. Most values are the
 //! numbers of lists: `lists.rt` prints these from where their column lies, and `digits.rt` by words of
-//! six digits.
+//! six digits. Most texts are of characters that stand for themselves: `texts.rt` sees it in one go.
 //!
 //! Words: those of nt_trees and nt_event; a *line* is the JSON array of an entry, and its LF; a *mark* is
 //! the byte in front of a value: the bracket of its array, or a comma.
@@ -26,6 +26,7 @@ mod digits;
 mod entry;
 mod leaves;
 mod lists;
+mod texts;
 mod values;
 
 pub use entry::write_entry;

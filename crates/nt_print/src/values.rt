@@ -42,10 +42,9 @@ fn put_value<C: Columns>(
             Ok(())
         }
         Plan::Text { ends, bytes } => {
-            out.push(mark)?;
             let from = begin(columns, *ends, i);
             let to = number(columns, *ends, i);
-            put_part(alloc, columns, *bytes, from, to, out)?;
+            put_part(alloc, columns, *bytes, from, to, mark, out)?;
             Ok(())
         }
         Plan::List { ends, of } => {

@@ -215,8 +215,8 @@ put_value-returns-in_ok-put_part-in-Text-clause-ok g t c =
     let b = c.in-Text.bytes in
     let to = c.number-to.result in
     let begin = begin_at (cols e) i in
-    mark-put c.args.out.now.items _ _ c.args.mark (text_tree (text_from (cols b) c.begin-from.result (to - c.begin-from.result))) _
-    c.in_ok-push-in-Text.ensures.items c.in_ok-put_part-in-Text.ensures.ok
+    c.in_ok-put_part-in-Text.ensures.ok
+    ∙ ap (λ (u : TreeData). c.args.out.now.items ++ c.args.mark ∷ compact_text (data_of u))
     (ap (λ n. text_tree (text_from (cols b) n (to - n))) c.begin-from.ensures
     ∙ ap (λ n. text_tree (text_from (cols b) begin (n - begin))) c.number-to.ensures
     ∙ ap (λ p. tree_at p cols i) (sym (ap plan_view c.in-Text.is ∙ view-Text e b)))
@@ -257,11 +257,6 @@ put_value-returns-in_ok-put_choice-in-Choice-clause-ok g t c =
     mark-put c.args.out.now.items _ _ c.args.mark (tree_at (choice k (plans_of (plans_view ps))) cols i) _
     c.in_ok-push-in-Choice.ensures.items c.in_ok-put_choice-in-Choice.ensures.ok
     (ap (λ p. tree_at p cols i) (sym (ap plan_view c.in-Choice.is ∙ view-Choice k ps)))
-
-pub put_value-returns-in_err-put_part-in-Text-clause-kept : goal.put_value-returns-in_err-put_part-in-Text-clause-kept
-put_value-returns-in_err-put_part-in-Text-clause-kept g t c =
-    kept-on c.args.out.now.items _ _ _
-    c.in_ok-push-in-Text.ensures.items c.put_part.ensures.kept
 
 pub put_value-returns-in_err-put_range-in-List-clause-kept : goal.put_value-returns-in_err-put_range-in-List-clause-kept
 put_value-returns-in_err-put_range-in-List-clause-kept g t c =
