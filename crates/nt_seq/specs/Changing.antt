@@ -70,7 +70,7 @@ module _ {D : Type 0} (state : D → DiskState) where
   ExtendsWriter field old new (Err Repeated) = (refused old.table field ≡ Some Repeated) × (new ≡ old)
   ExtendsWriter field old new (Err TooMany) = (refused old.table field ≡ Some TooMany) × (new ≡ old)
   ExtendsWriter field old new (Err Memory) =
-      (refused old.table field ≡ None) × (new.disk ≡ old.disk) × (new.alive ≡ false)
+      (refused old.table field ≡ None) × (new.given ≡ old.given) × (new.disk ≡ old.disk) × (new.alive ≡ false)
 
 module _ {D : Type 0} where
   -- the answer names the limit of its book that the cluster of the gathered entries passes, or none

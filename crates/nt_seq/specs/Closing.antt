@@ -1,5 +1,6 @@
 -- What the closing of a sequential writer leaves.
 use Rattle.std.specs.Prelude.{ℕ, ◌≡◌, ◌⊎◌, List, length, Result, Ok, Err, OnOk, OnErr}
+use Rattle.std.specs.List.{AllByRecursion}
 use Rattle.nt_types.specs.ShapeData.{MemberData}
 use Rattle.nt_types.specs.TreeData.{TreesData}
 use Rattle.nt_outside.specs.Disk.{DiskState}
@@ -7,6 +8,7 @@ use Rattle.nt_outside.specs.Held.{Held}
 use Rattle.nt_outside.specs.Order.{FirstByteLast}
 use Rattle.nt_grammar.specs.ReadingBack.{IsDescribed}
 use Rattle.nt_grammar.specs.Rows.{Rows}
+use Rattle.nt_book.specs.Books.{book_clusters}
 use Rattle.nt_layout.specs.Finished.{tail, front}
 use Rattle.nt_layout.specs.Laid.{IsLaid}
 use Rattle.nt_close.specs.declared.error.CloseError.{CloseError}
@@ -15,6 +17,7 @@ use Rattle.nt_close.specs.Laws.{IsShut}
 use Rattle.nt_close.specs.Passing.{passed_by_close, measures_of}
 use Rattle.nt_close.specs.Spoiled.{NoneSpoiled}
 use Rattle.nt_late.specs.LateFiles.{IsLaidLate}
+use Rattle.nt_seq.specs.Standing.{IsShortCluster}
 use Rattle.nt_seq.specs.Writer.{SeqState}
 use Rattle.nt_seq.specs.Written.{HasWritten, entries_of_clusters}
 
@@ -30,11 +33,14 @@ module _ {D : Type 0} (w : SeqState D) where
     pub cause : HasCloseCause w.book (passed_by_close w.params w.table w.book) (done_of result)
 
 module _ {D : Type 0} (state : D → DiskState) (w : SeqState D) where
-  -- a file is laid out for the clusters that the writer has written; where no field was added, as by a writer that adds none
+  -- a file is laid out for the clusters that the writer has written, none of them longer than a range may get; where no field was added,
+  -- as by a writer that adds none
   pub record IsFileOf (file : List ℕ) : Type 0 where
     pub described : IsDescribed w.table
     pub late : (clusters : List (List TreesData)) → HasWritten state w clusters
         → IsLaidLate file w.table clusters (measures_of w.params)
+    pub short : (clusters : List (List TreesData)) (has : HasWritten state w clusters)
+        → AllByRecursion (IsShortCluster w.params.limits) (book_clusters (late clusters has).book)
     pub first : (fields : List MemberData) → Rows fields w.params.plain w.table → (clusters : List (List TreesData))
         → HasWritten state w clusters → IsLaid file w.table clusters (measures_of w.params)
 

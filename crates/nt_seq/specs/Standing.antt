@@ -9,6 +9,7 @@ use Rattle.nt_grammar.specs.ReadingBack.{IsDescribed}
 use Rattle.nt_grammar.specs.Table.{Table, IsFew}
 use Rattle.nt_schema.specs.Whole.{AreWhole}
 use Rattle.nt_column.specs.Column.{Column}
+use Rattle.nt_book.specs.declared.limits.Limits.{Limits}
 use Rattle.nt_book.specs.declared.meta.ClusterMeta.{ClusterMeta}
 use Rattle.nt_book.specs.Books.{book_clusters, entry_count}
 use Rattle.nt_plans.specs.Place.{open_plans}
@@ -22,6 +23,10 @@ use Rattle.nt_seq.specs.Written.{IsUnclosed, file_so_far}
 -- the range of a cluster was handed back filled
 abbrev pub IsSettledCluster : Cluster ClusterMeta → Type 0
 IsSettledCluster c = c.state ≡ Settled None
+
+-- the range of a cluster isn't longer than a range may get
+abbrev pub IsShortCluster : Limits → Cluster ClusterMeta → Type 0
+IsShortCluster limits c = c.len ≤ limits.range
 
 -- a disk on which nothing was written
 pub record IsBlankDisk (disk : DiskState) : Type 0 where
@@ -37,9 +42,9 @@ pub record IsFitToBegin (t : Table) (columns : List Column) : Type 0 where
   pub gives : Gives t columns []
 
 module _ {D : Type 0} (state : D → DiskState) where
-  -- a writer that is alive: its file is begun, with ranges behind the header, and can be closed; each range of the book is settled, the
-  -- first elements of the columns are those of the schema and stand behind no more entries than are written, and the columns give what is
-  -- gathered
+  -- a writer that is alive: its file is begun, with ranges behind the header, and can be closed; each range of the book is settled and
+  -- within the limit, the first elements of the columns are those of the schema and stand behind no more entries than are written, and the
+  -- columns give what is gathered
   pub record IsWriting (w : SeqState D) : Type 0 where
     pub ranges : List (List ℕ)
     pub held : Becomes (state w.given).held (state w.disk).held (λ h. file_so_far w.table ranges)
@@ -49,6 +54,7 @@ module _ {D : Type 0} (state : D → DiskState) where
     pub firsts : map (λ (c : ColumnRow). c.first) w.table.columns ≡ w.book.firsts
     pub begun : AllByRecursion (λ (c : ColumnRow). c.first ≤ entry_count (book_clusters w.book)) w.table.columns
     pub settled : AllByRecursion IsSettledCluster (book_clusters w.book)
+    pub short : AllByRecursion (IsShortCluster w.params.limits) (book_clusters w.book)
     pub described : IsDescribed w.table
     pub few : IsFew w.table
     pub some : are_some (open_plans w.table) ≡ true

@@ -19,12 +19,13 @@
 //! (`limits`), leaves all as it was where it is refused, and fails only where the disk's count of
 //! faults rose (`refused`); a field is added exactly where none at the top level has its name and
 //! there aren't too many, behind as many entries as are written, and each earlier entry gets its
-//! zero (`extend`). Once it is closed, the file is laid out for the clusters, and as any other
-//! where no field was added; after a refusal its first byte is 0, or it stands there whole; and
-//! its steps are in order in any case (`file`). The cause of each answer is that of nt_close,
-//! where no range is spoiled (`cause`). Of a file that isn't closed the first byte is 0
-//! (`unclosed_files_are_shut`). What holds of each writer at any moment is `IsSequential`, the
-//! invariant. Nothing is only tested.
+//! zero (`extend`). Once it is closed, the file is laid out for the clusters, none of them longer
+//! than a range may get, and as any other where no field was added; after a refusal its first byte
+//! is 0, or it stands there whole; and its steps are in order in any case (`file`). The cause of
+//! each answer is that of nt_close, where no range is spoiled (`cause`). Of a file that isn't
+//! closed the first byte is 0 (`unclosed_files_are_shut`). What holds of each writer at any moment
+//! is `IsSequential`, the invariant, with `IsBookKept` of its book (`keeps`). Nothing is only
+//! tested.
 //!
 //! Choices that bind nobody else:
 //! - Fields are described once more before the file is begun, since the columns are made of their
@@ -40,6 +41,7 @@ mod closing;
 mod extending;
 mod filling;
 mod flushing;
+mod keeping;
 mod laws;
 mod widening;
 mod writer;
