@@ -8,6 +8,7 @@ use Rattle.nt_container.specs.Spelling.{begun}
 use Rattle.nt_grammar.specs.declared.rows.ColumnRow.{ColumnRow}
 use Rattle.nt_grammar.specs.Table.{Table}
 use Rattle.nt_machine.specs.History.{Cluster}
+use Rattle.nt_book.specs.declared.limits.Limits.{Limits}
 use Rattle.nt_book.specs.declared.meta.ClusterMeta.{ClusterMeta}
 use Rattle.nt_book.specs.declared.params.Params.{Params}
 use Rattle.nt_book.specs.Books.{BookData, book_clusters, book_end, entry_count}
@@ -20,7 +21,7 @@ use Rattle.nt_close.specs.Steps.{begun_on}
 use Rattle.nt_late.specs.LateFiles.{AreLateBlobs, no_blob}
 use Rattle.nt_column.specs.Column.{Column}
 use Rattle.nt_grammar.specs.ReadingBack.{IsDescribed}
-use Rattle.nt_seq.specs.Standing.{IsSettledCluster, IsFitToBegin, IsWriting}
+use Rattle.nt_seq.specs.Standing.{IsSettledCluster, IsShortCluster, IsFitToBegin, IsWriting}
 use Rattle.nt_seq.specs.Written.{file_so_far, HasClusters}
 use Rattle.nt_seq.proofs.AddedRows.{described-first}
 
@@ -70,6 +71,9 @@ module _ (fields : List MemberData) (p : Params) (given new : DiskState) (book :
   pub settled-begun : AllByRecursion IsSettledCluster (book_clusters book)
   settled-begun = subst (λ (cs : List (Cluster ClusterMeta)). AllByRecursion IsSettledCluster cs) (sym none-yet) tt
 
+  pub short-begun : (limits : Limits) → AllByRecursion (IsShortCluster limits) (book_clusters book)
+  short-begun limits = subst (λ (cs : List (Cluster ClusterMeta)). AllByRecursion (IsShortCluster limits) cs) (sym none-yet) tt
+
 -- the writer can go on
 pub writing-begun : {D : Type 0} (state : D → DiskState) (fields : List MemberData) (p : Params) (disk new : D) (book : BookData)
     (t : Table) (columns : List Column) → IsBegun fields p (state disk) (state new) book t
@@ -93,6 +97,7 @@ writing-begun state fields p disk new book t columns is empty out described read
   firsts = firsts-begun fields p (state disk) (state new) book t is empty;
   begun = columns-begun fields p (state disk) (state new) book t is empty;
   settled = settled-begun fields p (state disk) (state new) book t is empty;
+  short = short-begun fields p (state disk) (state new) book t is empty p.limits;
   described = described;
   few = ready.few;
   some = ready.some;

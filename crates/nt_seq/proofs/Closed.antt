@@ -105,6 +105,7 @@ module _ {D : Type 0} (state : D → DiskState) (w : SeqState D) (is : IsWriting
           blobs_are = has.late;
           is = image-is clusters has;
         };
+        short = λ clusters has. is.short;
         first = λ fields rows clusters has. record {
           book = w.book;
           is_of = record {

@@ -20,6 +20,7 @@ writing-filled state w columns entries is gives full = record {
   firsts = is.firsts;
   begun = is.begun;
   settled = is.settled;
+  short = is.short;
   described = is.described;
   few = is.few;
   some = is.some;

@@ -1,5 +1,5 @@
 -- A writer whose gathered entries were written as the next cluster.
-use Rattle.std.proofs.Common.{◌≡◌, ◌∙◌, ap, sym, refl, subst, ℕ, ◌+◌, ◌≤◌, List, [], ◌∷◌, ◌++◌, length, Some, inl, arith}
+use Rattle.std.proofs.Common.{◌≡◌, ◌∙◌, ap, sym, refl, subst, ℕ, ◌+◌, ◌≤◌, List, [], ◌∷◌, ◌++◌, length, Some, None, inl, arith}
 use Rattle.std.proofs.lemmas.List.Sums.{sum_by-append}
 use Rattle.std.specs.List.{AllByRecursion}
 use Rattle.nt_types.specs.TreeData.{TreesData}
@@ -12,8 +12,11 @@ use Rattle.nt_machine.specs.History.{Cluster}
 use Rattle.nt_machine.proofs.Histories.{AllByRecursion-append}
 use Rattle.nt_machine.proofs.Legality.{end_after-snoc}
 use Rattle.nt_machine.specs.Legal.{end_after}
+use Rattle.nt_book.specs.declared.limits.Limits.{Limits}
 use Rattle.nt_book.specs.declared.meta.ClusterMeta.{ClusterMeta}
 use Rattle.nt_book.specs.Books.{BookData, book_clusters, book_end, entry_count}
+use Rattle.nt_book.specs.Limiting.{limit_error}
+use Rattle.nt_book.proofs.Fitting.{limit_error-none}
 use Rattle.nt_column.specs.Column.{Column}
 use Rattle.nt_pages.specs.declared.image.ClusterImage.{ClusterImage}
 use Rattle.nt_pages.specs.Image.{image}
@@ -30,7 +33,7 @@ use Rattle.nt_plans.specs.Place.{open_plans}
 use Rattle.nt_plans.specs.Types.{AllHaveTypes}
 use Rattle.std.proofs.lemmas.List.{length-map}
 use Rattle.nt_seq.specs.Appending.{settled_cluster, keyed, AppendsImage}
-use Rattle.nt_seq.specs.Standing.{IsSettledCluster, IsWriting}
+use Rattle.nt_seq.specs.Standing.{IsSettledCluster, IsShortCluster, IsWriting}
 use Rattle.nt_seq.specs.Writer.{SeqState, gathered_by}
 use Rattle.nt_seq.specs.Written.{file_so_far, HasClusters, IsUnclosed}
 use Rattle.nt_seq.proofs.Blobs.{late-push, blobs-push, late-blob-now}
@@ -111,6 +114,7 @@ module _ (given old new : DiskState) (t : Table) (page : ℕ) (book next : BookD
 module _ {D : Type 0} (state : D → DiskState) (w : SeqState D) (disk : D) (next : BookData) (columns : List Column) (i : ClusterImage)
     (is : IsWriting state w) (bytes : i.bytes ≡ image w.params.page w.columns)
     (meta : i.meta ≡ cluster_meta w.params.page 0 (length (gathered_by w)) w.columns)
+    (fits : limit_error w.book.limits (book_end w.book) (length (book_clusters w.book)) i.meta.len ≡ None)
     (appends : AppendsImage i (state w.disk) (state disk) w.book next) (empty : Gives w.table columns []) where
   abbrev flushed : SeqState D
   flushed = record w { disk = disk; book = next; columns = columns; entries = 0 }
@@ -120,6 +124,14 @@ module _ {D : Type 0} (state : D → DiskState) (w : SeqState D) (disk : D) (nex
 
   abbrev new_disk : DiskState
   new_disk = state disk
+
+  short-more : AllByRecursion (IsShortCluster w.params.limits) (book_clusters next)
+  short-more =
+      let here = (limit_error-none w.book.limits (book_end w.book) (length (book_clusters w.book)) i.meta.len fits).0 in
+      subst (λ (cs : List (Cluster ClusterMeta)). AllByRecursion (IsShortCluster w.params.limits) cs) (sym appends.gains.clusters)
+      (AllByRecursion-append (IsShortCluster w.params.limits) (book_clusters w.book)
+      (settled_cluster (length (book_clusters w.book)) (book_end w.book) i.meta ∷ []) is.short
+      (subst (λ (l : Limits). i.meta.len ≤ l.range) is.limits here, tt))
 
   pub writing-more : IsWriting state flushed
   writing-more =
@@ -137,6 +149,7 @@ module _ {D : Type 0} (state : D → DiskState) (w : SeqState D) (disk : D) (nex
         begun = begun-more (state w.given) old_disk new_disk w.table page w.book next w.columns es i is.gives bytes meta is.begun appends;
         settled = settled-more (state w.given) old_disk new_disk w.table page w.book next w.columns es i is.gives bytes meta is.begun
             appends is.settled;
+        short = short-more;
         described = is.described;
         few = is.few;
         some = is.some;

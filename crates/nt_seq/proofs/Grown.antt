@@ -29,12 +29,12 @@ left-earlier low high t new p le out = record {
   begin = begin-earlier low high p (length t.columns) out.rows le out.begin;
 }
 
-and_trees-and : (ts us vs : TreesData) → and_trees (and_trees ts us) vs ≡ and_trees ts (and_trees us vs)
+pub and_trees-and : (ts us vs : TreesData) → and_trees (and_trees ts us) vs ≡ and_trees ts (and_trees us vs)
 and_trees-and no_trees us vs = refl
 and_trees-and (tree t ts) us vs = ap (tree t) (and_trees-and ts us vs)
 
 -- zeros behind zeros
-filled-filled : (us vs : TreesData) (es : List TreesData) → filled vs (filled us es) ≡ filled (and_trees us vs) es
+pub filled-filled : (us vs : TreesData) (es : List TreesData) → filled vs (filled us es) ≡ filled (and_trees us vs) es
 filled-filled us vs [] = refl
 filled-filled us vs (e ∷ es) =
     ap (λ (x : TreesData). x ∷ filled vs (filled us es)) (and_trees-and e us vs)

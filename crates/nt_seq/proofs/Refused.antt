@@ -11,7 +11,7 @@ use Rattle.nt_commit.specs.declared.error.CommitError.TheVariants.{RangeTooLarge
 use Rattle.std.proofs.lemmas.Bool.{false≢true}
 use Rattle.std.proofs.Common.{◌≢◌, Bool, false}
 use Rattle.nt_seq.specs.Appending.{KeepsDiskAndBook, CutsImage}
-use Rattle.nt_seq.specs.Standing.{IsSettledCluster, IsWriting, IsSequential}
+use Rattle.nt_seq.specs.Standing.{IsSettledCluster, IsShortCluster, IsWriting, IsSequential}
 use Rattle.nt_seq.specs.Writer.{SeqState}
 use Rattle.nt_seq.specs.Written.{file_so_far, HasClusters, IsUnclosed}
 use Rattle.nt_seq.specs.Changing.{StaysAsItWas}
@@ -49,6 +49,7 @@ module _ {D : Type 0} (state : D → DiskState) (w : SeqState D) (disk : D) (roo
         begun = subst (λ (b : BookData). AllByRecursion (λ (c : ColumnRow). c.first ≤ entry_count (book_clusters b)) w.table.columns)
             (sym book) is.begun;
         settled = subst (λ (b : BookData). AllByRecursion IsSettledCluster (book_clusters b)) (sym book) is.settled;
+        short = subst (λ (b : BookData). AllByRecursion (IsShortCluster w.params.limits) (book_clusters b)) (sym book) is.short;
         described = is.described;
         few = is.few;
         some = is.some;
@@ -68,6 +69,7 @@ writing-alive state w alive is = record {
   firsts = is.firsts;
   begun = is.begun;
   settled = is.settled;
+  short = is.short;
   described = is.described;
   few = is.few;
   some = is.some;

@@ -33,7 +33,7 @@ use Rattle.nt_close.specs.Steps.{begun_on}
 use Rattle.nt_late.specs.LateFiles.{AreLateBlobs}
 use Rattle.nt_late.specs.LeftOut.{IsLeftOut, filled}
 use Rattle.nt_late.specs.Zeros.{zero_of, zero_tree}
-use Rattle.nt_seq.specs.Standing.{IsSettledCluster, IsWriting}
+use Rattle.nt_seq.specs.Standing.{IsSettledCluster, IsShortCluster, IsWriting}
 use Rattle.nt_seq.specs.Widening.{first_elements}
 use Rattle.nt_seq.specs.Writer.{SeqState, gathered_by}
 use Rattle.nt_seq.specs.Written.{file_so_far, ranges_on, HasClusters, HasWritten, zero_behind}
@@ -138,6 +138,7 @@ module _ {D : Type 0} (state : D → DiskState) (w : SeqState D) (next : BookDat
     begun = subst (λ (cs : List (Cluster ClusterMeta)). AllByRecursion (λ (c : ColumnRow). c.first ≤ entry_count cs) new.columns)
         (sym same-clusters) (all-begun w.table field w.params.plain entries new added is.begun);
     settled = subst (λ (cs : List (Cluster ClusterMeta)). AllByRecursion IsSettledCluster cs) (sym same-clusters) is.settled;
+    short = subst (λ (cs : List (Cluster ClusterMeta)). AllByRecursion (IsShortCluster w.params.limits) cs) (sym same-clusters) is.short;
     described = described;
     few = few;
     some = ap are_some out.grows.plans ∙ some-more (open_plans w.table) p;

@@ -42,11 +42,14 @@ invariant_of-self-2 g c =
     let t = c.self.inside.schema in
     let empty = subst (λ (cs : List Column). Gives t cs []) (sym c.clear.ensures)
     (emptied_gives t (columns_of c.self.inside.columns) was.gives.set.described) in
+    let fits = c.in_ok-append_image.ensures.limits (λ same. cc same) in
+    let disk = c.append_image.new.disk in
+    let next = c.append_image.new.book in
+    let cleared = columns_of c.clear.new.self in
     record {
-      unclosed = unclosed-more state _ c.append_image.new.disk c.append_image.new.book (columns_of c.clear.new.self) i was made.bytes meta
-          appends empty;
-      writing = λ _. writing-alive state _ c.append_image.new.alive (writing-more state _ c.append_image.new.disk c.append_image.new.book
-          (columns_of c.clear.new.self) i was made.bytes meta appends empty);
+      unclosed = unclosed-more state _ disk next cleared i was made.bytes meta fits appends empty;
+      writing = λ _. writing-alive state _ c.append_image.new.alive
+          (writing-more state _ disk next cleared i was made.bytes meta fits appends empty);
     }
 
 pub returns-clause-nothing : goal.returns-clause-nothing
