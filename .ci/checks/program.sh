@@ -216,6 +216,70 @@ for numbers in '0 1 1' '65 1 1' '1 1000001 1' '1 1 0' '1 1 1000001' '1 1'; do
 done
 [ ! -e never.root ] || fail 'words that are no command made a file'
 
+# a script, which adds fields between its events
+expect 0 '' seq late.root "$top/examples/schema.txt" "$top/examples/script.txt"
+printf 'clusters 2 entries 3\n' | cmp - out || fail 'other numbers of the example script'
+expect 0 '' entries late.root
+sed '1,2s/]$/,0]/; /^+/d' "$top/examples/script.txt" | cmp - out || fail 'no zeros of a late field'
+expect 0 '' schema late.root
+[ "$(tail -n 1 out)" = '[8,8,"weight","std::uint16_t",0,[18],true]' ] || fail 'no line of the late field'
+printf 'x u32\n' >word.txt
+printf '[1]\n[2]\n+ y u16\n+ t string\n+ v vec<u8>\n[3,4,"a",[5]]\n' >script.txt
+expect 0 '' seq late.root word.txt script.txt
+printf 'clusters 2 entries 3\n' | cmp - out || fail 'other numbers of a script'
+[ "$(wc -c <late.root)" -eq 1917 ] || fail 'a file of late fields has another size'
+expect 0 '' entries late.root
+printf '[1,0,"",[]]\n[2,0,"",[]]\n[3,4,"a",[5]]\n' | cmp - out || fail 'no zeros of late fields'
+
+# without a late field it is the file of `write`
+for options in '' '--plain' '--cluster 2 --page 1 --group 1'; do
+    expect 0 '' seq $options alone.root schema.txt three.txt
+    expect 0 '' write $options beside.root schema.txt three.txt
+    same alone.root beside.root
+done
+
+# scripts with a fault
+while read -r fault script; do
+    printf "$script" >faulty.txt
+    expect 6 "ntuple: text: input 0 line ${fault/\%/ }" seq bad.root byte.txt faulty.txt
+    is_open bad.root || fail 'a file of a faulty script looks finished'
+    [ ! -s out ] || fail 'numbers of a faulty script'
+done <<'EOF'
+1:%BadName +\n
+3:%BadName [1]\n\n+ 2y u8\n
+1:%BadType + x u65\n
+1:%Repeated + x u8\n
+2:%Repeated + y u8\n+ y u8\n
+1:%NotJson \x20+ y u8\n
+2:%Misfit + y u8\n[1,300]\n
+3:%Count [1]\n+ y u8\n[1]\n
+EOF
+printf '+ y %s\n' "$(printf 'vec<%.0s' {1..32})u8$(printf '>%.0s' {1..32})" >faulty.txt
+expect 6 'ntuple: text: input 0 line 1: TooDeep' seq bad.root byte.txt faulty.txt
+printf '+ t tuple<u8%s>\n+ y u8\n' "$(yes ,u8 | head -n 4093 | tr -d '\n')" >faulty.txt
+expect 6 'ntuple: text: input 0 line 2: TooMany' seq bad.root byte.txt faulty.txt
+expect 6 'ntuple: text: schema line 0: TooLong' seq never.root long.txt script.txt
+
+# what else `seq` refuses
+expect 5 'ntuple: limit: 1917 over 1916' seq --max-file 1916 large.root word.txt script.txt
+is_open large.root || fail 'a file of late fields that passed a limit looks finished'
+[ ! -s out ] || fail 'numbers of a file that passed a limit'
+{ cat thousand.txt; printf '+\n'; } >plus.txt
+expect 5 'ntuple: limit: 8050 over 1024' seq --max-range 1024 large.root schema.txt plus.txt
+expect 6 'ntuple: text: input 0 line 1001: BadName' seq large.root schema.txt plus.txt
+for words in '' 'never.root schema.txt' 'never.root schema.txt one.txt one.txt' 'schema.txt schema.txt one.txt' 'one.txt schema.txt one.txt' \
+    '--cluster 0 never.root schema.txt one.txt' '--from 1 never.root schema.txt one.txt'; do
+    expect 2 'ntuple: usage' seq $words
+done
+expect 4 'ntuple: outside' seq never.root schema.txt missing.txt
+[ ! -e never.root ] || fail 'a script that is not read made a file'
+cp one.txt kept
+expect 4 'ntuple: outside' seq ./one.txt schema.txt one.txt
+same one.txt kept
+"$program" seq full.root word.txt script.txt >/dev/full 2>err
+[ $? -eq 4 ] && [ "$(cat err)" = 'ntuple: outside' ] || fail 'numbers that are not taken are no status 4'
+same full.root late.root
+
 # files of another form
 : >empty.root
 expect 3 'ntuple: file: 1 Unfinished at 0' entries empty.root
