@@ -10,6 +10,7 @@ use Rattle.nt_words.specs.CommandLine.{IsEntries, IsSchemaCommand}
 use Rattle.clap.specs.Words.{App}
 use Rattle.nt_words.specs.Options.{AreParamsSaid}
 use Rattle.nt_words.specs.WriteWords.{write_app, IsWrite}
+use Rattle.nt_words.specs.SeqWords.{seq_app, IsSeq}
 use Rattle.nt_words.specs.GenWords.{IsGen}
 
 some_is : (x y : List ℕ) → Some x ≡ Some y → x ≡ y
@@ -73,6 +74,17 @@ same_write P words o s o' s' is is' p p' one other holds =
     subst (λ (l : List ℕ). P l s' is' p') out (subst (λ (l : List ℕ). P o l is' p') schema
     (subst (λ (l : List (List ℕ)). P o s l p') inputs (subst (P o s is) params holds)))
 
+-- and so of `seq`
+pub same_seq : (P : List ℕ → List ℕ → List ℕ → Params → Type 0) (words : List (List ℕ)) (o s i o' s' i' : List ℕ) (p p' : Params)
+    → IsSeq words o s i p → IsSeq words o' s' i' p' → P o s i p → P o' s' i' p'
+same_seq P words o s i o' s' i' p p' one other holds =
+    let out : o ≡ o' = some_is o o' (sym one.names.out_is ∙ other.names.out_is) in
+    let schema : s ≡ s' = some_is s s' (sym one.names.schema_is ∙ other.names.schema_is) in
+    let input : i ≡ i' = some_is i i' (sym one.names.input_is ∙ other.names.input_is) in
+    let params : p ≡ p' = same_params seq_app words p p' one.params other.params in
+    subst (λ (l : List ℕ). P l s' i' p') out (subst (λ (l : List ℕ). P o l i' p') schema
+    (subst (λ (l : List ℕ). P o s l p') input (subst (P o s i) params holds)))
+
 some_number_is : (m n : ℕ) → Some m ≡ Some n → m ≡ n
 some_number_is m n e = cc
 
@@ -95,7 +107,7 @@ making_is m n contexts events seed =
     (λ z y x. any_making m.contexts m.events m.seed m.contexts_range x m.events_range y m.seed_range z) n.seed_range) n.events_range)
     n.contexts_range
 
--- and so of `gen`
+-- of `gen`
 pub same_gen : (P : Making → List ℕ → Type 0) (words : List (List ℕ)) (m m' : Making) (o o' : List ℕ) → IsGen words m o
     → IsGen words m' o' → P m o → P m' o'
 same_gen P words m m' o o' one other holds =

@@ -14,6 +14,7 @@ use Rattle.clap.proofs.WalkLemmas.{first_value-rows, raw_values-rows}
 use Rattle.nt_words.specs.CommandLine.{texts, app, operand, entries_rules, entries_app, schema_app, is_true_word, number_said, number_found}
 use Rattle.nt_words.specs.CommandLine.{is_flag_found, Begins, IsTaken, word_found, words_found, is_among}
 use Rattle.nt_words.specs.WriteWords.{write_rules, write_app, NamesOfWrite}
+use Rattle.nt_words.specs.SeqWords.{seq_rules, seq_app, NamesOfSeq}
 use Rattle.nt_words.specs.GenWords.{gen_rules, gen_app}
 use Rattle.nt_words.specs.Commands.{names_of}
 use Rattle.nt_words.specs.Arguments.{ReadsWords}
@@ -99,6 +100,20 @@ names_by words m out schema inputs rows out-is schema-is inputs-are = record {
   out_is = found_by write_app words m (codes "OUT") out rows out-is;
   schema_is = found_by write_app words m (codes "SCHEMA") schema rows schema-is;
   inputs_are = all_by write_app words m (codes "IN") inputs rows inputs-are;
+}
+
+pub seq_is : app (codes "seq") seq_rules ≡ seq_app
+unfolding seq_app
+seq_is = refl
+
+-- the names of `seq`
+pub seq_names_by : (words : List (List ℕ)) (m : ArgMatches) (out schema input : List ℕ) → rows_of (found_of m) ≡ matches_of seq_app words
+    → first_value (found_of m) (codes "OUT") ≡ Some out → first_value (found_of m) (codes "SCHEMA") ≡ Some schema
+    → first_value (found_of m) (codes "IN") ≡ Some input → NamesOfSeq words out schema input
+seq_names_by words m out schema input rows out-is schema-is input-is = record {
+  out_is = found_by seq_app words m (codes "OUT") out rows out-is;
+  schema_is = found_by seq_app words m (codes "SCHEMA") schema rows schema-is;
+  input_is = found_by seq_app words m (codes "IN") input rows input-is;
 }
 
 pub gen_is : app (codes "gen") gen_rules ≡ gen_app

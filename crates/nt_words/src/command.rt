@@ -5,6 +5,7 @@ ghost use Rattle.nt_words.specs.CommandLine.{texts};
 ghost use Rattle.nt_words.specs.Commands.{Says, IsNoCommand, IsWrong};
 
 use crate::generate::{GenWords, gen_of};
+use crate::seq::{SeqWords, seq_of};
 use crate::show::{entries_of, schema_of};
 use crate::write::{WriteWords, write_of};
 use std::alloc::{AllocError, Global};
@@ -13,6 +14,7 @@ use std::alloc::{AllocError, Global};
 #[derive(Drop)]
 pub enum Command<'a> {
     Write(WriteWords<'a>),
+    Seq(SeqWords<'a>),
     Gen(GenWords<'a>),
     /// The entries from `from` on, and at most `count` of them, where the words say so.
     Entries {
@@ -32,6 +34,7 @@ pub fn command_of<'a>(alloc: Global, words: &'a [String]) -> Result<Command<'a>,
 {
     match words {
         [first, ..] if first.as_str() == "write" => write_of(alloc, words),
+        [first, ..] if first.as_str() == "seq" => seq_of(alloc, words),
         [first, ..] if first.as_str() == "gen" => gen_of(alloc, words),
         [first, ..] if first.as_str() == "entries" => entries_of(alloc, words),
         [first, ..] if first.as_str() == "schema" => schema_of(alloc, words),
