@@ -1,0 +1,202 @@
+-- What a writer has written after a flush, or why not.
+use Rattle.std.proofs.Common.{◌≡◌, ◌≢◌, ◌⊎◌, inl, inr, ℕ, ◌<◌, ◌≤◌, true, List, [], ◌∷◌, ◌++◌, length, Some, Result}
+use Rattle.std.proofs.Common.{Ok, Err, refl, sym, ap, ◌∙◌, subst, append_assoc, append-nil, arith}
+use Rattle.nt_lists.specs.Chunks.{chunks}
+use Rattle.nt_types.specs.TreeData.{TreesData}
+use Rattle.nt_outside.specs.Disk.{DiskState}
+use Rattle.nt_book.specs.declared.limits.LimitError.{LimitError}
+use Rattle.nt_book.specs.declared.limits.LimitError.TheVariants as limit
+use Rattle.nt_book.specs.declared.params.Params.{Params}
+use Rattle.nt_book.specs.Kept.{IsBookKept}
+use Rattle.nt_layout.specs.Headers.{clusters_place}
+use Rattle.nt_commit.specs.declared.error.CommitError.{CommitError}
+use Rattle.nt_commit.specs.declared.error.CommitError.TheVariants as commit
+use Rattle.nt_commit.specs.Claims.{limit_in}
+use Rattle.nt_seq.specs.Writer.{SeqState, gathered_by}
+use Rattle.nt_seq.specs.Written.{HasWritten}
+use Rattle.nt_seq.specs.Changing.{WritesNext, FailsToAppend, RefusesNext, NamesPassed}
+use Rattle.nt_writing.proofs.Chunking.{chunks-full, chunks-none, chunks-last}
+use Rattle.nt_script.specs.Reading.{Segment}
+use Rattle.nt_script.specs.Taking.{clusters_of_segments, HasTakenLines, HasWrittenLines, NamesOver, HasSameSchema, HaltsAt}
+use Rattle.nt_script.specs.Taking.{IsFlushed}
+use Rattle.nt_script.specs.Running.{error_of_commit}
+use Rattle.nt_script.proofs.Passed.{next_over}
+
+abbrev pub refusal : CommitError → Result (Unit {0}) CommitError
+refusal e = Err e
+
+-- a limit is no want of memory
+range_apart : (len most : ℕ) → refusal (commit.RangeTooLarge len most) ≢ refusal commit.Memory
+range_apart len most is = cc
+
+file_apart : (end most : ℕ) → refusal (commit.FileTooLarge end most) ≢ refusal commit.Memory
+file_apart end most is = cc
+
+many_apart : refusal commit.TooManyClusters ≢ refusal commit.Memory
+many_apart is = cc
+
+-- a refusal is no answer
+refused_not_done : (e : CommitError) → refusal e ≢ Ok tt
+refused_not_done e is = cc
+
+module _ {D : Type 0} (state : D → DiskState) where
+  -- what is gathered is the last chunk
+  pub last_chunk : (segments : List Segment) (es : List TreesData) (w : SeqState D) → 0 < length (gathered_by w)
+      → length (gathered_by w) ≤ w.params.cluster → (taken : HasTakenLines state segments es w)
+      → chunks w.params.cluster es ≡ taken.full ++ gathered_by w ∷ []
+  last_chunk segments es w some few taken =
+      let n = w.params.cluster in
+      ap (λ (l : List TreesData). chunks n l) taken.whole
+      ∙ (chunks-full n (omega arith) taken.full (gathered_by w) taken.sizes
+      ∙ ap (λ (l : List (List TreesData)). taken.full ++ l) (chunks-last n (omega arith) (gathered_by w) some few))
+
+  -- with nothing gathered all is written
+  none_gathered : (segments : List Segment) (es : List TreesData) (w : SeqState D) → 0 < w.params.cluster → gathered_by w ≡ []
+      → HasTakenLines state segments es w → HasWrittenLines state segments es w
+  none_gathered segments es w some none taken =
+      let n = w.params.cluster in
+      let are : chunks n es ≡ taken.full =
+      ap (λ (l : List TreesData). chunks n l) taken.whole
+      ∙ (chunks-full n some taken.full (gathered_by w) taken.sizes
+      ∙ (ap (λ (l : List (List TreesData)). taken.full ++ l) (chunks-none n some (gathered_by w)
+      (ap (λ (l : List TreesData). length l) none)) ∙ append-nil taken.full)) in
+      record {
+        written = subst (λ (l : List (List TreesData)). HasWritten state w (clusters_of_segments n segments ++ l)) (sym are) taken.written;
+        none = none;
+      }
+
+  -- all clusters that are written, with the next one
+  with_next : (segments : List Segment) (es : List TreesData) (w : SeqState D) → 0 < length (gathered_by w)
+      → length (gathered_by w) ≤ w.params.cluster → (taken : HasTakenLines state segments es w)
+      → (clusters_of_segments w.params.cluster segments ++ taken.full) ++ gathered_by w ∷ []
+      ≡ clusters_of_segments w.params.cluster segments ++ chunks w.params.cluster es
+  with_next segments es w some few taken =
+      append_assoc (clusters_of_segments w.params.cluster segments) taken.full (gathered_by w ∷ [])
+      ∙ ap (λ (l : List (List TreesData)). clusters_of_segments w.params.cluster segments ++ l)
+      (sym (last_chunk segments es w some few taken))
+
+  same_params : (old new : SeqState D) → WritesNext state old new → new.params ≡ old.params
+  same_params old new next = ap (λ (w : SeqState D). w.params) next.now
+
+  next_same : (old new : SeqState D) → old.alive ≡ true → WritesNext state old new → HasSameSchema old new
+  next_same old new alive next = record {
+    table = ap (λ (w : SeqState D). w.table) next.now;
+    params = same_params old new next;
+    alive = ap (λ (w : SeqState D). w.alive) next.now ∙ alive;
+  }
+
+  next_written : (segments : List Segment) (es : List TreesData) (old new : SeqState D) → 0 < length (gathered_by old)
+      → length (gathered_by old) ≤ old.params.cluster → HasTakenLines state segments es old → WritesNext state old new
+      → HasWrittenLines state segments es new
+  next_written segments es old new some few taken next =
+      let written = next.written (clusters_of_segments old.params.cluster segments ++ taken.full) taken.written in
+      let all : HasWritten state new (clusters_of_segments old.params.cluster segments ++ chunks old.params.cluster es) =
+      subst (HasWritten state new) (with_next segments es old some few taken) written in
+      record {
+        written = subst (λ (p : Params). HasWritten state new (clusters_of_segments p.cluster segments ++ chunks p.cluster es))
+            (sym (same_params old new next)) all;
+        none = next.none;
+      }
+
+  -- why the gathered entries weren't written
+  halted : (segments : List Segment) (es : List TreesData) (old new : SeqState D) (e : CommitError) → 0 < length (gathered_by old)
+      → length (gathered_by old) ≤ old.params.cluster → IsBookKept old.book → old.book.begin ≡ clusters_place old.table
+      → HasTakenLines state segments es old → (refusal e ≢ refusal commit.Memory → NamesPassed old (Err e))
+      → (refusal e ≡ refusal commit.Fault → FailsToAppend state old new)
+      → HaltsAt state old.table old.params segments es new (error_of_commit e)
+  halted segments es old new e some few kept begin taken names fault = at e names fault
+    where
+      over : (error : LimitError) (f : CommitError) → limit_in f ≡ Some error → NamesPassed old (Err f)
+          → NamesOver old.table old.params (clusters_of_segments old.params.cluster segments ++ chunks old.params.cluster es) error
+      over error f is passed =
+          subst (λ (l : List (List TreesData)). NamesOver old.table old.params l error) (with_next segments es old some few taken)
+          (next_over old.table old.params old.book kept begin (clusters_of_segments old.params.cluster segments ++ taken.full)
+          taken.written.ranges taken.written.late old.columns (gathered_by old) passed.gives old.book.limits error passed.limits_are
+          (passed.names ∙ is))
+
+      at : (f : CommitError) → (refusal f ≢ refusal commit.Memory → NamesPassed old (Err f))
+          → (refusal f ≡ refusal commit.Fault → FailsToAppend state old new)
+          → HaltsAt state old.table old.params segments es new (error_of_commit f)
+      at (commit.RangeTooLarge len most) names fault =
+          over (limit.RangeTooLarge len most) (commit.RangeTooLarge len most) refl (names (range_apart len most))
+      at (commit.FileTooLarge end most) names fault =
+          over (limit.FileTooLarge end most) (commit.FileTooLarge end most) refl (names (file_apart end most))
+      at commit.TooManyClusters names fault = over limit.TooManyClusters commit.TooManyClusters refl (names many_apart)
+      at commit.Memory names fault = tt
+      at commit.Fault names fault = let f = fault refl in omega (arith, f.rose)
+
+  some_or_none : (es : List TreesData) → (es ≡ []) ⊎ (0 < length es)
+  some_or_none [] = inl refl
+  some_or_none (e ∷ es) = inr (omega arith)
+
+  -- a flush that was done
+  pub gathered_written : (segments : List Segment) (es : List TreesData) (old new : SeqState D) → 0 < old.params.cluster
+      → length (gathered_by old) ≤ old.params.cluster → old.alive ≡ true → HasTakenLines state segments es old
+      → (gathered_by old ≡ [] → new ≡ old) → (0 < length (gathered_by old) → WritesNext state old new)
+      → HasWrittenLines state segments es new × HasSameSchema old new
+  gathered_written segments es old new some few alive taken nothing next =
+      elim (some_or_none (gathered_by old)) [
+        | inl none ↦
+            let same = nothing none in (
+              subst (HasWrittenLines state segments es) (sym same) (none_gathered segments es old some none taken),
+              record {
+                table = ap (λ (w : SeqState D). w.table) same;
+                params = ap (λ (w : SeqState D). w.params) same;
+                alive = ap (λ (w : SeqState D). w.alive) same ∙ alive;
+              },
+            )
+        | inr more ↦ (next_written segments es old new more few taken (next more), next_same old new alive (next more))
+      ]
+
+  -- whatever was taken
+  pub gathered_flushed : (old new : SeqState D) → old.alive ≡ true → (gathered_by old ≡ [] → new ≡ old)
+      → (0 < length (gathered_by old) → WritesNext state old new) → IsFlushed old new
+  gathered_flushed old new alive nothing next =
+      elim (some_or_none (gathered_by old)) [
+        | inl none ↦
+            let same = nothing none in
+            record {
+              none = ap (λ (w : SeqState D). gathered_by w) same ∙ none;
+              same = record {
+                table = ap (λ (w : SeqState D). w.table) same;
+                params = ap (λ (w : SeqState D). w.params) same;
+                alive = ap (λ (w : SeqState D). w.alive) same ∙ alive;
+              };
+            }
+        | inr more ↦ record { none = (next more).none; same = next_same old new alive (next more) }
+      ]
+
+  -- the disk that was given is kept
+  pub given_flushed : (old new : SeqState D) → (gathered_by old ≡ [] → new ≡ old)
+      → (0 < length (gathered_by old) → WritesNext state old new) → new.given ≡ old.given
+  given_flushed old new nothing next =
+      elim (some_or_none (gathered_by old)) [
+        | inl none ↦ ap (λ (w : SeqState D). w.given) (nothing none)
+        | inr more ↦ ap (λ (w : SeqState D). w.given) (next more).now
+      ]
+
+  pub given_refused : (old new : SeqState D) (e : CommitError) → RefusesNext state old new (Err e) → new.given ≡ old.given
+  given_refused old new e refused = at e refused
+    where
+      stays : (f : CommitError) → f ≢ commit.Fault → RefusesNext state old new (Err f) → new.given ≡ old.given
+      stays f apart h = ap (λ (w : SeqState D). w.given) (h.kept f refl apart).now
+
+      at : (f : CommitError) → RefusesNext state old new (Err f) → new.given ≡ old.given
+      at (commit.RangeTooLarge len most) h = stays (commit.RangeTooLarge len most) (λ same. cc same) h
+      at (commit.FileTooLarge end most) h = stays (commit.FileTooLarge end most) (λ same. cc same) h
+      at commit.TooManyClusters h = stays commit.TooManyClusters (λ same. cc same) h
+      at commit.Memory h = stays commit.Memory (λ same. cc same) h
+      at commit.Fault h = ap (λ (w : SeqState D). w.given) (h.fault refl).now
+
+  -- a flush that was refused
+  pub gathered_refused : (segments : List Segment) (es : List TreesData) (old new : SeqState D) (e : CommitError)
+      → length (gathered_by old) ≤ old.params.cluster → IsBookKept old.book → old.book.begin ≡ clusters_place old.table
+      → HasTakenLines state segments es old → (gathered_by old ≡ [] → (refusal e ≡ Ok tt) × (new ≡ old))
+      → (0 < length (gathered_by old) → refusal e ≢ refusal commit.Memory → NamesPassed old (Err e))
+      → (refusal e ≡ refusal commit.Fault → FailsToAppend state old new)
+      → HaltsAt state old.table old.params segments es new (error_of_commit e)
+  gathered_refused segments es old new e few kept begin taken nothing names fault =
+      elim (some_or_none (gathered_by old)) [
+        | inl none ↦ absurd (refused_not_done e (nothing none).0)
+        | inr more ↦ halted segments es old new e more few kept begin taken (names more) fault
+      ]

@@ -1,0 +1,13 @@
+pub mod Scripts
+pub mod ReadLines
+pub mod FieldNames
+pub mod LastTrees
+pub mod Tables
+pub mod Segments
+pub mod Passed
+pub mod Flushed
+pub mod Taken
+pub mod Members
+pub mod Fields
+pub mod Goes
+pub mod Ends
