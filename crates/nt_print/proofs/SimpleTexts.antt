@@ -21,7 +21,8 @@ simple-ascii (x ∷ xs) h (suc i) = simple-ascii xs h.1 i
 
 -- they are the string as they stand
 simple-text : (s : List ℕ) → AllSimple s → 34 ∷ (s ++ 34 ∷ []) ≡ compact_text (data_of (text s))
-simple-text s h = ap (λ l. 34 ∷ (l ++ 34 ∷ [])) (sym (plain-escape s (simple-plain s h))) ∙ utf8_text s (IsUtf8-from_ascii s (simple-ascii s h))
+simple-text s h = ap (λ l. 34 ∷ (l ++ 34 ∷ [])) (sym (plain-escape s (simple-plain s h)))
+    ∙ utf8_text s (IsUtf8-from_ascii s (simple-ascii s h))
 
 pub simple-put : (o a b c s : List ℕ) (mark : ℕ) → AllSimple s → a ≡ o ++ mark ∷ 34 ∷ [] → b ≡ a ++ s → c ≡ b ++ 34 ∷ []
     → c ≡ o ++ mark ∷ compact_text (data_of (text s))
