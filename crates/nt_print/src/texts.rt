@@ -13,19 +13,18 @@ use std::alloc::{AllocError, Global};
 fn is_simple(byte: u8) -> bool
     ensures { IsTrue result → Simple byte }
 {
-    byte >= 32 && byte < 128 && byte != b'"' && byte != b'\\'
+    (byte >= 32) & (byte < 128) & (byte != b'"') & (byte != b'\\')
 }
 
-/// Whether all bytes are.
+/// Whether all bytes are. It ends behind the last one whatever they are, so that it can look at many at once.
 fn are_simple(bytes: &[u8]) -> bool
     ensures { IsTrue result → AllSimple bytes.now }
 {
+    let mut all = true;
     for byte in bytes {
-        if !is_simple(*byte) {
-            return false;
-        }
+        all &= is_simple(*byte);
     }
-    true
+    all
 }
 
 /// Appends a mark, and then bytes that stand for themselves between quotes.
@@ -41,6 +40,7 @@ fn put_simple(mark: u8, bytes: &[u8], out: &mut Vec<u8>) -> Result<(), AllocErro
 }
 
 /// Appends a mark, and then any text.
+#[inline(never)]
 fn put_any(alloc: Global, mark: u8, bytes: &[u8], out: &mut Vec<u8>) -> Result<(), AllocError>
     ensures ok { OnOk result (out.new.items ≡ out.old.items ++ mark ∷ compact_text (data_of (text bytes.now))) }
     ensures kept { take (length out.old.items) out.new.items ≡ out.old.items }
