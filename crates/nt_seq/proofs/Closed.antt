@@ -90,7 +90,7 @@ module _ {D : Type 0} (state : D → DiskState) (w : SeqState D) (is : IsWriting
       ∙ image-file w.table has.ranges)
 
   -- the finished file is that of the clusters
-  whole : passed_by_close w.params w.table w.book ≡ None → IsFileOf state w (closed_on behind before h).image
+  pub whole : passed_by_close w.params w.table w.book ≡ None → IsFileOf state w (closed_on behind before h).image
   whole passed =
       let stays = within w.table w.params w.book passed (header-within w.params.limits w.table is.within) in
       record {
