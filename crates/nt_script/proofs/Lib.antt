@@ -11,3 +11,12 @@ pub mod Members
 pub mod Fields
 pub mod Goes
 pub mod Ends
+pub mod Plain
+pub mod Cuts
+pub mod Wholes
+pub mod Closed
+pub mod Early
+pub mod Unbegun
+pub mod Hosted
+pub mod Opened
+pub mod Stores

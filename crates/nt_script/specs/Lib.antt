@@ -6,3 +6,8 @@ pub mod Taking
 pub mod Adding
 pub mod Events
 pub mod Running
+pub mod StoreErrors
+pub mod Whole
+pub mod Crashes
+pub mod Filing
+pub mod Storing
