@@ -1,3 +1,4 @@
+pub mod AsciiBytes
 pub mod Growing
 pub mod Singles
 pub mod Walks

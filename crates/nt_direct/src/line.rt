@@ -7,6 +7,7 @@ ghost use Rattle.nt_direct.specs.Places.{Grew};
 ghost use Rattle.nt_direct.specs.Walk.{CanPutEach};
 ghost use Rattle.nt_direct.specs.Lines.{PutsLine, IsSoundSet, PutsEntry};
 
+use crate::ascii::is_utf8;
 use crate::room::{cut_back, prepare};
 use crate::values::each;
 use nt_column::ColumnSet;
@@ -59,7 +60,7 @@ impl Direct {
         if line.len() > MOST {
             return false;
         }
-        if let Err(_invalid) = simdutf8::compat::from_utf8(line) {
+        if !is_utf8(line) {
             return false;
         }
         if let Err(AllocError) = prepare(out, line.len(), &mut self.marks) {
