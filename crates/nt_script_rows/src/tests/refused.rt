@@ -89,8 +89,8 @@ fn around(
     Ok(text)
 }
 
-/// How many members a tuple has that is added behind `x u8`, with one more field behind it, and the line that has one field too many.
-const MANY: [(u32, Option<u64>); 3] = [(4093, None), (4094, Some(2)), (4095, Some(1))];
+/// How many members more than one a tuple has that is added behind `x u8`, with a field behind it, and the line of a field too many.
+const MANY: [(u32, Option<u64>); 3] = [(4092, None), (4093, Some(2)), (4094, Some(1))];
 
 /// How many lists lie in one another in a field that is added, and the line that is too deep.
 const DEEP: [(u32, Option<u64>); 2] = [(31, None), (32, Some(1))];
@@ -107,13 +107,7 @@ fn answer(line: Option<u64>, kind: LineFault) -> Result<(), ScriptStoreError> {
 fn fields_are_neither_too_many_nor_too_deep(rt: HostRuntime) -> Result<(), Fail> {
     let params = params_of(&rt, 10000);
     for (members, line) in MANY {
-        let script = around(
-            rt.alloc(),
-            b"+ t tuple<u8",
-            members - 1,
-            b",u8",
-            b">\n+ y u8",
-        )?;
+        let script = around(rt.alloc(), b"+ t tuple<u8", members, b",u8", b">\n+ y u8")?;
         let ran = run_over(rt.alloc(), host_of(rt.alloc(), b"x u8", &script)?, &params);
         assert_eq!(rt; ran.stored, answer(line, TOO_MANY), "{members}");
     }
