@@ -72,8 +72,9 @@ module _ {D : Type 0} (state : D → DiskState) (w : SeqState D) (F : List Membe
     -- the closed file is that of the script
     whole_file : IsFileOf state w (closed_on behind before h).image → (bytes : List ℕ) → IsClosedBy w.table is.ranges behind before bytes
         → IsScriptFile w.params F text bytes
-    whole_file file bytes same = subst (IsScriptFile w.params F text) (sym same) (file_here state w F text first rows done law
-        (closed_on behind before h).image file)
+    whole_file file bytes same =
+        subst (IsScriptFile w.params F text) (sym same)
+        (file_here state w F text first rows done law (closed_on behind before h).image file)
 
     -- after Ok
     pub closed_here : (n : ℕ × ℕ) → EndsFile state w disk (Ok n) → AreCounts state w n.0 n.1

@@ -20,18 +20,8 @@ use Rattle.nt_layout.specs.Headers.{header_blob}
 use Rattle.nt_files.specs.Outlines.{outline_of}
 use Rattle.nt_files.specs.Files.{read_file, HasDefect}
 use Rattle.nt_close.specs.Laws.{IsShut}
-use Rattle.nt_close.specs.Steps.{
-  IsBegunSoFar,
-  first_byte,
-  shut_on,
-  closed_on,
-  IsClosedSoFar,
-  torn_tail,
-  torn_front,
-  not_kept_shut,
-  torn_first,
-}
-use Rattle.nt_close.specs.Steps.{not_kept_open, closed_whole}
+use Rattle.nt_close.specs.Steps.{IsBegunSoFar, first_byte, shut_on, closed_on, IsClosedSoFar, torn_tail, torn_front, not_kept_shut}
+use Rattle.nt_close.specs.Steps.{torn_first, not_kept_open, closed_whole}
 use Rattle.nt_close.proofs.FirstByte.{closes_in_order}
 use Rattle.nt_crash.specs.Cuts.{ReadsButFirst, LeavesUnfinished, LeavesUnfinishedOr, LeavesOnly}
 use Rattle.nt_seq.specs.Written.{file_so_far, IsUnclosed}

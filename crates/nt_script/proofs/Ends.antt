@@ -25,7 +25,7 @@ use Rattle.nt_script.specs.Script.{Script, last_entries, adds_field, field_added
 use Rattle.nt_script.specs.Clusters.{GrowsByScript}
 use Rattle.nt_script.specs.Reading.{Segment, behind_segments, HasReadScript}
 use Rattle.nt_script.specs.Limits.{IsOverLate, PassesLimit}
-use Rattle.nt_script.specs.Taking.{clusters_of_segments, GrowsBySegments, HasGrownTable, NamesOver}
+use Rattle.nt_script.specs.Taking.{clusters_of_segments, GrowsBySegments, HasGrownBy, NamesOver}
 use Rattle.nt_script.specs.Taking.{HaltsAt, WritesGathered}
 use Rattle.nt_script.specs.Events.{IsEventError, IsFieldError, TakesEvent, TakesField}
 use Rattle.nt_script.specs.Running.{error_of_lines, PassesNamed, GoesOnScript, HasAllLines, EndsEarlyFor}
@@ -65,7 +65,7 @@ module _ {D : Type 0} (state : D → DiskState) (F : List MemberData) (text : Op
   module _ (rows : Rows F p.plain first) where
     -- what was taken isn't written, and so the script ends
     pub halted_ends : (G : List MemberData) (segments : List Segment) (es : List TreesData) (old new : SeqState D)
-        (was now is : LinesState) (error : ScriptError) → HasGrownTable first G segments old → old.params ≡ p
+        (was now is : LinesState) (error : ScriptError) → HasGrownBy first G segments old → old.params ≡ p
         → HasReadScript F text segments es now → HaltsAt state old.table old.params segments es new error
         → EndsEarlyFor state F text first p was is new error
     halted_ends G segments es old new was now is (Line line kind) grown same read h = absurd h

@@ -168,7 +168,8 @@ module _ {D : Type 0} (state : D → DiskState) where
 
   -- the disk that was given is kept
   pub given_flushed : (old new : SeqState D) → (gathered_by old ≡ [] → new ≡ old)
-      → (0 < length (gathered_by old) → WritesNext state old new) → new.given ≡ old.given
+      → (0 < length (gathered_by old) → WritesNext state old new)
+      → new.given ≡ old.given
   given_flushed old new nothing next =
       elim (some_or_none (gathered_by old)) [
         | inl none ↦ ap (λ (w : SeqState D). w.given) (nothing none)

@@ -11,16 +11,16 @@ use Rattle.nt_event.specs.Entry.{entry_of}
 use Rattle.nt_event.specs.Lines.{LinesState, IsNextLine, GivesLine}
 use Rattle.nt_seq.specs.Writer.{SeqState}
 use Rattle.nt_script.specs.Script.{adds_field, field_added}
-use Rattle.nt_script.specs.Reading.{Segment, fields_of_segments}
-use Rattle.nt_script.specs.Taking.{GrowsBySegments, HasJustFields, HasGrownTable}
+use Rattle.nt_script.specs.Reading.{Segment, segment_fields}
+use Rattle.nt_script.specs.Taking.{GrowsBySegments, HasJustFields, HasGrownBy}
 use Rattle.nt_script.specs.Taking.{HasSameSchema}
 use Rattle.nt_script.specs.Events.{TakesEvent, TakesField}
 use Rattle.nt_script.specs.Running.{IsFirstWriter, GoesOnScript, HasAllLines}
 use Rattle.nt_script.proofs.ReadLines.{read-blank, read-entry, read-field, read-end}
-use Rattle.nt_script.proofs.ReadLines.{read-nothing, fields_of_segments-next}
+use Rattle.nt_script.proofs.ReadLines.{read-nothing, segment_fields-next}
 
 pub grown_same : {D : Type 0} (first : Table) (G : List MemberData) (segments : List Segment) (old new : SeqState D)
-    → HasGrownTable first G segments old → HasSameSchema old new → HasGrownTable first G segments new
+    → HasGrownBy first G segments old → HasSameSchema old new → HasGrownBy first G segments new
 grown_same first G segments old new grown same = record {
   grows = subst (λ (t : Table). GrowsBySegments new.params.plain first 0 segments t) (sym same.table)
       (subst (λ (p : Params). GrowsBySegments p.plain first 0 segments old.table) (sym same.params) grown.grows);
@@ -67,8 +67,8 @@ module _ {D : Type 0} (state : D → DiskState) (F : List MemberData) (text : Op
         entries = [];
         fields = h.fields
             ∙ (ap (λ (l : List MemberData). l ++ h.field ∷ []) on.fields
-            ∙ (append_assoc F (fields_of_segments on.segments) (h.field ∷ [])
-            ∙ ap (λ (l : List MemberData). F ++ l) (sym (fields_of_segments-next on.segments s))));
+            ∙ (append_assoc F (segment_fields on.segments) (h.field ∷ [])
+            ∙ ap (λ (l : List MemberData). F ++ l) (sym (segment_fields-next on.segments s))));
         read = read-field F on.segments on.entries was is line next text h.field on.read adding
             (ap (λ (l : List MemberData). field_added l line.bytes) (sym on.fields) ∙ h.read);
         grown = h.grown;

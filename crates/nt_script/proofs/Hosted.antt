@@ -63,8 +63,8 @@ module _ (out : List ℕ) (w : World) (world : Option World) (held : Option Held
     -- what is left of the files then
     abbrev IsBack : Result Counts ScriptStoreError → Type 0
     IsBack result =
-        (w' : World) × (world ≡ Some w') × (w'.err ≡ w.err) ×
-        (w'.out ≡ w.out) × OthersStay out w w' × FilesTold out p fields text w w' result
+        (w' : World) × (world ≡ Some w') × (w'.err ≡ w.err) × (w'.out ≡ w.out) × OthersStay out w w'
+        × FilesTold out p fields text w w' result
 
     with_told : (result : Result Counts ScriptStoreError) (h : Held) → held ≡ Some h → FilesTold out p fields text w (after h) result
         → IsBack result

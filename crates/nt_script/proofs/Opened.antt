@@ -62,8 +62,8 @@ unopened_told out schema input p w refused.Memory = (inl (refl, refl), refl)
 
 pub stores_unopened : {T : Type 0} (out schema input : List ℕ) (p : Params) (old mid new : HostState) (f : Members) (r : Refused)
     → AsksOnly {E = StoreError} (Text schema ∷ []) old mid (Ok f) → HasStoreCause {T = Members} old.faults mid.faults (Ok f)
-    → LeavesOut 0 old mid
-    → Opens {T = T} (Text input) mid new (Err r) → StoresScript out schema input p old new (Err (script_error_of_refusal r))
+    → LeavesOut 0 old mid → Opens {T = T} (Text input) mid new (Err r)
+    → StoresScript out schema input p old new (Err (script_error_of_refusal r))
 stores_unopened {T} out schema input p old mid new f r asks cause back opens =
     let stays = opens.world ∙ asks.world in
     record {

@@ -20,20 +20,13 @@ use Rattle.nt_script.specs.declared.error.LineFault.{LineFault}
 use Rattle.nt_script.specs.declared.error.LineFault.TheVariants.{Event, Field}
 use Rattle.nt_script.specs.Script.{Script, last_entries, and_field, with_entries, breaks_off, adds_field, then_field, field_added}
 use Rattle.nt_script.specs.Script.{script_of_lines, read_script}
-use Rattle.nt_script.specs.Reading.{Segment, fields_of_segments, behind_segments, HasReadScript, GivesScript}
-use Rattle.nt_script.proofs.Scripts.{
-  with_entries-none,
-  then_entry,
-  script-event,
-  script-field,
-  script-beyond,
-  segments-entry,
-  segments-field,
-}
+use Rattle.nt_script.specs.Reading.{Segment, segment_fields, behind_segments, HasReadScript, GivesScript}
+use Rattle.nt_script.proofs.Scripts.{with_entries-none, then_entry, script-event, script-field, script-beyond, segments-entry}
+use Rattle.nt_script.proofs.Scripts.{segments-field}
 
-pub fields_of_segments-next : (segments : List Segment) (s : Segment)
-    → fields_of_segments (segments ++ s ∷ []) ≡ fields_of_segments segments ++ s.field ∷ []
-fields_of_segments-next segments s = map-append (λ (x : Segment). x.field) segments (s ∷ [])
+pub segment_fields-next : (segments : List Segment) (s : Segment)
+    → segment_fields (segments ++ s ∷ []) ≡ segment_fields segments ++ s.field ∷ []
+segment_fields-next segments s = map-append (λ (x : Segment). x.field) segments (s ∷ [])
 
 -- a bad line ends the segment that goes on
 pub breaks_here : (segments : List Segment) (es : List TreesData) (number : ℕ) (kind : LineFault)
@@ -50,7 +43,7 @@ ends_here (s ∷ segments) es = ap (λ (x : Script). and_field s.entries s.field
 
 module _ (F : List MemberData) (segments : List Segment) where
   abbrev now_fields : List MemberData
-  now_fields = F ++ fields_of_segments segments
+  now_fields = F ++ segment_fields segments
 
   -- what the lines from this one on give
   abbrev from_here : LinesState → List ℕ → Script
@@ -141,9 +134,9 @@ module _ (F : List MemberData) (segments : List Segment) where
         let off = next_line (parts_of F) old new line read.rest read.left next in
         let s : Segment = record { entries = es; field = m } in
         let rest = script_of_lines (now_fields ++ m ∷ []) (new.number + 1) (text_lines off.rest) in
-        let fields : now_fields ++ m ∷ [] ≡ F ++ fields_of_segments (segments ++ s ∷ []) =
-        append_assoc F (fields_of_segments segments) (m ∷ [])
-        ∙ ap (λ (l : List MemberData). F ++ l) (sym (fields_of_segments-next segments s)) in
+        let fields : now_fields ++ m ∷ [] ≡ F ++ segment_fields (segments ++ s ∷ []) =
+        append_assoc F (segment_fields segments) (m ∷ [])
+        ∙ ap (λ (l : List MemberData). F ++ l) (sym (segment_fields-next segments s)) in
         record {
           rest = off.rest;
           left = off.left;

@@ -116,8 +116,8 @@ module _ (F : List MemberData) where
           let rest = read_additions F (number + 1 + length (first_segment lines)) (additions lines) in
           let more = entries_of_lines P (number + 1) (first_segment lines) in
           event_first number line lines event
-          ∙ ap (λ (b : Bool). then_segments (if b then ends_badly number TooLong
-          else (if is_blank_line line then more else then_lines number (entry_of P line) more)) rest) far
+          ∙ ap (λ (b : Bool). then_segments (if b then ends_badly number TooLong else (if is_blank_line line then more
+          else then_lines number (entry_of P line) more)) rest) far
 
 -- one entry more of the segment that goes on
 pub segments-entry : (segments : List Segment) (es : List TreesData) (e : TreesData) (rest : Script)

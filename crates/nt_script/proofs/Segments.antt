@@ -16,7 +16,7 @@ use Rattle.nt_seq.specs.Written.{entries_of_clusters, zero_behind}
 use Rattle.nt_seq.proofs.Grown.{filled-filled}
 use Rattle.nt_script.specs.Script.{BadScriptLine, last_entries}
 use Rattle.nt_script.specs.Clusters.{bad_line, fields_of_script, clusters_before, script_clusters, GrowsByScript}
-use Rattle.nt_script.specs.Reading.{Segment, fields_of_segments, behind_segments}
+use Rattle.nt_script.specs.Reading.{Segment, segment_fields, behind_segments}
 use Rattle.nt_script.specs.Taking.{clusters_of_segments, GrowsBySegments}
 
 -- zeros behind entries
@@ -38,8 +38,7 @@ before-next most later m es =
     ap (λ (z : TreesData). map (filled z) (chunks most es)) (zero_parts-next later m)
     ∙ sym (chunks_filled (zero_parts (parts_of later)) (zero_behind m) (chunks most es))
 
-fields-next : (segments : List Segment) (s : Segment) → fields_of_segments
-    (segments ++ s ∷ []) ≡ fields_of_segments segments ++ s.field ∷ []
+fields-next : (segments : List Segment) (s : Segment) → segment_fields (segments ++ s ∷ []) ≡ segment_fields segments ++ s.field ∷ []
 fields-next segments s = map-append (λ (x : Segment). x.field) segments (s ∷ [])
 
 -- with one segment more, all clusters have the zero of its field
@@ -48,19 +47,19 @@ pub segments-next : (most : ℕ) (segments : List Segment) (s : Segment)
     ≡ map (filled (zero_behind s.field)) (clusters_of_segments most segments ++ chunks most s.entries)
 segments-next most [] s = append-nil (clusters_before most (s.field ∷ []) s.entries)
 segments-next most (q ∷ segments) s =
-    let own = clusters_before most (q.field ∷ fields_of_segments segments) q.entries in
+    let own = clusters_before most (q.field ∷ segment_fields segments) q.entries in
     let rest = clusters_of_segments most segments in
     let f : List TreesData → List TreesData = filled (zero_behind s.field) in
     ap (λ (l : List MemberData). clusters_before most (q.field ∷ l) q.entries ++ clusters_of_segments most (segments ++ s ∷ []))
     (fields-next segments s)
     ∙ (ap (λ (l : List (List TreesData)). l ++ clusters_of_segments most (segments ++ s ∷ []))
-    (before-next most (q.field ∷ fields_of_segments segments) s.field q.entries)
+    (before-next most (q.field ∷ segment_fields segments) s.field q.entries)
     ∙ (ap (λ (l : List (List TreesData)). map f own ++ l) (segments-next most segments s)
     ∙ (sym (map-append f own (rest ++ chunks most s.entries))
     ∙ ap (λ (l : List (List TreesData)). map f l) (sym (append_assoc own rest (chunks most s.entries))))))
 
 fields-script : (segments : List Segment) (es : List TreesData) (bad : Option BadScriptLine)
-    → fields_of_script (behind_segments segments [] (last_entries es bad)) ≡ fields_of_segments segments
+    → fields_of_script (behind_segments segments [] (last_entries es bad)) ≡ segment_fields segments
 fields-script [] es bad = refl
 fields-script (s ∷ segments) es bad = ap (λ (l : List MemberData). s.field ∷ l) (fields-script segments es bad)
 
@@ -71,9 +70,9 @@ script-segments most [] es bad = refl
 script-segments most (s ∷ segments) es bad =
     ap (λ (l : List MemberData). clusters_before most (s.field ∷ l) s.entries
     ++ script_clusters most (behind_segments segments [] (last_entries es bad))) (fields-script segments es bad)
-    ∙ (ap (λ (l : List (List TreesData)). clusters_before most (s.field ∷ fields_of_segments segments) s.entries ++ l)
+    ∙ (ap (λ (l : List (List TreesData)). clusters_before most (s.field ∷ segment_fields segments) s.entries ++ l)
     (script-segments most segments es bad)
-    ∙ sym (append_assoc (clusters_before most (s.field ∷ fields_of_segments segments) s.entries) (clusters_of_segments most segments)
+    ∙ sym (append_assoc (clusters_before most (s.field ∷ segment_fields segments) s.entries) (clusters_of_segments most segments)
     (chunks most es)))
 
 pub bad-segments : (segments : List Segment) (es : List TreesData) (bad : Option BadScriptLine)
@@ -116,10 +115,10 @@ pub entries-segments : (most : ℕ) (segments : List Segment) → 0 < most
     → entries_of_clusters (clusters_of_segments most segments) ≡ entries_of_segments segments
 entries-segments most [] some = refl
 entries-segments most (s ∷ segments) some =
-    let zeros = zero_parts (parts_of (s.field ∷ fields_of_segments segments)) in
+    let zeros = zero_parts (parts_of (s.field ∷ segment_fields segments)) in
     omega (
       arith,
-      sum_by-append (λ (es : List TreesData). length es) (clusters_before most (s.field ∷ fields_of_segments segments) s.entries)
+      sum_by-append (λ (es : List TreesData). length es) (clusters_before most (s.field ∷ segment_fields segments) s.entries)
           (clusters_of_segments most segments),
       entries-filled zeros (chunks most s.entries),
       entries-chunks most s.entries some,

@@ -30,7 +30,8 @@ module _ {D : Type 0} (state : D → DiskState) where
       let same = writes.1 in
       let are : chunks new.params.cluster es ≡ taken.full ++ g ∷ [] =
       ap (λ (p : Params). chunks p.cluster es) same.params
-      ∙ last_chunk state segments es old (omega (arith, some, whole)) (omega (arith, whole)) taken in
+      ∙ last_chunk state segments es old (omega (arith, some, whole)) (omega (arith, whole))
+      taken in
       let sizes : AllByRecursion (λ (chunk : List TreesData). length chunk ≡ new.params.cluster) (taken.full ++ g ∷ []) =
       subst (λ (p : Params). AllByRecursion (λ (chunk : List TreesData). length chunk ≡ p.cluster) (taken.full ++ g ∷ []))
       (sym same.params)

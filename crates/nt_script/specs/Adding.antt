@@ -12,7 +12,7 @@ use Rattle.nt_script.specs.declared.error.ScriptError.{ScriptError}
 use Rattle.nt_script.specs.declared.error.ScriptError.TheVariants.{Line, Limit, Outside, Memory}
 use Rattle.nt_script.specs.Script.{behind_plus, beside}
 use Rattle.nt_script.specs.Reading.{Segment}
-use Rattle.nt_script.specs.Taking.{HasGrownTable, HasTakenLines, HasWrittenLines, IsOpenWriter}
+use Rattle.nt_script.specs.Taking.{HasGrownBy, HasTakenLines, HasWrittenLines, IsOpenWriter}
 
 -- what is wrong with what a line says of its field, or memory is wanting
 abbrev pub IsMemberError : given.Line → ScriptError → Type 0
@@ -33,7 +33,7 @@ IsBesideError F m line Memory = Unit {0}
 module _ {D : Type 0} (state : D → DiskState) (first : Table) where
   -- all that was taken by these fields is written
   pub record IsWrittenOut (F : List MemberData) (segments : List Segment) (es : List TreesData) (w : SeqState D) : Type 0 where
-    pub grown : HasGrownTable first F segments w
+    pub grown : HasGrownBy first F segments w
     pub written : HasWrittenLines state segments es w
     pub some : 0 < w.params.cluster
 
@@ -42,7 +42,7 @@ module _ {D : Type 0} (state : D → DiskState) (first : Table) where
       (old new : SeqState D) : Type 0 where
     pub beside_is : beside F m ≡ Ok m
     pub fields : G ≡ F ++ m ∷ []
-    pub grown : HasGrownTable first G (segments ++ record { entries = es; field = m } ∷ []) new
+    pub grown : HasGrownBy first G (segments ++ record { entries = es; field = m } ∷ []) new
     pub taken : HasTakenLines state (segments ++ record { entries = es; field = m } ∷ []) [] new
     pub is_open : IsOpenWriter new
     pub params : new.params ≡ old.params

@@ -13,7 +13,7 @@ use Rattle.nt_script.specs.declared.error.ScriptError.{ScriptError}
 use Rattle.nt_script.specs.declared.error.ScriptError.TheVariants.{Line, Limit, Outside, Memory}
 use Rattle.nt_script.specs.Script.{field_added}
 use Rattle.nt_script.specs.Reading.{Segment}
-use Rattle.nt_script.specs.Taking.{HasGrownTable, HasTakenLines, HasWrittenLines, HasSameSchema, IsOpenWriter, HaltsAt}
+use Rattle.nt_script.specs.Taking.{HasGrownBy, HasTakenLines, HasWrittenLines, HasSameSchema, IsOpenWriter, HaltsAt}
 
 -- what is wrong with a line of events by these fields, or memory is wanting
 abbrev pub IsEventError : List MemberData → given.Line → ScriptError → Type 0
@@ -59,7 +59,7 @@ module _ {D : Type 0} (state : D → DiskState) where
     pub field : MemberData
     pub read : field_added F line.bytes ≡ Ok field
     pub fields : G ≡ F ++ field ∷ []
-    pub grown : HasGrownTable first G (segments ++ record { entries = es; field = field } ∷ []) new
+    pub grown : HasGrownBy first G (segments ++ record { entries = es; field = field } ∷ []) new
     pub taken : HasTakenLines state (segments ++ record { entries = es; field = field } ∷ []) [] new
     pub is_open : IsOpenWriter new
     pub params : new.params ≡ old.params

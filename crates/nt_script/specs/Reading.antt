@@ -12,8 +12,8 @@ pub record Segment : Type 0 where
   pub field : MemberData
 
 -- the fields that were added behind segments
-abbrev pub fields_of_segments : List Segment → List MemberData
-fields_of_segments segments = map (λ (s : Segment). s.field) segments
+abbrev pub segment_fields : List Segment → List MemberData
+segment_fields segments = map (λ (s : Segment). s.field) segments
 
 -- segments that are over, the entries of the one that goes on, and what is read behind these
 abbrev pub behind_segments : List Segment → List TreesData → Script → Script
@@ -26,7 +26,7 @@ pub record GivesScriptRest (F : List MemberData) (text : List ℕ) (segments : L
   pub rest : List ℕ
   pub left : now.left ≡ Some rest
   pub whole : read_script F text
-      ≡ behind_segments segments es (script_of_lines (F ++ fields_of_segments segments) (now.number + 1) (text_lines rest))
+      ≡ behind_segments segments es (script_of_lines (F ++ segment_fields segments) (now.number + 1) (text_lines rest))
 
 -- these segments and entries were read, if the text is told
 abbrev pub HasReadScript : List MemberData → Option (List ℕ) → List Segment → List TreesData → LinesState → Type 0

@@ -23,9 +23,9 @@ use Rattle.nt_script.specs.declared.error.ScriptError.{ScriptError}
 use Rattle.nt_script.specs.declared.error.ScriptError.TheVariants.{Line, Limit, Outside, Memory}
 use Rattle.nt_script.specs.Script.{Script, last_entries}
 use Rattle.nt_script.specs.Clusters.{bad_line, script_clusters, GrowsByScript}
-use Rattle.nt_script.specs.Reading.{Segment, fields_of_segments, behind_segments, HasReadScript, GivesScript}
+use Rattle.nt_script.specs.Reading.{Segment, segment_fields, behind_segments, HasReadScript, GivesScript}
 use Rattle.nt_script.specs.Limits.{PassesLimit}
-use Rattle.nt_script.specs.Taking.{HasGrownTable, HasTakenLines, HasJustFields, IsOpenWriter}
+use Rattle.nt_script.specs.Taking.{HasGrownBy, HasTakenLines, HasJustFields, IsOpenWriter}
 
 -- the error of clusters that weren't written
 abbrev pub error_of_commit : CommitError → ScriptError
@@ -62,9 +62,9 @@ module _ {D : Type 0} (state : D → DiskState) (F : List MemberData) where
     pub record GoesOnScript (G : List MemberData) (w : SeqState D) (lines : LinesState) : Type 0 where
       pub segments : List Segment
       pub entries : List TreesData
-      pub fields : G ≡ F ++ fields_of_segments segments
+      pub fields : G ≡ F ++ segment_fields segments
       pub read : HasReadScript F text segments entries lines
-      pub grown : HasGrownTable first G segments w
+      pub grown : HasGrownBy first G segments w
       pub taken : HasTakenLines state segments entries w
       pub is_open : IsOpenWriter w
       pub params : w.params ≡ p
@@ -74,7 +74,7 @@ module _ {D : Type 0} (state : D → DiskState) (F : List MemberData) where
       pub segments : List Segment
       pub entries : List TreesData
       pub read : GivesScript F text (behind_segments segments [] (last_entries entries None))
-      pub grown : HasGrownTable first G segments w
+      pub grown : HasGrownBy first G segments w
       pub taken : HasTakenLines state segments entries w
       pub is_open : IsOpenWriter w
       pub params : w.params ≡ p

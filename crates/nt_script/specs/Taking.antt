@@ -22,14 +22,14 @@ use Rattle.nt_seq.specs.Written.{HasWritten}
 use Rattle.nt_script.specs.declared.error.ScriptError.{ScriptError}
 use Rattle.nt_script.specs.declared.error.ScriptError.TheVariants.{Line, Limit, Outside, Memory}
 use Rattle.nt_script.specs.Clusters.{clusters_before}
-use Rattle.nt_script.specs.Reading.{Segment, fields_of_segments}
+use Rattle.nt_script.specs.Reading.{Segment, segment_fields}
 use Rattle.nt_script.specs.Limits.{IsOverLate}
 
 -- the clusters of segments that are over
 abbrev pub clusters_of_segments : ℕ → List Segment → List (List TreesData)
 clusters_of_segments most [] = []
 clusters_of_segments most (s ∷ segments) =
-    clusters_before most (s.field ∷ fields_of_segments segments) s.entries ++ clusters_of_segments most segments
+    clusters_before most (s.field ∷ segment_fields segments) s.entries ++ clusters_of_segments most segments
 
 -- a table grew by the fields of segments
 abbrev pub GrowsBySegments : Bool → Table → ℕ → List Segment → Table → Type 0
@@ -46,7 +46,7 @@ pub record HasJustFields (fields : List MemberData) (t : Table) : Type 0 where
   pub fits : (entry : TreesData) → fits_entry t entry ≡ fit_parts (parts_of fields) entry
 
 -- the schema of a writer grew by the fields of segments to that of these fields
-pub record HasGrownTable {D : Type 0} (first : Table) (fields : List MemberData) (segments : List Segment) (w : SeqState D) : Type 0 where
+pub record HasGrownBy {D : Type 0} (first : Table) (fields : List MemberData) (segments : List Segment) (w : SeqState D) : Type 0 where
   pub grows : GrowsBySegments w.params.plain first 0 segments w.table
   pub just : HasJustFields fields w.table
 

@@ -11,7 +11,7 @@ ghost use Rattle.nt_grammar.specs.Table.{Table};
 ghost use Rattle.nt_seq.specs.Writer.{IsClear};
 ghost use Rattle.nt_script.specs.Script.{adds_field, behind_plus};
 ghost use Rattle.nt_script.specs.Reading.{Segment};
-ghost use Rattle.nt_script.specs.Taking.{HasGrownTable, HasTakenLines, IsOpenWriter};
+ghost use Rattle.nt_script.specs.Taking.{HasGrownBy, HasTakenLines, IsOpenWriter};
 ghost use Rattle.nt_script.specs.Adding.{IsMemberError, IsWrittenOut, ExtendsScript};
 ghost use Rattle.nt_script.specs.Events.{TakesField};
 
@@ -140,7 +140,7 @@ pub(crate) fn add_field<D: Disk>(
 ) -> Result<(), ScriptError>
     requires is_open { IsOpenWriter writer.old }
     ensures done { (first : Table) (segments : List Segment) (es : List TreesData)
-        → HasGrownTable first (members_view fields.old) segments writer.old → HasTakenLines D.state segments es writer.old
+        → HasGrownBy first (members_view fields.old) segments writer.old → HasTakenLines D.state segments es writer.old
         → TakesField D.state first (members_view fields.old) (members_view fields.new) segments es line.now
         writer.old writer.new result }
     ensures given { writer.new.given ≡ writer.old.given }
