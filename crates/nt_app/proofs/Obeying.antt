@@ -6,17 +6,21 @@ use Rattle.nt_gen.specs.declared.making.Making.{Making}
 use Rattle.nt_show.specs.Shown.{entries_shown, fields_shown}
 use Rattle.nt_words.specs.CommandLine.{IsEntries, IsSchemaCommand}
 use Rattle.nt_words.specs.WriteWords.{IsWrite}
+use Rattle.nt_words.specs.SeqWords.{IsSeq}
 use Rattle.nt_words.specs.GenWords.{IsGen}
 use Rattle.nt_words.proofs.Wrong.{begins_once}
-use Rattle.nt_words.proofs.Single.{same_write, same_gen, same_entries, same_schema}
+use Rattle.nt_words.proofs.Single.{same_write, same_seq, same_gen, same_entries, same_schema}
 use Rattle.nt_store.specs.declared.error.StoreError.{StoreError}
 use Rattle.nt_store.specs.declared.error.StoreError.TheVariants as store
+use Rattle.nt_script.specs.declared.store_error.ScriptStoreError.{ScriptStoreError}
+use Rattle.nt_script.specs.declared.store_error.ScriptStoreError.TheVariants as script
 use Rattle.nt_generate.specs.declared.error.GenerateError.{GenerateError}
 use Rattle.nt_generate.specs.declared.error.GenerateError.TheVariants as generate
 use Rattle.nt_app.specs.declared.status.Status.{Status}
 use Rattle.nt_app.specs.declared.status.Status.TheVariants as status
 use Rattle.nt_app.specs.Shows.{IsAnswerOfReading, ShowsNamed}
 use Rattle.nt_app.specs.Writes.{status_of_store, WritesNamed}
+use Rattle.nt_app.specs.Seqs.{status_of_script, SeqNamed}
 use Rattle.nt_app.specs.Gens.{status_of_generate, GenNamed}
 use Rattle.nt_app.specs.Runs.{SayWriting, SayMaking, SayReading, range_said, IsAnswerTo, Obeys}
 
@@ -27,6 +31,15 @@ store_answers words (Err store.Memory) said = tt
 store_answers words (Err (store.Schema line kind)) said = said
 store_answers words (Err (store.Line input line kind)) said = said
 store_answers words (Err (store.Limit reached limit)) said = inl said
+
+script_answers : (words : List (List ℕ)) (stored : Result Unit ScriptStoreError) → SayWriting words
+    → IsAnswerTo words (status_of_script stored)
+script_answers words (Ok done) said = inl said
+script_answers words (Err script.Outside) said = inl said
+script_answers words (Err script.Memory) said = tt
+script_answers words (Err (script.Schema line kind)) said = said
+script_answers words (Err (script.Line line kind)) said = said
+script_answers words (Err (script.Limit reached limit)) said = inl said
 
 generate_answers : (words : List (List ℕ)) (made : Result Unit GenerateError) → SayMaking words
     → IsAnswerTo words (status_of_generate made)
@@ -50,11 +63,25 @@ pub written_words : (words : List (List ℕ)) (o s : List ℕ) (is : List (List 
     → IsWrite words o s is p → WritesNamed o s is p old new answer → Obeys words old new answer
 written_words words o s is p old new answer said writes = record {
   write = λ o' s' is' p' other. same_write (λ a b c d. WritesNamed a b c d old new answer) words o s o' s' is is' p p' said other writes;
+  seq = λ o' s' i p' other. absurd (begins_once words _ _ refl said.begins other.begins);
   gen = λ o' m other. absurd (begins_once words _ _ refl said.begins other.begins);
   entries = λ from count name other. absurd (begins_once words _ _ refl said.begins other.begins);
   schema = λ name other. absurd (begins_once words _ _ refl said.begins other.begins);
   usage = λ none. absurd (none.no_write o s is p said);
-  answers = subst (IsAnswerTo words) (sym writes.answer_is) (store_answers words writes.stored (o, s, is, p, said));
+  answers = subst (IsAnswerTo words) (sym writes.answer_is) (store_answers words writes.stored (inl (o, s, is, p, said)));
+}
+
+-- `seq`
+pub scripted_words : (words : List (List ℕ)) (o s i : List ℕ) (p : Params) (old new : HostState) (answer : Status)
+    → IsSeq words o s i p → SeqNamed o s i p old new answer → Obeys words old new answer
+scripted_words words o s i p old new answer said writes = record {
+  write = λ o' s' is p' other. absurd (begins_once words _ _ refl said.begins other.begins);
+  seq = λ o' s' i' p' other. same_seq (λ a b c d. SeqNamed a b c d old new answer) words o s i o' s' i' p p' said other writes;
+  gen = λ o' m other. absurd (begins_once words _ _ refl said.begins other.begins);
+  entries = λ from count name other. absurd (begins_once words _ _ refl said.begins other.begins);
+  schema = λ name other. absurd (begins_once words _ _ refl said.begins other.begins);
+  usage = λ none. absurd (none.no_seq o s i p said);
+  answers = subst (IsAnswerTo words) (sym writes.answer_is) (script_answers words writes.stored (inr (o, s, i, p, said)));
 }
 
 -- `gen`
@@ -62,6 +89,7 @@ pub made_words : (words : List (List ℕ)) (o : List ℕ) (m : Making) (old new 
     → GenNamed o m old new answer → Obeys words old new answer
 made_words words o m old new answer said makes = record {
   write = λ o' s' is p' other. absurd (begins_once words _ _ refl said.begins other.begins);
+  seq = λ o' s' i p' other. absurd (begins_once words _ _ refl said.begins other.begins);
   gen = λ o' m' other. same_gen (λ n l. GenNamed l n old new answer) words m m' o o' said other makes;
   entries = λ from count name other. absurd (begins_once words _ _ refl said.begins other.begins);
   schema = λ name other. absurd (begins_once words _ _ refl said.begins other.begins);
@@ -74,6 +102,7 @@ pub listed_words : (words : List (List ℕ)) (from count : Option ℕ) (name : L
     → IsEntries words from count name → ShowsNamed (entries_shown (range_said from count)) name old new answer → Obeys words old new answer
 listed_words words from count name old new answer said shows = record {
   write = λ o s is p other. absurd (begins_once words _ _ refl said.begins other.begins);
+  seq = λ o s i p other. absurd (begins_once words _ _ refl said.begins other.begins);
   gen = λ o m other. absurd (begins_once words _ _ refl said.begins other.begins);
   entries = λ from' count' name' other.
       same_entries (λ f c n. ShowsNamed (entries_shown (range_said f c)) n old new answer) words from count from' count' name name'
@@ -88,6 +117,7 @@ pub outlined_words : (words : List (List ℕ)) (name : List ℕ) (old new : Host
     → ShowsNamed fields_shown name old new answer → Obeys words old new answer
 outlined_words words name old new answer said shows = record {
   write = λ o s is p other. absurd (begins_once words _ _ refl said.begins other.begins);
+  seq = λ o s i p other. absurd (begins_once words _ _ refl said.begins other.begins);
   gen = λ o m other. absurd (begins_once words _ _ refl said.begins other.begins);
   entries = λ from count name' other. absurd (begins_once words _ _ refl said.begins other.begins);
   schema = λ name' other. same_schema (λ n. ShowsNamed fields_shown n old new answer) words name name' said other shows;

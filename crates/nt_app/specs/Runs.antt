@@ -7,6 +7,7 @@ use Rattle.nt_show.specs.declared.entry_range.EntryRange.{EntryRange}
 use Rattle.nt_show.specs.Shown.{entries_shown, fields_shown}
 use Rattle.nt_words.specs.CommandLine.{Begins, IsEntries, IsSchemaCommand}
 use Rattle.nt_words.specs.WriteWords.{IsWrite}
+use Rattle.nt_words.specs.SeqWords.{IsSeq}
 use Rattle.nt_words.specs.GenWords.{IsGen}
 use Rattle.nt_words.specs.Commands.{IsNoCommand, IsWrong}
 use Rattle.nt_store.specs.Worlds.{KeepsFiles}
@@ -16,6 +17,7 @@ use Rattle.nt_app.specs.Statuses.{message_of}
 use Rattle.nt_app.specs.Reports.{SaysOnErr}
 use Rattle.nt_app.specs.Shows.{ShowsNamed, Shows}
 use Rattle.nt_app.specs.Writes.{WritesNamed, RunsWrite}
+use Rattle.nt_app.specs.Seqs.{SeqNamed, RunsSeq}
 use Rattle.nt_app.specs.Gens.{GenNamed, RunsGen}
 
 -- the words were no command, which is said unless memory runs out: nothing was asked for, no disk was made, and no file changed
@@ -39,9 +41,11 @@ RunsEntries from count name old new answer = Shows (entries_shown (range_said fr
 abbrev pub RunsSchema : List ℕ → HostState → HostState → Status → Type 0
 RunsSchema name old new answer = Shows fields_shown name old new answer
 
--- the words are `write ..`
+-- the words are `write ..` or `seq ..`
 abbrev pub SayWriting : List (List ℕ) → Type 0
-SayWriting words = (out schema : List ℕ) × (inputs : List (List ℕ)) × (p : Params) × IsWrite words out schema inputs p
+SayWriting words =
+    ((out schema : List ℕ) × (inputs : List (List ℕ)) × (p : Params) × IsWrite words out schema inputs p)
+    ⊎ ((out schema input : List ℕ) × (p : Params) × IsSeq words out schema input p)
 
 -- the words are `gen ..`
 abbrev pub SayMaking : List (List ℕ) → Type 0
@@ -70,6 +74,7 @@ IsAnswerTo words status.Memory = ⊤
 pub record Obeys (words : List (List ℕ)) (old new : HostState) (answer : Status) : Type 0 where
   pub write : (out schema : List ℕ) (inputs : List (List ℕ)) (p : Params) → IsWrite words out schema inputs p
       → WritesNamed out schema inputs p old new answer
+  pub seq : (out schema input : List ℕ) (p : Params) → IsSeq words out schema input p → SeqNamed out schema input p old new answer
   pub gen : (out : List ℕ) (m : Making) → IsGen words m out → GenNamed out m old new answer
   pub entries : (from count : Option ℕ) (name : List ℕ) → IsEntries words from count name
       → ShowsNamed (entries_shown (range_said from count)) name old new answer
@@ -81,6 +86,7 @@ pub record Obeys (words : List (List ℕ)) (old new : HostState) (answer : Statu
 pub record Runs (words : List (List ℕ)) (old new : HostState) (answer : Status) : Type 0 where
   pub write : (out schema : List ℕ) (inputs : List (List ℕ)) (p : Params) → IsWrite words out schema inputs p
       → RunsWrite out schema inputs p old new answer
+  pub seq : (out schema input : List ℕ) (p : Params) → IsSeq words out schema input p → RunsSeq out schema input p old new answer
   pub gen : (out : List ℕ) (m : Making) → IsGen words m out → RunsGen out m old new answer
   pub entries : (from count : Option ℕ) (name : List ℕ) → IsEntries words from count name → RunsEntries from count name old new answer
   pub schema : (name : List ℕ) → IsSchemaCommand words name → RunsSchema name old new answer

@@ -8,6 +8,7 @@ ghost use Rattle.nt_app.specs.Runs.{HasContexts, Obeys, Runs};
 
 use crate::generate::make;
 use crate::message::message_of;
+use crate::seq::seq;
 use crate::show::{entries, schema};
 use crate::status::Status;
 use crate::write::write;
@@ -46,6 +47,7 @@ fn do_alone<H: Host>(alloc: Global, words: &[String], host: &mut H) -> Status
         return Status::Memory;
     };
     match command {
+        Command::Seq(said) => seq(alloc, host, &said),
         Command::Entries { from, count, file } => {
             let from = from.unwrap_or(0);
             entries(alloc, host, EntryRange { from, count }, file)
@@ -103,8 +105,8 @@ pub fn run_alone<H: Host>(alloc: Global, words: &[String], host: &mut H) -> Opti
 
 /// Does what the words after the program's name say, over a host, and answers how that ended.
 ///
-/// Commands are `write [--cluster N] [--page P] [--group G] [--plain] [--max-range B] [--max-file B] OUT SCHEMA IN..`, of 1 to 64
-/// inputs, where OUT is another name than those that are read, `gen C E SEED OUT`,
+/// Commands are `write` and `seq` with `[--cluster N] [--page P] [--group G] [--plain] [--max-range B] [--max-file B] OUT SCHEMA IN`,
+/// for `write` of 1 to 64 inputs, where OUT is another name than those that are read, `gen C E SEED OUT`,
 /// `entries [--from A] [--count C] FILE` and `schema FILE`; clap reads the words after the first.
 /// `rt` is the runtime of `write`, which has a context for each input, and of `gen`; `gate` is told the steps of each context's
 /// clusters.

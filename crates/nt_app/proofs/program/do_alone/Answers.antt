@@ -4,11 +4,17 @@ use Rattle.nt_words.specs.CommandLine.{texts}
 use Rattle.nt_words.specs.Commands.{Says}
 use Rattle.nt_app.specs.Shows.{ShowsNamed}
 use Rattle.nt_app.proofs.Running.{no_memory}
-use Rattle.nt_app.proofs.Obeying.{listed_words}
+use Rattle.nt_app.proofs.Obeying.{scripted_words, listed_words}
 use Rattle.nt_app.proofs.program.do_alone.Goals as goal
 
 pub returns-in_default : goal.returns-in_default
 returns-in_default g c = no_memory _ _
+
+pub returns-in-Seq : goal.returns-in-Seq
+returns-in-Seq g c =
+    let said = c.in-Seq.said in
+    scripted_words _ said.out.now said.schema.now said.input.now said.params _ _ _
+    (subst (Says (texts c.args.words.now)) c.in-Seq.is c.in-Ok.ensures) c.seq.ensures
 
 pub returns-in-Entries : goal.returns-in-Entries
 returns-in-Entries g c =

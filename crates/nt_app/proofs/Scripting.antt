@@ -1,0 +1,223 @@
+-- The command `seq`, and the message after it.
+use Rattle.std.proofs.Common.{◌≡◌, ◌⊎◌, ◌∙◌, inl, inr, ap, sym, subst, refl, ℕ, List, [], ◌∷◌, ◌++◌, take, Option, Some, None}
+use Rattle.std.proofs.Common.{Result, Ok, Err, arith}
+use Rattle.std.specs.Prelude.{IsErrOf}
+use Rattle.std.proofs.lemmas.List.{append-nil}
+use Rattle.nt_types.specs.ShapeData.{MemberData}
+use Rattle.nt_types.specs.Schema.{schema_text, at_line}
+use Rattle.nt_types.specs.declared.fault.SchemaKind.{SchemaKind}
+use Rattle.nt_outside.specs.Faults.{Rose}
+use Rattle.nt_outside.specs.World.{World, Asked, HostState, file}
+use Rattle.nt_book.specs.declared.params.Params.{Params}
+use Rattle.nt_store.specs.Worlds.{IsThereWith, AsksFor}
+use Rattle.nt_store.specs.Stored.{asked_for}
+use Rattle.nt_store.proofs.Ends.{none_made, nothing_made}
+use Rattle.nt_script.specs.declared.error.LineFault.{LineFault}
+use Rattle.nt_script.specs.declared.store_error.ScriptStoreError.{ScriptStoreError}
+use Rattle.nt_script.specs.declared.store_error.ScriptStoreError.TheVariants as script
+use Rattle.nt_script.specs.Script.{BadScriptLine, read_script}
+use Rattle.nt_script.specs.Clusters.{bad_line}
+use Rattle.nt_script.specs.Limits.{FitsWhole, PassesLimit}
+use Rattle.nt_script.specs.Crashes.{LeavesScript, ScriptCrashTold}
+use Rattle.nt_script.specs.Storing.{AreScriptTexts, MakesScriptFile, StoresWholeScript, IsWholeScript, IsTooLargeScript, ScriptTold}
+use Rattle.nt_app.specs.declared.status.Status.{Status}
+use Rattle.nt_app.specs.declared.status.Status.TheVariants as status
+use Rattle.nt_app.specs.declared.status.TextFault.TheVariants as fault
+use Rattle.nt_app.specs.Statuses.{message_of}
+use Rattle.nt_app.specs.Reports.{Reports}
+use Rattle.nt_app.specs.Seqs.{fault_of_line, status_of_script, SeqNamed, AnswersScript, RunsSeq}
+use Rattle.nt_app.proofs.Joined.{either_after}
+use Rattle.nt_app.proofs.Reported.{IsBefore, reported, ordered_after}
+use Rattle.nt_app.proofs.Writing.{left_after, same_fields, not_both, same_fault}
+
+-- want of memory for the words leaves all as it was
+pub memory_scripts : (o s i : List ℕ) (p : Params) (state : HostState) → SeqNamed o s i p state state status.Memory
+memory_scripts o s i p state = record {
+  stored = Err script.Memory;
+  answer_is = refl;
+  stores = record {
+    told = λ w at. (w, at, refl, λ other differs. refl, (inl (refl, refl), refl));
+    order = nothing_made o state.world state.world refl;
+    crash = λ w w' is is' made. absurd (none_made o state.world state.world refl w w' is is' made);
+    asked = (0, sym (append-nil state.asked));
+    cause = record { later = omega arith; failed = λ outside. absurd (cc) };
+    back = record { err_faults = refl; opened = omega arith };
+  };
+}
+
+-- a message on err changes nothing of what a command left
+made_after : (o : List ℕ) (p : Params) (fields : List MemberData) (text : List ℕ) (w v : World) (err : List ℕ)
+    → MakesScriptFile o p fields text w v → MakesScriptFile o p fields text w (record v { err = err })
+made_after o p fields text w v err told =
+    record { made = told.made; bytes = told.bytes; file_is = told.file_is; whole = told.whole }
+
+whole_after : (o s i : List ℕ) (p : Params) (w v : World) (err printed behind : List ℕ) → StoresWholeScript o s i p w v printed behind
+    → StoresWholeScript o s i p w (record v { err = err }) printed behind
+whole_after o s i p w v err printed behind told = record {
+  fields = told.fields;
+  text = told.text;
+  are = told.are;
+  file = made_after o p told.fields told.text w v err told.file;
+  line = told.line;
+  gained = told.gained;
+}
+
+told_after : (o s i : List ℕ) (p : Params) (w v : World) (err : List ℕ) (stored : Result Unit ScriptStoreError)
+    → ScriptTold o s i p w v stored → ScriptTold o s i p w (record v { err = err }) stored
+told_after o s i p w v err (Ok done) told = (told.0, whole_after o s i p w v err told.0 [] told.1)
+told_after o s i p w v err (Err script.Outside) (inl told) = inl (left_after o w v err told.0, told.1)
+told_after o s i p w v err (Err script.Outside) (inr told) =
+    inr (told.0, told.1, whole_after o s i p w v err told.0 told.1 told.2)
+told_after o s i p w v err (Err script.Memory) told = told
+told_after o s i p w v err (Err (script.Schema line kind)) told = told
+told_after o s i p w v err (Err (script.Line line kind)) told = told
+told_after o s i p w v err (Err (script.Limit reached limit)) told = told
+
+-- the outside failed only where the file isn't written for that
+outside_of : (stored : Result Unit ScriptStoreError) (answer : Status) → answer ≡ status_of_script stored → answer ≡ status.Outside
+    → IsErrOf stored script.Outside
+outside_of (Ok done) answer is outside = let bad = sym is ∙ outside in absurd (cc)
+outside_of (Err script.Outside) answer is outside = refl
+outside_of (Err script.Memory) answer is outside = let bad = sym is ∙ outside in absurd (cc)
+outside_of (Err (script.Schema line kind)) answer is outside = let bad = sym is ∙ outside in absurd (cc)
+outside_of (Err (script.Line line kind)) answer is outside = let bad = sym is ∙ outside in absurd (cc)
+outside_of (Err (script.Limit reached limit)) answer is outside = let bad = sym is ∙ outside in absurd (cc)
+
+-- a crash leaves of the file what it left
+crash_after : (o s i : List ℕ) (p : Params) (old mid : Option World) (w w' : World) (stored : Result Unit ScriptStoreError)
+    → ScriptCrashTold (IsWholeScript s i p) o old mid stored → old ≡ Some w → IsBefore o mid w w'
+    → LeavesScript (IsWholeScript s i p w) o w' stored
+crash_after o s i p old mid w w' stored crash at before =
+    let told = crash w before.v at before.is before.made in
+    subst (λ (v : World). LeavesScript (IsWholeScript s i p w) o v stored) before.same (record {
+      at = told.at;
+      log = told.log;
+      there = told.there;
+      steps = told.steps;
+      leaves = told.leaves;
+    })
+
+-- the texts of a host are of one reading
+text_is : (x y : List ℕ) → Some x ≡ Some y → x ≡ y
+text_is x y e = cc
+
+same_script : (w : World) (s i : List ℕ) (f f' : List MemberData) (t t' : List ℕ) (P : List MemberData → List ℕ → Type 0)
+    → AreScriptTexts w s i f t → AreScriptTexts w s i f' t' → P f t → P f' t'
+same_script w s i f f' t t' P one other holds =
+    let fields : f ≡ f' = same_fields (file w s) f f' one.schema_is other.schema_is in
+    let text : t ≡ t' = text_is t t' (sym one.script_is ∙ other.script_is) in
+    subst (λ (l : List ℕ). P f' l) text (subst (λ (l : List MemberData). P l t) fields holds)
+
+-- the first bad line of a script is one
+bad_is : (x y : BadScriptLine) → Some x ≡ Some y → x ≡ y
+bad_is x y e = cc
+
+same_bad : (b : Option BadScriptLine) (line line' : ℕ) (kind kind' : LineFault) → b ≡ Some (record { line = line; kind = kind })
+    → b ≡ Some (record { line = line'; kind = kind' })
+    → status.Text (Some 0) line (fault_of_line kind) ≡ status.Text (Some 0) line' (fault_of_line kind')
+same_bad b line line' kind kind' one other =
+    ap (λ (x : BadScriptLine). status.Text (Some 0) x.line (fault_of_line x.kind))
+    (bad_is (record { line = line; kind = kind }) (record { line = line'; kind = kind' }) (sym one ∙ other))
+
+not_sound : (b : Option BadScriptLine) (x : BadScriptLine) → b ≡ None → b ≡ Some x → ⊥
+not_sound b x none some = let bad = sym none ∙ some in cc
+
+-- a limit is passed only where the script doesn't fit
+not_over : (s i : List ℕ) (p : Params) (w : World) (reached limit : ℕ) (fields : List MemberData) (text : List ℕ)
+    → IsTooLargeScript s i p w reached limit → AreScriptTexts w s i fields text → FitsWhole fields p (read_script fields text) → ⊥
+not_over s i p w reached limit fields text over are fits =
+    fits reached limit (same_script w s i over.fields fields over.text text
+    (λ f t. PassesLimit f p (read_script f t) reached limit) over.are are over.over)
+
+completes : (o s i : List ℕ) (p : Params) (w v : World) (stored : Result Unit ScriptStoreError) (fields : List MemberData)
+    (text : List ℕ) → ScriptTold o s i p w v stored → (IsErrOf stored script.Outside → ⊥) → AreScriptTexts w s i fields text
+    → bad_line (read_script fields text) ≡ None → FitsWhole fields p (read_script fields text)
+    → (status_of_script stored ≡ status.Done) ⊎ (status_of_script stored ≡ status.Memory)
+completes o s i p w v (Ok done) fields text told served are sound fits = inl refl
+completes o s i p w v (Err script.Outside) fields text told served are sound fits = absurd (served refl)
+completes o s i p w v (Err script.Memory) fields text told served are sound fits = inr refl
+completes o s i p w v (Err (script.Schema line kind)) fields text told served are sound fits =
+    absurd (not_both fields line kind (file w s) are.schema_is told.0)
+completes o s i p w v (Err (script.Line line kind)) fields text told served are sound fits =
+    absurd (not_sound (bad_line (read_script fields text)) (record { line = line; kind = kind }) sound
+    (same_script w s i told.0.fields fields told.0.text text
+    (λ f t. bad_line (read_script f t) ≡ Some (record { line = line; kind = kind })) told.0.are are told.0.first))
+completes o s i p w v (Err (script.Limit reached limit)) fields text told served are sound fits =
+    absurd (not_over s i p w reached limit fields text told.0 are fits)
+
+refuses : (o s i : List ℕ) (p : Params) (w v : World) (stored : Result Unit ScriptStoreError) (line : ℕ) (kind : SchemaKind)
+    → ScriptTold o s i p w v stored → (IsErrOf stored script.Outside → ⊥)
+    → IsThereWith (λ text. schema_text text ≡ Err (at_line line kind)) (file w s)
+    → (status_of_script stored ≡ status.Text None line (fault.Schema kind)) ⊎ (status_of_script stored ≡ status.Memory)
+refuses o s i p w v (Ok done) line kind told served other =
+    absurd (not_both told.1.fields line kind (file w s) told.1.are.schema_is other)
+refuses o s i p w v (Err script.Outside) line kind told served other = absurd (served refl)
+refuses o s i p w v (Err script.Memory) line kind told served other = inr refl
+refuses o s i p w v (Err (script.Schema line' kind')) line kind told served other =
+    inl (same_fault line' line kind' kind (file w s) told.0 other)
+refuses o s i p w v (Err (script.Line line' kind')) line kind told served other =
+    absurd (not_both told.0.fields line kind (file w s) told.0.are.schema_is other)
+refuses o s i p w v (Err (script.Limit reached limit)) line kind told served other =
+    absurd (not_both told.0.fields line kind (file w s) told.0.are.schema_is other)
+
+faults : (o s i : List ℕ) (p : Params) (w v : World) (stored : Result Unit ScriptStoreError) (fields : List MemberData) (text : List ℕ)
+    (line : ℕ) (kind : LineFault) → ScriptTold o s i p w v stored → (IsErrOf stored script.Outside → ⊥)
+    → AreScriptTexts w s i fields text → bad_line (read_script fields text) ≡ Some (record { line = line; kind = kind })
+    → FitsWhole fields p (read_script fields text)
+    → (status_of_script stored ≡ status.Text (Some 0) line (fault_of_line kind)) ⊎ (status_of_script stored ≡ status.Memory)
+faults o s i p w v (Ok done) fields text line kind told served are first fits =
+    absurd (not_sound (bad_line (read_script fields text)) (record { line = line; kind = kind })
+    (same_script w s i told.1.fields fields told.1.text text (λ f t. bad_line (read_script f t) ≡ None) told.1.are are
+    told.1.file.whole.sound) first)
+faults o s i p w v (Err script.Outside) fields text line kind told served are first fits = absurd (served refl)
+faults o s i p w v (Err script.Memory) fields text line kind told served are first fits = inr refl
+faults o s i p w v (Err (script.Schema line' kind')) fields text line kind told served are first fits =
+    absurd (not_both fields line' kind' (file w s) are.schema_is told.0)
+faults o s i p w v (Err (script.Line line' kind')) fields text line kind told served are first fits =
+    inl (same_bad (bad_line (read_script fields text)) line' line kind' kind (same_script w s i told.0.fields fields told.0.text text
+    (λ f t. bad_line (read_script f t) ≡ Some (record { line = line'; kind = kind' })) told.0.are are told.0.first) first)
+faults o s i p w v (Err (script.Limit reached limit)) fields text line kind told served are first fits =
+    absurd (not_over s i p w reached limit fields text told.0 are fits)
+
+answers_script : (o s i : List ℕ) (p : Params) (w v : World) (stored : Result Unit ScriptStoreError) → ScriptTold o s i p w v stored
+    → (IsErrOf stored script.Outside → ⊥) → AnswersScript s i p w (status_of_script stored)
+answers_script o s i p w v stored told served = record {
+  complete = λ fields text are sound fits. completes o s i p w v stored fields text told served are sound fits;
+  refused = λ line kind other. refuses o s i p w v stored line kind told served other;
+  faulty = λ fields text line kind are first fits. faults o s i p w v stored fields text line kind told served are first fits;
+}
+
+-- `seq`, and then its message
+pub run_seq : (o s i : List ℕ) (p : Params) (old mid new : HostState) (answer : Status) → SeqNamed o s i p old mid answer
+    → Reports (message_of answer) mid new → RunsSeq o s i p old new answer
+run_seq o s i p old mid new answer writes reports =
+    let stores = writes.stores in
+    let before = reported o (message_of answer) old.world mid.world new.world (λ w at. let done = stores.told w at in (done.0, done.1))
+    (λ w at. let said = reports.told w at in (said.0, said.1)) in
+    record {
+      stored = writes.stored;
+      answer_is = writes.answer_is;
+      told = λ w at.
+          let done = stores.told w at in
+          let said = reports.told done.0 done.1 in (
+            _,
+            said.1,
+            (
+              said.0,
+              ap (λ (l : List ℕ). l ++ take said.0 (message_of answer)) done.2,
+              either_after old mid new said.0 (message_of answer) stores.back.err_faults said.2,
+            ),
+            done.3,
+            told_after o s i p w done.0 (done.0.err ++ take said.0 (message_of answer)) writes.stored done.4,
+          );
+      order = λ w w' at at' made. ordered_after o old.world mid.world w w' stores.order at (before w w' at at' made);
+      crash = λ w w' at at' made. crash_after o s i p old.world mid.world w w' writes.stored stores.crash at (before w w' at at' made);
+      asked = subst (λ (l : List Asked). AsksFor (asked_for o s (i ∷ [])) old.asked l writes.stored) (sym reports.asked) stores.asked;
+      failed = λ outside. subst (λ (n : ℕ). Rose old.faults n) (sym reports.faults)
+          (stores.cause.failed (outside_of writes.stored answer writes.answer_is outside));
+      opened = reports.opened ∙ stores.back.opened ∙ omega arith;
+      served = λ w at serves.
+          let done = stores.told w at in
+          subst (AnswersScript s i p w) (sym writes.answer_is) (answers_script o s i p w done.0 writes.stored done.4
+          (λ outside. serves (subst (λ (n : ℕ). Rose old.faults n) (sym reports.faults) (stores.cause.failed outside))));
+    }
