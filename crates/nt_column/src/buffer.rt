@@ -1,18 +1,15 @@
 //! A column in memory, whose elements are added one after the other.
 
-ghost use Rattle.std.specs.Prelude.{◌≡◌, ◌≢◌, ◌+◌, ◌-◌, ◌<◌, ◌≤◌, ◌^◌, [], ◌∷◌, length, map, slice_index, IsTrue, IsSomeAnd, IfSome, OnOk, IfOk, IsOkAnd};
+ghost use Rattle.std.specs.Prelude.{◌≡◌, ◌≢◌, ◌+◌, ◌-◌, ◌<◌, ◌≤◌, ◌^◌, [], ◌∷◌, length, map, slice_index, IsSomeAnd, IfSome, OnOk, IfOk};
 ghost use Rattle.std.specs.List.{slice_range};
 ghost use Rattle.nt_types.specs.declared.column_type.ColumnType.TheVariants.{Switch};
 ghost use Rattle.nt_types.specs.ColumnTable.{bits_of};
 ghost use Rattle.nt_encode.specs.Pages.{page_size};
-ghost use Rattle.nt_column.specs.Elements.{plain, numbers, tags, text_of, page_of, page_elements};
-ghost use Rattle.nt_column.specs.Cow.{cow_items, is_borrowed};
+ghost use Rattle.nt_column.specs.Elements.{plain, numbers, tags, page_of, page_elements};
 ghost use Rattle.nt_column.specs.Words.{lent_elements, lent_width};
 ghost use Rattle.nt_column.specs.Column.{empty, zeroed, with_more, cut_to, IsInRange, TakesNumber};
 ghost use Rattle.nt_lists.specs.Chunks.{chunks};
 
-use crate::cow::{CowSlice, lent};
-use crate::low_bytes::low_bytes;
 use crate::store::Store;
 use crate::store_page::encode_store;
 use crate::words::{WordSlice, words_of};
@@ -73,6 +70,7 @@ impl ColumnBuf {
     }
 
     /// The number of elements.
+    #[inline(always)]
     pub fn len(&self) -> usize
         ensures { result ≡ length self.now.column.elements }
     {
@@ -101,6 +99,7 @@ impl ColumnBuf {
     }
 
     /// Takes the memory that so many more elements need, as `reserve` does, and gives how many there are.
+    #[inline(always)]
     pub fn ready(&mut self, more: usize) -> Result<usize, AllocError>
         ensures column { self.new.column ≡ self.old.column }
         ensures ok { OnOk result (more ≤ self.new.spare) }
@@ -119,6 +118,18 @@ impl ColumnBuf {
         ensures spare { self.old.spare ≤ self.new.spare + 1 }
     {
         self.store.push(value);
+    }
+
+    /// Adds an element to a column whose width the caller knows. Where it is a constant, no width is looked at.
+    #[inline(always)]
+    pub fn push_at_width(&mut self, bits: u8, value: u64)
+        requires width { bits_of self.old.column.kind ≡ bits }
+        requires takes { TakesNumber self.old.column value }
+        requires spare { 1 ≤ self.old.spare }
+        ensures column { self.new.column ≡ with_more self.old.column (plain value ∷ []) }
+        ensures spare { self.old.spare ≤ self.new.spare + 1 }
+    {
+        self.store.push_at_width(bits, value);
     }
 
     /// Adds an element of a Switch.
@@ -216,27 +227,6 @@ impl ColumnBuf {
             encode_zeros(self.kind, to - from, out);
         } else {
             encode_store(&self.store, self.kind, from, to, out);
-        }
-    }
-
-    /// The low bytes of the elements from one place to before another. They are lent where the
-    /// type has 8 bits and the elements aren't kept as a count.
-    pub fn text(
-        &self,
-        alloc: Global,
-        from: usize,
-        to: usize,
-    ) -> Result<CowSlice<'_, u8>, AllocError>
-        requires order { from ≤ to }
-        requires within { to ≤ length self.now.column.elements }
-        ensures text { IfOk result
-            (λ t. cow_items t ≡ text_of (slice_range self.now.column.elements from to)) }
-        ensures lent { bits_of self.now.column.kind ≡ 8 → self.now.column.zeros ≡ 0
-            → IsOkAnd result (λ t. IsTrue (is_borrowed t)) }
-    {
-        match self.words() {
-            Some(WordSlice::Bytes(bytes)) => Ok(lent(bytes, from, to)),
-            _ => Ok(CowSlice::Owned(low_bytes(self, alloc, from, to)?)),
         }
     }
 

@@ -1,15 +1,16 @@
 //! Columns in memory: buffers that keep each element at its own width, and sets of them by column.
 //!
-//! `push`, `push_page` and `number` are on the hot path of every event: they take no memory, and `reserve`
+//! `push`, `push_at_width`, `push_page` and `number` are on the hot path of every event: they take no memory, and `reserve`
 //! does it before, or `ready`, which gives the count too. `Columns` is how others read columns; keep it free of buffers.
 //!
 //! Where to start: `buffer.rt` with `specs/Column` (what a buffer holds) and `specs/Elements` (the
-//! elements and their page); `store_page.rt` for the pages of each width; `set.rt` and `columns.rt` for columns by id.
+//! elements and their page); `adding.rt` for how elements are added, `store_page.rt` for the pages of each width; `set.rt`
+//! and `columns.rt` for columns by id.
 //!
 //! Words: an *element* is a number and a tag, which is 0 but in a Switch; a *plain* element has
 //! tag 0; *zeros* are a column kept as its count; *spare* is how many elements can still be pushed.
 //!
-//! Proved: a push adds its element and takes no memory (`column`, `spare`); a reserve changes no
+//! Proved: a push adds its element and takes no memory (`column`, `spare`), also where its caller names the width; a reserve changes no
 //! element; a page is read straight into a buffer (`push_page`, by `page_elements`), and a buffer
 //! is cut to its first elements (`cut`); the page of any part (`encode`, by `page_of`); the number of pages (`page_cut`, by
 //! nt_lists' `chunks`); a page's size (`pages_have_their_size`); a set lends its buffers and
@@ -27,6 +28,7 @@
 //! - A column that isn't in a set has no elements: `len` has an answer for each number.
 #![tactic(auto)]
 
+mod adding;
 mod buffer;
 mod columns;
 mod cow;

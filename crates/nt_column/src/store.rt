@@ -1,14 +1,10 @@
 //! The elements of a buffer, each kept at the width of its type.
 
-ghost use Rattle.std.specs.Prelude.{◌≡◌, ◌≢◌, ◌+◌, ◌-◌, ◌<◌, ◌≤◌, ◌^◌, [], ◌∷◌, ◌++◌, length, map, take, slice_index, OnOk};
-ghost use Rattle.std.specs.List.{slice_range};
+ghost use Rattle.std.specs.Prelude.{◌≡◌, ◌<◌, ◌≤◌, [], length, take, slice_index, OnOk};
 ghost use Rattle.nt_types.specs.ColumnTable.{bits_of};
-ghost use Rattle.nt_encode.specs.Pages.{page_size};
-ghost use Rattle.nt_column.specs.Elements.{plain, numbers, tags, page_of, page_elements, AreElementsOf};
-ghost use Rattle.nt_column.specs.Store.{elements_of, width_of, spare_of, TakesPage, TakesValue};
-ghost use Rattle.nt_column.specs.Widths.{pair_width};
+ghost use Rattle.nt_column.specs.Elements.{numbers, tags, AreElementsOf};
+ghost use Rattle.nt_column.specs.Store.{elements_of, width_of, spare_of};
 
-use crate::filling::{push_8, push_16, push_32, push_64, push_bits};
 use crate::pairs::PairList;
 use crate::ranges::{bits_in_range, bytes_in_range, in_range_16, in_range_32, in_range_64};
 use nt_types::ColumnType;
@@ -42,6 +38,7 @@ impl Store {
     }
 
     /// The number of elements.
+    #[inline(always)]
     pub fn len(&self) -> usize
         ensures { result ≡ length (elements_of self.now) }
     {
@@ -56,6 +53,7 @@ impl Store {
     }
 
     /// How many more elements there is room for.
+    #[inline(always)]
     fn spare(&self) -> usize
         ensures { result ≡ spare_of self.now }
     {
@@ -70,6 +68,7 @@ impl Store {
     }
 
     /// Takes the memory for so many more elements. Mostly there is room, which is seen without a look at their width.
+    #[inline(always)]
     pub fn reserve(&mut self, more: usize) -> Result<(), AllocError>
         ensures elements { elements_of self.new ≡ elements_of self.old }
         ensures width { width_of self.new ≡ width_of self.old }
@@ -83,6 +82,7 @@ impl Store {
     }
 
     /// Takes the memory for so many more elements, for which there is no room yet.
+    #[inline(never)]
     fn grow(&mut self, more: usize) -> Result<(), AllocError>
         ensures elements { elements_of self.new ≡ elements_of self.old }
         ensures width { width_of self.new ≡ width_of self.old }
@@ -111,74 +111,6 @@ impl Store {
             Store::Words32(list) => in_range_32(kind, list),
             Store::Words64(list) => in_range_64(kind, list),
             Store::Pairs(pairs) => pairs.in_range(kind),
-        }
-    }
-
-    /// Adds an element of any type but Switch.
-    pub fn push(&mut self, value: u64)
-        requires takes { TakesValue self.old value }
-        requires spare { 0 < spare_of self.old }
-        ensures elements { elements_of self.new ≡ elements_of self.old ++ plain value ∷ [] }
-        ensures width { width_of self.new ≡ width_of self.old }
-        ensures spare { spare_of self.old ≤ spare_of self.new + 1 }
-    {
-        match self {
-            Store::Bits(list) => list.push_reserved(value == 1),
-            Store::Bytes(list) => list.push_reserved(value as u8),
-            Store::Words16(list) => list.push_reserved(value as u16),
-            Store::Words32(list) => list.push_reserved(value as u32),
-            Store::Words64(list) => list.push_reserved(value),
-            Store::Pairs(_) => unreachable!(),
-        }
-    }
-
-    /// Adds an element of a Switch.
-    pub fn push_pair(&mut self, index: u64, tag: u32)
-        requires kind { width_of self.old ≡ pair_width }
-        requires spare { 0 < spare_of self.old }
-        ensures elements { elements_of self.new ≡ elements_of self.old ++ (index, tag) ∷ [] }
-        ensures width { width_of self.new ≡ width_of self.old }
-        ensures spare { spare_of self.old ≤ spare_of self.new + 1 }
-    {
-        match self {
-            Store::Pairs(pairs) => pairs.push(index, tag),
-            _ => unreachable!(),
-        }
-    }
-
-    /// Adds elements of 8 bits.
-    pub fn push_bytes(&mut self, bytes: &[u8])
-        requires kind { width_of self.old ≡ 8 }
-        requires spare { length bytes.now ≤ spare_of self.old }
-        ensures elements { elements_of self.new ≡ elements_of self.old ++ map plain bytes.now }
-        ensures width { width_of self.new ≡ width_of self.old }
-        ensures spare { spare_of self.old ≤ spare_of self.new + length bytes.now }
-    {
-        match self {
-            Store::Bytes(list) => match list.extend_from_slice(bytes) {
-                Ok(()) => {}
-                Err(_) => unreachable!(),
-            },
-            _ => unreachable!(),
-        }
-    }
-
-    /// Adds the elements of a page of so many.
-    pub fn push_page(&mut self, kind: ColumnType, bytes: &[u8], count: usize)
-        requires takes { TakesPage self.old kind count bytes.now }
-        requires spare { count ≤ spare_of self.old }
-        ensures elements { elements_of self.new ≡ elements_of self.old
-            ++ page_elements kind count bytes.now }
-        ensures width { width_of self.new ≡ width_of self.old }
-        ensures spare { spare_of self.old ≤ spare_of self.new + count }
-    {
-        match self {
-            Store::Bits(list) => push_bits(list, kind, bytes, count),
-            Store::Bytes(list) => push_8(list, kind, bytes, count),
-            Store::Words16(list) => push_16(list, kind, bytes, count),
-            Store::Words32(list) => push_32(list, kind, bytes, count),
-            Store::Words64(list) => push_64(list, kind, bytes, count),
-            Store::Pairs(pairs) => pairs.push_page(bytes, count),
         }
     }
 
