@@ -28,20 +28,31 @@ fn has_narrow(out: &ColumnSet) -> bool
     false
 }
 
-/// Whether the ends of all columns can count so many elements and so many more.
+/// What ends of 32 bits count to, and one more.
+const NARROW: usize = 1 << 32;
+
+/// Whether the ends of all columns can count so many elements and so many more. Mostly any ends can, which needs
+/// no look at the columns.
+#[inline(always)]
 fn can_count(out: &ColumnSet, len: usize, more: usize) -> bool
     requires { length out.now ≤ 2 ^ 32 }
     ensures { IsTrue result → len + more < ends_below (set_frame out.now) }
 {
-    match len.checked_add(more) {
-        // What any end can count needs no look at the columns.
-        Some(sum) => sum <= u32::MAX as usize || !has_narrow(out),
-        None => false,
-    }
+    len < NARROW.saturating_sub(more) || can_count_wide(out, len, more)
+}
+
+/// Whether they can count what is too much for ends of 32 bits.
+#[inline(never)]
+fn can_count_wide(out: &ColumnSet, len: usize, more: usize) -> bool
+    requires { length out.now ≤ 2 ^ 32 }
+    ensures { IsTrue result → len + more < ends_below (set_frame out.now) }
+{
+    len.checked_add(more).is_some() && !has_narrow(out)
 }
 
 /// Makes room for so many more elements in a column, and gives how many it has. What ends of 32
 /// bits can't count has no room either.
+#[inline(always)]
 pub fn reserve_column(out: &mut ColumnSet, column: u32, more: usize) -> Result<usize, AllocError>
     requires column { (column < length out.old) × (length out.old ≤ 2 ^ 32) }
     ensures columns { columns_of out.new ≡ columns_of out.old }
