@@ -11,7 +11,7 @@ use Rattle.nt_trees.specs.Columns.{add_to}
 use Rattle.nt_shred.specs.Steps.{Gains}
 use Rattle.nt_shred.proofs.Sets.{gains, framed, capacity-at, elements-at, get-within}
 use Rattle.nt_direct.specs.Places.{Grew, TakesIntegers}
-use Rattle.nt_direct.specs.Walk.{CanPut, ElementStands, Puts, PutsAll, Leaves}
+use Rattle.nt_direct.specs.Walk.{CanPut, ElementStands, Puts, PutsAll, LeavesIn}
 use Rattle.nt_direct.proofs.Growing.{grew-not}
 use Rattle.nt_direct.proofs.Singles.{number-put}
 use Rattle.nt_direct.proofs.Walks.{SoFarAll, all-none, all-more, all-done, so_far-grew}
@@ -111,12 +111,6 @@ in-more bits signed n line at i next end first old new s comma e column le = rec
 }
 
 -- ---- what is left of a set
-
--- what a loop over a column leaves
-abbrev pub LeavesIn : ℕ → Bool → List ℕ → ℕ → Buffer → Buffer → Option ℕ → Type 0
-LeavesIn bits signed line at old new r = (k : ℕ) (start : List Buffer) → slice_get start k ≡ Some old
-    → CanPut (number k bits signed) (length line - at) start
-    → Leaves (λ end. PutsAll (number k bits signed) line at end start (set start k new)) start (set start k new) r
 
 -- no integer
 pub in-not : (bits : ℕ) (signed : Bool) (line : List ℕ) (at : ℕ) (old : Buffer) (r : Option ℕ) → r ≡ None

@@ -1,11 +1,10 @@
 //! Integers, one and the items of a list.
 
-ghost use Rattle.std.specs.Prelude.{◌≡◌, ◌-◌, ◌≤◌, ℕ, List, length, true, Some, IfSome, slice_get, slice_set};
+ghost use Rattle.std.specs.Prelude.{◌≡◌, ◌-◌, ◌≤◌, length, true, false, IfSome};
 ghost use Rattle.nt_types.specs.Spelling.{is_width};
-ghost use Rattle.nt_column.specs.Column.{Buffer};
 ghost use Rattle.nt_plans.specs.Plan.{number};
 ghost use Rattle.nt_direct.specs.Places.{TakesIntegers};
-ghost use Rattle.nt_direct.specs.Walk.{CanPut, ElementStands, PutsAll, Leaves};
+ghost use Rattle.nt_direct.specs.Walk.{CanPut, ElementStands, PutsAll, Leaves, LeavesIn};
 
 use nt_column::{ColumnBuf, ColumnSet};
 use nt_event::{after, comma, signed_integer, unsigned_integer};
@@ -27,25 +26,55 @@ pub(crate) fn element_at(line: &[u8], at: usize, bits: u8, signed: bool) -> Opti
     }
 }
 
-/// Adds integers to a column, the items of a list that has some, up to its bracket. Inlined, so that a loop has one sign alone.
+/// Adds integers to a column, the items of a list that has some, up to its bracket. Inlined, so that a loop has one width and
+/// one sign alone.
 #[inline(always)]
 fn items(column: &mut ColumnBuf, bits: u8, signed: bool, line: &[u8], at: usize) -> Option<usize>
     requires within { at ≤ length line.now }
     requires takes { TakesIntegers bits (length line.now - at) column.old }
-    ensures { (k : ℕ) (start : List Buffer) → slice_get start k ≡ Some column.old
-        → CanPut (number k bits signed) (length line.now - at) start
-        → Leaves (λ end. PutsAll (number k bits signed) line.now at end start (slice_set start k column.new))
-        start (slice_set start k column.new) result }
+    ensures { LeavesIn bits signed line.now at column.old column.new result }
 {
     let (first, end) = element_at(line, at, bits, signed)?;
-    column.push(first);
+    column.push_at_width(bits, first);
     let mut i = end;
     while let Some(next) = comma(line, i) {
         let (value, end) = element_at(line, next, bits, signed)?;
-        column.push(value);
+        column.push_at_width(bits, value);
         i = end;
     }
     after(line, i, b']')
+}
+
+/// The same without a sign, by a loop for each width.
+#[inline(never)]
+fn unsigned_items(column: &mut ColumnBuf, bits: u8, line: &[u8], at: usize) -> Option<usize>
+    requires within { at ≤ length line.now }
+    requires takes { TakesIntegers bits (length line.now - at) column.old }
+    ensures { LeavesIn bits false line.now at column.old column.new result }
+{
+    match bits {
+        8 => items(column, 8, false, line, at),
+        16 => items(column, 16, false, line, at),
+        32 => items(column, 32, false, line, at),
+        64 => items(column, 64, false, line, at),
+        _ => unreachable!(),
+    }
+}
+
+/// The same with a sign.
+#[inline(never)]
+fn signed_items(column: &mut ColumnBuf, bits: u8, line: &[u8], at: usize) -> Option<usize>
+    requires within { at ≤ length line.now }
+    requires takes { TakesIntegers bits (length line.now - at) column.old }
+    ensures { LeavesIn bits true line.now at column.old column.new result }
+{
+    match bits {
+        8 => items(column, 8, true, line, at),
+        16 => items(column, 16, true, line, at),
+        32 => items(column, 32, true, line, at),
+        64 => items(column, 64, true, line, at),
+        _ => unreachable!(),
+    }
 }
 
 /// Adds integers, the items of a list, up to its bracket.
@@ -68,8 +97,8 @@ pub fn wholes(
     // The column is looked up once for all of them.
     let column = out.buffer(column);
     if signed {
-        items(column, bits, true, line, at)
+        signed_items(column, bits, line, at)
     } else {
-        items(column, bits, false, line, at)
+        unsigned_items(column, bits, line, at)
     }
 }

@@ -17,8 +17,8 @@
 //!   bytes is made in each column, and then nothing can fail.
 //! - What was added of a refused line is cut off again, at the lengths that were noted as room was made.
 //! - A line of ASCII alone, as most are, is seen to be UTF-8 eight bytes at a time (`ascii.rt`), others by simdutf8.
-//! - Lists of integers, where most values are, have a loop of their own, in which the plan, the sign and the column are
-//!   looked up once.
+//! - Lists of integers, where most values are, have a loop of their own for each width and sign, in which the plan and
+//!   the column are looked up once.
 #![tactic(auto)]
 
 mod ascii;

@@ -7,8 +7,8 @@ returns-in_err-first c =
 
 pub loop-next-init : goal.loop-next-init
 loop-next-init c =
-    in-first c.args.bits c.args.signed c.in_ok-first.first c.args.line.now c.args.at c.in_ok-first.end c.args.column.now c.push.new.self
-    c.requires.within c.requires.takes c.in_ok-first.ensures c.push.ensures.column c.push.ensures.spare
+    in-first c.args.bits c.args.signed c.in_ok-first.first c.args.line.now c.args.at c.in_ok-first.end c.args.column.now c.push_at_width.new.self
+    c.requires.within c.requires.takes c.in_ok-first.ensures c.push_at_width.ensures.column c.push_at_width.ensures.spare
 
 pub returns-in_err-value : goal.returns-in_err-value
 returns-in_err-value c =
@@ -18,8 +18,8 @@ returns-in_err-value c =
 pub loop-next-preserved : goal.loop-next-preserved
 loop-next-preserved c =
     in-more c.args.bits c.args.signed c.in_ok-value.value c.args.line.now c.args.at c.loop-next.i c.in-Some.next c.in_ok-value.end
-    c.args.column.now c.loop-next.column c.push-in-Some.new.self c.loop-next.invariant c.in-Some.ensures c.in_ok-value.ensures
-    c.push-in-Some.ensures.column c.push-in-Some.ensures.spare
+    c.args.column.now c.loop-next.column c.push_at_width-in-Some.new.self c.loop-next.invariant c.in-Some.ensures c.in_ok-value.ensures
+    c.push_at_width-in-Some.ensures.column c.push_at_width-in-Some.ensures.spare
 
 pub returns : goal.returns
 returns c =

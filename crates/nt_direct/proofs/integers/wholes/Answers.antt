@@ -12,12 +12,12 @@ returns-in-Some c =
     let bs = c.args.out.now in
     all-done p false line at at c.in-Some.end bs bs (all-none p line at bs c.requires.within c.requires.can) c.in-Some.ensures
 
-pub items-requires-clause-takes : goal.items-requires-clause-takes
-items-requires-clause-takes c =
+pub signed_items-requires-clause-takes : goal.signed_items-requires-clause-takes
+signed_items-requires-clause-takes c =
     takes-at c.args.out.now c.args.column c.args.bits c.args.signed (length c.args.line.now - c.args.at) c.buffer-column.result.now
     c.buffer-column.ensures.value c.requires.can
 
-pub items-requires-else-signed-clause-takes : goal.items-requires-else-signed-clause-takes
-items-requires-else-signed-clause-takes c =
+pub unsigned_items-requires-clause-takes : goal.unsigned_items-requires-clause-takes
+unsigned_items-requires-clause-takes c =
     takes-at c.args.out.now c.args.column c.args.bits c.args.signed (length c.args.line.now - c.args.at) c.buffer-column.result.now
     c.buffer-column.ensures.value c.requires.can
