@@ -18,9 +18,10 @@ pub fn prepare(out: &mut ColumnSet, more: usize, marks: &mut Vec<usize>) -> Resu
     ensures noted { OnOk result (marks.new.items ≡ lengths_of out.new) }
 {
     marks.clear();
+    marks.reserve(out.columns())?;
     for column in 0..out.columns() {
         let len = reserve_column(out, column as u32, more)?;
-        marks.push(len)?;
+        marks.push_reserved(len);
     }
     Ok(())
 }
