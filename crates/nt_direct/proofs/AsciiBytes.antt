@@ -1,7 +1,8 @@
 -- Bytes of ASCII.
-use Rattle.std.proofs.Common.{◌≡◌, ◌+◌, ◌*◌, ◌<◌, ℕ, zero, suc, Bool, true, false, cond, leb, List, [], ◌∷◌}
+use Rattle.std.proofs.Common.{◌≡◌, ◌+◌, ◌*◌, ◌<◌, ◌≤◌, ℕ, zero, suc, Bool, true, false, cond, leb, List, [], ◌∷◌}
 use Rattle.std.proofs.Common.{map, length, take, drop, replicate, arith, sym, subst, take-add, get_or, refl, ap}
 use Rattle.std.proofs.lemmas.Bool.{leb-false}
+use Rattle.std.proofs.lemmas.List.{take_all}
 use Rattle.std.proofs.lemmas.Str.{IsAscii-append}
 use Rattle.std.specs.Str.{IsAscii}
 use lib.Lanes.{mask_l, top, zip2}
@@ -45,3 +46,11 @@ pub ascii-one : (xs : List ℕ) (i : ℕ) → i < length xs → get_or xs i 0 < 
 ascii-one [] i within one = absurd (omega (arith, within))
 ascii-one (x ∷ xs) zero within one = ascii-next x [] one ascii-none
 ascii-one (x ∷ xs) (suc i) within one = ascii-one xs i (omega (arith, within)) one
+
+-- bytes at the front, and those from a place that isn't behind them
+pub ascii-behind : (xs : List ℕ) (i m n : ℕ) → m ≤ i → length xs ≤ m + n → IsAscii (take i xs) → IsAscii (take n (drop m xs)) → IsAscii xs
+ascii-behind xs i zero n le all first last = subst IsAscii (take_all n xs (omega (arith, all))) last
+ascii-behind [] i (suc m) n le all first last = ascii-none
+ascii-behind (x ∷ xs) zero (suc m) n le all first last = absurd (omega (arith, le))
+ascii-behind (x ∷ xs) (suc i) (suc m) n le all first last =
+    ascii-next x xs (first 0) (ascii-behind xs i m n (omega (arith, le)) (omega (arith, all)) (λ k. first (suc k)) last)

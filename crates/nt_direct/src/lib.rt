@@ -16,7 +16,7 @@
 //! - Each element stands in the line as one byte at least. So room for as many elements as the line has
 //!   bytes is made in each column, and then nothing can fail.
 //! - What was added of a refused line is cut off again, at the lengths that were noted as room was made.
-//! - A line of ASCII alone, as most are, is seen to be UTF-8 eight bytes at a time (`ascii.rt`), others by simdutf8.
+//! - A line of ASCII alone, as most are, is seen to be UTF-8 sixteen bytes at a time (`ascii.rt`), others by simdutf8.
 //! - Lists of integers, where most values are, have a loop of their own for each width and sign, in which the plan and
 //!   the column are looked up once.
 #![tactic(auto)]

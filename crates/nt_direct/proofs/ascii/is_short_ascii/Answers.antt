@@ -1,6 +1,6 @@
 use Rattle.std.proofs.Common.{arith}
 use Rattle.nt_direct.proofs.AsciiBytes.{ascii-more, ascii-one}
-use Rattle.nt_direct.proofs.ascii.is_ascii.Goals as goal
+use Rattle.nt_direct.proofs.ascii.is_short_ascii.Goals as goal
 
 pub loop-i-preserved : goal.loop-i-preserved
 loop-i-preserved c =

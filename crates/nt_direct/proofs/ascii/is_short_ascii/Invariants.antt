@@ -1,6 +1,6 @@
 use Rattle.std.proofs.Common.{length, take, ◌-◌, ◌≤◌}
 use Rattle.std.specs.Str.{IsAscii}
-use Rattle.nt_direct.proofs.ascii.is_ascii.Given as goal
+use Rattle.nt_direct.proofs.ascii.is_short_ascii.Given as goal
 
 abbrev pub invariant-loop-i : goal.invariant-loop-i
 invariant-loop-i l = record {
