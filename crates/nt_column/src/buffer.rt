@@ -74,11 +74,7 @@ impl ColumnBuf {
     pub fn len(&self) -> usize
         ensures { result ≡ length self.now.column.elements }
     {
-        if self.zeros > 0 {
-            self.zeros
-        } else {
-            self.store.len()
-        }
+        self.zeros + self.store.len() // one of them is 0
     }
 
     /// The number of pages of at most so many elements.
