@@ -7,7 +7,7 @@ ghost use Rattle.nt_direct.specs.Walk.{CanPut, Puts, Leaves};
 use crate::integers::element_at;
 use nt_column::{ColumnSet, Columns};
 use nt_event::{plain_string, truth};
-use nt_shred::{push, push_bytes, push_end};
+use nt_shred::{push, push_at_width, push_bytes, push_end};
 
 /// Adds a truth value.
 pub fn flag(out: &mut ColumnSet, column: u32, line: &[u8], at: usize) -> Option<usize>
@@ -17,6 +17,26 @@ pub fn flag(out: &mut ColumnSet, column: u32, line: &[u8], at: usize) -> Option<
 {
     let (value, end) = truth(line, at)?;
     push(out, column, u64::from(value));
+    Some(end)
+}
+
+/// Adds an integer. Inlined, so that a width and a sign that are known are not looked at.
+#[inline(always)]
+fn whole_at_width(
+    out: &mut ColumnSet,
+    column: u32,
+    bits: u8,
+    signed: bool,
+    line: &[u8],
+    at: usize,
+) -> Option<usize>
+    requires within { at ≤ length line.now }
+    requires can { CanPut (number column bits signed) (length line.now - at) out.old }
+    ensures { Leaves (λ end. Puts (number column bits signed) line.now at end out.old out.new)
+        out.old out.new result }
+{
+    let (value, end) = element_at(line, at, bits, signed)?;
+    push_at_width(out, column, bits, value);
     Some(end)
 }
 
@@ -34,9 +54,16 @@ pub fn whole(
     ensures { Leaves (λ end. Puts (number column bits signed) line.now at end out.old out.new)
         out.old out.new result }
 {
-    let (value, end) = element_at(line, at, bits, signed)?;
-    push(out, column, value);
-    Some(end)
+    if signed {
+        return whole_at_width(out, column, bits, true, line, at);
+    }
+    match bits {
+        8 => whole_at_width(out, column, 8, false, line, at),
+        16 => whole_at_width(out, column, 16, false, line, at),
+        32 => whole_at_width(out, column, 32, false, line, at),
+        64 => whole_at_width(out, column, 64, false, line, at),
+        _ => unreachable!(),
+    }
 }
 
 /// Adds a text, and its end.

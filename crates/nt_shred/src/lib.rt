@@ -38,4 +38,4 @@ pub use counting::count;
 pub use entry::shred;
 pub use growing::{reserve, reserve_column};
 pub use integers::{element, signed_element};
-pub use pushing::{push, push_bytes, push_end, push_tag};
+pub use pushing::{push, push_at_width, push_bytes, push_end, push_tag};

@@ -18,6 +18,16 @@ pub fn push(out: &mut ColumnSet, column: u32, value: u64)
     out.buffer(column).push(value);
 }
 
+/// Adds a number to a column whose width the caller knows. Where it is a constant, no width is looked at.
+#[inline(always)]
+pub fn push_at_width(out: &mut ColumnSet, column: u32, bits: u8, value: u64)
+    requires column { IsPlain (set_frame out.old) column bits × (value < 2 ^ bits) }
+    requires room { FitsIn out.old (add_to column (plain value ∷ []) (cols_of out.old)) }
+    ensures { Gains (add_to column (plain value ∷ [])) out.old out.new }
+{
+    out.buffer(column).push_at_width(bits, value);
+}
+
 /// Adds an end, which the ends of all columns can count.
 pub fn push_end(out: &mut ColumnSet, column: u32, end: u64)
     requires column { IsEnds (set_frame out.old) column }
