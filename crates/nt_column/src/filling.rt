@@ -7,7 +7,7 @@ ghost use Rattle.nt_encode.specs.Switch.{switch_indices, switch_tags};
 ghost use Rattle.nt_column.specs.Bits.{bit_of};
 ghost use Rattle.nt_column.specs.Growing.{HasGrown};
 
-use nt_encode::{index_of_pair, tag_of_pair, value_at};
+use nt_encode::{decode, decode_16, decode_32, index_of_pair, tag_of_pair, value_at};
 use nt_types::ColumnType;
 
 /// Adds the values of a page as truth values.
@@ -43,7 +43,6 @@ pub fn push_8(list: &mut Vec<u8>, kind: ColumnType, bytes: &[u8], count: usize)
 }
 
 /// Adds the values of a page as words of 16 bits.
-#[inline(always)]
 pub fn push_16(list: &mut Vec<u16>, kind: ColumnType, bytes: &[u8], count: usize)
     requires kind { bits_of kind ≡ 16 }
     requires length { length bytes.now ≡ page_size kind count }
@@ -52,15 +51,15 @@ pub fn push_16(list: &mut Vec<u16>, kind: ColumnType, bytes: &[u8], count: usize
     ensures room { HasGrown count (vec_len list.old) (vec_capacity list.old) (vec_len list.new)
         (vec_capacity list.new) }
 {
-    let mut last = 0;
-    for i in 0..count {
-        last = value_at(kind, bytes, count, i, last);
-        list.push_reserved(last as u16);
+    let len = list.len();
+    match list.resize(len + count, 0) {
+        Ok(()) => {}
+        Err(_) => unreachable!(),
     }
+    decode_16(kind, bytes, &mut list[len..]);
 }
 
 /// Adds the values of a page as words of 32 bits.
-#[inline(always)]
 pub fn push_32(list: &mut Vec<u32>, kind: ColumnType, bytes: &[u8], count: usize)
     requires kind { bits_of kind ≡ 32 }
     requires length { length bytes.now ≡ page_size kind count }
@@ -69,15 +68,15 @@ pub fn push_32(list: &mut Vec<u32>, kind: ColumnType, bytes: &[u8], count: usize
     ensures room { HasGrown count (vec_len list.old) (vec_capacity list.old) (vec_len list.new)
         (vec_capacity list.new) }
 {
-    let mut last = 0;
-    for i in 0..count {
-        last = value_at(kind, bytes, count, i, last);
-        list.push_reserved(last as u32);
+    let len = list.len();
+    match list.resize(len + count, 0) {
+        Ok(()) => {}
+        Err(_) => unreachable!(),
     }
+    decode_32(kind, bytes, &mut list[len..]);
 }
 
 /// Adds the values of a page as words of 64 bits.
-#[inline(always)]
 pub fn push_64(list: &mut Vec<u64>, kind: ColumnType, bytes: &[u8], count: usize)
     requires kind { bits_of kind ≡ 64 }
     requires length { length bytes.now ≡ page_size kind count }
@@ -86,11 +85,12 @@ pub fn push_64(list: &mut Vec<u64>, kind: ColumnType, bytes: &[u8], count: usize
     ensures room { HasGrown count (vec_len list.old) (vec_capacity list.old) (vec_len list.new)
         (vec_capacity list.new) }
 {
-    let mut last: u64 = 0;
-    for i in 0..count {
-        last = value_at(kind, bytes, count, i, last);
-        list.push_reserved(last);
+    let len = list.len();
+    match list.resize(len + count, 0) {
+        Ok(()) => {}
+        Err(_) => unreachable!(),
     }
+    decode(kind, bytes, &mut list[len..]);
 }
 
 /// Adds the indices of a page of pairs.

@@ -1,11 +1,11 @@
 -- The values of a page fit its type.
-use Rattle.std.proofs.Common.{◌≡◌, ◌≢◌, ℕ, zero, suc, ◌+◌, ◌*◌, ◌%◌, ◌^◌, ◌<◌, List, length, get_or, take, refl, sym, ap, ◌∙◌, inl, inr}
+use Rattle.std.proofs.Common.{◌≡◌, ◌≢◌, ℕ, zero, suc, ◌+◌, ◌*◌, ◌%◌, ◌^◌, ◌<◌, ◌≤◌, List, length, get_or, take, refl, sym, ap, ◌∙◌, inl, inr}
 use Rattle.std.proofs.Common.{arith, add-one}
 use Rattle.std.specs.List.{sum}
 use Rattle.std.proofs.lemmas.Bool.{cases_lt}
 use Rattle.std.specs.Prelude.{All}
 use Rattle.std.proofs.lemmas.Bool.Decides.{nat_tests}
-use Rattle.std.proofs.lemmas.List.{length-map, get_or-map, get_or_default, get_or_past}
+use Rattle.std.proofs.lemmas.List.{length-map, get_or-map, get_or_default, get_or_past, ext_get_or}
 use Rattle.std.proofs.lemmas.Nat.{pow_pos}
 use Rattle.std.proofs.Math.Nat.{mod-lt, zero-mod}
 use Rattle.nt_types.specs.declared.column_type.ColumnType.{ColumnType}
@@ -23,7 +23,7 @@ use Rattle.nt_encode.specs.Delta.{delta_value, delta_values, index_before}
 use Rattle.nt_encode.specs.Switch.{switch_index, switch_indices, switch_tag, switch_tags}
 use Rattle.nt_encode.specs.Pages.{page_values, AllFit}
 use Rattle.nt_encode.proofs.Digits.{number_of-lt, number_of-same}
-use Rattle.nt_encode.proofs.Lists.{get_or-list_of, length-list_of}
+use Rattle.nt_encode.proofs.Lists.{Filled, get_or-list_of, length-list_of}
 use Rattle.nt_encode.proofs.Deltas.{total-more}
 
 -- each is a byte
@@ -121,6 +121,12 @@ length-page_values SplitIndex32 n bytes = length-list_of (length (split_values 4
     ∙ length-list_of n (split_value 4 n bytes)
 length-page_values SplitIndex64 n bytes = length-list_of (length (split_values 8 n bytes)) (delta_value 64 (split_values 8 n bytes))
     ∙ length-list_of n (split_value 8 n bytes)
+
+-- a list that is filled with the values of a page is these
+pub values-filled : (kind : ColumnType) (n : ℕ) (bytes xs : List ℕ) (m : ℕ) → length xs ≡ n → n ≤ m
+    → Filled xs m (λ p. get_or (page_values kind n bytes) p 0) → xs ≡ page_values kind n bytes
+values-filled kind n bytes xs m len enough filled =
+    ext_get_or 0 xs (page_values kind n bytes) (len ∙ sym (length-page_values kind n bytes)) (λ i h. filled i (omega arith))
 
 -- value i of a page fits
 pub value-fits : (kind : ColumnType) (n : ℕ) (bytes : List ℕ) (i : ℕ) → kind ≢ Switch → AreBytes bytes → i < n
