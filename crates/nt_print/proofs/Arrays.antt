@@ -24,7 +24,7 @@ kept-more a b more h =
     let within : length a ≤ length b = omega (arith, ap length h, length-take (length a) b) in
     take-append-le (length a) b more within ∙ h
 
-kept-self : (a : List ℕ) → take (length a) a ≡ a
+pub kept-self : (a : List ℕ) → take (length a) a ≡ a
 kept-self a = take_all (length a) a (omega arith)
 
 pub kept-kept : (a b c : List ℕ) → take (length a) b ≡ a → take (length b) c ≡ b → take (length a) c ≡ a

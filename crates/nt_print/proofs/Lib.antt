@@ -1,6 +1,7 @@
 mod Arrays
 mod Decimals
 mod Numbers
+mod Parts
 mod Places
 mod SimpleTexts
-mod Triples
+mod TripleTable

@@ -1,63 +1,87 @@
 //! Lists of numbers, printed from where they lie.
 
-ghost use Rattle.std.specs.Prelude.{◌≡◌, ◌≤◌, ◌++◌, ℕ, length, map, take, OnOk};
+ghost use Rattle.std.specs.Prelude.{◌≡◌, ◌≤◌, ◌<◌, ◌++◌, ℕ, length, map, take, pos, OnOk, IsTrue};
 ghost use Rattle.std.specs.List.{slice_range};
-ghost use Rattle.nt_column.specs.Bits.{bit_of};
 ghost use Rattle.nt_column.specs.Elements.{numbers};
 ghost use Rattle.nt_column.specs.Words.{lent_elements};
 ghost use Rattle.nt_event.specs.Json.{line_of};
-ghost use Rattle.nt_print.specs.Integers.{integer_trees};
+ghost use Rattle.nt_trees.specs.Integers.{integer_of};
+ghost use Rattle.nt_print.specs.Integers.{integer_trees, integers_text, AreBelow};
 
-use crate::leaves::{mark_before, put_end, put_integer};
+use crate::blocks::put_block;
+use crate::digits::MILLION;
+use crate::leaves::{put_end, put_integer};
+use crate::words::Word;
 use nt_column::WordSlice;
 use std::alloc::AllocError;
 
-/// A number of some width.
-trait Word: Copy {
-    ghost number: { Self → ℕ };
-
-    /// The number.
-    fn number(self) -> u64
-        ensures { result ≡ number self };
-}
-
-impl Word for bool {
-    ghost number = { bit_of };
-
-    fn number(self) -> u64 {
-        u64::from(self)
+/// Where numbers end that have at most six digits, and stand for themselves in this width and sign.
+#[inline]
+fn short_end(bits: u8, signed: bool) -> u64
+    ensures short { result ≤ 1000000 }
+    ensures same { (n : ℕ) → n < result → integer_of bits signed n ≡ pos n }
+{
+    if !signed {
+        return MILLION;
     }
-}
-
-impl Word for u8 {
-    ghost number = { λ n. n };
-
-    fn number(self) -> u64 {
-        u64::from(self)
+    if bits > 20 {
+        return MILLION;
     }
+    if bits == 0 { 1 } else { 1 << (bits - 1) }
 }
 
-impl Word for u16 {
-    ghost number = { λ n. n };
-
-    fn number(self) -> u64 {
-        u64::from(self)
+/// Whether all numbers are below another. It ends behind the last one whatever they are, so that it can
+/// look at many at once.
+fn are_below<W: Word>(words: &[W], end: u64) -> bool
+    ensures { IsTrue result → AreBelow end (map W.number words.now) }
+{
+    let mut all = true;
+    for word in words {
+        all &= word.number() < end;
     }
+    all
 }
 
-impl Word for u32 {
-    ghost number = { λ n. n };
-
-    fn number(self) -> u64 {
-        u64::from(self)
+/// Appends the integers that words stand for, a mark in front of the first, and commas.
+#[inline(always)]
+fn put_some<W: Word>(
+    mark: u8,
+    words: &[W],
+    bits: u8,
+    signed: bool,
+    out: &mut Vec<u8>,
+) -> Result<(), AllocError>
+    ensures ok { OnOk result (out.new.items ≡ out.old.items
+        ++ integers_text mark (map (integer_of bits signed) (map W.number words.now))) }
+    ensures kept { take (length out.old.items) out.new.items ≡ out.old.items }
+{
+    let mut next = mark;
+    for word in words {
+        put_integer(next, word.number(), bits, signed, out)?;
+        next = b',';
     }
+    Ok(())
 }
 
-impl Word for u64 {
-    ghost number = { λ n. n };
-
-    fn number(self) -> u64 {
-        self
+/// Appends the integers that eight words stand for, a mark in front of the first, and commas.
+#[inline(always)]
+fn put_eight<W: Word>(
+    mark: u8,
+    words: &[W],
+    bits: u8,
+    signed: bool,
+    out: &mut Vec<u8>,
+) -> Result<(), AllocError>
+    requires { length words.now ≡ 8 }
+    ensures ok { OnOk result (out.new.items ≡ out.old.items
+        ++ integers_text mark (map (integer_of bits signed) (map W.number words.now))) }
+    ensures kept { take (length out.old.items) out.new.items ≡ out.old.items }
+{
+    let end = short_end(bits, signed);
+    if are_below(words, end) {
+        put_block(mark, words, out)
+    } else {
+        put_some(mark, words, bits, signed, out)
     }
 }
 
@@ -72,12 +96,14 @@ fn put_words<W: Word>(
         ++ line_of (integer_trees bits signed (map W.number words.now))) }
     ensures kept { take (length out.old.items) out.new.items ≡ out.old.items }
 {
-    let mut later = false;
-    for word in words {
-        put_integer(mark_before(later), word.number(), bits, signed, out)?;
-        later = true;
+    let mut mark = b'[';
+    let blocks = words.len() / 8;
+    for i in 0..blocks {
+        put_eight(mark, &words[8 * i..8 * i + 8], bits, signed, out)?;
+        mark = b',';
     }
-    put_end(later, out)?;
+    put_some(mark, &words[8 * blocks..], bits, signed, out)?;
+    put_end(words.len() > 0, out)?;
     Ok(())
 }
 

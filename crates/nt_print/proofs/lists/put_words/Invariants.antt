@@ -1,9 +1,12 @@
-use Rattle.std.proofs.Common.{map, drop}
-use Rattle.nt_print.specs.Integers.{integer_trees}
-use Rattle.nt_print.proofs.Arrays.{IsBegun}
+use Rattle.std.proofs.Common.{◌*◌, ◌≤◌, map, drop}
+use Rattle.nt_trees.specs.Integers.{integer_of}
+use Rattle.nt_print.specs.Integers.{integers_text}
+use Rattle.nt_print.proofs.Parts.{IsPut}
 use Rattle.nt_print.proofs.lists.put_words.Given as goal
 
-abbrev pub invariant-loop-word : goal.invariant-loop-word
-invariant-loop-word g l =
-    IsBegun l.fn.out.items l.out.items l.later (integer_trees l.bits l.signed (map g.W.Word.number (drop l.word-index l.words)))
-    (integer_trees l.bits l.signed (map g.W.Word.number l.words))
+abbrev pub invariant-loop-i : goal.invariant-loop-i
+invariant-loop-i g l = record {
+  reached : l.i ≤ l.blocks;
+  put : IsPut l.fn.out.items l.out.items l.mark (map (integer_of l.bits l.signed) (map g.W.Word.number (drop (8 * l.i) l.words)))
+      (integers_text 91 (map (integer_of l.bits l.signed) (map g.W.Word.number l.words)));
+}

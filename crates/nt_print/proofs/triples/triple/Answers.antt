@@ -1,6 +1,6 @@
 use Rattle.std.proofs.Common.{arith}
-use Rattle.nt_print.proofs.Triples.{TRIPLES-at}
-use Rattle.nt_print.proofs.digits.triple.Goals as goal
+use Rattle.nt_print.proofs.TripleTable.{TRIPLES-at}
+use Rattle.nt_print.proofs.triples.triple.Goals as goal
 
 pub returns : goal.returns
 returns c =

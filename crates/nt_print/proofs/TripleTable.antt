@@ -3,7 +3,7 @@ use Rattle.std.proofs.Common.{◌≡◌, ℕ, zero, suc, ◌+◌, ◌*◌, ◌/�
 use Rattle.std.proofs.Common.{◌∙◌, arith, eqb→eq}
 use Rattle.std.proofs.lemmas.List.{drop-drop, get_or-drop}
 use lib.Ieee.Fits.{and_l, and_r}
-use Rattle.nt_print.specs.declared.digits.TheConstants.{TRIPLES}
+use Rattle.nt_print.specs.declared.triples.TheConstants.{TRIPLES}
 
 -- a list begins with the digits of a number, and a blank
 abbrev begins : ℕ → List ℕ → Bool
