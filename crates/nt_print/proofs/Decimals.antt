@@ -193,7 +193,40 @@ short-text m n w v none pm large lt front last units tens hundreds =
     (omega arith, (omega arith, (omega arith, (omega arith, (omega arith, (omega arith, tt)))))) (omega (arith, lt)) large
     (omega (arith, front, last)) units tens hundreds
 
--- ---- a long number behind a mark
+-- ---- more digits behind others, three or six at a time
+
+-- the last three digits of a number, from the word that they stand in
+pub three-text : (n w : ℕ) → w ≡ digit_bytes 3 n + 540028976 → take 3 (to_le_bytes w64 w) ≡ last_digits 3 n
+three-text n w is =
+    ap (take 3) (bytes-eight (48 + n / 10 / 10 % 10) (48 + n / 10 % 10) (48 + n % 10) 32 0 0 0 0 w (omega arith) (omega arith) (omega arith)
+    (omega arith) (omega arith) (omega arith) (omega arith) (omega arith) (omega (arith, is)))
+
+-- the last six digits are three and three
+three-three : (n : ℕ) → last_digits 3 (n / 1000) ++ last_digits 3 (n % 1000) ≡ last_digits 6 n
+three-three n =
+    cons _ _ _ _ (omega arith) (cons _ _ _ _ (omega arith) (cons _ _ _ _ (omega arith) (cons _ _ _ _ (omega arith)
+    (cons _ _ _ _ (omega arith) (cons _ _ _ _ (omega arith) refl)))))
+
+pub six-put : (p a b : List ℕ) (n : ℕ) → a ≡ p ++ last_digits 3 (n / 1000) → b ≡ a ++ last_digits 3 (n % 1000) → b ≡ p ++ last_digits 6 n
+six-put p a b n front back =
+    back ∙ (ap (λ l. l ++ last_digits 3 (n % 1000)) front
+    ∙ (append_assoc p (last_digits 3 (n / 1000)) (last_digits 3 (n % 1000)) ∙ ap (λ l. p ++ l) (three-three n)))
+
+-- three more digits
+decimal-thousand : (n : ℕ) → 1000 ≤ n → n < 2 ^ 64 → decimal (n / 1000) ++ last_digits 3 (n % 1000) ≡ decimal n
+decimal-thousand n lo hi =
+    let q = n / 1000 in
+    let r = n % 1000 in
+    let is : spelled q (r / 10 / 10 % 10 ∷ r / 10 % 10 ∷ r % 10 ∷ []) ≡ n = omega arith in
+    sym (decimal-spelled (r / 10 / 10 % 10 ∷ r / 10 % 10 ∷ r % 10 ∷ []) q (omega (arith, lo)) (omega arith, (omega arith, (omega arith, tt)))
+    (omega (arith, is, hi))) ∙ ap decimal is
+
+pub short-put : (o a b : List ℕ) (m n : ℕ) → 1000 ≤ n → n < 2 ^ 32 → a ≡ o ++ m ∷ decimal (n / 1000)
+    → b ≡ a ++ last_digits 3 (n % 1000) → b ≡ o ++ m ∷ decimal n
+short-put o a b m n lo hi front back =
+    back ∙ (ap (λ l. l ++ last_digits 3 (n % 1000)) front
+    ∙ (append_assoc o (m ∷ decimal (n / 1000)) (last_digits 3 (n % 1000))
+    ∙ ap (λ l. o ++ m ∷ l) (decimal-thousand n lo (omega (arith, hi)))))
 
 -- six more digits
 decimal-million : (n : ℕ) → 1000000 ≤ n → n < 2 ^ 64 → decimal (n / 1000000) ++ last_digits 6 (n % 1000000) ≡ decimal n

@@ -8,7 +8,7 @@ ghost use Rattle.nt_trees.specs.Integers.{integer_of};
 ghost use Rattle.nt_trees.specs.TreeAt.{text_from};
 ghost use Rattle.nt_print.specs.Marks.{mark_before, end_of};
 
-use crate::digits::put_digits;
+use crate::marked::put_digits;
 use crate::texts::put_text;
 use nt_column::Columns;
 use std::alloc::{AllocError, Global};

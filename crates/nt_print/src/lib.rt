@@ -2,8 +2,8 @@
 //!
 //! Start at `write_entry`, which appends the line of one entry. It goes over any `Columns` by the plans
 //! of a schema's open fields, as nt_join does for trees; nothing here reads rows. Most values are the
-//! numbers of lists: `lists.rt` prints these from where their column lies, `digits.rt` by words of six
-//! digits, and `blocks.rt` eight of them at once. Most texts are of characters that stand for themselves:
+//! numbers of lists: `lists.rt` prints these from where their column lies, `marked.rt` one behind its
+//! mark, and `blocks.rt` eight of them at once. Most texts are of characters that stand for themselves:
 //! `texts.rt` sees it in one go.
 //!
 //! Words: those of nt_trees and nt_event; a *line* is the JSON array of an entry, and its LF; a *mark* is
@@ -17,10 +17,9 @@
 //!
 //! Choices that bind nobody else:
 //! - Numbers are printed as 64-bit integers, since no element is wider. A number of up to six digits and
-//!   its mark are one word, which is appended whole and cut to its digits; longer ones take a word more
-//!   for each six.
-//! - Of a list's numbers, eight of up to six digits are written to room that is appended for all of them,
-//!   and cut behind the last.
+//!   its mark are one word, which is appended whole and cut to its digits; longer ones are written to
+//!   room that is appended, three digits at a time, and cut behind the last.
+//! - Of a list's numbers, eight of up to six digits are written to such room together.
 //! - A list of numbers whose column isn't lent, as one of zeros, is printed an element at a time.
 //! - It goes as deep as the plans do, which is at most 64 levels.
 #![tactic(auto)]
@@ -30,6 +29,8 @@ mod digits;
 mod entry;
 mod leaves;
 mod lists;
+mod marked;
+mod room;
 mod texts;
 mod triples;
 mod values;

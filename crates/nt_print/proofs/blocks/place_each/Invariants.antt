@@ -5,7 +5,7 @@ use Rattle.nt_print.proofs.blocks.place_each.Given as goal
 
 abbrev pub invariant-loop-word : goal.invariant-loop-word
 invariant-loop-word g l = record {
-  within : l.at ≤ 8 * l.word-index;
+  within : l.at ≤ 7 * l.word-index;
   same : length l.room ≡ length l.fn.room;
   below : AreBelow 1000000 (map g.W.Word.number (drop l.word-index l.words));
   put : IsPut [] (take l.at l.room) l.next (map pos (map g.W.Word.number (drop l.word-index l.words)))

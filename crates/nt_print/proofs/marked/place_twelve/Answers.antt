@@ -1,0 +1,7 @@
+use Rattle.std.proofs.Common.{[]}
+use Rattle.nt_print.proofs.Decimals.{long-put}
+use Rattle.nt_print.proofs.marked.place_twelve.Goals as goal
+
+pub returns-clause-text : goal.returns-clause-text
+returns-clause-text c =
+    long-put [] _ _ c.args.mark c.args.n c.requires.large c.ranges.n.fits c.place_short-at.ensures.text c.place_six.ensures.text
