@@ -3,5 +3,6 @@ mod Decimals
 mod Numbers
 mod Parts
 mod Places
+mod ShortTexts
 mod SimpleTexts
 mod TripleTable

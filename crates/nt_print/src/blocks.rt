@@ -8,7 +8,7 @@ use crate::words::Word;
 use std::alloc::AllocError;
 
 /// The room of eight numbers.
-static ROOM: [u8; 64] = [0; 64];
+static BLOCK_ROOM: [u8; 64] = [0; 64];
 
 /// Writes numbers, a mark in front of the first, and commas, and says where they end.
 #[inline(always)]
@@ -38,7 +38,7 @@ pub fn put_block<W: Word>(mark: u8, words: &[W], out: &mut Vec<u8>) -> Result<()
     ensures kept { take (length out.old.items) out.new.items ≡ out.old.items }
 {
     let len = out.len();
-    out.extend_from_slice(&ROOM)?;
+    out.extend_from_slice(&BLOCK_ROOM)?;
     let count = place_each(mark, words, &mut out[len..]);
     out.truncate(len + count);
     Ok(())

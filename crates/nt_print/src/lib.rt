@@ -4,7 +4,7 @@
 //! of a schema's open fields, as nt_join does for trees; nothing here reads rows. Most values are the
 //! numbers of lists: `lists.rt` prints these from where their column lies, `marked.rt` one behind its
 //! mark, and `blocks.rt` eight of them at once. Most texts are of characters that stand for themselves:
-//! `texts.rt` sees it in one go.
+//! `short.rt` sees it while it writes a short one.
 //!
 //! Words: those of nt_trees and nt_event; a *line* is the JSON array of an entry, and its LF; a *mark* is
 //! the byte in front of a value: the bracket of its array, or a comma.
@@ -20,6 +20,8 @@
 //!   its mark are one word, which is appended whole and cut to its digits; longer ones are written to
 //!   room that is appended, three digits at a time, and cut behind the last.
 //! - Of a list's numbers, eight of up to six digits are written to such room together.
+//! - A text of up to 29 bytes is written to such room, eight bytes at a time; the last eight may be there
+//!   already in part. A longer one is looked at first, and then appended.
 //! - A list of numbers whose column isn't lent, as one of zeros, is printed an element at a time.
 //! - It goes as deep as the plans do, which is at most 64 levels.
 #![tactic(auto)]
@@ -31,6 +33,8 @@ mod leaves;
 mod lists;
 mod marked;
 mod room;
+mod short;
+mod simple;
 mod texts;
 mod triples;
 mod values;

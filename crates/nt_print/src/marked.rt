@@ -5,11 +5,8 @@ ghost use Rattle.std.specs.Prelude.{◌≡◌, ◌<◌, ◌≤◌, ◌+◌, ◌�
 ghost use Rattle.std.specs.Int.{to_le_bytes, w64};
 
 use crate::digits::{MILLION, short_text};
-use crate::room::{place_short, place_six};
+use crate::room::{ROOM, place_short, place_six};
 use std::alloc::AllocError;
-
-/// The room of a long number.
-static LONG_ROOM: [u8; 32] = [0; 32];
 
 /// Appends the lowest bytes of a word.
 #[inline(always)]
@@ -102,7 +99,7 @@ fn put_long(mark: u8, n: u64, out: &mut Vec<u8>) -> Result<(), AllocError>
     ensures kept { take (length out.old.items) out.new.items ≡ out.old.items }
 {
     let len = out.len();
-    out.extend_from_slice(&LONG_ROOM)?;
+    out.extend_from_slice(&ROOM)?;
     let count = place_long(mark, n, &mut out[len..]);
     out.truncate(len + count);
     Ok(())

@@ -1,14 +1,38 @@
 //! Room that was appended, and is written to a few bytes at a time; each writes eight bytes, of which
 //! those that count stay.
 
-ghost use Rattle.std.specs.Prelude.{◌≡◌, ◌+◌, ◌<◌, ◌≤◌, ◌∷◌, ◌++◌, length, take, decimal};
+ghost use Rattle.std.specs.Prelude.{◌≡◌, ◌+◌, ◌<◌, ◌≤◌, [], ◌∷◌, ◌++◌, length, take, decimal};
 ghost use Rattle.std.specs.Int.{to_le_bytes, w64};
 ghost use Rattle.nt_print.specs.Digits.{last_digits};
 
 use crate::digits::small_word;
 use crate::triples::triple;
 
-/// Writes the bytes of a word to a place.
+/// Room that is appended.
+pub static ROOM: [u8; 32] = [0; 32];
+
+/// Writes a byte behind what is written.
+#[inline(always)]
+pub fn place_byte(byte: u8, at: usize, room: &mut [u8])
+    requires { at < length room.old }
+    ensures text { take (at + 1) room.new ≡ take at room.old ++ byte ∷ [] }
+    ensures len { length room.new ≡ length room.old }
+{
+    room[at] = byte;
+}
+
+/// Writes eight bytes behind what is written.
+#[inline(always)]
+pub fn place_eight(bytes: &[u8], at: usize, room: &mut [u8])
+    requires eight { length bytes.now ≡ 8 }
+    requires room { at + 8 ≤ length room.old }
+    ensures text { take (at + 8) room.new ≡ take at room.old ++ bytes.now }
+    ensures len { length room.new ≡ length room.old }
+{
+    room[at..at + 8].copy_from_slice(bytes);
+}
+
+/// Writes the bytes of a word behind what is written.
 #[inline(always)]
 fn place(word: u64, at: usize, room: &mut [u8])
     requires { at + 8 ≤ length room.old }

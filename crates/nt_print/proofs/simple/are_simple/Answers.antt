@@ -3,7 +3,7 @@ use Rattle.std.proofs.lemmas.Bool.{and_parts}
 use Rattle.std.proofs.lemmas.List.{drop_more, drop_all}
 use Rattle.nt_print.specs.Simple.{AllSimple}
 use Rattle.nt_print.proofs.SimpleTexts.{simple-more}
-use Rattle.nt_print.proofs.texts.are_simple.Goals as goal
+use Rattle.nt_print.proofs.simple.are_simple.Goals as goal
 
 pub loop-byte-init : goal.loop-byte-init
 loop-byte-init c = λ true h. h
