@@ -35,6 +35,7 @@ pub fn put_end(later: bool, out: &mut Vec<u8>) -> Result<(), AllocError>
 }
 
 /// Appends a truth value.
+#[inline(never)]
 pub fn put_flag(holds: bool, out: &mut Vec<u8>) -> Result<(), AllocError>
     ensures ok { OnOk result (out.new.items ≡ out.old.items ++ compact_text (data_of (flag holds))) }
     ensures kept { take (length out.old.items) out.new.items ≡ out.old.items }
@@ -47,6 +48,7 @@ pub fn put_flag(holds: bool, out: &mut Vec<u8>) -> Result<(), AllocError>
 }
 
 /// Appends a mark, and then a number with its sign if it is below zero.
+#[inline(never)]
 fn put_signed(mark: u8, n: i64, out: &mut Vec<u8>) -> Result<(), AllocError>
     ensures ok { OnOk result (out.new.items ≡ out.old.items ++ mark ∷ compact_text (data_of (num n))) }
     ensures kept { take (length out.old.items) out.new.items ≡ out.old.items }
@@ -99,6 +101,7 @@ pub fn put_integer(
 }
 
 /// Appends a mark, and then the text of the bytes from one place to before another.
+#[inline(never)]
 pub fn put_part<C: Columns>(
     alloc: Global,
     columns: &C,

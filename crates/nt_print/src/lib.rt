@@ -22,6 +22,7 @@
 //! - Of a list's numbers, eight of up to six digits are written to such room together.
 //! - A text of up to 29 bytes is written to such room, eight bytes at a time; the last eight may be there
 //!   already in part. A longer one is looked at first, and then appended.
+//! - Where the part of an element stands is one look at the column of its ends, where they lie together.
 //! - A list of numbers whose column isn't lent, as one of zeros, is printed an element at a time.
 //! - It goes as deep as the plans do, which is at most 64 levels.
 #![tactic(auto)]
@@ -35,6 +36,7 @@ mod marked;
 mod room;
 mod short;
 mod simple;
+mod spans;
 mod texts;
 mod triples;
 mod values;

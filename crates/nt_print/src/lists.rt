@@ -86,6 +86,7 @@ fn put_eight<W: Word>(
 }
 
 /// Appends the array of the integers that words stand for.
+#[inline(never)]
 fn put_words<W: Word>(
     words: &[W],
     bits: u8,

@@ -10,12 +10,14 @@ ghost use Rattle.nt_join.specs.Readable.{Readable, ReadableTo, ReadableEach};
 
 use crate::leaves::{mark_before, put_end, put_flag, put_integer, put_part, put_tag};
 use crate::lists::put_lent;
+use crate::spans::span;
 use nt_column::Columns;
-use nt_join::reading::{begin, number, tag};
+use nt_join::reading::{number, tag};
 use nt_plans::{Plan, Plans};
 use std::alloc::{AllocError, Global};
 
-/// Appends a mark, and then the value of an element.
+/// Appends a mark, and then the value of an element; a number right here, where it is called.
+#[inline(always)]
 #[cycle(print)]
 fn put_value<C: Columns>(
     alloc: Global,
@@ -42,15 +44,13 @@ fn put_value<C: Columns>(
             Ok(())
         }
         Plan::Text { ends, bytes } => {
-            let from = begin(columns, *ends, i);
-            let to = number(columns, *ends, i);
+            let (from, to) = span(columns, *ends, i);
             put_part(alloc, columns, *bytes, from, to, mark, out)?;
             Ok(())
         }
         Plan::List { ends, of } => {
             out.push(mark)?;
-            let from = begin(columns, *ends, i);
-            let to = number(columns, *ends, i);
+            let (from, to) = span(columns, *ends, i);
             put_range(alloc, columns, of, from, to, out)?;
             Ok(())
         }
@@ -68,6 +68,7 @@ fn put_value<C: Columns>(
 }
 
 /// Appends the array of the values from one place to before another.
+#[inline(never)]
 #[cycle(print)]
 fn put_range<C: Columns>(
     alloc: Global,
@@ -126,6 +127,7 @@ pub fn put_each<C: Columns>(
 }
 
 /// Appends the tag and the value of an alternative, or what stands for none.
+#[inline(never)]
 #[cycle(print)]
 fn put_choice<C: Columns>(
     alloc: Global,

@@ -104,7 +104,7 @@ put_value-put_part-requires-clause-within g t c =
     let e = c.in-Text.ends in
     let b = c.in-Text.bytes in
     let r = readable-is _ (text e b) cols c.args.i (ap plan_view c.in-Text.is ∙ view-Text e b) c.requires in
-    omega (arith, c.number-to.ensures, text-within e b cols c.args.i r)
+    omega (arith, c.span-from.ensures.end, text-within e b cols c.args.i r)
 
 smaller : (e : ℕ) (p : Box Plan Global) → the_size p.value < the_size (ListPlan e p)
 smaller e p = search (rules, plan_lemmas)
@@ -118,10 +118,10 @@ put_value-put_range-requires g t c κs within =
     let r = items-readable k of cols c.args.i (readable-is _ (list k of) cols c.args.i is c.requires) in
     let e = ap the_size c.in-List.is in
     let d = ap the_size c.deref.ensures in
-    let order : c.begin-from-in-List.result ≤ c.number-to-in-List.result =
-    omega (arith, r.1, c.begin-from-in-List.ensures, c.number-to-in-List.ensures) in (
+    let order : c.span-from-in-List.result.0 ≤ c.span-from-in-List.result.1 =
+    omega (arith, r.1, c.span-from-in-List.ensures.begin, c.span-from-in-List.ensures.end) in (
       omega (arith, e, d, smaller k c.in-List.of),
-      (search (rules, within), (search rules, (order, subst (ReadableTo of cols) (sym c.number-to-in-List.ensures) r.0))),
+      (search (rules, within), (search rules, (order, subst (ReadableTo of cols) (sym c.span-from-in-List.ensures.end) r.0))),
     )
 
 -- what is readable of a choice in the code
@@ -213,12 +213,12 @@ put_value-returns-in_ok-put_part-in-Text-clause-ok g t c =
     let i = c.args.i in
     let e = c.in-Text.ends in
     let b = c.in-Text.bytes in
-    let to = c.number-to.result in
+    let to = c.span-from.result.1 in
     let begin = begin_at (cols e) i in
     c.in_ok-put_part-in-Text.ensures.ok
     ∙ ap (λ (u : TreeData). c.args.out.now.items ++ c.args.mark ∷ compact_text (data_of u))
-    (ap (λ n. text_tree (text_from (cols b) n (to - n))) c.begin-from.ensures
-    ∙ ap (λ n. text_tree (text_from (cols b) begin (n - begin))) c.number-to.ensures
+    (ap (λ n. text_tree (text_from (cols b) n (to - n))) c.span-from.ensures.begin
+    ∙ ap (λ n. text_tree (text_from (cols b) begin (n - begin))) c.span-from.ensures.end
     ∙ ap (λ p. tree_at p cols i) (sym (ap plan_view c.in-Text.is ∙ view-Text e b)))
 
 pub put_value-returns-in_ok-put_range-in-List-clause-ok : goal.put_value-returns-in_ok-put_range-in-List-clause-ok
@@ -227,14 +227,14 @@ put_value-returns-in_ok-put_range-in-List-clause-ok g t c =
     let i = c.args.i in
     let k = c.in-List.ends in
     let of = plan_view c.deref.result.now in
-    let to = c.number-to-in-List.result in
+    let to = c.span-from-in-List.result.1 in
     let begin = begin_at (cols k) i in
     let is = ap plan_view c.in-List.is ∙ view-List k c.in-List.of ∙ ap (λ p. list k (plan_view p)) (sym c.deref.ensures) in
     mark-put c.args.out.now.items _ _ c.args.mark
-    (items (trees_from (tree_at of cols) c.begin-from-in-List.result (to - c.begin-from-in-List.result))) _
+    (items (trees_from (tree_at of cols) c.span-from-in-List.result.0 (to - c.span-from-in-List.result.0))) _
     c.in_ok-push-in-List.ensures.items c.in_ok-put_range-in-List.ensures.ok
-    (ap (λ n. items (trees_from (tree_at of cols) n (to - n))) c.begin-from-in-List.ensures
-    ∙ ap (λ n. items (trees_from (tree_at of cols) begin (n - begin))) c.number-to-in-List.ensures
+    (ap (λ n. items (trees_from (tree_at of cols) n (to - n))) c.span-from-in-List.ensures.begin
+    ∙ ap (λ n. items (trees_from (tree_at of cols) begin (n - begin))) c.span-from-in-List.ensures.end
     ∙ ap (λ p. tree_at p cols i) (sym is))
 
 pub put_value-returns-in_ok-put_each-in-Record-clause-ok : goal.put_value-returns-in_ok-put_each-in-Record-clause-ok
