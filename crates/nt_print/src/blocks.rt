@@ -8,7 +8,7 @@ use crate::words::Word;
 use std::alloc::AllocError;
 
 /// The room of eight numbers.
-static BLOCK_ROOM: [u8; 64] = [0; 64];
+pub static BLOCK_ROOM: [u8; 64] = [0; 64];
 
 /// Writes numbers, a mark in front of the first, and commas, and says where they end.
 #[inline(always)]

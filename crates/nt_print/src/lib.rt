@@ -2,9 +2,9 @@
 //!
 //! Start at `write_entry`, which appends the line of one entry. It goes over any `Columns` by the plans
 //! of a schema's open fields, as nt_join does for trees; nothing here reads rows. Most values are the
-//! numbers of lists: `lists.rt` prints these from where their column lies, `marked.rt` one behind its
-//! mark, and `blocks.rt` eight of them at once. Most texts are of characters that stand for themselves:
-//! `short.rt` sees it while it writes a short one.
+//! numbers of lists: `lists.rt` prints these from where their column lies, `few.rt` those of a short
+//! list, `blocks.rt` eight of a longer one at once, and `marked.rt` any number. Most texts are of
+//! characters that stand for themselves: `short.rt` sees it while it writes a short one.
 //!
 //! Words: those of nt_trees and nt_event; a *line* is the JSON array of an entry, and its LF; a *mark* is
 //! the byte in front of a value: the bracket of its array, or a comma.
@@ -19,7 +19,8 @@
 //! - Numbers are printed as 64-bit integers, since no element is wider. A number of up to six digits and
 //!   its mark are one word, which is appended whole and cut to its digits; longer ones are written to
 //!   room that is appended, three digits at a time, and cut behind the last.
-//! - Of a list's numbers, eight of up to six digits are written to such room together.
+//! - Of a list's numbers, eight of up to six digits are written to such room together, and so is a whole
+//!   list of fewer.
 //! - A text of up to 29 bytes is written to such room, eight bytes at a time; the last eight may be there
 //!   already in part. A longer one is looked at first, and then appended.
 //! - Where the part of an element stands is one look at the column of its ends, where they lie together.
@@ -30,6 +31,7 @@
 mod blocks;
 mod digits;
 mod entry;
+mod few;
 mod leaves;
 mod lists;
 mod marked;

@@ -1,6 +1,6 @@
 //! Lists of numbers, printed from where they lie.
 
-ghost use Rattle.std.specs.Prelude.{◌≡◌, ◌≤◌, ◌<◌, ◌++◌, ℕ, length, map, take, pos, OnOk, IsTrue};
+ghost use Rattle.std.specs.Prelude.{◌≡◌, ◌≤◌, ◌<◌, ◌∷◌, ◌++◌, ℕ, length, map, take, pos, OnOk, IsTrue};
 ghost use Rattle.std.specs.List.{slice_range};
 ghost use Rattle.nt_column.specs.Elements.{numbers};
 ghost use Rattle.nt_column.specs.Words.{lent_elements};
@@ -8,8 +8,9 @@ ghost use Rattle.nt_event.specs.Json.{line_of};
 ghost use Rattle.nt_trees.specs.Integers.{integer_of};
 ghost use Rattle.nt_print.specs.Integers.{integer_trees, integers_text, AreBelow};
 
-use crate::blocks::put_block;
+use crate::blocks::{BLOCK_ROOM, put_block};
 use crate::digits::MILLION;
+use crate::few::place_array;
 use crate::leaves::{put_end, put_integer};
 use crate::words::Word;
 use nt_column::WordSlice;
@@ -86,8 +87,7 @@ fn put_eight<W: Word>(
 }
 
 /// Appends the array of the integers that words stand for.
-#[inline(never)]
-fn put_words<W: Word>(
+fn put_array<W: Word>(
     words: &[W],
     bits: u8,
     signed: bool,
@@ -108,8 +108,74 @@ fn put_words<W: Word>(
     Ok(())
 }
 
-/// Appends the array of the integers that the elements from one place to before another stand for.
+/// Appends a mark, and then the array of the integers that any words stand for.
+#[inline(never)]
+fn put_any<W: Word>(
+    mark: u8,
+    words: &[W],
+    bits: u8,
+    signed: bool,
+    out: &mut Vec<u8>,
+) -> Result<(), AllocError>
+    ensures ok { OnOk result (out.new.items ≡ out.old.items
+        ++ mark ∷ line_of (integer_trees bits signed (map W.number words.now))) }
+    ensures kept { take (length out.old.items) out.new.items ≡ out.old.items }
+{
+    out.push(mark)?;
+    put_array(words, bits, signed, out)?;
+    Ok(())
+}
+
+/// Appends a mark, and then the array of the integers that a few words stand for.
+#[inline(always)]
+fn put_few<W: Word>(
+    mark: u8,
+    words: &[W],
+    bits: u8,
+    signed: bool,
+    out: &mut Vec<u8>,
+) -> Result<(), AllocError>
+    requires { length words.now < 8 }
+    ensures ok { OnOk result (out.new.items ≡ out.old.items
+        ++ mark ∷ line_of (integer_trees bits signed (map W.number words.now))) }
+    ensures kept { take (length out.old.items) out.new.items ≡ out.old.items }
+{
+    let end = short_end(bits, signed);
+    let len = out.len();
+    out.extend_from_slice(&BLOCK_ROOM)?;
+    let count = place_array(mark, words, end, &mut out[len..]);
+    out.truncate(len + count);
+    if count == 0 {
+        return put_any(mark, words, bits, signed, out);
+    }
+    Ok(())
+}
+
+/// Appends a mark, and then the array of the integers that words stand for.
+#[inline(never)]
+fn put_words<W: Word>(
+    mark: u8,
+    words: &[W],
+    bits: u8,
+    signed: bool,
+    out: &mut Vec<u8>,
+) -> Result<(), AllocError>
+    ensures ok { OnOk result (out.new.items ≡ out.old.items
+        ++ mark ∷ line_of (integer_trees bits signed (map W.number words.now))) }
+    ensures kept { take (length out.old.items) out.new.items ≡ out.old.items }
+{
+    if words.len() < 8 {
+        put_few(mark, words, bits, signed, out)
+    } else {
+        put_any(mark, words, bits, signed, out)
+    }
+}
+
+/// Appends a mark, and then the array of the integers that the elements from one place to before another
+/// stand for.
+#[inline(always)]
 pub fn put_lent(
+    mark: u8,
     words: WordSlice<'_>,
     bits: u8,
     signed: bool,
@@ -119,15 +185,15 @@ pub fn put_lent(
 ) -> Result<(), AllocError>
     requires order { from ≤ to }
     requires within { to ≤ length (lent_elements words) }
-    ensures ok { OnOk result (out.new.items ≡ out.old.items ++ line_of
+    ensures ok { OnOk result (out.new.items ≡ out.old.items ++ mark ∷ line_of
         (integer_trees bits signed (numbers (slice_range (lent_elements words.entry) from to)))) }
     ensures kept { take (length out.old.items) out.new.items ≡ out.old.items }
 {
     match words {
-        WordSlice::Bits(list) => put_words(&list[from..to], bits, signed, out),
-        WordSlice::Bytes(list) => put_words(&list[from..to], bits, signed, out),
-        WordSlice::Words16(list) => put_words(&list[from..to], bits, signed, out),
-        WordSlice::Words32(list) => put_words(&list[from..to], bits, signed, out),
-        WordSlice::Words64(list) => put_words(&list[from..to], bits, signed, out),
+        WordSlice::Bits(list) => put_words(mark, &list[from..to], bits, signed, out),
+        WordSlice::Bytes(list) => put_words(mark, &list[from..to], bits, signed, out),
+        WordSlice::Words16(list) => put_words(mark, &list[from..to], bits, signed, out),
+        WordSlice::Words32(list) => put_words(mark, &list[from..to], bits, signed, out),
+        WordSlice::Words64(list) => put_words(mark, &list[from..to], bits, signed, out),
     }
 }

@@ -49,9 +49,8 @@ fn put_value<C: Columns>(
             Ok(())
         }
         Plan::List { ends, of } => {
-            out.push(mark)?;
             let (from, to) = span(columns, *ends, i);
-            put_range(alloc, columns, of, from, to, out)?;
+            put_range(alloc, columns, of, from, to, mark, out)?;
             Ok(())
         }
         Plan::Record(parts) => {
@@ -67,7 +66,7 @@ fn put_value<C: Columns>(
     }
 }
 
-/// Appends the array of the values from one place to before another.
+/// Appends a mark, and then the array of the values from one place to before another.
 #[inline(never)]
 #[cycle(print)]
 fn put_range<C: Columns>(
@@ -76,11 +75,12 @@ fn put_range<C: Columns>(
     of: &Plan,
     from: u64,
     to: u64,
+    mark: u8,
     out: &mut Vec<u8>,
 ) -> Result<(), AllocError>
     requires order { from ≤ to }
     requires readable { ReadableTo (plan_view of.now) (C.Columns.elements columns.now) to }
-    ensures ok { OnOk result (out.new.items ≡ out.old.items ++ line_of
+    ensures ok { OnOk result (out.new.items ≡ out.old.items ++ mark ∷ line_of
         (trees_from (tree_at (plan_view of.now) (C.Columns.elements columns.now)) from (to - from))) }
     ensures kept { take (length out.old.items) out.new.items ≡ out.old.items }
 {
@@ -91,9 +91,10 @@ fn put_range<C: Columns>(
     } = of
     {
         if let Some(words) = columns.words(*column) {
-            return put_lent(words, *bits, *signed, from as usize, to as usize, out);
+            return put_lent(mark, words, *bits, *signed, from as usize, to as usize, out);
         }
     }
+    out.push(mark)?;
     let mut later = false;
     for i in from..to {
         put_value(alloc, columns, of, i, mark_before(later), out)?;

@@ -1,4 +1,4 @@
-use Rattle.std.proofs.Common.{◌≡◌, ◌++◌, ◌∙◌, ℕ, List, ap, sym, subst}
+use Rattle.std.proofs.Common.{◌≡◌, ◌∷◌, ◌++◌, ◌∙◌, ℕ, List, ap, sym, subst}
 use Rattle.std.specs.Prelude.{OnOk}
 use Rattle.std.specs.List.{slice_range}
 use Rattle.nt_column.specs.Bits.{bit_of}
@@ -15,7 +15,7 @@ returns-in-Bits-clause-ok c =
     let same = numbers-part bit_of c.in-Bits.list.now c.args.from c.args.to
     ∙ ap (λ w. numbers (slice_range (lent_elements w) c.args.from c.args.to)) (sym c.in-Bits.is) in
     subst (λ (ns : List ℕ). OnOk put.result
-    (put.new.out.items ≡ c.args.out.now.items ++ line_of (integer_trees c.args.bits c.args.signed ns))) same put.ensures.ok
+    (put.new.out.items ≡ c.args.out.now.items ++ c.args.mark ∷ line_of (integer_trees c.args.bits c.args.signed ns))) same put.ensures.ok
 
 pub returns-in-Bytes-clause-ok : goal.returns-in-Bytes-clause-ok
 returns-in-Bytes-clause-ok c =
@@ -23,7 +23,7 @@ returns-in-Bytes-clause-ok c =
     let same = numbers-part (λ (n : ℕ). n) c.in-Bytes.list.now c.args.from c.args.to
     ∙ ap (λ w. numbers (slice_range (lent_elements w) c.args.from c.args.to)) (sym c.in-Bytes.is) in
     subst (λ (ns : List ℕ). OnOk put.result
-    (put.new.out.items ≡ c.args.out.now.items ++ line_of (integer_trees c.args.bits c.args.signed ns))) same put.ensures.ok
+    (put.new.out.items ≡ c.args.out.now.items ++ c.args.mark ∷ line_of (integer_trees c.args.bits c.args.signed ns))) same put.ensures.ok
 
 pub returns-in-Words16-clause-ok : goal.returns-in-Words16-clause-ok
 returns-in-Words16-clause-ok c =
@@ -31,7 +31,7 @@ returns-in-Words16-clause-ok c =
     let same = numbers-part (λ (n : ℕ). n) c.in-Words16.list.now c.args.from c.args.to
     ∙ ap (λ w. numbers (slice_range (lent_elements w) c.args.from c.args.to)) (sym c.in-Words16.is) in
     subst (λ (ns : List ℕ). OnOk put.result
-    (put.new.out.items ≡ c.args.out.now.items ++ line_of (integer_trees c.args.bits c.args.signed ns))) same put.ensures.ok
+    (put.new.out.items ≡ c.args.out.now.items ++ c.args.mark ∷ line_of (integer_trees c.args.bits c.args.signed ns))) same put.ensures.ok
 
 pub returns-in-Words32-clause-ok : goal.returns-in-Words32-clause-ok
 returns-in-Words32-clause-ok c =
@@ -39,7 +39,7 @@ returns-in-Words32-clause-ok c =
     let same = numbers-part (λ (n : ℕ). n) c.in-Words32.list.now c.args.from c.args.to
     ∙ ap (λ w. numbers (slice_range (lent_elements w) c.args.from c.args.to)) (sym c.in-Words32.is) in
     subst (λ (ns : List ℕ). OnOk put.result
-    (put.new.out.items ≡ c.args.out.now.items ++ line_of (integer_trees c.args.bits c.args.signed ns))) same put.ensures.ok
+    (put.new.out.items ≡ c.args.out.now.items ++ c.args.mark ∷ line_of (integer_trees c.args.bits c.args.signed ns))) same put.ensures.ok
 
 pub returns-in-Words64-clause-ok : goal.returns-in-Words64-clause-ok
 returns-in-Words64-clause-ok c =
@@ -47,4 +47,4 @@ returns-in-Words64-clause-ok c =
     let same = numbers-part (λ (n : ℕ). n) c.in-Words64.list.now c.args.from c.args.to
     ∙ ap (λ w. numbers (slice_range (lent_elements w) c.args.from c.args.to)) (sym c.in-Words64.is) in
     subst (λ (ns : List ℕ). OnOk put.result
-    (put.new.out.items ≡ c.args.out.now.items ++ line_of (integer_trees c.args.bits c.args.signed ns))) same put.ensures.ok
+    (put.new.out.items ≡ c.args.out.now.items ++ c.args.mark ∷ line_of (integer_trees c.args.bits c.args.signed ns))) same put.ensures.ok

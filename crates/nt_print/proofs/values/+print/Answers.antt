@@ -1,5 +1,5 @@
 use Rattle.std.proofs.Common.{rules, ◌==◌, ◌≡◌, ◌<◌, ◌≤◌, ◌-◌, ◌+◌, ℕ, ◌∷◌, ◌++◌, map, length, drop, get_or, sym, ap, ◌∙◌, subst}
-use Rattle.std.proofs.Common.{arith, Box, Global}
+use Rattle.std.proofs.Common.{arith, Box, Global, List, [], false, refl, append_assoc}
 use Rattle.std.proofs.lemmas.List.{drop_more, drop_all, length-map}
 use Rattle.std.specs.Prelude.{OnOk}
 use Rattle.nt_column.specs.Words.{lent_elements}
@@ -19,7 +19,7 @@ use Rattle.nt_trees.specs.TreeAt.{tree_at, each_at, trees_from, text_from}
 use Rattle.nt_join.specs.Readable.{Readable, ReadableTo, ReadableEach}
 use Rattle.nt_join.proofs.Plans.{plans_view-list}
 use Rattle.nt_join.proofs.Reach.{of_tag-at, readable-is, text-within, items-readable, tag-among, picked-readable, tree_at-picked}
-use Rattle.nt_print.proofs.Arrays.{pick-put, IsBegun-none, IsBegun-next, IsBegun-end, kept-kept, mark-put, trees_from-first}
+use Rattle.nt_print.proofs.Arrays.{IsBegun, pick-put, IsBegun-none, IsBegun-next, IsBegun-end, kept-kept, mark-put, trees_from-first}
 use Rattle.nt_print.proofs.Arrays.{trees_from-none}
 use Rattle.nt_print.proofs.Places.{lent-within, lent-trees}
 use Rattle.nt_print.proofs.values.+print.Goals as goal
@@ -32,12 +32,16 @@ put_range-returns-in-Some-clause-ok g t c =
     let is = ap plan_view n.is ∙ view-Number n.column n.bits n.signed in
     let within = lent-within (plan_view c.args.of.now) cols n.column n.bits n.signed es c.args.to is c.in-Some.ensures.words
     c.requires.readable in
-    subst (λ (ts : TreesData). OnOk c.put_lent.result (c.put_lent.new.out.items ≡ c.args.out.now.items ++ line_of ts))
+    subst (λ (ts : TreesData). OnOk c.put_lent.result (c.put_lent.new.out.items ≡ c.args.out.now.items ++ c.args.mark ∷ line_of ts))
     (lent-trees (plan_view c.args.of.now) cols n.column n.bits n.signed es c.args.from c.args.to is c.in-Some.ensures.words
     c.requires.order within) c.put_lent.ensures.ok
 
 pub put_range-loop-i-init : goal.put_range-loop-i-init
-put_range-loop-i-init g t c = IsBegun-none _ _
+put_range-loop-i-init g t c =
+    let f = tree_at (plan_view c.args.of.now) (g.C.Columns.elements c.args.columns.now) in
+    let old = c.args.out.now.items ++ c.args.mark ∷ [] in
+    let all = trees_from f c.args.from (c.args.to - c.args.from) in
+    subst (λ (o : List ℕ). IsBegun old o false all all) (sym c.in_ok-push.ensures.items) (IsBegun-none old all)
 
 pub put_range-loop-i-preserved : goal.put_range-loop-i-preserved
 put_range-loop-i-preserved g t c =
@@ -49,17 +53,20 @@ put_range-loop-i-preserved g t c =
 
 pub put_range-returns-in_err-put_value-clause-kept : goal.put_range-returns-in_err-put_value-clause-kept
 put_range-returns-in_err-put_value-clause-kept g t c =
-    kept-kept _ c.loop-i.out.items c.put_value.new.out.items c.loop-i.invariant.kept c.put_value.ensures.kept
+    kept-on c.args.out.now.items _ c.put_value.new.out.items (c.args.mark ∷ []) refl
+    (kept-kept _ c.loop-i.out.items c.put_value.new.out.items c.loop-i.invariant.kept c.put_value.ensures.kept)
 
 pub put_range-returns-in_err-put_end-clause-kept : goal.put_range-returns-in_err-put_end-clause-kept
 put_range-returns-in_err-put_end-clause-kept g t c =
-    kept-kept _ c.loop-i.out.items c.put_end.new.out.items c.loop-i.invariant.kept c.put_end.ensures.kept
+    kept-on c.args.out.now.items _ c.put_end.new.out.items (c.args.mark ∷ []) refl
+    (kept-kept _ c.loop-i.out.items c.put_end.new.out.items c.loop-i.invariant.kept c.put_end.ensures.kept)
 
 pub put_range-returns-clause-ok : goal.put_range-returns-clause-ok
 put_range-returns-clause-ok g t c =
     let f = tree_at (plan_view c.args.of.now) (g.C.Columns.elements c.args.columns.now) in
     IsBegun-end _ c.loop-i.out.items _ c.loop-i.later _ _ (trees_from-none f c.loop-i.i c.args.to (omega (arith, c.loop-i-test.false)))
     c.loop-i.invariant c.in_ok-put_end.ensures.ok
+    ∙ append_assoc c.args.out.now.items (c.args.mark ∷ []) _
 
 pub put_each-loop-part-init : goal.put_each-loop-part-init
 put_each-loop-part-init g t c = record { readable = c.requires; begun = IsBegun-none _ _ }
@@ -230,9 +237,8 @@ put_value-returns-in_ok-put_range-in-List-clause-ok g t c =
     let to = c.span-from-in-List.result.1 in
     let begin = begin_at (cols k) i in
     let is = ap plan_view c.in-List.is ∙ view-List k c.in-List.of ∙ ap (λ p. list k (plan_view p)) (sym c.deref.ensures) in
-    mark-put c.args.out.now.items _ _ c.args.mark
-    (items (trees_from (tree_at of cols) c.span-from-in-List.result.0 (to - c.span-from-in-List.result.0))) _
-    c.in_ok-push-in-List.ensures.items c.in_ok-put_range-in-List.ensures.ok
+    c.in_ok-put_range-in-List.ensures.ok
+    ∙ ap (λ (u : TreeData). c.args.out.now.items ++ c.args.mark ∷ compact_text (data_of u))
     (ap (λ n. items (trees_from (tree_at of cols) n (to - n))) c.span-from-in-List.ensures.begin
     ∙ ap (λ n. items (trees_from (tree_at of cols) begin (n - begin))) c.span-from-in-List.ensures.end
     ∙ ap (λ p. tree_at p cols i) (sym is))
@@ -257,11 +263,6 @@ put_value-returns-in_ok-put_choice-in-Choice-clause-ok g t c =
     mark-put c.args.out.now.items _ _ c.args.mark (tree_at (choice k (plans_of (plans_view ps))) cols i) _
     c.in_ok-push-in-Choice.ensures.items c.in_ok-put_choice-in-Choice.ensures.ok
     (ap (λ p. tree_at p cols i) (sym (ap plan_view c.in-Choice.is ∙ view-Choice k ps)))
-
-pub put_value-returns-in_err-put_range-in-List-clause-kept : goal.put_value-returns-in_err-put_range-in-List-clause-kept
-put_value-returns-in_err-put_range-in-List-clause-kept g t c =
-    kept-on c.args.out.now.items _ _ _
-    c.in_ok-push-in-List.ensures.items c.put_range.ensures.kept
 
 pub put_value-returns-in_err-put_choice-in-Choice-clause-kept : goal.put_value-returns-in_err-put_choice-in-Choice-clause-kept
 put_value-returns-in_err-put_choice-in-Choice-clause-kept g t c =

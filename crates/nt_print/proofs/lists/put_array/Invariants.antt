@@ -2,7 +2,7 @@ use Rattle.std.proofs.Common.{◌*◌, ◌≤◌, map, drop}
 use Rattle.nt_trees.specs.Integers.{integer_of}
 use Rattle.nt_print.specs.Integers.{integers_text}
 use Rattle.nt_print.proofs.Parts.{IsPut}
-use Rattle.nt_print.proofs.lists.put_words.Given as goal
+use Rattle.nt_print.proofs.lists.put_array.Given as goal
 
 abbrev pub invariant-loop-i : goal.invariant-loop-i
 invariant-loop-i g l = record {

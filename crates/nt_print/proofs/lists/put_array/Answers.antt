@@ -3,7 +3,7 @@ use Rattle.std.proofs.lemmas.List.{take_rest, length-map}
 use Rattle.nt_trees.specs.Integers.{integer_of}
 use Rattle.nt_print.proofs.Arrays.{kept-kept}
 use Rattle.nt_print.proofs.Parts.{IsPut-none, IsPut-part, IsPut-end, eight-more, eight-some, line-ended}
-use Rattle.nt_print.proofs.lists.put_words.Goals as goal
+use Rattle.nt_print.proofs.lists.put_array.Goals as goal
 
 pub loop-i-init : goal.loop-i-init
 loop-i-init g c = record { reached = omega arith; put = IsPut-none _ _ _ }
