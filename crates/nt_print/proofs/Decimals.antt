@@ -121,48 +121,6 @@ small-digits m a b c n w none pm (pa, (pb, (pc, _))) number word units tens hund
           ]
     ]
 
--- of six digits, those from the first on that isn't zero
-short-digits : (m a b c d e f n w none : ℕ) → m < 256 → AreDigits (a ∷ b ∷ c ∷ d ∷ e ∷ f ∷ [])
-    → n ≡ spelled a (b ∷ c ∷ d ∷ e ∷ f ∷ []) → 1000 ≤ n
-    → w ≡ bytes_word ((48 + a) ∷ (48 + b) ∷ (48 + c) ∷ (48 + d) ∷ (48 + e) ∷ (48 + f) ∷ 32 ∷ [])
-    → (n / 1000 < 10 → none ≡ 2) → (10 ≤ n / 1000 → n / 1000 < 100 → none ≡ 1) → (100 ≤ n / 1000 → none ≡ 0)
-    → kept_text w m none (7 - none) ≡ m ∷ decimal n
-short-digits m a b c d e f n w none pm (pa, (pb, (pc, (pd, (pe, (pf, _)))))) number large word units tens hundreds =
-    let fits : n < 2 ^ 64 = omega (arith, number, pa, pb, pc, pd, pe, pf) in
-    let front : n / 1000 ≡ (a * 10 + b) * 10 + c = omega (arith, number, pd, pe, pf) in
-    let ba : 48 + a < 256 = omega (arith, pa) in
-    let bb : 48 + b < 256 = omega (arith, pb) in
-    let bc : 48 + c < 256 = omega (arith, pc) in
-    let bd : 48 + d < 256 = omega (arith, pd) in
-    let be : 48 + e < 256 = omega (arith, pe) in
-    let bf : 48 + f < 256 = omega (arith, pf) in
-    let blank : 32 < 256 = omega arith in
-    let nil : 0 < 256 = omega arith in
-    elim (eq-zero-or-pos a) [
-      | inr g ↦
-          kept-at w m none 0 (λ k. 7 - k) _ (hundreds (omega (arith, front, g)))
-          (ap (take 7) (marked-bytes m (w / 2 ^ (8 * 0)) (48 + a) (48 + b) (48 + c) (48 + d) (48 + e) (48 + f) 32 pm ba bb bc bd be bf blank
-          (omega (arith, word)))
-          ∙ ap (λ l. m ∷ l)
-          (sym (decimal-first a (b ∷ c ∷ d ∷ e ∷ f ∷ []) n g (pa, (pb, (pc, (pd, (pe, (pf, tt)))))) number fits)))
-      | inl za ↦
-          elim (eq-zero-or-pos b) [
-            | inr g ↦
-                kept-at w m none 1 (λ k. 7 - k) _ (tens (omega (arith, front, g)) (omega (arith, front, za, pb, pc)))
-                (ap (take 6) (marked-bytes m (w / 2 ^ (8 * 1)) (48 + b) (48 + c) (48 + d) (48 + e) (48 + f) 32 0 pm bb bc bd be bf blank nil
-                (omega (arith, word, pa)))
-                ∙ ap (λ l. m ∷ l)
-                (sym (decimal-first b (c ∷ d ∷ e ∷ f ∷ []) n g (pb, (pc, (pd, (pe, (pf, tt))))) (omega (arith, number, za)) fits)))
-            | inl zb ↦
-                let some : 0 < c = omega (arith, front, large, za, zb) in
-                kept-at w m none 2 (λ k. 7 - k) _ (units (omega (arith, front, za, zb, pc)))
-                (ap (take 5) (marked-bytes m (w / 2 ^ (8 * 2)) (48 + c) (48 + d) (48 + e) (48 + f) 32 0 0 pm bc bd be bf blank nil nil
-                (omega (arith, word, pa, pb)))
-                ∙ ap (λ l. m ∷ l)
-                (sym (decimal-first c (d ∷ e ∷ f ∷ []) n some (pc, (pd, (pe, (pf, tt)))) (omega (arith, number, za, zb)) fits)))
-          ]
-    ]
-
 -- the digits of a number below a million
 abbrev six_digits : ℕ → List ℕ
 six_digits n =
@@ -181,17 +139,6 @@ pub small-text : (m n w none : ℕ) → m < 256 → n < 1000 → w ≡ digit_byt
 small-text m n w none pm lt is units tens hundreds =
     small-digits m (n / 10 / 10 % 10) (n / 10 % 10) (n % 10) n w none pm (omega arith, (omega arith, (omega arith, tt)))
     (omega (arith, lt)) (omega (arith, is)) units tens hundreds
-
-pub short-text : (m n w v none : ℕ) → m < 256 → 1000 ≤ n → n < 1000000 → w ≡ digit_bytes 3 (n / 1000) + 540028976
-    → v ≡ digit_bytes 3 (n % 1000) + 540028976
-    → (n / 1000 < 10 → none ≡ 2) → (10 ≤ n / 1000 → n / 1000 < 100 → none ≡ 1) → (100 ≤ n / 1000 → none ≡ 0)
-    → take (7 - none) (to_le_bytes w64 ((w + (v - 32) * 16777216) / 2 ^ (8 * none) * 256 + m)) ≡ m ∷ decimal n
-short-text m n w v none pm large lt front last units tens hundreds =
-    let q = n / 1000 in
-    let r = n % 1000 in
-    short-digits m (q / 10 / 10 % 10) (q / 10 % 10) (q % 10) (r / 10 / 10 % 10) (r / 10 % 10) (r % 10) n (w + (v - 32) * 16777216) none pm
-    (omega arith, (omega arith, (omega arith, (omega arith, (omega arith, (omega arith, tt)))))) (omega (arith, lt)) large
-    (omega (arith, front, last)) units tens hundreds
 
 -- ---- more digits behind others, three or six at a time
 

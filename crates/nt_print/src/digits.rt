@@ -36,33 +36,3 @@ pub fn small_word(mark: u8, n: u32) -> (u64, usize)
     let text = (triple(n) >> (8 * none)) * 256 + u64::from(mark);
     (text, 4 - none as usize)
 }
-
-/// The same of a number of four to six digits.
-#[inline(always)]
-fn short_word(mark: u8, n: u32) -> (u64, usize)
-    requires large { 1000 ≤ n }
-    requires small { n < 1000000 }
-    ensures text { take result.1 (to_le_bytes w64 result.0) ≡ mark ∷ decimal n }
-    ensures few { result.1 ≤ 7 }
-{
-    let front = n / 1000;
-    let none = zeros_before(front);
-    // The last digits stand in place of the blank.
-    let digits = triple(front) + (triple(n % 1000) - 0x20) * 0x100_0000;
-    let text = (digits >> (8 * none)) * 256 + u64::from(mark);
-    (text, 7 - none as usize)
-}
-
-/// A mark and the digits of a number below a million as the lowest bytes of a word, and how many bytes they are.
-#[inline(always)]
-pub fn short_text(mark: u8, n: u32) -> (u64, usize)
-    requires { n < 1000000 }
-    ensures text { take result.1 (to_le_bytes w64 result.0) ≡ mark ∷ decimal n }
-    ensures few { result.1 ≤ 7 }
-{
-    if n < 1000 {
-        small_word(mark, n)
-    } else {
-        short_word(mark, n)
-    }
-}

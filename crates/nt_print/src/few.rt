@@ -51,3 +51,29 @@ pub fn place_array<W: Word>(mark: u8, words: &[W], end: u64, room: &mut [u8]) ->
     }
     place_end(words.len() > 0, at, room)
 }
+
+/// Writes a few numbers that are below another, a mark in front of the first, and commas, and says where
+/// they end; 0 where one of them isn't.
+#[inline(always)]
+pub fn place_below<W: Word>(mark: u8, words: &[W], end: u64, room: &mut [u8]) -> usize
+    requires short { end ≤ 1000000 }
+    requires few { length words.now < 8 }
+    requires room { 64 ≤ length room.old }
+    ensures below { 0 < result → AreBelow end (map W.number words.now) }
+    ensures text { 0 < result → take result room.new ≡ integers_text mark
+        (map pos (map W.number words.now)) }
+    ensures few { result ≤ 64 }
+    ensures len { length room.new ≡ length room.old }
+{
+    let mut next = mark;
+    let mut at = 0;
+    for word in words {
+        let number = word.number();
+        if number >= end {
+            return 0;
+        }
+        at = place_short(next, number as u32, at, room);
+        next = b',';
+    }
+    at
+}

@@ -78,7 +78,7 @@ fn signed_of(element: u64, bits: u8) -> i64
 }
 
 /// Appends a mark, and then the integer that an element of this width and sign stands for.
-#[inline]
+#[inline(always)]
 pub fn put_integer(
     mark: u8,
     element: u64,

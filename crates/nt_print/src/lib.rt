@@ -16,11 +16,10 @@
 //! where it lies; one that is not UTF-8 is first written as hex.
 //!
 //! Choices that bind nobody else:
-//! - Numbers are printed as 64-bit integers, since no element is wider. A number of up to six digits and
-//!   its mark are one word, which is appended whole and cut to its digits; longer ones are written to
-//!   room that is appended, three digits at a time, and cut behind the last.
-//! - Of a list's numbers, eight of up to six digits are written to such room together, and so is a whole
-//!   list of fewer.
+//! - Numbers are printed as 64-bit integers, since no element is wider. Room for the longest and its mark
+//!   is appended, written to three digits at a time, and cut behind the last.
+//! - Of a list's numbers, eight of up to six digits share such room, and so do the last few; a whole list
+//!   of fewer shares it with its mark and brackets.
 //! - A text of up to 29 bytes is written to such room, eight bytes at a time; the last eight may be there
 //!   already in part. A longer one is looked at first, and then appended.
 //! - Where the part of an element stands is one look at the column of its ends, where they lie together.

@@ -10,7 +10,7 @@ ghost use Rattle.nt_print.specs.Integers.{integer_trees, integers_text, AreBelow
 
 use crate::blocks::{BLOCK_ROOM, put_block};
 use crate::digits::MILLION;
-use crate::few::place_array;
+use crate::few::{place_array, place_below};
 use crate::leaves::{put_end, put_integer};
 use crate::words::Word;
 use nt_column::WordSlice;
@@ -64,6 +64,36 @@ fn put_some<W: Word>(
     Ok(())
 }
 
+/// Appends the integers that a few words stand for, a mark in front of the first, and commas: in room
+/// for all of them, where it isn't known that they don't fit there.
+#[inline(always)]
+fn put_rest<W: Word>(
+    long: bool,
+    mark: u8,
+    words: &[W],
+    bits: u8,
+    signed: bool,
+    out: &mut Vec<u8>,
+) -> Result<(), AllocError>
+    requires { length words.now < 8 }
+    ensures ok { OnOk result (out.new.items ≡ out.old.items
+        ++ integers_text mark (map (integer_of bits signed) (map W.number words.now))) }
+    ensures kept { take (length out.old.items) out.new.items ≡ out.old.items }
+{
+    if long {
+        return put_some(mark, words, bits, signed, out);
+    }
+    let end = short_end(bits, signed);
+    let len = out.len();
+    out.extend_from_slice(&BLOCK_ROOM)?;
+    let count = place_below(mark, words, end, &mut out[len..]);
+    out.truncate(len + count);
+    if count == 0 {
+        return put_some(mark, words, bits, signed, out);
+    }
+    Ok(())
+}
+
 /// Appends the integers that eight words stand for, a mark in front of the first, and commas.
 #[inline(always)]
 fn put_eight<W: Word>(
@@ -103,7 +133,7 @@ fn put_array<W: Word>(
         put_eight(mark, &words[8 * i..8 * i + 8], bits, signed, out)?;
         mark = b',';
     }
-    put_some(mark, &words[8 * blocks..], bits, signed, out)?;
+    put_rest(blocks == 0, mark, &words[8 * blocks..], bits, signed, out)?;
     put_end(words.len() > 0, out)?;
     Ok(())
 }

@@ -1,36 +1,11 @@
-//! Numbers of any size behind a mark: short ones as a word that is cut to its digits, longer ones in
-//! room that is appended, written to six digits at a time, and cut.
+//! Numbers of any size behind a mark: room for the longest is appended, written to six digits at a time,
+//! and cut.
 
 ghost use Rattle.std.specs.Prelude.{◌≡◌, ◌<◌, ◌≤◌, ◌+◌, ◌∷◌, ◌++◌, length, take, decimal, OnOk};
-ghost use Rattle.std.specs.Int.{to_le_bytes, w64};
 
-use crate::digits::{MILLION, short_text};
+use crate::digits::MILLION;
 use crate::room::{ROOM, place_short, place_six};
 use std::alloc::AllocError;
-
-/// Appends the lowest bytes of a word.
-#[inline(always)]
-fn put_bytes(word: u64, count: usize, out: &mut Vec<u8>) -> Result<(), AllocError>
-    requires { count ≤ 8 }
-    ensures ok { OnOk result (out.new.items ≡ out.old.items ++ take count (to_le_bytes w64 word)) }
-    ensures kept { take (length out.old.items) out.new.items ≡ out.old.items }
-{
-    let len = out.len();
-    out.extend_from_slice(&word.to_le_bytes())?;
-    out.truncate(len + count);
-    Ok(())
-}
-
-/// Appends a mark, and then a number below a million.
-#[inline(always)]
-fn put_short(mark: u8, n: u32, out: &mut Vec<u8>) -> Result<(), AllocError>
-    requires { n < 1000000 }
-    ensures ok { OnOk result (out.new.items ≡ out.old.items ++ mark ∷ decimal n) }
-    ensures kept { take (length out.old.items) out.new.items ≡ out.old.items }
-{
-    let (word, count) = short_text(mark, n);
-    put_bytes(word, count, out)
-}
 
 /// Writes a mark and a number of 7 to 12 digits, and says where they end.
 #[inline(always)]
@@ -73,16 +48,17 @@ fn place_twenty(mark: u8, n: u64, room: &mut [u8]) -> usize
     place_six((n % MILLION) as u32, at, room)
 }
 
-/// Writes a mark and a number of at least seven digits, and says where they end.
+/// Writes a mark and a number, and says where they end.
 #[inline(always)]
-fn place_long(mark: u8, n: u64, room: &mut [u8]) -> usize
-    requires large { 1000000 ≤ n }
-    requires room { 32 ≤ length room.old }
+fn place_digits(mark: u8, n: u64, room: &mut [u8]) -> usize
+    requires { 32 ≤ length room.old }
     ensures text { take result room.new ≡ mark ∷ decimal n }
     ensures few { result ≤ 25 }
     ensures len { length room.new ≡ length room.old }
 {
-    if n < MILLION * MILLION {
+    if n < MILLION {
+        place_short(mark, n as u32, 0, room)
+    } else if n < MILLION * MILLION {
         place_twelve(mark, n, room)
     } else if n < MILLION * MILLION * MILLION {
         place_eighteen(mark, n, room)
@@ -91,29 +67,15 @@ fn place_long(mark: u8, n: u64, room: &mut [u8]) -> usize
     }
 }
 
-/// Appends a mark, and then a number of at least seven digits.
+/// Appends a mark, and then a number.
 #[inline(never)]
-fn put_long(mark: u8, n: u64, out: &mut Vec<u8>) -> Result<(), AllocError>
-    requires { 1000000 ≤ n }
+pub fn put_digits(mark: u8, n: u64, out: &mut Vec<u8>) -> Result<(), AllocError>
     ensures ok { OnOk result (out.new.items ≡ out.old.items ++ mark ∷ decimal n) }
     ensures kept { take (length out.old.items) out.new.items ≡ out.old.items }
 {
     let len = out.len();
     out.extend_from_slice(&ROOM)?;
-    let count = place_long(mark, n, &mut out[len..]);
+    let count = place_digits(mark, n, &mut out[len..]);
     out.truncate(len + count);
     Ok(())
-}
-
-/// Appends a mark, and then a number.
-#[inline(always)]
-pub fn put_digits(mark: u8, n: u64, out: &mut Vec<u8>) -> Result<(), AllocError>
-    ensures ok { OnOk result (out.new.items ≡ out.old.items ++ mark ∷ decimal n) }
-    ensures kept { take (length out.old.items) out.new.items ≡ out.old.items }
-{
-    if n < MILLION {
-        put_short(mark, n as u32, out)
-    } else {
-        put_long(mark, n, out)
-    }
 }

@@ -94,6 +94,27 @@ fn put_range<C: Columns>(
             return put_lent(mark, words, *bits, *signed, from as usize, to as usize, out);
         }
     }
+    put_items(alloc, columns, of, from, to, mark, out)
+}
+
+/// The same, an element at a time.
+#[inline(never)]
+#[cycle(print)]
+fn put_items<C: Columns>(
+    alloc: Global,
+    columns: &C,
+    of: &Plan,
+    from: u64,
+    to: u64,
+    mark: u8,
+    out: &mut Vec<u8>,
+) -> Result<(), AllocError>
+    requires order { from ≤ to }
+    requires readable { ReadableTo (plan_view of.now) (C.Columns.elements columns.now) to }
+    ensures ok { OnOk result (out.new.items ≡ out.old.items ++ mark ∷ line_of
+        (trees_from (tree_at (plan_view of.now) (C.Columns.elements columns.now)) from (to - from))) }
+    ensures kept { take (length out.old.items) out.new.items ≡ out.old.items }
+{
     out.push(mark)?;
     let mut later = false;
     for i in from..to {

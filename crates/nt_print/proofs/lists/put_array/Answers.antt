@@ -24,14 +24,14 @@ pub returns-in_err-put_eight-clause-kept : goal.returns-in_err-put_eight-clause-
 returns-in_err-put_eight-clause-kept g c =
     kept-kept _ c.loop-i.out.items c.put_eight.new.out.items c.loop-i.invariant.put.kept c.put_eight.ensures.kept
 
-pub returns-in_err-put_some-clause-kept : goal.returns-in_err-put_some-clause-kept
-returns-in_err-put_some-clause-kept g c =
-    kept-kept _ c.loop-i.out.items c.put_some.new.out.items c.loop-i.invariant.put.kept c.put_some.ensures.kept
+pub returns-in_err-put_rest-clause-kept : goal.returns-in_err-put_rest-clause-kept
+returns-in_err-put_rest-clause-kept g c =
+    kept-kept _ c.loop-i.out.items c.put_rest.new.out.items c.loop-i.invariant.put.kept c.put_rest.ensures.kept
 
 pub returns-in_err-put_end-clause-kept : goal.returns-in_err-put_end-clause-kept
 returns-in_err-put_end-clause-kept g c =
-    kept-kept _ c.put_some.new.out.items c.put_end.new.out.items
-    (kept-kept _ c.loop-i.out.items c.put_some.new.out.items c.loop-i.invariant.put.kept c.put_some.ensures.kept) c.put_end.ensures.kept
+    kept-kept _ c.put_rest.new.out.items c.put_end.new.out.items
+    (kept-kept _ c.loop-i.out.items c.put_rest.new.out.items c.loop-i.invariant.put.kept c.put_rest.ensures.kept) c.put_end.ensures.kept
 
 pub returns-clause-ok : goal.returns-clause-ok
 returns-clause-ok g c =
@@ -41,7 +41,7 @@ returns-clause-ok g c =
     let integer : ℕ → ℤ = integer_of c.args.bits c.args.signed in
     let all : blocks ≡ c.loop-i.i = omega (arith, v.reached, c.loop-i-test.false) in
     let rest = take_rest words (8 * blocks) ∙ ap (λ n. drop (8 * n) words) all in
-    IsPut-end _ c.loop-i.out.items c.put_some.new.out.items c.put_end.new.out.items c.loop-i.mark _ _ _ _ _ v.put
-    (ap (λ ws. map integer (map g.W.Word.number ws)) rest) c.in_ok-put_some.ensures.ok c.in_ok-put_end.ensures.ok
+    IsPut-end _ c.loop-i.out.items c.put_rest.new.out.items c.put_end.new.out.items c.loop-i.mark _ _ _ _ _ v.put
+    (ap (λ ws. map integer (map g.W.Word.number ws)) rest) c.in_ok-put_rest.ensures.ok c.in_ok-put_end.ensures.ok
     (line-ended c.args.bits c.args.signed (map g.W.Word.number words) (ltb 0 (length words))
     (ap (λ n. ltb 0 n) (sym (length-map words g.W.Word.number))))

@@ -36,33 +36,33 @@ put_range-returns-in-Some-clause-ok g t c =
     (lent-trees (plan_view c.args.of.now) cols n.column n.bits n.signed es c.args.from c.args.to is c.in-Some.ensures.words
     c.requires.order within) c.put_lent.ensures.ok
 
-pub put_range-loop-i-init : goal.put_range-loop-i-init
-put_range-loop-i-init g t c =
+pub put_items-loop-i-init : goal.put_items-loop-i-init
+put_items-loop-i-init g t c =
     let f = tree_at (plan_view c.args.of.now) (g.C.Columns.elements c.args.columns.now) in
     let old = c.args.out.now.items ++ c.args.mark ∷ [] in
     let all = trees_from f c.args.from (c.args.to - c.args.from) in
     subst (λ (o : List ℕ). IsBegun old o false all all) (sym c.in_ok-push.ensures.items) (IsBegun-none old all)
 
-pub put_range-loop-i-preserved : goal.put_range-loop-i-preserved
-put_range-loop-i-preserved g t c =
+pub put_items-loop-i-preserved : goal.put_items-loop-i-preserved
+put_items-loop-i-preserved g t c =
     let f = tree_at (plan_view c.args.of.now) (g.C.Columns.elements c.args.columns.now) in
     let i = c.loop-i.i in
     IsBegun-next _ c.loop-i.out.items c.put_value.new.out.items c.loop-i.later (f i) _ _ _
     (trees_from-first f i c.args.to (omega (arith, c.loop-i-test.true))) c.loop-i.invariant
     (c.in_ok-put_value.ensures.ok ∙ ap (λ n. c.loop-i.out.items ++ n ∷ compact_text (data_of (f i))) c.mark_before.ensures)
 
-pub put_range-returns-in_err-put_value-clause-kept : goal.put_range-returns-in_err-put_value-clause-kept
-put_range-returns-in_err-put_value-clause-kept g t c =
+pub put_items-returns-in_err-put_value-clause-kept : goal.put_items-returns-in_err-put_value-clause-kept
+put_items-returns-in_err-put_value-clause-kept g t c =
     kept-on c.args.out.now.items _ c.put_value.new.out.items (c.args.mark ∷ []) refl
     (kept-kept _ c.loop-i.out.items c.put_value.new.out.items c.loop-i.invariant.kept c.put_value.ensures.kept)
 
-pub put_range-returns-in_err-put_end-clause-kept : goal.put_range-returns-in_err-put_end-clause-kept
-put_range-returns-in_err-put_end-clause-kept g t c =
+pub put_items-returns-in_err-put_end-clause-kept : goal.put_items-returns-in_err-put_end-clause-kept
+put_items-returns-in_err-put_end-clause-kept g t c =
     kept-on c.args.out.now.items _ c.put_end.new.out.items (c.args.mark ∷ []) refl
     (kept-kept _ c.loop-i.out.items c.put_end.new.out.items c.loop-i.invariant.kept c.put_end.ensures.kept)
 
-pub put_range-returns-clause-ok : goal.put_range-returns-clause-ok
-put_range-returns-clause-ok g t c =
+pub put_items-returns-clause-ok : goal.put_items-returns-clause-ok
+put_items-returns-clause-ok g t c =
     let f = tree_at (plan_view c.args.of.now) (g.C.Columns.elements c.args.columns.now) in
     IsBegun-end _ c.loop-i.out.items _ c.loop-i.later _ _ (trees_from-none f c.loop-i.i c.args.to (omega (arith, c.loop-i-test.false)))
     c.loop-i.invariant c.in_ok-put_end.ensures.ok

@@ -6,8 +6,8 @@ use Rattle.nt_join.specs.Readable.{ReadableEach}
 use Rattle.nt_print.proofs.Arrays.{IsBegun}
 use Rattle.nt_print.proofs.values.+print.Given as goal
 
-abbrev pub invariant-put_range-loop-i : goal.invariant-put_range-loop-i
-invariant-put_range-loop-i g l =
+abbrev pub invariant-put_items-loop-i : goal.invariant-put_items-loop-i
+invariant-put_items-loop-i g l =
     let f = tree_at (plan_view l.of) (g.C.Columns.elements l.columns) in
     IsBegun (l.fn.out.items ++ l.mark ∷ []) l.out.items l.later (trees_from f l.i (l.to - l.i)) (trees_from f l.from (l.to - l.from))
 
