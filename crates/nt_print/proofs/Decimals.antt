@@ -154,7 +154,8 @@ three-three n =
     cons _ _ _ _ (omega arith) (cons _ _ _ _ (omega arith) (cons _ _ _ _ (omega arith) (cons _ _ _ _ (omega arith)
     (cons _ _ _ _ (omega arith) (cons _ _ _ _ (omega arith) refl)))))
 
-pub six-put : (p a b : List ℕ) (n : ℕ) → a ≡ p ++ last_digits 3 (n / 1000) → b ≡ a ++ last_digits 3 (n % 1000) → b ≡ p ++ last_digits 6 n
+pub six-put : (p a b : List ℕ) (n : ℕ) → a ≡ p ++ last_digits 3 (n / 1000) → b ≡ a ++ last_digits 3 (n % 1000)
+    → b ≡ p ++ last_digits 6 n
 six-put p a b n front back =
     back ∙ (ap (λ l. l ++ last_digits 3 (n % 1000)) front
     ∙ (append_assoc p (last_digits 3 (n / 1000)) (last_digits 3 (n % 1000)) ∙ ap (λ l. p ++ l) (three-three n)))
@@ -165,8 +166,8 @@ decimal-thousand n lo hi =
     let q = n / 1000 in
     let r = n % 1000 in
     let is : spelled q (r / 10 / 10 % 10 ∷ r / 10 % 10 ∷ r % 10 ∷ []) ≡ n = omega arith in
-    sym (decimal-spelled (r / 10 / 10 % 10 ∷ r / 10 % 10 ∷ r % 10 ∷ []) q (omega (arith, lo)) (omega arith, (omega arith, (omega arith, tt)))
-    (omega (arith, is, hi))) ∙ ap decimal is
+    sym (decimal-spelled (r / 10 / 10 % 10 ∷ r / 10 % 10 ∷ r % 10 ∷ []) q (omega (arith, lo))
+    (omega arith, (omega arith, (omega arith, tt))) (omega (arith, is, hi))) ∙ ap decimal is
 
 pub short-put : (o a b : List ℕ) (m n : ℕ) → 1000 ≤ n → n < 2 ^ 32 → a ≡ o ++ m ∷ decimal (n / 1000)
     → b ≡ a ++ last_digits 3 (n % 1000) → b ≡ o ++ m ∷ decimal n

@@ -50,7 +50,8 @@ pub eights-simple : (bytes : List ℕ) (from last : ℕ) → last + 8 ≡ length
     → AllSimple (take 8 (drop last bytes)) → AllSimple bytes
 eights-simple bytes from last is le h k =
     let front = subst AllSimple (take-take last from bytes le) (simple-take last (take from bytes) h) in
-    subst AllSimple (sym (take-add last 8 bytes) ∙ all-bytes bytes last is) (simple-append (take last bytes) (take 8 (drop last bytes)) front k)
+    subst AllSimple (sym (take-add last 8 bytes) ∙ all-bytes bytes last is)
+    (simple-append (take last bytes) (take 8 (drop last bytes)) front k)
 
 pub eight-simple : (bytes : List ℕ) (from : ℕ) → AllSimple (take from bytes) → AllSimple (take 8 (drop from bytes))
     → AllSimple (take (from + 8) bytes)

@@ -1,4 +1,5 @@
-use Rattle.std.proofs.Common.{rules, ℤ, ◌≡◌, ◌≤◌, ◌<◌, ◌+◌, ◌∷◌, ◌++◌, ◌∙◌, List, map, ltb, take, length, length-append, ap, refl, arith, take_at}
+use Rattle.std.proofs.Common.{rules, ℤ, ◌≡◌, ◌≤◌, ◌<◌, ◌+◌, ◌∷◌, ◌++◌, ◌∙◌}
+use Rattle.std.proofs.Common.{List, map, ltb, take, length, length-append, ap, refl, arith, take_at}
 use Rattle.std.proofs.Common.{sym}
 use Rattle.std.proofs.lemmas.List.{length-map}
 use Rattle.nt_print.specs.declared.blocks.TheConstants.{BLOCK_ROOM}

@@ -14,7 +14,8 @@ returns-clause-ok c =
     let size : length all.items ≡ len + 32 =
     omega (arith, ap length c.in_ok-extend_from_slice.ensures.items, length-append o ROOM, wide, count) in
     let most : len + c.place_digits-count.result ≤ all.len = omega (arith, few, size, all.ok) in
-    let within : c.place_digits-count.result ≤ length c.place_digits-count.new.room = search (rules, few, c.place_digits-count.ensures.len, size) in
+    let within : c.place_digits-count.result ≤ length c.place_digits-count.new.room =
+    search (rules, few, c.place_digits-count.ensures.len, size) in
     c.truncate.ensures.items
     ∙ room-cut o c.deref_mut.result.now c.place_digits-count.new.room _ _ _ all.len len c.place_digits-count.result
     (ap (take len) (c.deref_mut.ensures.value ∙ c.in_ok-extend_from_slice.ensures.items) ∙ take_at o ROOM len count) count most within
