@@ -5,5 +5,6 @@ use Rattle.nt_direct.proofs.ascii.is_long_ascii.Goals as goal
 
 pub returns-then-i-last : goal.returns-then-i-last
 returns-then-i-last c = λ none.
-    ascii-behind c.args.text.now c.ascii_sixteens-i.result (length c.args.text.now - 16) 16 (omega arith) (omega arith) c.ascii_sixteens-i.ensures.ascii
+    let text = c.args.text.now in
+    ascii-behind text c.ascii_sixteens-i.result (length text - 16) 16 (omega arith) (omega arith) c.ascii_sixteens-i.ensures.ascii
     (c.others_of_sixteen.ensures (eqb-true _ 0 none))

@@ -7,8 +7,9 @@ returns-in_err-first c =
 
 pub loop-next-init : goal.loop-next-init
 loop-next-init c =
-    in-first c.args.bits c.args.signed c.in_ok-first.first c.args.line.now c.args.at c.in_ok-first.end c.args.column.now c.push_at_width.new.self
-    c.requires.within c.requires.takes c.in_ok-first.ensures c.push_at_width.ensures.column c.push_at_width.ensures.spare
+    in-first c.args.bits c.args.signed c.in_ok-first.first c.args.line.now c.args.at c.in_ok-first.end c.args.column.now
+    c.push_at_width.new.self c.requires.within c.requires.takes c.in_ok-first.ensures c.push_at_width.ensures.column
+    c.push_at_width.ensures.spare
 
 pub returns-in_err-value : goal.returns-in_err-value
 returns-in_err-value c =
