@@ -15,7 +15,7 @@
 //! fault of the outside comes only where the file's count rose (`file`); an entry is that of the cluster
 //! (`entry`), and its line is that of event text (`write_entry`).
 //!
-//! Not proved: that pages which follow one another in the file are read by one call, at most 1 MiB at
+//! Not proved: that pages which follow one another in the file are read by one call, at most 128 KiB at
 //! once (only tested); that memory is that of the page lists and of one cluster, the largest of those
 //! that use it one after the other, whatever a file claims: nothing is reserved for a number in it
 //! before the bytes that bear it out were found.

@@ -12,8 +12,8 @@ use nt_pagelists::PageItem;
 use nt_tfile::{ReadFailure, read_block};
 use std::alloc::Global;
 
-/// How many bytes are read at once, at most, but for a page that is longer.
-const MOST_AT_ONCE: u64 = 1 << 20;
+/// How many bytes are read at once, at most, but for a page that is longer: so many stay in the cache until their pages are decoded.
+const MOST_AT_ONCE: u64 = 1 << 17;
 
 /// The bytes of a checksum.
 const SUM_LEN: u64 = 8;
