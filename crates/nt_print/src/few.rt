@@ -25,6 +25,33 @@ fn place_end(later: bool, at: usize, room: &mut [u8]) -> usize
     at + 2
 }
 
+/// Writes a few numbers that are below another behind what is written, a mark in front of the first, and
+/// commas, and says where they end; 0 where one of them isn't.
+#[inline(always)]
+pub fn place_below<W: Word>(mark: u8, words: &[W], end: u64, from: usize, room: &mut [u8]) -> usize
+    requires short { end ≤ 1000000 }
+    requires few { length words.now < 8 }
+    requires front { from ≤ 8 }
+    requires room { 64 ≤ length room.old }
+    ensures below { 0 < result → AreBelow end (map W.number words.now) }
+    ensures text { 0 < result → take result room.new ≡ take from room.old ++ integers_text mark
+        (map pos (map W.number words.now)) }
+    ensures few { result ≤ from + 49 }
+    ensures len { length room.new ≡ length room.old }
+{
+    let mut next = mark;
+    let mut at = from;
+    for word in words {
+        let number = word.number();
+        if number >= end {
+            return 0;
+        }
+        at = place_short(next, number as u32, at, room);
+        next = b',';
+    }
+    at
+}
+
 /// Writes a mark, and then the array of a few numbers that are below another, and says where it ends; 0
 /// where one of them isn't.
 #[inline(always)]
@@ -39,41 +66,9 @@ pub fn place_array<W: Word>(mark: u8, words: &[W], end: u64, room: &mut [u8]) ->
     ensures len { length room.new ≡ length room.old }
 {
     place_byte(mark, 0, room);
-    let mut next = b'[';
-    let mut at = 1;
-    for word in words {
-        let number = word.number();
-        if number >= end {
-            return 0;
-        }
-        at = place_short(next, number as u32, at, room);
-        next = b',';
+    let at = place_below(b'[', words, end, 1, room);
+    if at == 0 {
+        return 0;
     }
     place_end(words.len() > 0, at, room)
-}
-
-/// Writes a few numbers that are below another, a mark in front of the first, and commas, and says where
-/// they end; 0 where one of them isn't.
-#[inline(always)]
-pub fn place_below<W: Word>(mark: u8, words: &[W], end: u64, room: &mut [u8]) -> usize
-    requires short { end ≤ 1000000 }
-    requires few { length words.now < 8 }
-    requires room { 64 ≤ length room.old }
-    ensures below { 0 < result → AreBelow end (map W.number words.now) }
-    ensures text { 0 < result → take result room.new ≡ integers_text mark
-        (map pos (map W.number words.now)) }
-    ensures few { result ≤ 64 }
-    ensures len { length room.new ≡ length room.old }
-{
-    let mut next = mark;
-    let mut at = 0;
-    for word in words {
-        let number = word.number();
-        if number >= end {
-            return 0;
-        }
-        at = place_short(next, number as u32, at, room);
-        next = b',';
-    }
-    at
 }

@@ -86,7 +86,7 @@ fn put_rest<W: Word>(
     let end = short_end(bits, signed);
     let len = out.len();
     out.extend_from_slice(&BLOCK_ROOM)?;
-    let count = place_below(mark, words, end, &mut out[len..]);
+    let count = place_below(mark, words, end, 0, &mut out[len..]);
     out.truncate(len + count);
     if count == 0 {
         return put_some(mark, words, bits, signed, out);

@@ -1,49 +1,11 @@
-use Rattle.std.proofs.Common.{ℕ, List, ◌≡◌, ◌+◌, [], ◌∷◌, ◌++◌, pos, decimal, map, take, drop, length, ltb, ap, sym, ◌∙◌, subst, arith}
-use Rattle.std.proofs.lemmas.List.{drop_more, drop_all}
-use Rattle.nt_print.specs.Integers.{AreBelow, integers_text}
+use Rattle.std.proofs.Common.{List, ℕ, ◌++◌, length, ltb, ap, ◌∙◌, map, pos, arith}
+use Rattle.nt_print.specs.Integers.{integers_text}
 use Rattle.nt_print.specs.Marks.{end_of}
-use Rattle.nt_print.proofs.Parts.{IsPut, IsPut-none, IsPut-next, IsPut-all}
 use Rattle.nt_print.proofs.few.place_array.Goals as goal
-
-pub loop-word-init : goal.loop-word-init
-loop-word-init g c =
-    let all = map pos (map g.W.Word.number c.args.words.now) in
-    let one = c.args.mark ∷ [] in
-    record {
-      within = omega arith;
-      same = c.place_byte.ensures.len;
-      below = λ h. h;
-      put = subst (λ (l : List ℕ). IsPut one l 91 all (integers_text 91 all)) (sym c.place_byte.ensures.text) (IsPut-none one 91 all);
-    }
-
-pub loop-word-preserved : goal.loop-word-preserved
-loop-word-preserved g c =
-    let v = c.loop-word.invariant in
-    let words = c.args.words.now in
-    let i = c.loop-word.word-index in
-    let first = c.word-item.result in
-    let front = take c.loop-word.at c.loop-word.room in
-    let next : drop i words ≡ first ∷ drop (i + 1) words =
-    drop_more words i first c.loop-word-test.true ∙ ap (λ w. w ∷ drop (i + 1) words) (sym c.word-item.is) in
-    record {
-      within = omega (arith, v.within, c.place_short-at.ensures.few);
-      same = c.place_short-at.ensures.len ∙ v.same;
-      below = λ h. v.below (subst (λ ws. AreBelow c.args.end (map g.W.Word.number ws)) (sym next)
-          (omega (arith, c.number-number.ensures, c.if-number-end.false), h));
-      put = IsPut-next (c.args.mark ∷ []) front _ c.loop-word.next (pos (g.W.Word.number first)) _ _ _
-          (ap (λ ws. map pos (map g.W.Word.number ws)) next) v.put
-          (c.place_short-at.ensures.text ∙ ap (λ (n : ℕ). front ++ c.loop-word.next ∷ decimal n) c.number-number.ensures);
-    }
-
-pub returns-clause-below : goal.returns-clause-below
-returns-clause-below g c = λ some.
-    let none = drop_all c.loop-word.word-index c.args.words.now c.loop-word-test.false in
-    c.loop-word.invariant.below (subst (λ ws. AreBelow c.args.end (map g.W.Word.number ws)) (sym none) tt)
 
 pub returns-clause-text : goal.returns-clause-text
 returns-clause-text g c = λ some.
-    let none = drop_all c.loop-word.word-index c.args.words.now c.loop-word-test.false in
+    let all = integers_text 91 (map pos (map g.W.Word.number c.args.words.now)) in
     c.place_end.ensures.text
     ∙ ap (λ (l : List ℕ). l ++ end_of (ltb 0 (length c.args.words.now)))
-    (IsPut-all (c.args.mark ∷ []) (take c.loop-word.at c.loop-word.room) c.loop-word.next _ _
-    (ap (λ ws. map pos (map g.W.Word.number ws)) none) c.loop-word.invariant.put)
+    (c.place_below-at.ensures.text (omega (arith, c.if-at-eq0.false)) ∙ ap (λ (l : List ℕ). l ++ all) c.place_byte.ensures.text)

@@ -1,4 +1,4 @@
-use Rattle.std.proofs.Common.{ℕ, ◌≡◌, ◌+◌, [], ◌∷◌, ◌++◌, pos, decimal, map, take, drop, ap, sym, ◌∙◌, subst, arith, refl}
+use Rattle.std.proofs.Common.{ℕ, ◌≡◌, ◌+◌, ◌∷◌, ◌++◌, pos, decimal, map, take, drop, ap, sym, ◌∙◌, subst, arith, refl}
 use Rattle.std.proofs.lemmas.List.{drop_more, drop_all}
 use Rattle.nt_print.specs.Integers.{AreBelow}
 use Rattle.nt_print.proofs.Parts.{IsPut-none, IsPut-next, IsPut-all}
@@ -21,7 +21,7 @@ loop-word-preserved g c =
       same = c.place_short-at.ensures.len ∙ v.same;
       below = λ h. v.below (subst (λ ws. AreBelow c.args.end (map g.W.Word.number ws)) (sym next)
           (omega (arith, c.number-number.ensures, c.if-number-end.false), h));
-      put = IsPut-next [] front _ c.loop-word.next (pos (g.W.Word.number first)) _ _ _
+      put = IsPut-next (take c.args.from c.args.room.now) front _ c.loop-word.next (pos (g.W.Word.number first)) _ _ _
           (ap (λ ws. map pos (map g.W.Word.number ws)) next) v.put
           (c.place_short-at.ensures.text ∙ ap (λ (n : ℕ). front ++ c.loop-word.next ∷ decimal n) c.number-number.ensures);
     }
@@ -34,5 +34,5 @@ returns-clause-below g c = λ some.
 pub returns-clause-text : goal.returns-clause-text
 returns-clause-text g c = λ some.
     let none = drop_all c.loop-word.word-index c.args.words.now c.loop-word-test.false in
-    IsPut-all [] (take c.loop-word.at c.loop-word.room) c.loop-word.next _ _ (ap (λ ws. map pos (map g.W.Word.number ws)) none)
+    IsPut-all (take c.args.from c.args.room.now) (take c.loop-word.at c.loop-word.room) c.loop-word.next _ _ (ap (λ ws. map pos (map g.W.Word.number ws)) none)
     c.loop-word.invariant.put
