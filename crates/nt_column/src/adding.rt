@@ -31,8 +31,7 @@ impl Store {
     /// Adds an element of a width that the caller knows. Where it is a constant, the store isn't asked for its own.
     #[inline(always)]
     pub fn push_at_width(&mut self, bits: u8, value: u64)
-        requires width { width_of self.old ≡ bits }
-        requires takes { TakesValue self.old value }
+        requires takes { (width_of self.old ≡ bits) × TakesValue self.old value }
         requires spare { 0 < spare_of self.old }
         ensures elements { elements_of self.new ≡ elements_of self.old ++ plain value ∷ [] }
         ensures width { width_of self.new ≡ width_of self.old }

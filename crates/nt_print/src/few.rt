@@ -30,14 +30,11 @@ fn place_end(later: bool, at: usize, room: &mut [u8]) -> usize
 #[inline(always)]
 pub fn place_below<W: Word>(mark: u8, words: &[W], end: u64, from: usize, room: &mut [u8]) -> usize
     requires short { end ≤ 1000000 }
-    requires few { length words.now < 8 }
-    requires front { from ≤ 8 }
-    requires room { 64 ≤ length room.old }
+    requires room { (length words.now < 8) × (from ≤ 8) × (64 ≤ length room.old) }
     ensures below { 0 < result → AreBelow end (map W.number words.now) }
     ensures text { 0 < result → take result room.new ≡ take from room.old ++ integers_text mark
         (map pos (map W.number words.now)) }
-    ensures few { result ≤ from + 49 }
-    ensures len { length room.new ≡ length room.old }
+    ensures few { (result ≤ from + 49) × (length room.new ≡ length room.old) }
 {
     let mut next = mark;
     let mut at = from;
@@ -57,13 +54,11 @@ pub fn place_below<W: Word>(mark: u8, words: &[W], end: u64, from: usize, room: 
 #[inline(always)]
 pub fn place_array<W: Word>(mark: u8, words: &[W], end: u64, room: &mut [u8]) -> usize
     requires short { end ≤ 1000000 }
-    requires few { length words.now < 8 }
-    requires room { 64 ≤ length room.old }
+    requires room { (length words.now < 8) × (64 ≤ length room.old) }
     ensures below { 0 < result → AreBelow end (map W.number words.now) }
     ensures text { 0 < result → take result room.new ≡ mark ∷ (integers_text 91
         (map pos (map W.number words.now)) ++ end_of (ltb 0 (length words.now))) }
-    ensures few { result ≤ 64 }
-    ensures len { length room.new ≡ length room.old }
+    ensures few { (result ≤ 64) × (length room.new ≡ length room.old) }
 {
     place_byte(mark, 0, room);
     let at = place_below(b'[', words, end, 1, room);

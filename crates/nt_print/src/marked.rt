@@ -10,8 +10,7 @@ use std::alloc::AllocError;
 /// Writes a mark and a number of 7 to 12 digits, and says where they end.
 #[inline(always)]
 fn place_twelve(mark: u8, n: u64, room: &mut [u8]) -> usize
-    requires large { 1000000 ≤ n }
-    requires small { n < 1000000000000 }
+    requires digits { (1000000 ≤ n) × (n < 1000000000000) }
     requires room { 32 ≤ length room.old }
     ensures text { take result room.new ≡ mark ∷ decimal n }
     ensures few { result ≤ 13 }
@@ -24,8 +23,7 @@ fn place_twelve(mark: u8, n: u64, room: &mut [u8]) -> usize
 /// Writes a mark and a number of 13 to 18 digits, and says where they end.
 #[inline(always)]
 fn place_eighteen(mark: u8, n: u64, room: &mut [u8]) -> usize
-    requires large { 1000000000000 ≤ n }
-    requires small { n < 1000000000000000000 }
+    requires digits { (1000000000000 ≤ n) × (n < 1000000000000000000) }
     requires room { 32 ≤ length room.old }
     ensures text { take result room.new ≡ mark ∷ decimal n }
     ensures few { result ≤ 19 }

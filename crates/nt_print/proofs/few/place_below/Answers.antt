@@ -34,5 +34,6 @@ returns-clause-below g c = λ some.
 pub returns-clause-text : goal.returns-clause-text
 returns-clause-text g c = λ some.
     let none = drop_all c.loop-word.word-index c.args.words.now c.loop-word-test.false in
-    IsPut-all (take c.args.from c.args.room.now) (take c.loop-word.at c.loop-word.room) c.loop-word.next _ _ (ap (λ ws. map pos (map g.W.Word.number ws)) none)
+    IsPut-all (take c.args.from c.args.room.now) (take c.loop-word.at c.loop-word.room) c.loop-word.next _ _
+    (ap (λ ws. map pos (map g.W.Word.number ws)) none)
     c.loop-word.invariant.put

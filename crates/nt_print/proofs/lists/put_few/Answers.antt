@@ -14,14 +14,14 @@ returns-clause-ok g c =
     let len = c.len-len.result in
     let all = c.extend_from_slice.new.self in
     let end = c.place_array-count.result in
-    let few = c.place_array-count.ensures.few in
+    let few = c.place_array-count.ensures.few.0 in
     let ns = map g.W.Word.number c.args.words.now in
     let count : length o ≡ len = omega (arith, c.len-len.ensures, c.args.out.now.ok) in
     let wide : length BLOCK_ROOM ≡ 64 = refl in
     let size : length all.items ≡ len + 64 =
     omega (arith, ap length c.in_ok-extend_from_slice.ensures.items, length-append o BLOCK_ROOM, wide, count) in
     let most : len + end ≤ all.len = omega (arith, few, size, all.ok) in
-    let within : end ≤ length c.place_array-count.new.room = search (rules, few, c.place_array-count.ensures.len, size) in
+    let within : end ≤ length c.place_array-count.new.room = search (rules, few, c.place_array-count.ensures.few.1, size) in
     let some : 0 < end = omega (arith, c.if-count-eq0.false) in
     let later = ltb 0 (length c.args.words.now) in
     let same = integers-below c.args.bits c.args.signed c.short_end-end.result ns c.short_end-end.ensures.same

@@ -10,14 +10,14 @@ returns-clause-ok g c =
     let len = c.len-len.result in
     let all = c.extend_from_slice.new.self in
     let end = c.place_below-count.result in
-    let few = c.place_below-count.ensures.few in
+    let few = c.place_below-count.ensures.few.0 in
     let ns = map g.W.Word.number c.args.words.now in
     let count : length o ≡ len = omega (arith, c.len-len.ensures, c.args.out.now.ok) in
     let wide : length BLOCK_ROOM ≡ 64 = refl in
     let size : length all.items ≡ len + 64 =
     omega (arith, ap length c.in_ok-extend_from_slice.ensures.items, length-append o BLOCK_ROOM, wide, count) in
     let most : len + end ≤ all.len = omega (arith, few, size, all.ok) in
-    let within : end ≤ length c.place_below-count.new.room = search (rules, few, c.place_below-count.ensures.len, size) in
+    let within : end ≤ length c.place_below-count.new.room = search (rules, few, c.place_below-count.ensures.few.1, size) in
     let some : 0 < end = omega (arith, c.if-count-eq0.false) in
     let same = integers-below c.args.bits c.args.signed c.short_end-end.result ns c.short_end-end.ensures.same
     (c.place_below-count.ensures.below some) in

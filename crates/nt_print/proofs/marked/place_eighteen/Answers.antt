@@ -4,5 +4,5 @@ use Rattle.nt_print.proofs.marked.place_eighteen.Goals as goal
 
 pub returns-clause-text : goal.returns-clause-text
 returns-clause-text c =
-    long-put [] _ _ c.args.mark c.args.n (omega (arith, c.requires.large)) c.ranges.n.fits c.place_twelve-at.ensures.text
+    long-put [] _ _ c.args.mark c.args.n (omega (arith, c.requires.digits.0)) c.ranges.n.fits c.place_twelve-at.ensures.text
     c.place_six.ensures.text

@@ -4,4 +4,4 @@ use Rattle.nt_print.proofs.marked.place_twelve.Goals as goal
 
 pub returns-clause-text : goal.returns-clause-text
 returns-clause-text c =
-    long-put [] _ _ c.args.mark c.args.n c.requires.large c.ranges.n.fits c.place_short-at.ensures.text c.place_six.ensures.text
+    long-put [] _ _ c.args.mark c.args.n c.requires.digits.0 c.ranges.n.fits c.place_short-at.ensures.text c.place_six.ensures.text
