@@ -5,11 +5,11 @@ set -eu
 cd "$(dirname -- "$(readlink -f -- "$0")")"
 made=$(mktemp -d)
 trap 'rm -rf "$made"' EXIT
-(cd ../crates/nt_encode_c && rt lib >"$made/log" 2>&1) || { cat "$made/log" >&2; exit 1; }
+(cd ../crates/bench_encode && rt lib >"$made/log" 2>&1) || { cat "$made/log" >&2; exit 1; }
 heap="$(dirname "$(rt doc)")/c/liblibc_c.a"
 for level in -O2 -O3; do
     for program in encode columns; do
-        cc $level -DBUILD="\"$level\"" -o "$made/$program" $program.c ../crates/nt_encode_c/out/libnt_encode_c.a "$heap"
+        cc $level -DBUILD="\"$level\"" -o "$made/$program" $program.c ../crates/bench_encode/out/libbench_encode.a "$heap"
         "$made/$program"
     done
 done

@@ -6,6 +6,6 @@ set -eu
 cd "$(dirname -- "$(readlink -f -- "$0")")"
 made=$(mktemp -d)
 trap 'rm -rf "$made"' EXIT
-(cd ../crates/nt_event_c && rt lib >"$made/log" 2>&1) || { cat "$made/log" >&2; exit 1; }
-c++ -std=c++17 -O3 -o "$made/event" event.cpp ../crates/nt_event_c/out/libnt_event_c.a "$(dirname "$(rt doc)")/c/liblibc_c.a"
+(cd ../crates/bench_event && rt lib >"$made/log" 2>&1) || { cat "$made/log" >&2; exit 1; }
+c++ -std=c++17 -O3 -o "$made/event" event.cpp ../crates/bench_event/out/libbench_event.a "$(dirname "$(rt doc)")/c/liblibc_c.a"
 "$made/event"

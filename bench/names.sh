@@ -6,6 +6,6 @@ set -eu
 cd "$(dirname -- "$(readlink -f -- "$0")")"
 made=$(mktemp -d)
 trap 'rm -rf "$made"' EXIT
-(cd ../crates/nt_schema_c && rt lib >"$made/log" 2>&1) || { cat "$made/log" >&2; exit 1; }
-cc -O2 -o "$made/names" names.c ../crates/nt_schema_c/out/libnt_schema_c.a "$(dirname "$(rt doc)")/c/liblibc_c.a"
+(cd ../crates/bench_schema && rt lib >"$made/log" 2>&1) || { cat "$made/log" >&2; exit 1; }
+cc -O2 -o "$made/names" names.c ../crates/bench_schema/out/libbench_schema.a "$(dirname "$(rt doc)")/c/liblibc_c.a"
 "$made/names"

@@ -1,4 +1,4 @@
-/* Takes a pthread mutex again and again, as nt_turn_bench does with the turn: prints the nanoseconds of one taking. */
+/* Takes a pthread mutex again and again, as bench_turn does with the turn: prints the nanoseconds of one taking. */
 #include <pthread.h>
 #include <stdint.h>
 #include <stdio.h>

@@ -6,8 +6,8 @@ cd "$(dirname -- "$(readlink -f -- "$0")")"
 rounds=9 takings=2000000
 made=$(mktemp -d)
 trap 'rm -rf "$made"' EXIT
-(cd ../crates/nt_turn_bench && rt run >"$made/log" 2>&1 </dev/null) || { cat "$made/log" >&2; exit 1; }
-ours=../crates/nt_turn_bench/out/nt_turn_bench
+(cd ../crates/bench_turn && rt run >"$made/log" 2>&1 </dev/null) || { cat "$made/log" >&2; exit 1; }
+ours=../crates/bench_turn/out/bench_turn
 cc -O2 -pthread -o "$made/turn" turn.c
 middle() { sort -n "$1" | sed -n "$(((rounds + 1) / 2))p"; }
 one=

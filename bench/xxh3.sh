@@ -5,8 +5,8 @@ set -eu
 cd "$(dirname -- "$(readlink -f -- "$0")")"
 made=$(mktemp -d)
 trap 'rm -rf "$made"' EXIT
-(cd ../crates/nt_xxh3_c && rt lib >"$made/log" 2>&1) || { cat "$made/log" >&2; exit 1; }
+(cd ../crates/bench_xxh3 && rt lib >"$made/log" 2>&1) || { cat "$made/log" >&2; exit 1; }
 for vector in 0 1; do
-    cc -O3 -DXXH_VECTOR=$vector -o "$made/xxh3" xxh3.c ../crates/nt_xxh3_c/out/libnt_xxh3_c.a
+    cc -O3 -DXXH_VECTOR=$vector -o "$made/xxh3" xxh3.c ../crates/bench_xxh3/out/libbench_xxh3.a
     "$made/xxh3"
 done

@@ -49,7 +49,7 @@ def layers_of(path):
     rows = {}
     for line in lines_of(path):
         cells = [cell.strip() for cell in line.strip().strip("|").split("|")]
-        if len(cells) >= 3 and re.fullmatch(r"nt_\w+", cells[0]) and cells[1] in LAYERS:
+        if len(cells) >= 3 and re.fullmatch(r"(?:nt|test|bench)_\w+", cells[0]) and cells[1] in LAYERS:
             rows[cells[0]] = cells[1]
     return rows
 

@@ -2,14 +2,14 @@
 use Rattle.std.proofs.Common.{inl, inr, sym, subst, refl, ℕ, List, Option, Result, Ok, Err}
 use Rattle.nt_outside.specs.World.{HostState}
 use Rattle.nt_book.specs.declared.params.Params.{Params}
-use Rattle.nt_gen.specs.declared.making.Making.{Making}
+use Rattle.nt_draws.specs.declared.making.Making.{Making}
 use Rattle.nt_show.specs.Shown.{entries_shown, fields_shown}
-use Rattle.nt_words.specs.CommandLine.{IsEntries, IsSchemaCommand}
-use Rattle.nt_words.specs.WriteWords.{IsWrite}
-use Rattle.nt_words.specs.SeqWords.{IsSeq}
-use Rattle.nt_words.specs.GenWords.{IsGen}
-use Rattle.nt_words.proofs.Wrong.{begins_once}
-use Rattle.nt_words.proofs.Single.{same_write, same_seq, same_gen, same_entries, same_schema}
+use Rattle.nt_command_line.specs.CommandLine.{IsEntries, IsSchemaCommand}
+use Rattle.nt_command_line.specs.WriteWords.{IsWrite}
+use Rattle.nt_command_line.specs.SeqWords.{IsSeq}
+use Rattle.nt_command_line.specs.GenWords.{IsGen}
+use Rattle.nt_command_line.proofs.Wrong.{begins_once}
+use Rattle.nt_command_line.proofs.Single.{same_write, same_seq, same_gen, same_entries, same_schema}
 use Rattle.nt_store.specs.declared.error.StoreError.{StoreError}
 use Rattle.nt_store.specs.declared.error.StoreError.TheVariants as store
 use Rattle.nt_script.specs.declared.store_error.ScriptStoreError.{ScriptStoreError}

@@ -2,8 +2,8 @@
 use Rattle.std.proofs.Common.{◌≡◌, ◌⊎◌, ◌∙◌, inl, inr, ap, subst, refl, ℕ, List}
 use Rattle.nt_outside.specs.World.{HostState}
 use Rattle.nt_show.specs.Shown.{entries_shown, fields_shown}
-use Rattle.nt_words.specs.Commands.{IsWrong}
-use Rattle.nt_words.proofs.Wrong.{wrong_is_none}
+use Rattle.nt_command_line.specs.Commands.{IsWrong}
+use Rattle.nt_command_line.proofs.Wrong.{wrong_is_none}
 use Rattle.nt_app.specs.declared.status.Status.{Status}
 use Rattle.nt_app.specs.declared.status.Status.TheVariants as status
 use Rattle.nt_app.specs.Statuses.{message_of}

@@ -2,14 +2,14 @@
 use Rattle.std.specs.Prelude.{⊤, ◌≡◌, ◌⊎◌, ℕ, List, codes, Option, Some, unwrap_or}
 use Rattle.nt_outside.specs.World.{World, HostState}
 use Rattle.nt_book.specs.declared.params.Params.{Params}
-use Rattle.nt_gen.specs.declared.making.Making.{Making}
+use Rattle.nt_draws.specs.declared.making.Making.{Making}
 use Rattle.nt_show.specs.declared.entry_range.EntryRange.{EntryRange}
 use Rattle.nt_show.specs.Shown.{entries_shown, fields_shown}
-use Rattle.nt_words.specs.CommandLine.{Begins, IsEntries, IsSchemaCommand}
-use Rattle.nt_words.specs.WriteWords.{IsWrite}
-use Rattle.nt_words.specs.SeqWords.{IsSeq}
-use Rattle.nt_words.specs.GenWords.{IsGen}
-use Rattle.nt_words.specs.Commands.{IsNoCommand, IsWrong}
+use Rattle.nt_command_line.specs.CommandLine.{Begins, IsEntries, IsSchemaCommand}
+use Rattle.nt_command_line.specs.WriteWords.{IsWrite}
+use Rattle.nt_command_line.specs.SeqWords.{IsSeq}
+use Rattle.nt_command_line.specs.GenWords.{IsGen}
+use Rattle.nt_command_line.specs.Commands.{IsNoCommand, IsWrong}
 use Rattle.nt_store.specs.Worlds.{KeepsFiles}
 use Rattle.nt_app.specs.declared.status.Status.{Status}
 use Rattle.nt_app.specs.declared.status.Status.TheVariants as status

@@ -5,9 +5,9 @@ ghost use Rattle.nt_app.specs.Gens.{status_of_generate, AreDefaults, GenNamed};
 
 use crate::status::Status;
 use nt_book::{Limits, Params};
+use nt_command_line::GenWords;
 use nt_generate::{GenerateError, generate};
 use nt_outside::{Disk, Gate, Host};
-use nt_words::GenWords;
 use std::alloc::Global;
 use std::sync::Wait;
 use std::thread::Threads;

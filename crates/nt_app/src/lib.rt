@@ -3,13 +3,13 @@
 //! and `schema` its fields. All that is promised of the program is said of the one call `run`.
 //!
 //! Start at `program.rt`: `run`, and `run_alone` of those commands that wait for nobody. `write.rt`, `seq.rt`, `generate.rt`
-//! and `show.rt` are the commands, `status.rt` and `message.rt` the answers and their lines. The words are read by nt_words, a file
+//! and `show.rt` are the commands, `status.rt` and `message.rt` the answers and their lines. The words are read by nt_command_line, a file
 //! is written by nt_store, nt_script and nt_generate, and what is read of one is shown by nt_show.
 //!
 //! Words: `run` *reports* an answer where it prints its line on err; a status is *an answer to* words that may be answered so
 //! (`specs/Runs.antt`).
 //!
-//! Proved: all that `docs/PROOFS.md` lists of the program, as clauses of `run`. Tested, over memory in nt_rows: whole files, each
+//! Proved: all that `docs/PROOFS.md` lists of the program, as clauses of `run`. Tested, over memory in test_run: whole files, each
 //! answer with its line, and each call of the outside failing in turn.
 #![tactic(auto)]
 

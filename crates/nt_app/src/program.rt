@@ -1,7 +1,7 @@
 //! The top calls.
 
 ghost use Rattle.std.specs.Prelude.{◌≡◌, true, false, None, IfSome};
-ghost use Rattle.nt_words.specs.CommandLine.{texts};
+ghost use Rattle.nt_command_line.specs.CommandLine.{texts};
 ghost use Rattle.nt_app.specs.Statuses.{message_of};
 ghost use Rattle.nt_app.specs.Reports.{Reports};
 ghost use Rattle.nt_app.specs.Runs.{HasContexts, Obeys, Runs};
@@ -12,9 +12,9 @@ use crate::seq::seq;
 use crate::show::{entries, schema};
 use crate::status::Status;
 use crate::write::write;
+use nt_command_line::{Command, command_of};
 use nt_outside::{Disk, Gate, Host, Stream, print_all};
 use nt_show::EntryRange;
-use nt_words::{Command, command_of};
 use std::alloc::Global;
 use std::sync::Wait;
 use std::thread::Threads;

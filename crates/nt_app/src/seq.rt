@@ -4,9 +4,9 @@ ghost use Rattle.std.specs.Prelude.{◌≡◌};
 ghost use Rattle.nt_app.specs.Seqs.{fault_of_line, status_of_script, SeqNamed};
 
 use crate::status::{Status, TextFault};
+use nt_command_line::SeqWords;
 use nt_outside::Host;
 use nt_script::{LineFault, ScriptNames, ScriptStoreError, store_script};
-use nt_words::SeqWords;
 use std::alloc::Global;
 
 /// What is wrong with a line of a script.

@@ -2,13 +2,13 @@
 
 ghost use Rattle.std.specs.Prelude.{◌≡◌, ◌≤◌, length};
 ghost use Rattle.nt_book.specs.Ranges.{IsFromTo};
-ghost use Rattle.nt_words.specs.Commands.{names_of};
+ghost use Rattle.nt_command_line.specs.Commands.{names_of};
 ghost use Rattle.nt_app.specs.Writes.{status_of_store, WritesNamed};
 
 use crate::status::{Status, TextFault};
+use nt_command_line::WriteWords;
 use nt_outside::{Disk, Gate, Host};
 use nt_store::{Names, StoreError, store};
-use nt_words::WriteWords;
 use std::alloc::Global;
 use std::sync::Wait;
 use std::thread::Threads;

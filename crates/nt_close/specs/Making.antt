@@ -2,7 +2,7 @@
 use Rattle.std.specs.Prelude.{◌≡◌, ℕ, ◌+◌, ◌<◌, ◌≤◌, ◌^◌, List, [], ◌∷◌, ◌++◌, length, drop, Option, Some}
 use Rattle.std.specs.List.{concat}
 use Rattle.nt_format.specs.Envelopes.{envelope}
-use Rattle.nt_files.specs.Envelopes.{footer_kind}
+use Rattle.nt_file_meaning.specs.Envelopes.{footer_kind}
 use Rattle.nt_container.specs.declared.anchor.Anchor.{Anchor}
 use Rattle.nt_container.specs.declared.parts.FileFields.{FileFields}
 use Rattle.nt_container.specs.Lengths.{begun_len, anchor_part_len, key_list_part_len, free_list_part_len}

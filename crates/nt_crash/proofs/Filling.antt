@@ -15,8 +15,8 @@ use Rattle.nt_machine.specs.Legal.{IsLegal}
 use Rattle.nt_logged.specs.Stands.{IsBehind}
 use Rattle.nt_logged.specs.Steps.{steps_of_history}
 use Rattle.nt_book.specs.declared.meta.ClusterMeta.{ClusterMeta}
-use Rattle.nt_files.specs.Outlines.{outline_of}
-use Rattle.nt_files.specs.Files.{read_file, HasDefect}
+use Rattle.nt_file_meaning.specs.Outlines.{outline_of}
+use Rattle.nt_file_meaning.specs.Files.{read_file, HasDefect}
 use Rattle.nt_layout.specs.Headers.{header_blob, clusters_place}
 use Rattle.nt_close.specs.Steps.{IsBegunSoFar, torn_head, torn_blob, not_kept, begun_whole}
 use Rattle.nt_crash.specs.Cuts.{WritesFirst, HasSync, LeavesUnfinished, LeavesUnfinishedOr}

@@ -24,7 +24,7 @@ use Rattle.nt_logged.specs.Stands.{known_byte, told_ranges}
 use Rattle.nt_logged.specs.Steps.{steps_of_history}
 use Rattle.nt_book.specs.declared.meta.ClusterMeta.{ClusterMeta}
 use Rattle.nt_book.specs.Books.{BookData, book_clusters}
-use Rattle.nt_files.specs.Files.{HasDefect, Means}
+use Rattle.nt_file_meaning.specs.Files.{HasDefect, Means}
 use Rattle.nt_layout.specs.Headers.{header_object, header_blob, clusters_place, file_begun}
 use Rattle.nt_layout.specs.Finished.{finished, tail, front, file_len, free_start, keys_start}
 use Rattle.nt_finished.proofs.Standing.{length-blob}

@@ -6,7 +6,7 @@ use Rattle.nt_outside.specs.Reads.{known_of, all_allowed}
 use Rattle.nt_outside.specs.Crash.{crash_of, MayLeave, LeavesBehind}
 use Rattle.nt_num.specs.Codes.{unfinished}
 use Rattle.nt_num.specs.Faults.{fault}
-use Rattle.nt_files.specs.Files.{HasDefect}
+use Rattle.nt_file_meaning.specs.Files.{HasDefect}
 
 -- a step writes over the first byte, whole or not
 abbrev pub IsOverFirst : Step → Type 0

@@ -11,7 +11,7 @@ ghost use Rattle.nt_container.specs.Spelling.{begun};
 ghost use Rattle.nt_grammar.specs.Table.{Table};
 ghost use Rattle.nt_grammar.specs.ReadingBack.{IsDescribed};
 ghost use Rattle.nt_book.specs.Books.{BookData};
-ghost use Rattle.nt_files.specs.Files.{Means};
+ghost use Rattle.nt_file_meaning.specs.Files.{Means};
 ghost use Rattle.nt_layout.specs.Headers.{header_blob};
 ghost use Rattle.nt_layout.specs.Finished.{finished, tail, front};
 ghost use Rattle.nt_layout.specs.Laid.{Measures, AreMeasures};

@@ -17,7 +17,7 @@ use Rattle.nt_machine.specs.History.{Cluster}
 use Rattle.nt_book.specs.declared.meta.ClusterMeta.{ClusterMeta}
 use Rattle.nt_book.specs.Books.{BookData, book_clusters, book_end, no_cluster}
 use Rattle.nt_book.specs.Kept.{IsBookKept}
-use Rattle.nt_files.specs.Envelopes.{footer_kind}
+use Rattle.nt_file_meaning.specs.Envelopes.{footer_kind}
 use Rattle.nt_pagelists.specs.declared.group.Group.{Group}
 use Rattle.nt_pagelists.specs.FooterWriting.{group_text, group_texts, extension_text, footer_text}
 use Rattle.nt_layout.specs.Blobs.{blob, blob_len}

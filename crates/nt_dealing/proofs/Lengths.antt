@@ -14,7 +14,7 @@ use Rattle.nt_machine.specs.History.{Cluster}
 use Rattle.nt_book.specs.declared.meta.PageMeta.{PageMeta}
 use Rattle.nt_book.specs.declared.meta.ClusterMeta.{ClusterMeta}
 use Rattle.nt_book.specs.Books.{BookData, book_clusters, no_cluster, cluster_at}
-use Rattle.nt_files.specs.Envelopes.{page_list_kind}
+use Rattle.nt_file_meaning.specs.Envelopes.{page_list_kind}
 use Rattle.nt_pagelists.specs.declared.page.PageItem.{PageItem}
 use Rattle.nt_pagelists.specs.Writing.{ListedColumn, ListedCluster, page_item_text, page_item_texts, column_list_text, column_list_texts}
 use Rattle.nt_pagelists.specs.Writing.{cluster_list_text, cluster_list_texts, summary_text, summary_texts, page_list_text}

@@ -24,11 +24,11 @@ use Rattle.nt_pages.specs.Image.{payload}
 use Rattle.nt_pages.specs.Metas.{column_metas}
 use Rattle.nt_pagelists.specs.declared.cluster.ClusterList.{ClusterList}
 use Rattle.nt_pagelists.specs.Books.{payload_place, page_item}
-use Rattle.nt_files.specs.Outlines.{is_needed}
-use Rattle.nt_files.specs.Clusters.{pages_listed, columns_by_id, entries_of_columns, cluster_of}
-use Rattle.nt_files.specs.Files.{entries_from}
-use Rattle.nt_files.specs.Holds.{HoldsCluster}
-use Rattle.nt_files.proofs.ClustersBack.{cluster}
+use Rattle.nt_file_meaning.specs.Outlines.{is_needed}
+use Rattle.nt_file_meaning.specs.Clusters.{pages_listed, columns_by_id, entries_of_columns, cluster_of}
+use Rattle.nt_file_meaning.specs.Files.{entries_from}
+use Rattle.nt_file_meaning.specs.Holds.{HoldsCluster}
+use Rattle.nt_file_meaning.proofs.ClustersBack.{cluster}
 use Rattle.nt_layout.specs.Laid.{Gives, IsBlobOfEntries, AreBlobsOf, none_left, and_blob}
 use Rattle.nt_finished.specs.Listed.{IsListOf, AreListsOf}
 use Rattle.nt_finished.proofs.Standing.{StandsThere, front_stands, back_stands, object_stands}

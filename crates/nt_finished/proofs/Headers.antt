@@ -21,10 +21,10 @@ use Rattle.nt_pagelists.specs.ReadingBack.{AreGroups}
 use Rattle.nt_pagelists.specs.Footers.{footer_at}
 use Rattle.nt_pagelists.specs.FooterWriting.{footer_text}
 use Rattle.nt_pagelists.proofs.FootersBack.{footers-read}
-use Rattle.nt_files.specs.Envelopes.{Sealed, header_kind, footer_kind, sealed, envelope_of}
-use Rattle.nt_files.specs.Headers.{header_text, header_payload_at}
-use Rattle.nt_files.specs.Outlines.{header_block, footer_block, described_of}
-use Rattle.nt_files.proofs.HeadersBack.{header-reads}
+use Rattle.nt_file_meaning.specs.Envelopes.{Sealed, header_kind, footer_kind, sealed, envelope_of}
+use Rattle.nt_file_meaning.specs.Headers.{header_text, header_payload_at}
+use Rattle.nt_file_meaning.specs.Outlines.{header_block, footer_block, described_of}
+use Rattle.nt_file_meaning.proofs.HeadersBack.{header-reads}
 use Rattle.nt_layout.specs.Blobs.{object_place}
 use Rattle.nt_layout.specs.Headers.{header_object, header_sum, header_blob}
 use Rattle.nt_layout.specs.Groups.{ClusterSpan, list_len}

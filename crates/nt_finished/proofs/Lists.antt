@@ -16,10 +16,10 @@ use Rattle.nt_pagelists.specs.ReadingBack.{column_lists_from, cluster_list_from,
 use Rattle.nt_pagelists.specs.Books.{listed_column, listed_cluster, listed_clusters, progress_before}
 use Rattle.nt_pagelists.specs.SoundBooks.{HasSoundClusters}
 use Rattle.nt_pagelists.proofs.BooksBack.{book-reads}
-use Rattle.nt_files.specs.Envelopes.{Sealed, page_list_kind, payload_start, sealed, envelope_of}
-use Rattle.nt_files.specs.Outlines.{list_block, moved_column, moved_cluster, clusters_of_block, group_clusters, groups_clusters}
-use Rattle.nt_files.specs.Outlines.{no_progress}
-use Rattle.nt_files.specs.Clusters.{no_list}
+use Rattle.nt_file_meaning.specs.Envelopes.{Sealed, page_list_kind, payload_start, sealed, envelope_of}
+use Rattle.nt_file_meaning.specs.Outlines.{list_block, moved_column, moved_cluster, clusters_of_block, group_clusters, groups_clusters}
+use Rattle.nt_file_meaning.specs.Outlines.{no_progress}
+use Rattle.nt_file_meaning.specs.Clusters.{no_list}
 use Rattle.nt_layout.specs.Blobs.{blob, object_place}
 use Rattle.nt_layout.specs.Groups.{ClusterSpan, list_object, list_len, lists_from, span_group, groups_from}
 use Rattle.nt_finished.specs.Listed.{IsListOf, AreListsOf}

@@ -12,7 +12,7 @@ use Rattle.nt_pagelists.specs.declared.group.Group.{Group}
 use Rattle.nt_pagelists.specs.declared.cluster.ClusterList.{ClusterList}
 use Rattle.nt_pagelists.specs.PageLists.{ProgressCounts}
 use Rattle.nt_pagelists.specs.Books.{progress_before}
-use Rattle.nt_files.specs.Outlines.{known_columns, no_progress, groups_clusters, described_of, outline_of}
+use Rattle.nt_file_meaning.specs.Outlines.{known_columns, no_progress, groups_clusters, described_of, outline_of}
 use Rattle.nt_layout.specs.Headers.{header_sum}
 use Rattle.nt_layout.specs.Finished.{spans, groups, anchor_of_file, finished}
 use Rattle.nt_layout.specs.Laid.{AreBlobsOf, Measures, AreMeasures, IsWithin, IsBookOf}

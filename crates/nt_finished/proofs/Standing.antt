@@ -16,7 +16,7 @@ use Rattle.nt_container.specs.Spelling.{header_part, record_part, blob_key}
 use Rattle.nt_container.specs.Finished.{finished_file, parts_behind, end_place, free_place, keys_place}
 use Rattle.nt_container.proofs.Lengths.{header-len, file_record-len, blob_key-len}
 use Rattle.nt_container.proofs.Gate.{blob_found}
-use Rattle.nt_files.specs.Envelopes.{sealed, envelope_of}
+use Rattle.nt_file_meaning.specs.Envelopes.{sealed, envelope_of}
 use Rattle.nt_layout.specs.Blobs.{blob, blob_len, object_place}
 
 -- these bytes stand at this place

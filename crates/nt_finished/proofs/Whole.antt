@@ -5,8 +5,8 @@ use Rattle.nt_grammar.specs.Table.{Table}
 use Rattle.nt_grammar.specs.ReadingBack.{IsDescribed}
 use Rattle.nt_book.specs.Books.{BookData, book_clusters, cluster_at}
 use Rattle.nt_pagelists.specs.declared.cluster.ClusterList.{ClusterList}
-use Rattle.nt_files.specs.Outlines.{outline_of}
-use Rattle.nt_files.specs.Files.{entries_from, read_file, Means}
+use Rattle.nt_file_meaning.specs.Outlines.{outline_of}
+use Rattle.nt_file_meaning.specs.Files.{entries_from, read_file, Means}
 use Rattle.nt_layout.specs.Finished.{finished}
 use Rattle.nt_layout.specs.Laid.{AreBlobsOf, Measures, AreMeasures, IsWithin, IsBookOf, IsLaid}
 use Rattle.nt_finished.proofs.Starts.{clusters_follow}

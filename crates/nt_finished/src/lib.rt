@@ -1,5 +1,5 @@
 //! A finished file means its schema and the entries of its clusters, in order: the laws that lead
-//! from a file's layout (nt_layout) to its reading (nt_files). Nothing here runs.
+//! from a file's layout (nt_layout) to its reading (nt_file_meaning). Nothing here runs.
 //!
 //! Start with `src/laws.rt`. What is written is read back part by part: the anchor leads to header
 //! and footer, which describe the schema and the groups; the page lists of the groups list the
@@ -7,7 +7,7 @@
 //! elements, and sound columns the trees of the entries.
 //!
 //! Words: a file is *laid out* for a schema and the entries of its clusters where nt_layout says so;
-//! it *means* what nt_files reads of it; a cluster is *listed* as what a page list tells of it.
+//! it *means* what nt_file_meaning reads of it; a cluster is *listed* as what a page list tells of it.
 //!
 //! Proved, each as the contract of a function: a file that is laid out means its schema and its
 //! entries (`finished_files_mean_their_entries`), and so does one whose schema is that of fields

@@ -10,7 +10,7 @@ use Rattle.nt_outside.specs.World.{World, Asked, Out, HostState, TakesBack, Crea
 use Rattle.nt_outside.specs.World.{creates, keeps_disk}
 use Rattle.nt_outside.specs.Disk.{DiskState}
 use Rattle.nt_book.specs.declared.params.Params.{Params}
-use Rattle.nt_gen.specs.declared.making.Making.{Making}
+use Rattle.nt_draws.specs.declared.making.Making.{Making}
 use Rattle.nt_store.specs.Worlds.{AsksFirst, OthersStay, WritesInOrder, IsWrittenInOrder}
 use Rattle.nt_store.specs.Writing.{HoldsNow, IsInOrderFrom}
 use Rattle.nt_store.proofs.Asking.{asks_all}

@@ -16,7 +16,7 @@ use Rattle.nt_totals.specs.Made.{made_totals}
 use Rattle.nt_totals.specs.Lines.{total_lines}
 use Rattle.nt_totals.proofs.Sums.{made_totals-is}
 use Rattle.nt_tell.specs.Telling.{totals_in}
-use Rattle.nt_gen.specs.declared.making.Making.{Making}
+use Rattle.nt_draws.specs.declared.making.Making.{Making}
 use Rattle.nt_store.specs.Worlds.{IsThereWith, AsksFor, MakesDisk, IsWrittenInOrder}
 use Rattle.nt_store.proofs.Asking.{asks_front}
 use Rattle.nt_generate.specs.declared.error.GenerateError.{GenerateError}

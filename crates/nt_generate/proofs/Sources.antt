@@ -5,10 +5,10 @@ use Rattle.std.proofs.lemmas.List.{length-map, map-append}
 use Rattle.std.proofs.lemmas.List.FromFn.{map-range_with_len_more, length-map-range_with_len}
 use Rattle.nt_outside.specs.Source.{SourceState}
 use Rattle.nt_contexts.specs.Contexts.{TellTexts}
-use Rattle.nt_gen.specs.Lines.{events_text}
-use Rattle.nt_gen.specs.Source.{state_of}
-use Rattle.nt_gen.specs.declared.source.EventSource.{EventSource}
-use Rattle.nt_gen.specs.declared.making.Making.{Making}
+use Rattle.nt_draws.specs.Lines.{events_text}
+use Rattle.nt_draws.specs.Source.{state_of}
+use Rattle.nt_draws.specs.declared.source.EventSource.{EventSource}
+use Rattle.nt_draws.specs.declared.making.Making.{Making}
 use Rattle.nt_store.specs.Worlds.{SomeFailed}
 use Rattle.nt_generate.specs.Made.{made_texts}
 

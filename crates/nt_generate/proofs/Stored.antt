@@ -5,8 +5,8 @@ use Rattle.nt_machine.specs.Deal.{Uses, IsDeal}
 use Rattle.nt_book.specs.declared.params.Params.{Params}
 use Rattle.nt_dealing.specs.Texts.{joined_chunks}
 use Rattle.nt_dealing.specs.Limits.{IsOver}
-use Rattle.nt_gen.specs.declared.making.Making.{Making}
-use Rattle.nt_gen.specs.Events.{event_fields}
+use Rattle.nt_draws.specs.declared.making.Making.{Making}
+use Rattle.nt_draws.specs.Events.{event_fields}
 use Rattle.nt_store.specs.Whole.{IsStored}
 use Rattle.nt_store.specs.Writing.{PassesLimitOf}
 use Rattle.nt_generate.specs.Made.{made_texts, IsMade, PassesMade, MadeAreRead}

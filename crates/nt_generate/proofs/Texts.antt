@@ -14,9 +14,9 @@ use Rattle.nt_event.specs.Lines.{HasNoLf}
 use Rattle.nt_dealing.specs.EventText.{EventText, text_lines, is_beyond, entries_of_lines}
 use Rattle.nt_dealing.specs.Texts.{AreSound, events_of, chunks_of}
 use Rattle.nt_dealing.proofs.EventLines.{text_lines-next}
-use Rattle.nt_gen.specs.Events.{event_fields, event_behind, events_behind, after_event}
-use Rattle.nt_gen.specs.Lines.{events_text}
-use Rattle.nt_gen.specs.declared.making.Making.{Making}
+use Rattle.nt_draws.specs.Events.{event_fields, event_behind, events_behind, after_event}
+use Rattle.nt_draws.specs.Lines.{events_text}
+use Rattle.nt_draws.specs.declared.making.Making.{Making}
 use Rattle.nt_generate.specs.Made.{MadeAreRead}
 
 not_beyond : (number : ℕ) (line : List ℕ) → number ≤ 2000000 → length line ≤ 40 → is_beyond number line ≡ false

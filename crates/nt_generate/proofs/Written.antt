@@ -12,8 +12,8 @@ use Rattle.nt_book.specs.Books.{BookData}
 use Rattle.nt_crash.specs.Cuts.{LeavesUnfinished, LeavesUnfinishedOr}
 use Rattle.nt_contexts.specs.Contexts.{TellTexts}
 use Rattle.nt_dealing.specs.Dealt.{commit_order}
-use Rattle.nt_gen.specs.declared.making.Making.{Making}
-use Rattle.nt_gen.specs.Events.{event_fields}
+use Rattle.nt_draws.specs.declared.making.Making.{Making}
+use Rattle.nt_draws.specs.Events.{event_fields}
 use Rattle.nt_store.specs.declared.error.StoreError.{StoreError}
 use Rattle.nt_store.specs.declared.error.StoreError.TheVariants as store
 use Rattle.nt_store.specs.Whole.{IsStored}

@@ -5,7 +5,7 @@ use Rattle.nt_outside.specs.Faults.{Rose}
 use Rattle.nt_outside.specs.Log.{Step}
 use Rattle.nt_outside.specs.World.{World, Stored, Out, File, HostState, stored, file, prints}
 use Rattle.nt_book.specs.declared.params.Params.{Params}
-use Rattle.nt_gen.specs.declared.making.Making.{Making}
+use Rattle.nt_draws.specs.declared.making.Making.{Making}
 use Rattle.nt_store.specs.Worlds.{IsThereWith, AsksFor, LeavesOut, KeepsFiles, OthersStay, MakesDisk, IsLeftOpen, IsNeverBegun, LeavesOpen}
 use Rattle.nt_store.specs.Worlds.{IsLeftByMemory, WritesInOrder}
 use Rattle.nt_totals.specs.declared.total.Total.{Total}

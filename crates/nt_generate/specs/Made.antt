@@ -11,13 +11,13 @@ use Rattle.nt_book.specs.declared.meta.ClusterMeta.{ClusterMeta}
 use Rattle.nt_book.specs.declared.params.Params.{Params}
 use Rattle.nt_book.specs.Books.{book_clusters}
 use Rattle.nt_layout.specs.Laid.{IsLaid}
-use Rattle.nt_files.specs.Files.{Means}
+use Rattle.nt_file_meaning.specs.Files.{Means}
 use Rattle.nt_close.specs.Passing.{measures_of}
 use Rattle.nt_dealing.specs.Texts.{AreSound, joined_chunks, chunks_of}
 use Rattle.nt_dealing.specs.Limits.{IsOver}
-use Rattle.nt_gen.specs.Events.{event_fields, made_events}
-use Rattle.nt_gen.specs.Lines.{events_text}
-use Rattle.nt_gen.specs.declared.making.Making.{Making}
+use Rattle.nt_draws.specs.Events.{event_fields, made_events}
+use Rattle.nt_draws.specs.Lines.{events_text}
+use Rattle.nt_draws.specs.declared.making.Making.{Making}
 use Rattle.nt_totals.specs.Made.{made_totals_lines}
 
 -- the event text of each context

@@ -8,7 +8,7 @@ use crate::made::{event_fields, event_sources};
 use crate::telling::print_totals;
 use crate::writing::write_made;
 use nt_book::Params;
-use nt_gen::Making;
+use nt_draws::Making;
 use nt_outside::{Disk, Gate, Host};
 use std::alloc::Global;
 use std::sync::Wait;

@@ -1,11 +1,11 @@
 //! The texts of events that are made.
 
 ghost use Rattle.nt_types.specs.Rules.{AreFields};
-ghost use Rattle.nt_gen.specs.Events.{event_fields};
-ghost use Rattle.nt_gen.specs.declared.making.Making.{Making};
+ghost use Rattle.nt_draws.specs.Events.{event_fields};
+ghost use Rattle.nt_draws.specs.declared.making.Making.{Making};
 ghost use Rattle.nt_generate.specs.Made.{MadeAreRead};
 
-use nt_gen::made_lines_are_read;
+use nt_draws::made_lines_are_read;
 
 /// The texts of what is made have no bad line, and give just its events.
 pub(crate) fn made_texts_are_read()

@@ -2,12 +2,12 @@
 
 ghost use Rattle.std.specs.Prelude.{◌≡◌, IfOk, map};
 ghost use Rattle.nt_types.specs.Views.{members_view};
-ghost use Rattle.nt_gen.specs.Events.{event_fields};
-ghost use Rattle.nt_gen.specs.Source.{state_of};
+ghost use Rattle.nt_draws.specs.Events.{event_fields};
+ghost use Rattle.nt_draws.specs.Source.{state_of};
 ghost use Rattle.nt_contexts.specs.Contexts.{TellTexts};
 ghost use Rattle.nt_generate.specs.Made.{made_texts};
 
-use nt_gen::{EventSource, Making};
+use nt_draws::{EventSource, Making};
 use nt_types::{Fields, SchemaError, parse_schema};
 use std::alloc::{AllocError, Global};
 

@@ -2,15 +2,15 @@
 
 ghost use Rattle.std.specs.Prelude.{map};
 ghost use Rattle.nt_types.specs.Views.{members_view};
-ghost use Rattle.nt_gen.specs.declared.making.Making.{Making as MakingData};
-ghost use Rattle.nt_gen.specs.Source.{state_of};
+ghost use Rattle.nt_draws.specs.declared.making.Making.{Making as MakingData};
+ghost use Rattle.nt_draws.specs.Source.{state_of};
 ghost use Rattle.nt_store.specs.Filling.{MayClose};
 ghost use Rattle.nt_generate.specs.Writing.{MayWriteMade, WritesMade, ClosesMade};
 
 use crate::error::{GenerateError, unwritten};
 use crate::laws::made_texts_are_read;
 use nt_book::{Book, Params};
-use nt_gen::{EventSource, Making};
+use nt_draws::{EventSource, Making};
 use nt_outside::{Disk, Gate};
 use nt_schema::Schema;
 use nt_store::{close_file, fill_file};

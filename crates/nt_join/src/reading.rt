@@ -4,8 +4,8 @@ ghost use Rattle.std.specs.Prelude.{◌≡◌, ◌<◌, ◌≤◌, ◌-◌, leng
 ghost use Rattle.nt_trees.specs.Columns.{number_at, tag_at, begin_at, last_end};
 ghost use Rattle.nt_trees.specs.TreeAt.{text_from};
 
-use nt_bytes::Bytes;
 use nt_column::{Columns, CowSlice};
+use nt_lists::Bytes;
 use std::alloc::{AllocError, Global};
 
 /// The number of an element; of a Switch its index.

@@ -20,13 +20,13 @@ use Rattle.nt_trees.proofs.Elsewhere.{Agree, all_sound-agrees}
 use Rattle.nt_trees.proofs.Lists.{Extends}
 use Rattle.nt_trees.proofs.Stable.{each_at-stays}
 use Rattle.nt_pagelists.specs.declared.cluster.ClusterList.{ClusterList}
-use Rattle.nt_files.specs.Outlines.{Outline, outline_of}
-use Rattle.nt_files.specs.Clusters.{columns_by_id}
-use Rattle.nt_files.specs.Clusters.{cluster_of}
-use Rattle.nt_files.specs.Files.{entries_from, read_file, Means}
-use Rattle.nt_files.specs.Holds.{HoldsColumns}
-use Rattle.nt_files.specs.Holds.{HoldsCluster}
-use Rattle.nt_files.proofs.ClustersBack.{cluster}
+use Rattle.nt_file_meaning.specs.Outlines.{Outline, outline_of}
+use Rattle.nt_file_meaning.specs.Clusters.{columns_by_id}
+use Rattle.nt_file_meaning.specs.Clusters.{cluster_of}
+use Rattle.nt_file_meaning.specs.Files.{entries_from, read_file, Means}
+use Rattle.nt_file_meaning.specs.Holds.{HoldsColumns}
+use Rattle.nt_file_meaning.specs.Holds.{HoldsCluster}
+use Rattle.nt_file_meaning.proofs.ClustersBack.{cluster}
 use Rattle.nt_late.specs.LeftOut.{IsLeftOut, and_trees, filled, LacksFields, lacks_none, lacks_one, AreFilled, none_filled}
 use Rattle.nt_late.specs.LeftOut.{and_filled}
 use Rattle.nt_late.specs.Missing.{missing_elements, AreMissing}

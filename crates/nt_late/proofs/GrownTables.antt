@@ -12,7 +12,7 @@ use Rattle.nt_plans.specs.Needs.{entries, need_in, need_of, is_entries}
 use Rattle.nt_plans.specs.Late.{GrowsBy}
 use Rattle.nt_pagelists.specs.declared.column.KnownColumn.{KnownColumn}
 use Rattle.nt_pagelists.specs.Columns.{unknown_column}
-use Rattle.nt_files.specs.Outlines.{known_column, known_columns}
+use Rattle.nt_file_meaning.specs.Outlines.{known_column, known_columns}
 use Rattle.nt_finished.proofs.Needs.{known-at}
 use Rattle.nt_late.specs.LeftOut.{AllBeginBehind, IsLeftOut, LacksFields, lacks_none, lacks_one}
 

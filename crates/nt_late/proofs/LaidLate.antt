@@ -17,9 +17,9 @@ use Rattle.nt_pagelists.specs.declared.column.KnownColumn.{KnownColumn}
 use Rattle.nt_pagelists.specs.declared.cluster.ClusterList.{ClusterList}
 use Rattle.nt_pagelists.specs.SoundBooks.{IsSoundList, HasSoundClusters}
 use Rattle.nt_pagelists.proofs.SoundLists.{entries-more}
-use Rattle.nt_files.specs.Outlines.{Outline, known_columns, outline_of}
-use Rattle.nt_files.specs.Files.{Means}
-use Rattle.nt_files.specs.Holds.{HoldsCluster}
+use Rattle.nt_file_meaning.specs.Outlines.{Outline, known_columns, outline_of}
+use Rattle.nt_file_meaning.specs.Files.{Means}
+use Rattle.nt_file_meaning.specs.Holds.{HoldsCluster}
 use Rattle.nt_layout.specs.Finished.{finished}
 use Rattle.nt_layout.specs.Laid.{Measures, AreMeasures}
 use Rattle.nt_finished.specs.Listed.{IsListOf, AreListsOf}

@@ -13,10 +13,10 @@ use Rattle.nt_pagelists.specs.declared.column.KnownColumn.{KnownColumn}
 use Rattle.nt_pagelists.specs.declared.page.PageItem.{PageItem}
 use Rattle.nt_pagelists.specs.declared.cluster.ClusterList.{ClusterList}
 use Rattle.nt_pagelists.specs.declared.cluster.ColumnList.{ColumnList}
-use Rattle.nt_files.specs.Outlines.{known_column}
-use Rattle.nt_files.specs.Clusters.{kind_of_code, no_list, pages_listed, begins_behind}
-use Rattle.nt_files.specs.Holds.{HoldsPages, no_page, HoldsColumn, closed, not_begun, untyped, in_pages, HoldsColumns, no_column}
-use Rattle.nt_files.specs.Holds.{and_column}
+use Rattle.nt_file_meaning.specs.Outlines.{known_column}
+use Rattle.nt_file_meaning.specs.Clusters.{kind_of_code, no_list, pages_listed, begins_behind}
+use Rattle.nt_file_meaning.specs.Holds.{HoldsPages, no_page, HoldsColumn, closed, not_begun, untyped, in_pages, HoldsColumns, no_column}
+use Rattle.nt_file_meaning.specs.Holds.{and_column}
 use Rattle.nt_late.specs.LeftOut.{AllBeginBehind}
 use Rattle.nt_late.specs.Missing.{missing_elements}
 

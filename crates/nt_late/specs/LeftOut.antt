@@ -7,7 +7,7 @@ use Rattle.nt_plans.specs.Plan.{PlanData}
 use Rattle.nt_plans.specs.Needs.{entries, need_in, is_entries}
 use Rattle.nt_plans.specs.Late.{GrowsBy}
 use Rattle.nt_pagelists.specs.declared.cluster.ClusterList.{ClusterList}
-use Rattle.nt_files.specs.Holds.{HoldsCluster}
+use Rattle.nt_file_meaning.specs.Holds.{HoldsCluster}
 use Rattle.nt_late.specs.Zeros.{zero_of}
 
 -- of these columns of a plan, whose ids go on from this one, each principal one begins behind so many entries

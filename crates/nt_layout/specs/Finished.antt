@@ -9,7 +9,7 @@ use Rattle.nt_container.specs.Spelling.{header_part, record_part, anchor_part, k
 use Rattle.nt_container.specs.Finished.{finished_file}
 use Rattle.nt_grammar.specs.Table.{Table}
 use Rattle.nt_book.specs.Books.{BookData, book_clusters, book_end}
-use Rattle.nt_files.specs.Envelopes.{footer_kind}
+use Rattle.nt_file_meaning.specs.Envelopes.{footer_kind}
 use Rattle.nt_pagelists.specs.declared.group.Group.{Group}
 use Rattle.nt_pagelists.specs.FooterWriting.{footer_text}
 use Rattle.nt_layout.specs.Blobs.{blob, blob_len, object_place}

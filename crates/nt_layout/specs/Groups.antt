@@ -5,7 +5,7 @@ use Rattle.std.specs.Int.{div_ceil}
 use Rattle.std.specs.List.{range_with_len}
 use Rattle.nt_format.specs.Envelopes.{envelope}
 use Rattle.nt_book.specs.Books.{BookData, first_entry}
-use Rattle.nt_files.specs.Envelopes.{page_list_kind}
+use Rattle.nt_file_meaning.specs.Envelopes.{page_list_kind}
 use Rattle.nt_pagelists.specs.declared.group.Group.{Group}
 use Rattle.nt_pagelists.specs.Books.{listed_clusters}
 use Rattle.nt_pagelists.specs.Writing.{page_list_text}

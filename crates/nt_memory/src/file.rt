@@ -5,7 +5,7 @@ ghost use Rattle.std.specs.Prelude.{◌≡◌, Some};
 use crate::calls::Calls;
 use crate::front::copy_front;
 use crate::tally::Tally;
-use nt_bytes::Bytes;
+use nt_lists::Bytes;
 use nt_outside::{Failed, ReadAt};
 
 /// A file whose bytes are told.

@@ -1,7 +1,7 @@
 //! What is read, printed and kept at calls that fail.
 
 use super::*;
-use nt_bytes::Bytes;
+use nt_lists::Bytes;
 use nt_outside::{
     Disk, Ext, Failed, Host, Pen, ReadAt, Refused, Source, Stream, print_all, read_front,
 };

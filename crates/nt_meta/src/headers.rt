@@ -5,7 +5,7 @@ ghost use Rattle.nt_format.specs.Reading.{standing};
 ghost use Rattle.nt_format.specs.Envelopes.{envelope};
 ghost use Rattle.nt_frame.specs.Writing.{bytes_added};
 ghost use Rattle.nt_lists.specs.Answering.{Answers};
-ghost use Rattle.nt_files.specs.Headers.{header_text, header_payload_at};
+ghost use Rattle.nt_file_meaning.specs.Headers.{header_text, header_payload_at};
 ghost use Rattle.nt_schema.specs.Whole.{AreWhole};
 ghost use Rattle.nt_meta.specs.Defects.{defect_of};
 
@@ -22,7 +22,7 @@ use std::alloc::{AllocError, Global};
 const HEADER: u16 = 1;
 
 /// Reads the payload of a header, and gives the schema that it describes (section Header Envelope).
-#[tactic(auto, unfolding(nt_files::specs::Headers::header_payload_at))]
+#[tactic(auto, unfolding(nt_file_meaning::specs::Headers::header_payload_at))]
 pub fn read_header(alloc: Global, payload: &[u8]) -> Result<Schema, MetaError>
     ensures { Answers (λ schema. schema) defect_of result
         (header_payload_at (standing 0 payload.now)) }

@@ -12,8 +12,8 @@ use crate::image::ClusterImage;
 use crate::partial::PartialImage;
 use crate::size::image_size;
 use nt_book::{ClusterMeta, PageLists};
-use nt_bytes::Bytes;
 use nt_column::ColumnSet;
+use nt_lists::Bytes;
 use nt_schema::Schema;
 use std::alloc::{AllocError, Global};
 

@@ -4,7 +4,7 @@ ghost use Rattle.std.specs.Prelude.{◌≡◌, ◌≤◌, ◌++◌, length, drop
 ghost use Rattle.nt_pages.specs.Image.{key_room};
 
 use nt_book::ClusterMeta;
-use nt_bytes::Bytes;
+use nt_lists::Bytes;
 
 /// A cluster as it goes to the file.
 #[derive(Drop)]

@@ -9,7 +9,7 @@ use Rattle.nt_pagelists.specs.declared.cluster.ColumnList.{ColumnList}
 use Rattle.nt_pagelists.specs.declared.cluster.ClusterList.{ClusterList}
 use Rattle.nt_pagelists.specs.Columns.{unknown_column, is_sound_column, begins_inside, has_its_elements, has_its_offset}
 use Rattle.nt_pagelists.specs.Clusters.{with_elements}
-use Rattle.nt_files.specs.Clusters.{no_list}
+use Rattle.nt_file_meaning.specs.Clusters.{no_list}
 use Rattle.nt_payloads.specs.ListTexts.{index_word}
 use Rattle.nt_payloads.specs.Conditions.{summary_of, IsSoundIn, AreClustersBehind, entries_of_lists}
 use Rattle.nt_payloads.proofs.ColumnLists.{IsFit, AreFit, AreUnlisted, HasFit}

@@ -10,8 +10,8 @@ use Rattle.nt_pagelists.specs.declared.column.KnownColumn.{KnownColumn}
 use Rattle.nt_pagelists.specs.declared.cluster.ClusterList.{ClusterList}
 use Rattle.nt_pagelists.specs.declared.group.Group.{Group}
 use Rattle.nt_pagelists.specs.PageLists.{ProgressCounts}
-use Rattle.nt_files.specs.Envelopes.{Sealed, Block, IsEnvelope}
-use Rattle.nt_files.specs.Describes.{DescribesHeader, DescribesFooter, DescribesClusters}
+use Rattle.nt_file_meaning.specs.Envelopes.{Sealed, Block, IsEnvelope}
+use Rattle.nt_file_meaning.specs.Describes.{DescribesHeader, DescribesFooter, DescribesClusters}
 use Rattle.nt_payloads.specs.Descriptions.{IsHeaderPayload}
 use Rattle.nt_payloads.specs.Footers.{IsFooter}
 use Rattle.nt_payloads.specs.Conditions.{IsPageList}

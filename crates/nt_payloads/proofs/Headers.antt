@@ -11,7 +11,7 @@ use Rattle.nt_format.proofs.Relations.{in_words}
 use Rattle.nt_grammar.specs.Table.{Table, no_rows}
 use Rattle.nt_grammar.specs.declared.part.Part.TheVariants.{Header}
 use Rattle.nt_pagelists.specs.Footers.{feature_flags_at}
-use Rattle.nt_files.specs.Headers.{header_payload_at}
+use Rattle.nt_file_meaning.specs.Headers.{header_payload_at}
 use Rattle.nt_payloads.specs.Descriptions.{AddsDescription, IsHeaderPayload}
 use Rattle.nt_payloads.proofs.Texts.{Opens, Both, Done, part_bytes, seq_open, done_open}
 use Rattle.nt_payloads.proofs.Tests.{tested, Word64, word64}

@@ -7,10 +7,10 @@ use Rattle.nt_pagelists.specs.declared.group.Group.{Group}
 use Rattle.nt_pagelists.specs.declared.column.KnownColumn.{KnownColumn}
 use Rattle.nt_pagelists.specs.declared.cluster.ClusterList.{ClusterList}
 use Rattle.nt_pagelists.specs.PageLists.{ProgressCounts}
-use Rattle.nt_files.specs.Envelopes.{header_kind, footer_kind, page_list_kind}
-use Rattle.nt_files.specs.Outlines.{Outline, header_block, footer_block, list_block, known_columns, outline_of}
-use Rattle.nt_files.specs.Describes.{ListsGroup, ListsGroups, no_more, and_more, HasOutline}
-use Rattle.nt_files.proofs.OutlinesBack.{outlined}
+use Rattle.nt_file_meaning.specs.Envelopes.{header_kind, footer_kind, page_list_kind}
+use Rattle.nt_file_meaning.specs.Outlines.{Outline, header_block, footer_block, list_block, known_columns, outline_of}
+use Rattle.nt_file_meaning.specs.Describes.{ListsGroup, ListsGroups, no_more, and_more, HasOutline}
+use Rattle.nt_file_meaning.proofs.OutlinesBack.{outlined}
 use Rattle.nt_payloads.specs.Outlines.{IsGroupListed, AreGroupsListed, no_group, and_group, IsOutlined}
 use Rattle.nt_payloads.proofs.Files.{payload_bytes, header_words, footer_words, page_list_words}
 

@@ -9,7 +9,7 @@ use Rattle.nt_pagelists.specs.declared.group.Group.{Group}
 use Rattle.nt_pagelists.specs.Columns.{unknown_column, is_sound_column}
 use Rattle.nt_pagelists.specs.Clusters.{with_elements}
 use Rattle.nt_pagelists.specs.PageLists.{ProgressCounts, with_group}
-use Rattle.nt_files.specs.Clusters.{no_list}
+use Rattle.nt_file_meaning.specs.Clusters.{no_list}
 use Rattle.nt_payloads.specs.ListTexts.{index_word, PageListText}
 
 -- what a page list tells of the entries of a cluster, which so many clusters come before

@@ -1,4 +1,4 @@
--- When a file has an outline, with no reading of a payload in it: what nt_files says of files (`HasOutline`), told by the grammar of
+-- When a file has an outline, with no reading of a payload in it: what nt_file_meaning says of files (`HasOutline`), told by the grammar of
 -- payloads (RNTuple Binary Format Specification 1.0.0.0, sections Anchor Schema, Header Envelope, Footer Envelope and Page List Envelope).
 use Rattle.std.specs.Prelude.{ℕ, ◌≡◌, List, [], ◌∷◌, ◌++◌, length}
 use Rattle.nt_container.specs.declared.anchor.Anchor.{Anchor}
@@ -8,8 +8,8 @@ use Rattle.nt_pagelists.specs.declared.group.Group.{Group}
 use Rattle.nt_pagelists.specs.declared.column.KnownColumn.{KnownColumn}
 use Rattle.nt_pagelists.specs.declared.cluster.ClusterList.{ClusterList}
 use Rattle.nt_pagelists.specs.PageLists.{ProgressCounts}
-use Rattle.nt_files.specs.Envelopes.{Sealed, IsEnvelope, header_kind, footer_kind, page_list_kind}
-use Rattle.nt_files.specs.Outlines.{Outline, header_block, footer_block, list_block, known_columns, no_progress, clusters_of_block}
+use Rattle.nt_file_meaning.specs.Envelopes.{Sealed, IsEnvelope, header_kind, footer_kind, page_list_kind}
+use Rattle.nt_file_meaning.specs.Outlines.{Outline, header_block, footer_block, list_block, known_columns, no_progress, clusters_of_block}
 use Rattle.nt_payloads.specs.Conditions.{IsPageList}
 use Rattle.nt_payloads.specs.Descriptions.{IsHeaderPayload}
 use Rattle.nt_payloads.specs.Footers.{IsFooter}

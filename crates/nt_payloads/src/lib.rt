@@ -1,6 +1,6 @@
 //! The payloads of headers, page lists and footers as a grammar: relations of bytes and what they
 //! say, in the standard's words, with no faults and in no reader's order; and the laws that the
-//! readings of nt_grammar, nt_pagelists and nt_files agree with them, of any bytes. Nothing here
+//! readings of nt_grammar, nt_pagelists and nt_file_meaning agree with them, of any bytes. Nothing here
 //! runs (RNTuple Binary Format Specification 1.0.0.0, sections Header Envelope, Page List Envelope
 //! and Footer Envelope).
 //!
@@ -16,7 +16,7 @@
 //! Proved, each as the contract of a function with an empty body: bytes are read as a page list
 //! exactly where they are one, and as what it lists (`page_lists_are_described`); the same of
 //! footers (`footers_are_described`), headers (`headers_are_described`) and schema descriptions
-//! (`descriptions_are_described`); and what nt_files says of the payloads of a file by their
+//! (`descriptions_are_described`); and what nt_file_meaning says of the payloads of a file by their
 //! readings is this grammar (`payloads_of_files_are_described`), so that a file has an outline exactly
 //! where `IsOutlined` of `specs/Outlines.antt` says so, in which no reading of a payload stands
 //! (`outlines_are_of_payloads`). That the definitions are the standard's rests on reading them.

@@ -10,7 +10,7 @@ use Rattle.nt_format.specs.Reading.{standing}
 use Rattle.nt_format.specs.Pieces.{piece, standing_or, piece_or}
 use Rattle.nt_format.specs.Demands.{found_or}
 use Rattle.nt_format.specs.Envelopes.{payload_of}
-use Rattle.nt_files.specs.Envelopes.{Sealed, Block, opened_envelope, envelope_of}
+use Rattle.nt_file_meaning.specs.Envelopes.{Sealed, Block, opened_envelope, envelope_of}
 use Rattle.nt_tfile.specs.declared.failure.ReadFailure.{ReadFailure}
 use Rattle.nt_tfile.specs.declared.failure.ReadFailure.TheVariants.{Defect, Fault, Memory}
 use Rattle.nt_tfile.specs.Calls.{IsReadOrFails}

@@ -19,10 +19,10 @@ use Rattle.nt_pagelists.specs.PageLists.{ProgressCounts, page_list_at}
 use Rattle.nt_tfile.specs.declared.failure.ReadFailure.{ReadFailure}
 use Rattle.nt_tfile.specs.declared.failure.ReadFailure.TheVariants.{Defect, Fault, Memory}
 use Rattle.nt_tfile.specs.Calls.{IsReadOrFails}
-use Rattle.nt_files.specs.Envelopes.{Sealed, Block, header_kind, page_list_kind, envelope_of, inside_of}
-use Rattle.nt_files.specs.Headers.{header_payload_at}
-use Rattle.nt_files.specs.Outlines.{Outline, header_block, list_block, known_columns, no_progress, clusters_of_block, group_clusters}
-use Rattle.nt_files.specs.Outlines.{groups_clusters, described_of, outline_of}
+use Rattle.nt_file_meaning.specs.Envelopes.{Sealed, Block, header_kind, page_list_kind, envelope_of, inside_of}
+use Rattle.nt_file_meaning.specs.Headers.{header_payload_at}
+use Rattle.nt_file_meaning.specs.Outlines.{Outline, header_block, list_block, known_columns, no_progress, clusters_of_block, group_clusters}
+use Rattle.nt_file_meaning.specs.Outlines.{groups_clusters, described_of, outline_of}
 use Rattle.nt_reader.specs.Failures.{IsInPayload}
 use Rattle.nt_reader.specs.Steps.{header_said, footer_said, clusters_with, clusters_behind}
 

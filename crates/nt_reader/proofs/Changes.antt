@@ -10,7 +10,7 @@ use Rattle.nt_types.specs.declared.column_type.ColumnType.TheVariants.{Bit}
 use Rattle.nt_encode.specs.Elements.{Element}
 use Rattle.nt_column.specs.Column.{Column, Buffer, empty, zeroed, changed, columns_of, elements_at}
 use Rattle.nt_grammar.specs.declared.rows.ColumnRow.{ColumnRow}
-use Rattle.nt_files.specs.Clusters.{zero_elements}
+use Rattle.nt_file_meaning.specs.Clusters.{zero_elements}
 use Rattle.nt_reader.specs.Columns.{kept_empty, held_column, held_elements, AreReadTo, ChangesOne}
 
 pub none-read : (rows : List ColumnRow) (bs : List Buffer) → columns_of bs ≡ map kept_empty rows → AreReadTo rows 0 (columns_of bs)

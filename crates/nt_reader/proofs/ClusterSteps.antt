@@ -8,7 +8,7 @@ use Rattle.nt_grammar.specs.Table.{Table}
 use Rattle.nt_plans.specs.Place.{open_plans}
 use Rattle.nt_trees.specs.Faults.{fault_in_any}
 use Rattle.nt_pagelists.specs.declared.cluster.ClusterList.{ClusterList}
-use Rattle.nt_files.specs.Clusters.{columns_from, columns_by_id, no_value_fault, entries_of_columns, cluster_of}
+use Rattle.nt_file_meaning.specs.Clusters.{columns_from, columns_by_id, no_value_fault, entries_of_columns, cluster_of}
 use Rattle.nt_tfile.specs.declared.failure.ReadFailure.{ReadFailure}
 use Rattle.nt_tfile.specs.Calls.{IsReadOrFails}
 use Rattle.nt_reader.proofs.Chains.{fails}

@@ -14,7 +14,7 @@ use Rattle.nt_types.specs.declared.column_type.ColumnType.TheVariants.{SplitInt3
 use Rattle.nt_types.specs.declared.column_type.ColumnType.TheVariants.{SplitIndex64}
 use Rattle.nt_column.specs.Column.{Column, empty}
 use Rattle.nt_grammar.specs.declared.rows.ColumnRow.{ColumnRow}
-use Rattle.nt_files.specs.Clusters.{column_kinds, kind_of_code}
+use Rattle.nt_file_meaning.specs.Clusters.{column_kinds, kind_of_code}
 use Rattle.nt_reader.specs.Columns.{kind_or_bit, kept_empty, AreOfTypes}
 
 -- each type is found by its code

@@ -15,9 +15,9 @@ use Rattle.nt_plans.specs.Needs.{need_of}
 use Rattle.nt_pagelists.specs.declared.column.KnownColumn.{KnownColumn}
 use Rattle.nt_pagelists.specs.declared.cluster.ClusterList.{ClusterList}
 use Rattle.nt_pagelists.specs.declared.page.PageItem.{PageItem}
-use Rattle.nt_files.specs.Outlines.{known_column}
-use Rattle.nt_files.specs.Clusters.{kind_of_code, pages_of_column, pages_of_kind, pages_listed, begins_behind, zero_elements}
-use Rattle.nt_files.specs.Clusters.{column_elements, columns_from}
+use Rattle.nt_file_meaning.specs.Outlines.{known_column}
+use Rattle.nt_file_meaning.specs.Clusters.{kind_of_code, pages_of_column, pages_of_kind, pages_listed, begins_behind, zero_elements}
+use Rattle.nt_file_meaning.specs.Clusters.{column_elements, columns_from}
 use Rattle.nt_tfile.specs.declared.failure.ReadFailure.{ReadFailure}
 use Rattle.nt_tfile.specs.declared.failure.ReadFailure.TheVariants.{Defect, Fault, Memory}
 use Rattle.nt_tfile.specs.Calls.{IsReadOrFails}

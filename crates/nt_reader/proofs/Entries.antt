@@ -9,7 +9,7 @@ use Rattle.nt_encode.specs.Elements.{Element}
 use Rattle.nt_grammar.specs.Table.{Table}
 use Rattle.nt_plans.specs.Place.{open_plans}
 use Rattle.nt_trees.specs.TreeAt.{each_at}
-use Rattle.nt_files.specs.Clusters.{columns_by_id, entries_of_columns}
+use Rattle.nt_file_meaning.specs.Clusters.{columns_by_id, entries_of_columns}
 use Rattle.nt_reader.specs.Columns.{ClusterData, given_entries}
 
 given-at : (t : Table) (cs : List (List Element)) (n i : ℕ) → i < n

@@ -7,7 +7,7 @@ use Rattle.nt_grammar.specs.declared.rows.ColumnRow.{ColumnRow}
 use Rattle.nt_plans.specs.Needs.{need_of}
 use Rattle.nt_pagelists.specs.declared.column.KnownColumn.{KnownColumn}
 use Rattle.nt_pagelists.specs.declared.group.Group.{Group}
-use Rattle.nt_files.specs.Outlines.{known_column, known_columns_from, known_columns, no_progress, groups_clusters}
+use Rattle.nt_file_meaning.specs.Outlines.{known_column, known_columns_from, known_columns, no_progress, groups_clusters}
 
 no_row : ColumnRow
 no_row = record { code = 0; bits = 0; field = 0; flags = 0; representation = 0; first = 0 }

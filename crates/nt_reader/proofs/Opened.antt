@@ -8,7 +8,7 @@ use Rattle.nt_format.specs.Reading.{IsBytes}
 use Rattle.nt_format.specs.Envelopes.{unsealed, envelope, payload_of}
 use Rattle.nt_format.proofs.Sum.{xxh3_below}
 use Rattle.nt_format.proofs.Envelopes.{payload_takes}
-use Rattle.nt_files.specs.Envelopes.{Sealed, sealed, opened_envelope}
+use Rattle.nt_file_meaning.specs.Envelopes.{Sealed, sealed, opened_envelope}
 use Rattle.nt_reader.specs.Envelopes.{opened_bytes}
 
 -- the bytes between the first word and the checksum

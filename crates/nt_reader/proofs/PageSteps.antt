@@ -14,7 +14,7 @@ use Rattle.nt_encode.specs.Elements.{Element, page_elements}
 use Rattle.nt_column.specs.Column.{Column, with_more}
 use Rattle.nt_pagelists.specs.Columns.{in_column}
 use Rattle.nt_pagelists.specs.declared.page.PageItem.{PageItem}
-use Rattle.nt_files.specs.Clusters.{is_checked, sum_fault, page_of_column, pages_of_column}
+use Rattle.nt_file_meaning.specs.Clusters.{is_checked, sum_fault, page_of_column, pages_of_column}
 use Rattle.nt_tfile.specs.declared.failure.ReadFailure.{ReadFailure}
 use Rattle.nt_tfile.specs.declared.failure.ReadFailure.TheVariants.{Defect, Fault, Memory}
 use Rattle.nt_tfile.specs.Calls.{IsReadOrFails}

@@ -11,7 +11,7 @@ use Rattle.nt_format.specs.Reading.{standing}
 use Rattle.nt_format.specs.Demands.{found_or}
 use Rattle.nt_format.specs.Pieces.{piece, standing_or, piece_or}
 use Rattle.nt_pagelists.specs.declared.page.PageItem.{PageItem}
-use Rattle.nt_files.specs.Clusters.{stored_len}
+use Rattle.nt_file_meaning.specs.Clusters.{stored_len}
 use Rattle.nt_tfile.specs.declared.failure.ReadFailure.{ReadFailure}
 use Rattle.nt_tfile.specs.declared.failure.ReadFailure.TheVariants.{Defect, Fault, Memory}
 use Rattle.nt_tfile.specs.Calls.{IsReadOrFails}

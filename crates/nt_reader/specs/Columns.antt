@@ -9,9 +9,9 @@ use Rattle.nt_grammar.specs.Table.{Table}
 use Rattle.nt_grammar.specs.declared.rows.ColumnRow.{ColumnRow}
 use Rattle.nt_plans.specs.Needs.{need_of}
 use Rattle.nt_pagelists.specs.declared.cluster.ClusterList.{ClusterList}
-use Rattle.nt_files.specs.Outlines.{known_column}
+use Rattle.nt_file_meaning.specs.Outlines.{known_column}
 use Rattle.nt_types.specs.TreeData.{TreesData}
-use Rattle.nt_files.specs.Clusters.{kind_of_code, column_elements, entries_of_columns}
+use Rattle.nt_file_meaning.specs.Clusters.{kind_of_code, column_elements, entries_of_columns}
 
 -- the type by which a column is kept; one without a type, which stays empty, by any
 abbrev pub kind_or_bit : Option ColumnType → ColumnType

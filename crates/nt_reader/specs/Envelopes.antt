@@ -1,7 +1,7 @@
 -- What the code keeps of an envelope.
 use Rattle.std.specs.Prelude.{ℕ, ◌-◌, List, take, drop, length}
-use Rattle.nt_files.specs.Envelopes as files
-use Rattle.nt_files.specs.Envelopes.{Sealed}
+use Rattle.nt_file_meaning.specs.Envelopes as files
+use Rattle.nt_file_meaning.specs.Envelopes.{Sealed}
 use Rattle.nt_reader.specs.declared.envelope.Block.{Block}
 
 -- an envelope's bytes without its first word and its checksum, and that checksum

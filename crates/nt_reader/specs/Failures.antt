@@ -5,7 +5,7 @@ use Rattle.nt_meta.specs.declared.error.MetaError.{MetaError}
 use Rattle.nt_meta.specs.declared.error.MetaError.TheVariants as payload
 use Rattle.nt_tfile.specs.declared.failure.ReadFailure.{ReadFailure}
 use Rattle.nt_tfile.specs.declared.failure.ReadFailure.TheVariants.{Defect, Memory}
-use Rattle.nt_files.specs.Envelopes.{payload_start}
+use Rattle.nt_file_meaning.specs.Envelopes.{payload_start}
 
 -- the failure is that of the payload of the envelope at this place, its fault counted from the file's beginning; a place past 2^64,
 -- which no machine holds, is want of memory

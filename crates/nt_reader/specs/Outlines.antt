@@ -3,8 +3,8 @@ use Rattle.std.specs.Prelude.{ℕ, List, [], slice_index_or, Result}
 use Rattle.nt_num.specs.declared.fault.ReadError.{ReadError}
 use Rattle.nt_types.specs.TreeData.{TreesData}
 use Rattle.nt_pagelists.specs.declared.cluster.ClusterList.{ClusterList}
-use Rattle.nt_files.specs.Outlines.{Outline}
-use Rattle.nt_files.specs.Clusters.{cluster_of}
+use Rattle.nt_file_meaning.specs.Outlines.{Outline}
+use Rattle.nt_file_meaning.specs.Clusters.{cluster_of}
 
 -- what is listed of a cluster past the last one
 abbrev pub unlisted_cluster : ClusterList

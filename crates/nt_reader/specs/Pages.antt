@@ -11,7 +11,7 @@ use Rattle.nt_encode.specs.Elements.{page_elements}
 use Rattle.nt_column.specs.Column.{Column, with_more}
 use Rattle.nt_pagelists.specs.Columns.{in_column}
 use Rattle.nt_pagelists.specs.declared.page.PageItem.{PageItem}
-use Rattle.nt_files.specs.Clusters.{is_checked, sum_fault, page_of_column, pages_of_column}
+use Rattle.nt_file_meaning.specs.Clusters.{is_checked, sum_fault, page_of_column, pages_of_column}
 
 -- the column with the elements of a page whose bytes are these
 abbrev pub column_with_bytes : ℕ → ℕ → PageItem → Column → List ℕ → Result Column ReadError

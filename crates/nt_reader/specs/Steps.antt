@@ -10,9 +10,9 @@ use Rattle.nt_pagelists.specs.declared.column.KnownColumn.{KnownColumn}
 use Rattle.nt_pagelists.specs.declared.cluster.ClusterList.{ClusterList}
 use Rattle.nt_pagelists.specs.PageLists.{ProgressCounts}
 use Rattle.nt_pagelists.specs.Footers.{footer_at}
-use Rattle.nt_files.specs.Envelopes.{header_kind, footer_kind, envelope_of, inside_of}
-use Rattle.nt_files.specs.Headers.{header_payload_at}
-use Rattle.nt_files.specs.Outlines.{header_block, footer_block, group_clusters, groups_clusters}
+use Rattle.nt_file_meaning.specs.Envelopes.{header_kind, footer_kind, envelope_of, inside_of}
+use Rattle.nt_file_meaning.specs.Headers.{header_payload_at}
+use Rattle.nt_file_meaning.specs.Outlines.{header_block, footer_block, group_clusters, groups_clusters}
 
 -- the rows that the header describes, and the header's checksum
 abbrev pub header_said : Anchor → List ℕ → Result (Table × ℕ) ReadError

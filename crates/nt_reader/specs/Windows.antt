@@ -6,7 +6,7 @@ use Rattle.nt_format.specs.Pieces.{piece}
 use Rattle.nt_outside.specs.File.{FileState}
 use Rattle.nt_tfile.specs.Calls.{HasSize}
 use Rattle.nt_pagelists.specs.declared.page.PageItem.{PageItem}
-use Rattle.nt_files.specs.Clusters.{stored_len}
+use Rattle.nt_file_meaning.specs.Clusters.{stored_len}
 use Rattle.nt_reader.specs.declared.window.Window.{Window}
 
 -- the window has bytes of the file, where the file tells them

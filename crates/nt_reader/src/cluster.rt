@@ -8,7 +8,7 @@ ghost use Rattle.nt_trees.specs.Sound.{AllSound};
 ghost use Rattle.nt_trees.specs.Faults.{Spot, fault_in_any};
 ghost use Rattle.nt_join.specs.Spots.{spot_of};
 ghost use Rattle.nt_event.specs.Json.{line_of};
-ghost use Rattle.nt_files.specs.Clusters.{columns_by_id, frame_of, value_fault, no_value_fault, cluster_of};
+ghost use Rattle.nt_file_meaning.specs.Clusters.{columns_by_id, frame_of, value_fault, no_value_fault, cluster_of};
 ghost use Rattle.nt_tfile.specs.Calls.{Serves, IsReadAs, ReadsFile};
 ghost use Rattle.nt_reader.specs.Columns.{held_elements, given_entries};
 
@@ -37,7 +37,7 @@ pub struct ClusterRead<'a> {
 impl<'a> Model for ClusterRead<'a> {
     ghost use Rattle.nt_plans.specs.Place.{open_plans};
     ghost use Rattle.nt_trees.specs.Sound.{AllSound};
-    ghost use Rattle.nt_files.specs.Clusters.{columns_by_id};
+    ghost use Rattle.nt_file_meaning.specs.Clusters.{columns_by_id};
     ghost use Rattle.nt_reader.specs.Columns.{ClusterData, held_elements};
 
     ghost Value = { ClusterData };

@@ -3,7 +3,7 @@
 ghost use Rattle.std.specs.Prelude.{◌≡◌, ◌<◌, length, map, slice_get, Some, IfOk};
 ghost use Rattle.nt_grammar.specs.declared.rows.ColumnRow.{ColumnRow};
 ghost use Rattle.nt_column.specs.Column.{columns_of, elements_at};
-ghost use Rattle.nt_files.specs.Clusters.{kind_of_code, pages_of_column, pages_listed, begins_behind, columns_from};
+ghost use Rattle.nt_file_meaning.specs.Clusters.{kind_of_code, pages_of_column, pages_listed, begins_behind, columns_from};
 ghost use Rattle.nt_tfile.specs.Calls.{Serves, HasSize, ReadsFile};
 ghost use Rattle.nt_reader.specs.Columns.{kind_or_bit, kept_empty, elements_in, held_elements, held_column, IsNextColumn, IsEmptyAt, ChangesOne};
 

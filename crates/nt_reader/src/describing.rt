@@ -1,7 +1,7 @@
 //! Header and footer of a file.
 
 ghost use Rattle.std.specs.Prelude.{◌≡◌, IfOk};
-ghost use Rattle.nt_files.specs.Outlines.{header_block, footer_block, described_of};
+ghost use Rattle.nt_file_meaning.specs.Outlines.{header_block, footer_block, described_of};
 ghost use Rattle.nt_tfile.specs.Calls.{Serves, HasSize, ReadsFile};
 ghost use Rattle.nt_reader.specs.Envelopes.{block_of};
 ghost use Rattle.nt_reader.specs.Steps.{header_said, footer_said, AreCounted};

@@ -4,7 +4,7 @@ ghost use Rattle.std.specs.Prelude.{◌≡◌, ◌<◌, ◌≤◌, ◌^◌, leng
 ghost use Rattle.nt_format.specs.Envelopes.{payload_of};
 ghost use Rattle.nt_format.specs.Reading.{IsBytes};
 ghost use Rattle.nt_num.specs.Faults.{fault, with_values};
-ghost use Rattle.nt_files.specs.Envelopes.{opened_envelope, envelope_of, envelope_fault};
+ghost use Rattle.nt_file_meaning.specs.Envelopes.{opened_envelope, envelope_of, envelope_fault};
 ghost use Rattle.nt_tfile.specs.Calls.{Serves, HasSize, ReadsFile, IsReadAs};
 ghost use Rattle.nt_reader.specs.Envelopes.{opened_bytes, block_of};
 
@@ -36,7 +36,7 @@ pub struct Envelope {
 }
 
 impl Model for Envelope {
-    ghost use Rattle.nt_files.specs.Envelopes.{Sealed};
+    ghost use Rattle.nt_file_meaning.specs.Envelopes.{Sealed};
     ghost use Rattle.nt_reader.specs.Envelopes.{opened_bytes};
     ghost use Rattle.std.specs.Prelude.{◌≤◌, length};
 

@@ -3,7 +3,7 @@
 ghost use Rattle.std.specs.Prelude.{◌≡◌, ◌+◌, IfSome};
 ghost use Rattle.nt_num.specs.Faults.{fault, with_values};
 ghost use Rattle.nt_pagelists.specs.Columns.{in_column};
-ghost use Rattle.nt_files.specs.Envelopes.{payload_start};
+ghost use Rattle.nt_file_meaning.specs.Envelopes.{payload_start};
 ghost use Rattle.nt_reader.specs.Failures.{IsInPayload};
 
 use nt_meta::MetaError;

@@ -1,7 +1,7 @@
 //! The page lists of a file's groups.
 
 ghost use Rattle.std.specs.Prelude.{◌≡◌, ◌+◌, ◌<◌, ◌^◌, length, IfOk, OnOk};
-ghost use Rattle.nt_files.specs.Outlines.{list_block, groups_clusters, no_progress, known_columns};
+ghost use Rattle.nt_file_meaning.specs.Outlines.{list_block, groups_clusters, no_progress, known_columns};
 ghost use Rattle.nt_tfile.specs.Calls.{Serves, HasSize, ReadsFile};
 ghost use Rattle.nt_reader.specs.Envelopes.{block_of};
 ghost use Rattle.nt_reader.specs.Steps.{clusters_with, CanFollow, AreCounted, IsGroupCounted};

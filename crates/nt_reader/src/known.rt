@@ -3,7 +3,7 @@
 ghost use Rattle.std.specs.Prelude.{◌≡◌, ◌<◌, length, slice_get, Some, IfOk};
 ghost use Rattle.nt_grammar.specs.declared.rows.ColumnRow.{ColumnRow};
 ghost use Rattle.nt_plans.specs.Needs.{need_of};
-ghost use Rattle.nt_files.specs.Outlines.{known_column, known_columns};
+ghost use Rattle.nt_file_meaning.specs.Outlines.{known_column, known_columns};
 
 use crate::wanting::Wanting;
 use nt_meta::KnownColumns;

@@ -5,13 +5,13 @@
 //! cluster's open columns and looks at their values (`columns`, `pages`, `cluster`), or
 //! `Reader::cluster_in`, which does that in the memory of columns of before (`reuse`);
 //! `ClusterRead::entry` gives the trees of an entry, and `ClusterRead::write_entry` its line. What they
-//! answer is said in nt_files.
+//! answer is said in nt_file_meaning.
 //!
-//! Words: those of nt_files; an `Envelope` here is one that was read, its payload and its checksum;
+//! Words: those of nt_file_meaning; an `Envelope` here is one that was read, its payload and its checksum;
 //! a *window* is a run of bytes of a file that were read at once.
 //!
 //! Proved: wherever the file tells its bytes, `attach` answers exactly `outline_of`, and `cluster` and
-//! `cluster_in` exactly `cluster_of` of nt_files, the first fault and its place included (`read`); a
+//! `cluster_in` exactly `cluster_of` of nt_file_meaning, the first fault and its place included (`read`); a
 //! fault of the outside comes only where the file's count rose (`file`); an entry is that of the cluster
 //! (`entry`), and its line is that of event text (`write_entry`).
 //!

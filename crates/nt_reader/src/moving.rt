@@ -1,8 +1,8 @@
 //! Clusters of a page list, with places that count from the file's beginning.
 
 ghost use Rattle.std.specs.Prelude.{◌≡◌, ◌+◌, ◌++◌, map, IfOk, OnOk};
-ghost use Rattle.nt_files.specs.Envelopes.{payload_start};
-ghost use Rattle.nt_files.specs.Outlines.{moved_column, moved_cluster};
+ghost use Rattle.nt_file_meaning.specs.Envelopes.{payload_start};
+ghost use Rattle.nt_file_meaning.specs.Outlines.{moved_column, moved_cluster};
 
 use crate::faults::place_inside;
 use crate::wanting::Wanting;

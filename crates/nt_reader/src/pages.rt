@@ -8,7 +8,7 @@ ghost use Rattle.nt_encode.specs.Pages.{page_size};
 ghost use Rattle.nt_encode.specs.Elements.{page_elements};
 ghost use Rattle.nt_column.specs.Column.{with_more};
 ghost use Rattle.nt_pagelists.specs.Columns.{in_column};
-ghost use Rattle.nt_files.specs.Clusters.{stored_len, is_checked, sum_fault};
+ghost use Rattle.nt_file_meaning.specs.Clusters.{stored_len, is_checked, sum_fault};
 ghost use Rattle.nt_tfile.specs.declared.failure.ReadFailure.TheVariants.{Fault};
 ghost use Rattle.nt_tfile.specs.Calls.{Serves, HasSize, IsReadAs, IsReadOrFails, ReadsFile};
 ghost use Rattle.nt_reader.specs.Windows.{IsWindowOf, window_bytes};

@@ -1,7 +1,7 @@
 //! A file that was attached to: its schema, and where its clusters lie.
 
 ghost use Rattle.std.specs.Prelude.{◌≡◌, ◌<◌, length};
-ghost use Rattle.nt_files.specs.Outlines.{outline_of};
+ghost use Rattle.nt_file_meaning.specs.Outlines.{outline_of};
 ghost use Rattle.nt_tfile.specs.Calls.{Serves, ReadsFile};
 ghost use Rattle.nt_reader.specs.Outlines.{numbered_cluster, entries_in};
 ghost use Rattle.nt_reader.specs.Columns.{given_entries};
@@ -27,7 +27,7 @@ pub struct Reader {
 
 impl Model for Reader {
     ghost use Rattle.std.specs.Prelude.{◌<◌, ◌^◌, length};
-    ghost use Rattle.nt_files.specs.Outlines.{Outline};
+    ghost use Rattle.nt_file_meaning.specs.Outlines.{Outline};
 
     ghost Value = { Outline };
 

@@ -2,7 +2,7 @@
 
 ghost use Rattle.std.specs.Prelude.{◌≡◌, ◌<◌, ◌^◌, IsTrue, IfOk, OnOk};
 ghost use Rattle.nt_outside.specs.File.{FileState};
-ghost use Rattle.nt_files.specs.Clusters.{stored_len};
+ghost use Rattle.nt_file_meaning.specs.Clusters.{stored_len};
 ghost use Rattle.nt_tfile.specs.Calls.{Serves, HasSize, ReadsFile};
 ghost use Rattle.nt_reader.specs.Windows.{IsWindowOf, IsSeenBy, LiesIn, IsRun, window_bytes, found_page};
 

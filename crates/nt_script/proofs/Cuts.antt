@@ -17,8 +17,8 @@ use Rattle.nt_container.specs.Spelling.{begun}
 use Rattle.nt_container.proofs.Gate.{unfinished_is}
 use Rattle.nt_grammar.specs.Table.{Table}
 use Rattle.nt_layout.specs.Headers.{header_blob}
-use Rattle.nt_files.specs.Outlines.{outline_of}
-use Rattle.nt_files.specs.Files.{read_file, HasDefect}
+use Rattle.nt_file_meaning.specs.Outlines.{outline_of}
+use Rattle.nt_file_meaning.specs.Files.{read_file, HasDefect}
 use Rattle.nt_close.specs.Laws.{IsShut}
 use Rattle.nt_close.specs.Steps.{IsBegunSoFar, first_byte, shut_on, closed_on, IsClosedSoFar, torn_tail, torn_front, not_kept_shut}
 use Rattle.nt_close.specs.Steps.{torn_first, not_kept_open, closed_whole}

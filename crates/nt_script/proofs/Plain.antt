@@ -14,7 +14,7 @@ use Rattle.nt_container.specs.Spelling.{begun}
 use Rattle.nt_container.proofs.Gate.{begin-len}
 use Rattle.nt_grammar.specs.Table.{Table}
 use Rattle.nt_layout.specs.Headers.{header_blob}
-use Rattle.nt_files.specs.Files.{HasDefect}
+use Rattle.nt_file_meaning.specs.Files.{HasDefect}
 use Rattle.nt_close.specs.Steps.{begun_on}
 use Rattle.nt_close.proofs.Finishing.{first_and_others}
 use Rattle.nt_crash.specs.Cuts.{IsOverFirst, WritesFirst, HasSync, LeavesUnfinished, LeavesUnfinishedOr}

@@ -9,7 +9,7 @@ use Rattle.nt_grammar.specs.Rows.{Rows}
 use Rattle.nt_grammar.specs.Table.{Table}
 use Rattle.nt_book.specs.declared.limits.LimitError.{LimitError}
 use Rattle.nt_book.specs.Kept.{IsBookKept}
-use Rattle.nt_files.specs.Files.{Means}
+use Rattle.nt_file_meaning.specs.Files.{Means}
 use Rattle.nt_layout.specs.Headers.{clusters_place}
 use Rattle.nt_layout.specs.Laid.{Measures, AreMeasures}
 use Rattle.nt_close.specs.Passing.{measures_of, passed_by_close}

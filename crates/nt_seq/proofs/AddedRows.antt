@@ -21,7 +21,7 @@ use Rattle.nt_book.specs.Widening.{AreLateFirsts}
 use Rattle.nt_plans.specs.Plan.{PlanData, PlansData, no_plans, plan, and_plan}
 use Rattle.nt_plans.specs.Types.{are_some}
 use Rattle.nt_trees.specs.Described.{AreDescribed}
-use Rattle.nt_files.specs.Headers.{header_text}
+use Rattle.nt_file_meaning.specs.Headers.{header_text}
 use Rattle.nt_layout.specs.Headers.{header_object}
 use Rattle.nt_fill.specs.Context.{HasKnownType}
 use Rattle.nt_seq.specs.Widening.{first_elements}

@@ -8,8 +8,8 @@ use Rattle.nt_lists.specs.Chaining.{◌>>=◌}
 use Rattle.nt_num.specs.declared.fault.ReadError.{ReadError}
 use Rattle.nt_types.specs.TreeData.{TreesData}
 use Rattle.nt_pagelists.specs.declared.cluster.ClusterList.{ClusterList}
-use Rattle.nt_files.specs.Outlines.{Outline}
-use Rattle.nt_files.specs.Files.{entries_from}
+use Rattle.nt_file_meaning.specs.Outlines.{Outline}
+use Rattle.nt_file_meaning.specs.Files.{entries_from}
 use Rattle.nt_reader.specs.Outlines.{unlisted_cluster, numbered_cluster, entries_in}
 use Rattle.nt_outside.specs.World.{World}
 use Rattle.nt_show.specs.declared.entry_range.EntryRange.{EntryRange}

@@ -5,8 +5,8 @@ use Rattle.nt_lists.specs.Chaining.{◌>>=◌}
 use Rattle.nt_num.specs.declared.fault.ReadError.{ReadError}
 use Rattle.nt_types.specs.TreeData.{TreesData}
 use Rattle.nt_grammar.specs.Table.{Table}
-use Rattle.nt_files.specs.Outlines.{Outline, outline_of}
-use Rattle.nt_files.specs.Files.{entries_from, read_file}
+use Rattle.nt_file_meaning.specs.Outlines.{Outline, outline_of}
+use Rattle.nt_file_meaning.specs.Files.{entries_from, read_file}
 use Rattle.nt_tfile.specs.Calls.{IsReadOrFails}
 use Rattle.nt_tfile.specs.declared.failure.ReadFailure.{ReadFailure}
 use Rattle.nt_tfile.specs.declared.failure.ReadFailure.TheVariants.{Defect, Fault, Memory}

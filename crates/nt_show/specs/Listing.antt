@@ -5,9 +5,9 @@ use Rattle.nt_num.specs.declared.fault.ReadError.{ReadError}
 use Rattle.nt_types.specs.TreeData.{TreesData}
 use Rattle.nt_grammar.specs.Table.{Table}
 use Rattle.nt_pagelists.specs.declared.cluster.ClusterList.{ClusterList}
-use Rattle.nt_files.specs.Outlines.{Outline, outline_of}
-use Rattle.nt_files.specs.Clusters.{cluster_of}
-use Rattle.nt_files.specs.Files.{entries_from}
+use Rattle.nt_file_meaning.specs.Outlines.{Outline, outline_of}
+use Rattle.nt_file_meaning.specs.Clusters.{cluster_of}
+use Rattle.nt_file_meaning.specs.Files.{entries_from}
 use Rattle.nt_reader.specs.Outlines.{entries_in}
 use Rattle.nt_outside.specs.World.{World}
 use Rattle.nt_outside.specs.declared.fault.Refused.{Refused}

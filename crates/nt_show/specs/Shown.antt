@@ -3,8 +3,8 @@ use Rattle.std.specs.Prelude.{◌≡◌, ◌⊎◌, ℕ, ◌≤◌, List, [], �
 use Rattle.nt_num.specs.declared.fault.ReadError.{ReadError}
 use Rattle.nt_types.specs.TreeData.{TreesData}
 use Rattle.nt_grammar.specs.Table.{Table}
-use Rattle.nt_files.specs.Outlines.{Outline, outline_of}
-use Rattle.nt_files.specs.Files.{read_file}
+use Rattle.nt_file_meaning.specs.Outlines.{Outline, outline_of}
+use Rattle.nt_file_meaning.specs.Files.{read_file}
 use Rattle.nt_outside.specs.declared.stream.Stream.TheVariants.{ToOut}
 use Rattle.nt_outside.specs.Faults.{Rose}
 use Rattle.nt_outside.specs.File.{FileState}

@@ -4,8 +4,8 @@ ghost use Rattle.std.specs.Prelude.{◌≡◌, ◌<◌, [], ℕ, List, length, t
 ghost use Rattle.nt_num.specs.declared.fault.ReadError.{ReadError};
 ghost use Rattle.nt_types.specs.TreeData.{TreesData};
 ghost use Rattle.nt_grammar.specs.Table.{Table};
-ghost use Rattle.nt_files.specs.Outlines.{Outline, outline_of};
-ghost use Rattle.nt_files.specs.Files.{entries_from, Means, HasDefect};
+ghost use Rattle.nt_file_meaning.specs.Outlines.{Outline, outline_of};
+ghost use Rattle.nt_file_meaning.specs.Files.{entries_from, Means, HasDefect};
 ghost use Rattle.nt_reader.specs.Outlines.{entries_in};
 ghost use Rattle.nt_show.specs.Listing.{sound_clusters, IsClusterFault};
 

@@ -11,7 +11,7 @@ use Rattle.nt_machine.specs.Legal.{IsLegal}
 use Rattle.nt_book.specs.declared.params.Params.{Params}
 use Rattle.nt_book.specs.Books.{BookData}
 use Rattle.nt_container.specs.Spelling.{begun}
-use Rattle.nt_files.specs.Files.{HasDefect}
+use Rattle.nt_file_meaning.specs.Files.{HasDefect}
 use Rattle.nt_layout.specs.Headers.{header_blob, clusters_place}
 use Rattle.nt_layout.specs.Finished.{finished, tail, front}
 use Rattle.nt_close.specs.declared.error.BeginError.{BeginError}

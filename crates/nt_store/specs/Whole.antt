@@ -11,7 +11,7 @@ use Rattle.nt_book.specs.declared.meta.ClusterMeta.{ClusterMeta}
 use Rattle.nt_book.specs.declared.params.Params.{Params}
 use Rattle.nt_book.specs.Books.{book_clusters}
 use Rattle.nt_layout.specs.Laid.{IsLaid}
-use Rattle.nt_files.specs.Files.{Means}
+use Rattle.nt_file_meaning.specs.Files.{Means}
 use Rattle.nt_close.specs.Passing.{measures_of}
 use Rattle.nt_dealing.specs.Texts.{AreSound, chunks_of}
 

@@ -8,8 +8,8 @@ use Rattle.nt_num.specs.declared.fault.ReadError.{ReadError}
 use Rattle.nt_types.specs.TreeData.{TreesData}
 use Rattle.nt_pagelists.specs.declared.cluster.ClusterList.{ClusterList}
 use Rattle.nt_grammar.specs.Table.{Table}
-use Rattle.nt_files.specs.Outlines.{Outline, outline_of}
-use Rattle.nt_files.specs.Files.{entries_from, read_file}
+use Rattle.nt_file_meaning.specs.Outlines.{Outline, outline_of}
+use Rattle.nt_file_meaning.specs.Files.{entries_from, read_file}
 use Rattle.nt_reader.specs.Outlines.{unlisted_cluster, numbered_cluster, entries_in}
 use Rattle.nt_totals.specs.declared.total.Total.{Total}
 use Rattle.nt_totals.specs.Totals.{totals_of}

@@ -4,8 +4,8 @@ use Rattle.nt_num.specs.declared.fault.ReadError.{ReadError}
 use Rattle.nt_lists.specs.Chaining.{◌>>=◌}
 use Rattle.nt_types.specs.TreeData.{TreesData}
 use Rattle.nt_grammar.specs.Table.{Table}
-use Rattle.nt_files.specs.Outlines.{Outline}
-use Rattle.nt_files.specs.Files.{entries_from, read_file}
+use Rattle.nt_file_meaning.specs.Outlines.{Outline}
+use Rattle.nt_file_meaning.specs.Files.{entries_from, read_file}
 use Rattle.nt_totals.specs.declared.total.Total.{Total}
 use Rattle.nt_totals.specs.Totals.{totals_of}
 

@@ -3,7 +3,7 @@
 //! Start at `telling.rt` (`tell_totals`); `clusters.rt` adds what a cluster that was read comes to. The definition of the totals of a file
 //! is `totals_in` in `specs/Telling.antt`.
 //!
-//! Proved: of the bytes of a file that tells them, the totals are exactly those of the entries that nt_files reads of it, or the defect is
+//! Proved: of the bytes of a file that tells them, the totals are exactly those of the entries that nt_file_meaning reads of it, or the defect is
 //! exactly its first fault (`read`); the file keeps its bytes, and a fault of the outside comes only where its count rose (`file`). That
 //! memory is that of one cluster and one entry, no clause says. Nothing is only tested.
 //!

@@ -12,8 +12,8 @@ use Rattle.nt_lists.specs.Chunks.{chunks}
 use Rattle.nt_lists.proofs.Groups.{length-chunks, chunks-joined}
 use Rattle.nt_types.specs.TreeData.{TreesData, trees_of}
 use Rattle.nt_machine.specs.Deal.{Uses, IsDeal}
-use Rattle.nt_gen.specs.Draws.{drawn}
-use Rattle.nt_gen.specs.Events.{number_tree, drawn_ids, ids_count, event_behind, events_behind, made_events, after_event}
+use Rattle.nt_draws.specs.Draws.{drawn}
+use Rattle.nt_draws.specs.Events.{number_tree, drawn_ids, ids_count, event_behind, events_behind, made_events, after_event}
 use Rattle.nt_totals.specs.declared.total.Total.{Total}
 use Rattle.nt_totals.specs.Numbers.{numbers_sum, entry_sum, entries_sum}
 use Rattle.nt_totals.specs.Totals.{counted_to, named_clusters, context_total, totals_of}

@@ -2,8 +2,8 @@
 use Rattle.std.specs.Prelude.{ℕ, List, map}
 use Rattle.std.specs.Int.{div_ceil}
 use Rattle.std.specs.List.{range_with_len}
-use Rattle.nt_gen.specs.Events.{events_behind}
-use Rattle.nt_gen.specs.Making.{max_events}
+use Rattle.nt_draws.specs.Events.{events_behind}
+use Rattle.nt_draws.specs.Making.{max_events}
 use Rattle.nt_totals.specs.declared.total.Total.{Total}
 use Rattle.nt_totals.specs.Numbers.{entries_sum}
 use Rattle.nt_totals.specs.Lines.{total_lines}

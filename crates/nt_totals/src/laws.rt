@@ -4,7 +4,7 @@ ghost use Rattle.std.specs.Prelude.{◌≡◌, ◌<◌, ◌≤◌, ℕ, List, []
 ghost use Rattle.nt_lists.specs.Chunks.{chunks};
 ghost use Rattle.nt_types.specs.TreeData.{TreesData};
 ghost use Rattle.nt_machine.specs.Deal.{Uses, IsDeal};
-ghost use Rattle.nt_gen.specs.Events.{made_events, events_behind};
+ghost use Rattle.nt_draws.specs.Events.{made_events, events_behind};
 ghost use Rattle.nt_totals.specs.Totals.{named_clusters, context_total, totals_of};
 ghost use Rattle.nt_totals.specs.Adding.{empty_total, with_named};
 ghost use Rattle.nt_totals.specs.Made.{made_total, made_totals, most_events};

@@ -49,7 +49,7 @@ pub use fit::fits;
 pub use laws::{texts_are_read, texts_have_fields};
 pub use member::parse_member;
 pub use name::Name;
-pub use nt_bytes::Bytes;
+pub use nt_lists::Bytes;
 pub use schema::parse_schema;
 pub use shape::{Fields, Member, Members, Shape, Shapes};
 pub use tree::{Tree, Trees};

@@ -3,7 +3,7 @@
 ghost use Rattle.std.specs.Prelude.{◌≡◌, map};
 ghost use Rattle.nt_types.specs.TreeViews.{tree_view, trees_view};
 
-use nt_bytes::Bytes;
+use nt_lists::Bytes;
 
 /// The value of a field.
 #[derive(Drop)]

@@ -4,7 +4,7 @@ use super::MemHost;
 use crate::calls::Calls;
 use crate::named::newest;
 use crate::plan::{Object, numbers_for};
-use nt_bytes::Bytes;
+use nt_lists::Bytes;
 use nt_outside::{Ask, Kind};
 use std::alloc::AllocError;
 

@@ -1,7 +1,7 @@
 use Rattle.std.proofs.Common.{subst}
 use Rattle.nt_show.specs.Shown.{entries_shown}
-use Rattle.nt_words.specs.CommandLine.{texts}
-use Rattle.nt_words.specs.Commands.{Says}
+use Rattle.nt_command_line.specs.CommandLine.{texts}
+use Rattle.nt_command_line.specs.Commands.{Says}
 use Rattle.nt_app.specs.Shows.{ShowsNamed}
 use Rattle.nt_app.proofs.Running.{no_memory}
 use Rattle.nt_app.proofs.Obeying.{scripted_words, listed_words}

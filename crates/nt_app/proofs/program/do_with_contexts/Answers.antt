@@ -1,6 +1,6 @@
 use Rattle.std.proofs.Common.{subst}
-use Rattle.nt_words.specs.CommandLine.{texts}
-use Rattle.nt_words.specs.Commands.{names_of, Says}
+use Rattle.nt_command_line.specs.CommandLine.{texts}
+use Rattle.nt_command_line.specs.Commands.{names_of, Says}
 use Rattle.nt_app.proofs.Running.{no_memory}
 use Rattle.nt_app.proofs.Obeying.{written_words, made_words}
 use Rattle.nt_app.proofs.program.do_with_contexts.Goals as goal

@@ -1,5 +1,5 @@
 use Rattle.std.proofs.Common.{◌≡◌, ◌∙◌, inl, inr, sym, codes, rules}
-use Rattle.nt_words.proofs.Spoken.{begins_by}
+use Rattle.nt_command_line.proofs.Spoken.{begins_by}
 use Rattle.nt_app.proofs.program.has_contexts.Goals as goal
 
 pub returns-then-eq-clause-yes : goal.returns-then-eq-clause-yes

@@ -1,5 +1,5 @@
 use Rattle.std.proofs.Common.{ap}
-use Rattle.nt_words.specs.CommandLine.{texts}
+use Rattle.nt_command_line.specs.CommandLine.{texts}
 use Rattle.nt_app.proofs.Running.{runs_as, runs_after}
 use Rattle.nt_app.proofs.program.run.Goals as goal
 

@@ -1,8 +1,8 @@
 use Rattle.std.proofs.Common.{sym, subst, map, arith}
 use Rattle.std.proofs.lemmas.List.{length-map}
 use Rattle.nt_types.specs.Rules.{AreFields}
-use Rattle.nt_gen.specs.Events.{event_fields}
-use Rattle.nt_gen.specs.Source.{state_of}
+use Rattle.nt_draws.specs.Events.{event_fields}
+use Rattle.nt_draws.specs.Source.{state_of}
 use Rattle.nt_store.proofs.Answered.{ok_filled, ok_holds, err_why}
 use Rattle.nt_generate.specs.Made.{made_texts}
 use Rattle.nt_generate.proofs.Sources.{told_counted, made_counted, none_failed}

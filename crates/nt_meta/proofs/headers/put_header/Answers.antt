@@ -1,4 +1,4 @@
-use Rattle.nt_files.specs.Headers.{header_text}
+use Rattle.nt_file_meaning.specs.Headers.{header_text}
 use Rattle.nt_meta.proofs.Appended.{five}
 use Rattle.nt_meta.proofs.headers.put_header.Goals as goal
 

@@ -1,5 +1,5 @@
 use Rattle.std.proofs.Common.{◌≡◌, map, take}
-use Rattle.nt_files.specs.Clusters.{kind_of_code}
+use Rattle.nt_file_meaning.specs.Clusters.{kind_of_code}
 use Rattle.nt_reader.specs.Columns.{kind_or_bit}
 use Rattle.nt_reader.proofs.columns.empty_columns.Given as goal
 

@@ -1,6 +1,6 @@
 use Rattle.std.proofs.Common.{◌≡◌, ◌≤◌, ℕ, List, take, drop, Some}
 use Rattle.nt_column.specs.Column.{columns_of}
-use Rattle.nt_files.specs.Clusters.{columns_from}
+use Rattle.nt_file_meaning.specs.Clusters.{columns_from}
 use Rattle.nt_reader.specs.Columns.{held_elements, AreReadTo}
 use Rattle.nt_reader.proofs.ColumnSteps.{columns_behind}
 use Rattle.nt_reader.proofs.columns.read_columns.Given as goal

@@ -1,5 +1,5 @@
 use Rattle.std.proofs.Common.{◌≡◌, ◌≤◌, ◌<◌, ◌^◌, ℕ, List, drop, length, Some}
-use Rattle.nt_files.specs.Outlines.{groups_clusters, no_progress}
+use Rattle.nt_file_meaning.specs.Outlines.{groups_clusters, no_progress}
 use Rattle.nt_reader.specs.Steps.{clusters_behind, AreCounted}
 use Rattle.nt_reader.proofs.groups.read_groups.Given as goal
 

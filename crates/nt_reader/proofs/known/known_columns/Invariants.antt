@@ -1,5 +1,5 @@
 use Rattle.std.proofs.Common.{◌≡◌, ◌++◌, drop, length}
-use Rattle.nt_files.specs.Outlines.{known_columns_from, known_columns}
+use Rattle.nt_file_meaning.specs.Outlines.{known_columns_from, known_columns}
 use Rattle.nt_reader.proofs.known.known_columns.Given as goal
 
 -- the columns so far, and those that are left, are all

@@ -1,6 +1,6 @@
 use Rattle.std.proofs.Common.{◌≡◌, ◌+◌, ◌++◌, map, take}
-use Rattle.nt_files.specs.Envelopes.{payload_start}
-use Rattle.nt_files.specs.Outlines.{moved_cluster}
+use Rattle.nt_file_meaning.specs.Envelopes.{payload_start}
+use Rattle.nt_file_meaning.specs.Outlines.{moved_cluster}
 use Rattle.nt_reader.proofs.moving.push_moved.Given as goal
 
 abbrev pub invariant-loop-i : goal.invariant-loop-i

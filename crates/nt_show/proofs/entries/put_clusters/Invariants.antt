@@ -1,7 +1,7 @@
 use Rattle.std.proofs.Common.{◌≡◌, ◌≤◌, ℕ, List, Some}
 use Rattle.nt_outside.specs.World.{HostState}
 use Rattle.nt_outside.specs.File.{FileState}
-use Rattle.nt_files.specs.Outlines.{Outline}
+use Rattle.nt_file_meaning.specs.Outlines.{Outline}
 use Rattle.nt_show.specs.declared.entry_range.EntryRange.{EntryRange}
 use Rattle.nt_show.specs.Gathering.{OnlyPrints}
 use Rattle.nt_show.proofs.Listing.{IsListing}

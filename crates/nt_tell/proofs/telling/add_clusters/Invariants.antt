@@ -1,6 +1,6 @@
 use Rattle.std.proofs.Common.{◌≡◌, ◌≤◌, ℕ, List, length, Some}
 use Rattle.nt_outside.specs.File.{FileState}
-use Rattle.nt_files.specs.Outlines.{Outline}
+use Rattle.nt_file_meaning.specs.Outlines.{Outline}
 use Rattle.nt_totals.specs.declared.total.Total.{Total}
 use Rattle.nt_tell.proofs.Reading.{IsAdding}
 use Rattle.nt_tell.proofs.telling.add_clusters.Given as goal

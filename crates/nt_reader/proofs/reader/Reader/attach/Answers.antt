@@ -3,7 +3,7 @@ use Rattle.std.proofs.lemmas.Result.{err_from_is_err_and}
 use Rattle.nt_grammar.specs.Table.{Table}
 use Rattle.nt_pagelists.specs.declared.group.Group.{Group}
 use Rattle.nt_pagelists.specs.declared.cluster.ClusterList.{ClusterList}
-use Rattle.nt_files.specs.Outlines.{Outline}
+use Rattle.nt_file_meaning.specs.Outlines.{Outline}
 use Rattle.nt_reader.proofs.Chains.{anchor-fails, described-fails, clusters-fails, outline-done}
 use Rattle.nt_reader.proofs.reader.Reader.attach.Goals as goal
 

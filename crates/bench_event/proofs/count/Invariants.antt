@@ -1,0 +1,8 @@
+use Rattle.std.proofs.Common.{length, ◌-◌, ◌+◌, ◌≤◌}
+use Rattle.bench_event.proofs.count.Given as goal
+
+abbrev pub invariant-loop-len : goal.invariant-loop-len
+invariant-loop-len l = (l.count ≤ l.at) × (l.at ≤ length l.text)
+
+abbrev pub decreases-loop-len : goal.decreases-loop-len
+decreases-loop-len l = length l.text - l.at

@@ -1,8 +1,0 @@
-use Rattle.nt_book_rows.proofs.Appended.{out_last}
-use Rattle.nt_book_rows.proofs.tests.append.Goals as goal
-
-pub settle-requires : goal.settle-requires
-settle-requires c = out_last _ _ _ c.args.meta.now c.append-number.ensures.number c.append-number.ensures.book
-
-pub spoil-requires : goal.spoil-requires
-spoil-requires c = out_last _ _ _ c.args.meta.now c.append-number.ensures.number c.append-number.ensures.book

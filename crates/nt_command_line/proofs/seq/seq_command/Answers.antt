@@ -1,0 +1,20 @@
+use Rattle.std.proofs.Common.{codes, ℕ, List, [], ◌∷◌, ◌++◌}
+use Rattle.std.proofs.lemmas.Result.{IfOk-weaker}
+use Rattle.clap.specs.Words.{Rule}
+use Rattle.nt_command_line.specs.CommandLine.{operand}
+use Rattle.nt_command_line.specs.Options.{options}
+use Rattle.nt_command_line.proofs.Kept.{one_more}
+use Rattle.nt_command_line.proofs.seq.seq_command.Goals as goal
+
+pub returns : goal.returns
+returns c =
+    let name : List ℕ = codes "seq" in
+    let out : Rule = operand (codes "OUT") in
+    let schema : Rule = operand (codes "SCHEMA") in
+    let one = one_more name options out c.in_ok-with_options.field-0 c.in_ok-command.command c.operand.result c.in_ok-with_options.ensures
+    c.operand.ensures c.in_ok-command.ensures in
+    let two = one_more name (options ++ out ∷ []) schema c.in_ok-command.command c.in_ok-command-2.command c.operand-2.result one
+    c.operand-2.ensures c.in_ok-command-2.ensures in
+    IfOk-weaker c.arg-3.result _ _ (λ cmd added.
+    one_more name (options ++ out ∷ schema ∷ []) (operand (codes "IN")) c.in_ok-command-2.command cmd c.operand-3.result two
+    c.operand-3.ensures added) c.arg-3.ensures

@@ -1,0 +1,41 @@
+-- What words say as a command.
+use Rattle.std.specs.Prelude.{ℕ, List, map, codes, Option}
+use Rattle.std.specs.Borrow.{Bor}
+use Rattle.nt_book.specs.declared.params.Params.{Params}
+use Rattle.nt_draws.specs.declared.making.Making.{Making}
+use Rattle.nt_command_line.specs.declared.command.Command.{Command}
+use Rattle.nt_command_line.specs.declared.command.Command.TheVariants.{Write, Seq, Gen, Entries, Schema, Unknown}
+use Rattle.nt_command_line.specs.CommandLine.{entries_app, schema_app, Begins, IsTaken, IsEntries, IsSchemaCommand}
+use Rattle.nt_command_line.specs.WriteWords.{IsWrite, IsWrongWrite}
+use Rattle.nt_command_line.specs.SeqWords.{IsSeq, IsWrongSeq}
+use Rattle.nt_command_line.specs.GenWords.{gen_app, IsGen}
+
+-- the names that were found
+abbrev pub names_of : List (Bor (List ℕ)) → List (List ℕ)
+names_of = map (λ name. name.now)
+
+-- no command has these words
+pub record IsNoCommand (words : List (List ℕ)) : Type 0 where
+  pub no_write : (out schema : List ℕ) (inputs : List (List ℕ)) (p : Params) → IsWrite words out schema inputs p → ⊥
+  pub no_seq : (out schema input : List ℕ) (p : Params) → IsSeq words out schema input p → ⊥
+  pub no_gen : (m : Making) (out : List ℕ) → IsGen words m out → ⊥
+  pub no_entries : (from count : Option ℕ) (file : List ℕ) → IsEntries words from count file → ⊥
+  pub no_schema : (file : List ℕ) → IsSchemaCommand words file → ⊥
+
+-- why words are no command: the first is none, clap refuses those after it, those of `write` have no or too many inputs, or those of
+-- `write` or `seq` have OUT among the texts that are read
+pub record IsWrong (words : List (List ℕ)) : Type 0 where
+  pub write : Begins words (codes "write") → IsWrongWrite words
+  pub seq : Begins words (codes "seq") → IsWrongSeq words
+  pub gen : Begins words (codes "gen") → IsTaken gen_app words → ⊥
+  pub entries : Begins words (codes "entries") → IsTaken entries_app words → ⊥
+  pub schema : Begins words (codes "schema") → IsTaken schema_app words → ⊥
+
+-- the words say this command
+abbrev pub Says : List (List ℕ) → Command → Type 0
+Says words (Write w) = IsWrite words w.out.now w.schema.now (names_of w.inputs.items) w.params
+Says words (Seq s) = IsSeq words s.out.now s.schema.now s.input.now s.params
+Says words (Gen g) = IsGen words g.making g.out.now
+Says words (Entries from count file) = IsEntries words from count file.now
+Says words (Schema file) = IsSchemaCommand words file.now
+Says words Unknown = IsWrong words

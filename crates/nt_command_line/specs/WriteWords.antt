@@ -1,0 +1,46 @@
+-- The words of `write`: names, and how the file is written.
+use Rattle.std.specs.Prelude.{◌≡◌, ◌⊎◌, ℕ, ◌≤◌, false, List, [], ◌∷◌, ◌++◌, codes, length, Some, unwrap_or}
+use Rattle.clap.specs.Words.{App, Rule}
+use Rattle.nt_book.specs.declared.params.Params.{Params}
+use Rattle.nt_command_line.specs.CommandLine.{operand, operands, app, Begins, IsTaken, word_found, words_found, is_among}
+use Rattle.nt_command_line.specs.Options.{options, AreParamsSaid}
+
+-- `OUT SCHEMA IN...` behind them
+abbrev pub write_rules : List Rule
+write_rules = options ++ operand (codes "OUT") ∷ operand (codes "SCHEMA") ∷ operands (codes "IN") ∷ []
+
+-- `write`
+unfoldable pub write_app : App
+write_app = app (codes "write") write_rules
+
+-- the names of `write`, as clap reads them
+pub record NamesOfWrite (words : List (List ℕ)) (out schema : List ℕ) (inputs : List (List ℕ)) : Type 0 where
+  pub out_is : word_found write_app words (codes "OUT") ≡ Some out
+  pub schema_is : word_found write_app words (codes "SCHEMA") ≡ Some schema
+  pub inputs_are : inputs ≡ unwrap_or (words_found write_app words (codes "IN")) []
+
+-- there are 1 to 64 inputs, and OUT isn't the name of a text that is read
+pub record AreApart (out schema : List ℕ) (inputs : List (List ℕ)) : Type 0 where
+  pub some : 1 ≤ length inputs
+  pub few : length inputs ≤ 64
+  pub apart : is_among out (schema ∷ inputs) ≡ false
+
+-- `write ..`, as clap reads it
+pub record IsWrite (words : List (List ℕ)) (out schema : List ℕ) (inputs : List (List ℕ)) (p : Params) : Type 0 where
+  pub begins : Begins words (codes "write")
+  pub taken : IsTaken write_app words
+  pub names : NamesOfWrite words out schema inputs
+  pub params : AreParamsSaid write_app words p
+  pub apart : AreApart out schema inputs
+
+-- there are no inputs or more than 64, or OUT has the name of a text that is read
+pub record Clashes (words : List (List ℕ)) : Type 0 where
+  pub out : List ℕ
+  pub schema : List ℕ
+  pub inputs : List (List ℕ)
+  pub names : NamesOfWrite words out schema inputs
+  pub clash : AreApart out schema inputs → ⊥
+
+-- why the words of `write` are wrong
+abbrev pub IsWrongWrite : List (List ℕ) → Type 0
+IsWrongWrite words = (IsTaken write_app words → ⊥) ⊎ Clashes words

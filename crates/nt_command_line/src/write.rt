@@ -1,0 +1,71 @@
+//! The words of `write`.
+
+ghost use Rattle.std.specs.Prelude.{List, ℕ, codes, IfOk, MatchBool};
+ghost use Rattle.nt_command_line.specs.CommandLine.{texts, Begins};
+ghost use Rattle.nt_command_line.specs.WriteWords.{write_rules, AreApart};
+ghost use Rattle.nt_command_line.specs.Commands.{names_of, Says};
+ghost use Rattle.nt_command_line.specs.Arguments.{IsCommandOf};
+
+use crate::arguments::{is_among, matches_of, name_in, names_in, operand, operands};
+use crate::command::Command;
+use crate::options::{params_in, with_options};
+use nt_book::Params;
+use std::alloc::{AllocError, Global};
+
+/// The most inputs.
+const MOST_INPUTS: usize = 64;
+
+/// The names and numbers of `write`: a file is written of the schema text and the event texts of these names, of which there are
+/// 1 to 64 and none is the file's.
+#[derive(Drop)]
+pub struct WriteWords<'a> {
+    pub out: &'a str,
+    pub schema: &'a str,
+    pub inputs: Vec<&'a str>,
+    pub params: Params,
+}
+
+/// `write`, its options, and `OUT SCHEMA IN...`.
+fn write_command<'a>(alloc: Global) -> Result<clap::Command<'a>, AllocError>
+    ensures { IfOk result (IsCommandOf (codes "write") write_rules) }
+{
+    let command = with_options(alloc, "write")?.arg(operand(alloc, "OUT"))?;
+    let command = command.arg(operand(alloc, "SCHEMA"))?;
+    command.arg(operands(alloc, "IN"))
+}
+
+/// Whether there are 1 to 64 inputs, and OUT isn't the name of a text that is read.
+fn are_apart(out: &str, schema: &str, inputs: &[&str]) -> bool
+    ensures { MatchBool result (AreApart out.now schema.now (names_of inputs.now))
+        (AreApart out.now schema.now (names_of inputs.now) → ⊥) }
+{
+    if inputs.is_empty() || inputs.len() > MOST_INPUTS {
+        return false;
+    }
+    if schema == out {
+        return false;
+    }
+    !is_among(out, inputs)
+}
+
+/// The command of words that begin with `write`.
+pub(crate) fn write_of<'a>(alloc: Global, words: &'a [String]) -> Result<Command<'a>, AllocError>
+    requires { Begins (texts words.now) (codes "write") }
+    ensures { IfOk result (Says (texts words.entry.now)) }
+{
+    let Some(matches) = matches_of(write_command(alloc)?, words)? else {
+        return Ok(Command::Unknown);
+    };
+    let out = name_in(&matches, "OUT");
+    let schema = name_in(&matches, "SCHEMA");
+    let inputs = names_in(alloc, &matches, "IN")?;
+    if !are_apart(out, schema, &inputs) {
+        return Ok(Command::Unknown);
+    }
+    Ok(Command::Write(WriteWords {
+        out,
+        schema,
+        inputs,
+        params: params_in(&matches),
+    }))
+}

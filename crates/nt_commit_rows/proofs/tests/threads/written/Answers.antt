@@ -1,8 +1,0 @@
-use Rattle.std.proofs.Common.{◌≡◌}
-use Rattle.nt_commit_rows.proofs.Joined.{all-left}
-use Rattle.nt_commit_rows.proofs.tests.threads.written.Goals as goal
-
-pub finish-disk-requires-clause-left : goal.finish-disk-requires-clause-left
-finish-disk-requires-clause-left g c =
-    all-left c.in-Ok-new.committer c.in-Ok-new.first c.write_beside_each_other.new.first c.in-Ok-new.ensures.ok.2
-    c.write_beside_each_other.ensures

@@ -1,6 +1,0 @@
--- the buffer is of this type and takes elements
-use Rattle.std.proofs.Common.{◌≡◌}
-use Rattle.nt_encode_c.proofs.filled.Given as goal
-
-abbrev pub invariant-loop-value : goal.invariant-loop-value
-invariant-loop-value l = (l.buffer.column.kind ≡ l.kind) × (l.buffer.column.zeros ≡ 0)

@@ -1,5 +1,0 @@
-use Rattle.nt_files.proofs.HeadersBack.{header-reads}
-use Rattle.nt_files.proofs.laws.headers_are_read_back.Goals as goal
-
-pub returns : goal.returns
-returns c = header-reads

@@ -1,5 +1,0 @@
-use Rattle.nt_words.proofs.Wrong.{wrong_is_none}
-use Rattle.nt_words.proofs.command.wrong_words_are_no_command.Goals as goal
-
-pub returns : goal.returns
-returns c = wrong_is_none
