@@ -11,7 +11,8 @@ use Rattle.clap.specs.Words.{App, rows_of, found_of, first_of, all_of, first_val
 use Rattle.clap.specs.Words.{is_simple_and_free}
 use Rattle.clap.specs.declared.parser.matches.ArgMatches.{ArgMatches}
 use Rattle.clap.proofs.WalkLemmas.{first_value-rows, raw_values-rows}
-use Rattle.nt_command_line.specs.CommandLine.{texts, app, operand, entries_rules, entries_app, schema_app, is_true_word, number_said, number_found}
+use Rattle.nt_command_line.specs.CommandLine.{texts, app, operand, entries_rules, entries_app}
+use Rattle.nt_command_line.specs.CommandLine.{schema_app, is_true_word, number_said, number_found}
 use Rattle.nt_command_line.specs.CommandLine.{is_flag_found, Begins, IsTaken, word_found, words_found, is_among}
 use Rattle.nt_command_line.specs.WriteWords.{write_rules, write_app, NamesOfWrite}
 use Rattle.nt_command_line.specs.SeqWords.{seq_rules, seq_app, NamesOfSeq}

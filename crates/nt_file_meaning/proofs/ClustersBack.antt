@@ -21,10 +21,12 @@ use Rattle.nt_pagelists.specs.declared.column.KnownColumn.{KnownColumn}
 use Rattle.nt_pagelists.specs.declared.page.PageItem.{PageItem}
 use Rattle.nt_pagelists.specs.declared.cluster.ClusterList.{ClusterList}
 use Rattle.nt_file_meaning.specs.Outlines.{known_column}
-use Rattle.nt_file_meaning.specs.Clusters.{stored_len, is_checked, kind_of_code, page_of_column, pages_of_column, pages_of_kind, pages_listed}
+use Rattle.nt_file_meaning.specs.Clusters.{stored_len, is_checked, kind_of_code, page_of_column}
+use Rattle.nt_file_meaning.specs.Clusters.{pages_of_column, pages_of_kind, pages_listed}
 use Rattle.nt_file_meaning.specs.Clusters.{begins_behind, zero_elements, column_elements, columns_from, columns_by_id, no_value_fault}
 use Rattle.nt_file_meaning.specs.Clusters.{entries_of_columns, cluster_of}
-use Rattle.nt_file_meaning.specs.Holds.{HoldsPage, HoldsPages, no_page, and_page, HoldsColumn, closed, not_begun, untyped, in_pages, HoldsColumns}
+use Rattle.nt_file_meaning.specs.Holds.{HoldsPage, HoldsPages, no_page, and_page, HoldsColumn, closed}
+use Rattle.nt_file_meaning.specs.Holds.{not_begun, untyped, in_pages, HoldsColumns}
 use Rattle.nt_file_meaning.specs.Holds.{no_column, and_column, HoldsCluster}
 use Rattle.nt_file_meaning.proofs.SoundBack.{fault_in_any-sound}
 

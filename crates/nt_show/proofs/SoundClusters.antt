@@ -22,8 +22,10 @@ use Rattle.nt_pagelists.specs.declared.column.KnownColumn.{KnownColumn}
 use Rattle.nt_pagelists.specs.declared.cluster.ClusterList.{ClusterList}
 use Rattle.nt_file_meaning.specs.Outlines.{Outline, outline_of, known_column}
 use Rattle.nt_plans.specs.Needs.{need_of}
-use Rattle.nt_file_meaning.specs.Clusters.{stored_len, is_checked, sum_fault, page_of_column, pages_of_column, pages_of_kind, column_elements}
-use Rattle.nt_file_meaning.specs.Clusters.{columns_from, value_fault, no_value_fault, begins_behind, zero_elements, kind_of_code, pages_listed}
+use Rattle.nt_file_meaning.specs.Clusters.{stored_len, is_checked, sum_fault, page_of_column}
+use Rattle.nt_file_meaning.specs.Clusters.{pages_of_column, pages_of_kind, column_elements}
+use Rattle.nt_file_meaning.specs.Clusters.{columns_from, value_fault, no_value_fault, begins_behind}
+use Rattle.nt_file_meaning.specs.Clusters.{zero_elements, kind_of_code, pages_listed}
 use Rattle.nt_file_meaning.specs.Clusters.{cluster_of}
 use Rattle.nt_file_meaning.specs.Files.{entries_from, read_file, Means, HasDefect}
 use Rattle.nt_reader.specs.Outlines.{unlisted_cluster, entries_in}
