@@ -3,26 +3,37 @@ use Rattle.std.proofs.Common.{ℕ, List, [], ◌∷◌, ◌++◌, ◌≡◌, ref
 use Rattle.std.specs.Prelude.{is_some, option_map, option_and_then, not, nat_le, ◌==◌, ◌&&◌, ◌||◌, codes}
 use Rattle.std.specs.Str.{bytes_eq}
 use Rattle.std.proofs.lemmas.List.{map-append, length-map}
-use Rattle.nt_types.specs.ShapeData.{ShapeData, MemberData, bool, list, fields, tuple, choice, kinds_of, parts_of}
+use Rattle.nt_types.specs.ShapeData.{ShapeData, MemberData, bool, list, maybe, fields, tuple, choice, no_kinds, kinds_of, parts_of, takes_nothing}
 use Rattle.nt_types.specs.Words.{is_word_byte, is_name, leaf}
 use Rattle.nt_types.specs.Names.{are_new, names_differ}
-use Rattle.nt_types.specs.Reading.{OpenData, in_list, at_name, in_member, in_tuple, in_choice, goes, ends, ReadingData, kind_kept, put}
-use Rattle.nt_types.specs.Reading.{part_placed, place_on, within_after, started, opened, begin, named_on, named, ended_here, delimited}
+use Rattle.nt_types.specs.Reading.{OpenData, in_list, in_maybe, at_name, in_member, in_tuple, in_choice, goes, ends, ReadingData, kind_kept}
+use Rattle.nt_types.specs.Reading.{put, part_placed, place_on, within_after, started, opened, begin, named_on, named, ended_here, delimited}
 use Rattle.nt_types.specs.Reading.{ended_on, read, read_kind, start}
 
--- a member, a construct and a state without what isn't kept
+-- a kind, a member, a construct and a state without what isn't kept
+abbrev forget_kind : ShapeData → ShapeData
+forget_kind k = kind_kept false k
+
 abbrev forget_part : MemberData → MemberData
-forget_part p = record { name = p.name; of = bool }
+forget_part p = record { name = p.name; of = forget_kind p.of }
 
 abbrev forget_construct : OpenData → OpenData
 forget_construct in_list = in_list
+forget_construct (in_maybe w) = in_maybe w
 forget_construct (at_name ps) = at_name (map forget_part ps)
 forget_construct (in_member ps n) = in_member (map forget_part ps) n
-forget_construct (in_tuple ks) = in_tuple (map (λ _. bool) ks)
-forget_construct (in_choice w ks) = in_choice w (map (λ _. bool) ks)
+forget_construct (in_tuple ks) = in_tuple (map forget_kind ks)
+forget_construct (in_choice w ks) = in_choice w (map forget_kind ks)
 
 abbrev forget : ReadingData → ReadingData
-forget s = record { stack = map forget_construct s.stack; within = s.within; done = option_map (λ _. bool) s.done }
+forget s = record { stack = map forget_construct s.stack; within = s.within; done = option_map forget_kind s.done }
+
+takes_nothing-forget : (k : ShapeData) → takes_nothing (forget_kind k) ≡ takes_nothing k
+takes_nothing-forget k = cases (takes_nothing k)
+  where
+    cases : (c : Bool) → takes_nothing (cond c (choice no_kinds) bool) ≡ c
+    cases true = refl
+    cases false = refl
 
 are_new-forget : (seen : List (List ℕ)) (ps : List MemberData) → are_new seen (map forget_part ps) ≡ are_new seen ps
 are_new-forget seen [] = refl
@@ -30,26 +41,29 @@ are_new-forget seen (p ∷ ps) = rw (are_new-forget (p.name ∷ seen) ps) refl
 
 -- a construct begins
 
-begin_cases : (s : ReadingData) (c1 c2 c3 c4 c5 : Bool)
+begin_cases : (s : ReadingData) (c1 c2 c3 c4 c5 c6 : Bool)
     → option_map (opened (forget s))
     (cond c1 (cond c2 (Some (at_name [])) None)
-    (cond c3 (Some in_list) (cond c4 (Some (in_tuple [])) (cond c5 (Some (in_choice s.within [])) None))))
+    (cond c3 (Some in_list)
+    (cond c4 (Some (in_maybe s.within)) (cond c5 (Some (in_tuple [])) (cond c6 (Some (in_choice s.within [])) None)))))
     ≡ option_map forget
     (option_map (opened s)
     (cond c1 (cond c2 (Some (at_name [])) None)
-    (cond c3 (Some in_list) (cond c4 (Some (in_tuple [])) (cond c5 (Some (in_choice s.within [])) None)))))
-begin_cases s true true c3 c4 c5 = refl
-begin_cases s true false c3 c4 c5 = refl
-begin_cases s false c2 true c4 c5 = refl
-begin_cases s false c2 false true c5 = refl
-begin_cases s false c2 false false true = refl
-begin_cases s false c2 false false false = refl
+    (cond c3 (Some in_list)
+    (cond c4 (Some (in_maybe s.within)) (cond c5 (Some (in_tuple [])) (cond c6 (Some (in_choice s.within [])) None))))))
+begin_cases s true true c3 c4 c5 c6 = refl
+begin_cases s true false c3 c4 c5 c6 = refl
+begin_cases s false c2 true c4 c5 c6 = refl
+begin_cases s false c2 false true c5 c6 = refl
+begin_cases s false c2 false false true c6 = refl
+begin_cases s false c2 false false false true = refl
+begin_cases s false c2 false false false false = refl
 
 begin_none : (s : ReadingData) (w : List ℕ) (b : ℕ)
     → option_map (opened (forget s)) (started s.within w b) ≡ option_map forget (option_map (opened s) (started s.within w b))
 begin_none s w b =
-    begin_cases s (b == 123) (bytes_eq w (codes "rec") && not s.within) (bytes_eq w (codes "vec")) (bytes_eq w (codes "tuple"))
-    (bytes_eq w (codes "var"))
+    begin_cases s (b == 123) (bytes_eq w (codes "rec") && not s.within) (bytes_eq w (codes "vec")) (bytes_eq w (codes "opt"))
+    (bytes_eq w (codes "tuple")) (bytes_eq w (codes "var"))
 
 begin-forget : (stack : List OpenData) (within : Bool) (done : Option ShapeData) (w : List ℕ) (b : ℕ)
     → begin (forget (record { stack = stack; within = within; done = done })) w b ≡ option_map forget
@@ -70,6 +84,7 @@ named_on-forget : (within : Bool) (stack : List OpenData) (w : List ℕ)
 named_on-forget within [] w = refl
 named_on-forget within (in_list ∷ os) w = refl
 named_on-forget within (at_name ps ∷ os) w = named_cases within ps os w (is_name w)
+named_on-forget within (in_maybe v ∷ os) w = refl
 named_on-forget within (in_member ps n ∷ os) w = refl
 named_on-forget within (in_tuple ks ∷ os) w = refl
 named_on-forget within (in_choice c ks ∷ os) w = refl
@@ -82,22 +97,28 @@ named-forget stack within (Some k) w = refl
 
 -- a part ends
 
-leaf_cases : (o : Option ShapeData) → option_map (kind_kept false) o ≡ option_map (λ _. bool) (option_map (kind_kept true) o)
+leaf_cases : (o : Option ShapeData) → option_map (kind_kept false) o ≡ option_map forget_kind (option_map (kind_kept true) o)
 leaf_cases None = refl
 leaf_cases (Some k) = refl
 
 settled-forget : (done : Option ShapeData) (w : List ℕ)
-    → ended_here false (option_map (λ _. bool) done) w ≡ option_map (λ _. bool) (ended_here true done w)
+    → ended_here false (option_map forget_kind done) w ≡ option_map forget_kind (ended_here true done w)
 settled-forget None w = leaf_cases (leaf w)
 settled-forget (Some k) [] = refl
 settled-forget (Some k) (b ∷ w) = refl
 
 module _ (within : Bool) (os : List OpenData) where
-  list_cases : (k : ShapeData) (c : Bool)
-      → option_map (part_placed false within in_list (map forget_construct os)) (cond c (Some (ends (list bool))) None)
+  list_cases : (j k : ShapeData) (c : Bool)
+      → option_map (part_placed false within in_list (map forget_construct os)) (cond c (Some (ends (list j))) None)
       ≡ option_map forget (option_map (part_placed true within in_list os) (cond c (Some (ends (list k))) None))
-  list_cases k true = refl
-  list_cases k false = refl
+  list_cases j k true = refl
+  list_cases j k false = refl
+
+  maybe_cases : (w : Bool) (j k : ShapeData) (c : Bool)
+      → option_map (part_placed false within (in_maybe w) (map forget_construct os)) (cond c (Some (ends (maybe j))) None)
+      ≡ option_map forget (option_map (part_placed true within (in_maybe w) os) (cond c (Some (ends (maybe k))) None))
+  maybe_cases w j k true = refl
+  maybe_cases w j k false = refl
 
   fields_cases : (o : OpenData) (ps : List MemberData) (c d : Bool) → within_after (forget_construct o) within ≡ within_after o within →
       option_map (part_placed false within (forget_construct o) (map forget_construct os))
@@ -109,8 +130,8 @@ module _ (within : Bool) (os : List OpenData) where
   fields_cases o ps false false e = refl
 
   tuple_cases : (ls ks : List ShapeData) (c d : Bool) →
-      option_map (part_placed false within (in_tuple (map (λ _. bool) ls)) (map forget_construct os))
-      (cond c (Some (goes (in_tuple (map (λ _. bool) ks)))) (cond d (Some (ends (tuple (kinds_of (map (λ _. bool) ks))))) None))
+      option_map (part_placed false within (in_tuple (map forget_kind ls)) (map forget_construct os))
+      (cond c (Some (goes (in_tuple (map forget_kind ks)))) (cond d (Some (ends (tuple (kinds_of (map forget_kind ks))))) None))
       ≡ option_map forget
       (option_map (part_placed true within (in_tuple ls) os)
       (cond c (Some (goes (in_tuple ks))) (cond d (Some (ends (tuple (kinds_of ks)))) None)))
@@ -119,8 +140,8 @@ module _ (within : Bool) (os : List OpenData) where
   tuple_cases ls ks false false = refl
 
   choice_cases : (w : Bool) (ls ks : List ShapeData) (c d : Bool) →
-      option_map (part_placed false within (in_choice w (map (λ _. bool) ls)) (map forget_construct os))
-      (cond c (Some (goes (in_choice w (map (λ _. bool) ks)))) (cond d (Some (ends (choice (kinds_of (map (λ _. bool) ks))))) None))
+      option_map (part_placed false within (in_choice w (map forget_kind ls)) (map forget_construct os))
+      (cond c (Some (goes (in_choice w (map forget_kind ks)))) (cond d (Some (ends (choice (kinds_of (map forget_kind ks))))) None))
       ≡ option_map forget
       (option_map (part_placed true within (in_choice w ls) os)
       (cond c (Some (goes (in_choice w ks))) (cond d (Some (ends (choice (kinds_of ks)))) None)))
@@ -130,31 +151,33 @@ module _ (within : Bool) (os : List OpenData) where
 
   put-forget : (o : OpenData) (k : ShapeData) (b : ℕ) →
       option_map (part_placed false within (forget_construct o) (map forget_construct os))
-      (put (forget_construct o) bool b) ≡ option_map forget
+      (put (forget_construct o) (forget_kind k) b) ≡ option_map forget
       (option_map (part_placed true within o os) (put o k b))
-  put-forget in_list k b = list_cases k (b == 62)
+  put-forget in_list k b = list_cases (forget_kind k) k (b == 62)
+  put-forget (in_maybe w) k b =
+      rw (takes_nothing-forget k) (maybe_cases w (forget_kind k) k ((b == 62) && not (takes_nothing k)))
   put-forget (at_name ps) k b = refl
   put-forget (in_member ps n) k b =
-      let together : map forget_part ps ++ record { name = n; of = bool } ∷ [] ≡ map forget_part (ps ++ record { name = n; of = k } ∷ []) =
+      let together : map forget_part ps ++ record { name = n; of = forget_kind k } ∷ [] ≡ map forget_part (ps ++ record { name = n; of = k } ∷ []) =
       sym (map-append forget_part ps (record { name = n; of = k } ∷ [])) in
       rw (together, are_new-forget [] (ps ++ record { name = n; of = k } ∷ []))
       (fields_cases (in_member ps n) (ps ++ record { name = n; of = k } ∷ []) (b == 44)
       ((b == 125) && names_differ (ps ++ record { name = n; of = k } ∷ [])) refl)
   put-forget (in_tuple ks) k b =
-      let together : map (λ _. bool) ks ++ bool ∷ [] ≡ map (λ _. bool) (ks ++ k ∷ []) = sym (map-append (λ _. bool) ks (k ∷ [])) in
+      let together : map forget_kind ks ++ forget_kind k ∷ [] ≡ map forget_kind (ks ++ k ∷ []) = sym (map-append forget_kind ks (k ∷ [])) in
       rw together (tuple_cases ks (ks ++ k ∷ []) (b == 44) (b == 62))
   put-forget (in_choice w ks) k b =
-      let together : map (λ _. bool) ks ++ bool ∷ [] ≡ map (λ _. bool) (ks ++ k ∷ []) = sym (map-append (λ _. bool) ks (k ∷ [])) in
-      rw (together, length-map (ks ++ k ∷ []) (λ _. bool))
+      let together : map forget_kind ks ++ forget_kind k ∷ [] ≡ map forget_kind (ks ++ k ∷ []) = sym (map-append forget_kind ks (k ∷ [])) in
+      rw (together, length-map (ks ++ k ∷ []) forget_kind)
       (choice_cases w ks (ks ++ k ∷ []) (b == 44) ((b == 62) && nat_le (length (ks ++ k ∷ [])) 100))
 
 place_on-forget : (within : Bool) (stack : List OpenData) (k : ShapeData) (b : ℕ)
-    → place_on false within (map forget_construct stack) bool b ≡ option_map forget (place_on true within stack k b)
+    → place_on false within (map forget_construct stack) (forget_kind k) b ≡ option_map forget (place_on true within stack k b)
 place_on-forget within [] k b = refl
 place_on-forget within (o ∷ os) k b = put-forget within os o k b
 
 placed_cases : (stack : List OpenData) (within : Bool) (o : Option ShapeData) (b : ℕ)
-    → option_and_then (λ k. place_on false within (map forget_construct stack) k b) (option_map (λ _. bool) o) ≡ option_map forget
+    → option_and_then (λ k. place_on false within (map forget_construct stack) k b) (option_map forget_kind o) ≡ option_map forget
     (option_and_then (λ k. place_on true within stack k b) o)
 placed_cases stack within None b = refl
 placed_cases stack within (Some k) b = place_on-forget within stack k b
@@ -177,7 +200,7 @@ delimited-forget s w b = delimited_cases _ _ _ _ _ _ ((b == 60) || (b == 123)) (
 -- all bytes
 
 ended_cases : (stack : List OpenData) (o : Option ShapeData)
-    → is_some (option_and_then (ended_on (map forget_construct stack)) (option_map (λ _. bool) o)) ≡ is_some
+    → is_some (option_and_then (ended_on (map forget_construct stack)) (option_map forget_kind o)) ≡ is_some
     (option_and_then (ended_on stack) o)
 ended_cases stack None = refl
 ended_cases [] (Some k) = refl

@@ -3,7 +3,7 @@ use Rattle.std.proofs.Common.{ℕ, List, [], ◌∷◌, ◌++◌, ◌≡◌, ◌
 use Rattle.std.proofs.Common.{Result, Ok, Err, arith}
 use Rattle.std.proofs.lemmas.Bool.Decides.{nat_tests}
 use Rattle.std.specs.Prelude.{◌⊎◌, nat_le, codes, IfOk}
-use Rattle.nt_types.specs.ShapeData.{ShapeData, MemberData, bool, char, byte, int, text, list, fields, tuple, choice}
+use Rattle.nt_types.specs.ShapeData.{ShapeData, MemberData, bool, char, byte, int, text, list, maybe, fields, tuple, choice}
 use Rattle.nt_types.specs.Reading.{read_kind}
 use Rattle.nt_types.specs.Spelling.{spell, spell_kinds, spell_parts, depth, IsType}
 use Rattle.nt_types.specs.Lines.{split_line, within_depth, under_name, member_at, member_of}
@@ -104,6 +104,17 @@ spell_core (list k) t =
       first = 118;
       later = codes "ec<" ++ (spell k ++ codes ">");
       before = codes "vec<" ++ spell k;
+      last = 62;
+      begins = refl;
+      ends = refl;
+      no_blank = refl;
+      no_space = refl;
+    }
+spell_core (maybe k) t =
+    record {
+      first = 111;
+      later = codes "pt<" ++ (spell k ++ codes ">");
+      before = codes "opt<" ++ spell k;
       last = 62;
       begins = refl;
       ends = refl;

@@ -5,8 +5,8 @@ use Rattle.std.proofs.lemmas.Bool.Decides.{nat_tests}
 use Rattle.std.specs.Prelude.{◌==◌, ◌||◌, ◌&&◌}
 use Rattle.std.specs.List.{list_all}
 use Rattle.nt_lists.proofs.Bools.{and_true}
-use Rattle.nt_types.specs.ShapeData.{ShapeData, ShapesData, MembersData, bool, char, byte, int, text, list, fields, tuple, choice, no_kinds}
-use Rattle.nt_types.specs.ShapeData.{kind, no_parts, part}
+use Rattle.nt_types.specs.ShapeData.{ShapeData, ShapesData, MembersData, bool, char, byte, int, text, list, maybe, fields, tuple, choice}
+use Rattle.nt_types.specs.ShapeData.{no_kinds, kind, no_parts, part}
 use Rattle.nt_types.specs.Words.{is_word_byte}
 use Rattle.nt_types.specs.Lines.{most_open}
 use Rattle.nt_types.specs.Spelling.{spell, spell_kinds, spell_more_kinds, spell_parts, spell_more_parts, depth, deepest_kind, deepest_part}
@@ -22,6 +22,7 @@ abbrev mutual
   height (int bits signed) = 0
   height text = 0
   height (list k) = height k + 1
+  height (maybe k) = height k + 1
   height (fields ps) = parts_height ps + 1
   height (tuple ks) = kinds_height ks + 1
   height (choice ks) = kinds_height ks + 1
@@ -74,6 +75,9 @@ mutual
   nest (list k) within now most rest t h =
       rw (append_assoc (spell k) (62 ∷ []) rest)
       (nest k within (now + 1) (max most (now + 1)) (62 ∷ rest) t (omega arith) ∙ closed now most (height k) rest)
+  nest (maybe k) within now most rest t h =
+      rw (append_assoc (spell k) (62 ∷ []) rest)
+      (nest k true (now + 1) (max most (now + 1)) (62 ∷ rest) t.1 (omega arith) ∙ closed now most (height k) rest)
   nest (fields ps) within now most rest t h =
       rw (append_assoc (spell_parts ps) (125 ∷ []) rest)
       (nest_parts ps (now + 1) (max most (now + 1)) (125 ∷ rest) t.2 (omega arith) ∙ closed now most (parts_height ps) rest)
@@ -130,6 +134,7 @@ mutual
   depth-height (int bits signed) within t = refl
   depth-height text within t = refl
   depth-height (list k) within t = ap (λ n. n + 1) (depth-height k within t)
+  depth-height (maybe k) within t = ap (λ n. n + 1) (depth-height k true t.1)
   depth-height (fields ps) within t = ap (λ n. n + 1) (deepest_part-height ps t.2)
   depth-height (tuple ks) within t = ap (λ n. n + 1) (deepest_kind-height ks within t)
   depth-height (choice ks) within t = ap (λ n. n + 1) (deepest_kind-height ks true t.1)

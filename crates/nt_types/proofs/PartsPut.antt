@@ -2,12 +2,12 @@
 use Rattle.std.proofs.Common.{ℕ, List, [], ◌∷◌, ◌++◌, ◌≡◌, ◌≤◌, refl, sym, ◌∙◌, ap, subst, Bool, true, false, cond, Some, None, length}
 use Rattle.std.proofs.Common.{append_assoc, arith}
 use Rattle.std.proofs.lemmas.Bool.Decides.{nat_tests}
-use Rattle.std.specs.Prelude.{nat_le, ◌==◌, ◌&&◌, codes}
-use Rattle.nt_lists.proofs.Bools.{and_true}
+use Rattle.std.specs.Prelude.{nat_le, not, ◌==◌, ◌&&◌, codes}
+use Rattle.nt_lists.proofs.Bools.{and_true, not_true}
 use Rattle.nt_lists.proofs.Variants.{some_is}
-use Rattle.nt_types.specs.ShapeData.{ShapeData, MemberData, list, fields, tuple, choice, kinds_of, parts_of}
+use Rattle.nt_types.specs.ShapeData.{ShapeData, MemberData, list, maybe, fields, tuple, choice, kinds_of, parts_of, takes_nothing}
 use Rattle.nt_types.specs.Names.{names_differ}
-use Rattle.nt_types.specs.Reading.{OpenData, in_list, at_name, in_member, in_tuple, in_choice, PlacedData, goes, ends, put}
+use Rattle.nt_types.specs.Reading.{OpenData, in_list, in_maybe, at_name, in_member, in_tuple, in_choice, PlacedData, goes, ends, put}
 use Rattle.nt_types.specs.Spelling.{spell, IsType, AreKinds}
 use Rattle.nt_types.proofs.ReadText.{ended_parts, construct_text, GoodKinds, GoodConstruct, kinds_text, ended_kinds-snoc, parts_text}
 use Rattle.nt_types.proofs.ReadText.{ended_parts-snoc, GoodKinds-snoc, AreKinds-snoc, GoodParts-snoc, AreParts-snoc, list_of-kinds}
@@ -35,6 +35,14 @@ list_put : (out within : Bool) (k : ShapeData) (b : ℕ) (p : PlacedData) (c : B
 list_put out within k b p true at same t e =
     subst (IsPut out within in_list k b) (some_is _ _ e) (rw (at refl) refl, subst (λ (v : Bool). IsType v k) (sym same) t)
 list_put out within k b p false at same t e = cc
+
+maybe_put : (out within w : Bool) (k : ShapeData) (b : ℕ) (p : PlacedData) (c : Bool)
+    → (c ≡ true → (b ≡ 62) × (takes_nothing k ≡ false)) → GoodConstruct (in_maybe w) out within → IsType within k
+    → cond c (Some (ends (maybe k))) None ≡ Some p → IsPut out within (in_maybe w) k b p
+maybe_put out within w k b p true angle g t e =
+    subst (IsPut out within (in_maybe w) k b) (some_is _ _ e)
+    (rw ((angle refl).0) refl, ((angle refl).1, subst (λ (v : Bool). IsType v k) g.1 t))
+maybe_put out within w k b p false angle g t e = cc
 
 tuple_put : (out within : Bool) (ks : List ShapeData) (k : ShapeData) (b : ℕ) (p : PlacedData) (c d : Bool) → (c ≡ true → b ≡ 44)
     → (d ≡ true → b ≡ 62)
@@ -106,6 +114,9 @@ few n e = grind (arith, nat_tests)
 pub put_sound : (out within : Bool) (o : OpenData) (k : ShapeData) (b : ℕ) (p : PlacedData) → GoodConstruct o out within → IsType within k
     → put o k b ≡ Some p → IsPut out within o k b p
 put_sound out within in_list k b p g t e = list_put out within k b p (b == 62) (byte_is b 62) g t e
+put_sound out within (in_maybe w) k b p g t e =
+    maybe_put out within w k b p ((b == 62) && not (takes_nothing k))
+    (λ d. let both = and_true (b == 62) (not (takes_nothing k)) d in (byte_is b 62 both.0, not_true (takes_nothing k) both.1)) g t e
 put_sound out within (at_name ps) k b p g t e = cc
 put_sound out within (in_member ps n) k b p g t e =
     fields_put out within ps n k b p (b == 44) ((b == 125) && names_differ (ps ++ record { name = n; of = k } ∷ [])) (byte_is b 44)

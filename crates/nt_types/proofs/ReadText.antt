@@ -3,7 +3,7 @@ use Rattle.std.proofs.Common.{ℕ, List, [], ◌∷◌, ◌++◌, ◌≡◌, ref
 use Rattle.std.specs.Prelude.{codes}
 use Rattle.nt_types.specs.ShapeData.{ShapeData, MemberData, kinds_of, parts_of, kinds_list, parts_list}
 use Rattle.nt_types.specs.Words.{is_name}
-use Rattle.nt_types.specs.Reading.{OpenData, in_list, at_name, in_member, in_tuple, in_choice}
+use Rattle.nt_types.specs.Reading.{OpenData, in_list, in_maybe, at_name, in_member, in_tuple, in_choice}
 use Rattle.nt_types.specs.Spelling.{spell, spell_kinds, spell_more_kinds, spell_parts, spell_more_parts, IsType, AreKinds, AreMoreKinds}
 use Rattle.nt_types.specs.Spelling.{AreParts, AreMoreParts}
 
@@ -19,6 +19,7 @@ ended_parts (p ∷ ps) = p.name ++ 58 ∷ (spell p.of ++ 44 ∷ ended_parts ps)
 
 abbrev pub construct_text : OpenData → List ℕ
 construct_text in_list = codes "vec<"
+construct_text (in_maybe w) = codes "opt<"
 construct_text (at_name ps) = codes "rec{" ++ ended_parts ps
 construct_text (in_member ps n) = codes "rec{" ++ (ended_parts ps ++ (n ++ 58 ∷ []))
 construct_text (in_tuple ks) = codes "tuple<" ++ ended_kinds ks
@@ -42,9 +43,10 @@ abbrev GoodParts : List MemberData → Type 0
 GoodParts [] = Unit {0}
 GoodParts (p ∷ ps) = (is_name p.name ≡ true) × IsType false p.of × GoodParts ps
 
--- a construct that lies where this flag says whether a choice is open, and inside of it that one
+-- a construct that lies where this flag says whether a choice or an optional is open, and inside of it that one
 abbrev pub GoodConstruct : OpenData → Bool → Bool → Type 0
 GoodConstruct in_list out within = out ≡ within
+GoodConstruct (in_maybe w) out within = (out ≡ w) × (within ≡ true)
 GoodConstruct (at_name ps) out within = (out ≡ within) × (within ≡ false) × GoodParts ps
 GoodConstruct (in_member ps n) out within = (out ≡ within) × (within ≡ false) × GoodParts ps × (is_name n ≡ true)
 GoodConstruct (in_tuple ks) out within = (out ≡ within) × GoodKinds within ks

@@ -7,8 +7,8 @@ use Rattle.std.specs.Prelude.{option_and_then, option_map, ◌==◌, ◌&&◌, �
 use Rattle.nt_lists.proofs.Variants.{some_is}
 use Rattle.nt_types.specs.ShapeData.{ShapeData}
 use Rattle.nt_types.specs.Words.{is_word_byte, is_name}
-use Rattle.nt_types.specs.Reading.{OpenData, in_list, at_name, in_member, in_tuple, in_choice, PlacedData, goes, ends, ReadingData, start}
-use Rattle.nt_types.specs.Reading.{put, within_after, within_inside, part_placed, place_on, place, started, opened, begin, named}
+use Rattle.nt_types.specs.Reading.{OpenData, in_list, in_maybe, at_name, in_member, in_tuple, in_choice, PlacedData, goes, ends}
+use Rattle.nt_types.specs.Reading.{ReadingData, start, put, within_after, within_inside, part_placed, place_on, place, started, opened, begin, named}
 use Rattle.nt_types.specs.Reading.{ended_here, delimited, ended_on, read, read_kind}
 use Rattle.nt_types.specs.Spelling.{spell, IsType}
 use Rattle.nt_types.proofs.ReadText.{ended_parts, construct_text, stack_text, done_text, GoodConstruct, GoodStack, GoodDone}
@@ -27,9 +27,10 @@ IsGood s = GoodStack s.stack s.within × GoodDone s.within s.done
 abbrev Reads : List ℕ → ReadingData → Type 0
 Reads front s = (state_text s ≡ front) × IsGood s
 
--- inside a construct that is open, a choice is open as the flag says
+-- inside a construct that is open, a choice or an optional is open as the flag says
 out_is : (o : OpenData) (out within : Bool) → GoodConstruct o out within → within_after o within ≡ out
 out_is in_list out within g = sym g
+out_is (in_maybe w) out within g = sym g.0
 out_is (at_name ps) out within g = sym g.0
 out_is (in_member ps n) out within g = sym g.0
 out_is (in_tuple ks) out within g = sym g.0
@@ -63,29 +64,36 @@ place_reads within (o ∷ os) k b t g i e = placed_case (put o k b) refl e
 abbrev IsStarted : Bool → List ℕ → ℕ → OpenData → Type 0
 IsStarted within w b o = (construct_text o ≡ w ++ b ∷ []) × GoodConstruct o within (within_inside o within)
 
-started_sound : (within : Bool) (w : List ℕ) (b : ℕ) (o : OpenData) → ((b == 60) || (b == 123)) ≡ true → started within w b ≡ Some o
-    → IsStarted within w b o
-started_sound within w b o which e =
-    cases (b == 123) (bytes_eq w (codes "rec")) within (bytes_eq w (codes "vec")) (bytes_eq w (codes "tuple")) (bytes_eq w (codes "var"))
+started_sound : (within : Bool) (w : List ℕ) (b : ℕ) (q : OpenData) → ((b == 60) || (b == 123)) ≡ true → started within w b ≡ Some q
+    → IsStarted within w b q
+started_sound within w b q which e =
+    cases (b == 123) (bytes_eq w (codes "rec")) within (bytes_eq w (codes "vec")) (bytes_eq w (codes "opt"))
+    (bytes_eq w (codes "tuple")) (bytes_eq w (codes "var"))
     (byte_is b 123) (other b which)
-    (word_is w (codes "rec")) (word_is w (codes "vec")) (word_is w (codes "tuple")) (word_is w (codes "var")) e
+    (word_is w (codes "rec")) (word_is w (codes "vec")) (word_is w (codes "opt")) (word_is w (codes "tuple"))
+    (word_is w (codes "var")) e
   where
     other : (n : ℕ) → ((n == 60) || (n == 123)) ≡ true → (n == 123) ≡ false → n ≡ 60
     other n e f = grind (arith, nat_tests)
 
-    cases : (brace r v c d f : Bool) → (brace ≡ true → b ≡ 123) → (brace ≡ false → b ≡ 60)
-        → (r ≡ true → w ≡ codes "rec") → (c ≡ true → w ≡ codes "vec") → (d ≡ true → w ≡ codes "tuple") → (f ≡ true → w ≡ codes "var")
+    cases : (brace r v c o d f : Bool) → (brace ≡ true → b ≡ 123) → (brace ≡ false → b ≡ 60)
+        → (r ≡ true → w ≡ codes "rec") → (c ≡ true → w ≡ codes "vec") → (o ≡ true → w ≡ codes "opt") → (d ≡ true → w ≡ codes "tuple")
+        → (f ≡ true → w ≡ codes "var")
         → cond brace (cond (r && not v) (Some (at_name [])) None)
-        (cond c (Some in_list) (cond d (Some (in_tuple [])) (cond f (Some (in_choice v [])) None))) ≡ Some o → IsStarted v w b o
-    cases true true false c d f hb ha hr hc hd hf e =
+        (cond c (Some in_list) (cond o (Some (in_maybe v)) (cond d (Some (in_tuple [])) (cond f (Some (in_choice v [])) None)))) ≡ Some q
+        → IsStarted v w b q
+    cases true true false c o d f hb ha hr hc ho hd hf e =
         subst (IsStarted false w b) (some_is _ _ e) (rw (hb refl, hr refl) refl, (refl, refl, tt))
-    cases true true true c d f hb ha hr hc hd hf e = cc
-    cases true false v c d f hb ha hr hc hd hf e = cc
-    cases false r v true d f hb ha hr hc hd hf e = subst (IsStarted v w b) (some_is _ _ e) (rw (ha refl, hc refl) refl, refl)
-    cases false r v false true f hb ha hr hc hd hf e = subst (IsStarted v w b) (some_is _ _ e) (rw (ha refl, hd refl) refl, (refl, tt))
-    cases false r v false false true hb ha hr hc hd hf e =
+    cases true true true c o d f hb ha hr hc ho hd hf e = cc
+    cases true false v c o d f hb ha hr hc ho hd hf e = cc
+    cases false r v true o d f hb ha hr hc ho hd hf e = subst (IsStarted v w b) (some_is _ _ e) (rw (ha refl, hc refl) refl, refl)
+    cases false r v false true d f hb ha hr hc ho hd hf e =
+        subst (IsStarted v w b) (some_is _ _ e) (rw (ha refl, ho refl) refl, (refl, refl))
+    cases false r v false false true f hb ha hr hc ho hd hf e =
+        subst (IsStarted v w b) (some_is _ _ e) (rw (ha refl, hd refl) refl, (refl, tt))
+    cases false r v false false false true hb ha hr hc ho hd hf e =
         subst (IsStarted v w b) (some_is _ _ e) (rw (ha refl, hf refl) refl, (refl, refl, tt))
-    cases false r v false false false hb ha hr hc hd hf e = cc
+    cases false r v false false false false hb ha hr hc ho hd hf e = cc
 
 begin_reads : (stack : List OpenData) (within : Bool) (done : Option ShapeData) (w : List ℕ) (b : ℕ) (t : ReadingData)
     → ((b == 60) || (b == 123)) ≡ true
@@ -115,6 +123,7 @@ named_reads : (stack : List OpenData) (within : Bool) (done : Option ShapeData) 
 named_reads stack within (Some k) w t g e = cc
 named_reads [] within None w t g e = cc
 named_reads (in_list ∷ os) within None w t g e = cc
+named_reads (in_maybe v ∷ os) within None w t g e = cc
 named_reads (in_member ps n ∷ os) within None w t g e = cc
 named_reads (in_tuple ks ∷ os) within None w t g e = cc
 named_reads (in_choice c ks ∷ os) within None w t g e = cc

@@ -5,11 +5,11 @@ use Rattle.std.proofs.lemmas.Bool.Decides.{nat_tests}
 use Rattle.std.specs.Prelude.{◌⊎◌, option_and_then, nat_le, ◌&&◌, codes}
 use Rattle.std.specs.List.{list_all}
 use Rattle.nt_lists.proofs.Bools.{and_true}
-use Rattle.nt_types.specs.ShapeData.{ShapeData, ShapesData, MembersData, MemberData, bool, char, byte, int, text, list, fields, tuple}
-use Rattle.nt_types.specs.ShapeData.{choice, no_kinds, kind, no_parts, part, kinds_of, parts_of, kinds_list, parts_list}
+use Rattle.nt_types.specs.ShapeData.{ShapeData, ShapesData, MembersData, MemberData, bool, char, byte, int, text, list, maybe, fields}
+use Rattle.nt_types.specs.ShapeData.{tuple, choice, no_kinds, kind, no_parts, part, kinds_of, parts_of, kinds_list, parts_list}
 use Rattle.nt_types.specs.Words.{is_word_byte, is_name, leaf}
 use Rattle.nt_types.specs.Names.{names_differ}
-use Rattle.nt_types.specs.Reading.{OpenData, in_list, at_name, in_member, in_tuple, in_choice, ReadingData, place_on, ended_on, read}
+use Rattle.nt_types.specs.Reading.{OpenData, in_list, in_maybe, at_name, in_member, in_tuple, in_choice, ReadingData, place_on, ended_on, read}
 use Rattle.nt_types.specs.Reading.{read_kind}
 use Rattle.nt_types.specs.Spelling.{spell, spell_more_kinds, spell_more_parts, is_width, IsType, AreKinds, AreMoreKinds, AreParts}
 use Rattle.nt_types.specs.Spelling.{AreMoreParts}
@@ -127,6 +127,9 @@ mutual
   spelled (list k) os within rest t e =
       rw (append_assoc (spell k) (62 ∷ []) rest)
       (spelled k (in_list ∷ os) within (62 ∷ rest) t at_angle ∙ after_done os within (list k) rest e)
+  spelled (maybe k) os within rest t e =
+      rw (append_assoc (spell k) (62 ∷ []) rest)
+      (spelled k (in_maybe within ∷ os) true (62 ∷ rest) t.1 at_angle ∙ rw t.0 (after_done os within (maybe k) rest e))
   spelled (fields ps) os within rest t e =
       subst (λ (v : Bool). read true (inside os v) [] (spell (fields ps) ++ rest) ≡ after os v (fields ps) rest) (sym t.0)
       (spelled_parts ps os rest t.1 t.2 e)

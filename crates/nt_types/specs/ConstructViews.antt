@@ -2,7 +2,7 @@
 use Rattle.std.specs.Prelude.{List, [], ◌∷◌, map}
 use Rattle.nt_types.specs.Views.{shape_view, member_view}
 use Rattle.nt_types.specs.Reading as reading
-use Rattle.nt_types.specs.Reading.{OpenData, in_list, at_name, in_member, in_tuple, in_choice, goes, ends}
+use Rattle.nt_types.specs.Reading.{OpenData, in_list, in_maybe, at_name, in_member, in_tuple, in_choice, goes, ends}
 use Rattle.nt_types.specs.declared.construct.Open.{Open}
 use Rattle.nt_types.specs.declared.construct.Open.TheVariants as opens
 use Rattle.nt_types.specs.declared.construct.Placed.{Placed}
@@ -11,6 +11,7 @@ use Rattle.nt_types.specs.declared.construct.Placed.TheVariants as places
 -- a construct that is open
 abbrev pub open_view : Open → OpenData
 open_view opens.List = in_list
+open_view (opens.Maybe within) = in_maybe within
 open_view (opens.Name members) = at_name (map member_view members.items)
 open_view (opens.Member members name) = in_member (map member_view members.items) name
 open_view (opens.Tuple shapes) = in_tuple (map shape_view shapes.items)

@@ -1,8 +1,8 @@
 -- Which trees have a shape.
-use Rattle.std.specs.Prelude.{ℕ, zero, suc, ◌^◌, ◌-◌, ◌&&◌, nat_lt, ℤ, pos, negsuc, Bool, true, false}
+use Rattle.std.specs.Prelude.{ℕ, zero, suc, ◌^◌, ◌-◌, ◌&&◌, ◌||◌, nat_lt, ℤ, pos, negsuc, Bool, true, false}
 use Rattle.nt_types.specs.ShapeData.{ShapeData, ShapesData, MembersData, no_kinds, kind, no_parts, part}
 use Rattle.nt_types.specs.ShapeData as kinds
-use Rattle.nt_types.specs.TreeData.{TreeData, TreesData, flag, num, text, items, parts, pick, nothing, no_trees, tree}
+use Rattle.nt_types.specs.TreeData.{TreeData, TreesData, flag, num, text, items, parts, pick, nothing, no_trees, tree, is_nothing}
 
 -- whether an integer is in the range of a width
 abbrev pub is_int : ℕ → Bool → ℤ → Bool
@@ -57,7 +57,8 @@ abbrev pub are_no_trees : TreesData → Bool
 are_no_trees no_trees = true
 are_no_trees (tree t ts) = false
 
--- whether a tree has a shape; of several kinds, one tree for each; of alternatives, the one of the tag, from 1
+-- whether a tree has a shape; an optional takes nothing beside what it may contain; of several kinds, one tree for each; of
+-- alternatives, the one of the tag, from 1
 abbrev mutual
   pub fits : ShapeData → TreeData → Bool
   fits kinds.bool t = fits_flag t
@@ -66,6 +67,7 @@ abbrev mutual
   fits (kinds.int bits signed) t = fits_number (is_int bits signed) t
   fits kinds.text t = fits_text t
   fits (kinds.list k) t = fits_items (all_trees (fits k)) t
+  fits (kinds.maybe k) t = is_nothing t || fits k t
   fits (kinds.fields ps) t = fits_parts (fit_parts ps) t
   fits (kinds.tuple ks) t = fits_parts (fit_kinds ks) t
   fits (kinds.choice ks) t = fits_pick (fits_one ks) t

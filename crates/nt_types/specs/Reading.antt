@@ -3,7 +3,7 @@
 use Rattle.std.specs.Prelude.{ℕ, Bool, true, false, List, [], ◌∷◌, ◌++◌, length, Option, Some, None, is_some, option_and_then, option_map}
 use Rattle.std.specs.Prelude.{nat_le, ◌==◌, ◌&&◌, ◌||◌, not, codes, if◌then◌else◌}
 use Rattle.std.specs.Str.{bytes_eq}
-use Rattle.nt_types.specs.ShapeData.{ShapeData, MemberData, bool, list, fields, tuple, choice, kinds_of, parts_of}
+use Rattle.nt_types.specs.ShapeData.{ShapeData, MemberData, bool, list, maybe, fields, tuple, choice, no_kinds, kinds_of, parts_of, takes_nothing}
 use Rattle.nt_types.specs.Words.{is_word_byte, is_name, leaf}
 use Rattle.nt_types.specs.Names.{names_differ}
 use Rattle.nt_types.specs.Limits.{max_alternatives}
@@ -11,12 +11,14 @@ use Rattle.nt_types.specs.Limits.{max_alternatives}
 -- a construct that is open, with the parts that it has so far
 pub data OpenData : Type 0 where
   in_list : OpenData
+  -- an optional, and whether it lies in a choice or another optional
+  in_maybe : Bool → OpenData
   -- a record, before the name of its next member
   at_name : List MemberData → OpenData
   -- a record, in the type of the member of this name
   in_member : List MemberData → List ℕ → OpenData
   in_tuple : List ShapeData → OpenData
-  -- a choice, and whether it lies in another one
+  -- a choice, and whether it lies in another one or in an optional
   in_choice : Bool → List ShapeData → OpenData
 
 -- what the byte after a part makes of the construct round it
@@ -28,7 +30,7 @@ pub data PlacedData : Type 0 where
 pub record ReadingData : Type 0 where
   -- what is open, the innermost first
   pub stack : List OpenData
-  -- whether a choice is open
+  -- whether a choice or an optional is open
   pub within : Bool
   -- the part that has just ended
   pub done : Option ShapeData
@@ -37,9 +39,9 @@ pub record ReadingData : Type 0 where
 abbrev pub start : ReadingData
 start = record { stack = []; within = false; done = None }
 
--- where kinds aren't kept, all that is read is whether there is one
+-- where kinds aren't kept, all that is read is whether there is one, and whether it takes nothing
 abbrev pub kind_kept : Bool → ShapeData → ShapeData
-kind_kept keep k = if keep then k else bool
+kind_kept keep k = if keep then k else if takes_nothing k then choice no_kinds else bool
 
 -- components, and the byte after the last of them
 abbrev pub tuple_on : List ShapeData → ℕ → Option PlacedData
@@ -59,14 +61,16 @@ members_on ps b =
 -- a part of the construct has ended, and this byte follows it
 abbrev pub put : OpenData → ShapeData → ℕ → Option PlacedData
 put in_list k b = if b == 62 then Some (ends (list k)) else None
+put (in_maybe w) k b = if (b == 62) && not (takes_nothing k) then Some (ends (maybe k)) else None
 put (at_name ps) k b = None
 put (in_member ps n) k b = members_on (ps ++ record { name = n; of = k } ∷ []) b
 put (in_tuple ks) k b = tuple_on (ks ++ k ∷ []) b
 put (in_choice w ks) k b = choice_on w (ks ++ k ∷ []) b
 
--- whether a choice is open once this construct has ended
+-- whether a choice or an optional is open once this construct has ended
 abbrev pub within_after : OpenData → Bool → Bool
 within_after (in_choice w ks) inside = w
+within_after (in_maybe w) inside = w
 within_after in_list inside = inside
 within_after (at_name ps) inside = inside
 within_after (in_member ps n) inside = inside
@@ -86,17 +90,19 @@ place_on keep within (o ∷ os) k b = option_map (part_placed keep within o os) 
 abbrev pub place : Bool → ReadingData → ShapeData → ℕ → Option ReadingData
 place keep s k b = place_on keep s.within s.stack k b
 
--- the construct that a word and the byte after it begin; a record begins in no choice
+-- the construct that a word and the byte after it begin; a record begins in no choice and no optional
 abbrev pub started : Bool → List ℕ → ℕ → Option OpenData
 started within w b = if b == 123 then (if bytes_eq w (codes "rec") && not within then Some (at_name []) else None)
     else if bytes_eq w (codes "vec") then Some in_list
+    else if bytes_eq w (codes "opt") then Some (in_maybe within)
     else if bytes_eq w (codes "tuple") then Some (in_tuple [])
     else if bytes_eq w (codes "var") then Some (in_choice within [])
     else None
 
--- whether a choice is open inside of this construct
+-- whether a choice or an optional is open inside of this construct
 abbrev pub within_inside : OpenData → Bool → Bool
 within_inside (in_choice w ks) outside = true
+within_inside (in_maybe w) outside = true
 within_inside in_list outside = outside
 within_inside (at_name ps) outside = outside
 within_inside (in_member ps n) outside = outside

@@ -3,8 +3,8 @@ use Rattle.std.specs.Prelude.{ℕ, List, [], ◌∷◌, ◌++◌, ◌+◌, ◌^�
 use Rattle.std.specs.Prelude.{if◌then◌else◌}
 use Rattle.std.specs.List.{slice_split}
 use Rattle.nt_lists.specs.Chaining.{◌>>=◌}
-use Rattle.nt_types.specs.ShapeData.{ShapeData, ShapesData, MembersData, MemberData, bool, char, byte, int, text, list, fields, tuple}
-use Rattle.nt_types.specs.ShapeData.{choice, no_kinds, kind, no_parts, part}
+use Rattle.nt_types.specs.ShapeData.{ShapeData, ShapesData, MembersData, MemberData, bool, char, byte, int, text, list, maybe, fields}
+use Rattle.nt_types.specs.ShapeData.{tuple, choice, no_kinds, kind, no_parts, part}
 use Rattle.nt_types.specs.Names.{has_name}
 use Rattle.nt_types.specs.Limits.{max_text, max_fields}
 use Rattle.nt_types.specs.Lines.{member_of, is_blank_line, split_line, type_of}
@@ -21,6 +21,7 @@ abbrev mutual
   field_count (int bits signed) = 1
   field_count text = 1
   field_count (list k) = field_count k + 1
+  field_count (maybe k) = field_count k + 1
   field_count (fields ps) = parts_count ps + 1
   field_count (tuple ks) = kinds_count ks + 1
   field_count (choice ks) = kinds_count ks + 1

@@ -1,5 +1,5 @@
 -- Shapes as plain data.
-use Rattle.std.specs.Prelude.{ℕ, Bool, List, [], ◌∷◌}
+use Rattle.std.specs.Prelude.{ℕ, Bool, true, false, List, [], ◌∷◌}
 
 mutual
   -- what the values of a field look like
@@ -10,6 +10,8 @@ mutual
     int : ℕ → Bool → ShapeData
     text : ShapeData
     list : ShapeData → ShapeData
+    -- a value, or none
+    maybe : ShapeData → ShapeData
     fields : MembersData → ShapeData
     tuple : ShapesData → ShapeData
     choice : ShapesData → ShapeData
@@ -27,6 +29,12 @@ mutual
 pub record MemberData : Type 0 where
   pub name : List ℕ
   pub of : ShapeData
+
+-- whether nothing is among the values of such a kind
+abbrev pub takes_nothing : ShapeData → Bool
+takes_nothing (maybe k) = true
+takes_nothing (choice ks) = true
+takes_nothing _ = false
 
 -- kinds as data of their own
 abbrev pub kinds_of : List ShapeData → ShapesData

@@ -1,7 +1,7 @@
 -- How types are spelled.
 use Rattle.std.specs.Prelude.{ℕ, Bool, true, false, ◌≡◌, ◌≤◌, ◌+◌, List, [], ◌∷◌, ◌++◌, length, max, ◌==◌, ◌||◌, codes, if◌then◌else◌}
-use Rattle.nt_types.specs.ShapeData.{ShapeData, ShapesData, MembersData, bool, char, byte, int, text, list, fields, tuple, choice, no_kinds}
-use Rattle.nt_types.specs.ShapeData.{kind, no_parts, part, kinds_list, parts_list}
+use Rattle.nt_types.specs.ShapeData.{ShapeData, ShapesData, MembersData, bool, char, byte, int, text, list, maybe, fields, tuple, choice}
+use Rattle.nt_types.specs.ShapeData.{no_kinds, kind, no_parts, part, kinds_list, parts_list, takes_nothing}
 use Rattle.nt_types.specs.Words.{is_name}
 use Rattle.nt_types.specs.Names.{names_differ}
 use Rattle.nt_types.specs.Limits.{max_alternatives}
@@ -19,6 +19,7 @@ abbrev mutual
   spell (int bits signed) = (if signed then 105 else 117) ∷ digits bits
   spell text = codes "string"
   spell (list k) = codes "vec<" ++ (spell k ++ codes ">")
+  spell (maybe k) = codes "opt<" ++ (spell k ++ codes ">")
   spell (fields ps) = codes "rec{" ++ (spell_parts ps ++ codes "}")
   spell (tuple ks) = codes "tuple<" ++ (spell_kinds ks ++ codes ">")
   spell (choice ks) = codes "var<" ++ (spell_kinds ks ++ codes ">")
@@ -43,8 +44,9 @@ abbrev mutual
 abbrev pub is_width : ℕ → Bool
 is_width bits = (bits == 8) || (bits == 16) || (bits == 32) || (bits == 64)
 
--- The rules of types, of those that lie in a choice and of others: integers have one of four widths, what has parts
--- has one at least, the names of a record differ, a choice has at most 100 alternatives, and no record lies in it.
+-- The rules of types, of those that lie in a choice or an optional and of others: integers have one of four widths, what has parts
+-- has one at least, the names of a record differ, a choice has at most 100 alternatives, what an optional may contain takes no
+-- nothing of its own, and no record lies in either.
 abbrev mutual
   pub IsType : Bool → ShapeData → Type 0
   IsType within bool = Unit {0}
@@ -53,6 +55,7 @@ abbrev mutual
   IsType within (int bits signed) = is_width bits ≡ true
   IsType within text = Unit {0}
   IsType within (list k) = IsType within k
+  IsType within (maybe k) = (takes_nothing k ≡ false) × IsType true k
   IsType within (fields ps) = (within ≡ false) × (names_differ (parts_list ps) ≡ true) × AreParts ps
   IsType within (tuple ks) = AreKinds within ks
   IsType within (choice ks) = (length (kinds_list ks) ≤ max_alternatives) × AreKinds true ks
@@ -84,6 +87,7 @@ abbrev mutual
   depth (int bits signed) = 1
   depth text = 1
   depth (list k) = depth k + 1
+  depth (maybe k) = depth k + 1
   depth (fields ps) = deepest_part ps + 1
   depth (tuple ks) = deepest_kind ks + 1
   depth (choice ks) = deepest_kind ks + 1

@@ -1,5 +1,5 @@
 -- Trees as plain data.
-use Rattle.std.specs.Prelude.{ℕ, ℤ, Bool, List, [], ◌∷◌}
+use Rattle.std.specs.Prelude.{ℕ, ℤ, Bool, true, false, List, [], ◌∷◌}
 
 mutual
   -- the value of a field
@@ -16,6 +16,12 @@ mutual
     no_trees : TreesData
     tree : TreeData → TreesData → TreesData
 
+-- whether it is no value
+abbrev pub is_nothing : TreeData → Bool
+is_nothing nothing = true
+is_nothing _ = false
+
+-- trees as data of their own
 abbrev pub trees_of : List TreeData → TreesData
 trees_of [] = no_trees
 trees_of (t ∷ ts) = tree t (trees_of ts)

@@ -1,6 +1,7 @@
 -- What shapes stand for.
 use Rattle.std.specs.Prelude.{List}
-use Rattle.nt_types.specs.ShapeData.{ShapeData, MemberData, bool, char, byte, int, text, list, fields, tuple, choice, kinds_of, parts_of}
+use Rattle.nt_types.specs.ShapeData.{ShapeData, MemberData, bool, char, byte, int, text, list, maybe, fields, tuple, choice, kinds_of}
+use Rattle.nt_types.specs.ShapeData.{parts_of}
 use Rattle.nt_types.specs.declared.shape.Shape.{Shape, fold-Shape}
 use Rattle.nt_types.specs.declared.shape.Shape.TheOpen.{Shape-F, Shapes-F, Member-F, Members-F}
 use Rattle.nt_types.specs.declared.shape.Shapes.{Shapes, fold-Shapes}
@@ -15,6 +16,7 @@ shape_step Shape-F.Byte = byte
 shape_step (Shape-F.Int bits signed) = int bits signed
 shape_step Shape-F.Text = text
 shape_step (Shape-F.List of) = list of.value
+shape_step (Shape-F.Maybe of) = maybe of.value
 shape_step (Shape-F.Rec members) = fields (parts_of members)
 shape_step (Shape-F.Tuple shapes) = tuple (kinds_of shapes)
 shape_step (Shape-F.Choice shapes) = choice (kinds_of shapes)

@@ -17,12 +17,14 @@ use std::alloc::Global;
 #[derive(Drop)]
 pub(crate) enum Open {
     List,
+    /// An optional, and whether it lies in a choice or another optional.
+    Maybe(bool),
     /// A record, before the name of its next member.
     Name(Vec<Member>),
     /// A record, in the type of the member of this name.
     Member(Vec<Member>, Name),
     Tuple(Vec<Shape>),
-    /// A choice, and whether it lies in another one.
+    /// A choice, and whether it lies in another one or in an optional.
     Choice(bool, Vec<Shape>),
 }
 
@@ -87,6 +89,12 @@ pub(crate) fn put(
             b'>' => Ok(Placed::Ends(Shape::List(Box::new(alloc, part)?))),
             _ => Err(TypeError::Malformed),
         },
+        Open::Maybe(_) => match after {
+            b'>' if !part.takes_nothing() => {
+                Ok(Placed::Ends(Shape::Maybe(Box::new(alloc, part)?)))
+            }
+            _ => Err(TypeError::Malformed),
+        },
         Open::Name(_) => Err(TypeError::Malformed),
         Open::Member(mut members, name) => {
             members.push(Member { name, of: part })?;
@@ -103,27 +111,27 @@ pub(crate) fn put(
     }
 }
 
-/// Whether a choice is open once this construct has ended.
+/// Whether a choice or an optional is open once this construct has ended.
 pub(crate) fn within_after(construct: &Open, inside: bool) -> bool
     ensures { result ≡ within_after (open_view construct.now) inside }
 {
     match construct {
-        Open::Choice(within, _) => *within,
+        Open::Choice(within, _) | Open::Maybe(within) => *within,
         Open::List | Open::Name(_) | Open::Member(..) | Open::Tuple(_) => inside,
     }
 }
 
-/// Whether a choice is open inside of this construct.
+/// Whether a choice or an optional is open inside of this construct.
 pub(crate) fn within_inside(construct: &Open, outside: bool) -> bool
     ensures { result ≡ within_inside (open_view construct.now) outside }
 {
     match construct {
-        Open::Choice(..) => true,
+        Open::Choice(..) | Open::Maybe(_) => true,
         Open::List | Open::Name(_) | Open::Member(..) | Open::Tuple(_) => outside,
     }
 }
 
-/// The construct that a word and the byte after it begin. A record begins in no choice.
+/// The construct that a word and the byte after it begin. A record begins in no choice and no optional.
 pub(crate) fn started(alloc: Global, within: bool, word: &[u8], after: u8) -> Option<Open>
     ensures { option_map open_view result ≡ started within word.now after }
 {
@@ -131,6 +139,8 @@ pub(crate) fn started(alloc: Global, within: bool, word: &[u8], after: u8) -> Op
         (word == b"rec".as_slice() && !within).then_some(Open::Name(Vec::new(alloc)))
     } else if word == b"vec".as_slice() {
         Some(Open::List)
+    } else if word == b"opt".as_slice() {
+        Some(Open::Maybe(within))
     } else if word == b"tuple".as_slice() {
         Some(Open::Tuple(Vec::new(alloc)))
     } else if word == b"var".as_slice() {

@@ -24,6 +24,7 @@ pub fn count_fields(shape: &Shape, before: u32) -> u32
     match shape {
         Shape::Bool | Shape::Char | Shape::Byte | Shape::Int { .. } | Shape::Text => now,
         Shape::List(of) => count_fields(of, now),
+        Shape::Maybe(of) => count_fields(of, now),
         Shape::Rec(members) => count_members(&members.list, now),
         Shape::Tuple(shapes) => count_shapes(&shapes.list, now),
         Shape::Choice(shapes) => count_shapes(&shapes.list, now),

@@ -49,6 +49,7 @@ pub fn fits(tree: &Tree, shape: &Shape) -> bool
             Tree::Items(items) => all_fit(&items.list, of),
             _ => false,
         },
+        Shape::Maybe(of) => matches!(tree, Tree::Nothing) || fits(tree, of),
         Shape::Rec(members) => match tree {
             Tree::Parts(parts) => members_fit(&parts.list, &members.list),
             _ => false,

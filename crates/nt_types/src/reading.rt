@@ -10,23 +10,29 @@ ghost use Rattle.nt_types.specs.FaultViews.{type_fault, or_malformed};
 use crate::construct::{Open, Placed, put, started, within_after, within_inside};
 use crate::fault::TypeError;
 use crate::name::Name;
-use crate::shape::Shape;
+use crate::shape::{Shape, Shapes};
 use crate::word::{is_name, leaf};
 use std::alloc::{AllocError, Global};
 
-fn kind_kept(keep: bool, shape: Shape) -> Shape
+fn kind_kept(alloc: Global, keep: bool, shape: Shape) -> Shape
     ensures { shape_view result ≡ kind_kept keep (shape_view shape) }
 {
-    if keep { shape } else { Shape::Bool }
+    if keep {
+        shape
+    } else if shape.takes_nothing() {
+        Shape::Choice(Shapes::from_vec(Vec::new(alloc)))
+    } else {
+        Shape::Bool
+    }
 }
 
 /// The part that ends here: one that has ended already, or a leaf.
-fn settled(keep: bool, done: Option<Shape>, word: &[u8]) -> Option<Shape>
+fn settled(alloc: Global, keep: bool, done: Option<Shape>, word: &[u8]) -> Option<Shape>
     ensures { option_map shape_view result ≡ ended_here keep (option_map shape_view done) word.now }
 {
     match done {
         None => match leaf(word) {
-            Some(shape) => Some(kind_kept(keep, shape)),
+            Some(shape) => Some(kind_kept(alloc, keep, shape)),
             None => None,
         },
         Some(shape) => match word {
@@ -56,10 +62,10 @@ fn popped(stack: &mut Vec<Open>) -> Option<Open>
 /// What is read so far.
 #[derive(Drop)]
 pub(crate) struct Reading {
-    /// Whether shapes are kept. Where they aren't, all that is read is whether there is one.
+    /// Whether shapes are kept. Where they aren't, all that is read is whether there is one, and whether it takes nothing.
     keep: bool,
     stack: Vec<Open>,
-    /// Whether a choice is open.
+    /// Whether a choice or an optional is open.
     within: bool,
     /// The part that has just ended.
     done: Option<Shape>,
@@ -96,7 +102,7 @@ impl Reading {
             Placed::Goes(outer) => pushed(&mut self.stack, outer)?,
             Placed::Ends(shape) => {
                 self.within = within;
-                self.done = Some(kind_kept(self.keep, shape));
+                self.done = Some(kind_kept(alloc, self.keep, shape));
             }
         }
         Ok(())
@@ -150,7 +156,7 @@ impl Reading {
         match after {
             b'<' | b'{' => self.begin(alloc, word, after),
             b':' => self.name(alloc, word),
-            _ => match settled(self.keep, self.done.take(), word) {
+            _ => match settled(alloc, self.keep, self.done.take(), word) {
                 Some(part) => self.place(alloc, part, after),
                 None => Err(TypeError::Malformed),
             },
@@ -158,10 +164,10 @@ impl Reading {
     }
 
     /// The text ends after this word.
-    pub(crate) fn end(mut self, word: &[u8]) -> Option<Shape>
+    pub(crate) fn end(mut self, alloc: Global, word: &[u8]) -> Option<Shape>
         ensures { option_map shape_view result ≡ text_ended self.keep (state_view self) word.now }
     {
-        let Some(part) = settled(self.keep, self.done.take(), word) else {
+        let Some(part) = settled(alloc, self.keep, self.done.take(), word) else {
             return None;
         };
         match popped(&mut self.stack) {

@@ -1,6 +1,7 @@
 //! What the values of a field look like.
 
 ghost use Rattle.std.specs.Prelude.{◌≡◌, map};
+ghost use Rattle.nt_types.specs.ShapeData.{takes_nothing};
 ghost use Rattle.nt_types.specs.Views.{shape_view, shapes_view, member_view, members_view};
 
 use crate::name::Name;
@@ -16,6 +17,8 @@ pub enum Shape {
     Int { bits: u8, signed: bool },
     Text,
     List(Box<Shape>),
+    /// A value, or nothing.
+    Maybe(Box<Shape>),
     Rec(Members),
     Tuple(Shapes),
     /// One of the alternatives, or nothing.
@@ -46,6 +49,19 @@ pub struct Members {
 
 /// The fields of an event, at the top level.
 pub type Fields = Members;
+
+impl Shape {
+    /// Whether nothing is among the values.
+    pub fn takes_nothing(&self) -> bool
+        ensures { result ≡ takes_nothing (shape_view self.now) }
+    {
+        match self {
+            Shape::Maybe(_) | Shape::Choice(_) => true,
+            Shape::Bool | Shape::Char | Shape::Byte | Shape::Int { .. } | Shape::Text => false,
+            Shape::List(_) | Shape::Rec(_) | Shape::Tuple(_) => false,
+        }
+    }
+}
 
 impl Shapes {
     pub fn from_vec(list: Vec<Shape>) -> Self

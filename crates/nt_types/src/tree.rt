@@ -20,7 +20,7 @@ pub enum Tree {
     Parts(Trees),
     /// A value of an alternative; tags count from 1.
     Pick { tag: u32, value: Box<Tree> },
-    /// Of a choice: no alternative.
+    /// Of an optional: no value. Of a choice: no alternative.
     Nothing,
 }
 
