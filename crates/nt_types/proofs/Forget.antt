@@ -3,7 +3,8 @@ use Rattle.std.proofs.Common.{ℕ, List, [], ◌∷◌, ◌++◌, ◌≡◌, ref
 use Rattle.std.specs.Prelude.{is_some, option_map, option_and_then, not, nat_le, ◌==◌, ◌&&◌, ◌||◌, codes}
 use Rattle.std.specs.Str.{bytes_eq}
 use Rattle.std.proofs.lemmas.List.{map-append, length-map}
-use Rattle.nt_types.specs.ShapeData.{ShapeData, MemberData, bool, list, maybe, fields, tuple, choice, no_kinds, kinds_of, parts_of, takes_nothing}
+use Rattle.nt_types.specs.ShapeData.{ShapeData, MemberData, bool, list, maybe, fields, tuple, choice, no_kinds, kinds_of, parts_of}
+use Rattle.nt_types.specs.ShapeData.{takes_nothing}
 use Rattle.nt_types.specs.Words.{is_word_byte, is_name, leaf}
 use Rattle.nt_types.specs.Names.{are_new, names_differ}
 use Rattle.nt_types.specs.Reading.{OpenData, in_list, in_maybe, at_name, in_member, in_tuple, in_choice, goes, ends, ReadingData, kind_kept}
@@ -158,8 +159,8 @@ module _ (within : Bool) (os : List OpenData) where
       rw (takes_nothing-forget k) (maybe_cases w (forget_kind k) k ((b == 62) && not (takes_nothing k)))
   put-forget (at_name ps) k b = refl
   put-forget (in_member ps n) k b =
-      let together : map forget_part ps ++ record { name = n; of = forget_kind k } ∷ [] ≡ map forget_part (ps ++ record { name = n; of = k } ∷ []) =
-      sym (map-append forget_part ps (record { name = n; of = k } ∷ [])) in
+      let together : map forget_part ps ++ record { name = n; of = forget_kind k } ∷ []
+      ≡ map forget_part (ps ++ record { name = n; of = k } ∷ []) = sym (map-append forget_part ps (record { name = n; of = k } ∷ [])) in
       rw (together, are_new-forget [] (ps ++ record { name = n; of = k } ∷ []))
       (fields_cases (in_member ps n) (ps ++ record { name = n; of = k } ∷ []) (b == 44)
       ((b == 125) && names_differ (ps ++ record { name = n; of = k } ∷ [])) refl)

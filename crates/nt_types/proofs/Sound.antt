@@ -8,8 +8,8 @@ use Rattle.nt_lists.proofs.Variants.{some_is}
 use Rattle.nt_types.specs.ShapeData.{ShapeData}
 use Rattle.nt_types.specs.Words.{is_word_byte, is_name}
 use Rattle.nt_types.specs.Reading.{OpenData, in_list, in_maybe, at_name, in_member, in_tuple, in_choice, PlacedData, goes, ends}
-use Rattle.nt_types.specs.Reading.{ReadingData, start, put, within_after, within_inside, part_placed, place_on, place, started, opened, begin, named}
-use Rattle.nt_types.specs.Reading.{ended_here, delimited, ended_on, read, read_kind}
+use Rattle.nt_types.specs.Reading.{ReadingData, start, put, within_after, within_inside, part_placed, place_on, place, started, opened}
+use Rattle.nt_types.specs.Reading.{begin, named, ended_here, delimited, ended_on, read, read_kind}
 use Rattle.nt_types.specs.Spelling.{spell, IsType}
 use Rattle.nt_types.proofs.ReadText.{ended_parts, construct_text, stack_text, done_text, GoodConstruct, GoodStack, GoodDone}
 use Rattle.nt_types.proofs.PartsPut.{IsPut, byte_is, put_sound}

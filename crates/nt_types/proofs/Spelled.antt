@@ -9,8 +9,8 @@ use Rattle.nt_types.specs.ShapeData.{ShapeData, ShapesData, MembersData, MemberD
 use Rattle.nt_types.specs.ShapeData.{tuple, choice, no_kinds, kind, no_parts, part, kinds_of, parts_of, kinds_list, parts_list}
 use Rattle.nt_types.specs.Words.{is_word_byte, is_name, leaf}
 use Rattle.nt_types.specs.Names.{names_differ}
-use Rattle.nt_types.specs.Reading.{OpenData, in_list, in_maybe, at_name, in_member, in_tuple, in_choice, ReadingData, place_on, ended_on, read}
-use Rattle.nt_types.specs.Reading.{read_kind}
+use Rattle.nt_types.specs.Reading.{OpenData, in_list, in_maybe, at_name, in_member, in_tuple, in_choice, ReadingData, place_on, ended_on}
+use Rattle.nt_types.specs.Reading.{read, read_kind}
 use Rattle.nt_types.specs.Spelling.{spell, spell_more_kinds, spell_more_parts, is_width, IsType, AreKinds, AreMoreKinds, AreParts}
 use Rattle.nt_types.specs.Spelling.{AreMoreParts}
 

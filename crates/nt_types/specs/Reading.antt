@@ -3,7 +3,8 @@
 use Rattle.std.specs.Prelude.{ℕ, Bool, true, false, List, [], ◌∷◌, ◌++◌, length, Option, Some, None, is_some, option_and_then, option_map}
 use Rattle.std.specs.Prelude.{nat_le, ◌==◌, ◌&&◌, ◌||◌, not, codes, if◌then◌else◌}
 use Rattle.std.specs.Str.{bytes_eq}
-use Rattle.nt_types.specs.ShapeData.{ShapeData, MemberData, bool, list, maybe, fields, tuple, choice, no_kinds, kinds_of, parts_of, takes_nothing}
+use Rattle.nt_types.specs.ShapeData.{ShapeData, MemberData, bool, list, maybe, fields, tuple, choice, no_kinds, kinds_of, parts_of}
+use Rattle.nt_types.specs.ShapeData.{takes_nothing}
 use Rattle.nt_types.specs.Words.{is_word_byte, is_name, leaf}
 use Rattle.nt_types.specs.Names.{names_differ}
 use Rattle.nt_types.specs.Limits.{max_alternatives}

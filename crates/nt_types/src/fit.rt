@@ -30,8 +30,15 @@ fn is_int(n: i128, bits: u8, signed: bool) -> bool
 }
 
 /// Whether a value has this shape.
-#[cycle(fits)]
 pub fn fits(tree: &Tree, shape: &Shape) -> bool
+    ensures { result ≡ fits (shape_view shape.now) (tree_view tree.now) }
+{
+    takes(shape, tree)
+}
+
+/// Whether a shape has this value: the shape comes first, since each call goes down the shape.
+#[cycle(fits)]
+fn takes(shape: &Shape, tree: &Tree) -> bool
     ensures { result ≡ fits (shape_view shape.now) (tree_view tree.now) }
 {
     match shape {
@@ -46,21 +53,21 @@ pub fn fits(tree: &Tree, shape: &Shape) -> bool
         },
         Shape::Text => matches!(tree, Tree::Text(_)),
         Shape::List(of) => match tree {
-            Tree::Items(items) => all_fit(&items.list, of),
+            Tree::Items(items) => all_fit(of, &items.list),
             _ => false,
         },
-        Shape::Maybe(of) => matches!(tree, Tree::Nothing) || fits(tree, of),
+        Shape::Maybe(of) => matches!(tree, Tree::Nothing) || takes(of, tree),
         Shape::Rec(members) => match tree {
-            Tree::Parts(parts) => members_fit(&parts.list, &members.list),
+            Tree::Parts(parts) => members_fit(&members.list, &parts.list),
             _ => false,
         },
         Shape::Tuple(shapes) => match tree {
-            Tree::Parts(parts) => each_fits(&parts.list, &shapes.list),
+            Tree::Parts(parts) => each_fits(&shapes.list, &parts.list),
             _ => false,
         },
         Shape::Choice(shapes) => match tree {
             Tree::Nothing => true,
-            Tree::Pick { tag, value } => one_fits(*tag, value, &shapes.list),
+            Tree::Pick { tag, value } => one_fits(&shapes.list, *tag, value),
             _ => false,
         },
     }
@@ -68,11 +75,11 @@ pub fn fits(tree: &Tree, shape: &Shape) -> bool
 
 /// Whether all of them have the shape of a list's items.
 #[cycle(fits)]
-fn all_fit(trees: &[Tree], shape: &Shape) -> bool
+fn all_fit(shape: &Shape, trees: &[Tree]) -> bool
     ensures { result ≡ all_trees (fits (shape_view shape.now)) (trees_of (map tree_view trees.now)) }
 {
     for tree in trees {
-        if !fits(tree, shape) {
+        if !takes(shape, tree) {
             return false;
         }
     }
@@ -81,14 +88,14 @@ fn all_fit(trees: &[Tree], shape: &Shape) -> bool
 
 /// Whether they are one for each member, which they fit.
 #[cycle(fits)]
-fn members_fit(trees: &[Tree], members: &[Member]) -> bool
+fn members_fit(members: &[Member], trees: &[Tree]) -> bool
     ensures { result ≡ fit_parts (parts_of (map member_view members.now)) (trees_of (map tree_view trees.now)) }
 {
     if members.len() != trees.len() {
         return false;
     }
     for i in 0..members.len() {
-        if !fits(&trees[i], &members[i].of) {
+        if !takes(&members[i].of, &trees[i]) {
             return false;
         }
     }
@@ -97,14 +104,14 @@ fn members_fit(trees: &[Tree], members: &[Member]) -> bool
 
 /// Whether they are one for each shape, which they fit.
 #[cycle(fits)]
-fn each_fits(trees: &[Tree], shapes: &[Shape]) -> bool
+fn each_fits(shapes: &[Shape], trees: &[Tree]) -> bool
     ensures { result ≡ fit_kinds (kinds_of (map shape_view shapes.now)) (trees_of (map tree_view trees.now)) }
 {
     if shapes.len() != trees.len() {
         return false;
     }
     for i in 0..shapes.len() {
-        if !fits(&trees[i], &shapes[i]) {
+        if !takes(&shapes[i], &trees[i]) {
             return false;
         }
     }
@@ -113,11 +120,11 @@ fn each_fits(trees: &[Tree], shapes: &[Shape]) -> bool
 
 /// Whether a value fits the alternative of a tag.
 #[cycle(fits)]
-fn one_fits(tag: u32, tree: &Tree, shapes: &[Shape]) -> bool
+fn one_fits(shapes: &[Shape], tag: u32, tree: &Tree) -> bool
     ensures { result ≡ fits_one (kinds_of (map shape_view shapes.now)) tag (tree_view tree.now) }
 {
     if tag == 0 || tag as usize > shapes.len() {
         return false;
     }
-    fits(tree, &shapes[tag as usize - 1])
+    takes(&shapes[tag as usize - 1], tree)
 }

@@ -24,5 +24,7 @@ pub(crate) fn read_type(alloc: Global, keep: bool, text: &[u8]) -> Result<Shape,
         reading.delimit(alloc, &text[from..i], *byte)?;
         from = i + 1;
     }
-    reading.end(alloc, &text[from..]).ok_or(TypeError::Malformed)
+    reading
+        .end(alloc, &text[from..])
+        .ok_or(TypeError::Malformed)
 }

@@ -23,21 +23,21 @@ members_fit-returns-then-members-trees t c =
     parts_unequal (map member_view ms) (map tree_view ts)
     (λ e. c.if-members-trees.true (sym (length-map ms member_view) ∙ e ∙ length-map ts tree_view))
 
-pub members_fit-returns-then-not-fits : goal.members_fit-returns-then-not-fits
-members_fit-returns-then-not-fits t c =
+pub members_fit-returns-then-not-takes : goal.members_fit-returns-then-not-takes
+members_fit-returns-then-not-takes t c =
     let i = c.loop-i.i in
-    let e = member_step c.args.members.now c.args.trees.now i c.index-members-i.result c.index-trees-i.result c.fits.result
+    let e = member_step c.args.members.now c.args.trees.now i c.index-members-i.result c.index-trees-i.result c.takes.result
     (omega (arith, c.loop-i-test.true)) (omega (arith, c.loop-i-test.true, c.if-members-trees.false)) c.index-members-i.is
-    c.index-trees-i.is (c.fits.ensures ∙ ap (λ (m : Member). fits (shape_view m.of) (tree_view c.index-trees-i.result))
+    c.index-trees-i.is (c.takes.ensures ∙ ap (λ (m : Member). fits (shape_view m.of) (tree_view c.index-trees-i.result))
     (sym c.index-members-i.is)) in
     search (rules, c.loop-i.invariant, e)
 
 pub members_fit-loop-i-preserved : goal.members_fit-loop-i-preserved
 members_fit-loop-i-preserved t c =
     let i = c.loop-i.i in
-    let e = member_step c.args.members.now c.args.trees.now i c.index-members-i.result c.index-trees-i.result c.fits.result
+    let e = member_step c.args.members.now c.args.trees.now i c.index-members-i.result c.index-trees-i.result c.takes.result
     (omega (arith, c.loop-i-test.true)) (omega (arith, c.loop-i-test.true, c.if-members-trees.false)) c.index-members-i.is
-    c.index-trees-i.is (c.fits.ensures ∙ ap (λ (m : Member). fits (shape_view m.of) (tree_view c.index-trees-i.result))
+    c.index-trees-i.is (c.takes.ensures ∙ ap (λ (m : Member). fits (shape_view m.of) (tree_view c.index-trees-i.result))
     (sym c.index-members-i.is)) in
     search (rules, c.loop-i.invariant, e)
 
@@ -60,5 +60,5 @@ one_fits-returns t c =
     let v = tree_view c.args.tree.now in
     let in_range : c.args.tag - 1 < length ss = omega (arith, c.if-tag-eq0.false, c.if-tag-shapes.false) in
     let next : suc (c.args.tag - 1) ≡ c.args.tag = omega (arith, c.if-tag-eq0.false) in
-    c.fits.ensures ∙ sym (one-nth ks (c.args.tag - 1) (shape_view k) v (omega (arith, in_range, length-map ss shape_view))
+    c.takes.ensures ∙ sym (one-nth ks (c.args.tag - 1) (shape_view k) v (omega (arith, in_range, length-map ss shape_view))
     (nth-shape ss (c.args.tag - 1) k in_range c.index-shapes-tag.is)) ∙ ap (λ n. fits_one (kinds_of ks) n v) next
