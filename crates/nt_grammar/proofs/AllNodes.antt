@@ -5,8 +5,8 @@ use Rattle.std.proofs.lemmas.Bool.Decides.{nat_tests}
 use Rattle.std.proofs.lemmas.Fmt.{length-decimal-le}
 use Rattle.std.specs.List.{list_all}
 use Rattle.std.specs.Fmt.{decimal}
-use Rattle.nt_types.specs.ShapeData.{ShapeData, ShapesData, MembersData, MemberData, bool, char, byte, int, text, list, fields, tuple}
-use Rattle.nt_types.specs.ShapeData.{choice, no_kinds, kind, no_parts, part, parts_of}
+use Rattle.nt_types.specs.ShapeData.{ShapeData, ShapesData, MembersData, MemberData, bool, char, byte, int, text, list, maybe, fields}
+use Rattle.nt_types.specs.ShapeData.{tuple, choice, no_kinds, kind, no_parts, part, parts_of}
 use Rattle.nt_types.specs.Words.{is_name}
 use Rattle.nt_types.specs.Spelling.{IsType, AreKinds, AreMoreKinds, AreParts, AreMoreParts}
 use Rattle.nt_types.specs.Schema.{field_count, parts_count, kinds_count}
@@ -76,7 +76,7 @@ more_parts : (ps : MembersData) → AreParts ps → AreMoreParts ps
 more_parts no_parts t = absurd t
 more_parts (part n k ps) t = t
 
-more_kinds : (within : Bool) (ks : ShapesData) → AreKinds within ks → AreMoreKinds within ks
+pub more_kinds : (within : Bool) (ks : ShapesData) → AreKinds within ks → AreMoreKinds within ks
 more_kinds within no_kinds t = absurd t
 more_kinds within (kind k ks) t = t
 
@@ -89,6 +89,11 @@ inside-fields within id text t h = tt
 inside-fields within id (list k) t h = (
   record
       { named = place_name-length 0 (omega arith); within = within; typed = t; few = omega arith },
+  tt,
+)
+inside-fields within id (maybe k) t h = (
+  record
+      { named = place_name-length 0 (omega arith); within = true; typed = t.1; few = omega arith },
   tt,
 )
 inside-fields within id (fields ps) t h = members-fields id ps (more_parts ps t.2) (omega arith)

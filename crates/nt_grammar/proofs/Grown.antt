@@ -11,8 +11,8 @@ use Rattle.nt_types.specs.declared.column_type.ColumnType.TheVariants.{Switch}
 use Rattle.nt_grammar.specs.declared.rows.FieldRow.{FieldRow}
 use Rattle.nt_grammar.specs.declared.rows.ColumnRow.{ColumnRow}
 use Rattle.nt_grammar.specs.Codes.{leaf_role, collection_role, record_role, variant_role, most_levels}
-use Rattle.nt_grammar.specs.Open.{ids_inside, columns_of_field, one_column, no_column, index_types, is_leaf, leaf_shape, list_shape}
-use Rattle.nt_grammar.specs.Open.{record_shape, choice_shape, flags_fit, shape_by_role, all_some, field_of_row, open_field, top_shape}
+use Rattle.nt_grammar.specs.Open.{ids_inside, columns_of_field, one_column, no_column, index_types, is_leaf, leaf_shape}
+use Rattle.nt_grammar.specs.Open.{collection_shape, record_shape, choice_shape, flags_fit, shape_by_role, all_some, field_of_row, open_field, top_shape}
 use Rattle.nt_grammar.specs.Open.{open_shapes}
 use Rattle.nt_grammar.proofs.FieldsInside.{ids_inside-append}
 
@@ -82,7 +82,8 @@ then-same f g (Some x) h = h x
 abbrev by_inside : Bool → FieldRow → List ColumnRow → List ℕ → Option (List MemberData) → Option (List MemberData) → Option ShapeData
 by_inside up r cs js other within =
     if r.role == leaf_role then (if is_leaf js then leaf_shape up r.type_name cs else None)
-    else if r.role == collection_role then (if one_column up index_types cs then option_and_then list_shape other else None)
+    else if r.role == collection_role then (if one_column up index_types cs then option_and_then (collection_shape r.type_name) other
+    else None)
     else if r.role == record_role then (if no_column cs then option_and_then record_shape within else None)
     else if r.role == variant_role then (if one_column up (Switch ∷ []) cs then option_and_then choice_shape other else None)
     else None

@@ -6,8 +6,8 @@ use Rattle.std.proofs.lemmas.List.{length-map, length-take-le, length-drop, take
 use Rattle.std.proofs.lemmas.Option.{slice_get_within, get_or_from_slice_get}
 use Rattle.std.proofs.Math.Seq.{drop-cons}
 use Rattle.std.specs.Prelude.{◌&&◌, not}
-use Rattle.nt_types.specs.ShapeData.{ShapeData, ShapesData, MembersData, MemberData, bool, char, byte, int, text, list, fields, tuple}
-use Rattle.nt_types.specs.ShapeData.{choice, no_kinds, kind, no_parts, part}
+use Rattle.nt_types.specs.ShapeData.{ShapeData, ShapesData, MembersData, MemberData, bool, char, byte, int, text, list, maybe, fields}
+use Rattle.nt_types.specs.ShapeData.{tuple, choice, no_kinds, kind, no_parts, part}
 use Rattle.nt_grammar.specs.Rows.{NodeData, AreNodesFrom, inside, members_in, places_in, all_inside, at_top, field_row}
 use Rattle.nt_grammar.specs.Listing.{weight}
 use Rattle.nt_grammar.specs.Open.{ids_inside}
@@ -41,6 +41,7 @@ inside-parents id byte = tt
 inside-parents id (int bits signed) = tt
 inside-parents id text = tt
 inside-parents id (list k) = (record { above = omega arith; below = omega arith }, tt)
+inside-parents id (maybe k) = (record { above = omega arith; below = omega arith }, tt)
 inside-parents id (fields ps) = members-parents id ps
 inside-parents id (tuple ks) = parts-parents id 0 ks
 inside-parents id (choice ks) = parts-parents id 0 ks

@@ -1,8 +1,8 @@
 -- Fields inside others stand behind them.
 use Rattle.std.proofs.Common.{ℕ, suc, ◌≡◌, ◌<◌, ◌+◌, List, [], ◌∷◌, ◌++◌, length, ap, sym, subst, arith}
 use Rattle.std.proofs.lemmas.List.{length-append}
-use Rattle.nt_types.specs.ShapeData.{ShapeData, ShapesData, MembersData, bool, char, byte, int, text, list, fields, tuple, choice, no_kinds}
-use Rattle.nt_types.specs.ShapeData.{kind, no_parts, part}
+use Rattle.nt_types.specs.ShapeData.{ShapeData, ShapesData, MembersData, bool, char, byte, int, text, list, maybe, fields, tuple, choice}
+use Rattle.nt_types.specs.ShapeData.{no_kinds, kind, no_parts, part}
 use Rattle.nt_grammar.specs.Rows.{NodeData, inside, members_in, places_in, all_inside}
 use Rattle.nt_grammar.proofs.Listing.{all_inside-self, uncons, regrouped}
 
@@ -32,6 +32,7 @@ later-inside id j byte less = tt
 later-inside id j (int bits signed) less = tt
 later-inside id j text less = tt
 later-inside id j (list k) less = (less, tt)
+later-inside id j (maybe k) less = (less, tt)
 later-inside id j (fields ps) less = later-members id j ps less
 later-inside id j (tuple ks) less = later-places id 0 j ks less
 later-inside id j (choice ks) less = later-places id 0 j ks less

@@ -1,7 +1,7 @@
 -- How long type names are.
 use Rattle.std.proofs.Common.{ℕ, Bool, true, false, ◌≡◌, ◌≤◌, ◌+◌, ◌*◌, List, ◌++◌, length, codes, ◌==◌, if◌then◌else◌, arith}
 use Rattle.std.proofs.lemmas.List.{length-append}
-use Rattle.nt_types.specs.ShapeData.{ShapeData, ShapesData, bool, char, byte, int, text, list, fields, tuple, choice, no_kinds, kind}
+use Rattle.nt_types.specs.ShapeData.{ShapeData, ShapesData, bool, char, byte, int, text, list, maybe, fields, tuple, choice, no_kinds, kind}
 use Rattle.nt_types.specs.Schema.{field_count, kinds_count}
 use Rattle.nt_grammar.specs.Types.{cpp_name, cpp_names, int_name, template}
 
@@ -32,6 +32,7 @@ mutual
   cpp_name-length (int bits signed) = omega (arith, int_name-length bits signed)
   cpp_name-length text = omega arith
   cpp_name-length (list k) = omega (arith, cpp_name-length k, template-length (codes "std::vector<") (cpp_name k))
+  cpp_name-length (maybe k) = omega (arith, cpp_name-length k, template-length (codes "std::optional<") (cpp_name k))
   cpp_name-length (fields ps) = omega arith
   cpp_name-length (tuple ks) = omega (arith, cpp_names-length true ks, template-length (codes "std::tuple<") (cpp_names true ks))
   cpp_name-length (choice ks) = omega (arith, cpp_names-length true ks, template-length (codes "std::variant<") (cpp_names true ks))

@@ -13,6 +13,7 @@ pub mod ReadingSchemas
 pub mod FieldsInside
 pub mod Inside
 pub mod Later
+pub mod TypeNames
 pub mod OpenShapes
 pub mod OpenFields
 pub mod Described

@@ -2,8 +2,8 @@
 use Rattle.std.proofs.Common.{ℕ, Bool, ◌≡◌, ◌≤◌, ◌+◌, List, [], ◌∷◌, ◌++◌, length, map, refl, sym, ◌∙◌, ap}
 use Rattle.std.proofs.Common.{append_assoc, add-zero, arith}
 use Rattle.std.proofs.lemmas.Grind.{common_steps}
-use Rattle.nt_types.specs.ShapeData.{ShapeData, ShapesData, MembersData, MemberData, bool, char, byte, int, text, list, fields, tuple}
-use Rattle.nt_types.specs.ShapeData.{choice, no_kinds, kind, no_parts, part, parts_of}
+use Rattle.nt_types.specs.ShapeData.{ShapeData, ShapesData, MembersData, MemberData, bool, char, byte, int, text, list, maybe, fields}
+use Rattle.nt_types.specs.ShapeData.{tuple, choice, no_kinds, kind, no_parts, part, parts_of}
 use Rattle.nt_types.specs.Schema.{field_count, parts_count, kinds_count}
 use Rattle.nt_grammar.specs.Rows.{NodeData, AreNodes, inside, members_in, places_in, all_inside, at_top, field_row, column_rows, Rows}
 use Rattle.nt_grammar.specs.Table.{Table, table_of}
@@ -30,6 +30,7 @@ weight-inside id byte = refl
 weight-inside id (int bits signed) = refl
 weight-inside id text = refl
 weight-inside id (list k) = omega arith
+weight-inside id (maybe k) = omega arith
 weight-inside id (fields ps) = ap (λ (w : ℕ). w + 1) (weight-members_in id ps)
 weight-inside id (tuple ks) = ap (λ (w : ℕ). w + 1) (weight-places_in id 0 ks)
 weight-inside id (choice ks) = ap (λ (w : ℕ). w + 1) (weight-places_in id 0 ks)

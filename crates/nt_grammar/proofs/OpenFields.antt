@@ -4,8 +4,8 @@ use Rattle.std.proofs.Common.{max, Option, Some, None, slice_get, ◌==◌, refl
 use Rattle.std.proofs.lemmas.Bool.Decides.{nat_tests}
 use Rattle.std.specs.Prelude.{option_map, option_and_then, nat_le, nat_lt, find, codes, ◌&&◌, if◌then◌else◌}
 use Rattle.std.specs.Str.{bytes_eq}
-use Rattle.nt_types.specs.ShapeData.{ShapeData, ShapesData, MembersData, MemberData, bool, char, byte, int, text, list, fields, tuple}
-use Rattle.nt_types.specs.ShapeData.{choice, no_kinds, kind, no_parts, part}
+use Rattle.nt_types.specs.ShapeData.{ShapeData, ShapesData, MembersData, MemberData, bool, char, byte, int, text, list, maybe, fields}
+use Rattle.nt_types.specs.ShapeData.{tuple, choice, no_kinds, kind, no_parts, part}
 use Rattle.nt_types.specs.Spelling.{depth, deepest_kind, deepest_part}
 use Rattle.nt_types.specs.Schema.{part_under}
 use Rattle.nt_types.specs.declared.column_type.ColumnType.{ColumnType}
@@ -18,7 +18,7 @@ use Rattle.nt_grammar.specs.Columns.{column_types}
 use Rattle.nt_grammar.specs.Rows.{NodeData, AreNodesFrom, inside, members_in, places_in, all_inside, field_row, column_row}
 use Rattle.nt_grammar.specs.Added.{is_record, late_row, late_rows, first_of}
 use Rattle.nt_grammar.specs.Open.{ids_inside, columns_of_field, column_fits, one_column, no_column, text_columns, leaf_types, leaf_with}
-use Rattle.nt_grammar.specs.Open.{named_leaf, all_some, leaf_shape, list_shape, record_shape, choice_shape, is_leaf, index_types, leaves}
+use Rattle.nt_grammar.specs.Open.{named_leaf, all_some, leaf_shape, collection_shape, record_shape, choice_shape, is_leaf, index_types, leaves}
 use Rattle.nt_grammar.specs.Open.{shape_by_role, open_field}
 use Rattle.nt_grammar.proofs.AllNodes.{AllNodes, IsField}
 use Rattle.nt_grammar.proofs.Inside.{before, count_up, cut-inside}
@@ -34,6 +34,7 @@ depth-some byte = omega arith
 depth-some (int bits signed) = omega arith
 depth-some text = omega arith
 depth-some (list k) = omega arith
+depth-some (maybe k) = omega arith
 depth-some (fields ps) = omega arith
 depth-some (tuple ks) = omega arith
 depth-some (choice ks) = omega arith
@@ -61,6 +62,7 @@ inside-shallow id most byte h = tt
 inside-shallow id most (int bits signed) h = tt
 inside-shallow id most text h = tt
 inside-shallow id most (list k) h = (omega arith, tt)
+inside-shallow id most (maybe k) h = (omega arith, tt)
 inside-shallow id most (fields ps) h = members-shallow id most ps (omega arith)
 inside-shallow id most (tuple ks) h = places-shallow id 0 most ks (omega arith)
 inside-shallow id most (choice ks) h = places-shallow id 0 most ks (omega arith)
@@ -141,7 +143,8 @@ late-leaf first i ts name few =
 abbrev by_parts : FieldRow → List ℕ → Bool → (Bool → Option (List MemberData)) → Option ShapeData → Bool → Bool → Bool → Option ShapeData
 by_parts r js up inside leaf ends none tags =
     if r.role == leaf_role then (if is_leaf js then leaf else None)
-    else if r.role == collection_role then (if ends then option_and_then list_shape (inside false) else None)
+    else if r.role == collection_role then (if ends then option_and_then (collection_shape r.type_name) (inside false)
+    else None)
     else if r.role == record_role then (if none then option_and_then record_shape (inside up) else None)
     else if r.role == variant_role then (if tags then option_and_then choice_shape (inside false) else None)
     else None

@@ -3,8 +3,8 @@ use Rattle.std.proofs.Common.{ℕ, suc, Bool, true, false, ◌≡◌, ◌+◌, �
 use Rattle.std.proofs.Common.{Option, Some, slice_get, refl, sym, ap, subst, add-zero, arith}
 use Rattle.std.proofs.lemmas.Bool.Decides.{nat_tests}
 use Rattle.std.specs.Prelude.{◌&&◌}
-use Rattle.nt_types.specs.ShapeData.{ShapeData, ShapesData, MembersData, MemberData, bool, char, byte, int, text, list, fields, tuple}
-use Rattle.nt_types.specs.ShapeData.{choice, no_kinds, kind, no_parts, part, kinds_of, parts_of}
+use Rattle.nt_types.specs.ShapeData.{ShapeData, ShapesData, MembersData, MemberData, bool, char, byte, int, text, list, maybe, fields}
+use Rattle.nt_types.specs.ShapeData.{tuple, choice, no_kinds, kind, no_parts, part, kinds_of, parts_of}
 use Rattle.nt_types.specs.Spelling.{IsType, is_width}
 use Rattle.nt_types.specs.Schema.{part_under}
 use Rattle.nt_grammar.specs.Types.{int_name}
@@ -14,6 +14,7 @@ use Rattle.nt_grammar.specs.Added.{is_record}
 use Rattle.nt_grammar.specs.Open.{all_some, leaf_shape, shape_by_role}
 use Rattle.nt_grammar.specs.AsRead.{as_read, parts_as_read, places_as_read, kinds_as_read}
 use Rattle.nt_grammar.proofs.Inside.{count_up}
+use Rattle.nt_grammar.proofs.TypeNames.{list-read, maybe-read}
 
 -- the parts of a field
 
@@ -119,10 +120,14 @@ shape-open true true i from parent name within text t inner h = refl
 shape-open true false i from parent name within text t inner h = refl
 shape-open false true i from parent name within text t inner h = refl
 shape-open false false i from parent name within text t inner h = refl
-shape-open true true i from parent name within (list k) t inner h = rw h refl
-shape-open true false i from parent name within (list k) t inner h = rw h refl
-shape-open false true i from parent name within (list k) t inner h = rw h refl
-shape-open false false i from parent name within (list k) t inner h = rw h refl
+shape-open true true i from parent name within (list k) t inner h = rw h (list-read k)
+shape-open true false i from parent name within (list k) t inner h = rw h (list-read k)
+shape-open false true i from parent name within (list k) t inner h = rw h (list-read k)
+shape-open false false i from parent name within (list k) t inner h = rw h (list-read k)
+shape-open true true i from parent name within (maybe k) t inner h = rw h (maybe-read within k t)
+shape-open true false i from parent name within (maybe k) t inner h = rw h (maybe-read within k t)
+shape-open false true i from parent name within (maybe k) t inner h = rw h (maybe-read within k t)
+shape-open false false i from parent name within (maybe k) t inner h = rw h (maybe-read within k t)
 shape-open up plain i from parent name within (fields no_parts) t inner h = absurd t.2
 shape-open up plain i from parent name within (fields (part n k ps)) t inner h =
     rw h (ap (λ (z : MembersData). Some (fields (part n (as_read k) z))) (members-read i ps))

@@ -4,8 +4,8 @@ use Rattle.std.proofs.Common.{subst, ◌∙◌, arith}
 use Rattle.std.specs.List.{AllByRecursion}
 use Rattle.std.proofs.lemmas.Bool.Decides.{nat_tests}
 use Rattle.std.proofs.lemmas.List.{take_all, length-map}
-use Rattle.nt_types.specs.ShapeData.{ShapeData, ShapesData, MembersData, MemberData, bool, char, byte, int, text, list, fields, tuple}
-use Rattle.nt_types.specs.ShapeData.{choice, no_kinds, kind, no_parts, part, parts_of}
+use Rattle.nt_types.specs.ShapeData.{ShapeData, ShapesData, MembersData, MemberData, bool, char, byte, int, text, list, maybe, fields}
+use Rattle.nt_types.specs.ShapeData.{tuple, choice, no_kinds, kind, no_parts, part, parts_of}
 use Rattle.nt_types.specs.Schema.{parts_count}
 use Rattle.nt_types.specs.Rules.{AreFields}
 use Rattle.nt_types.specs.ColumnTable.{code_of, bits_of}
@@ -52,6 +52,7 @@ placed-inside id j byte le = tt
 placed-inside id j (int bits signed) le = tt
 placed-inside id j text le = tt
 placed-inside id j (list k) le = (le, tt)
+placed-inside id j (maybe k) le = (le, tt)
 placed-inside id j (fields ps) le = placed-members id j ps le
 placed-inside id j (tuple ks) le = placed-parts id 0 j ks le
 placed-inside id j (choice ks) le = placed-parts id 0 j ks le

@@ -1,7 +1,7 @@
 -- What described fields are read as.
 use Rattle.std.specs.Prelude.{ℕ, ◌+◌}
-use Rattle.nt_types.specs.ShapeData.{ShapeData, ShapesData, MembersData, bool, char, byte, int, text, list, fields, tuple, choice, no_kinds}
-use Rattle.nt_types.specs.ShapeData.{kind, no_parts, part}
+use Rattle.nt_types.specs.ShapeData.{ShapeData, ShapesData, MembersData, bool, char, byte, int, text, list, maybe, fields, tuple, choice}
+use Rattle.nt_types.specs.ShapeData.{no_kinds, kind, no_parts, part}
 use Rattle.nt_grammar.specs.Rows.{place_name}
 
 -- a tuple is read as a record, whose members are named by their places
@@ -13,6 +13,7 @@ abbrev mutual
   as_read (int bits signed) = int bits signed
   as_read text = text
   as_read (list k) = list (as_read k)
+  as_read (maybe k) = maybe (as_read k)
   as_read (fields ps) = fields (parts_as_read ps)
   as_read (tuple ks) = fields (places_as_read 0 ks)
   as_read (choice ks) = choice (kinds_as_read ks)

@@ -1,7 +1,7 @@
 -- The columns that the values of a field are stored in
 -- (RNTuple Binary Format Specification 1.0.0.0, sections Column Description and Mapping of C++ Types to Fields and Columns).
 use Rattle.std.specs.Prelude.{ℕ, Bool, List, [], ◌∷◌, ◌==◌, if◌then◌else◌}
-use Rattle.nt_types.specs.ShapeData.{ShapeData, bool, char, byte, int, text, list, fields, tuple, choice}
+use Rattle.nt_types.specs.ShapeData.{ShapeData, bool, char, byte, int, text, list, maybe, fields, tuple, choice}
 use Rattle.nt_types.specs.declared.column_type.ColumnType.{ColumnType}
 use Rattle.nt_types.specs.declared.column_type.ColumnType.TheVariants.{Bit, Byte, Char, Int8, UInt8, Int16, UInt16, Int32, UInt32, Int64}
 use Rattle.nt_types.specs.declared.column_type.ColumnType.TheVariants.{UInt64, Index64, Switch, SplitInt16, SplitUInt16, SplitInt32}
@@ -27,6 +27,7 @@ column_types plain byte = Byte ∷ []
 column_types plain (int bits signed) = int_type plain bits signed ∷ []
 column_types plain text = index_type plain ∷ Char ∷ []
 column_types plain (list k) = index_type plain ∷ []
+column_types plain (maybe k) = index_type plain ∷ []
 column_types plain (fields ps) = []
 column_types plain (tuple ks) = []
 column_types plain (choice ks) = Switch ∷ []

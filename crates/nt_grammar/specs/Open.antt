@@ -3,10 +3,11 @@
 -- (RNTuple Binary Format Specification 1.0.0.0, sections Field Description, Column Description and Mapping of C++ Types to Fields
 -- and Columns).
 use Rattle.std.specs.Prelude.{ℕ, zero, suc, ◌+◌, Bool, true, false, List, [], ◌∷◌, ◌++◌, map, filter, find, Option, Some, None, option_map}
-use Rattle.std.specs.Prelude.{option_and_then, slice_get, nat_le, nat_lt, ◌==◌, ◌&&◌, ◌||◌, not, codes, if◌then◌else◌}
+use Rattle.std.specs.Prelude.{option_and_then, take, slice_get, nat_le, nat_lt, ◌==◌, ◌&&◌, ◌||◌, not, codes, if◌then◌else◌}
 use Rattle.std.specs.List.{list_any}
 use Rattle.std.specs.Str.{bytes_eq}
-use Rattle.nt_types.specs.ShapeData.{ShapeData, MemberData, bool, char, byte, int, text, list, fields, choice, kinds_of, parts_of}
+use Rattle.nt_types.specs.ShapeData.{ShapeData, MemberData, bool, char, byte, int, text, list, maybe, fields, choice, kinds_of, parts_of}
+use Rattle.nt_types.specs.ShapeData.{takes_nothing}
 use Rattle.nt_types.specs.Schema.{part_under}
 use Rattle.nt_types.specs.ColumnTable.{code_of, bits_of}
 use Rattle.nt_types.specs.declared.column_type.ColumnType.{ColumnType}
@@ -82,11 +83,15 @@ leaf_shape principal name cs =
     if bytes_eq name (codes "std::string") then (if text_columns principal cs then Some text else None)
     else named_leaf leaves principal name cs
 
--- a collection has one field inside; an optional is one too
-abbrev pub list_shape : List MemberData → Option ShapeData
-list_shape (p ∷ []) = Some (list p.of)
-list_shape [] = None
-list_shape (p ∷ q ∷ ps) = None
+-- whether a type name is that of an optional
+abbrev pub is_optional : List ℕ → Bool
+is_optional name = bytes_eq (take 14 name) (codes "std::optional<")
+
+-- a collection has one field inside; it is an optional where its type name is, of values that are never nothing themselves
+abbrev pub collection_shape : List ℕ → List MemberData → Option ShapeData
+collection_shape name (p ∷ []) = Some (if is_optional name && not (takes_nothing p.of) then maybe p.of else list p.of)
+collection_shape name [] = None
+collection_shape name (p ∷ q ∷ ps) = None
 
 -- a record has one field inside at least; a tuple is one too
 abbrev pub record_shape : List MemberData → Option ShapeData
@@ -111,7 +116,8 @@ is_leaf (j ∷ js) = false
 abbrev pub shape_by_role : Bool → FieldRow → List ColumnRow → List ℕ → (Bool → Option (List MemberData)) → Option ShapeData
 shape_by_role principal r cs js inside =
     if r.role == leaf_role then (if is_leaf js then leaf_shape principal r.type_name cs else None)
-    else if r.role == collection_role then (if one_column principal index_types cs then option_and_then list_shape (inside false) else None)
+    else if r.role == collection_role then (if one_column principal index_types cs then option_and_then (collection_shape r.type_name)
+    (inside false) else None)
     else if r.role == record_role then (if no_column cs then option_and_then record_shape (inside principal) else None)
     else if r.role == variant_role then (if one_column principal (Switch ∷ []) cs then option_and_then choice_shape
     (inside false) else None)

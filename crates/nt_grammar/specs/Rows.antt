@@ -2,8 +2,8 @@
 -- (RNTuple Binary Format Specification 1.0.0.0, sections Field Description and Column Description).
 use Rattle.std.specs.Prelude.{ℕ, ◌≡◌, ◌+◌, Bool, List, [], ◌∷◌, ◌++◌, map, length}
 use Rattle.std.specs.Fmt.{decimal}
-use Rattle.nt_types.specs.ShapeData.{ShapeData, ShapesData, MembersData, MemberData, bool, char, byte, int, text, list, fields, tuple}
-use Rattle.nt_types.specs.ShapeData.{choice, no_kinds, kind, no_parts, part}
+use Rattle.nt_types.specs.ShapeData.{ShapeData, ShapesData, MembersData, MemberData, bool, char, byte, int, text, list, maybe, fields}
+use Rattle.nt_types.specs.ShapeData.{tuple, choice, no_kinds, kind, no_parts, part}
 use Rattle.nt_types.specs.ColumnTable.{code_of, bits_of}
 use Rattle.nt_types.specs.declared.column_type.ColumnType.{ColumnType}
 use Rattle.nt_grammar.specs.declared.rows.FieldRow.{FieldRow}
@@ -40,6 +40,7 @@ inside id byte = []
 inside id (int bits signed) = []
 inside id text = []
 inside id (list k) = record { parent = id; name = place_name 0; of = k } ∷ []
+inside id (maybe k) = record { parent = id; name = place_name 0; of = k } ∷ []
 inside id (fields ps) = members_in id ps
 inside id (tuple ks) = places_in id 0 ks
 inside id (choice ks) = places_in id 0 ks

@@ -2,7 +2,7 @@
 -- (RNTuple Binary Format Specification 1.0.0.0, sections Field Description and Mapping of C++ Types to Fields and Columns).
 use Rattle.std.specs.Prelude.{ℕ, Bool, true, false, List, [], ◌++◌, ◌==◌, ◌||◌, codes, if◌then◌else◌}
 use Rattle.nt_grammar.specs.Codes.{leaf_role, collection_role, record_role, variant_role}
-use Rattle.nt_types.specs.ShapeData.{ShapeData, ShapesData, bool, char, byte, int, text, list, fields, tuple, choice, no_kinds, kind}
+use Rattle.nt_types.specs.ShapeData.{ShapeData, ShapesData, bool, char, byte, int, text, list, maybe, fields, tuple, choice, no_kinds, kind}
 
 -- whether values of the shape hold a record with named members, at any depth
 abbrev mutual
@@ -13,6 +13,7 @@ abbrev mutual
   holds_record (int bits signed) = false
   holds_record text = false
   holds_record (list k) = holds_record k
+  holds_record (maybe k) = holds_record k
   holds_record (fields ps) = true
   holds_record (tuple ks) = any_holds_record ks
   holds_record (choice ks) = any_holds_record ks
@@ -41,6 +42,7 @@ abbrev mutual
   cpp_name (int bits signed) = int_name bits signed
   cpp_name text = codes "std::string"
   cpp_name (list k) = template (codes "std::vector<") (cpp_name k)
+  cpp_name (maybe k) = template (codes "std::optional<") (cpp_name k)
   cpp_name (fields ps) = []
   cpp_name (tuple ks) = template (codes "std::tuple<") (cpp_names true ks)
   cpp_name (choice ks) = template (codes "std::variant<") (cpp_names true ks)
@@ -62,6 +64,7 @@ role_of byte = leaf_role
 role_of (int bits signed) = leaf_role
 role_of text = leaf_role
 role_of (list k) = collection_role
+role_of (maybe k) = collection_role
 role_of (fields ps) = record_role
 role_of (tuple ks) = record_role
 role_of (choice ks) = variant_role
