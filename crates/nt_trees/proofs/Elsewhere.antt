@@ -1,15 +1,15 @@
 -- What isn't named stays, and what is sound rests on the columns that are named.
-use Rattle.std.proofs.Common.{◌≡◌, ℕ, zero, suc, ◌+◌, ◌<◌, ◌==◌, ◌||◌, List, [], ◌∷◌, ◌++◌, length, map, Bool, true, false, refl, sym, ap}
-use Rattle.std.proofs.Common.{◌∙◌, arith, append-nil, subst}
+use Rattle.std.proofs.Common.{cond, ◌≡◌, ℕ, zero, suc, ◌+◌, ◌<◌, ◌==◌, ◌||◌, List, [], ◌∷◌, ◌++◌, length, map, Bool, true, false, refl, sym}
+use Rattle.std.proofs.Common.{ap, ◌∙◌, arith, append-nil, subst}
 use Rattle.std.proofs.lemmas.Bool.{eq-eqb, ne_eqb, or_parts, false≢true, true≢false}
-use Rattle.nt_types.specs.TreeData.{TreeData, TreesData, flag, num, items, parts, pick, nothing, no_trees, tree}
+use Rattle.nt_types.specs.TreeData.{is_nothing, TreeData, TreesData, flag, num, items, parts, pick, nothing, no_trees, tree}
 use Rattle.nt_types.specs.TreeData as trees
 use Rattle.nt_column.specs.Bits.{bit_of}
 use Rattle.nt_column.specs.Elements.{Element, plain}
-use Rattle.nt_plans.specs.Plan.{PlanData, PlansData, bool, number, text, list, record_of, choice, no_plans, plan, has, has_any}
+use Rattle.nt_plans.specs.Plan.{PlanData, PlansData, bool, number, text, list, maybe, record_of, choice, no_plans, plan, has, has_any}
+use Rattle.nt_trees.specs.Sound.{FewSteps, how_many_plans, Rises, TagsUpTo, IndicesCount, Sound, AllSound, EachSound}
 use Rattle.nt_trees.specs.Integers.{twos_complement}
 use Rattle.nt_trees.specs.Columns.{Cols, last_end, count_tag, add_to}
-use Rattle.nt_trees.specs.Sound.{how_many_plans, Rises, TagsUpTo, IndicesCount, Sound, AllSound, EachSound}
 use Rattle.nt_trees.specs.Put.{how_many_trees, put_each, put_tree, put_trees, put_one}
 
 pub add_to-elsewhere : (k : ℕ) (es : List Element) (cols : Cols) (j : ℕ) → (j == k) ≡ false → add_to k es cols j ≡ cols j
@@ -23,6 +23,10 @@ pub put_each-elsewhere : (f : TreeData → Cols → Cols) (j : ℕ) → ((t : Tr
 put_each-elsewhere f j each no_trees cols = refl
 put_each-elsewhere f j each (tree t ts) cols = put_each-elsewhere f j each ts (f t cols) ∙ each t cols
 
+either-at : (b : Bool) (x y : Cols) (j : ℕ) (es : List Element) → x j ≡ es → y j ≡ es → cond b x y j ≡ es
+either-at true x y j es f g = f
+either-at false x y j es f g = g
+
 mutual
   pub put_tree-elsewhere : (p : PlanData) (t : TreeData) (cols : Cols) (j : ℕ) → has p j ≡ false → put_tree p t cols j ≡ cols j
   put_tree-elsewhere (bool k) (flag b) cols j h = add_to-elsewhere k (plain (bit_of b) ∷ []) cols j h
@@ -35,6 +39,12 @@ mutual
       let q = or_parts (j == e) (has p j) h in
       add_to-elsewhere e (plain (last_end (cols e) + how_many_trees ts) ∷ []) (put_each (put_tree p) ts cols) j q.0
       ∙ put_each-elsewhere (put_tree p) j (λ t cs. put_tree-elsewhere p t cs j q.1) ts cols
+  put_tree-elsewhere (maybe e p) t cols j h =
+      let q = or_parts (j == e) (has p j) h in
+      either-at (is_nothing t) (add_to e (plain (last_end (cols e)) ∷ []) cols)
+      (add_to e (plain (last_end (cols e) + 1) ∷ []) (put_tree p t cols)) j (cols j)
+      (add_to-elsewhere e (plain (last_end (cols e)) ∷ []) cols j q.0)
+      (add_to-elsewhere e (plain (last_end (cols e) + 1) ∷ []) (put_tree p t cols) j q.0 ∙ put_tree-elsewhere p t cols j q.1)
   put_tree-elsewhere (record_of ps) (parts ts) cols j h = put_trees-elsewhere ps ts cols j h
   put_tree-elsewhere (choice s ps) nothing cols j h = add_to-elsewhere s ((0, 0) ∷ []) cols j (or_parts (j == s) (has_any ps j) h).0
   put_tree-elsewhere (choice s ps) (pick tag t) cols j h =
@@ -94,6 +104,14 @@ mutual
         subst Rises (sym at_e) s.1,
         subst (λ es. Sound p new (last_end es)) (sym at_e)
             (sound-agrees p old new _ (λ j h. a j (or_right (j == e) (has p j) h)) s.2),
+      )
+  sound-agrees (maybe e p) old new n a s =
+      let at_e = a e (or_left (e == e) (has p e) (same_key e)) in (
+        ap length at_e ∙ s.0,
+        subst Rises (sym at_e) s.1,
+        subst FewSteps (sym at_e) s.2,
+        subst (λ es. Sound p new (last_end es)) (sym at_e)
+            (sound-agrees p old new _ (λ j h. a j (or_right (j == e) (has p j) h)) s.3),
       )
   sound-agrees (record_of ps) old new n a s = all_sound-agrees ps old new n a s
   sound-agrees (choice k ps) old new n a s =

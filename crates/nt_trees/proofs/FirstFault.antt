@@ -3,11 +3,11 @@ use Rattle.std.proofs.Common.{◌≡◌, ℕ, zero, suc, ◌<◌, ◌≤◌, ◌
 use Rattle.std.proofs.Common.{refl, ap, sym, ◌∙◌, subst, arith}
 use Rattle.std.proofs.lemmas.Bool.{eq-eqb, ne_eqb, lt-ltb, le-ltb, cases_eq, cases_lt, cond-true, cond-false}
 use Rattle.nt_column.specs.Elements.{Element}
-use Rattle.nt_plans.specs.Plan.{PlanData, PlansData, bool, number, text, list, record_of, choice, no_plans, plan}
+use Rattle.nt_plans.specs.Plan.{PlanData, PlansData, bool, number, text, list, maybe, record_of, choice, no_plans, plan}
 use Rattle.nt_trees.specs.Columns.{Cols, last_end, count_tag}
 use Rattle.nt_trees.specs.Sound.{how_many_plans}
 use Rattle.nt_trees.specs.Faults.{Spot, Demand, free, rising, tagged, is_met, or_last, first_failing, spot_in, column_fault, lower}
-use Rattle.nt_trees.specs.Faults.{fault_in, fault_in_any, fault_under}
+use Rattle.nt_trees.specs.Faults.{fault_in, fault_in_any, fault_under, stepping}
 use Rattle.nt_trees.specs.Required.{Required, IsKeptBy, IsRequired, IsRequiredOfAny, IsRequiredUnder, IsFaultOfAll}
 
 -- ---- of one column
@@ -131,6 +131,9 @@ mutual
   asked-plan (list e p) cols n =
       asked-both _ _ cols (column_fault rising cols e n) (fault_in p cols (last_end (cols e)))
       (asked-column rising cols e n) (asked-plan p cols (last_end (cols e)))
+  asked-plan (maybe e p) cols n =
+      asked-both _ _ cols (column_fault stepping cols e n) (fault_in p cols (last_end (cols e)))
+      (asked-column stepping cols e n) (asked-plan p cols (last_end (cols e)))
   asked-plan (record_of ps) cols n = asked-any ps cols n
   asked-plan (choice s ps) cols n =
       asked-both _ _ cols (column_fault (tagged (how_many_plans ps)) cols s n) (fault_under 0 ps (cols s) cols)

@@ -7,7 +7,7 @@ use Rattle.std.proofs.Math.Seq.{get_or-append_seam, take-append_seam}
 use Rattle.nt_column.specs.Elements.{Element, text_of}
 use Rattle.nt_trees.specs.Columns.{Cols, number_at, tag_at, begin_at, last_end, count_tag, add_to}
 use Rattle.nt_trees.specs.TreeAt.{text_from}
-use Rattle.nt_trees.specs.Sound.{Rises, TagsUpTo, IndicesCount}
+use Rattle.nt_trees.specs.Sound.{Rises, TagsUpTo, IndicesCount, FewSteps}
 
 -- ---- what stood there stays
 
@@ -95,6 +95,11 @@ module _ (es : List Element) (x t : ℕ) where
 
   pub rises-more : Rises es → last_end es ≤ x → Rises (es ++ (x, t) ∷ [])
   rises-more r le = all-more (λ i. begin_at (es ++ (x, t) ∷ []) i ≤ begin_at (es ++ (x, t) ∷ []) (suc i))
+      (λ i h. omega (arith, begin_at-more es ((x, t) ∷ []) i (omega arith), begin_at-more es ((x, t) ∷ []) (suc i) (omega arith), r i h))
+      (omega (arith, old_end, new_number))
+
+  pub steps-more : FewSteps es → x ≤ last_end es + 1 → FewSteps (es ++ (x, t) ∷ [])
+  steps-more r le = all-more (λ i. begin_at (es ++ (x, t) ∷ []) (suc i) ≤ begin_at (es ++ (x, t) ∷ []) i + 1)
       (λ i h. omega (arith, begin_at-more es ((x, t) ∷ []) i (omega arith), begin_at-more es ((x, t) ∷ []) (suc i) (omega arith), r i h))
       (omega (arith, old_end, new_number))
 

@@ -1,14 +1,14 @@
 -- Columns in which nothing is wrong are sound.
-use Rattle.std.proofs.Common.{◌≡◌, ℕ, zero, suc, ◌<◌, ◌≤◌, ◌⊎◌, inl, inr, ◌==◌, nat_lt, nat_le, if◌then◌else◌, Bool, true, false, List}
+use Rattle.std.proofs.Common.{◌≡◌, ℕ, zero, suc, ◌+◌, ◌<◌, ◌≤◌, ◌⊎◌, inl, inr, ◌==◌, nat_lt, nat_le, if◌then◌else◌, Bool, true, false, List}
 use Rattle.std.proofs.Common.{length, take, Option, Some, None, refl, ap, sym, ◌∙◌, arith, rules}
 use Rattle.std.proofs.lemmas.Bool.{leb-true, eqb-true, lt-ltb, le-ltb, and_parts, or_cases, cases_Bool, cases_eq, cases_lt, cond-true}
 use Rattle.std.proofs.lemmas.Bool.{cond-false}
 use Rattle.nt_column.specs.Elements.{Element}
-use Rattle.nt_plans.specs.Plan.{PlanData, PlansData, bool, number, text, list, record_of, choice, no_plans, plan}
+use Rattle.nt_plans.specs.Plan.{PlanData, PlansData, bool, number, text, list, maybe, record_of, choice, no_plans, plan}
 use Rattle.nt_trees.specs.Columns.{Cols, begin_at, number_at, tag_at, last_end, count_tag}
-use Rattle.nt_trees.specs.Sound.{how_many_plans, Rises, TagsUpTo, IndicesCount, Sound, AllSound, EachSound}
+use Rattle.nt_trees.specs.Sound.{how_many_plans, Rises, TagsUpTo, IndicesCount, Sound, AllSound, EachSound, FewSteps}
 use Rattle.nt_trees.specs.Faults.{Spot, Demand, free, rising, tagged, index_counts, is_met, or_last, first_failing, spot_in, column_fault}
-use Rattle.nt_trees.specs.Faults.{lower, fault_in, fault_in_any, fault_under}
+use Rattle.nt_trees.specs.Faults.{lower, fault_in, fault_in_any, fault_under, stepping}
 
 -- ---- the first number at which a test fails
 
@@ -111,6 +111,15 @@ rises-none cols k n e =
     let c = column-none rising cols k n e in
     (c.0, λ i l. leb-true (begin_at (cols k) i) (begin_at (cols k) (suc i)) (c.1 i l))
 
+steps-none : (cols : Cols) (k n : ℕ) → column_fault stepping cols k n ≡ None
+    → (length (cols k) ≡ n) × Rises (cols k) × FewSteps (cols k)
+steps-none cols k n e =
+    let c = column-none stepping cols k n e in (
+      c.0,
+      λ i l. leb-true (begin_at (cols k) i) (begin_at (cols k) (suc i)) (and_parts _ _ (c.1 i l)).0,
+      λ i l. leb-true (begin_at (cols k) (suc i)) (begin_at (cols k) i + 1) (and_parts _ _ (c.1 i l)).1,
+    )
+
 counts-none : (cols : Cols) (most k n : ℕ) → column_fault (tagged most) cols k n ≡ None
     → (length (cols k) ≡ n) × TagsUpTo most (cols k) × IndicesCount (cols k)
 counts-none cols most k n e =
@@ -139,6 +148,10 @@ mutual
       let both = none-lower (column_fault rising cols ends n) (fault_in p cols (last_end (cols ends))) e in
       let c = rises-none cols ends n both.0 in
       (c.0, c.1, Sound-no_fault p cols (last_end (cols ends)) both.1)
+  Sound-no_fault (maybe ends p) cols n e =
+      let both = none-lower (column_fault stepping cols ends n) (fault_in p cols (last_end (cols ends))) e in
+      let c = steps-none cols ends n both.0 in
+      (c.0, c.1, c.2, Sound-no_fault p cols (last_end (cols ends)) both.1)
   Sound-no_fault (record_of ps) cols n e = AllSound-no_fault ps cols n e
   Sound-no_fault (choice tags ps) cols n e =
       let both = none-lower (column_fault (tagged (how_many_plans ps)) cols tags n) (fault_under 0 ps (cols tags) cols) e in

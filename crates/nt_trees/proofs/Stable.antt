@@ -1,12 +1,13 @@
 -- A tree stays where columns grow.
-use Rattle.std.proofs.Common.{◌≡◌, ℕ, zero, suc, ◌+◌, ◌-◌, ◌<◌, ◌≤◌, List, ◌++◌, length, refl, ap, ap₂, ◌∙◌, arith, subst}
-use Rattle.nt_types.specs.TreeData.{TreeData, TreesData, flag, num, items, parts, pick, nothing, no_trees, tree}
+use Rattle.std.proofs.Common.{Bool, true, false, cond, ◌≡◌, ℕ, zero, suc, ◌+◌, ◌-◌, ◌<◌, ◌≤◌, List, ◌++◌, length, refl, ap, ap₂, ◌∙◌, arith}
+use Rattle.std.proofs.Common.{subst}
+use Rattle.nt_types.specs.TreeData.{is_nothing, TreeData, TreesData, flag, num, items, parts, pick, nothing, no_trees, tree}
 use Rattle.nt_types.specs.TreeData as trees
 use Rattle.nt_column.specs.Elements.{Element}
-use Rattle.nt_plans.specs.Plan.{PlanData, PlansData, bool, number, text, list, record_of, choice, no_plans, plan}
+use Rattle.nt_plans.specs.Plan.{PlanData, PlansData, bool, number, text, list, maybe, record_of, choice, no_plans, plan}
+use Rattle.nt_trees.specs.TreeAt.{only, text_from, trees_from, picked, tree_at, each_at, one_at}
 use Rattle.nt_trees.specs.Integers.{integer_of, truth_of}
 use Rattle.nt_trees.specs.Columns.{Cols, number_at, tag_at, begin_at, last_end, count_tag}
-use Rattle.nt_trees.specs.TreeAt.{text_from, trees_from, picked, tree_at, each_at, one_at}
 use Rattle.nt_trees.specs.Sound.{Sound, AllSound, EachSound}
 use Rattle.nt_trees.specs.Put.{put_each, put_tree, put_trees, put_one}
 use Rattle.nt_trees.proofs.Lists.{Extends, same-extends, then-extends, add_to-extends, number_at-more, begin_at-more, begin_at-le-last}
@@ -17,6 +18,10 @@ pub put_each-extends : (f : TreeData → Cols → Cols) → ((t : TreeData) (col
 put_each-extends f each no_trees cols = same-extends cols
 put_each-extends f each (tree t ts) cols = then-extends cols (f t cols) _ (each t cols) (put_each-extends f each ts (f t cols))
 
+either-extends : (b : Bool) (cols x y : Cols) → Extends cols x → Extends cols y → Extends cols (cond b x y)
+either-extends true cols x y f g = f
+either-extends false cols x y f g = g
+
 mutual
   pub put_tree-extends : (p : PlanData) (t : TreeData) (cols : Cols) → Extends cols (put_tree p t cols)
   put_tree-extends (bool k) (flag b) cols = add_to-extends k _ cols
@@ -24,6 +29,9 @@ mutual
   put_tree-extends (text e c) (trees.text s) cols = then-extends cols _ _ (add_to-extends c _ cols) (add_to-extends e _ _)
   put_tree-extends (list e p) (items ts) cols = then-extends cols _ _
       (put_each-extends (put_tree p) (λ t cs. put_tree-extends p t cs) ts cols) (add_to-extends e _ _)
+  put_tree-extends (maybe e p) t cols =
+      either-extends (is_nothing t) cols _ _ (add_to-extends e _ cols)
+      (then-extends cols _ _ (put_tree-extends p t cols) (add_to-extends e _ _))
   put_tree-extends (record_of ps) (parts ts) cols = put_trees-extends ps ts cols
   put_tree-extends (choice s ps) nothing cols = add_to-extends s _ cols
   put_tree-extends (choice s ps) (pick tag t) cols = then-extends cols _ _ (put_one-extends ps tag t cols) (add_to-extends s _ _)
@@ -78,6 +86,11 @@ mutual
       let rise = s.1 i (omega (arith, s.0)) in
       let last = begin_at-le-last (old e) s.1 (suc i) (omega (arith, s.0)) in
       rw (b.0, b.1) (ap items (trees_from-same _ _ _ _ (λ j l m. tree_at-stays p old new (last_end (old e)) j x s.2 (omega arith))))
+  tree_at-stays (maybe e p) old new n i x s h =
+      let b = begins-more (old e) (new e) (x e).0 i (x e).1 (omega (arith, s.0)) in
+      let rise = s.1 i (omega (arith, s.0)) in
+      let last = begin_at-le-last (old e) s.1 (suc i) (omega (arith, s.0)) in
+      rw (b.0, b.1) (ap only (trees_from-same _ _ _ _ (λ j l m. tree_at-stays p old new (last_end (old e)) j x s.3 (omega arith))))
   tree_at-stays (record_of ps) old new n i x s h = ap parts (each_at-stays ps old new n i x s h)
   tree_at-stays (choice k ps) old new n i x s h =
       let inside : i < length (old k) = omega (arith, s.0) in

@@ -1,12 +1,12 @@
 -- Which trees a plan takes: those that fit its shape.
-use Rattle.std.specs.Prelude.{ℕ, zero, suc, Bool, false, List, [], ◌∷◌, Option, Some, None}
+use Rattle.std.specs.Prelude.{ℕ, zero, suc, Bool, false, ◌||◌, List, [], ◌∷◌, Option, Some, None}
 use Rattle.nt_types.specs.ShapeData.{ShapeData, ShapesData, no_kinds, kind}
-use Rattle.nt_types.specs.TreeData.{TreeData, TreesData}
+use Rattle.nt_types.specs.TreeData.{TreeData, TreesData, is_nothing}
 use Rattle.nt_types.specs.Fits.{is_int, all_trees, fits_flag, fits_number, fits_text, fits_items, fits_parts, fits_pick, fits_next}
 use Rattle.nt_types.specs.Fits.{are_no_trees, fit_kinds}
 use Rattle.nt_grammar.specs.Table.{Table}
 use Rattle.nt_grammar.specs.Open.{open_shapes}
-use Rattle.nt_plans.specs.Plan.{PlanData, PlansData, bool, number, text, list, record_of, choice, no_plans, plan}
+use Rattle.nt_plans.specs.Plan.{PlanData, PlansData, bool, number, text, list, maybe, record_of, choice, no_plans, plan}
 
 -- whether a plan takes a tree
 abbrev mutual
@@ -15,6 +15,7 @@ abbrev mutual
   fits_plan (number k bits signed) t = fits_number (is_int bits signed) t
   fits_plan (text e c) t = fits_text t
   fits_plan (list e p) t = fits_items (all_trees (fits_plan p)) t
+  fits_plan (maybe e p) t = is_nothing t || fits_plan p t
   fits_plan (record_of ps) t = fits_parts (fit_plans ps) t
   fits_plan (choice s ps) t = fits_pick (fits_alternative ps) t
 

@@ -1,11 +1,11 @@
 -- What a tree adds to the columns: its elements, at their ends, and nothing else.
 -- RNTuple Binary Format Specification 1.0.0.0, sections Column Description and Mapping of C++ Types to Fields and Columns.
-use Rattle.std.specs.Prelude.{ℕ, zero, suc, ◌+◌, [], ◌∷◌, map, length}
-use Rattle.nt_types.specs.TreeData.{TreeData, TreesData, flag, num, items, parts, pick, nothing, no_trees, tree}
+use Rattle.std.specs.Prelude.{ℕ, zero, suc, ◌+◌, [], ◌∷◌, map, length, if◌then◌else◌}
+use Rattle.nt_types.specs.TreeData.{TreeData, TreesData, flag, num, items, parts, pick, nothing, no_trees, tree, is_nothing}
 use Rattle.nt_types.specs.TreeData as trees
 use Rattle.nt_column.specs.Bits.{bit_of}
 use Rattle.nt_column.specs.Elements.{plain}
-use Rattle.nt_plans.specs.Plan.{PlanData, PlansData, bool, number, text, list, record_of, choice, no_plans, plan}
+use Rattle.nt_plans.specs.Plan.{PlanData, PlansData, bool, number, text, list, maybe, record_of, choice, no_plans, plan}
 use Rattle.nt_trees.specs.Integers.{twos_complement}
 use Rattle.nt_trees.specs.Columns.{Cols, last_end, count_tag, add_to}
 
@@ -39,6 +39,11 @@ abbrev pub put_items : ℕ → (TreeData → Cols → Cols) → TreeData → Col
 put_items e f (items ts) cols = add_to e (plain (last_end (cols e) + how_many_trees ts) ∷ []) (put_each f ts cols)
 put_items e f _ cols = cols
 
+-- the one value of an optional, if there is one, and the end behind it
+abbrev pub put_maybe : ℕ → (TreeData → Cols → Cols) → TreeData → Cols → Cols
+put_maybe e f t cols =
+    if is_nothing t then add_to e (plain (last_end (cols e)) ∷ []) cols else add_to e (plain (last_end (cols e) + 1) ∷ []) (f t cols)
+
 -- the parts of a record
 abbrev pub put_parts : (TreesData → Cols → Cols) → TreeData → Cols → Cols
 put_parts f (parts ts) cols = f ts cols
@@ -62,6 +67,7 @@ abbrev mutual
   put_tree (number k bits signed) t cols = put_number k bits t cols
   put_tree (text e c) t cols = put_text e c t cols
   put_tree (list e p) t cols = put_items e (put_tree p) t cols
+  put_tree (maybe e p) t cols = put_maybe e (put_tree p) t cols
   put_tree (record_of ps) t cols = put_parts (put_trees ps) t cols
   put_tree (choice s ps) t cols = put_pick s (put_one ps) t cols
 
