@@ -1,8 +1,9 @@
 -- What holds of each book.
-use Rattle.std.specs.Prelude.{◌≡◌, ℕ, ◌+◌, ◌<◌, ◌≤◌, ◌^◌, length}
+use Rattle.std.specs.Prelude.{◌≡◌, ℕ, ◌+◌, ◌<◌, ◌≤◌, ◌^◌, List, length, slice_get, Some}
 use Rattle.std.specs.List.{AllByRecursion}
-use Rattle.nt_machine.specs.History.{Cluster}
-use Rattle.nt_machine.specs.Legal.{IsLegal}
+use Rattle.nt_machine.specs.History.{Cluster, ranges_of}
+use Rattle.nt_machine.specs.Legal.{IsLegal, spans_of}
+use Rattle.nt_machine.specs.Spans.{IsDisjoint, AreBehindSpans}
 use Rattle.nt_book.specs.declared.meta.ClusterMeta.{ClusterMeta}
 use Rattle.nt_book.specs.Books.{BookData, book_clusters, book_end, cluster_at}
 use Rattle.nt_book.specs.Pages.{IsPaged}
@@ -15,9 +16,17 @@ pub record IsKeptCluster (columns : ℕ) (c : Cluster ClusterMeta) : Type 0 wher
   pub short : c.meta.len ≤ 2 ^ 30
   pub low : c.start + c.meta.len ≤ 2 ^ 56
 
--- the history is legal, and there are no more clusters, columns and elements before the first cluster than their numbers can tell
+-- each cluster is the range of its number
+abbrev pub AreNamed : List (Cluster ClusterMeta) → List (Cluster ClusterMeta) → Type 0
+AreNamed rs cs = AllByRecursion (λ (c : Cluster ClusterMeta). slice_get rs c.number ≡ Some c) cs
+
+-- the history is legal; its ranges lie apart, in their order and without a gap, and each cluster is one of them; there are no more
+-- clusters, columns and elements before the first cluster than their numbers can tell
 pub record IsBookKept (book : BookData) : Type 0 where
   pub legal : IsLegal book.begin book.history
+  pub apart : IsDisjoint book.begin (spans_of (ranges_of book.history)) (2 ^ 56)
+  pub named : AreNamed (ranges_of book.history) (book_clusters book)
+  pub placed : AreBehindSpans book.begin (spans_of (ranges_of book.history))
   pub clusters : (k : ℕ) → k < length (book_clusters book) → IsKeptCluster (length book.firsts) (cluster_at book k)
   pub end : book_end book ≤ 2 ^ 56
   pub few : length (book_clusters book) < 2 ^ 32

@@ -1,5 +1,5 @@
 -- What a step refuses is refused as a whole.
-use Rattle.std.proofs.Common.{◌≡◌, Option, None, Some, Result, Ok, Err, refl}
+use Rattle.std.proofs.Common.{Option, None, Some, Result, refl}
 use Rattle.nt_lists.specs.Chaining.{◌>>=◌}
 use Rattle.nt_lists.specs.Answering.{Refuses}
 

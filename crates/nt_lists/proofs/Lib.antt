@@ -5,3 +5,5 @@ pub mod Groups
 pub mod Places
 pub mod Chaining
 pub mod Answering
+pub mod Beside
+pub mod Parts

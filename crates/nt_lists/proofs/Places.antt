@@ -1,5 +1,5 @@
 -- What is put at a place.
-use Rattle.std.proofs.Common.{◌≡◌, ℕ, ◌+◌, ◌-◌, ◌≤◌, min, List, ◌++◌, length, take, drop, sym, ◌∙◌, ap, append_assoc, arith}
+use Rattle.std.proofs.Common.{◌≡◌, ℕ, ◌+◌, ◌≤◌, List, ◌++◌, length, take, drop, sym, ◌∙◌, ap, append_assoc, arith}
 use Rattle.std.proofs.lemmas.List.{length-take, drop-drop}
 use Rattle.nt_lists.specs.Places.{put_at}
 use Rattle.nt_lists.proofs.Fronts.{take_front, drop_front}

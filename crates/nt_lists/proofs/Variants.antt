@@ -1,5 +1,5 @@
 -- What two equal variants hold is equal, and what a choice of variants was.
-use Rattle.std.proofs.Common.{◌≡◌, refl, Bool, true, false, Option, Some, Result, Ok, Err, if◌then◌else◌}
+use Rattle.std.proofs.Common.{◌≡◌, refl, Bool, true, false, Some, Result, Ok, Err, if◌then◌else◌}
 
 pub some_is : {A : Type 0} (x y : A) → Some x ≡ Some y → x ≡ y
 some_is x y e = cc

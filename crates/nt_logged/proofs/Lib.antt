@@ -1,4 +1,8 @@
 mod Logging
 mod Standing
-mod Knowing
 mod Settling
+pub mod Sparing
+mod Pieces
+pub mod Reading
+pub mod Growing
+pub mod Written

@@ -2,11 +2,11 @@
 use Rattle.std.proofs.Common.{◌≡◌, ℕ, zero, suc, ◌+◌, ◌<◌, ◌==◌, ◌&&◌, Bool, true, false, cond, List, [], ◌∷◌, ◌++◌, length, map, Some}
 use Rattle.std.proofs.Common.{refl, sym, ap, ◌∙◌, subst, arith}
 use Rattle.std.specs.Prelude.{slice_get}
-use Rattle.std.specs.List.{fold, sum}
+use Rattle.std.specs.List.{fold}
 use Rattle.std.proofs.Math.ListN.{set}
 use Rattle.std.proofs.lemmas.Bool.{eq-eqb, false≢true}
 use Rattle.std.proofs.lemmas.List.{map-append}
-use Rattle.std.proofs.lemmas.List.Sums.{fold-append, sum_by-append, sum-map}
+use Rattle.std.proofs.lemmas.List.Sums.{fold-append, sum_by-append}
 use Rattle.nt_machine.proofs.Histories.{not-eqb}
 use Rattle.nt_machine.proofs.Spread.{IsDisjoint-snoc}
 use Rattle.nt_machine.specs.declared.entry.Entry.{Entry}
@@ -14,7 +14,7 @@ use Rattle.nt_machine.specs.declared.entry.EntryKind.{EntryKind}
 use Rattle.nt_machine.specs.declared.entry.EntryKind.TheVariants as entry
 use Rattle.nt_machine.specs.History.{Fate, Out, Settled, Spoiled, Cluster, handed_back, after_kind, after_entry, clusters_of, is_out}
 use Rattle.nt_machine.specs.Spans.{Span, IsDisjoint}
-use Rattle.nt_machine.specs.Legal.{spans_of, end_after, IsOut, IsKindAllowed, IsAllowed, IsLegalAfter, IsLegal}
+use Rattle.nt_machine.specs.Legal.{spans_of, last_end, end_after, IsOut, IsKindAllowed, IsAllowed, IsLegalAfter, IsLegal}
 
 module _ {M : Type 0} where
   -- handing back changes no range
@@ -29,35 +29,44 @@ module _ {M : Type 0} where
       at true = keeps c state
       at false = refl
 
-  abbrev IsApart : ℕ → List (Cluster M) → Type 0
-  IsApart place cs = IsDisjoint place (spans_of cs) (end_after place cs)
+  abbrev pub IsApart : ℕ → List (Cluster M) → Type 0
+  IsApart place cs = IsDisjoint place (spans_of cs) (last_end place cs)
 
-  end_after-back : (place i n : ℕ) (state : Fate) (cs : List (Cluster M)) → end_after place (map (handed_back i n state) cs)
-      ≡ end_after place cs
-  end_after-back place i n state cs =
-      ap (λ (s : ℕ). place + s) (sym (sum-map (λ (c : Cluster M). c.len) (map (handed_back i n state) cs))
-      ∙ (ap sum (handed_back-same (λ (c : Cluster M). c.len) (λ c s. refl) i n state cs) ∙ sum-map (λ (c : Cluster M). c.len) cs))
+  pub last_end-back : (place i n : ℕ) (state : Fate) (cs : List (Cluster M)) → last_end place (map (handed_back i n state) cs)
+      ≡ last_end place cs
+  last_end-back place i n state [] = refl
+  last_end-back place i n state (c ∷ cs) =
+      ap (λ (e : ℕ). last_end e (map (handed_back i n state) cs)) (at (c.context == i && c.number == n && is_out c.state))
+      ∙ last_end-back (c.start + c.len) i n state cs
+    where
+      at : (b : Bool) → (cond b (record c { state = state }) c).start + (cond b (record c { state = state }) c).len ≡ c.start + c.len
+      at true = refl
+      at false = refl
+
+  pub last_end-snoc : (place : ℕ) (cs : List (Cluster M)) (c : Cluster M) → last_end place (cs ++ c ∷ []) ≡ c.start + c.len
+  last_end-snoc place [] c = refl
+  last_end-snoc place (d ∷ cs) c = last_end-snoc (d.start + d.len) cs c
 
   IsApart-back : (place i n : ℕ) (state : Fate) (cs : List (Cluster M)) → IsApart place cs → IsApart place (map (handed_back i n state) cs)
   IsApart-back place i n state cs h =
       let ranges : spans_of (map (handed_back i n state) cs) ≡ spans_of cs =
       handed_back-same (λ (c : Cluster M). record { start = c.start; len = c.len }) (λ c s. refl) i n state cs in
-      subst (λ (l : List Span). IsDisjoint place l (end_after place (map (handed_back i n state) cs))) (sym ranges)
-      (subst (λ (e : ℕ). IsDisjoint place (spans_of cs) e) (sym (end_after-back place i n state cs)) h)
+      subst (λ (l : List Span). IsDisjoint place l (last_end place (map (handed_back i n state) cs))) (sym ranges)
+      (subst (λ (e : ℕ). IsDisjoint place (spans_of cs) e) (sym (last_end-back place i n state cs)) h)
 
   pub end_after-snoc : (place : ℕ) (cs : List (Cluster M)) (c : Cluster M) → end_after place (cs ++ c ∷ []) ≡ end_after place cs + c.len
   end_after-snoc place cs c = omega (arith, sum_by-append (λ (d : Cluster M). d.len) cs (c ∷ []))
 
-  IsApart-after_entry : (place : ℕ) (cs : List (Cluster M)) (i : ℕ) (k : EntryKind M) → IsKindAllowed place cs i k
+  pub IsApart-after_entry : (place : ℕ) (cs : List (Cluster M)) (i : ℕ) (k : EntryKind M) → IsKindAllowed place cs i k
       → IsApart place cs → IsApart place (after_kind cs i k)
   IsApart-after_entry place cs i (entry.Committed n start len meta) ok h =
       let c : Cluster M = record { context = i; number = n; start = start; len = len; meta = meta; state = Out } in
-      let grown = IsDisjoint-snoc place (spans_of cs) (end_after place cs) (record { start = start; len = len }) h (omega arith) in
+      let grown = IsDisjoint-snoc place (spans_of cs) (last_end place cs) (record { start = start; len = len }) h ok.1 in
       let ranges : spans_of (cs ++ c ∷ []) ≡ spans_of cs ++ record { start = start; len = len } ∷ [] =
       map-append (λ (d : Cluster M). record { start = d.start; len = d.len }) cs (c ∷ []) in
-      let end : start + len ≡ end_after place (cs ++ c ∷ []) = ap (λ (s : ℕ). s + len) ok.1 ∙ sym (end_after-snoc place cs c) in
-      subst (λ (l : List Span). IsDisjoint place l (end_after place (cs ++ c ∷ []))) (sym ranges)
-      (subst (λ (e : ℕ). IsDisjoint place (spans_of cs ++ record { start = start; len = len } ∷ []) e) end grown)
+      subst (λ (l : List Span). IsDisjoint place l (last_end place (cs ++ c ∷ []))) (sym ranges)
+      (subst (λ (e : ℕ). IsDisjoint place (spans_of cs ++ record { start = start; len = len } ∷ []) e)
+      (sym (last_end-snoc place cs c)) grown)
   IsApart-after_entry place cs i (entry.Settled n bytes) ok h = IsApart-back place i n (Settled bytes) cs h
   IsApart-after_entry place cs i (entry.Spoiled n faults) ok h = IsApart-back place i n (Spoiled faults) cs h
   IsApart-after_entry place cs i (entry.Faulted faults) ok h = h

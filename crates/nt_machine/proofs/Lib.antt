@@ -3,12 +3,12 @@ pub mod Placed
 pub mod Counts
 pub mod RunOrders
 pub mod Dealing
+pub mod Entered
 pub mod Histories
 pub mod Legality
 pub mod Rising
 pub mod Runs
 pub mod Spread
 pub mod Standing
-pub mod Telling
 pub mod Untelling
 pub mod Worked

@@ -1,22 +1,20 @@
 -- What is handed back is never covered again.
-use Rattle.std.proofs.Common.{◌≡◌, ℕ, zero, suc, ◌+◌, ◌≤◌, false, List, [], ◌∷◌, ◌++◌, map, replicate, Option, Some, None, refl, sym, ap}
+use Rattle.std.proofs.Common.{◌≡◌, ℕ, zero, suc, ◌+◌, ◌≤◌, false, List, [], ◌∷◌, ◌++◌, map, Option, Some, None, refl, sym, ap}
 use Rattle.std.proofs.Common.{◌∙◌, subst, arith, ◌⊎◌, inl, inr}
 use Rattle.std.specs.Prelude.{slice_get}
 use Rattle.std.specs.Option.{option_map}
 use Rattle.std.specs.List.{AllByRecursion}
 use Rattle.std.proofs.lemmas.Bool.{false≢true}
-use Rattle.std.proofs.lemmas.List.{length-replicate}
 use Rattle.std.proofs.lemmas.Option.{slice_get-map}
 use Rattle.nt_machine.specs.declared.entry.Entry.{Entry}
 use Rattle.nt_machine.specs.declared.entry.EntryKind.{EntryKind}
 use Rattle.nt_machine.specs.declared.entry.EntryKind.TheVariants as entry
 use Rattle.nt_machine.specs.History.{Fate, Settled, Spoiled, Cluster, handed_back, after_kind, after_entry, is_out}
-use Rattle.nt_machine.specs.Legal.{end_after, IsOut, IsKindAllowed, IsLegalAfter, IsLegal}
+use Rattle.nt_machine.specs.Legal.{last_end, IsOut, IsKindAllowed, IsLegalAfter, IsLegal}
 use Rattle.nt_machine.specs.Spans.{Span}
 use Rattle.nt_machine.specs.Told.{span_of, settle_at, disk_steps_of, log_after, log_of, IsApartFrom, IsFrom, StaysSettled}
 use Rattle.nt_machine.proofs.Histories.{AllByRecursion-append, IsBack, handed_back-back}
-use Rattle.nt_machine.proofs.Legality.{IsNumbered, IsNumbered-after_entry, IsNumbered-at, handed_back-here}
-use Rattle.nt_machine.proofs.Telling.{IsPlaced, end_after-cons, placed_kind}
+use Rattle.nt_machine.proofs.Legality.{IsApart, IsApart-after_entry, IsNumbered, IsNumbered-after_entry, IsNumbered-at, handed_back-here}
 
 slice_get-append : {X : Type 0} (xs ys : List X) (n : ℕ) (x : X) → slice_get xs n ≡ Some x → slice_get (xs ++ ys) n ≡ Some x
 slice_get-append [] ys n x at = cc
@@ -24,24 +22,29 @@ slice_get-append (z ∷ xs) ys zero x at = at
 slice_get-append (z ∷ xs) ys (suc n) x at = slice_get-append xs ys n x at
 
 module _ {M : Type 0} where
+  -- ranges that lie apart end at their beginning or behind
+  apart-end : (p : ℕ) (cs : List (Cluster M)) → IsApart p cs → p ≤ last_end p cs
+  apart-end p [] h = h
+  apart-end p (c ∷ cs) h = let rest = apart-end (c.start + c.len) cs h.1 in let first = h.0 in omega (arith, rest, first)
+
   -- a range lies between the beginning and the end
-  IsPlaced-at : (p : ℕ) (cs : List (Cluster M)) (n : ℕ) (c : Cluster M) → IsPlaced p cs → slice_get cs n ≡ Some c
-      → (p ≤ c.start) × (c.start + c.len ≤ end_after p cs)
+  IsPlaced-at : (p : ℕ) (cs : List (Cluster M)) (n : ℕ) (c : Cluster M) → IsApart p cs → slice_get cs n ≡ Some c
+      → (p ≤ c.start) × (c.start + c.len ≤ last_end p cs)
   IsPlaced-at p [] n c h at = cc
   IsPlaced-at p (d ∷ cs) zero c h at =
       let same : d ≡ c = cc in
       let start : d.start ≡ c.start = ap (λ (e : Cluster M). e.start) same in
       let len : d.len ≡ c.len = ap (λ (e : Cluster M). e.len) same in
       let first = h.0 in
-      let end = end_after-cons p d cs in
-      (omega arith, omega arith)
+      let end = apart-end (d.start + d.len) cs h.1 in
+      (omega (arith, start, first), omega (arith, start, len, end))
   IsPlaced-at p (d ∷ cs) (suc n) c h at =
-      let rest = IsPlaced-at (p + d.len) cs n c h.2 at in
-      let end = end_after-cons p d cs in
-      (omega arith, omega arith)
+      let rest = IsPlaced-at (d.start + d.len) cs n c h.1 at in
+      let first = h.0 in
+      (omega (arith, first, rest.0), rest.1)
 
   -- two ranges lie apart
-  IsPlaced-apart : (p : ℕ) (cs : List (Cluster M)) (m n : ℕ) (d c : Cluster M) → IsPlaced p cs → slice_get cs m ≡ Some d
+  IsPlaced-apart : (p : ℕ) (cs : List (Cluster M)) (m n : ℕ) (d c : Cluster M) → IsApart p cs → slice_get cs m ≡ Some d
       → slice_get cs n ≡ Some c → (m ≡ n → ⊥)
       → (c.start + c.len ≤ d.start) ⊎ (d.start + d.len ≤ c.start)
   IsPlaced-apart p [] m n d c h is at differ = cc
@@ -50,29 +53,27 @@ module _ {M : Type 0} where
       let same : x ≡ d = cc in
       let start : x.start ≡ d.start = ap (λ (e : Cluster M). e.start) same in
       let len : x.len ≡ d.len = ap (λ (e : Cluster M). e.len) same in
-      let first = h.0 in
-      let later = IsPlaced-at (p + x.len) cs n c h.2 at in
-      inr (omega arith)
+      let later = IsPlaced-at (x.start + x.len) cs n c h.1 at in
+      inr (omega (arith, start, len, later.0))
   IsPlaced-apart p (x ∷ cs) (suc m) zero d c h is at differ =
       let same : x ≡ c = cc in
       let start : x.start ≡ c.start = ap (λ (e : Cluster M). e.start) same in
       let len : x.len ≡ c.len = ap (λ (e : Cluster M). e.len) same in
-      let first = h.0 in
-      let later = IsPlaced-at (p + x.len) cs m d h.2 is in
-      inl (omega arith)
+      let later = IsPlaced-at (x.start + x.len) cs m d h.1 is in
+      inl (omega (arith, start, len, later.0))
   IsPlaced-apart p (x ∷ cs) (suc m) (suc n) d c h is at differ =
-      IsPlaced-apart (p + x.len) cs m n d c h.2 is at (λ same. differ (ap suc same))
+      IsPlaced-apart (x.start + x.len) cs m n d c h.1 is at (λ same. differ (ap suc same))
 
   module _ (place : ℕ) where
     record IsState (cs : List (Cluster M)) : Type 0 where
       numbered : IsNumbered 0 cs
-      placed : IsPlaced place cs
+      placed : IsApart place cs
 
     IsState-after_entry : (cs : List (Cluster M)) (i : ℕ) (k : EntryKind M) → IsKindAllowed place cs i k → IsState cs
         → IsState (after_kind cs i k)
     IsState-after_entry cs i k ok h = record {
       numbered = IsNumbered-after_entry place cs i k ok h.numbered;
-      placed = placed_kind place (replicate place None) (length-replicate place None) cs i k ok h.numbered h.placed;
+      placed = IsApart-after_entry place cs i k ok h.placed;
     }
 
     abbrev range_of : Cluster M → Span
@@ -96,7 +97,7 @@ module _ {M : Type 0} where
         → slice_get cs n ≡ Some c → IsBack c
         → AllByRecursion (IsApartFrom (range_of c)) (disk_steps_of cs k)
     kind_apart cs i (entry.Committed m start len meta) n c ok h at back =
-        let inside = IsPlaced-at place cs n c h.placed at in let end = ok.1 in (inl (omega arith), tt)
+        let inside = IsPlaced-at place cs n c h.placed at in let end = ok.1 in (inl (omega (arith, inside.1, end)), tt)
     kind_apart cs i (entry.Settled m bytes) n c ok h at back = settle_apart cs i m n c bytes h ok.0 at back
     kind_apart cs i (entry.Spoiled m faults) n c ok h at back = settle_apart cs i m n c None h ok at back
     kind_apart cs i (entry.Faulted faults) n c ok h at back = tt
@@ -161,7 +162,8 @@ module _ {M : Type 0} where
 
     kind_from : (cs : List (Cluster M)) (i : ℕ) (k : EntryKind M) → IsKindAllowed place cs i k → IsState cs
         → IsFrom place (disk_steps_of cs k)
-    kind_from cs i (entry.Committed n start len meta) ok h = let end = ok.1 in (omega arith, tt)
+    kind_from cs i (entry.Committed n start len meta) ok h =
+        let end = ok.1 in let begins = apart-end place cs h.placed in (omega (arith, end, begins), tt)
     kind_from cs i (entry.Settled n bytes) ok h = settle_from cs i n bytes h ok.0
     kind_from cs i (entry.Spoiled n faults) ok h = settle_from cs i n None h ok
     kind_from cs i (entry.Faulted faults) ok h = tt
@@ -175,7 +177,7 @@ module _ {M : Type 0} where
         (from_after (after_entry cs e) es ok.1 (IsState-after_entry cs e.context e.kind ok.0 h))
 
     pub stands : (history : List (Entry M)) → IsLegal place history → StaysSettled (log_of history)
-    stands history ok = stands_after [] history ok (record { numbered = tt; placed = tt })
+    stands history ok = stands_after [] history ok (record { numbered = tt; placed = omega arith })
 
     pub starts : (history : List (Entry M)) → IsLegal place history → IsFrom place (log_of history)
-    starts history ok = from_after [] history ok (record { numbered = tt; placed = tt })
+    starts history ok = from_after [] history ok (record { numbered = tt; placed = omega arith })

@@ -6,12 +6,13 @@ ghost use Rattle.nt_machine.specs.declared.entry.Entry.{Entry};
 ghost use Rattle.nt_machine.specs.declared.entry.EntryKind.TheVariants as entry;
 ghost use Rattle.nt_machine.specs.Deal.{Uses, IsGrouped};
 ghost use Rattle.nt_machine.specs.Example.{example_blob, example_chunks, example_steps, example_history, example_ranges};
+ghost use Rattle.nt_machine.specs.Entering.{HasRanges, IsNextOf, IsHandedBackAs, IsWriteInto, steps_of_entry};
 ghost use Rattle.nt_machine.specs.Faults.{HasRisen, HasFaults, FaultsRise};
 ghost use Rattle.nt_machine.specs.History.{Settled, Spoiled, Cluster, WrittenChunk, entries_of, mine_of, ranges_of, clusters_of, order_of, after_entry, IsIdle, Wrote, AreDealt};
-ghost use Rattle.nt_machine.specs.Legal.{IsLegal, IsAllowed, IsOut, spans_of, end_after};
-ghost use Rattle.nt_machine.specs.Machine.{ContextStep, IsRun, IsInOrder, IsNamedDeal, AreTrue, state_after, contexts_of, range_spans, chunk_names};
+ghost use Rattle.nt_machine.specs.Legal.{IsLegal, IsAllowed, IsOut, spans_of, last_end, end_after};
+ghost use Rattle.nt_machine.specs.Machine.{ContextStep, MachineState, Out, IsRun, IsRunFrom, IsInOrder, IsNamedDeal, AreTrue, state_after, after_context_step, contexts_of, range_spans, chunk_names};
 ghost use Rattle.nt_machine.specs.Spans.{IsDisjoint};
-ghost use Rattle.nt_machine.specs.Told.{Cells, IsFrom, StaysSettled, after_disk_step, log_of, cluster_cells};
+ghost use Rattle.nt_machine.specs.Told.{IsFrom, StaysSettled, log_of};
 ghost use Rattle.nt_machine.specs.Untold.{untold, settles, settled_count, with_bytes};
 
 /// Which bytes and metadata at a place are the blob of a chunk.
@@ -84,7 +85,7 @@ pub fn contexts_write_on<C, M, B: Blobs<C, M>>()
 /// The ranges of a legal history lie apart, from its beginning to its end.
 pub fn legal_ranges_are_apart<M>()
     ensures { (place : ℕ) (history : List (Entry M)) → IsLegal place history
-        → IsDisjoint place (spans_of (ranges_of history)) (end_after place (ranges_of history)) }
+        → IsDisjoint place (spans_of (ranges_of history)) (last_end place (ranges_of history)) }
 {}
 
 /// A legal history grows by an entry that is allowed.
@@ -93,6 +94,27 @@ pub fn histories_grow<M>()
         → IsAllowed place (ranges_of history) e → IsLegal place (history ++ e ∷ []) }
     ensures ranges { (history : List (Entry M)) (e : Entry M)
         → ranges_of (history ++ e ∷ []) ≡ after_entry (ranges_of history) e }
+{}
+
+/// What is allowed next in a legal history is what the machine may do next: the entry's steps are
+/// allowed one after the other, and leave the ranges that the entry leaves. Who commits has to have
+/// a chunk left, of whose blob the range is; who settles has to have written, who spoils to have
+/// failed. A write before it is allowed, and no history tells it, so others may have written and
+/// not settled.
+pub fn entries_are_steps<C, M>()
+    ensures steps { (chunks : List (List C)) (blob : ℕ → ℕ → ℕ → List ℕ) (place : ℕ)
+        (history : List (Entry M)) (s : MachineState) (e : Entry M)
+        → IsLegal place history → HasRanges place s (ranges_of history)
+        → IsAllowed place (ranges_of history) e → IsNextOf chunks blob s e.context e.kind
+        → IsRunFrom false chunks blob s (steps_of_entry e)
+        × HasRanges place (fold (after_context_step false blob) s (steps_of_entry e))
+        (after_entry (ranges_of history) e) }
+    ensures written { (chunks : List (List C)) (blob : ℕ → ℕ → ℕ → List ℕ) (place : ℕ)
+        (history : List (Entry M)) (s : MachineState) (step : ContextStep) (i n : ℕ)
+        → IsLegal place history → HasRanges place s (ranges_of history)
+        → IsOut (ranges_of history) i n → IsHandedBackAs s n Out → IsWriteInto i n step
+        → IsRunFrom false chunks blob s (step ∷ [])
+        × HasRanges place (after_context_step false blob s step) (ranges_of history) }
 {}
 
 /// A range that is settled or spoiled changes in its place, and no other does.
@@ -105,18 +127,6 @@ pub fn ranges_are_handed_back<M>()
         → IsLegal place history → (is : IsOut (ranges_of history) i n)
         → ranges_of (history ++ record { context = i; kind = entry.Spoiled n faults } ∷ [])
         ≡ slice_set (ranges_of history) n (record is.cluster { state = Spoiled faults }) }
-{}
-
-/// The disk's steps of a legal history leave the file as it was, and behind it the ranges one by
-/// one.
-pub fn clusters_are_told<M>()
-    ensures told { (place : ℕ) (known : Cells) (history : List (Entry M))
-        → length known ≡ place → IsLegal place history
-        → fold after_disk_step known (log_of history)
-        ≡ known ++ flat_map cluster_cells (ranges_of history) }
-    ensures whole { (parts : List (List ℕ)) (clusters : List (Cluster M))
-        → AllZip (λ part c. c.state ≡ Settled (Some part)) parts clusters
-        → flat_map cluster_cells clusters ≡ map Some (flat_map (λ part. part) parts) }
 {}
 
 /// No step of the disk covers a place below the beginning, and none a range that was handed back.

@@ -10,7 +10,8 @@
 //! Proved of every run, by `runs_are_sound`: ranges lie apart, and a settled one holds its chunk's
 //! bytes; by `closed_runs_use_all`: a run that closed has used all chunks, in an order. Proved of
 //! every history, by `chunks_are_dealt`: where each context's own entries are those of its chunks,
-//! the clusters are these chunks, dealt out in the order of the commits.
+//! the clusters are these chunks, dealt out in the order of the commits. By `entries_are_steps` each
+//! entry that a history may gain stands for steps that the machine may take.
 #![tactic(auto)]
 
 mod entry;
@@ -19,7 +20,7 @@ mod laws;
 pub use entry::{Entry, EntryKind};
 pub use laws::{
     Blobs, bytes_are_told_in_turn, bytes_change_no_range, chunks_are_dealt, closed_runs_use_all,
-    clusters_are_told, contexts_write_on, faults_show, histories_grow, legal_ranges_are_apart,
+    contexts_write_on, entries_are_steps, faults_show, histories_grow, legal_ranges_are_apart,
     ranges_are_handed_back, runs_are_sound, runs_keep_order, what_is_settled_stands,
     worked_examples_hold,
 };
