@@ -88,7 +88,3 @@ bad_page = 21
 -- a value that no event has
 abbrev pub bad_value : ℕ
 bad_value = 22
-
--- what is not yet read
-abbrev pub not_yet : ℕ
-not_yet = 23

@@ -26,8 +26,7 @@ fault_names =
     codes "BadPageList" ∷
     codes "DeferredInside" ∷
     codes "BadPage" ∷
-    codes "BadValue" ∷
-    codes "NotYet" ∷ []
+    codes "BadValue" ∷ []
 
 -- the name of a code, or of none
 abbrev pub name_of : ℕ → List ℕ

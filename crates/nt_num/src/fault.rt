@@ -5,7 +5,7 @@ ghost use Rattle.std.specs.Prelude.{◌≡◌, ◌≤◌, length};
 /// The first fault of a file. Parts that a code does not use are 0.
 #[derive(Clone, Copy, Debug, PartialEq, Eq)]
 pub struct ReadError {
-    /// Which fault it is: a number from 1 to 23.
+    /// Which fault it is: a number from 1 to 22.
     pub code: u8,
     /// Where it is, in bytes from the beginning of the file.
     pub at: u64,
@@ -53,8 +53,7 @@ impl ReadError {
             20 => "DeferredInside",
             21 => "BadPage",
             22 => "BadValue",
-            23 => "NotYet",
-            24.. => "Unknown",
+            23.. => "Unknown",
         }
     }
 }

@@ -67,8 +67,7 @@ fn names(rt: HostRuntime) {
         (1, "Unfinished"),
         (12, "BadFrame"),
         (22, "BadValue"),
-        (23, "NotYet"),
-        (24, "Unknown"),
+        (23, "Unknown"),
     ];
     for (code, name) in table {
         let fault = ReadError {
