@@ -1,6 +1,6 @@
 -- The entry of a line that was read the fast way, and of one that was printed.
 use Rattle.std.proofs.Common.{◌≡◌, ℕ, zero, suc, ◌^◌, ◌≤◌, List, [], ◌∷◌, length, Bool, true, false, if◌then◌else◌, refl, ap, ◌∙◌, arith}
-use Rattle.std.specs.Prelude.{Ok, Err, Some}
+use Rattle.std.specs.Prelude.{Ok, Err, Some, ◌||◌, ◌+◌}
 use Rattle.std.specs.Str.{IsUtf8, is_utf8}
 use Rattle.std.proofs.Math.Nat.{max-le, le-max_left, le-max_right}
 use Rattle.std.proofs.lemmas.Bool.{and_parts, false≢true, eq-eqb}
@@ -11,7 +11,7 @@ use Rattle.serde_json.specs.Read.{read}
 use Rattle.serde_json.specs.Written.{outline, items_outline}
 use Rattle.nt_types.specs.ShapeData.{ShapeData, ShapesData, MembersData, no_kinds, kind, no_parts, part}
 use Rattle.nt_types.specs.ShapeData as kinds
-use Rattle.nt_types.specs.TreeData.{TreeData, TreesData, flag, num, text, items, parts, pick, nothing, no_trees, tree}
+use Rattle.nt_types.specs.TreeData.{TreeData, TreesData, flag, num, text, items, parts, pick, nothing, no_trees, tree, is_nothing}
 use Rattle.nt_types.specs.Fits.{fits, all_trees, fit_parts, fit_kinds, fits_one}
 use Rattle.nt_event.specs.Json.{data_with, datas_with, text_data, hex_data, line_of, AllInRange}
 use Rattle.nt_event.specs.Line as lines
@@ -38,6 +38,11 @@ module _ (f : List ℕ → Data) (flat : (s : List ℕ) → depth (outline (f s)
   all_deep k no_trees each h = omega arith
   all_deep k (tree v vs) each h = let p = and_parts (fits k v) (all_trees (fits k) vs) h in max-le (each v p.0) (all_deep k vs each p.1)
 
+  maybe_deep : (fit : Bool) (n : ℕ) (v : TreeData) → (fit ≡ true → depth (outline (data_with f v)) ≤ n) → (is_nothing v || fit) ≡ true
+      → depth (outline (data_with f v)) ≤ n + 1
+  maybe_deep fit n nothing each h = omega arith
+  maybe_deep fit n _ each h = let d = each h in omega (arith, d)
+
   mutual
     deep : (k : ShapeData) (v : TreeData) → fits k v ≡ true → depth (outline (data_with f v)) ≤ spelling.depth k
     deep kinds.bool (flag b) h = omega arith
@@ -46,6 +51,7 @@ module _ (f : List ℕ → Data) (flat : (s : List ℕ) → depth (outline (f s)
     deep (kinds.int bits signed) (num z) h = omega arith
     deep kinds.text (text s) h = flat s
     deep (kinds.list k) (items vs) h = let d = all_deep k vs (λ v e. deep k v e) h in omega (arith, d)
+    deep (kinds.maybe k) v h = maybe_deep (fits k v) (spelling.depth k) v (λ e. deep k v e) h
     deep (kinds.fields ps) (parts vs) h = let d = deep_parts ps vs h in omega (arith, d)
     deep (kinds.tuple ks) (parts vs) h = let d = deep_kinds ks vs h in omega (arith, d)
     deep (kinds.choice ks) nothing h = omega arith

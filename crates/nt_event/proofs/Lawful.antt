@@ -1,6 +1,6 @@
 -- The line of an entry is the entry.
 use Rattle.std.proofs.Common.{◌≡◌, ℕ, zero, suc, ◌-◌, ◌^◌, ◌<◌, ◌≤◌, ℤ, pos, negsuc, nat_lt, List, [], ◌∷◌, length, Bool, true, false, refl}
-use Rattle.std.proofs.Common.{arith, decimal, if◌then◌else◌}
+use Rattle.std.proofs.Common.{arith, decimal, if◌then◌else◌, ◌||◌}
 use Rattle.std.specs.Prelude.{Ok}
 use Rattle.std.specs.Str.{IsUtf8, IsAscii, is_utf8}
 use Rattle.std.proofs.Math.Pow.{pow_mono}
@@ -20,6 +20,7 @@ use Rattle.nt_types.specs.ShapeData as kinds
 use Rattle.nt_types.specs.Spelling.{IsType, AreKinds, AreMoreKinds, AreParts, AreMoreParts, is_width}
 use Rattle.nt_types.specs.Rules.{AreFields}
 use Rattle.nt_types.specs.TreeData.{TreeData, TreesData, flag, num, text, items, parts, pick, nothing, no_trees, tree, trees_of}
+use Rattle.nt_types.specs.TreeData.{is_nothing}
 use Rattle.nt_types.specs.Fits.{is_int, fits, all_trees, fit_parts, fit_kinds, fits_one}
 use Rattle.nt_types.specs.TreeBytes.{HasBytes, AllHaveBytes}
 use Rattle.nt_event.specs.Json.{data_of, datas_of, num_data, hex_data, line_of, InWord, InRange, AllInRange}
@@ -58,6 +59,10 @@ all_range : (k : ShapeData) (vs : TreesData) → ((v : TreeData) → fits k v �
 all_range k no_trees each h b = tt
 all_range k (tree v vs) each h b = let p = and_parts (fits k v) (all_trees (fits k) vs) h in (each v p.0 b.0, all_range k vs each p.1 b.1)
 
+maybe_range : (fit : Bool) (v : TreeData) → (fit ≡ true → InRange v) → (is_nothing v || fit) ≡ true → InRange v
+maybe_range fit nothing each h = tt
+maybe_range fit _ each h = each h
+
 mutual
   range : (k : ShapeData) (within : Bool) (v : TreeData) → IsType within k → fits k v ≡ true → HasBytes v → InRange v
   range kinds.bool within (flag b) t h y = tt
@@ -66,6 +71,7 @@ mutual
   range (kinds.int bits signed) within (num z) t h y = int_range bits signed z (narrow bits t) h
   range kinds.text within (text s) t h y = y
   range (kinds.list k) within (items vs) t h y = all_range k vs (λ v e b. range k within v t e b) h y
+  range (kinds.maybe k) within v t h y = maybe_range (fits k v) v (λ e. range k true v t.1 e y) h
   range (kinds.fields ps) within (parts vs) t h y = parts_range ps vs (more_parts ps t.2) h y
   range (kinds.tuple ks) within (parts vs) t h y = kinds_range ks within vs (more_kinds ks within t) h y
   range (kinds.choice ks) within nothing t h y = tt

@@ -178,6 +178,10 @@ pub reads-null : (n : ℕ) (ks : ShapesData) (t : List ℕ) (at end : ℕ) → S
     → ReadsValue n (kinds.choice ks) nothing t at end
 reads-null n ks t at end h = record { stands = null-stands t at end h; good = record { fit = refl; range = tt; shallow = omega arith } }
 
+pub reads-no_value : (n : ℕ) (k : ShapeData) (t : List ℕ) (at end : ℕ) → StandsFrom (110 ∷ 117 ∷ 108 ∷ 108 ∷ []) t at end
+    → ReadsValue n (kinds.maybe k) nothing t at end
+reads-no_value n k t at end h = record { stands = null-stands t at end h; good = record { fit = refl; range = tt; shallow = omega arith } }
+
 pub reads-list : (n : ℕ) (k : ShapeData) (vs : List TreeData) (t : List ℕ) (at first end : ℕ) → StandsFrom (91 ∷ []) t at first
     → ItemsStand (jsons_of (trees_of vs)) t first end → AllGood n k vs
     → ReadsValue (n + 1) (kinds.list k) (items (trees_of vs)) t at end

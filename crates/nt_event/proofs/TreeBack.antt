@@ -1,16 +1,16 @@
 -- The data of a tree is that tree, for a shape that it fits.
 use Rattle.std.proofs.Common.{◌≡◌, ℕ, ◌^◌, ◌<◌, zero, suc, ℤ, pos, negsuc, List, Bool, true, false, Option, Some, None, option_map}
-use Rattle.std.proofs.Common.{option_and_then, if◌then◌else◌, refl, ap, ◌∙◌}
+use Rattle.std.proofs.Common.{option_and_then, if◌then◌else◌, refl, ap, ◌∙◌, ◌||◌}
 use Rattle.std.proofs.lemmas.Bool.{and_parts, false≢true, lt-ltb}
 use Rattle.std.specs.Str.{is_utf8}
 use Rattle.hex.specs.Hex.{IsBytes}
 use Rattle.hex.proofs.HexLemmas.{decode_of-encode_lower}
-use Rattle.serde_json.specs.Data.{Data, string}
+use Rattle.serde_json.specs.Data.{Data, null, string}
 use Rattle.nt_types.specs.ShapeData.{ShapeData, ShapesData, MembersData, no_kinds, kind, no_parts, part}
 use Rattle.nt_types.specs.ShapeData as kinds
-use Rattle.nt_types.specs.TreeData.{TreeData, TreesData, flag, num, text, items, parts, pick, nothing, no_trees, tree}
+use Rattle.nt_types.specs.TreeData.{TreeData, TreesData, flag, num, text, items, parts, pick, nothing, no_trees, tree, is_nothing}
 use Rattle.nt_types.specs.Fits.{is_int, all_trees, fits, fit_parts, fit_kinds, fits_one}
-use Rattle.nt_event.specs.Line.{ok_of, text_read, int_read, tag_of, all_read, tree_read, parts_read, kinds_read, one_read}
+use Rattle.nt_event.specs.Line.{ok_of, text_read, int_read, tag_of, all_read, maybe_read, tree_read, parts_read, kinds_read, one_read}
 use Rattle.nt_event.specs.Json.{hex_data, text_data, data_with, datas_with, data_of, InRange, AllInRange}
 
 -- the JSON of a text gives the text back
@@ -42,6 +42,18 @@ all_back : (t : List ℕ → Data) (f : Data → Option TreeData) (g : TreeData 
 all_back t f g no_trees each h b = refl
 all_back t f g (tree v vs) each h b = let p = and_parts (g v) (all_trees g vs) h in rw (each v p.0 b.0, all_back t f g vs each p.1 b.1) refl
 
+-- what a text is read from isn't `null`
+text_there : (f : Data → Option TreeData) (d : Data) (s : List ℕ) → text_read d ≡ Some s → maybe_read f d ≡ f d
+text_there f null s e = cc
+text_there f _ s e = refl
+
+-- nothing is `null`, and no other tree is
+maybe_back : (t : List ℕ → Data) → GivesText t → (f : Data → Option TreeData) (fit : Bool) (v : TreeData)
+    → (fit ≡ true → f (data_with t v) ≡ Some v) → (is_nothing v || fit) ≡ true → InRange v → maybe_read f (data_with t v) ≡ Some v
+maybe_back t g f fit nothing each h y = refl
+maybe_back t g f fit (text s) each h y = text_there f (t s) s (g s y) ∙ each h
+maybe_back t g f fit _ each h y = each h
+
 mutual
   pub tree_read-data : (t : List ℕ → Data) → GivesText t → (k : ShapeData) (v : TreeData) → fits k v ≡ true → InRange v
       → tree_read k (data_with t v) ≡ Some v
@@ -52,6 +64,7 @@ mutual
   tree_read-data t g kinds.text (text s) h y = ap (option_map text) (g s y)
   tree_read-data t g (kinds.list k) (items vs) h y =
       ap (option_map items) (all_back t (tree_read k) (fits k) vs (λ v e b. tree_read-data t g k v e b) h y)
+  tree_read-data t g (kinds.maybe k) v h y = maybe_back t g (tree_read k) (fits k v) v (λ e. tree_read-data t g k v e y) h y
   tree_read-data t g (kinds.fields ps) (parts vs) h y = ap (option_map parts) (parts_read-data t g ps vs h y)
   tree_read-data t g (kinds.tuple ks) (parts vs) h y = ap (option_map parts) (kinds_read-data t g ks vs h y)
   tree_read-data t g (kinds.choice ks) nothing h y = refl

@@ -70,6 +70,11 @@ choice_read f null = Some nothing
 choice_read f (array ds) = pick_read f ds
 choice_read f _ = None
 
+-- an optional is `null`, or its value
+abbrev pub maybe_read : (Data → Option TreeData) → Data → Option TreeData
+maybe_read f null = Some nothing
+maybe_read f d = f d
+
 -- an array whose items are read so
 abbrev pub array_read : (Items → Option TreesData) → (TreesData → TreeData) → Data → Option TreeData
 array_read f g d = option_and_then (λ ds. option_map g (f ds)) (as_array d)
@@ -83,6 +88,7 @@ abbrev mutual
   tree_read (kinds.int bits signed) d = int_read (is_int bits signed) d
   tree_read kinds.text d = option_map text (text_read d)
   tree_read (kinds.list k) d = array_read (all_read (tree_read k)) items d
+  tree_read (kinds.maybe k) d = maybe_read (tree_read k) d
   tree_read (kinds.fields ps) d = array_read (parts_read ps) parts d
   tree_read (kinds.tuple ks) d = array_read (kinds_read ks) parts d
   tree_read (kinds.choice ks) d = choice_read (one_read ks) d

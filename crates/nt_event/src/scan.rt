@@ -77,6 +77,10 @@ fn value(
             Some(end) => Ok(Some((Tree::Nothing, end))),
             None => picked(alloc, &shapes.list, text, at, deep),
         },
+        Shape::Maybe(of) => match null(text, at) {
+            Some(end) => Ok(Some((Tree::Nothing, end))),
+            None => value(alloc, of, text, at, deep),
+        },
         _ => single_value(alloc, shape, text, at),
     }
 }

@@ -52,6 +52,8 @@ fn tree(alloc: Global, shape: &Shape, value: &Value) -> Result<Option<Tree>, All
             }
         }
         Shape::Choice(shapes) => choice(alloc, &shapes.list, value),
+        Shape::Maybe(_) if value.is_null() => Ok(Some(Tree::Nothing)),
+        Shape::Maybe(of) => tree(alloc, of, value),
     }
 }
 

@@ -1,12 +1,12 @@
 -- In sound columns nothing is wrong.
 use Rattle.std.proofs.Common.{◌≡◌, ℕ, suc, ◌<◌, eqb, Bool, ◌||◌, ◌&&◌, true, false, List, length, take, Option, None, refl, arith, inl, inr}
 use Rattle.std.proofs.lemmas.Bool.{eq-eqb, le-leb, cases_lt}
-use Rattle.nt_plans.specs.Plan.{PlanData, PlansData, bool, number, text, list, record_of, choice, no_plans, plan}
+use Rattle.nt_plans.specs.Plan.{PlanData, PlansData, bool, number, text, list, maybe, record_of, choice, no_plans, plan}
 use Rattle.nt_encode.specs.Elements.{Element}
 use Rattle.nt_trees.specs.Columns.{Cols, number_at, tag_at, last_end, count_tag}
-use Rattle.nt_trees.specs.Sound.{Rises, TagsUpTo, IndicesCount, how_many_plans, Sound, AllSound, EachSound}
-use Rattle.nt_trees.specs.Faults.{Demand, free, rising, tagged, index_counts, is_met, first_failing, column_fault, lower, fault_in}
-use Rattle.nt_trees.specs.Faults.{fault_in_any, fault_under, Spot}
+use Rattle.nt_trees.specs.Sound.{Rises, FewSteps, TagsUpTo, IndicesCount, how_many_plans, Sound, AllSound, EachSound}
+use Rattle.nt_trees.specs.Faults.{Demand, free, rising, stepping, tagged, index_counts, is_met, first_failing, column_fault, lower}
+use Rattle.nt_trees.specs.Faults.{fault_in, fault_in_any, fault_under, Spot}
 use Rattle.nt_trees.proofs.NoFault.{first_failing-none}
 
 column_is : (d : Demand) (cols : Cols) (k n : ℕ) → length (cols k) ≡ n
@@ -16,11 +16,17 @@ column_is d cols k n long met =
     let none : first_failing (is_met d (cols k)) (length (cols k)) ≡ None = first_failing-none (is_met d (cols k)) (length (cols k)) met in
     rw (same, none) refl
 
+both_true : (a b : Bool) → a ≡ true → b ≡ true → (a && b) ≡ true
+both_true a b h g = rw h g
+
 free_is : (cols : Cols) (k n : ℕ) → length (cols k) ≡ n → column_fault free cols k n ≡ None
 free_is cols k n long = column_is free cols k n long (λ i l. refl)
 
 rises_is : (cols : Cols) (k n : ℕ) → length (cols k) ≡ n → Rises (cols k) → column_fault rising cols k n ≡ None
 rises_is cols k n long rises = column_is rising cols k n long (λ i l. le-leb _ _ (rises i l))
+
+steps_is : (cols : Cols) (k n : ℕ) → length (cols k) ≡ n → Rises (cols k) → FewSteps (cols k) → column_fault stepping cols k n ≡ None
+steps_is cols k n long rises few = column_is stepping cols k n long (λ i l. both_true _ _ (le-leb _ _ (rises i l)) (le-leb _ _ (few i l)))
 
 counts_at : (es : List Element) (i : ℕ) → (0 < tag_at es i → number_at es i ≡ count_tag (tag_at es i) (take i es))
     → index_counts es i ≡ true
@@ -38,10 +44,7 @@ counts_at es i counts =
 tags_is : (cols : Cols) (most k n : ℕ) → length (cols k) ≡ n → TagsUpTo most (cols k) → IndicesCount (cols k)
     → column_fault (tagged most) cols k n ≡ None
 tags_is cols most k n long tags counts = column_is (tagged most) cols k n long
-    (λ i l. both _ _ (le-leb _ _ (tags i l)) (counts_at (cols k) i (counts i l)))
-  where
-    both : (a b : Bool) → a ≡ true → b ≡ true → (a && b) ≡ true
-    both a b h g = rw h g
+    (λ i l. both_true _ _ (le-leb _ _ (tags i l)) (counts_at (cols k) i (counts i l)))
 
 none_of : (f g : Option Spot) → f ≡ None → g ≡ None → lower f g ≡ None
 none_of f g h i = rw (h, i) refl
@@ -52,6 +55,8 @@ mutual
   fault_in-sound (number k bits signed) cols n s = free_is cols k n s
   fault_in-sound (text ends bytes) cols n s = none_of _ _ (rises_is cols ends n s.0 s.1) (free_is cols bytes (last_end (cols ends)) s.2)
   fault_in-sound (list ends p) cols n s = none_of _ _ (rises_is cols ends n s.0 s.1) (fault_in-sound p cols (last_end (cols ends)) s.2)
+  fault_in-sound (maybe ends p) cols n s =
+      none_of _ _ (steps_is cols ends n s.0 s.1 s.2) (fault_in-sound p cols (last_end (cols ends)) s.3)
   fault_in-sound (record_of ps) cols n s = fault_in_any-sound ps cols n s
   fault_in-sound (choice tags ps) cols n s = none_of _ _ (tags_is cols (how_many_plans ps) tags n s.0 s.1 s.2)
       (fault_under-sound 0 ps (cols tags) cols s.3)

@@ -12,8 +12,8 @@ use Rattle.nt_grammar.specs.declared.rows.FieldRow.{FieldRow}
 use Rattle.nt_grammar.specs.declared.rows.ColumnRow.{ColumnRow}
 use Rattle.nt_grammar.specs.Codes.{leaf_role, collection_role, record_role, variant_role, most_levels}
 use Rattle.nt_grammar.specs.Open.{ids_inside, columns_of_field, one_column, no_column, index_types, is_leaf, leaf_shape}
-use Rattle.nt_grammar.specs.Open.{collection_shape, record_shape, choice_shape, flags_fit, shape_by_role, all_some, field_of_row, open_field, top_shape}
-use Rattle.nt_grammar.specs.Open.{open_shapes}
+use Rattle.nt_grammar.specs.Open.{collection_shape, record_shape, choice_shape, flags_fit, shape_by_role, all_some, field_of_row}
+use Rattle.nt_grammar.specs.Open.{open_field, top_shape, open_shapes}
 use Rattle.nt_grammar.proofs.FieldsInside.{ids_inside-append}
 
 -- rows of fields that lie in fields from this id on, and columns of such fields

@@ -18,8 +18,8 @@ use Rattle.nt_grammar.specs.Columns.{column_types}
 use Rattle.nt_grammar.specs.Rows.{NodeData, AreNodesFrom, inside, members_in, places_in, all_inside, field_row, column_row}
 use Rattle.nt_grammar.specs.Added.{is_record, late_row, late_rows, first_of}
 use Rattle.nt_grammar.specs.Open.{ids_inside, columns_of_field, column_fits, one_column, no_column, text_columns, leaf_types, leaf_with}
-use Rattle.nt_grammar.specs.Open.{named_leaf, all_some, leaf_shape, collection_shape, record_shape, choice_shape, is_leaf, index_types, leaves}
-use Rattle.nt_grammar.specs.Open.{shape_by_role, open_field}
+use Rattle.nt_grammar.specs.Open.{named_leaf, all_some, leaf_shape, collection_shape, record_shape, choice_shape, is_leaf, index_types}
+use Rattle.nt_grammar.specs.Open.{leaves, shape_by_role, open_field}
 use Rattle.nt_grammar.proofs.AllNodes.{AllNodes, IsField}
 use Rattle.nt_grammar.proofs.Inside.{before, count_up, cut-inside}
 use Rattle.nt_grammar.proofs.Added.{late_rows-zero}

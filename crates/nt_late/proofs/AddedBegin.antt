@@ -157,6 +157,10 @@ module _ (t : Table) (field : MemberData) (plain : Bool) (written : ℕ) (new : 
         own-begins i (kinds.list k) (index_type plain) [] s refl j (entries-here (first_column new.columns (from + i)) j
         (first-entries _ _ (in-other (under_list (first_column new.columns (from + i)))
         (place new.fields new.columns (as_read k) (get_or (ids_inside (from + i) 0 new.fields) 0 0)) j refl) e))
+    shape-begins (kinds.maybe k) i s j e =
+        own-begins i (kinds.maybe k) (index_type plain) [] s refl j (entries-here (first_column new.columns (from + i)) j
+        (first-entries _ _ (in-other (under_list (first_column new.columns (from + i)))
+        (place new.fields new.columns (as_read k) (get_or (ids_inside (from + i) 0 new.fields) 0 0)) j refl) e))
     shape-begins (kinds.fields ps) i s j e =
         parts-begin ps (from + i) (start i) (inside-at i (kinds.fields ps) refl s) j
         (ap (λ (ids : List ℕ). is_entries (need_in_any entries (place_members new.fields new.columns (parts_as_read ps) ids) j))

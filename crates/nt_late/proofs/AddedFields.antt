@@ -26,6 +26,7 @@ mutual
   zero-read (kinds.int bits signed) = refl
   zero-read kinds.text = refl
   zero-read (kinds.list k) = refl
+  zero-read (kinds.maybe k) = refl
   zero-read (kinds.fields ps) = ap parts (zero-parts-read ps)
   zero-read (kinds.tuple ks) = ap parts (zero-places-read 0 ks)
   zero-read (kinds.choice ks) = refl

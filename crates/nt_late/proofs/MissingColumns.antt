@@ -5,8 +5,8 @@ use Rattle.std.specs.Prelude.{is_some}
 use Rattle.std.specs.Option.{option_or}
 use Rattle.std.proofs.lemmas.Bool.{false≢true, true≢false, eq-eqb}
 use Rattle.nt_column.specs.Elements.{Element}
-use Rattle.nt_plans.specs.Plan.{PlanData, PlansData, bool, number, text, list, record_of, choice, no_plans, plan, has, has_any, Differ}
-use Rattle.nt_plans.specs.Plan.{AllDiffer}
+use Rattle.nt_plans.specs.Plan.{PlanData, PlansData, bool, number, text, list, maybe, record_of, choice, no_plans, plan, has, has_any}
+use Rattle.nt_plans.specs.Plan.{Differ, AllDiffer}
 use Rattle.nt_plans.specs.Needs.{NeedData, entries, inside, under, need_at, need_in, need_in_any, need_under, is_entries}
 use Rattle.nt_trees.specs.Columns.{Cols}
 use Rattle.nt_trees.specs.TreeAt.{tree_at}
@@ -34,6 +34,8 @@ mutual
   empty-zeros (number k bits signed) cols h = h k (same-key k)
   empty-zeros (text e c) cols h = (h e (left-true (e == e) (e == c) (same-key e)), h c (or-true (c == e) (c == c) (same-key c)))
   empty-zeros (list e p) cols h =
+      (h e (left-true (e == e) (has p e) (same-key e)), empty-zeros p cols (λ j is. h j (or-true (j == e) (has p j) is)))
+  empty-zeros (maybe e p) cols h =
       (h e (left-true (e == e) (has p e) (same-key e)), empty-zeros p cols (λ j is. h j (or-true (j == e) (has p j) is)))
   empty-zeros (record_of ps) cols h = all_empty-zeros ps cols h
   empty-zeros (choice s ps) cols h =
@@ -65,6 +67,8 @@ mutual
   in-other above (text ends bytes) j h =
       or-other (need_at above ends j) (need_at (inside ends) bytes j) (at-other above ends j h) (at-other (inside ends) bytes j refl)
   in-other above (list ends p) j h =
+      or-other (need_at above ends j) (need_in (inside ends) p j) (at-other above ends j h) (in-other (inside ends) p j refl)
+  in-other above (maybe ends p) j h =
       or-other (need_at above ends j) (need_in (inside ends) p j) (at-other above ends j h) (in-other (inside ends) p j refl)
   in-other above (record_of ps) j h = any-other above ps j h
   in-other above (choice tags ps) j h =
@@ -129,6 +133,8 @@ mutual
       has-or (need_at above e j) (need_at (inside e) c j) (j == e) (j == c) (has-at above e j) (has-at (inside e) c j)
   need-has above (list e p) j =
       has-or (need_at above e j) (need_in (inside e) p j) (j == e) (has p j) (has-at above e j) (need-has (inside e) p j)
+  need-has above (maybe e p) j =
+      has-or (need_at above e j) (need_in (inside e) p j) (j == e) (has p j) (has-at above e j) (need-has (inside e) p j)
   need-has above (record_of ps) j = needs-have above ps j
   need-has above (choice s ps) j =
       has-or (need_at above s j) (need_under s 1 ps j) (j == s) (has_any ps j) (has-at above s j) (under-have s 1 ps j)
@@ -156,6 +162,14 @@ mutual
         ∙ at-other (inside e) c c refl) (h c (or-true (c == e) (c == c) (same-key c))),
   )
   missing-zeros (list e p) cols n d h = (
+    by-need _ (Some entries) n (cols e) (or-first (need_at entries e e) (need_in (inside e) p e) entries (at-here entries e))
+        (h e (left-true (e == e) (has p e) (same-key e))),
+    empty-zeros p cols (λ j is.
+        no-entries _ n (cols j)
+        (ap is_entries (or-second (need_at entries e j) (need_in (inside e) p j) (at-else entries e j (apart (has p) e j d.0 is)))
+        ∙ in-other (inside e) p j refl) (h j (or-true (j == e) (has p j) is))),
+  )
+  missing-zeros (maybe e p) cols n d h = (
     by-need _ (Some entries) n (cols e) (or-first (need_at entries e e) (need_in (inside e) p e) entries (at-here entries e))
         (h e (left-true (e == e) (has p e) (same-key e))),
     empty-zeros p cols (λ j is.

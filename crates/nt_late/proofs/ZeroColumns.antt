@@ -12,13 +12,13 @@ use Rattle.nt_column.specs.Elements.{Element, plain}
 use Rattle.nt_grammar.specs.declared.rows.ColumnRow.{ColumnRow}
 use Rattle.nt_grammar.specs.declared.rows.FieldRow.{FieldRow}
 use Rattle.nt_grammar.specs.Open.{ids_inside}
-use Rattle.nt_plans.specs.Plan.{PlanData, PlansData, bool, number, text, list, record_of, choice, no_plans, plan}
+use Rattle.nt_plans.specs.Plan.{PlanData, PlansData, bool, number, text, list, maybe, record_of, choice, no_plans, plan}
 use Rattle.nt_plans.specs.Place.{place, place_members, place_each}
 use Rattle.nt_trees.specs.Integers.{half, integer_of, truth_of}
 use Rattle.nt_trees.specs.Columns.{Cols, number_at, tag_at, begin_at, last_end, count_tag}
 use Rattle.nt_trees.specs.Sound.{how_many_plans}
-use Rattle.nt_trees.specs.TreeAt.{text_from, trees_from, picked, tree_at, each_at, one_at}
-use Rattle.nt_trees.specs.Faults.{Spot, free, rising, tagged, lower, column_fault, fault_in, fault_in_any, fault_under}
+use Rattle.nt_trees.specs.TreeAt.{text_from, trees_from, only, picked, tree_at, each_at, one_at}
+use Rattle.nt_trees.specs.Faults.{Spot, free, rising, stepping, tagged, lower, column_fault, fault_in, fault_in_any, fault_under}
 use Rattle.nt_trees.proofs.Zeros.{column_fault-zeros, last_end-zeros, count_tag-zeros}
 use Rattle.nt_late.specs.Zeros.{zero_tree, zero_parts, zero_kinds, zero_of, zeros_of}
 
@@ -33,6 +33,7 @@ abbrev mutual
   HasZeros (number k bits signed) cols n = cols k ≡ zeros n
   HasZeros (text e c) cols n = (cols e ≡ zeros n) × (cols c ≡ zeros 0)
   HasZeros (list e p) cols n = (cols e ≡ zeros n) × HasZeros p cols 0
+  HasZeros (maybe e p) cols n = (cols e ≡ zeros n) × HasZeros p cols 0
   HasZeros (record_of ps) cols n = HaveZeros ps cols n
   HasZeros (choice s ps) cols n = (cols s ≡ zeros n) × HaveZeros ps cols 0
 
@@ -60,6 +61,9 @@ mutual
       (ap (column_fault free cols c) (ends-none cols e n h.0) ∙ column_fault-zeros free cols c 0 h.1)
   fault-zeros (list e p) cols n h =
       both-none (column_fault rising cols e n) (fault_in p cols (last_end (cols e))) (column_fault-zeros rising cols e n h.0)
+      (ap (fault_in p cols) (ends-none cols e n h.0) ∙ fault-zeros p cols 0 h.1)
+  fault-zeros (maybe e p) cols n h =
+      both-none (column_fault stepping cols e n) (fault_in p cols (last_end (cols e))) (column_fault-zeros stepping cols e n h.0)
       (ap (fault_in p cols) (ends-none cols e n h.0) ∙ fault-zeros p cols 0 h.1)
   fault-zeros (record_of ps) cols n h = faults-zeros ps cols n h
   fault-zeros (choice s ps) cols n h =
@@ -121,6 +125,9 @@ mutual
   tree-zeros (list e p) cols n i h =
       ap items (items-zero (tree_at p cols) (begin_at (cols e) i) (begin_at (cols e) (suc i)) (begin-zero (cols e) n i h.0)
       (begin-zero (cols e) n (suc i) h.0))
+  tree-zeros (maybe e p) cols n i h =
+      ap only (items-zero (tree_at p cols) (begin_at (cols e) i) (begin_at (cols e) (suc i)) (begin-zero (cols e) n i h.0)
+      (begin-zero (cols e) n (suc i) h.0))
   tree-zeros (record_of ps) cols n i h = ap parts (trees-zeros ps cols n i h)
   tree-zeros (choice s ps) cols n i h =
       ap (λ (t : ℕ). picked t (λ tag. one_at ps tag cols (number_at (cols s) i))) (tag-zero (cols s) n i h.0)
@@ -140,6 +147,7 @@ mutual
   zero-place fs cs (kinds.int bits signed) id = refl
   zero-place fs cs kinds.text id = refl
   zero-place fs cs (kinds.list k) id = refl
+  zero-place fs cs (kinds.maybe k) id = refl
   zero-place fs cs (kinds.fields ps) id = ap parts (zero-members fs cs ps (ids_inside id 0 fs))
   zero-place fs cs (kinds.tuple ks) id = ap parts (zero-each fs cs ks (ids_inside id 0 fs))
   zero-place fs cs (kinds.choice ks) id = refl

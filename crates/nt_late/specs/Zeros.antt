@@ -7,7 +7,7 @@ use Rattle.nt_types.specs.TreeData.{TreeData, TreesData, flag, num, text, items,
 use Rattle.nt_plans.specs.Plan.{PlanData, PlansData, no_plans, plan}
 use Rattle.nt_plans.specs.Plan as plans
 
--- false, 0, an empty text or list, a zero for each part, or no alternative
+-- false, 0, an empty text or list, nothing, a zero for each part, or no alternative
 abbrev mutual
   pub zero_tree : ShapeData → TreeData
   zero_tree kinds.bool = flag false
@@ -16,6 +16,7 @@ abbrev mutual
   zero_tree (kinds.int bits signed) = num (pos 0)
   zero_tree kinds.text = text []
   zero_tree (kinds.list k) = items no_trees
+  zero_tree (kinds.maybe k) = nothing
   zero_tree (kinds.fields ps) = parts (zero_parts ps)
   zero_tree (kinds.tuple ks) = parts (zero_kinds ks)
   zero_tree (kinds.choice ks) = nothing
@@ -35,6 +36,7 @@ abbrev mutual
   zero_of (plans.number k bits signed) = num (pos 0)
   zero_of (plans.text e c) = text []
   zero_of (plans.list e p) = items no_trees
+  zero_of (plans.maybe e p) = nothing
   zero_of (plans.record_of ps) = parts (zeros_of ps)
   zero_of (plans.choice s ps) = nothing
 

@@ -6,7 +6,7 @@ use Rattle.std.specs.Option.{option_or, is_some}
 use Rattle.nt_types.specs.ShapeData.{ShapeData}
 use Rattle.nt_grammar.specs.declared.rows.FieldRow.{FieldRow}
 use Rattle.nt_grammar.specs.declared.rows.ColumnRow.{ColumnRow}
-use Rattle.nt_plans.specs.Plan.{PlanData, PlansData, bool, number, text, list, record_of, choice, no_plans, plan, has, has_any}
+use Rattle.nt_plans.specs.Plan.{PlanData, PlansData, bool, number, text, list, maybe, record_of, choice, no_plans, plan, has, has_any}
 use Rattle.nt_plans.specs.Place.{place, place_from}
 use Rattle.nt_plans.specs.Needs.{NeedData, entries, inside, under, need_at, need_in, need_in_any, need_under, is_entries, top_from}
 use Rattle.nt_open.specs.Uses.{principal_at, principal_in, principal_in_any, use_in, use_from, use_at, HaveUses, principal_of, top_field_of}
@@ -40,6 +40,9 @@ mutual
       both (need_at above ends j) (need_at (inside ends) bytes j) (principal_at (of_entries above) ends j) (principal_at false bytes j)
       (need-at above ends j) (need-at (inside ends) bytes j)
   need-principal above (list ends p) j =
+      both (need_at above ends j) (need_in (inside ends) p j) (principal_at (of_entries above) ends j) (principal_in false p j)
+      (need-at above ends j) (need-principal (inside ends) p j)
+  need-principal above (maybe ends p) j =
       both (need_at above ends j) (need_in (inside ends) p j) (principal_at (of_entries above) ends j) (principal_in false p j)
       (need-at above ends j) (need-principal (inside ends) p j)
   need-principal above (record_of ps) j = needs-principal above ps j
@@ -98,6 +101,8 @@ mutual
   some-principal up (text ends bytes) j = some-or (principal_at up ends j) (principal_at false bytes j)
       ∙ ap₂ (λ (x y : Bool). x || y) (some-at up ends j) (some-at false bytes j)
   some-principal up (list ends p) j = some-or (principal_at up ends j) (principal_in false p j)
+      ∙ ap₂ (λ (x y : Bool). x || y) (some-at up ends j) (some-principal false p j)
+  some-principal up (maybe ends p) j = some-or (principal_at up ends j) (principal_in false p j)
       ∙ ap₂ (λ (x y : Bool). x || y) (some-at up ends j) (some-principal false p j)
   some-principal up (record_of ps) j = some-principals up ps j
   some-principal up (choice tags ps) j = some-or (principal_at up tags j) (principal_in_any false ps j)

@@ -5,7 +5,7 @@ use Rattle.std.specs.Option.{option_or}
 use Rattle.nt_types.specs.ShapeData.{ShapeData}
 use Rattle.nt_grammar.specs.declared.rows.FieldRow.{FieldRow}
 use Rattle.nt_grammar.specs.declared.rows.ColumnRow.{ColumnRow}
-use Rattle.nt_plans.specs.Plan.{PlanData, PlansData, bool, number, text, list, record_of, choice, no_plans, plan}
+use Rattle.nt_plans.specs.Plan.{PlanData, PlansData, bool, number, text, list, maybe, record_of, choice, no_plans, plan}
 use Rattle.nt_plans.specs.Place.{place}
 use Rattle.nt_open.specs.declared.uses.ColumnUse.{ColumnUse}
 
@@ -13,13 +13,14 @@ use Rattle.nt_open.specs.declared.uses.ColumnUse.{ColumnUse}
 abbrev pub principal_at : Bool → ℕ → ℕ → Option Bool
 principal_at up k j = if j == k then Some up else None
 
--- whether a column of a plan is principal, of a plan whose field is principal or not; below lists and choices none is
+-- whether a column of a plan is principal, of a plan whose field is principal or not; below lists, optionals and choices none is
 abbrev mutual
   pub principal_in : Bool → PlanData → ℕ → Option Bool
   principal_in up (bool k) j = principal_at up k j
   principal_in up (number k bits signed) j = principal_at up k j
   principal_in up (text ends bytes) j = option_or (principal_at up ends j) (principal_at false bytes j)
   principal_in up (list ends p) j = option_or (principal_at up ends j) (principal_in false p j)
+  principal_in up (maybe ends p) j = option_or (principal_at up ends j) (principal_in false p j)
   principal_in up (record_of ps) j = principal_in_any up ps j
   principal_in up (choice tags ps) j = option_or (principal_at up tags j) (principal_in_any false ps j)
 

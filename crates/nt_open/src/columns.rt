@@ -101,7 +101,7 @@ fn int_with(principal: bool, columns: &[ColumnRow], bits: u8, signed: bool) -> O
     leaf_with(principal, columns, Shape::Int { bits, signed }, types)
 }
 
-fn is(name: &[u8], text: &str) -> bool
+pub(crate) fn is(name: &[u8], text: &str) -> bool
     ensures { result ≡ bytes_eq name.now text.now }
 {
     name == text.as_bytes()

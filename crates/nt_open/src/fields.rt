@@ -1,11 +1,12 @@
 //! The shapes of open fields.
 
-ghost use Rattle.std.specs.Prelude.{◌≡◌, ◌<◌, length, map, option_map, option_and_then, IfOk};
+ghost use Rattle.std.specs.Prelude.{◌≡◌, ◌<◌, ◌&&◌, not, if◌then◌else◌, length, map, option_map, option_and_then, IfOk};
+ghost use Rattle.nt_types.specs.ShapeData.{list, maybe, takes_nothing};
 ghost use Rattle.nt_types.specs.Views.{shape_view, member_view};
 ghost use Rattle.nt_grammar.specs.declared.rows.FieldRow.{FieldRow};
-ghost use Rattle.nt_grammar.specs.Open.{ids_inside, columns_of_field, flags_fit, list_shape, record_shape, choice_shape, shape_by_role, all_some, field_of_row, open_field};
+ghost use Rattle.nt_grammar.specs.Open.{ids_inside, columns_of_field, flags_fit, is_optional, collection_shape, record_shape, choice_shape, shape_by_role, all_some, field_of_row, open_field};
 
-use crate::columns::{is_index, is_switch, leaf_of};
+use crate::columns::{is, is_index, is_switch, leaf_of};
 use crate::grouped::Grouped;
 use nt_grammar::FieldRow;
 use nt_types::{Member, Members, Name, Shape, Shapes};
@@ -29,16 +30,41 @@ fn flags_fit(row: &FieldRow) -> bool
     row.flags == 0 || (row.flags == HAS_CHECKSUM && row.role == RECORD)
 }
 
-/// A list, where there is exactly one field inside.
-fn list_of(alloc: Global, parts: Option<Vec<Member>>) -> Result<Option<Shape>, AllocError>
-    ensures { IfOk result (λ shape. option_map shape_view shape
-        ≡ option_and_then list_shape (option_map (λ list. map member_view list.items) parts)) }
+/// Whether a type name is that of an optional.
+fn is_optional(name: &[u8]) -> bool
+    ensures { result ≡ is_optional name.now }
+{
+    let (head, _) = name.split_at(name.len().min(14));
+    is(head, "std::optional<")
+}
+
+/// An optional, where the type name is that of one and the values inside are never nothing; else a list.
+fn collection(alloc: Global, name: &[u8], of: Shape) -> Result<Shape, AllocError>
+    ensures { IfOk result (λ shape. shape_view shape
+        ≡ (if is_optional name.now && not (takes_nothing (shape_view of)) then maybe (shape_view of)
+        else list (shape_view of))) }
+{
+    if is_optional(name) && !of.takes_nothing() {
+        Ok(Shape::Maybe(Box::new(alloc, of)?))
+    } else {
+        Ok(Shape::List(Box::new(alloc, of)?))
+    }
+}
+
+/// A list or an optional, where there is exactly one field inside.
+fn collection_of(
+    alloc: Global,
+    name: &[u8],
+    parts: Option<Vec<Member>>,
+) -> Result<Option<Shape>, AllocError>
+    ensures { IfOk result (λ shape. option_map shape_view shape ≡ option_and_then
+        (collection_shape name.now) (option_map (λ list. map member_view list.items) parts)) }
 {
     let Some(mut parts) = parts else {
         return Ok(None);
     };
     match (parts.pop(), parts.is_empty()) {
-        (Some(part), true) => Ok(Some(Shape::List(Box::new(alloc, part.of)?))),
+        (Some(part), true) => Ok(Some(collection(alloc, name, part.of)?)),
         _ => Ok(None),
     }
 }
@@ -124,7 +150,8 @@ fn shape_by_role(
     if row.role == LEAF && ids.is_empty() {
         Ok(leaf_of(principal, row.type_name.as_slice(), columns))
     } else if row.role == COLLECTION && is_index(principal, columns) {
-        list_of(alloc, open_fields(alloc, rows, depth, false, ids)?)
+        let parts = open_fields(alloc, rows, depth, false, ids)?;
+        collection_of(alloc, row.type_name.as_slice(), parts)
     } else if row.role == RECORD && columns.is_empty() {
         Ok(record_of(open_fields(alloc, rows, depth, principal, ids)?))
     } else if row.role == VARIANT && is_switch(principal, columns) {

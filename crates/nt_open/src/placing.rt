@@ -46,6 +46,13 @@ fn place(alloc: Global, rows: &Grouped<'_>, shape: &Shape, id: u32) -> Result<Pl
                 of: Box::new(alloc, inner)?,
             })
         }
+        Shape::Maybe(of) => {
+            let inner = place(alloc, rows, of, rows.inside_at(id, 0))?;
+            Ok(Plan::Maybe {
+                ends: column,
+                of: Box::new(alloc, inner)?,
+            })
+        }
         Shape::Rec(members) => Ok(Plan::Record(place_members(alloc, rows, &members.list, id)?)),
         Shape::Tuple(shapes) => Ok(Plan::Record(place_each(alloc, rows, &shapes.list, id)?)),
         Shape::Choice(shapes) => Ok(Plan::Choice {

@@ -14,7 +14,7 @@ pub fn role_of(shape: &Shape) -> u16
 {
     match shape {
         Shape::Bool | Shape::Char | Shape::Byte | Shape::Int { .. } | Shape::Text => 0,
-        Shape::List(_) => 1,
+        Shape::List(_) | Shape::Maybe(_) => 1,
         Shape::Rec(_) | Shape::Tuple(_) => 2,
         Shape::Choice(_) => 3,
     }
@@ -27,7 +27,7 @@ fn holds_record(shape: &Shape) -> bool
 {
     match shape {
         Shape::Bool | Shape::Char | Shape::Byte | Shape::Int { .. } | Shape::Text => false,
-        Shape::List(of) => holds_record(of),
+        Shape::List(of) | Shape::Maybe(of) => holds_record(of),
         Shape::Rec(_) => true,
         Shape::Tuple(shapes) => any_holds_record(&shapes.list),
         Shape::Choice(shapes) => any_holds_record(&shapes.list),
@@ -79,6 +79,7 @@ fn put_name(out: &mut Vec<u8>, shape: &Shape) -> Result<(), AllocError>
         Shape::Int { bits, signed } => put(out, int_name(*bits, *signed))?,
         Shape::Text => put(out, "std::string")?,
         Shape::List(of) => put_one(out, "std::vector<", of)?,
+        Shape::Maybe(of) => put_one(out, "std::optional<", of)?,
         Shape::Rec(_) => {}
         Shape::Tuple(shapes) => put_all(out, "std::tuple<", shapes)?,
         Shape::Choice(shapes) => put_all(out, "std::variant<", shapes)?,

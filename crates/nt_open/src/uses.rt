@@ -55,7 +55,7 @@ fn mark(uses: &mut [Option<ColumnUse>], plan: &Plan, of: ColumnUse)
             mark_column(uses, *ends, of);
             mark_column(uses, *bytes, inner);
         }
-        Plan::List { ends, of: item } => {
+        Plan::List { ends, of: item } | Plan::Maybe { ends, of: item } => {
             mark_column(uses, *ends, of);
             mark(uses, item, inner);
         }

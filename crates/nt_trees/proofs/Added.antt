@@ -1,26 +1,27 @@
 -- What a tree adds is one element of its field, which is that tree.
-use Rattle.std.proofs.Common.{Bool, cond, ◌||◌, ◌≡◌, ℕ, zero, suc, ◌+◌, ◌-◌, ◌<◌, ◌≤◌, List, [], ◌∷◌, ◌++◌, length, true, false, refl, sym}
-use Rattle.std.proofs.Common.{ap, ap₂, ◌∙◌, arith, subst}
+use Rattle.std.proofs.Common.{◌≡◌, ℕ, zero, suc, ◌+◌, ◌-◌, ◌<◌, ◌≤◌, List, [], ◌∷◌, ◌++◌, length, true, false, refl, sym, ap, ap₂, ◌∙◌}
+use Rattle.std.proofs.Common.{arith, subst}
 use Rattle.std.proofs.lemmas.Bool.{and_parts, false≢true}
-use Rattle.nt_types.specs.TreeData.{is_nothing, TreeData, TreesData, flag, num, items, parts, pick, nothing, no_trees, tree}
+use Rattle.nt_types.specs.TreeData.{TreeData, TreesData, flag, num, items, parts, pick, nothing, no_trees, tree}
 use Rattle.nt_types.specs.TreeData as trees
 use Rattle.nt_types.specs.TreeBytes.{HasBytes, AllHaveBytes}
 use Rattle.nt_types.specs.Fits.{all_trees}
 use Rattle.nt_column.specs.Elements.{Element, plain}
 use Rattle.nt_plans.specs.Plan.{PlanData, PlansData, bool, number, text, list, maybe, record_of, choice, no_plans, plan, has, has_any}
 use Rattle.nt_plans.specs.Plan.{Differ, AllDiffer}
-use Rattle.nt_trees.specs.Sound.{FewSteps, how_many_plans, Rises, TagsUpTo, IndicesCount, Sound, AllSound, EachSound}
-use Rattle.nt_trees.specs.TreeAt.{only, trees_from, picked, tree_at, each_at, one_at}
+use Rattle.nt_trees.specs.Sound.{how_many_plans, Rises, TagsUpTo, IndicesCount, Sound, AllSound, EachSound}
+use Rattle.nt_trees.specs.TreeAt.{trees_from, picked, tree_at, each_at, one_at}
 use Rattle.nt_trees.specs.Columns.{Cols, number_at, tag_at, begin_at, last_end, count_tag, add_to}
 use Rattle.nt_trees.specs.Put.{how_many_trees, put_each, put_tree, put_trees, put_one}
 use Rattle.nt_trees.specs.Fits.{fits_plan, fit_plans, fits_alternative}
-use Rattle.nt_trees.proofs.Lists.{steps-more, add_to-extends, longer, new_number, new_tag, new_last, old_end, rises-more, tags-more}
-use Rattle.nt_trees.proofs.Lists.{indices-more, count_tag-same, count_tag-other}
+use Rattle.nt_trees.proofs.Lists.{add_to-extends, longer, new_number, new_tag, new_last, old_end, rises-more, tags-more, indices-more}
+use Rattle.nt_trees.proofs.Lists.{count_tag-same, count_tag-other}
 use Rattle.nt_trees.proofs.Stable.{put_each-extends, put_tree-extends, put_trees-extends, trees_from-same, picked-same, tree_at-stays}
 use Rattle.nt_trees.proofs.Stable.{one_at-stays}
 use Rattle.nt_trees.proofs.Elsewhere.{add_to-elsewhere, add_to-here, put_each-elsewhere, put_tree-elsewhere, put_trees-elsewhere}
 use Rattle.nt_trees.proofs.Elsewhere.{put_one-elsewhere, apart, other_side, Agree, sound-agrees, all_sound-agrees, each_sound-agrees}
 use Rattle.nt_trees.proofs.Leaves.{IsAdded, flag_added, number_added, text_added}
+use Rattle.nt_trees.proofs.Optionals.{maybe_added}
 
 pub all_added : (p : PlanData) → ((t : TreeData) (cols : Cols) (n : ℕ) → Sound p cols n → fits_plan p t ≡ true → IsAdded p t cols n)
     → (ts : TreesData) (cols : Cols) (m : ℕ) → Sound p cols m
@@ -65,76 +66,6 @@ list_added e p ts cols n fresh each s h =
           ∙ ap items (trees_from-same _ _ m k (λ x l u. tree_at-stays p mid new (m + k) x
           (add_to-extends e (plain (m + k) ∷ []) mid) all.0 u) ∙ all.1 b),
     )
-
--- ---- optionals
-
-is_nothing-is : (t : TreeData) → is_nothing t ≡ true → t ≡ nothing
-is_nothing-is nothing h = refl
-is_nothing-is _ h = absurd (false≢true h)
-
--- the columns of an optional that has an end more
-module _ (e : ℕ) (p : PlanData) (cols mid : Cols) (n m : ℕ) (fresh : has p e ≡ false) (s : Sound (maybe e p) cols n)
-    (kept : mid e ≡ cols e) (low : last_end (cols e) ≤ m) (few : m ≤ last_end (cols e) + 1) (inner : Sound p mid m) where
-  abbrev grown : Cols
-  grown = add_to e (plain m ∷ []) mid
-
-  grown-is : grown e ≡ cols e ++ plain m ∷ []
-  grown-is = add_to-here e (plain m ∷ []) mid ∙ ap (λ l. l ++ plain m ∷ []) kept
-
-  begins-at : begin_at (grown e) n ≡ last_end (cols e)
-  begins-at =
-      ap (λ l. begin_at l n) grown-is ∙ ap (begin_at (cols e ++ plain m ∷ [])) (sym s.0) ∙ old_end (cols e) m 0
-
-  ends-at : begin_at (grown e) (suc n) ≡ m
-  ends-at =
-      ap (λ l. begin_at l (suc n)) grown-is
-      ∙ ap (λ i. begin_at (cols e ++ plain m ∷ []) (suc i)) (sym s.0) ∙ new_number (cols e) m 0
-
-  maybe_sound : Sound (maybe e p) grown (suc n)
-  maybe_sound = (
-    ap length grown-is ∙ longer (cols e) m 0 ∙ ap suc s.0,
-    subst Rises (sym grown-is) (rises-more (cols e) m 0 s.1 low),
-    subst FewSteps (sym grown-is) (steps-more (cols e) m 0 s.2 few),
-    subst (Sound p grown) (sym (ap last_end grown-is ∙ new_last (cols e) m 0))
-        (sound-agrees p mid grown m (λ j i. add_to-elsewhere e (plain m ∷ []) mid j (apart (has p) e j fresh i)) inner),
-  )
-
-  maybe_tree : tree_at (maybe e p) grown n ≡ only (trees_from (tree_at p grown) (last_end (cols e)) (m - last_end (cols e)))
-  maybe_tree = λ i. only (trees_from (tree_at p grown) (begins-at i) (ends-at i - begins-at i))
-
-maybe_added : (e : ℕ) (p : PlanData) (t : TreeData) (cols : Cols) (n : ℕ) → has p e ≡ false
-    → ((cols : Cols) (n : ℕ) → Sound p cols n → fits_plan p t ≡ true → IsAdded p t cols n)
-    → Sound (maybe e p) cols n → fits_plan (maybe e p) t ≡ true → IsAdded (maybe e p) t cols n
-maybe_added e p t cols n fresh each s g = by (is_nothing t) refl g
-  where
-    m : ℕ
-    m = last_end (cols e)
-
-    by : (b : Bool) → is_nothing t ≡ b → (b || fits_plan p t) ≡ true
-        → Sound (maybe e p) (cond b (add_to e (plain m ∷ []) cols) (add_to e (plain (m + 1) ∷ []) (put_tree p t cols))) (suc n)
-        × (HasBytes t → tree_at (maybe e p)
-        (cond b (add_to e (plain m ∷ []) cols) (add_to e (plain (m + 1) ∷ []) (put_tree p t cols))) n ≡ t)
-    by true is h =
-        let none : last_end (cols e) - last_end (cols e) ≡ 0 = omega arith in (
-          maybe_sound e p cols cols n (last_end (cols e)) fresh s refl (omega arith) (omega arith) s.3,
-          λ b. maybe_tree e p cols cols n (last_end (cols e)) fresh s refl (omega arith) (omega arith) s.3
-              ∙ (ap (λ (k : ℕ). only (trees_from (tree_at p (add_to e (plain (last_end (cols e)) ∷ []) cols)) (last_end (cols e)) k)) none
-              ∙ sym (is_nothing-is t is)),
-        )
-    by false is h =
-        let first = each cols (last_end (cols e)) s.3 h in
-        let mid = put_tree p t cols in
-        let whole : suc (last_end (cols e)) ≡ last_end (cols e) + 1 = omega arith in
-        let inner : Sound p (put_tree p t cols) (last_end (cols e) + 1) = subst (Sound p (put_tree p t cols)) whole first.0 in
-        let kept = put_tree-elsewhere p t cols e fresh in
-        let one : (last_end (cols e) + 1) - last_end (cols e) ≡ 1 = omega arith in (
-          maybe_sound e p cols mid n (last_end (cols e) + 1) fresh s kept (omega arith) (omega arith) inner,
-          λ b. maybe_tree e p cols mid n (last_end (cols e) + 1) fresh s kept (omega arith) (omega arith) inner
-              ∙ (ap (λ (k : ℕ). only (trees_from (tree_at p (add_to e (plain (last_end (cols e) + 1) ∷ []) (put_tree p t cols)))
-              (last_end (cols e)) k)) one
-              ∙ (tree_at-stays p mid (add_to e (plain (last_end (cols e) + 1) ∷ []) mid) (last_end (cols e) + 1) (last_end (cols e))
-              (add_to-extends e (plain (last_end (cols e) + 1) ∷ []) mid) inner (omega arith) ∙ first.1 b)),
-        )
 
 -- ---- choices
 

@@ -79,15 +79,15 @@ other_side false b h i = refl
 abbrev pub Agree : (ℕ → Bool) → Cols → Cols → Type 0
 Agree f old new = (j : ℕ) → f j ≡ true → new j ≡ old j
 
-or_left : (a b : Bool) → a ≡ true → (a || b) ≡ true
+pub or_left : (a b : Bool) → a ≡ true → (a || b) ≡ true
 or_left true b h = refl
 or_left false b h = absurd (false≢true h)
 
-or_right : (a b : Bool) → b ≡ true → (a || b) ≡ true
+pub or_right : (a b : Bool) → b ≡ true → (a || b) ≡ true
 or_right true b h = refl
 or_right false b h = h
 
-same_key : (k : ℕ) → (k == k) ≡ true
+pub same_key : (k : ℕ) → (k == k) ≡ true
 same_key k = eq-eqb k k refl
 
 mutual

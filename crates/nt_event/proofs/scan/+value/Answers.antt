@@ -12,7 +12,7 @@ use Rattle.nt_types.specs.declared.tree.Tree.{Tree, the_lemmas as tree_lemmas}
 use Rattle.nt_types.specs.declared.tree.Tree as trees
 use Rattle.nt_event.specs.Standing.{StandsFrom, MayStand, ItemsStand, ReadsValue, AllGood, EachGood, jsons_of, kinds_in}
 use Rattle.nt_event.proofs.Texts.{OpenStands, are_some, open-next, open-end, comma-some, all-next, each-next, reads-list, reads-record}
-use Rattle.nt_event.proofs.Texts.{reads-tuple, reads-pick, reads-null, may-past}
+use Rattle.nt_event.proofs.Texts.{reads-tuple, reads-pick, reads-null, reads-no_value, may-past}
 use Rattle.nt_event.proofs.ViewLemmas.{some_views, next-shapes, nth-shape, view-Items, view-Parts, view-List, view-Rec, view-Tuple}
 use Rattle.nt_event.proofs.ViewLemmas.{next-members, length-kinds_in}
 use Rattle.nt_types.proofs.TreeViews.{view-Pick}
@@ -224,6 +224,14 @@ value-returns-in-Some-null t c =
     let r : ReadsValue c.args.deep (kinds.choice ks) nothing c.args.text.now c.args.at end =
     reads-null c.args.deep ks c.args.text.now c.args.at end c.in-Some-null.ensures in
     search (rules, shape_lemmas, tree_lemmas, r, c.in-Choice.is)
+
+pub value-returns-in-Some-null-2 : goal.value-returns-in-Some-null-2
+value-returns-in-Some-null-2 t c =
+    let end = c.in-Some-null-2.end in
+    let k = shape_view c.in-Maybe.of.value in
+    let r : ReadsValue c.args.deep (kinds.maybe k) nothing c.args.text.now c.args.at end =
+    reads-no_value c.args.deep k c.args.text.now c.args.at end c.in-Some-null-2.ensures in
+    search (rules, shape_lemmas, tree_lemmas, r, c.in-Maybe.is)
 
 pub picked-returns : goal.picked-returns
 picked-returns t c =
