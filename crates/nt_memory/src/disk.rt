@@ -1,15 +1,19 @@
 //! A disk in memory.
 
-ghost use Rattle.std.specs.Prelude.{◌≡◌, ◌+◌, ◌^◌, ◌≤◌, [], length, drop, slice_index_or, vec_len, All, Contains, sum_by, if◌then◌else◌, is_ok, IfOk};
+ghost use Rattle.std.specs.Prelude.{◌≡◌, ◌+◌, ◌^◌, ◌≤◌, [], length, drop, ◌++◌, false, take, slice_index_or, vec_len, All, Contains, sum_by, if◌then◌else◌, is_ok, IfOk, OnErr};
 ghost use Rattle.nt_outside.specs.Reads.{Reads};
 ghost use Rattle.nt_outside.specs.declared.range.Range.{Range};
 ghost use Rattle.nt_memory.specs.Logged.{steps_of};
+ghost use Rattle.nt_memory.specs.Left.{AreInside, AreInside-prop};
 
 use crate::bytes::{add_reserved, add_zeros, grow_room, put_over};
 use crate::calls::Calls;
+use crate::left::pick_left;
 use crate::log::{Log, Row};
 use crate::range::{MemExt, MemPen};
 use crate::tally::Tally;
+use crate::trip::Trip;
+use nt_lists::Bytes;
 use nt_outside::{Disk, Failed, Pen, Range, Refused, take_off};
 use std::alloc::{AllocError, Global};
 
@@ -22,7 +26,10 @@ pub struct MemDisk {
     out: Vec<Range>,
     pens: Vec<Calls>,
     tally: Tally,
+    /// Whether an append that fails leaves the first half of its bytes.
+    torn: bool,
     ghost reads: { Reads (steps_of log) image.items },
+    ghost placed: { AreInside 0 (steps_of log) } by { AreInside-prop 0 (steps_of log) },
     ghost inside: { All (λ (r : Range). r.start + r.len ≤ vec_len image) out.items },
     ghost rows_owed: { sum_by (λ (r : Range). 1) out.items ≤ log.owed },
     ghost bytes_owed: { sum_by (λ (r : Range). r.len) out.items ≤ log.owed_bytes },
@@ -31,12 +38,25 @@ pub struct MemDisk {
 impl MemDisk {
     ghost use Rattle.nt_memory.specs.Tally.{new_tally};
     ghost use Rattle.nt_memory.specs.Disk.{IsEmpty, held_of, state_of, tally_of, pens_of};
+    ghost use Rattle.nt_memory.specs.Left.{picked_file};
+    ghost use Rattle.nt_outside.specs.Crash.{LeavesBehind};
 
     /// An empty disk, whose calls fail where `fails` lists their numbers; those of its k-th pen where the k-th of `pens` does.
     pub fn new(alloc: Global, fails: Calls, pens: Vec<Calls>) -> Self
         ensures empty { IsEmpty (state_of result) }
-        ensures tally { tally_of result ≡ new_tally fails }
+        ensures tally { tally_of result ≡ new_tally fails false }
         ensures pens { pens_of result ≡ pens.items }
+        ensures torn { result.torn ≡ false }
+    {
+        MemDisk::open(alloc, Tally::new(fails, Trip::none()), pens, false)
+    }
+
+    pub(crate) fn open(alloc: Global, tally: Tally, pens: Vec<Calls>, torn: bool) -> Self
+        requires { tally.faults ≡ 0 }
+        ensures empty { IsEmpty (state_of result) }
+        ensures tally { tally_of result ≡ tally }
+        ensures pens { pens_of result ≡ pens.items }
+        ensures torn { result.torn ≡ torn }
     {
         MemDisk {
             alloc,
@@ -44,14 +64,26 @@ impl MemDisk {
             log: Log::new(alloc),
             out: Vec::new(alloc),
             pens,
-            tally: Tally::new(fails),
+            tally,
+            torn,
         }
+    }
+
+    /// The file that a crash after the first so many steps may leave: what was synced for pick 0; all whole for pick 1, unknown
+    /// bytes 0; for a greater one the worst, each byte 255 that a later step covers, but the newest where only writes of that one
+    /// byte do.
+    pub fn crash(&self, count: usize, pick: u8) -> Result<Bytes, AllocError>
+        ensures picked { IfOk result (λ bytes. bytes ≡ picked_file pick (take count (held_of self.now).log)) }
+        ensures leaves { IfOk result (λ bytes. LeavesBehind (held_of self.now).log count bytes) }
+    {
+        pick_left(self.alloc, &self.log, count, pick)
     }
 
     /// The bytes that stand there, the steps and the faults.
     pub(crate) fn into_parts(self) -> (Vec<u8>, Log, u64)
         ensures image { result.0.items ≡ (held_of self).image }
         ensures log { steps_of result.1 ≡ (held_of self).log }
+        ensures placed { AreInside 0 (steps_of result.1) }
         ensures faults { result.2 ≡ (state_of self).faults }
     {
         (self.image, self.log, self.tally.faults)
@@ -78,7 +110,7 @@ impl Disk for MemDisk {
     type Pen = MemPen;
 
     ghost use Rattle.nt_memory.specs.Tally.{new_tally, takes_in, FailsWhereListedOr};
-    ghost use Rattle.nt_memory.specs.Disk.{state_of, tally_of, pens_of, told_of, FailsAsListed};
+    ghost use Rattle.nt_memory.specs.Disk.{held_of, state_of, tally_of, pens_of, told_of, left_of_append, FailsAsListed};
     ghost use Rattle.nt_memory.specs.Ext as mem_ext;
     ghost use Rattle.nt_memory.specs.Pen as mem_pen;
     ghost use Rattle.nt_outside.specs.Range.{IsApart};
@@ -100,14 +132,15 @@ impl Disk for MemDisk {
         ensures makes { MakesPen (state_of self.old) (state_of self.new) result }
         ensures new { IfOk result (λ p. (mem_pen.state_of p).faults ≡ 0) }
         ensures exact { FailsWhereListedOr ⊥ (tally_of self.old) (tally_of self.new) result }
-        ensures calls { IfOk result (λ p. mem_pen.tally_of p ≡ new_tally (slice_index_or (pens_of self.old) 0 [])) }
+        ensures calls { IfOk result (λ p. mem_pen.tally_of p ≡ new_tally (slice_index_or (pens_of self.old) 0 []) (tally_of self.old).trip) }
         ensures pens { pens_of self.new ≡ (if is_ok result then drop 1 (pens_of self.old) else pens_of self.old) }
     {
+        let trip = self.tally.trip.share()?;
         if self.tally.count_call() {
             return Err(Refused::Failed);
         }
         let fails = self.next_calls();
-        Ok(MemPen::new(fails))
+        Ok(MemPen::new(fails, trip))
     }
 
     fn put_back(&mut self, pen: MemPen)
@@ -179,9 +212,16 @@ impl Disk for MemDisk {
         requires spare { HasSpare (state_of self.old) (length bytes.now) }
         ensures appends { Appends bytes.now (state_of self.old) (state_of self.new) result }
         ensures exact { FailsAsListed self.old self.new result }
+        ensures left { OnErr result ((held_of self.new).image ≡ (held_of self.old).image ++ left_of_append self.old.torn bytes.now) }
     {
         if self.tally.count_call() {
-            self.log.push(Row::FailedAppend, &[]);
+            let left = if self.torn {
+                &bytes[..bytes.len() / 2]
+            } else {
+                &[]
+            };
+            self.log.push(Row::FailedAppend { len: left.len() }, &[]);
+            add_reserved(&mut self.image, left);
             return Err(Failed);
         }
         self.log.push(Row::Append { len: bytes.len() }, bytes);

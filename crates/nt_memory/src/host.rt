@@ -4,12 +4,15 @@ ghost use Rattle.std.specs.Prelude.{◌≡◌, ◌<◌, is_some, true, vec_len, 
 
 mod opening;
 mod outside;
+mod trying;
 
 use crate::calls::Calls;
-use crate::named::{NamedFile, newest};
+use crate::finding::newest;
+use crate::named::NamedFile;
 use crate::plan::{Object, Plan, Planned};
 use crate::streams::Streams;
 use crate::tally::Tally;
+use crate::trip::Trip;
 use nt_outside::Ask;
 use std::alloc::{AllocError, Global};
 
@@ -48,7 +51,7 @@ impl MemHost {
             streams: Streams::new(alloc),
             asked: Vec::new(alloc),
             plan: Plan::new(alloc),
-            tally: Tally::new(Calls::from_vec(Vec::new(alloc))),
+            tally: Tally::new(Calls::from_vec(Vec::new(alloc)), Trip::none()),
             err_faults: 0,
             opened: 0,
         }

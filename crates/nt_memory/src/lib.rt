@@ -25,8 +25,10 @@ mod bytes;
 mod calls;
 mod disk;
 mod file;
+mod finding;
 mod front;
 mod host;
+mod left;
 mod log;
 mod named;
 mod plan;
@@ -34,6 +36,7 @@ mod range;
 mod streams;
 mod tally;
 mod text;
+mod trip;
 
 pub use calls::Calls;
 pub use disk::MemDisk;

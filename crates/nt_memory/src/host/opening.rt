@@ -2,7 +2,7 @@
 
 use super::MemHost;
 use crate::calls::Calls;
-use crate::named::newest;
+use crate::finding::newest;
 use crate::plan::{Object, numbers_for};
 use nt_lists::Bytes;
 use nt_outside::{Ask, Kind};

@@ -1,0 +1,224 @@
+//! Files that a crash may leave of a log.
+
+ghost use Rattle.std.specs.Prelude.{◌≡◌, ◌+◌, ◌≤◌, length, drop, take, replicate, vec_len, Option, None, IfOk};
+ghost use Rattle.nt_lists.specs.Places.{put_at};
+ghost use Rattle.nt_outside.specs.Log.{Write, FailedWrite, Append, FailedAppend, Settle, Sync};
+ghost use Rattle.nt_outside.specs.Crash.{LeavesBehind};
+ghost use Rattle.nt_memory.specs.Rows.{bytes_of, total_bytes, step, steps};
+ghost use Rattle.nt_memory.specs.Logged.{steps_of};
+ghost use Rattle.nt_memory.specs.Left.{covered, renewed, failed_over, worst, left_after, left_by, nothing_left, picked_of, picked_file, IsInside, AreInside};
+
+use crate::bytes::put_over;
+use crate::log::{Log, Row};
+use nt_lists::Bytes;
+use std::alloc::{AllocError, Global};
+
+/// What is left after the steps so far: all of them whole; what stood at the last sync; and of each byte the newest, where only
+/// writes of that one byte cover it since then.
+#[derive(Drop)]
+pub struct Leaves {
+    whole: Vec<u8>,
+    kept: Vec<u8>,
+    newest: Vec<Option<u8>>,
+    ghost same: { vec_len newest ≡ vec_len whole },
+}
+
+/// Puts cells over those at a place.
+fn put_cells(list: &mut Vec<Option<u8>>, at: usize, cells: &[Option<u8>])
+    requires { at + length cells.now ≤ vec_len list.old }
+    ensures items { list.new.items ≡ put_at list.old.items at cells.now }
+    ensures len { vec_len list.new ≡ vec_len list.old }
+{
+    list[at..at + cells.len()].copy_from_slice(cells);
+}
+
+/// What a write leaves newest at a place.
+fn renewed(
+    alloc: Global,
+    bytes: &[u8],
+    old: &[Option<u8>],
+    at: usize,
+) -> Result<Vec<Option<u8>>, AllocError>
+    requires { at + length bytes.now ≤ length old.now }
+    ensures items { IfOk result (λ cells. cells.items ≡ renewed bytes.now (drop at old.now)) }
+    ensures len { IfOk result (λ cells. vec_len cells ≡ length bytes.now) }
+{
+    if bytes.len() == 1 && old[at].is_some() {
+        return vec![in alloc; Some(bytes[0]); 1];
+    }
+    vec![in alloc; None; bytes.len()]
+}
+
+/// The byte that the worst file has at a place.
+fn worst(cell: Option<u8>) -> u8
+    ensures { result ≡ worst cell }
+{
+    match cell {
+        Some(byte) => byte,
+        None => 255,
+    }
+}
+
+impl Leaves {
+    ghost use Rattle.nt_memory.specs.Leaves.{left_view};
+
+    pub fn new(alloc: Global) -> Self
+        ensures { left_view result ≡ nothing_left }
+    {
+        Leaves {
+            whole: Vec::new(alloc),
+            kept: Vec::new(alloc),
+            newest: Vec::new(alloc),
+        }
+    }
+
+    /// After a write, or one that failed: of that, all but a single byte are zeros, and a single one is the old.
+    fn written(
+        self,
+        alloc: Global,
+        at: usize,
+        bytes: &[u8],
+        failed: bool,
+    ) -> Result<Self, AllocError>
+        requires { at + length bytes.now ≤ vec_len self.whole }
+        ensures { IfOk result (λ l. left_view l ≡ left_after (left_view self) (if failed then FailedWrite at bytes.now else Write at bytes.now)) }
+    {
+        let Leaves {
+            mut whole,
+            kept,
+            mut newest,
+        } = self;
+        let cells = renewed(alloc, bytes, &newest, at)?;
+        put_cells(&mut newest, at, &cells);
+        if !failed {
+            put_over(&mut whole, at, bytes);
+        } else if bytes.len() != 1 {
+            let zeros = vec![in alloc; 0u8; bytes.len()]?;
+            put_over(&mut whole, at, &zeros);
+        }
+        Ok(Leaves {
+            whole,
+            kept,
+            newest,
+        })
+    }
+
+    /// After bytes were added at the end.
+    fn grown(self, alloc: Global, bytes: &[u8]) -> Result<Self, AllocError>
+        ensures { IfOk result (λ l. left_view l ≡ left_after (left_view self) (Append bytes.now)) }
+    {
+        let Leaves {
+            mut whole,
+            kept,
+            mut newest,
+        } = self;
+        let cells: Vec<Option<u8>> = vec![in alloc; None; bytes.len()]?;
+        newest.extend_from_slice(&cells)?;
+        whole.extend_from_slice(bytes)?;
+        Ok(Leaves {
+            whole,
+            kept,
+            newest,
+        })
+    }
+
+    /// After a range was settled with these bytes.
+    fn settled(self, alloc: Global, start: usize, bytes: &[u8]) -> Result<Self, AllocError>
+        requires { start + length bytes.now ≤ vec_len self.whole }
+        ensures { IfOk result (λ l. left_view l ≡ left_after (left_view self) (Settle start (length bytes.now) (Some bytes.now))) }
+    {
+        let Leaves {
+            mut whole,
+            kept,
+            mut newest,
+        } = self;
+        let cells: Vec<Option<u8>> = vec![in alloc; None; bytes.len()]?;
+        put_cells(&mut newest, start, &cells);
+        put_over(&mut whole, start, bytes);
+        Ok(Leaves {
+            whole,
+            kept,
+            newest,
+        })
+    }
+
+    /// After a sync.
+    fn synced(self, alloc: Global) -> Result<Self, AllocError>
+        ensures { IfOk result (λ l. left_view l ≡ left_after (left_view self) Sync) }
+    {
+        let whole = self.whole;
+        let kept = whole.to_vec(alloc)?;
+        let newest: Vec<Option<u8>> = whole.iter().map(|byte| Some(*byte)).collect(alloc)?;
+        Ok(Leaves {
+            whole,
+            kept,
+            newest,
+        })
+    }
+
+    /// After one more step.
+    fn after(self, alloc: Global, row: Row, bytes: &[u8]) -> Result<Self, AllocError>
+        requires inside { IsInside (vec_len self.whole) (step row bytes.now) }
+        requires len { bytes_of row ≡ length bytes.now }
+        ensures { IfOk result (λ l. left_view l ≡ left_after (left_view self) (step row bytes.now)) }
+    {
+        match row {
+            Row::Write { at, .. } => self.written(alloc, at as usize, bytes, false),
+            Row::FailedWrite { at, .. } => self.written(alloc, at as usize, bytes, true),
+            Row::Append { .. } => self.grown(alloc, bytes),
+            Row::FailedAppend { len } => self.grown(alloc, &vec![in alloc; 0u8; len]?),
+            Row::Reserve { len, .. } => self.grown(alloc, &vec![in alloc; 0u8; len as usize]?),
+            Row::Settle { start, len, known } => {
+                if known {
+                    self.settled(alloc, start as usize, bytes)
+                } else {
+                    self.settled(alloc, start as usize, &vec![in alloc; 0u8; len]?)
+                }
+            }
+            Row::Sync => self.synced(alloc),
+        }
+    }
+
+    /// What is left after all these steps.
+    fn after_all(alloc: Global, rows: &[Row], bytes: &[u8]) -> Result<Leaves, AllocError>
+        requires whole { total_bytes rows.now ≤ length bytes.now }
+        requires inside { AreInside 0 (steps rows.now bytes.now) }
+        ensures { IfOk result (λ l. left_view l ≡ left_by (steps rows.now bytes.now)) }
+    {
+        let mut leaves = Leaves::new(alloc);
+        let mut at = 0;
+        for i in 0..rows.len() {
+            let row = rows[i];
+            let len = row.kept();
+            let own = &bytes[at..at + len];
+            leaves = leaves.after(alloc, row, own)?;
+            at += len;
+        }
+        Ok(leaves)
+    }
+
+    /// The file of a pick.
+    fn pick(self, alloc: Global, pick: u8) -> Result<Bytes, AllocError>
+        ensures { IfOk result (λ bytes. bytes ≡ picked_of pick (left_view self)) }
+    {
+        match pick {
+            0 => Ok(Bytes::from_vec(self.kept)),
+            1 => Ok(Bytes::from_vec(self.whole)),
+            _ => {
+                let bytes = self.newest.iter().map(|cell| worst(*cell)).collect(alloc)?;
+                Ok(Bytes::from_vec(bytes))
+            }
+        }
+    }
+}
+
+/// The file of a pick after the first so many steps of a log.
+pub fn pick_left(alloc: Global, log: &Log, count: usize, pick: u8) -> Result<Bytes, AllocError>
+    requires { AreInside 0 (steps_of log.now) }
+    ensures picked { IfOk result (λ bytes. bytes ≡ picked_file pick (take count (steps_of log.now))) }
+    ensures leaves { IfOk result (λ bytes. LeavesBehind (steps_of log.now) count bytes) }
+{
+    let count = count.min(log.rows.len());
+    let leaves = Leaves::after_all(alloc, &log.rows[..count], &log.bytes)?;
+    leaves.pick(alloc, pick)
+}
