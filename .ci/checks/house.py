@@ -2,6 +2,7 @@
 
 - Each crate of crates.txt has a row in the table of docs/ARCHITECTURE.md with a layer, and its root file begins with `//!`.
 - A crate stands on crates of its own layer or of a lower one.
+- The README has each crate but those of tests and benchmarks, and no document names a crate that isn't there.
 - Each path that a document names is there.
 - No name of a definition stands in the specs of two crates, inside `module _` or not, but for those of SHARED and KNOWN_TWICE.
 - No line of specs or proofs has more than 140 characters.
@@ -80,9 +81,14 @@ def check_crates(crates, layers):
         for dep in deps:
             if dep in layers and LAYERS.index(layers[dep]) > LAYERS.index(layers[name]):
                 yield f"crates.txt: {name} ({layers[name]}) stands on {dep} ({layers[dep]})"
-    for name in layers:
-        if name not in crates:
-            yield f"docs/ARCHITECTURE.md: {name} is no crate"
+    for document in DOCUMENTS:
+        named = {word for line in lines_of(document) for word in re.findall(r"\b(?:nt|test|bench)_[a-z0-9_]*[a-z0-9]\b", line)}
+        for name in sorted(named - set(crates)):
+            yield f"{document}: {name} is no crate"
+        if document == "README.md":
+            for name in sorted(set(crates) - named):
+                if name.startswith("nt_"):
+                    yield f"README.md: {name} isn't there"
 
 
 def check_paths(crates, files):
