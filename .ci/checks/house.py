@@ -19,7 +19,7 @@ import re
 import subprocess
 import sys
 
-LAYERS = ["definitions", "codecs", "data", "plans", "threads", "whole files", "program"]
+LAYERS = ["definitions", "codecs", "data", "plans", "threads", "whole files", "program", "benchmarks", "tests"]
 
 # Names that several crates may define: those of a type's own model.
 SHARED = set("state_of".split())
