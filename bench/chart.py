@@ -1,11 +1,13 @@
 """Draws docs/speed.svg: the tables of docs/SPEED.md that are marked by a line `<!-- chart: TITLE -->`, as bars.
 
 A figure is our time by theirs. The scale is that of logarithms, so that twice and half as fast are bars of one length; a bar to the
-left of 1 is faster. Cells that are no plain numbers are left out.
+left of 1 is faster. Cells that are no plain numbers are left out. With `--check` nothing is drawn: it ends with 1 where the drawing is
+another.
 """
 import math
 import os
 import re
+import sys
 
 os.chdir(os.path.join(os.path.dirname(os.path.abspath(__file__)), ".."))
 LEFT, WIDTH, BAR, GAP = 210, 560, 11, 8
@@ -46,7 +48,7 @@ def draw(tables):
     for title, names, rows in tables:
         y += 22
         parts.append(text(10, y, title, 'font-weight="bold"'))
-        x = LEFT
+        x, y = LEFT, y + 16
         for k, name in enumerate(names):
             parts.append(f'<rect x="{x}" y="{y - 9}" width="10" height="10" fill="{SHADES[k][0]}"/>')
             parts.append(text(x + 14, y, name))
@@ -73,9 +75,14 @@ def main():
     parts, height = draw(tables_of("docs/SPEED.md"))
     size = f'width="{LEFT + WIDTH + 60}" height="{height}"'
     begin = f'<svg xmlns="http://www.w3.org/2000/svg" {size} font-family="sans-serif" font-size="11">'
+    drawing = "\n".join([begin, '<rect width="100%" height="100%" fill="#fff"/>', *parts, "</svg>"]) + "\n"
+    if sys.argv[1:] == ["--check"]:
+        with open("docs/speed.svg", encoding="utf-8") as file:
+            return 0 if file.read() == drawing else "docs/speed.svg isn't what bench/chart.py draws of docs/SPEED.md"
     with open("docs/speed.svg", "w", encoding="utf-8") as file:
-        file.write("\n".join([begin, '<rect width="100%" height="100%" fill="#fff"/>', *parts, "</svg>"]) + "\n")
+        file.write(drawing)
+    return 0
 
 
 if __name__ == "__main__":
-    main()
+    sys.exit(main())
