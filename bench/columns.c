@@ -145,6 +145,6 @@ int main(void) {
         }
         double gigabytes = (double)c->bits * COUNT / 8 * TIMES / 1e9;
         double rate = gigabytes / median(mine, ROUNDS), plain_rate = gigabytes / median(other, ROUNDS);
-        printf("%-12s column   nt_column %5.2f GB/s   C %s %5.2f GB/s   ratio %.2f\n", c->name, rate, BUILD, plain_rate, rate / plain_rate);
+        printf("%-12s column   nt_column %5.2f GB/s   C %s %5.2f GB/s   time by theirs %.2f\n", c->name, rate, BUILD, plain_rate, plain_rate / rate);
     }
 }

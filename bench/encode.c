@@ -151,7 +151,7 @@ static void measure(const struct coding *c, const char *what, double (*all)(cons
         theirs[round] = all(c, count, 0);
     }
     double gigabytes = (double)c->width * count / 1e9, mine = gigabytes / median(ours, ROUNDS), other = gigabytes / median(theirs, ROUNDS);
-    printf("%-12s %s   nt_encode %5.2f GB/s   C %s %5.2f GB/s   ratio %.2f\n", c->name, what, mine, BUILD, other, mine / other);
+    printf("%-12s %s   nt_encode %5.2f GB/s   C %s %5.2f GB/s   time by theirs %.2f\n", c->name, what, mine, BUILD, other, other / mine);
 }
 
 int main(void) {

@@ -287,8 +287,8 @@ void measure(const Sample &sample) {
     double a = median(read, rounds) / lines, b = median(plain_read, rounds) / lines, c = median(other, rounds) / lines;
     double d = median(written, rounds) / lines, e = median(plain_written, rounds) / lines;
     printf("%s, lines of %zu bytes\n", sample.name, sample.text.size() / sample.count - 1);
-    printf("  read_line   %6.0f ns a line, C++ %6.0f: %.2f of its rate; by serde_json %6.0f\n", a, b, b / a, c);
-    printf("  write_line  %6.0f ns a line, C++ %6.0f: %.2f of its rate\n", d, e, e / d);
+    printf("  read_line   %6.0f ns a line, C++ %6.0f: %.2f of its time; by serde_json %6.0f\n", a, b, a / b, c);
+    printf("  write_line  %6.0f ns a line, C++ %6.0f: %.2f of its time\n", d, e, d / e);
 }
 
 } // namespace

@@ -48,7 +48,7 @@ static void measure(const char *what, const char *build, uint8_t *bytes, size_t 
         theirs[round] = pass(reference, bytes, len, piece, turns);
     }
     double gigabytes = (double)len * turns / 1e9, mine = gigabytes / median(ours, ROUNDS), other = gigabytes / median(theirs, ROUNDS);
-    printf("%-16s nt_xxh3 %6.2f GB/s   xxhash.h %-6s %6.2f GB/s   ratio %.2f\n", what, mine, build, other, mine / other);
+    printf("%-16s nt_xxh3 %6.2f GB/s   xxhash.h %-6s %6.2f GB/s   time by theirs %.2f\n", what, mine, build, other, other / mine);
 }
 
 int main(void) {

@@ -1,5 +1,7 @@
 #!/usr/bin/env bash
-# The order of the house: the table of crates, their heads and layers, the paths that documents name, and names of definitions.
+# The order of the house: crates, layers, names, lengths and what documents name; and that the chart of speed is that of its figures.
 set -u
 cd "$(dirname "$0")/../.." || exit 1
-exec python3 .ci/checks/house.py
+python3 -B .ci/checks/house.py
+house=$?
+python3 bench/chart.py --check && [ "$house" -eq 0 ]
