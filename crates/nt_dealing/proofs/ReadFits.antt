@@ -1,6 +1,6 @@
 -- What is read of a line fits the fields that it was read by.
 use Rattle.std.proofs.Common.{◌≡◌, ℕ, zero, suc, Bool, true, false, List, length, Option, Some, None, Ok, Err, ℤ, refl, ap, subst}
-use Rattle.std.specs.Prelude.{option_map, option_and_then, ◌&&◌, ◌==◌, nat_lt, if◌then◌else◌}
+use Rattle.std.specs.Prelude.{option_map, option_and_then, ◌&&◌, ◌||◌, ◌==◌, nat_lt, if◌then◌else◌}
 use Rattle.std.specs.Str.{is_utf8}
 use Rattle.serde_json.specs.Data.{Data, null, boolean, number, string, array, object, Items, no_items, item}
 use Rattle.serde_json.specs.Events.{items_len}
@@ -8,13 +8,13 @@ use Rattle.serde_json.specs.Find.{as_bool, as_number, as_array, as_integer}
 use Rattle.serde_json.specs.Read.{read}
 use Rattle.nt_types.specs.ShapeData.{ShapeData, ShapesData, MembersData, no_kinds, kind, no_parts, part}
 use Rattle.nt_types.specs.ShapeData as kinds
-use Rattle.nt_types.specs.TreeData.{TreeData, TreesData, flag, num, text, items, parts, pick, nothing, no_trees, tree}
+use Rattle.nt_types.specs.TreeData.{TreeData, TreesData, flag, num, text, items, parts, pick, nothing, no_trees, tree, is_nothing}
 use Rattle.nt_types.specs.Fits.{is_int, all_trees, fits_flag, fits_number, fits_text, fits_items, fits_parts, fits_pick, fits_next}
 use Rattle.nt_types.specs.Fits.{are_no_trees, fits, fit_parts, fit_kinds, fits_one}
 use Rattle.nt_event.specs.declared.fault.TextKind.TheVariants.{TooLong, NotJson, Count}
 use Rattle.nt_event.specs.Limits.{max_line}
 use Rattle.nt_event.specs.Line.{text_read, int_if, int_read, all_read, next_read, none_read, tag_read, pick_read, choice_read, array_read}
-use Rattle.nt_event.specs.Line.{tree_read, parts_read, kinds_read, one_read}
+use Rattle.nt_event.specs.Line.{maybe_read, tree_read, parts_read, kinds_read, one_read}
 use Rattle.nt_event.specs.Entry.{parts_len, or_misfit, json_entry, entry_of}
 
 -- what is made of something that is there
@@ -97,6 +97,20 @@ choice_fits f p each (number n) t h = cc
 choice_fits f p each (string s) t h = cc
 choice_fits f p each (object ms) t h = cc
 
+or_fits : (a b : Bool) → b ≡ true → (a || b) ≡ true
+or_fits true b h = refl
+or_fits false b h = h
+
+-- null is nothing, and all else is read as the value of an optional
+maybe_fits : (f : Data → Option TreeData) (p : TreeData → Bool) → ((d : Data) (t : TreeData) → f d ≡ Some t → p t ≡ true)
+    → (d : Data) (t : TreeData) → maybe_read f d ≡ Some t → (is_nothing t || p t) ≡ true
+maybe_fits f p each null t h = let same : nothing ≡ t = cc in subst (λ (u : TreeData). (is_nothing u || p u) ≡ true) same refl
+maybe_fits f p each (boolean b) t h = or_fits (is_nothing t) (p t) (each (boolean b) t h)
+maybe_fits f p each (number n) t h = or_fits (is_nothing t) (p t) (each (number n) t h)
+maybe_fits f p each (string s) t h = or_fits (is_nothing t) (p t) (each (string s) t h)
+maybe_fits f p each (array ds) t h = or_fits (is_nothing t) (p t) (each (array ds) t h)
+maybe_fits f p each (object ms) t h = or_fits (is_nothing t) (p t) (each (object ms) t h)
+
 items_fit : (f : Items → Option TreesData) (q : TreesData → Bool) → ((ds : Items) (ts : TreesData) → f ds ≡ Some ts → q ts ≡ true)
     → (d : Data) (t : TreeData)
     → array_read f items d ≡ Some t → fits_items q t ≡ true
@@ -128,6 +142,7 @@ mutual
   tree_fits kinds.text d t h = text_fits (text_read d) t h
   tree_fits (kinds.list k) d t h = items_fit (all_read (tree_read k)) (all_trees (fits k))
       (all_fit (tree_read k) (fits k) (tree_fits k)) d t h
+  tree_fits (kinds.maybe k) d t h = maybe_fits (tree_read k) (fits k) (tree_fits k) d t h
   tree_fits (kinds.fields ps) d t h = parts_fit (parts_read ps) (fit_parts ps) (members_fit ps) d t h
   tree_fits (kinds.tuple ks) d t h = parts_fit (kinds_read ks) (fit_kinds ks) (shapes_fit ks) d t h
   tree_fits (kinds.choice ks) d t h = choice_fits (one_read ks) (fits_one ks) (alternative_fits ks) d t h

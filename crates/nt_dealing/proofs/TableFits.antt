@@ -1,12 +1,12 @@
 -- What fits the fields of a schema text fits the rows that describe them.
 use Rattle.std.proofs.Common.{◌≡◌, ℕ, zero, suc, ◌+◌, ◌<◌, ◌==◌, Bool, true, false, List, [], ◌∷◌, ◌++◌, length, map, Option, Some, None}
 use Rattle.std.proofs.Common.{refl, sym, ap, ◌∙◌, subst, arith}
-use Rattle.std.specs.Prelude.{◌&&◌, slice_get, option_map, option_and_then, if◌then◌else◌}
+use Rattle.std.specs.Prelude.{◌&&◌, ◌||◌, slice_get, option_map, option_and_then, if◌then◌else◌}
 use borrow.Author.Tests.{eqb-true}
 use Rattle.std.proofs.lemmas.List.{length-append, map-append}
 use Rattle.nt_types.specs.ShapeData.{ShapeData, ShapesData, MembersData, MemberData, no_kinds, kind, no_parts, part, parts_of}
 use Rattle.nt_types.specs.ShapeData as kinds
-use Rattle.nt_types.specs.TreeData.{TreeData, TreesData, flag, num, text, items, parts, pick, nothing, no_trees, tree}
+use Rattle.nt_types.specs.TreeData.{TreeData, TreesData, flag, num, text, items, parts, pick, nothing, no_trees, tree, is_nothing}
 use Rattle.nt_types.specs.Fits.{all_trees, fits_items, fits_parts, fits_pick, fits_next, fits, fit_parts, fit_kinds, fits_one}
 use Rattle.nt_grammar.specs.declared.rows.FieldRow.{FieldRow}
 use Rattle.nt_grammar.specs.declared.rows.ColumnRow.{ColumnRow}
@@ -65,6 +65,7 @@ mutual
   as_read-fits kinds.text t = refl
   as_read-fits (kinds.list k) t = items_same (all_trees (fits (as_read k))) (all_trees (fits k))
       (all_same (fits (as_read k)) (fits k) (as_read-fits k)) t
+  as_read-fits (kinds.maybe k) t = ap (λ (b : Bool). is_nothing t || b) (as_read-fits k t)
   as_read-fits (kinds.fields ps) t = parts_same (fit_parts (parts_as_read ps)) (fit_parts ps) (parts_as_read-fit ps) t
   as_read-fits (kinds.tuple ks) t = parts_same (fit_parts (places_as_read 0 ks)) (fit_kinds ks) (places_as_read-fit 0 ks) t
   as_read-fits (kinds.choice ks) t = pick_same (fits_one (kinds_as_read ks)) (fits_one ks) (kinds_as_read-fit ks) t
@@ -111,6 +112,7 @@ inside-shape id j kinds.byte less = tt
 inside-shape id j (kinds.int bits signed) less = tt
 inside-shape id j kinds.text less = tt
 inside-shape id j (kinds.list k) less = (less, tt)
+inside-shape id j (kinds.maybe k) less = (less, tt)
 inside-shape id j (kinds.fields ps) less = inside-members id j ps less
 inside-shape id j (kinds.tuple ks) less = inside-places id 0 j ks less
 inside-shape id j (kinds.choice ks) less = inside-places id 0 j ks less

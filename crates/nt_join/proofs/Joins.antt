@@ -1,7 +1,7 @@
 -- Trees that are read one after the other.
-use Rattle.std.proofs.Common.{◌≡◌, ℕ, zero, suc, ◌+◌, ◌-◌, ◌≤◌, List, [], ◌∷◌, ◌++◌, refl, ap, ◌∙◌, arith}
-use Rattle.nt_types.specs.TreeData.{TreeData, TreesData, no_trees, tree, trees_of}
-use Rattle.nt_trees.specs.TreeAt.{trees_from}
+use Rattle.std.proofs.Common.{◌≡◌, ℕ, zero, suc, ◌+◌, ◌-◌, ◌<◌, ◌≤◌, List, [], ◌∷◌, ◌++◌, refl, ap, ◌∙◌, arith}
+use Rattle.nt_types.specs.TreeData.{TreeData, TreesData, nothing, no_trees, tree, trees_of}
+use Rattle.nt_trees.specs.TreeAt.{trees_from, only}
 
 -- so many trees from a place on, as a list
 abbrev pub list_from : (ℕ → TreeData) → ℕ → ℕ → List TreeData
@@ -24,6 +24,15 @@ list_from-next f at i le =
     let next : i + 1 - at ≡ suc (i - at) = omega arith in
     let same : at + (i - at) ≡ i = omega arith in
     ap (list_from f at) next ∙ list_from-last f at (i - at) ∙ ap (λ j. list_from f at (i - at) ++ f j ∷ []) same
+
+-- an optional has no tree, or the first
+pub only-none : (f : ℕ → TreeData) (from to : ℕ) → to ≤ from → only (trees_from f from (to - from)) ≡ nothing
+only-none f from to le = let none : to - from ≡ 0 = omega arith in ap (λ n. only (trees_from f from n)) none
+
+pub only-first : (f : ℕ → TreeData) (from to : ℕ) → from < to → only (trees_from f from (to - from)) ≡ f from
+only-first f from to lt =
+    let some : to - from ≡ suc (to - from - 1) = omega arith in
+    ap (λ n. only (trees_from f from n)) some
 
 -- trees with these before them
 abbrev pub before_trees : List TreeData → TreesData → TreesData

@@ -2,7 +2,7 @@
 use Rattle.std.proofs.Common.{◌≡◌, ℕ, zero, suc, ◌+◌, ◌-◌, ◌<◌, ◌≤◌, List, [], ◌∷◌, length, map, get_or, refl, sym, ap, ◌∙◌, subst, arith}
 use Rattle.nt_types.specs.TreeData.{TreeData, pick}
 use Rattle.nt_column.specs.Elements.{Element}
-use Rattle.nt_plans.specs.Plan.{PlanData, PlansData, text, list, choice, no_plans, plan, plans_of}
+use Rattle.nt_plans.specs.Plan.{PlanData, PlansData, text, list, maybe, choice, no_plans, plan, plans_of}
 use Rattle.nt_plans.specs.PlanViews.{plan_view}
 use Rattle.nt_plans.specs.declared.plan.Plan.{Plan}
 use Rattle.nt_trees.specs.Columns.{Cols, number_at, tag_at, begin_at, last_end, count_tag}
@@ -63,6 +63,16 @@ items-readable e p cols i r =
     let s = r.sound in
     let within : i < length (cols e) = omega (arith, r.within, s.0) in (
       record { size = last_end (cols e); sound = s.2; within = begin_at-le-last (cols e) s.1 (suc i) within },
+      s.1 i within,
+    )
+
+-- the item of an optional can be read
+pub optional-readable : (e : ℕ) (p : PlanData) (cols : Cols) (i : ℕ) → Readable (maybe e p) cols i
+    → ReadableTo p cols (begin_at (cols e) (suc i)) × (begin_at (cols e) i ≤ begin_at (cols e) (suc i))
+optional-readable e p cols i r =
+    let s = r.sound in
+    let within : i < length (cols e) = omega (arith, r.within, s.0) in (
+      record { size = last_end (cols e); sound = s.3; within = begin_at-le-last (cols e) s.1 (suc i) within },
       s.1 i within,
     )
 

@@ -13,6 +13,7 @@ use crate::counting::{BLOCK, count_tags};
 use crate::ends::{ends_fault, values_fault};
 use crate::fault::{ValueFault, first_in, lower};
 use crate::reading::last;
+use crate::steps::steps_fault;
 use nt_column::Columns;
 use nt_plans::{Plan, Plans};
 
@@ -31,6 +32,10 @@ fn plan_fault<C: Columns>(columns: &C, plan: &Plan, needed: u64) -> Option<Value
         }
         Plan::List { ends, of } => {
             let fault = ends_fault(columns, *ends, needed);
+            lower(fault, plan_fault(columns, of, last(columns, *ends)))
+        }
+        Plan::Maybe { ends, of } => {
+            let fault = steps_fault(columns, *ends, needed);
             lower(fault, plan_fault(columns, of, last(columns, *ends)))
         }
         Plan::Record(parts) => each_fault(columns, &parts.list, needed),

@@ -5,7 +5,7 @@ ghost use Rattle.nt_types.specs.TreeData.{trees_of};
 ghost use Rattle.nt_types.specs.TreeViews.{tree_view, trees_view};
 ghost use Rattle.nt_plans.specs.Plan.{plans_of};
 ghost use Rattle.nt_plans.specs.PlanViews.{plan_view, plans_view};
-ghost use Rattle.nt_trees.specs.TreeAt.{tree_at, each_at, trees_from};
+ghost use Rattle.nt_trees.specs.TreeAt.{tree_at, each_at, trees_from, only};
 ghost use Rattle.nt_join.specs.Readable.{Readable, ReadableTo, ReadableEach};
 
 use crate::number::integer_of;
@@ -41,6 +41,11 @@ fn tree<C: Columns>(alloc: Global, columns: &C, plan: &Plan, i: u64) -> Result<T
             let from = begin(columns, *ends, i);
             let to = number(columns, *ends, i);
             Ok(Tree::Items(range(alloc, columns, of, from, to)?))
+        }
+        Plan::Maybe { ends, of } => {
+            let from = begin(columns, *ends, i);
+            let to = number(columns, *ends, i);
+            at_most_one(alloc, columns, of, from, to)
         }
         Plan::Record(parts) => Ok(Tree::Parts(each(alloc, columns, &parts.list, i)?)),
         Plan::Choice { tags, of } => {
@@ -78,6 +83,26 @@ fn range<C: Columns>(
         list.push(tree(alloc, columns, of, i)?)?;
     }
     Ok(Trees::from_vec(list))
+}
+
+/// The tree of the one element from one place to before another, or nothing where there is none.
+#[cycle(join)]
+fn at_most_one<C: Columns>(
+    alloc: Global,
+    columns: &C,
+    of: &Plan,
+    from: u64,
+    to: u64,
+) -> Result<Tree, AllocError>
+    requires order { from ≤ to }
+    requires readable { ReadableTo (plan_view of.now) (C.Columns.elements columns.now) to }
+    ensures { IfOk result (λ t. tree_view t ≡ only
+        (trees_from (tree_at (plan_view of.now) (C.Columns.elements columns.now)) from (to - from))) }
+{
+    if from == to {
+        return Ok(Tree::Nothing);
+    }
+    tree(alloc, columns, of, from)
 }
 
 /// The tree of each plan, all at one element.

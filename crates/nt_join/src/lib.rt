@@ -28,6 +28,7 @@ mod join;
 mod number;
 mod open;
 pub mod reading;
+mod steps;
 
 pub use check::check_by;
 pub use fault::ValueFault;

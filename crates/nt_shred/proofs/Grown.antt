@@ -1,12 +1,12 @@
 -- A tree adds no more to a column than most of it.
-use Rattle.std.proofs.Common.{◌≡◌, ℕ, zero, suc, ◌+◌, ◌≤◌, ◌==◌, max, true, false, List, [], ◌∷◌, length, map, sym, ◌∙◌, ap, subst, arith}
-use Rattle.std.proofs.Common.{length-append, inl, inr, ◌⊎◌}
+use Rattle.std.proofs.Common.{◌≡◌, ℕ, zero, suc, ◌+◌, ◌≤◌, ◌==◌, max, Bool, cond, true, false, List, [], ◌∷◌, length}
+use Rattle.std.proofs.Common.{map, sym, ◌∙◌, ap, subst, arith, length-append, inl, inr, ◌⊎◌}
 use Rattle.std.proofs.lemmas.Bool.{eq-eqb, ne_eqb, cases_eq, cases_Bool, true≢false}
-use Rattle.nt_types.specs.TreeData.{TreeData, TreesData, flag, num, items, parts, pick, nothing, no_trees, tree}
+use Rattle.nt_types.specs.TreeData.{TreeData, TreesData, flag, num, items, parts, pick, nothing, no_trees, tree, is_nothing}
 use Rattle.nt_types.specs.TreeData as trees
 use Rattle.nt_column.specs.Elements.{Element, plain}
-use Rattle.nt_plans.specs.Plan.{PlanData, PlansData, bool, number, text, list, record_of, choice, no_plans, plan, has, has_any, Differ}
-use Rattle.nt_plans.specs.Plan.{AllDiffer}
+use Rattle.nt_plans.specs.Plan.{PlanData, PlansData, bool, number, text, list, maybe, record_of, choice, no_plans, plan, has, has_any}
+use Rattle.nt_plans.specs.Plan.{Differ, AllDiffer}
 use Rattle.nt_trees.specs.Columns.{Cols, last_end, count_tag, add_to}
 use Rattle.nt_trees.specs.Put.{how_many_trees, put_each, put_tree, put_trees, put_one}
 use Rattle.nt_trees.proofs.Leaves.{length-plain}
@@ -56,6 +56,29 @@ either_adds p ps t ts cols k other first rest = go (cases_Bool (has p k))
     go (inl is) = omega (arith, first, ap length (put_trees-elsewhere ps ts (put_tree p t cols) k (other is)))
     go (inr not) = omega (arith, rest, ap length (put_tree-elsewhere p t cols k not))
 
+-- each tree adds one element at least
+some_most : (t : TreeData) → 1 ≤ most t
+some_most (flag b) = omega arith
+some_most (num z) = omega arith
+some_most (trees.text s) = omega arith
+some_most (items ts) = omega arith
+some_most (parts ts) = omega arith
+some_most (pick tag t) = omega arith
+some_most nothing = omega arith
+
+maybe_adds : (e : ℕ) (p : PlanData) (t : TreeData) (cols : Cols) → has p e ≡ false → AddsUpTo (most t) cols (put_tree p t cols)
+    → AddsUpTo (most t) cols (put_tree (maybe e p) t cols)
+maybe_adds e p t cols fresh inner = go (is_nothing t)
+  where
+    go : (b : Bool) → AddsUpTo (most t) cols (cond b (add_to e (plain (last_end (cols e)) ∷ []) cols)
+        (add_to e (plain (last_end (cols e) + 1) ∷ []) (put_tree p t cols)))
+    go true = λ k. omega (arith, adds e (plain (last_end (cols e)) ∷ []) cols k, some_most t)
+    go false = λ k. omega (
+      arith,
+      one_more e (last_end (cols e) + 1) 0 (most t) cols (put_tree p t cols) inner (ap length (put_tree-elsewhere p t cols e fresh)) k,
+      some_most t,
+    )
+
 mutual
   pub tree_adds : (p : PlanData) (t : TreeData) (cols : Cols) → Differ p → AddsUpTo (most t) cols (put_tree p t cols)
   tree_adds (bool k) (flag b) cols d = adds k (plain _ ∷ []) cols
@@ -68,7 +91,8 @@ mutual
       one_more e (last_end (cols e) + how_many_trees ts) 0 (most_of_all ts) cols (put_each (put_tree p) ts cols)
       (all_adds p (λ t cs. tree_adds p t cs d.1) ts cols)
       (ap length (put_each-elsewhere (put_tree p) e (λ t cs. put_tree-elsewhere p t cs e d.0) ts cols))
-  tree_adds (record_of ps) (parts ts) cols d = trees_add ps ts cols d
+  tree_adds (maybe e p) t cols d = maybe_adds e p t cols d.0 (tree_adds p t cols d.1)
+  tree_adds (record_of ps) (parts ts) cols d = λ k. omega (arith, trees_add ps ts cols d k)
   tree_adds (choice s ps) nothing cols d = adds s ((0, 0) ∷ []) cols
   tree_adds (choice s ps) (pick tag t) cols d =
       one_more s (count_tag tag (cols s)) tag (most t) cols (put_one ps tag t cols) (one_adds ps tag t cols d.1)

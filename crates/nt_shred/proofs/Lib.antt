@@ -8,3 +8,4 @@ pub mod PlanLists
 pub mod Entries
 pub mod Typed
 pub mod SchemaSets
+pub mod Optionals

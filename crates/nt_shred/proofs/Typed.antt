@@ -9,7 +9,7 @@ use Rattle.nt_types.specs.declared.column_type.ColumnType.TheVariants.{SplitInde
 use Rattle.nt_types.specs.ColumnTable.{code_of, bits_of}
 use Rattle.nt_column.specs.Column.{Buffer, columns_of}
 use Rattle.nt_grammar.specs.declared.rows.ColumnRow.{ColumnRow}
-use Rattle.nt_plans.specs.Plan.{PlanData, PlansData, bool, number, text, list, record_of, choice, no_plans, plan}
+use Rattle.nt_plans.specs.Plan.{PlanData, PlansData, bool, number, text, list, maybe, record_of, choice, no_plans, plan}
 use Rattle.nt_plans.specs.Types.{IsOfType, HasTypes, AllHaveTypes}
 use Rattle.nt_trees.specs.Described.{AreDescribed, are_stored}
 use Rattle.nt_shred.specs.Frame.{set_frame, Takes, AllTake}
@@ -81,6 +81,7 @@ module _ (bs : List Buffer) (rows : List ColumnRow) (d : AreDescribed (columns_o
       (Char, typed c Char h.1, (λ e. absurd (omega (arith, ap bits_of e))), refl),
     )
     typed-takes (list e p) h = ((h.0.of, typed e h.0.of h.0.type_is, h.0.is_index), typed-takes p h.1)
+    typed-takes (maybe e p) h = ((h.0.of, typed e h.0.of h.0.type_is, h.0.is_index), typed-takes p h.1)
     typed-takes (record_of ps) h = (h.0, all-typed-take ps h.1)
     typed-takes (choice k ps) h = (typed k Switch h.0, all-typed-take ps h.2)
 

@@ -6,7 +6,7 @@ use Rattle.nt_types.specs.declared.column_type.ColumnType.TheVariants.{Index32, 
 use Rattle.nt_types.specs.ColumnTable.{bits_of}
 use Rattle.nt_types.specs.Spelling.{is_width}
 use Rattle.nt_column.specs.Column.{Buffer}
-use Rattle.nt_plans.specs.Plan.{PlanData, PlansData, bool, number, text, list, record_of, choice, no_plans, plan}
+use Rattle.nt_plans.specs.Plan.{PlanData, PlansData, bool, number, text, list, maybe, record_of, choice, no_plans, plan}
 use Rattle.nt_plans.specs.Types.{is_index_type, are_some}
 use Rattle.nt_trees.specs.Columns.{Cols}
 use Rattle.nt_trees.specs.Views.{cols_of}
@@ -37,6 +37,7 @@ abbrev mutual
   Takes (number k bits signed) fr = IsPlain fr k bits × (is_width bits ≡ true)
   Takes (text e c) fr = IsEnds fr e × IsPlain fr c 8
   Takes (list e p) fr = IsEnds fr e × Takes p fr
+  Takes (maybe e p) fr = IsEnds fr e × Takes p fr
   Takes (record_of ps) fr = (are_some ps ≡ true) × AllTake ps fr
   Takes (choice s ps) fr = IsTags fr s × AllTake ps fr
 

@@ -1,6 +1,6 @@
 -- Trees that are added to columns: what is required before, and what is so after.
-use Rattle.std.specs.Prelude.{ℕ, suc, true, ◌≡◌, ◌≤◌, List}
-use Rattle.nt_types.specs.TreeData.{TreeData, TreesData}
+use Rattle.std.specs.Prelude.{ℕ, suc, ◌||◌, true, ◌≡◌, ◌≤◌, List, if◌then◌else◌}
+use Rattle.nt_types.specs.TreeData.{TreeData, TreesData, is_nothing}
 use Rattle.nt_types.specs.TreeBytes.{AllHaveBytes}
 use Rattle.nt_types.specs.Fits.{all_trees}
 use Rattle.nt_column.specs.Column.{Buffer, columns_of}
@@ -33,6 +33,19 @@ pub record ReadyAll (p : PlanData) (ts : TreesData) (bs : List Buffer) : Type 0 
   pub fitting : all_trees (fits_plan p) ts ≡ true
   pub takes : Takes p (set_frame bs)
   pub room : FitsIn bs (put_each (put_tree p) ts (cols_of bs))
+
+-- the value of an optional, if there is one
+abbrev pub put_some : (TreeData → Cols → Cols) → TreeData → Cols → Cols
+put_some f t cols = if is_nothing t then cols else f t cols
+
+-- a tree of a plan or nothing
+pub record ReadySome (p : PlanData) (t : TreeData) (bs : List Buffer) : Type 0 where
+  pub size : ℕ
+  pub sound : Sound p (cols_of bs) size
+  pub differ : Differ p
+  pub fitting : (is_nothing t || fits_plan p t) ≡ true
+  pub takes : Takes p (set_frame bs)
+  pub room : FitsIn bs (put_some (put_tree p) t (cols_of bs))
 
 -- a tree of each plan
 pub record ReadyEach (ps : PlansData) (ts : TreesData) (bs : List Buffer) : Type 0 where

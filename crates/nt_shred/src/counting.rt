@@ -20,7 +20,7 @@ pub fn count(out: &ColumnSet, plan: &Plan) -> u64
         Plan::Bool { column } => out.len(*column),
         Plan::Number { column, .. } => out.len(*column),
         Plan::Text { ends, .. } => out.len(*ends),
-        Plan::List { ends, .. } => out.len(*ends),
+        Plan::List { ends, .. } | Plan::Maybe { ends, .. } => out.len(*ends),
         Plan::Record(parts) => count(out, &parts.list[0]),
         Plan::Choice { tags, .. } => out.len(*tags),
     }

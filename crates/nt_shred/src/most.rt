@@ -18,7 +18,7 @@ fn most(tree: &Tree) -> Result<usize, AllocError>
         Tree::Num(_) => Ok(1),
         Tree::Text(text) => Ok(text.as_slice().len().max(1)),
         Tree::Items(items) => Ok(most_of_all(&items.list)?.max(1)),
-        Tree::Parts(parts) => most_of_any(&parts.list),
+        Tree::Parts(parts) => Ok(most_of_any(&parts.list)?.max(1)),
         Tree::Pick { value, .. } => Ok(most(value)?.max(1)),
         Tree::Nothing => Ok(1),
     }

@@ -1,7 +1,7 @@
 //! What a tree of a known form holds.
 
 ghost use Rattle.std.specs.Prelude.{◌≡◌, ℕ, ℤ, Bool, true, MatchOption};
-ghost use Rattle.nt_types.specs.TreeData.{TreeData, TreesData, flag, num, text, items, parts, pick, nothing};
+ghost use Rattle.nt_types.specs.TreeData.{TreeData, TreesData, flag, num, text, items, parts, pick, nothing, is_nothing};
 ghost use Rattle.nt_types.specs.TreeViews.{tree_view};
 ghost use Rattle.nt_types.specs.Fits.{fits_flag, fits_number, fits_text, fits_items, fits_parts, fits_pick};
 ghost use Rattle.nt_trees.specs.Views.{trees_in};
@@ -61,6 +61,13 @@ pub fn parts_in(tree: &Tree) -> &[Tree]
         Tree::Parts(trees) => &trees.list,
         _ => unreachable!(),
     }
+}
+
+/// Whether it is no value.
+pub fn is_nothing(tree: &Tree) -> bool
+    ensures { result ≡ is_nothing (tree_view tree.now) }
+{
+    matches!(tree, Tree::Nothing)
 }
 
 /// A tree of an alternative.

@@ -4,11 +4,11 @@ ghost use Rattle.nt_plans.specs.PlanViews.{plan_view};
 ghost use Rattle.nt_types.specs.TreeViews.{tree_view};
 ghost use Rattle.nt_trees.specs.Put.{put_tree, put_each, put_trees};
 ghost use Rattle.nt_trees.specs.Views.{plans_in, trees_in};
-ghost use Rattle.nt_shred.specs.Steps.{Ready, ReadyAll, ReadyEach, Gains};
+ghost use Rattle.nt_shred.specs.Steps.{put_some, Ready, ReadyAll, ReadySome, ReadyEach, Gains};
 
 use crate::counting::count;
 use crate::integers::element;
-use crate::parts::{Picked, flag_in, items_in, number_in, parts_in, pick_in, text_in};
+use crate::parts::{Picked, flag_in, is_nothing, items_in, number_in, parts_in, pick_in, text_in};
 use crate::pushing::{push, push_bytes, push_end, push_tag};
 use nt_column::{ColumnSet, Columns};
 use nt_plans::Plan;
@@ -34,6 +34,11 @@ fn put_tree(out: &mut ColumnSet, plan: &Plan, tree: &Tree)
             let last = count(out, of);
             push_end(out, *ends, last);
         }
+        Plan::Maybe { ends, of } => {
+            put_some(out, of, tree);
+            let total = count(out, of);
+            push_end(out, *ends, total);
+        }
         Plan::Record(parts) => put_trees(out, &parts.list, parts_in(tree)),
         Plan::Choice { tags, of } => match pick_in(tree) {
             None => push_tag(out, *tags, 0, 0),
@@ -55,6 +60,17 @@ fn put_each(out: &mut ColumnSet, of: &Plan, items: &[Tree])
 {
     for item in items {
         put_tree(out, of, item);
+    }
+}
+
+/// Adds the value of an optional, if there is one.
+#[cycle(put)]
+fn put_some(out: &mut ColumnSet, of: &Plan, tree: &Tree)
+    requires { ReadySome (plan_view of.now) (tree_view tree.now) out.old }
+    ensures { Gains (put_some (put_tree (plan_view of.now)) (tree_view tree.now)) out.old out.new }
+{
+    if !is_nothing(tree) {
+        put_tree(out, of, tree);
     }
 }
 

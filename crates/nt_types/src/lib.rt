@@ -9,7 +9,8 @@
 //!
 //! Words: a *shape* is what the values of a field look like, with the twin `ShapeData` in
 //! contracts; a *member* is a shape under a name (`MemberData`); a *leaf* has no parts; a *construct* is one that is open while it is
-//! read; a *fault* is what is wrong with a text, and never want of memory.
+//! read; a *fault* is what is wrong with a text, and never want of memory; a shape *takes nothing* where nothing is a value of it:
+//! an optional and a choice.
 //!
 //! Proved: code and bits of each type (`ColumnType::code`, `bits`), the type of a code (`of_code`:
 //! `found`, `each`); the fields of a text or its first fault, and no other (`parse_schema`: `told`,
@@ -21,7 +22,8 @@
 //! Choices that bind nobody else:
 //! - A nested type is read with a stack of what is begun, so that no text makes the reader recurse.
 //! - The fields of a schema are counted up to 4097, where the count stands still: one more than the limit is all that is asked.
-//! - Too deep is only a type that is well formed, so the rest of a type below the limit is read without keeping its parts.
+//! - Too deep is only a type that is well formed, so the rest of a type below the limit is read without keeping its parts, but for
+//!   whether they take nothing.
 #![tactic(auto)]
 
 mod column_type;

@@ -66,7 +66,9 @@ pub(crate) fn push_columns(
             push_column(columns, field, index_type(plain), first)?;
             push_column(columns, field, ColumnType::Char, 0)
         }
-        Shape::List(_) => push_column(columns, field, index_type(plain), first),
+        Shape::List(_) | Shape::Maybe(_) => {
+            push_column(columns, field, index_type(plain), first)
+        }
         Shape::Rec(_) | Shape::Tuple(_) => Ok(()),
         Shape::Choice(_) => push_column(columns, field, ColumnType::Switch, first),
     }

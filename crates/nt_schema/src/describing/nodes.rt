@@ -64,7 +64,7 @@ fn push_inside<'a>(nodes: &mut Vec<Node<'a>>, node: Node<'a>, id: u32) -> Result
 {
     match node.of {
         Shape::Bool | Shape::Char | Shape::Byte | Shape::Int { .. } | Shape::Text => Ok(()),
-        Shape::List(of) => {
+        Shape::List(of) | Shape::Maybe(of) => {
             nodes.push(Node {
                 parent: id,
                 label: Label::Place(0),

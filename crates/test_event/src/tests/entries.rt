@@ -64,8 +64,23 @@ const READ: [(&str, &str, &str); 34] = [
     ("x u64", "[10000000000000000000]", "[10000000000000000000]"),
 ];
 
+/// The same of optionals.
+const OPTIONAL: [(&str, &str, &str); 7] = [
+    ("o opt<u16>", "[null]", "[null]"),
+    ("o opt<u16>", "[7]", "[7]"),
+    ("o opt<u16>", "[ null ]", "[null]"),
+    ("o opt<u16>", "[ 7 ]", "[7]"),
+    (
+        "o opt<vec<opt<string>>>",
+        r#"[[null,"a"]]"#,
+        r#"[[null,"a"]]"#,
+    ),
+    ("o opt<tuple<u8,opt<i64>>>", "[[1, null]]", "[[1,null]]"),
+    ("o opt<tuple<u8,opt<i64>>>", "[ null ]", "[null]"),
+];
+
 /// A schema text, lines, and their fault.
-const REFUSED: [(&str, &[u8], TextKind); 46] = [
+const REFUSED: [(&str, &[u8], TextKind); 52] = [
     ("x u64", b"", NotJson),
     ("x u64", b"[", NotJson),
     ("x u64", b"[01]", NotJson),
@@ -112,6 +127,12 @@ const REFUSED: [(&str, &[u8], TextKind); 46] = [
     ("r rec{a:u8,b:u8}", b"[[1]]", Misfit),
     ("r rec{a:u8,b:u8}", b"[{\"a\":1,\"b\":2}]", Misfit),
     ("p tuple<bool,u16>", b"[[1,true]]", Misfit),
+    ("o opt<u16>", b"[nul]", NotJson),
+    ("o opt<u16>", b"[]", Count),
+    ("o opt<u16>", b"[\"x\"]", Misfit),
+    ("o opt<u16>", b"[[7]]", Misfit),
+    ("o opt<u16>", b"[70000]", Misfit),
+    ("o opt<tuple<u8,opt<i64>>>", b"[[null,1]]", Misfit),
 ];
 
 /// What is printed for the entry of a line.
@@ -138,6 +159,12 @@ fn is_line(text: &[u8], line: &str) -> bool {
 #[test]
 fn lines_have_entries(rt: HostRuntime) -> Result<(), Fail> {
     for (schema, line, expected) in READ {
+        match printed(rt.alloc(), schema, line.as_bytes()) {
+            Ok(text) => assert!(rt; is_line(text.as_slice(), expected), "{line}"),
+            Err(error) => assert!(rt; false, "{line}: {error:?}"),
+        }
+    }
+    for (schema, line, expected) in OPTIONAL {
         match printed(rt.alloc(), schema, line.as_bytes()) {
             Ok(text) => assert!(rt; is_line(text.as_slice(), expected), "{line}"),
             Err(error) => assert!(rt; false, "{line}: {error:?}"),

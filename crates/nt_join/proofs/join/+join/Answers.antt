@@ -3,18 +3,18 @@ use Rattle.std.proofs.Common.{Global}
 use Rattle.std.proofs.lemmas.List.{map-append, drop_more, drop_all, length-map}
 use Rattle.nt_types.specs.TreeData.{pick, tree, trees_of}
 use Rattle.nt_types.specs.TreeViews.{tree_view}
-use Rattle.nt_types.proofs.TreeViews.{view-Pick}
-use Rattle.nt_plans.specs.Plan.{text, list, choice, plans_of}
+use Rattle.nt_types.proofs.TreeViews.{view-Nothing, view-Pick}
+use Rattle.nt_plans.specs.Plan.{text, list, maybe, choice, plans_of}
 use Rattle.nt_plans.specs.PlanViews.{plan_view}
-use Rattle.nt_plans.specs.declared.plan.Plan.{Plan, List, Choice, the_lemmas as plan_lemmas}
+use Rattle.nt_plans.specs.declared.plan.Plan.{Plan, List, Maybe, Choice, the_lemmas as plan_lemmas}
 use Rattle.nt_plans.specs.declared.plan.Plans.{Plans}
 use Rattle.nt_plans.proofs.plan.Plan.TheLaws.{the_size}
-use Rattle.nt_plans.proofs.PlanViews.{view-Text, view-List, view-Choice}
+use Rattle.nt_plans.proofs.PlanViews.{view-Text, view-List, view-Maybe, view-Choice}
 use Rattle.nt_trees.specs.TreeAt.{tree_at, each_at, trees_from}
 use Rattle.nt_join.specs.Readable.{Readable, ReadableTo, ReadableEach}
 use Rattle.nt_join.proofs.Plans.{plans_view-list}
-use Rattle.nt_join.proofs.Joins.{trees_of-list_from, list_from-next, before_trees, before_trees-push, before_trees-none}
-use Rattle.nt_join.proofs.Reach.{of_tag-at, readable-is, text-within, items-readable, tag-among, picked-readable, tree_at-picked}
+use Rattle.nt_join.proofs.Joins.{trees_of-list_from, list_from-next, before_trees, before_trees-push, before_trees-none, only-none, only-first}
+use Rattle.nt_join.proofs.Reach.{of_tag-at, readable-is, text-within, items-readable, optional-readable, tag-among, picked-readable, tree_at-picked}
 use Rattle.nt_join.proofs.join.+join.Goals as goal
 
 pub range-loop-i-preserved : goal.range-loop-i-preserved
@@ -88,6 +88,36 @@ tree-range-requires g t c κs within =
       omega (arith, e, d, smaller k c.in-List.of),
       (search (rules, within), (search rules, (order, subst (ReadableTo of cols) (sym c.number-to-in-List.ensures) r.0))),
     )
+
+-- ---- optionals
+
+smaller_maybe : (e : ℕ) (p : Box Plan Global) → the_size p.value < the_size (Maybe e p)
+smaller_maybe e p = search (rules, plan_lemmas)
+
+pub tree-at_most_one-requires : goal.tree-at_most_one-requires
+tree-at_most_one-requires g t c κs within =
+    let cols = g.C.Columns.elements c.args.columns.now in
+    let k = c.in-Maybe.ends in
+    let of = plan_view c.deref-in-Maybe.result.now in
+    let is = ap plan_view c.in-Maybe.is ∙ view-Maybe k c.in-Maybe.of ∙ ap (λ p. maybe k (plan_view p)) (sym c.deref-in-Maybe.ensures) in
+    let r = optional-readable k of cols c.args.i (readable-is _ (maybe k of) cols c.args.i is c.requires) in
+    let e = ap the_size c.in-Maybe.is in
+    let d = ap the_size c.deref-in-Maybe.ensures in
+    let order : c.begin-from-in-Maybe.result ≤ c.number-to-in-Maybe.result =
+    omega (arith, r.1, c.begin-from-in-Maybe.ensures, c.number-to-in-Maybe.ensures) in (
+      omega (arith, e, d, smaller_maybe k c.in-Maybe.of),
+      (search (rules, within), (search rules, (order, subst (ReadableTo of cols) (sym c.number-to-in-Maybe.ensures) r.0))),
+    )
+
+pub at_most_one-returns-then-from-to : goal.at_most_one-returns-then-from-to
+at_most_one-returns-then-from-to g t c =
+    let f = tree_at (plan_view c.args.of.now) (g.C.Columns.elements c.args.columns.now) in
+    view-Nothing ∙ sym (only-none f c.args.from c.args.to (omega (arith, c.if-from-to.true)))
+
+pub at_most_one-returns : goal.at_most_one-returns
+at_most_one-returns g t c =
+    let f = tree_at (plan_view c.args.of.now) (g.C.Columns.elements c.args.columns.now) in
+    search (rules, c.tree.ensures, only-first f c.args.from c.args.to (omega (arith, c.if-from-to.false, c.requires.order)))
 
 choice-is : (p : Plan) (s : ℕ) (ps : Plans) → p ≡ Choice s ps → plan_view p ≡ choice s (plans_of (map plan_view ps.list.items))
 choice-is p s ps is = ap plan_view is ∙ view-Choice s ps ∙ ap (λ l. choice s (plans_of l)) (plans_view-list ps)

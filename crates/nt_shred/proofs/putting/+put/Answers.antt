@@ -1,17 +1,17 @@
-use Rattle.std.proofs.Common.{rules, ◌≡◌, ◌+◌, ◌-◌, ◌<◌, ℕ, [], ◌∷◌, length, drop, sym, ap, subst, ◌∙◌, arith}
+use Rattle.std.proofs.Common.{rules, ◌≡◌, ◌+◌, ◌-◌, ◌<◌, ℕ, [], ◌∷◌, length, drop, sym, ap, subst, ◌∙◌, refl, arith}
 use Rattle.std.proofs.lemmas.List.{drop_more, length-drop}
 use Rattle.nt_types.specs.TreeData.{flag, num, text, items, pick, nothing}
 use Rattle.nt_types.specs.TreeViews.{tree_view}
 use Rattle.nt_column.specs.Bits.{bit_of}
 use Rattle.nt_column.specs.Elements.{plain}
-use Rattle.nt_plans.specs.Plan.{bool, number, list, choice, plans_of}
+use Rattle.nt_plans.specs.Plan.{bool, number, list, maybe, choice, plans_of}
 use Rattle.nt_plans.specs.Plan as plans
 use Rattle.nt_plans.specs.PlanViews.{plan_view}
 use Rattle.nt_plans.specs.declared.plan.Plan.{the_lemmas as plan_lemmas}
-use Rattle.nt_plans.proofs.PlanViews.{view-Bool, view-Number, view-Text, view-List}
+use Rattle.nt_plans.proofs.PlanViews.{view-Bool, view-Number, view-Text, view-List, view-Maybe}
 use Rattle.nt_trees.specs.Columns.{last_end, add_to}
 use Rattle.nt_trees.specs.Integers.{twos_complement}
-use Rattle.nt_trees.specs.Put.{how_many_trees}
+use Rattle.nt_trees.specs.Put.{how_many_trees, put_tree}
 use Rattle.nt_trees.specs.Sound.{Sound}
 use Rattle.nt_trees.specs.Views.{cols_of, plans_in, trees_in}
 use Rattle.nt_shred.specs.Frame.{set_frame, FitsIn}
@@ -19,6 +19,8 @@ use Rattle.nt_shred.proofs.Left.{LeftAll, LeftEach, all-first, all-next, each-fi
 use Rattle.nt_shred.proofs.Arms.{ready-is, gains-is, old-room, list-all, list-sound, list-room, list-end, list-done, text-bytes, text-end}
 use Rattle.nt_shred.proofs.Arms.{text-ends_below, text-last, text-done}
 use Rattle.nt_shred.proofs.Alternatives.{nth-takes, nth-sound, nth-at, pick-some, pick-among, pick-ready, pick-room, pick-done}
+use Rattle.nt_shred.proofs.Optionals.{how_many_in, some-ready, some-gains, none-gains, maybe-some, maybe-sound, maybe-now, maybe-end}
+use Rattle.nt_shred.proofs.Optionals.{maybe-done}
 use Rattle.nt_shred.proofs.PlanLists.{view-alternatives}
 use Rattle.nt_shred.proofs.putting.+put.Goals as goal
 
@@ -129,6 +131,73 @@ put_tree-returns-in-List t c =
     gains-is _ _ _ _ c.args.out.now c.push_end-in-List.new.out plan_is c.items_in.ensures
     (list-done c.in-List.ends (plan_view c.deref.result.now) (trees_in c.items_in.result.now) c.args.out.now c.put_each.new.out r
     c.put_each.ensures c.push_end-in-List.new.out c.count-last.result c.push_end-in-List.ensures (c.count-last.ensures.size size there))
+
+-- ---- optionals
+
+pub put_some-put_tree-requires : goal.put_some-put_tree-requires
+put_some-put_tree-requires t c = (
+  search (rules, c.decreases),
+  some-ready (plan_view c.args.of.now) (tree_view c.args.tree.now) c.args.out.now
+      (sym c.is_nothing.ensures ∙ c.if-not-is_nothing.true) c.requires,
+)
+
+pub put_some-returns-then-not-is_nothing : goal.put_some-returns-then-not-is_nothing
+put_some-returns-then-not-is_nothing t c =
+    some-gains (put_tree (plan_view c.args.of.now)) (tree_view c.args.tree.now) c.args.out.now c.put_tree.new.out
+    (sym c.is_nothing.ensures ∙ c.if-not-is_nothing.true) c.put_tree.ensures
+
+pub put_some-returns-else-not-is_nothing : goal.put_some-returns-else-not-is_nothing
+put_some-returns-else-not-is_nothing t c =
+    none-gains (put_tree (plan_view c.args.of.now)) (tree_view c.args.tree.now) c.args.out.now
+    (sym c.is_nothing.ensures ∙ c.if-not-is_nothing.false)
+
+pub put_tree-put_some-requires : goal.put_tree-put_some-requires
+put_tree-put_some-requires t c =
+    let plan_is = ap plan_view c.in-Maybe.is ∙ (view-Maybe c.in-Maybe.ends c.in-Maybe.of ∙ ap (λ p. maybe c.in-Maybe.ends (plan_view p))
+    (sym c.deref-in-Maybe.ensures)) in
+    let r = ready-is _ (maybe c.in-Maybe.ends (plan_view c.deref-in-Maybe.result.now)) _ (tree_view c.args.tree.now) c.args.out.now
+    plan_is refl c.requires in (
+      search (rules, plan_lemmas, c.decreases, c.deref-in-Maybe.ensures, c.in-Maybe.is),
+      maybe-some c.in-Maybe.ends (plan_view c.deref-in-Maybe.result.now) (tree_view c.args.tree.now) c.args.out.now r,
+    )
+
+pub put_tree-count-total-requires-clause-room : goal.put_tree-count-total-requires-clause-room
+put_tree-count-total-requires-clause-room t c =
+    let plan_is = ap plan_view c.in-Maybe.is ∙ (view-Maybe c.in-Maybe.ends c.in-Maybe.of ∙ ap (λ p. maybe c.in-Maybe.ends (plan_view p))
+    (sym c.deref-in-Maybe.ensures)) in
+    let r = ready-is _ (maybe c.in-Maybe.ends (plan_view c.deref-in-Maybe.result.now)) _ (tree_view c.args.tree.now) c.args.out.now
+    plan_is refl c.requires in
+    maybe-now c.in-Maybe.ends (plan_view c.deref-in-Maybe.result.now) (tree_view c.args.tree.now) c.args.out.now c.put_some.new.out r
+    c.put_some.ensures
+
+pub put_tree-push_end-requires-in-Maybe-clause-room : goal.put_tree-push_end-requires-in-Maybe-clause-room
+put_tree-push_end-requires-in-Maybe-clause-room t c =
+    let plan_is = ap plan_view c.in-Maybe.is ∙ (view-Maybe c.in-Maybe.ends c.in-Maybe.of ∙ ap (λ p. maybe c.in-Maybe.ends (plan_view p))
+    (sym c.deref-in-Maybe.ensures)) in
+    let v = tree_view c.args.tree.now in
+    let p = plan_view c.deref-in-Maybe.result.now in
+    let r = ready-is _ (maybe c.in-Maybe.ends p) _ v c.args.out.now plan_is refl c.requires in
+    let sound = maybe-sound c.in-Maybe.ends p v c.args.out.now c.put_some.new.out r c.put_some.ensures in
+    let size = last_end (cols_of c.args.out.now c.in-Maybe.ends) + how_many_in v in
+    let there = subst (λ p. Sound (plan_view p) (cols_of c.put_some.new.out) size)
+    (c.deref-in-Maybe.ensures ∙ sym c.deref-in-Maybe-2.ensures) sound in
+    maybe-end c.in-Maybe.ends p v c.args.out.now c.put_some.new.out r c.put_some.ensures c.count-total.result
+    (c.count-total.ensures.size size there)
+
+pub put_tree-returns-in-Maybe : goal.put_tree-returns-in-Maybe
+put_tree-returns-in-Maybe t c =
+    let plan_is = ap plan_view c.in-Maybe.is ∙ (view-Maybe c.in-Maybe.ends c.in-Maybe.of ∙ ap (λ p. maybe c.in-Maybe.ends (plan_view p))
+    (sym c.deref-in-Maybe.ensures)) in
+    let v = tree_view c.args.tree.now in
+    let p = plan_view c.deref-in-Maybe.result.now in
+    let r = ready-is _ (maybe c.in-Maybe.ends p) _ v c.args.out.now plan_is refl c.requires in
+    let sound = maybe-sound c.in-Maybe.ends p v c.args.out.now c.put_some.new.out r c.put_some.ensures in
+    let size = last_end (cols_of c.args.out.now c.in-Maybe.ends) + how_many_in v in
+    let there = subst (λ p. Sound (plan_view p) (cols_of c.put_some.new.out) size)
+    (c.deref-in-Maybe.ensures ∙ sym c.deref-in-Maybe-2.ensures) sound in
+    gains-is _ _ _ _ c.args.out.now c.push_end-in-Maybe.new.out plan_is refl
+    (maybe-done c.in-Maybe.ends p v c.args.out.now c.put_some.new.out r c.put_some.ensures c.push_end-in-Maybe.new.out
+    c.count-total.result c.push_end-in-Maybe.ensures (c.count-total.ensures.size size there))
 
 -- ---- choices
 
