@@ -62,10 +62,16 @@ pub record IsNextLine (old new : LinesState) (line : Line) : Type 0 where
   pub number : (line.number ≡ old.number + 1) × (line.number ≤ max_number)
   pub counted : new.number ≡ line.number
 
--- the next line, none exactly at the end; a line that is too long, or has too large a number; a fault of the source, or no memory
+-- nothing was left and nothing is, and no line was counted
+pub record StaysAtEnd (old new : LinesState) : Type 0 where
+  pub was : IsAtEnd old.left
+  pub is : IsAtEnd new.left
+  pub number : new.number ≡ old.number
+
+-- the next line, none exactly at the end, where the reader stays; a line that is too long, or has too large a number; a fault of the source, or no memory
 abbrev pub GivesLine : LinesState → LinesState → Result (Option Line) LineError → Type 0
 GivesLine old new (Ok (Some line)) = IsNextLine old new line
-GivesLine old new (Ok None) = IsAtEnd old.left
+GivesLine old new (Ok None) = StaysAtEnd old new
 GivesLine old new (Err Fault) = Rose old.faults new.faults
 GivesLine old new (Err (TooLong line)) = (line ≡ old.number + 1) × (BeginsTooLong old.left ⊎ ((max_number < line) × HasMore old.left))
 GivesLine old new (Err Memory) = ⊤

@@ -207,7 +207,7 @@ impl<S: Source> LineReader<S> {
         unreachable!()
     }
 
-    /// The next line, blank ones too; none at the end. After an error the reader is not asked again.
+    /// The next line, blank ones too; none at the end, however often it is asked there. After an error the reader is not asked again.
     pub fn next(&mut self, alloc: Global) -> Result<Option<Line>, LineError>
         ensures line { GivesLine (lines_state (S.state self.old.source) self.old)
             (lines_state (S.state self.new.source) self.new) result }

@@ -83,7 +83,7 @@ module _ {D : Type 0} (state : D → DiskState) (F : List MemberData) (text : Op
   all_given G w was is on h = record {
     segments = on.segments;
     entries = on.entries;
-    read = read-end F on.segments on.entries was text on.read h;
+    read = read-end F on.segments on.entries was text on.read h.was;
     grown = on.grown;
     taken = on.taken;
     is_open = on.is_open;
