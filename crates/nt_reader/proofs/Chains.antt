@@ -52,7 +52,7 @@ pub inside-fails : {V W X : Type 0} (all : W → X) (block : Block) (r : Result 
 inside-fails {V = V} {X = X} all block r f (payload.Defect d) failure h (inl is) =
     subst (λ (x : ReadFailure). IsReadOrFails all (Err x) (inside_of block r >>= f)) (sym is)
     (ap (λ (s : Result V ReadError). inside_of block s >>= f) h)
-inside-fails all block r f (payload.Defect d) failure h (inr is) = subst
+inside-fails all block r f (payload.Defect d) failure h (inr (far, is)) = subst
     (λ (x : ReadFailure). IsReadOrFails all (Err x) (inside_of block r >>= f)) (sym is) tt
 inside-fails all block r f payload.Memory failure h is = subst (λ (x : ReadFailure). IsReadOrFails all (Err x) (inside_of block r >>= f))
     (sym is) tt

@@ -1,6 +1,6 @@
 //! Faults of a file.
 
-ghost use Rattle.std.specs.Prelude.{◌≡◌, ◌+◌, IfSome};
+ghost use Rattle.std.specs.Prelude.{◌≡◌, ◌≤◌, ◌+◌, ◌^◌, IfSome, None};
 ghost use Rattle.nt_num.specs.Faults.{fault, with_values};
 ghost use Rattle.nt_pagelists.specs.Columns.{in_column};
 ghost use Rattle.nt_file_meaning.specs.Envelopes.{payload_start};
@@ -61,7 +61,8 @@ pub fn in_column(cluster: u32, column: u32, error: ReadError) -> ReadError
 /// A place in the payload of the envelope at that place, counted from the file's beginning; none
 /// where it doesn't fit 64 bits.
 pub fn place_inside(envelope: u64, at: u64) -> Option<u64>
-    ensures { IfSome result (λ place. place ≡ envelope + payload_start + at) }
+    ensures some { IfSome result (λ place. place ≡ envelope + payload_start + at) }
+    ensures none { result ≡ None → 2 ^ 64 ≤ envelope + payload_start + at }
 {
     match envelope.checked_add(PAYLOAD_START) {
         Some(payload) => payload.checked_add(at),
