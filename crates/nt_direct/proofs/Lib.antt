@@ -8,3 +8,4 @@ pub mod Arms
 pub mod Cutting
 pub mod Noting
 pub mod Whole
+pub mod Optionals

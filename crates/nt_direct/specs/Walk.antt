@@ -1,19 +1,19 @@
 -- A text that is read by plans, straight to the columns: what is required before, and what is so after.
-use Rattle.std.specs.Prelude.{ℕ, ℤ, ◌≡◌, ◌-◌, ◌<◌, ◌^◌, Bool, true, List, Option, Some, None, length, slice_get, slice_set}
+use Rattle.std.specs.Prelude.{ℕ, ℤ, ◌≡◌, ◌-◌, ◌<◌, ◌^◌, ◌||◌, Bool, true, false, List, Option, Some, None, length, slice_get, slice_set}
 use Rattle.serde_json.specs.Written.{compact_text}
-use Rattle.nt_types.specs.TreeData.{TreeData, trees_of, num}
+use Rattle.nt_types.specs.TreeData.{TreeData, trees_of, num, is_nothing}
 use Rattle.nt_types.specs.Fits.{all_trees, is_int}
 use Rattle.nt_event.specs.Json.{InRange, AllInRange, InWord, data_of}
 use Rattle.nt_event.specs.Standing.{StandsFrom, ValueStands, ItemsStand, json_of, jsons_of}
 use Rattle.nt_column.specs.Column.{Buffer}
-use Rattle.nt_plans.specs.Plan.{PlanData, PlansData, number, Differ, AllDiffer}
+use Rattle.nt_plans.specs.Plan.{PlanData, PlansData, number, maybe, choice, Differ, AllDiffer}
 use Rattle.nt_trees.specs.Integers.{twos_complement}
 use Rattle.nt_trees.specs.Sound.{Sound, AllSound}
 use Rattle.nt_trees.specs.Put.{put_each, put_tree, put_trees}
 use Rattle.nt_trees.specs.Fits.{fits_plan, fit_plans}
 use Rattle.nt_trees.specs.Views.{cols_of}
 use Rattle.nt_shred.specs.Frame.{set_frame, Takes, AllTake, HasRoomFor}
-use Rattle.nt_shred.specs.Steps.{Gains}
+use Rattle.nt_shred.specs.Steps.{put_some, Gains}
 use Rattle.nt_direct.specs.Places.{AddsUpTo, Grew}
 
 -- a tree of a plan, whatever it is, can be added from so many bytes
@@ -57,6 +57,21 @@ pub record PutsAll (p : PlanData) (text : List ℕ) (at end : ℕ) (old new : Li
   pub range : AllInRange (trees_of found)
   pub fitting : all_trees (fits_plan p) (trees_of found) ≡ true
   pub gains : Gains (put_each (put_tree p) (trees_of found)) old new
+  pub few : AddsUpTo (end - at) old new
+
+-- whether nothing is among the trees of a plan
+abbrev pub takes_null : PlanData → Bool
+takes_null (maybe e p) = true
+takes_null (choice s ps) = true
+takes_null _ = false
+
+-- from one place to another of a text stands a tree that the plan takes, or nothing, and the tree is added
+pub record PutsSome (p : PlanData) (text : List ℕ) (at end : ℕ) (old new : List Buffer) : Type 0 where
+  pub found : TreeData
+  pub stands : ValueStands (json_of found) text at end
+  pub range : InRange found
+  pub fitting : (is_nothing found || fits_plan p found) ≡ true
+  pub gains : Gains (put_some (put_tree p) found) old new
   pub few : AddsUpTo (end - at) old new
 
 -- a tree of each plan

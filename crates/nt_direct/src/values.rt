@@ -1,10 +1,10 @@
 //! Values by their plans, each added as it is read.
 
-ghost use Rattle.std.specs.Prelude.{◌-◌, ◌≤◌, length};
+ghost use Rattle.std.specs.Prelude.{◌≡◌, ◌-◌, ◌≤◌, length};
 ghost use Rattle.nt_plans.specs.Plan.{choice};
 ghost use Rattle.nt_plans.specs.PlanViews.{plan_view};
 ghost use Rattle.nt_trees.specs.Views.{plans_in};
-ghost use Rattle.nt_direct.specs.Walk.{CanPut, CanPutEach, Puts, PutsAll, PutsEach, Leaves};
+ghost use Rattle.nt_direct.specs.Walk.{CanPut, CanPutEach, Puts, PutsAll, PutsSome, PutsEach, Leaves, takes_null};
 
 use crate::integers::wholes;
 use crate::leaves::{flag, string, whole};
@@ -36,12 +36,42 @@ fn value(out: &mut ColumnSet, plan: &Plan, line: &[u8], at: usize) -> Option<usi
             push_end(out, *ends, last);
             Some(end)
         }
+        Plan::Maybe { ends, of } => {
+            let end = optional(out, of, line, at)?;
+            let total = count(out, of);
+            push_end(out, *ends, total);
+            Some(end)
+        }
         Plan::Record(parts) => {
             let first = after(line, at, b'[')?;
             each(out, &parts.list, line, first)
         }
         Plan::Choice { tags, of } => picked(out, *tags, &of.list, line, at),
     }
+}
+
+/// Whether nothing is among the values of a plan.
+fn takes_null(plan: &Plan) -> bool
+    ensures { result ≡ takes_null (plan_view plan.now) }
+{
+    matches!(plan, Plan::Maybe { .. } | Plan::Choice { .. })
+}
+
+/// Adds the value of an optional, where there is one. What it may contain is nothing itself in no schema.
+#[cycle(value)]
+fn optional(out: &mut ColumnSet, of: &Plan, line: &[u8], at: usize) -> Option<usize>
+    requires within { at ≤ length line.now }
+    requires can { CanPut (plan_view of.now) (length line.now - at) out.old }
+    ensures { Leaves (λ end. PutsSome (plan_view of.now) line.now at end out.old out.new)
+        out.old out.new result }
+{
+    if let Some(end) = null(line, at) {
+        return Some(end);
+    }
+    if takes_null(of) {
+        return None;
+    }
+    value(out, of, line, at)
 }
 
 /// Adds the items of a list up to its bracket.

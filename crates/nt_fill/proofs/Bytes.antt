@@ -1,10 +1,10 @@
 -- Trees that were added to columns in memory have texts of bytes, since their elements are of the columns' types.
 use Rattle.std.proofs.Common.{◌≡◌, ◌∙◌, ap, subst, ℕ, zero, suc, ◌<◌, ◌^◌, true, List, [], ◌∷◌, ◌++◌, length, map, Some, arith}
-use Rattle.std.proofs.Common.{append_assoc}
+use Rattle.std.proofs.Common.{append_assoc, ◌+◌, ◌||◌, Bool, cond, false}
 use Rattle.std.proofs.lemmas.Bool.{and_parts, false≢true}
 use Rattle.std.specs.Option.{option_map}
 use Rattle.std.specs.Prelude.{Option, slice_get}
-use Rattle.nt_types.specs.TreeData.{TreeData, TreesData, flag, num, items, parts, pick, nothing, no_trees, tree}
+use Rattle.nt_types.specs.TreeData.{TreeData, TreesData, flag, num, items, parts, pick, nothing, no_trees, tree, is_nothing}
 use Rattle.nt_types.specs.TreeData as trees
 use Rattle.nt_types.specs.TreeBytes.{AreBytes, HasBytes, AllHaveBytes}
 use Rattle.nt_types.specs.Fits.{all_trees}
@@ -12,8 +12,8 @@ use Rattle.nt_types.specs.declared.column_type.ColumnType.{ColumnType}
 use Rattle.nt_column.specs.Elements.{Element, plain, AreElementsOf}
 use Rattle.nt_column.specs.Column.{Buffer, columns_of, elements_at, kind_at}
 use Rattle.nt_trees.specs.Views.{cols_of}
-use Rattle.nt_plans.specs.Plan.{PlanData, PlansData, bool, number, text, list, record_of, choice, no_plans, plan}
-use Rattle.nt_trees.specs.Columns.{Cols, number_at, add_to}
+use Rattle.nt_plans.specs.Plan.{PlanData, PlansData, bool, number, text, list, maybe, record_of, choice, no_plans, plan}
+use Rattle.nt_trees.specs.Columns.{Cols, number_at, last_end, add_to}
 use Rattle.nt_trees.specs.Put.{put_each, put_tree, put_trees, put_one}
 use Rattle.nt_trees.specs.Fits.{fits_plan, fit_plans, fits_alternative}
 use Rattle.nt_trees.proofs.Lists.{Extends, then-extends, add_to-extends}
@@ -58,6 +58,22 @@ module _ (fr : Frame) (new : Cols) (small : (k : ℕ) → IsPlain fr k 8 → (i 
         each_bytes p each ts mid q.1 x,
       )
 
+  -- a tree that is something, and nothing has no texts
+  maybe_bytes : (e : ℕ) (p : PlanData) (t : TreeData) (cols : Cols) → (fits_plan p t ≡ true → Extends (put_tree p t cols) new → HasBytes t)
+      → (is_nothing t || fits_plan p t) ≡ true → Extends (put_tree (maybe e p) t cols) new → HasBytes t
+  maybe_bytes e p t cols inner h x = go (is_nothing t) refl h x
+    where
+      none : (u : TreeData) → is_nothing u ≡ true → HasBytes u
+      none nothing is = tt
+      none _ is = absurd (false≢true is)
+
+      go : (b : Bool) → is_nothing t ≡ b → (b || fits_plan p t) ≡ true
+          → Extends (cond b (add_to e (plain (last_end (cols e)) ∷ []) cols)
+          (add_to e (plain (last_end (cols e) + 1) ∷ []) (put_tree p t cols))) new → HasBytes t
+      go true is g y = none t is
+      go false is g y = inner g (then-extends (put_tree p t cols) (add_to e (plain (last_end (cols e) + 1) ∷ []) (put_tree p t cols)) new
+          (add_to-extends e (plain (last_end (cols e) + 1) ∷ []) (put_tree p t cols)) y)
+
   mutual
     pub tree_bytes : (p : PlanData) (t : TreeData) (cols : Cols) → Takes p fr → fits_plan p t ≡ true
         → Extends (put_tree p t cols) new → HasBytes t
@@ -72,6 +88,7 @@ module _ (fr : Frame) (new : Cols) (small : (k : ℕ) → IsPlain fr k 8 → (i 
     tree_bytes (list e p) (items ts) cols takes h x =
         each_bytes p (λ t cs i y. tree_bytes p t cs takes.1 i y) ts cols h
         (then-extends (put_each (put_tree p) ts cols) (put_tree (list e p) (items ts) cols) new (add_to-extends e _ _) x)
+    tree_bytes (maybe e p) t cols takes h x = maybe_bytes e p t cols (λ i y. tree_bytes p t cols takes.1 i y) h x
     tree_bytes (record_of ps) (parts ts) cols takes h x = all_bytes ps ts cols takes.1 h x
     tree_bytes (choice k ps) nothing cols takes h x = tt
     tree_bytes (choice k ps) (pick tag t) cols takes h x =

@@ -7,7 +7,7 @@ use Rattle.nt_grammar.specs.declared.rows.ColumnRow.{ColumnRow}
 use Rattle.nt_grammar.specs.Table.{Table}
 use Rattle.nt_column.specs.Elements.{AreElementsOf}
 use Rattle.nt_column.specs.Column.{Column, empty, elements_at}
-use Rattle.nt_plans.specs.Plan.{PlanData, PlansData, bool, number, text, list, record_of, choice, no_plans, plan}
+use Rattle.nt_plans.specs.Plan.{PlanData, PlansData, bool, number, text, list, maybe, record_of, choice, no_plans, plan}
 use Rattle.nt_plans.specs.Place.{open_plans}
 use Rattle.nt_trees.specs.Columns.{Cols}
 use Rattle.nt_trees.specs.Described.{AreDescribed, are_stored}
@@ -23,6 +23,7 @@ mutual
   none_sound (number k bits signed) = refl
   none_sound (text e c) = (refl, λ i h. omega (arith, h), refl)
   none_sound (list e p) = (refl, λ i h. omega (arith, h), none_sound p)
+  none_sound (maybe e p) = (refl, λ i h. omega (arith, h), λ i h. omega arith, none_sound p)
   none_sound (record_of ps) = all_none_sound ps
   none_sound (choice k ps) = (refl, λ i h. omega (arith, h), λ i h. absurd (omega (arith, h)), each_none_sound 0 ps)
 

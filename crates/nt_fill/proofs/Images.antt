@@ -14,7 +14,7 @@ use Rattle.nt_pages.specs.declared.image.ClusterImage.{ClusterImage}
 use Rattle.nt_pages.specs.Image.{image, payload, key_room}
 use Rattle.nt_pages.specs.Metas.{cluster_meta}
 use Rattle.nt_pages.proofs.Paged.{cluster-paged, length-column_metas, image-bits}
-use Rattle.nt_plans.specs.Plan.{PlanData, PlansData, bool, number, text, list, record_of, choice, no_plans, plan}
+use Rattle.nt_plans.specs.Plan.{PlanData, PlansData, bool, number, text, list, maybe, record_of, choice, no_plans, plan}
 use Rattle.nt_plans.specs.Place.{open_plans}
 use Rattle.nt_plans.specs.Types.{HasTypes, AllHaveTypes, are_some}
 use Rattle.nt_trees.specs.Columns.{Cols}
@@ -34,6 +34,7 @@ mutual
   principal_of rows (number k bits signed) cols n types s = (k, s)
   principal_of rows (text e c) cols n types s = (e, s.0)
   principal_of rows (list e p) cols n types s = (e, s.0)
+  principal_of rows (maybe e p) cols n types s = (e, s.0)
   principal_of rows (record_of ps) cols n types s = principal_of_first rows ps cols n types.0 types.1 s
   principal_of rows (choice k ps) cols n types s = (k, s.0)
 

@@ -5,7 +5,7 @@ ghost use Rattle.serde_json.specs.Written.{compact_text};
 ghost use Rattle.nt_event.specs.Json.{data_of, line_of};
 ghost use Rattle.nt_plans.specs.Plan.{choice, plans_of};
 ghost use Rattle.nt_plans.specs.PlanViews.{plan_view, plans_view};
-ghost use Rattle.nt_trees.specs.TreeAt.{tree_at, each_at, trees_from};
+ghost use Rattle.nt_trees.specs.TreeAt.{tree_at, each_at, trees_from, only};
 ghost use Rattle.nt_join.specs.Readable.{Readable, ReadableTo, ReadableEach};
 
 use crate::leaves::{mark_before, put_end, put_flag, put_integer, put_part, put_tag};
@@ -51,6 +51,11 @@ fn put_value<C: Columns>(
         Plan::List { ends, of } => {
             let (from, to) = span(columns, *ends, i);
             put_range(alloc, columns, of, from, to, mark, out)?;
+            Ok(())
+        }
+        Plan::Maybe { ends, of } => {
+            let part = span(columns, *ends, i);
+            put_optional(alloc, columns, of, part, mark, out)?;
             Ok(())
         }
         Plan::Record(parts) => {
@@ -123,6 +128,33 @@ fn put_items<C: Columns>(
     }
     put_end(later, out)?;
     Ok(())
+}
+
+/// Appends a mark, and then the value of the one element from one place to before another, or what
+/// stands for none.
+#[inline(never)]
+#[cycle(print)]
+fn put_optional<C: Columns>(
+    alloc: Global,
+    columns: &C,
+    of: &Plan,
+    part: (u64, u64),
+    mark: u8,
+    out: &mut Vec<u8>,
+) -> Result<(), AllocError>
+    requires order { part.0 ≤ part.1 }
+    requires readable { ReadableTo (plan_view of.now) (C.Columns.elements columns.now) part.1 }
+    ensures ok { OnOk result (out.new.items ≡ out.old.items ++ mark ∷ compact_text (data_of (only
+        (trees_from (tree_at (plan_view of.now) (C.Columns.elements columns.now)) part.0 (part.1 - part.0))))) }
+    ensures kept { take (length out.old.items) out.new.items ≡ out.old.items }
+{
+    let (from, to) = part;
+    if from == to {
+        out.push(mark)?;
+        out.extend_from_slice(b"null")?;
+        return Ok(());
+    }
+    put_value(alloc, columns, of, from, mark, out)
 }
 
 /// Appends the array of the value of each plan, all at one element.

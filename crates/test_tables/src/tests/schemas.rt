@@ -5,7 +5,7 @@ use std::alloc::{AllocError, Global};
 use std::test::Fail;
 
 /// A text, a line and the kind of its fault.
-const FAULTS: [(&str, u64, SchemaKind); 27] = [
+const FAULTS: [(&str, u64, SchemaKind); 34] = [
     ("x u64\nx u8", 2, SchemaKind::Repeated),
     ("", 0, SchemaKind::Empty),
     ("\n \t\r\n\n", 0, SchemaKind::Empty),
@@ -33,6 +33,13 @@ const FAULTS: [(&str, u64, SchemaKind); 27] = [
     ("x rec{1a:u8}", 1, SchemaKind::BadType),
     ("x rec{a:u8>", 1, SchemaKind::BadType),
     ("x rec{vec<u8>:u8}", 1, SchemaKind::BadType),
+    ("x opt<opt<u8>>", 1, SchemaKind::BadType),
+    ("x opt<var<u8>>", 1, SchemaKind::BadType),
+    ("x opt<rec{a:u8}>", 1, SchemaKind::BadType),
+    ("x vec<opt<rec{a:u8}>>", 1, SchemaKind::BadType),
+    ("x opt<vec<tuple<rec{a:u8}>>>", 1, SchemaKind::BadType),
+    ("x opt<u8,u8>", 1, SchemaKind::BadType),
+    ("x opt<>", 1, SchemaKind::BadType),
 ];
 
 fn fault(line: u64, kind: SchemaKind) -> SchemaError {
@@ -65,7 +72,7 @@ fn first_fault(rt: HostRuntime) {
 }
 
 const SCHEMA: &[u8] =
-    b"\na_1 \t rec{x:i16,y:vec<string>}\t \r\n\t\r\n_b var<bool,tuple<char,byte>>";
+    b"\na_1 \t rec{x:i16,y:vec<string>}\t \r\n\t\r\n_b var<bool,tuple<char,byte>>\no opt<tuple<u8,opt<i64>>>";
 
 fn is_first(shape: &Shape) -> bool {
     let Shape::Rec(members) = shape else {
@@ -108,14 +115,40 @@ fn is_second(shape: &Shape) -> bool {
     }
 }
 
+fn is_third(shape: &Shape) -> bool {
+    let Shape::Maybe(of) = shape else {
+        return false;
+    };
+    let Shape::Tuple(parts) = &**of else {
+        return false;
+    };
+    match parts.as_slice() {
+        [
+            Shape::Int {
+                bits: 8,
+                signed: false,
+            },
+            Shape::Maybe(of),
+        ] => matches!(
+            &**of,
+            Shape::Int {
+                bits: 64,
+                signed: true,
+            }
+        ),
+        _ => false,
+    }
+}
+
 #[test]
 fn fields_in_order(rt: HostRuntime) -> Result<(), Fail> {
     let fields = parse_schema(rt.alloc(), SCHEMA)?.into_vec();
-    assert_eq!(rt; fields.len(), 2);
+    assert_eq!(rt; fields.len(), 3);
     assert_eq!(rt; fields[0].name.as_slice(), b"a_1".as_slice());
     assert!(rt; is_first(&fields[0].of));
     assert_eq!(rt; fields[1].name.as_slice(), b"_b".as_slice());
     assert!(rt; is_second(&fields[1].of));
+    assert!(rt; is_third(&fields[2].of));
     Ok(())
 }
 
@@ -159,6 +192,11 @@ fn limits(rt: HostRuntime) -> Result<(), Fail> {
         (100000, ["x ", "vec<", "u8", ">", ""], deep),
         (100000, ["x ", "vec<", "u9", ">", ""], malformed),
         (100000, ["x ", "rec{a:", "u8", "}", ""], deep),
+        (15, ["x ", "opt<vec<", "opt<u8>", ">>", ""], None),
+        (100000, ["x ", "opt<vec<", "u8", ">>", ""], deep),
+        (100000, ["x ", "opt<", "u8", ">", ""], malformed),
+        (100000, ["x ", "vec<", "opt<var<u8>>", ">", ""], malformed),
+        (1, ["x opt<vec<opt<string>>>", "", "", "", ""], None),
         (99, ["x var<", "u8,", "u8>", "", ""], None),
         (100, ["x var<", "u8,", "u8>", "", ""], malformed),
         (255, ["", "a", " u8", "", ""], None),

@@ -3,10 +3,10 @@ use Rattle.std.proofs.Common.{length, drop, sym, ap, subst, arith, refl}
 use Rattle.std.proofs.lemmas.List.{drop_more, drop_all}
 use Rattle.nt_types.specs.TreeData.{trees_of}
 use Rattle.nt_event.specs.Standing.{StandsFrom}
-use Rattle.nt_plans.specs.Plan.{list, record_of, choice}
+use Rattle.nt_plans.specs.Plan.{list, maybe, record_of, choice}
 use Rattle.nt_plans.specs.PlanViews.{plan_view}
 use Rattle.nt_plans.specs.declared.plan.Plan.{the_lemmas as plan_lemmas}
-use Rattle.nt_plans.proofs.PlanViews.{view-List}
+use Rattle.nt_plans.proofs.PlanViews.{view-List, view-Maybe}
 use Rattle.nt_trees.specs.Columns.{last_end}
 use Rattle.nt_trees.specs.Put.{how_many_trees}
 use Rattle.nt_trees.specs.Sound.{Sound}
@@ -14,10 +14,12 @@ use Rattle.nt_trees.specs.Views.{cols_of, plans_in}
 use Rattle.nt_shred.proofs.Arms.{list-sound}
 use Rattle.nt_shred.proofs.Alternatives.{nth-takes, nth-sound}
 use Rattle.nt_shred.specs.Frame.{set_frame}
-use Rattle.nt_direct.specs.Walk.{PutsAll, PutsEach, Puts}
+use Rattle.nt_shred.proofs.Optionals.{how_many_in, maybe-sound, maybe-now, maybe-end}
+use Rattle.nt_direct.specs.Walk.{PutsAll, PutsSome, PutsEach, Puts}
 use Rattle.nt_direct.proofs.Growing.{grew-then, room-later, room-to-add}
 use Rattle.nt_direct.proofs.Walks.{SoFarEach, puts-grew, all-none, all-more, all-done, so_far-grew, each-more, each-done}
 use Rattle.nt_direct.proofs.Arms.{nth-of, list-ready, list-put, nothing-put, pick-inside, pick-put}
+use Rattle.nt_direct.proofs.Optionals.{maybe-inside, none-put, some-leaves, maybe-ready, maybe-put}
 use Rattle.nt_direct.proofs.Equal.{can-is, puts-is, view-parts, leaves-none, leaves-found, lt-next, record-leaves}
 use Rattle.nt_direct.proofs.values.+value.Goals as goal
 
@@ -182,6 +184,86 @@ picked-returns t c =
     pick-put c.args.tags (plans_in of) tag (plan_view x) c.args.line.now c.args.at c.in_ok-first.first c.in_ok-tag.i c.in_ok-next.next
     c.in_ok-last.last c.in_ok-end.end c.count-index.result old c.value.new.out c.push_tag-2.new.out n (omega (arith, c.if-tag.false))
     c.in_ok-first.ensures c.in_ok-tag.ensures c.in_ok-next.ensures c.in_ok-last.ensures c.in_ok-end.ensures index c.push_tag-2.ensures
+
+-- ---- optionals
+
+pub optional-returns-in-Some : goal.optional-returns-in-Some
+optional-returns-in-Some t c =
+    none-put (plan_view c.args.of.now) c.args.line.now c.args.at c.in-Some.end c.args.out.now c.in-Some.ensures
+
+pub optional-returns : goal.optional-returns
+optional-returns t c =
+    some-leaves (plan_view c.args.of.now) c.args.line.now c.args.at c.args.out.now c.value.new.out c.value.result
+    (sym c.takes_null.ensures ∙ c.if-takes_null.false) c.value.ensures
+
+pub value-optional-requires : goal.value-optional-requires
+value-optional-requires t c =
+    let ends = c.in-Maybe.ends in
+    let p = plan_view c.deref-in-Maybe.result.now in
+    let plan_is = ap plan_view c.in-Maybe.is
+    ∙ (view-Maybe ends c.in-Maybe.of ∙ ap (λ q. maybe ends (plan_view q)) (sym c.deref-in-Maybe.ensures)) in
+    let left = length c.args.line.now - c.args.at in (
+      search (rules, plan_lemmas, c.decreases, c.deref-in-Maybe.ensures, c.in-Maybe.is),
+      (
+        c.requires.within,
+        maybe-inside ends p left c.args.out.now (can-is (plan_view c.args.plan.now) (maybe ends p) left c.args.out.now plan_is c.requires.can),
+      ),
+    )
+
+pub value-count-total-requires-clause-room : goal.value-count-total-requires-clause-room
+value-count-total-requires-clause-room t c =
+    let ends = c.in-Maybe.ends in
+    let p = plan_view c.deref-in-Maybe.result.now in
+    let line = c.args.line.now in
+    let at = c.args.at in
+    let end = c.in_ok-end-in-Maybe.end in
+    let old = c.args.out.now in
+    let now = c.optional.new.out in
+    let plan_is = ap plan_view c.in-Maybe.is
+    ∙ (view-Maybe ends c.in-Maybe.of ∙ ap (λ q. maybe ends (plan_view q)) (sym c.deref-in-Maybe.ensures)) in
+    let can = can-is (plan_view c.args.plan.now) (maybe ends p) (length line - at) old plan_is c.requires.can in
+    let h : PutsSome p line at end old now = c.in_ok-end-in-Maybe.ensures in
+    maybe-now ends p h.found old now (maybe-ready ends p line at end old now can h) h.gains
+
+pub value-push_end-requires-in-Maybe-clause-room : goal.value-push_end-requires-in-Maybe-clause-room
+value-push_end-requires-in-Maybe-clause-room t c =
+    let ends = c.in-Maybe.ends in
+    let p = plan_view c.deref-in-Maybe.result.now in
+    let line = c.args.line.now in
+    let at = c.args.at in
+    let end = c.in_ok-end-in-Maybe.end in
+    let old = c.args.out.now in
+    let now = c.optional.new.out in
+    let plan_is = ap plan_view c.in-Maybe.is
+    ∙ (view-Maybe ends c.in-Maybe.of ∙ ap (λ q. maybe ends (plan_view q)) (sym c.deref-in-Maybe.ensures)) in
+    let can = can-is (plan_view c.args.plan.now) (maybe ends p) (length line - at) old plan_is c.requires.can in
+    let h : PutsSome p line at end old now = c.in_ok-end-in-Maybe.ensures in
+    let ready = maybe-ready ends p line at end old now can h in
+    let size = last_end (cols_of old ends) + how_many_in h.found in
+    let there = subst (λ q. Sound (plan_view q) (cols_of now) size) (c.deref-in-Maybe.ensures ∙ sym c.deref-in-Maybe-2.ensures)
+    (maybe-sound ends p h.found old now ready h.gains) in
+    maybe-end ends p h.found old now ready h.gains c.count-total.result (c.count-total.ensures.size size there)
+
+pub value-returns-in_ok-end-in-Maybe : goal.value-returns-in_ok-end-in-Maybe
+value-returns-in_ok-end-in-Maybe t c =
+    let ends = c.in-Maybe.ends in
+    let p = plan_view c.deref-in-Maybe.result.now in
+    let line = c.args.line.now in
+    let at = c.args.at in
+    let end = c.in_ok-end-in-Maybe.end in
+    let old = c.args.out.now in
+    let now = c.optional.new.out in
+    let plan_is = ap plan_view c.in-Maybe.is
+    ∙ (view-Maybe ends c.in-Maybe.of ∙ ap (λ q. maybe ends (plan_view q)) (sym c.deref-in-Maybe.ensures)) in
+    let can = can-is (plan_view c.args.plan.now) (maybe ends p) (length line - at) old plan_is c.requires.can in
+    let h : PutsSome p line at end old now = c.in_ok-end-in-Maybe.ensures in
+    let ready = maybe-ready ends p line at end old now can h in
+    let size = last_end (cols_of old ends) + how_many_in h.found in
+    let there = subst (λ q. Sound (plan_view q) (cols_of now) size) (c.deref-in-Maybe.ensures ∙ sym c.deref-in-Maybe-2.ensures)
+    (maybe-sound ends p h.found old now ready h.gains) in
+    puts-is (plan_view c.args.plan.now) (maybe ends p) line at end old c.push_end-in-Maybe.new.out plan_is
+    (maybe-put ends p line at end old now can h c.push_end-in-Maybe.new.out c.count-total.result c.push_end-in-Maybe.ensures
+    (c.count-total.ensures.size size there))
 
 -- ---- lists and records
 

@@ -7,18 +7,19 @@ use Rattle.serde_json.specs.Written.{compact_text}
 use Rattle.nt_types.specs.TreeData.{TreeData, TreesData, flag, text as text_tree, items, parts, pick}
 use Rattle.nt_event.specs.Json.{data_of, line_of}
 use Rattle.nt_event.proofs.Prints.{kept-on}
-use Rattle.nt_plans.specs.Plan.{text, list, choice, plans_of}
+use Rattle.nt_plans.specs.Plan.{text, list, maybe, choice, plans_of}
 use Rattle.nt_plans.specs.PlanViews.{plan_view, plans_view}
-use Rattle.nt_plans.specs.declared.plan.Plan.{Plan, List as ListPlan, the_lemmas as plan_lemmas}
+use Rattle.nt_plans.specs.declared.plan.Plan.{Plan, List as ListPlan, Maybe as MaybePlan, the_lemmas as plan_lemmas}
 use Rattle.nt_plans.specs.declared.plan.Plans.{Plans}
 use Rattle.nt_plans.proofs.plan.Plan.TheLaws.{the_size}
 use Rattle.nt_plans.proofs.plan.Plans.TheLaws.{the_size as plans_size}
-use Rattle.nt_plans.proofs.PlanViews.{view-Bool, view-Number, view-Text, view-List, view-Record, view-Choice}
+use Rattle.nt_plans.proofs.PlanViews.{view-Bool, view-Number, view-Text, view-List, view-Maybe, view-Record, view-Choice}
 use Rattle.nt_trees.specs.Columns.{Cols, begin_at}
-use Rattle.nt_trees.specs.TreeAt.{tree_at, each_at, trees_from, text_from}
+use Rattle.nt_trees.specs.TreeAt.{tree_at, each_at, trees_from, text_from, only}
 use Rattle.nt_join.specs.Readable.{Readable, ReadableTo, ReadableEach}
+use Rattle.nt_join.proofs.Joins.{only-none, only-first}
 use Rattle.nt_join.proofs.Plans.{plans_view-list}
-use Rattle.nt_join.proofs.Reach.{of_tag-at, readable-is, text-within, items-readable, tag-among, picked-readable, tree_at-picked}
+use Rattle.nt_join.proofs.Reach.{of_tag-at, readable-is, text-within, items-readable, optional-readable, tag-among, picked-readable, tree_at-picked}
 use Rattle.nt_print.proofs.Arrays.{IsBegun, pick-put, IsBegun-none, IsBegun-next, IsBegun-end, kept-kept, mark-put, trees_from-first}
 use Rattle.nt_print.proofs.Arrays.{trees_from-none}
 use Rattle.nt_print.proofs.Places.{lent-within, lent-trees}
@@ -131,6 +132,24 @@ put_value-put_range-requires g t c κs within =
       (search (rules, within), (search rules, (order, subst (ReadableTo of cols) (sym c.span-from-in-List.ensures.end) r.0))),
     )
 
+smaller_maybe : (e : ℕ) (p : Box Plan Global) → the_size p.value < the_size (MaybePlan e p)
+smaller_maybe e p = search (rules, plan_lemmas)
+
+pub put_value-put_optional-requires : goal.put_value-put_optional-requires
+put_value-put_optional-requires g t c κs within =
+    let cols = g.C.Columns.elements c.args.columns.now in
+    let k = c.in-Maybe.ends in
+    let of = plan_view c.deref-in-Maybe.result.now in
+    let is = ap plan_view c.in-Maybe.is ∙ view-Maybe k c.in-Maybe.of ∙ ap (λ p. maybe k (plan_view p)) (sym c.deref-in-Maybe.ensures) in
+    let r = optional-readable k of cols c.args.i (readable-is _ (maybe k of) cols c.args.i is c.requires) in
+    let e = ap the_size c.in-Maybe.is in
+    let d = ap the_size c.deref-in-Maybe.ensures in
+    let order : c.span-part.result.0 ≤ c.span-part.result.1 =
+    omega (arith, r.1, c.span-part.ensures.begin, c.span-part.ensures.end) in (
+      omega (arith, e, d, smaller_maybe k c.in-Maybe.of),
+      (search (rules, within), (search rules, (order, subst (ReadableTo of cols) (sym c.span-part.ensures.end) r.0))),
+    )
+
 -- what is readable of a choice in the code
 choice_readable : (s : ℕ) (ps : Plans) (cols : Cols) (i : ℕ) → Readable (choice s (plans_of (plans_view ps))) cols i
     → Readable (choice s (plans_of (map plan_view ps.list.items))) cols i
@@ -241,6 +260,21 @@ put_value-returns-in_ok-put_range-in-List-clause-ok g t c =
     ∙ ap (λ (u : TreeData). c.args.out.now.items ++ c.args.mark ∷ compact_text (data_of u))
     (ap (λ n. items (trees_from (tree_at of cols) n (to - n))) c.span-from-in-List.ensures.begin
     ∙ ap (λ n. items (trees_from (tree_at of cols) begin (n - begin))) c.span-from-in-List.ensures.end
+    ∙ ap (λ p. tree_at p cols i) (sym is))
+
+pub put_value-returns-in_ok-put_optional-in-Maybe-clause-ok : goal.put_value-returns-in_ok-put_optional-in-Maybe-clause-ok
+put_value-returns-in_ok-put_optional-in-Maybe-clause-ok g t c =
+    let cols = g.C.Columns.elements c.args.columns.now in
+    let i = c.args.i in
+    let k = c.in-Maybe.ends in
+    let of = plan_view c.deref-in-Maybe.result.now in
+    let to = c.span-part.result.1 in
+    let begin = begin_at (cols k) i in
+    let is = ap plan_view c.in-Maybe.is ∙ view-Maybe k c.in-Maybe.of ∙ ap (λ p. maybe k (plan_view p)) (sym c.deref-in-Maybe.ensures) in
+    c.in_ok-put_optional-in-Maybe.ensures.ok
+    ∙ ap (λ (u : TreeData). c.args.out.now.items ++ c.args.mark ∷ compact_text (data_of u))
+    (ap (λ n. only (trees_from (tree_at of cols) n (to - n))) c.span-part.ensures.begin
+    ∙ ap (λ n. only (trees_from (tree_at of cols) begin (n - begin))) c.span-part.ensures.end
     ∙ ap (λ p. tree_at p cols i) (sym is))
 
 pub put_value-returns-in_ok-put_each-in-Record-clause-ok : goal.put_value-returns-in_ok-put_each-in-Record-clause-ok
