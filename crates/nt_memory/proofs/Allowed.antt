@@ -2,7 +2,6 @@
 use Rattle.std.proofs.Common.{◌≡◌, ◌∙◌, ap, sym, subst, refl, ℕ, zero, suc, ◌+◌, ◌==◌, ◌≤◌, Bool, true, false, ◌&&◌, ◌||◌, List, [], ◌∷◌}
 use Rattle.std.proofs.Common.{◌++◌, length, take, drop, map, replicate, IsTrue, arith, length-drop, length-take, take-append-drop}
 use Rattle.std.proofs.Common.{drop-drop, append_assoc}
-use Rattle.std.proofs.lemmas.List.{append-nil}
 use Rattle.std.specs.Prelude.{Option, Some, None}
 use Rattle.nt_lists.specs.Places.{put_at}
 use Rattle.nt_outside.specs.Log.{Step, Write, FailedWrite, Append, FailedAppend, Reserve, Settle, Sync}
@@ -126,10 +125,12 @@ reads-append log log' image image' bytes reads log-is image-is =
     reads-step log log' (Append bytes) (image ++ bytes) image' log-is (allowed-append (known_of log) image (map exactly bytes) bytes
     reads (allowed-exactly bytes)) (sym image-is)
 
-pub reads-failed_append : (log log' : List Step) (image : List ℕ) → Reads log image → log' ≡ log ++ FailedAppend 0 ∷ [] → Reads log' image
-reads-failed_append log log' image reads log-is =
-    reads-step log log' (FailedAppend 0) (image ++ []) image log-is (allowed-append (known_of log) image [] [] reads refl)
-    (append-nil image)
+pub reads-failed_append : (log log' : List Step) (image image' more : List ℕ) (len : ℕ) → Reads log image
+    → log' ≡ log ++ FailedAppend len ∷ [] → len ≡ length more → image' ≡ image ++ more → Reads log' image'
+reads-failed_append log log' image image' more len reads log-is whole image-is =
+    reads-step log log' (FailedAppend len) (image ++ more) image' log-is
+    (allowed-append (known_of log) image (unknown len) more reads
+    (subst (λ (n : ℕ). IsTrue (all_allowed (replicate n Anything) more)) (sym whole) (allowed-anything more))) (sym image-is)
 
 pub reads-write : (log log' : List Step) (image image' bytes : List ℕ) (at : ℕ) → Reads log image → log' ≡ log ++ Write at bytes
     ∷ [] → image' ≡ put_at image at bytes → Reads log' image'

@@ -23,7 +23,7 @@ N Anything cell = Unit {0}
 N (OneOf bytes) None = ⊥
 N (OneOf bytes) (Some byte) = IsTrue (allows (OneOf bytes) byte)
 
-length-zeros : (n : ℕ) → length (zeros n) ≡ n
+pub length-zeros : (n : ℕ) → length (zeros n) ≡ n
 length-zeros zero = refl
 length-zeros (suc n) = ap suc (length-zeros n)
 
@@ -96,7 +96,7 @@ pub record Follows (c : Crash) (l : Left) (len : ℕ) : Type 0 where
   pub long : length l.whole ≡ len
 
 -- items put over so many at a place leave the length
-length-over : (xs items : List ℕ) (at : ℕ) → at + length items ≤ length xs → length (put_at xs at items) ≡ length xs
+pub length-over : (xs items : List ℕ) (at : ℕ) → at + length items ≤ length xs → length (put_at xs at items) ≡ length xs
 length-over xs items at h = omega (
   arith,
   h,
@@ -178,7 +178,7 @@ allowed-drop-same (suc n) [] (y ∷ b) h = absurd (cc)
 allowed-drop-same (suc n) (x ∷ k) [] h = absurd (cc)
 allowed-drop-same (suc n) (x ∷ k) (y ∷ b) h = allowed-drop-same n k b (and_second (allows x y) _ h)
 
-length-failed : (bytes old : List ℕ) → length bytes ≤ length old → length (failed_over bytes old) ≡ length bytes
+pub length-failed : (bytes old : List ℕ) → length bytes ≤ length old → length (failed_over bytes old) ≡ length bytes
 length-failed [] old h = refl
 length-failed (b ∷ []) [] h = absurd (omega (arith, h))
 length-failed (b ∷ []) (o ∷ old) h = refl

@@ -8,3 +8,4 @@ pub mod Out
 pub mod Zips
 pub mod Following
 pub mod Picking
+pub mod Walking

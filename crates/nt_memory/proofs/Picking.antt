@@ -21,10 +21,48 @@ follows-all [] c l len f inside = f
 follows-all (step ∷ log) c l len f inside = follows-all log (crash_after c step) (left_after l step) (length_after len step)
     (follows-step c l len step f inside.0) inside.1
 
-inside-take : (count len : ℕ) (log : List Step) → AreInside len log → AreInside len (take count log)
+pub inside-take : (count len : ℕ) (log : List Step) → AreInside len log → AreInside len (take count log)
 inside-take zero len log inside = tt
 inside-take (suc n) len [] inside = tt
 inside-take (suc n) len (step ∷ log) inside = (inside.0, inside-take n (length_after len step) log inside.1)
+
+-- the length after all steps
+known-after : (c : Crash) (step : Step) → (crash_after c step).known ≡ after_step c.known step
+known-after c (Write at bytes) = refl
+known-after c (FailedWrite at bytes) = refl
+known-after c (Append bytes) = refl
+known-after c (FailedAppend len) = refl
+known-after c (Reserve start len) = refl
+known-after c (Settle start len bytes) = refl
+known-after c Sync = refl
+
+known-crash_from : (c : Crash) (log : List Step) → (crash_from c log).known ≡ known_from c.known log
+known-crash_from c [] = refl
+known-crash_from c (s ∷ log) = known-crash_from (crash_after c s) log ∙ ap (λ (k : List Known). known_from k log) (known-after c s)
+
+started : Follows no_crash nothing_left 0
+started = record { known = refl; left = refl; more = []; kept = refl; synced = refl; newest = tt; long = refl }
+
+-- a file that these steps may read as is as long as they make it
+image-longest : (log : List Step) (image : List ℕ) → AreInside 0 log → Reads log image → length image ≡ longest 0 log
+image-longest log image inside reads =
+    let f = follows-all log no_crash nothing_left 0 started inside in
+    let told = allowed-length (crash_of log).known (left_by log).whole f.known in
+    let read = allowed-length (known_of log) image reads in
+    let long = f.long in
+    omega (arith, told, read, long, ap length (known-crash_from no_crash log))
+
+inside-push : (len : ℕ) (log : List Step) (step : Step) → AreInside len log → IsInside (longest len log) step
+    → AreInside len (log ++ step ∷ [])
+inside-push len [] step inside one = (one, tt)
+inside-push len (s ∷ log) step inside one = (inside.0, inside-push (length_after len s) log step inside.1 one)
+
+-- one more step inside the file
+pub placed-step : (log log' : List Step) (step : Step) (image : List ℕ) → AreInside 0 log → Reads log image → log' ≡ log ++ step ∷ []
+    → IsInside (length image) step → AreInside 0 log'
+placed-step log log' step image inside reads is one =
+    subst (AreInside 0) (sym is)
+    (inside-push 0 log step inside (subst (λ (n : ℕ). IsInside n step) (image-longest log image inside reads) one))
 
 take-front : (xs ys : List ℕ) → take (length xs) (xs ++ ys) ≡ xs
 take-front [] ys = refl

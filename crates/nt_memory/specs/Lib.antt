@@ -8,6 +8,7 @@ pub mod Ext
 pub mod Pen
 pub mod Left
 pub mod Leaves
+pub mod Placed
 pub mod Disk
 pub mod Planned
 pub mod Untripped

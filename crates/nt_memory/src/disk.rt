@@ -220,7 +220,8 @@ impl Disk for MemDisk {
             } else {
                 &[]
             };
-            self.log.push(Row::FailedAppend { len: left.len() }, &[]);
+            let len = left.len();
+            self.log.push(Row::FailedAppend { len }, &[]);
             add_reserved(&mut self.image, left);
             return Err(Failed);
         }

@@ -2,6 +2,7 @@
 
 ghost use Rattle.std.specs.Prelude.{◌≡◌, ◌<◌, ◌^◌, ℕ, false, All, Some};
 
+use crate::bytes::are_bytes;
 use crate::calls::Calls;
 use crate::front::copy_front;
 use crate::tally::Tally;
@@ -32,7 +33,7 @@ impl MemFile {
         ensures bytes { state_of result ≡ record { bytes = Some bytes; faults = tally.faults } }
         ensures tally { tally_of result ≡ tally }
     {
-        let _all = bytes.as_slice();
+        are_bytes(bytes.as_slice());
         MemFile { bytes, tally }
     }
 

@@ -1,11 +1,12 @@
 //! A host in memory.
 
-ghost use Rattle.std.specs.Prelude.{◌≡◌, ◌<◌, is_some, true, vec_len, vec_capacity};
+ghost use Rattle.std.specs.Prelude.{◌≡◌, ◌<◌, ◌≤◌, is_some, true, vec_len, vec_capacity};
 
 mod opening;
 mod outside;
 mod trying;
 
+use crate::bytes::are_bytes;
 use crate::calls::Calls;
 use crate::finding::newest;
 use crate::named::NamedFile;
@@ -29,6 +30,7 @@ pub struct MemHost {
     tally: Tally,
     err_faults: u64,
     opened: u64,
+    ghost some: { 1 ≤ plan.most },
     ghost room: { is_some creating ≡ true → vec_len files < vec_capacity files },
 }
 
@@ -66,6 +68,7 @@ impl MemHost {
         let bytes = bytes.to_vec(self.alloc)?;
         self.streams.make_room()?;
         self.files.reserve(2)?;
+        are_bytes(&bytes);
         self.files.push_reserved(NamedFile {
             name,
             bytes,

@@ -1,6 +1,6 @@
 //! Files that a crash may leave of a log.
 
-ghost use Rattle.std.specs.Prelude.{◌≡◌, ◌+◌, ◌≤◌, length, drop, take, replicate, vec_len, Option, None, IfOk};
+ghost use Rattle.std.specs.Prelude.{◌≡◌, ◌+◌, ◌≤◌, length, drop, take, replicate, vec_len, map, Some, OnOk, IfOk};
 ghost use Rattle.nt_lists.specs.Places.{put_at};
 ghost use Rattle.nt_outside.specs.Log.{Write, FailedWrite, Append, FailedAppend, Settle, Sync};
 ghost use Rattle.nt_outside.specs.Crash.{LeavesBehind};
@@ -32,6 +32,20 @@ fn put_cells(list: &mut Vec<Option<u8>>, at: usize, cells: &[Option<u8>])
     list[at..at + cells.len()].copy_from_slice(cells);
 }
 
+/// Puts over a place what a failed write leaves there: of a single byte the old one, of others zeros.
+fn fail_over(alloc: Global, list: &mut Vec<u8>, at: usize, bytes: &[u8]) -> Result<(), AllocError>
+    requires { at + length bytes.now ≤ vec_len list.old }
+    ensures items { OnOk result (list.new.items ≡ put_at list.old.items at (failed_over bytes.now (drop at list.old.items))) }
+    ensures len { vec_len list.new ≡ vec_len list.old }
+{
+    if bytes.len() == 1 {
+        return Ok(());
+    }
+    let zeros = vec![in alloc; 0u8; bytes.len()]?;
+    put_over(list, at, &zeros);
+    Ok(())
+}
+
 /// What a write leaves newest at a place.
 fn renewed(
     alloc: Global,
@@ -47,6 +61,13 @@ fn renewed(
         return vec![in alloc; Some(bytes[0]); 1];
     }
     vec![in alloc; None; bytes.len()]
+}
+
+/// The cells of bytes that are all newest.
+fn cells_of(alloc: Global, bytes: &[u8]) -> Result<Vec<Option<u8>>, AllocError>
+    ensures { IfOk result (λ cells. cells.items ≡ map Some bytes.now) }
+{
+    bytes.iter().map(|byte| Some(*byte)).collect(alloc)
 }
 
 /// The byte that the worst file has at a place.
@@ -72,16 +93,10 @@ impl Leaves {
         }
     }
 
-    /// After a write, or one that failed: of that, all but a single byte are zeros, and a single one is the old.
-    fn written(
-        self,
-        alloc: Global,
-        at: usize,
-        bytes: &[u8],
-        failed: bool,
-    ) -> Result<Self, AllocError>
+    /// After a write.
+    fn written(self, alloc: Global, at: usize, bytes: &[u8]) -> Result<Self, AllocError>
         requires { at + length bytes.now ≤ vec_len self.whole }
-        ensures { IfOk result (λ l. left_view l ≡ left_after (left_view self) (if failed then FailedWrite at bytes.now else Write at bytes.now)) }
+        ensures { IfOk result (λ l. left_view l ≡ left_after (left_view self) (Write at bytes.now)) }
     {
         let Leaves {
             mut whole,
@@ -90,12 +105,27 @@ impl Leaves {
         } = self;
         let cells = renewed(alloc, bytes, &newest, at)?;
         put_cells(&mut newest, at, &cells);
-        if !failed {
-            put_over(&mut whole, at, bytes);
-        } else if bytes.len() != 1 {
-            let zeros = vec![in alloc; 0u8; bytes.len()]?;
-            put_over(&mut whole, at, &zeros);
-        }
+        put_over(&mut whole, at, bytes);
+        Ok(Leaves {
+            whole,
+            kept,
+            newest,
+        })
+    }
+
+    /// After a write that failed.
+    fn missed(self, alloc: Global, at: usize, bytes: &[u8]) -> Result<Self, AllocError>
+        requires { at + length bytes.now ≤ vec_len self.whole }
+        ensures { IfOk result (λ l. left_view l ≡ left_after (left_view self) (FailedWrite at bytes.now)) }
+    {
+        let Leaves {
+            mut whole,
+            kept,
+            mut newest,
+        } = self;
+        let cells = renewed(alloc, bytes, &newest, at)?;
+        put_cells(&mut newest, at, &cells);
+        fail_over(alloc, &mut whole, at, bytes)?;
         Ok(Leaves {
             whole,
             kept,
@@ -148,7 +178,7 @@ impl Leaves {
     {
         let whole = self.whole;
         let kept = whole.to_vec(alloc)?;
-        let newest: Vec<Option<u8>> = whole.iter().map(|byte| Some(*byte)).collect(alloc)?;
+        let newest = cells_of(alloc, &whole)?;
         Ok(Leaves {
             whole,
             kept,
@@ -163,8 +193,8 @@ impl Leaves {
         ensures { IfOk result (λ l. left_view l ≡ left_after (left_view self) (step row bytes.now)) }
     {
         match row {
-            Row::Write { at, .. } => self.written(alloc, at as usize, bytes, false),
-            Row::FailedWrite { at, .. } => self.written(alloc, at as usize, bytes, true),
+            Row::Write { at, .. } => self.written(alloc, at as usize, bytes),
+            Row::FailedWrite { at, .. } => self.missed(alloc, at as usize, bytes),
             Row::Append { .. } => self.grown(alloc, bytes),
             Row::FailedAppend { len } => self.grown(alloc, &vec![in alloc; 0u8; len]?),
             Row::Reserve { len, .. } => self.grown(alloc, &vec![in alloc; 0u8; len as usize]?),
@@ -186,13 +216,12 @@ impl Leaves {
         ensures { IfOk result (λ l. left_view l ≡ left_by (steps rows.now bytes.now)) }
     {
         let mut leaves = Leaves::new(alloc);
-        let mut at = 0;
+        let mut rest = bytes;
         for i in 0..rows.len() {
             let row = rows[i];
-            let len = row.kept();
-            let own = &bytes[at..at + len];
+            let (own, next) = rest.split_at(row.kept());
             leaves = leaves.after(alloc, row, own)?;
-            at += len;
+            rest = next;
         }
         Ok(leaves)
     }

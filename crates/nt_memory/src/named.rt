@@ -1,8 +1,7 @@
 //! Files by name.
 
-ghost use Rattle.std.specs.Prelude.{◌≡◌, ◌<◌, ◌^◌, ℕ, All, ForSome};
-ghost use Rattle.nt_memory.specs.Logged.{steps_of};
-ghost use Rattle.nt_memory.specs.Left.{AreInside};
+ghost use Rattle.std.specs.Prelude.{◌≡◌, ◌<◌, ◌^◌, ℕ, All};
+ghost use Rattle.nt_memory.specs.Placed.{ArePlaced, ArePlaced-prop};
 
 use crate::left::pick_left;
 use crate::log::Log;
@@ -16,7 +15,7 @@ pub struct NamedFile {
     pub bytes: Vec<u8>,
     pub log: Option<Log>,
     ghost fit: { All (λ (b : ℕ). b < 2 ^ 8) bytes.items },
-    ghost placed: { ForSome log (λ l. AreInside 0 (steps_of l)) },
+    ghost placed: { ArePlaced log } by { ArePlaced-prop log },
 }
 
 impl NamedFile {

@@ -1,6 +1,6 @@
 //! Which calls of which objects are to fail.
 
-ghost use Rattle.std.specs.Prelude.{◌≡◌, ◌≤◌, [], IfOk};
+ghost use Rattle.std.specs.Prelude.{◌≡◌, [], IfOk};
 ghost use Rattle.nt_memory.specs.Planned.{numbers_for};
 
 use crate::trip::Trip;
@@ -68,7 +68,6 @@ pub struct Plan {
     pub disk_trip: Trip,
     pub torn: bool,
     pub most: usize,
-    ghost some: { 1 ≤ most },
 }
 
 impl Plan {

@@ -3,12 +3,12 @@
 ghost use Rattle.std.specs.Prelude.{◌≡◌, ◌<◌, length, if◌then◌else◌, is_ok, IfOk, IsNone, IsSome};
 
 use super::MemHost;
+use crate::bytes::are_bytes;
 use crate::disk::MemDisk;
 use crate::file::MemFile;
 use crate::named::NamedFile;
 use crate::plan::Object;
 use crate::streams::add_unless;
-use crate::tally::Tally;
 use crate::text::MemSource;
 use nt_outside::{Failed, Host, Kind, Refused, Stream};
 
@@ -42,8 +42,7 @@ impl Host for MemHost {
     {
         let ask = self.prepare(Kind::Text, name)?;
         let found = self.copy_of(name)?;
-        let fails = self.calls_of(Object::Text(self.plan.texts))?;
-        let tally = Tally::new(fails, self.plan.trip.share()?);
+        let tally = self.new_tally(Object::Text(self.plan.texts))?;
         match self.admit(ask, found) {
             Some(bytes) => {
                 self.plan.texts = self.plan.texts.saturating_add(1);
@@ -74,8 +73,7 @@ impl Host for MemHost {
     {
         let ask = self.prepare(Kind::File, name)?;
         let found = self.copy_of(name)?;
-        let fails = self.calls_of(Object::File(self.plan.files))?;
-        let tally = Tally::new(fails, self.plan.trip.share()?);
+        let tally = self.new_tally(Object::File(self.plan.files))?;
         match self.admit(ask, found) {
             Some(bytes) => {
                 self.plan.files = self.plan.files.saturating_add(1);
@@ -108,22 +106,16 @@ impl Host for MemHost {
         let ask = self.prepare(Kind::Out, name)?;
         let creating = String::from_str(self.alloc, name)?;
         let created = String::from_str(self.alloc, name)?;
-        let fails = self.calls_of(Object::Disk)?;
-        let tally = Tally::new(fails, self.plan.disk_trip.share()?);
-        let pens = self.calls_of_pens()?;
+        let disk = self.new_disk()?;
         self.files.reserve(1)?;
         self.created.reserve(1)?;
-        let found = if self.creating.is_none() {
-            Some(creating)
-        } else {
-            None
-        };
+        let found = self.name_unless_out(creating);
         match self.admit(ask, found) {
             Some(creating) => {
                 self.created.push_reserved(created);
                 self.creating = Some(creating);
                 self.opened += 1;
-                Ok(MemDisk::open(self.alloc, tally, pens, self.plan.torn))
+                Ok(disk)
             }
             None => Err(Refused::Failed),
         }
@@ -142,6 +134,7 @@ impl Host for MemHost {
         let Some(name) = self.creating.take() else {
             return;
         };
+        are_bytes(&bytes);
         self.files.push_reserved(NamedFile {
             name,
             bytes,
