@@ -1,5 +1,6 @@
 -- What is read where the steps of a writer cover nothing.
-use Rattle.std.proofs.Common.{◌≡◌, ◌∙◌, ap, sym, refl, subst, ℕ, zero, suc, ◌+◌, ◌≤◌, ◌==◌, Bool, true, false, List, [], ◌∷◌, ◌++◌, length, map}
+use Rattle.std.proofs.Common.{◌≡◌, ◌∙◌, ap, sym, refl, subst, ℕ, zero, suc, ◌+◌, ◌≤◌, ◌==◌, Bool, true, false, List, [], ◌∷◌, ◌++◌}
+use Rattle.std.proofs.Common.{length, map}
 use Rattle.std.proofs.Common.{take, drop, Option, Some, None, eqb-true, arith}
 use Rattle.std.specs.Prelude.{◌&&◌, ◌||◌}
 use Rattle.std.specs.List.{AllByRecursion}
@@ -16,7 +17,8 @@ use Rattle.nt_lists.specs.Parts.{StandAt}
 use Rattle.nt_logged.specs.Stands.{LieApart}
 use Rattle.nt_logged.specs.Spares.{SparesPlace}
 use Rattle.nt_logged.proofs.Pieces.{piece_front, piece_beside, length-put}
-use Rattle.nt_logged.proofs.Sparing.{all_among, AreInside, inside-step, inside-steps, tail-split, settled_spared, appended_spared, front_spared}
+use Rattle.nt_logged.proofs.Sparing.{all_among, AreInside, inside-step, inside-steps, tail-split, settled_spared, appended_spared}
+use Rattle.nt_logged.proofs.Sparing.{front_spared}
 
 -- ---- what is known at a place
 
