@@ -1,7 +1,7 @@
 -- A disk that follows a history, and one entry more.
 use Rattle.std.proofs.Common.{◌≡◌, ◌∙◌, ap, sym, refl, ℕ, zero, suc, ◌+◌, ◌-◌, ◌^◌, ◌<◌, ◌≤◌, false, List, [], ◌∷◌, ◌++◌, length, map}
 use Rattle.std.proofs.Common.{Option, Some, arith, subst, append_assoc, append-nil, inl, inr}
-use Rattle.std.specs.Prelude.{slice_get, ◌⊎◌}
+use Rattle.std.specs.Prelude.{◌⊎◌}
 use Rattle.std.specs.List.{AllByRecursion}
 use Rattle.nt_outside.specs.Log.{Step, Reserve, Settle}
 use Rattle.nt_outside.specs.Held.{Held, BecomesSome, IsReserved}
@@ -13,14 +13,13 @@ use Rattle.nt_machine.specs.declared.entry.EntryKind.{EntryKind}
 use Rattle.nt_machine.specs.declared.entry.EntryKind.TheVariants as entry
 use Rattle.nt_machine.specs.Faults.{HasRisen, HasFaults, faults_after, FaultsRise}
 use Rattle.nt_machine.specs.History.{Cluster, Fate, Out, is_out, handed_back, after_kind, after_entry, ranges_of}
-use Rattle.nt_machine.specs.Legal.{IsKindAllowed, IsAllowed, IsOut, end_after}
-use Rattle.nt_machine.specs.Told.{DiskStep, settle_at, disk_steps_of}
+use Rattle.nt_machine.specs.Legal.{IsKindAllowed, IsAllowed, IsOut, last_end, end_after}
 use Rattle.nt_machine.proofs.Histories.{AllByRecursion-append}
 use Rattle.nt_machine.proofs.Legality.{IsLegalAfter-snoc, ranges_of-snoc, ranges_of-back, end_after-snoc, IsApart-fold}
 use Rattle.nt_commit.specs.Locked.{place_of, ranges_out, Follows}
-use Rattle.nt_logged.specs.Steps.{logged_step, steps_of_history}
+use Rattle.nt_logged.specs.Logs.{IsLogOf}
+use Rattle.nt_logged.proofs.Growing.{log-commit, log-fault}
 use Rattle.nt_commit.proofs.Handed.{IsRoomy, ranges_out-snoc, ranges_out-set, end_after-handed_back, roomy-handed_back}
-use Rattle.nt_commit.proofs.Telling.{steps_of_history-snoc}
 
 -- a count that rose has risen
 pub risen : (before now : ℕ) → before ≤ now → Rose before now → now < 2 ^ 64 → HasRisen before now
@@ -58,14 +57,15 @@ module _ {M : Type 0} where
 
   module _ (begun d d' : DiskState) (contexts : ℕ) (history : List (Entry M)) (follows : Follows begun d contexts history) where
     -- one entry more, and what it does to the disk
-    pub Follows-snoc : (e : Entry M) → IsAllowed begun.end (ranges_of history) e → e.context ≤ contexts
+    pub Follows-snoc : (e : Entry M) (new : List Step) → IsAllowed begun.end (ranges_of history) e → e.context ≤ contexts
         → AllByRecursion IsRoomy (after_entry (ranges_of history) e)
         → d'.end ≡ end_after begun.end (after_entry (ranges_of history) e) → d'.out ≡ ranges_out (after_entry (ranges_of history) e)
-        → ((h : Held) → begun.held ≡ Some h → BecomesSome d.held d'.held (λ h h'. h'.log ≡ h.log
-        ++ map logged_step (disk_steps_of (ranges_of history) e.kind)))
+        → ((h : Held) → begun.held ≡ Some h → BecomesSome d.held d'.held (λ h h'. h'.log ≡ h.log ++ new))
+        → ((steps : List Step) → IsLogOf begun.end d.end history [] [] steps
+        → IsLogOf begun.end d'.end (history ++ e ∷ []) [] [] (steps ++ new))
         → (HasFaults e.kind → HasRisen d.faults (faults_after d.faults e.kind)) → faults_after d.faults e.kind ≤ d'.faults
         → Follows begun d' contexts (history ++ e ∷ [])
-    Follows-snoc e allowed context roomy end out log rises later =
+    Follows-snoc e new allowed context roomy end out log grown rises later =
         let ranges = sym (ranges_of-snoc history e) in
         record {
           legal = IsLegalAfter-snoc begun.end [] history e follows.legal allowed;
@@ -75,13 +75,14 @@ module _ {M : Type 0} where
           out = out ∙ ap (λ (l : List (Cluster M)). ranges_out l) ranges;
           log = λ h is.
               let first = follows.log h is in
-              let second = log h is first.0 first.1 in
-              let steps = map logged_step (disk_steps_of (ranges_of history) e.kind) in (
+              let second = log h is first.0 first.1 in (
                 second.0,
                 second.1,
-                second.2 ∙ (ap (λ (l : List Step). l ++ steps) first.2
-                    ∙ (append_assoc h.log (steps_of_history history) steps
-                    ∙ ap (λ (l : List Step). h.log ++ l) (sym (steps_of_history-snoc history e)))),
+                record {
+                  steps = first.2.steps ++ new;
+                  log = second.2 ∙ (ap (λ (l : List Step). l ++ new) first.2.log ∙ append_assoc h.log first.2.steps new);
+                  is_log = grown first.2.steps first.2.is_log;
+                },
               );
           rise = FaultsRise-later begun.faults (history ++ e ∷ []) (faults_after d.faults e.kind) d'.faults
               (FaultsRise-snoc begun.faults history d.faults e follows.rise rises) later;
@@ -96,56 +97,73 @@ module _ {M : Type 0} where
           roomy = follows.roomy;
           end = end ∙ follows.end;
           out = out ∙ follows.out;
-          log = λ h is. let first = follows.log h is in (first.0, held ∙ first.1, first.2);
+          log = λ h is.
+              let first = follows.log h is in (
+                first.0,
+                held ∙ first.1,
+                record {
+                  steps = first.2.steps;
+                  log = first.2.log;
+                  is_log = subst (λ (e : ℕ). IsLogOf begun.end e history [] [] first.2.steps) (sym end) first.2.is_log;
+                },
+              );
           rise = FaultsRise-later begun.faults history d.faults d'.faults follows.rise later;
         }
 
     -- a range was reserved for a cluster
     pub Follows-commit : (i n start len : ℕ) (meta : M) → n ≡ length (ranges_of history)
-        → start ≡ end_after begun.end (ranges_of history) → i ≤ contexts → 42 ≤ len
+        → last_end begun.end (ranges_of history) ≤ start → start ≡ end_after begun.end (ranges_of history) → i ≤ contexts → 42 ≤ len
         → BecomesSome d.held d'.held (IsReserved d.end len) → d'.end ≡ d.end + len → d'.out ≡ d.out ++ record {
           start = d.end;
           len = len;
         } ∷ [] → d.faults ≤ d'.faults
         → Follows begun d' contexts (history ++ record { context = i; kind = entry.Committed n start len meta } ∷ [])
-    Follows-commit i n start len meta number place context roomy log end out later =
+    Follows-commit i n start len meta number behind place context roomy log end out later =
         let c : Cluster M = record { context = i; number = n; start = start; len = len; meta = meta; state = Out } in
         let old = ranges_of history in
         let from : d.end ≡ start = follows.end ∙ sym place in
-        Follows-snoc (record { context = i; kind = entry.Committed n start len meta }) (number, place) context
+        let e : ℕ → Entry M = λ (m : ℕ). record { context = i; kind = entry.Committed n m len meta } in
+        Follows-snoc (e start) (Reserve start len ∷ []) (number, behind) context
         (AllByRecursion-append IsRoomy old (c ∷ []) follows.roomy (roomy, tt))
         (end ∙ (ap (λ (m : ℕ). m + len) follows.end ∙ sym (end_after-snoc begun.end old c)))
         (out ∙ (ap (λ (l : List _). l ++ record { start = d.end; len = len } ∷ []) follows.out
         ∙ (ap (λ (m : ℕ). ranges_out old ++ record { start = m; len = len } ∷ []) from ∙ sym (ranges_out-snoc old c refl))))
         (λ begins told h is. let next = log h is in (next.0, next.1, next.2.log ∙ ap (λ (m : ℕ). h.log ++ Reserve m len ∷ []) from))
+        (λ steps was.
+        subst (λ (to : ℕ). IsLogOf begun.end to (history ++ e start ∷ []) [] [] (steps ++ Reserve start len ∷ [])) (sym end)
+        (subst (λ (m : ℕ). IsLogOf begun.end (d.end + len) (history ++ e m ∷ []) [] [] (steps ++ Reserve m len ∷ [])) from
+        (log-commit begun.end d.end history [] [] steps was i n len meta)))
         (λ h. absurd h) later
 
     -- a range was handed back
     pub Follows-back : (i n : ℕ) (fate : Fate) (k : EntryKind M) (bytes : Option (List ℕ)) → (is : IsOut (ranges_of history) i n)
         → is_out fate ≡ false
         → after_kind (ranges_of history) i k ≡ map (handed_back i n fate) (ranges_of history)
-        → disk_steps_of (ranges_of history) k ≡ settle_at (slice_get (ranges_of history) n) bytes
+        → ((steps : List Step) → IsLogOf begun.end d.end history [] [] steps
+        → IsLogOf begun.end d.end (history ++ record { context = i; kind = k } ∷ []) [] []
+        (steps ++ Settle is.cluster.start is.cluster.len bytes ∷ []))
         → IsKindAllowed begun.end (ranges_of history) i k → i ≤ contexts
         → ((h : Held) → begun.held ≡ Some h → BecomesSome d.held d'.held (λ h h'. h'.log ≡ h.log
         ++ Settle is.cluster.start is.cluster.len bytes ∷ []))
         → d'.end ≡ d.end → d'.out ≡ without (place_of is.cluster) d.out
         → (HasFaults k → HasRisen d.faults (faults_after d.faults k)) → faults_after d.faults k ≤ d'.faults
         → Follows begun d' contexts (history ++ record { context = i; kind = k } ∷ [])
-    Follows-back i n fate k bytes is back after steps allowed context log end out rises later =
+    Follows-back i n fate k bytes is back after grown allowed context log end out rises later =
         let old = ranges_of history in
         let apart = IsApart-fold begun.end [] history follows.legal (omega arith) in
         let put = ranges_of-back begun.end i n fate history follows.legal is in
-        let logged : map logged_step (disk_steps_of old k) ≡ Settle is.cluster.start is.cluster.len bytes ∷ [] =
-        ap (λ (l : List DiskStep). map logged_step l) steps ∙ ap (λ (o : Option (Cluster M)). map logged_step (settle_at o bytes)) is.at in
-        Follows-snoc (record { context = i; kind = k }) allowed context
+        let e : Entry M = record { context = i; kind = k } in
+        let step = Settle is.cluster.start is.cluster.len bytes in
+        Follows-snoc e (step ∷ []) allowed context
         (subst (λ (l : List (Cluster M)). AllByRecursion IsRoomy l) (sym after) (roomy-handed_back i n fate old follows.roomy))
         (end ∙ (follows.end ∙ (sym (end_after-handed_back begun.end i n fate old)
         ∙ ap (λ (l : List (Cluster M)). end_after begun.end l) (sym after))))
         (out ∙ (ap (λ (l : List _). without (place_of is.cluster) l) follows.out
-        ∙ (sym (ranges_out-set begun.end (end_after begun.end old) old n is.cluster fate apart follows.roomy is.at is.out back)
+        ∙ (sym (ranges_out-set begun.end (last_end begun.end old) old n is.cluster fate apart follows.roomy is.at is.out back)
         ∙ (ap (λ (l : List (Cluster M)). ranges_out l) (sym put) ∙ ap (λ (l : List (Cluster M)). ranges_out l) (sym after)))))
-        (λ begins told h was. let next = log begins told h was in
-        (next.0, next.1, next.2 ∙ ap (λ (l : List Step). h.log ++ l) (sym logged)))
+        log
+        (λ steps was.
+        subst (λ (to : ℕ). IsLogOf begun.end to (history ++ e ∷ []) [] [] (steps ++ step ∷ [])) (sym end) (grown steps was))
         rises later
 
     -- the disk failed, and that was entered
@@ -153,5 +171,11 @@ module _ {M : Type 0} where
         → HasRisen d.faults faults → faults ≤ d'.faults
         → Follows begun d' contexts (history ++ record { context = i; kind = entry.Faulted faults } ∷ [])
     Follows-fault i faults context held end out rises later =
-        Follows-snoc (record { context = i; kind = entry.Faulted faults }) tt context follows.roomy (end ∙ follows.end) (out ∙ follows.out)
-        (λ begins told h is. (h, held ∙ is, sym (append-nil h.log))) (λ h. rises) later
+        let e : Entry M = record { context = i; kind = entry.Faulted faults } in
+        Follows-snoc e [] tt context follows.roomy (end ∙ follows.end) (out ∙ follows.out)
+        (λ begins told h is. (h, held ∙ is, sym (append-nil h.log)))
+        (λ steps was.
+        subst (λ (to : ℕ). IsLogOf begun.end to (history ++ e ∷ []) [] [] (steps ++ [])) (sym end)
+        (subst (λ (l : List Step). IsLogOf begun.end d.end (history ++ e ∷ []) [] [] l) (sym (append-nil steps))
+        (log-fault begun.end d.end history [] [] steps was i faults)))
+        (λ h. rises) later

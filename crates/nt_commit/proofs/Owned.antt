@@ -1,20 +1,25 @@
 -- What was done to a disk and its book, of a state as its owner sees it.
-use Rattle.std.proofs.Common.{◌≡◌, ◌∙◌, sym, refl, ℕ, [], Option, Some, subst}
+use Rattle.std.proofs.Common.{◌≡◌, ◌∙◌, ap, sym, refl, ℕ, List, [], ◌++◌, length, Option, Some, subst}
 use Rattle.std.proofs.Common.{append-nil}
 use Rattle.std.specs.Prelude.{Result, Ok, Err}
 use Rattle.std.specs.Result.{IsErrAnd}
 use Rattle.nt_outside.specs.Held.{Held}
 use Rattle.nt_outside.specs.Range.{ExtState}
 use Rattle.nt_outside.specs.Disk.{DiskState}
+use Rattle.nt_turn.specs.Pass.{TurnState, PassState}
+use Rattle.nt_machine.specs.declared.entry.Entry.{Entry}
+use Rattle.nt_machine.specs.History.{ranges_of}
+use Rattle.nt_machine.specs.Legal.{end_after}
 use Rattle.nt_book.specs.declared.limits.LimitError.{LimitError}
 use Rattle.nt_book.specs.declared.meta.ClusterMeta.{ClusterMeta}
 use Rattle.nt_book.specs.Limiting.{limit_error}
 use Rattle.nt_commit.specs.declared.claim.Claim.{Claim}
+use Rattle.nt_commit.specs.declared.locked.Birth.{Birth}
 use Rattle.nt_commit.specs.declared.error.CommitError.TheVariants.{RangeTooLarge, FileTooLarge, TooManyClusters, Memory, Fault}
 use Rattle.nt_commit.specs.Claims.{CommitAdds, limit_in, limit_answered}
 use Rattle.nt_commit.specs.declared.error.CommitError.{CommitError}
 use Rattle.nt_outside.specs.declared.fault.Refused.{Refused}
-use Rattle.nt_commit.specs.Holds.{IsStep, Commits, OpensPen, SettlesRange, KeepsHistory, Spoils, locked_end, locked_count}
+use Rattle.nt_commit.specs.Holds.{IsStep, Commits, CommitsInHold, RefusesBehindSeen, OpensPen, SettlesRange, KeepsHistory, Spoils, locked_end, locked_count}
 use Rattle.nt_commit.specs.Locked.{LockedState, history_of_locked}
 
 module _ {D : Type 0} (state : D → DiskState) (v v' w : LockedState D) (same : v ≡ v') where
@@ -48,6 +53,32 @@ limit_adds tell held was is n start meta (Err (FileTooLarge end most)) l named =
 limit_adds tell held was is n start meta (Err TooManyClusters) l named = refl
 limit_adds tell held was is n start meta (Err Memory) l named = absurd (cc named)
 limit_adds tell held was is n start meta (Err Fault) l named = absurd (cc named)
+
+-- a refusal for a limit adds nothing
+pub limit_nothing : {X : Type 0} (tell : X → ExtState) (held : Option Held) (was is n start : ℕ) (meta : ClusterMeta)
+    (result : Result (Claim X) CommitError) (l : LimitError) → limit_answered result ≡ Some l
+    → (added : List (Entry ClusterMeta)) → CommitAdds tell held was is n start meta result added → added ≡ []
+limit_nothing tell held was is n start meta (Ok claim) l named added adds = absurd (cc named)
+limit_nothing tell held was is n start meta (Err (RangeTooLarge len most)) l named added adds = adds
+limit_nothing tell held was is n start meta (Err (FileTooLarge end most)) l named added adds = adds
+limit_nothing tell held was is n start meta (Err TooManyClusters) l named added adds = adds
+limit_nothing tell held was is n start meta (Err Memory) l named added adds = absurd (cc named)
+limit_nothing tell held was is n start meta (Err Fault) l named added adds = absurd (cc named)
+
+-- it names a limit behind just what the pass has then seen
+pub limit_seen : {D X : Type 0} (state : D → DiskState) (tell : X → ExtState) (committer : TurnState (Birth D)) (meta : ClusterMeta)
+    (old new : PassState (Entry ClusterMeta) (Birth D)) (result : Result (Claim X) CommitError)
+    → CommitsInHold state tell committer meta old new result → RefusesBehindSeen state committer meta.len new result
+limit_seen {D = D} state tell committer meta old new result c l named =
+    let history = history_of_locked state c.taken in
+    let none = limit_nothing tell _ _ _ _ _ meta result l named c.commits.added c.commits.adds in
+    let seen : new.seen ≡ history =
+    ap (λ (p : PassState (Entry ClusterMeta) (Birth D)). p.seen) c.hold.now
+    ∙ (c.hold.grows ∙ (ap (λ (a : List (Entry ClusterMeta)). history ++ a) none ∙ append-nil history)) in
+    subst (λ (h : List (Entry ClusterMeta)). limit_error committer.birth.limits (end_after (state committer.birth.begun).end (ranges_of h))
+    (length (ranges_of h)) meta.len ≡ Some l) (sym seen)
+    (subst (λ (b : Birth D). limit_error b.limits (end_after (state b.begun).end (ranges_of history)) (length (ranges_of history)) meta.len
+    ≡ Some l) c.hold.birth (c.commits.limits ∙ named))
 
 pub limit_named : {X : Type 0} (result : Result (Claim X) CommitError) (l : LimitError) → IsErrAnd result (λ e. limit_in e ≡ Some l)
     → limit_answered result ≡ Some l

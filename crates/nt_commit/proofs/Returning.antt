@@ -19,6 +19,7 @@ use Rattle.nt_commit.specs.Claims.{IsClaimOf, settled_with}
 use Rattle.nt_commit.specs.Holds.{IsStep, SettlesRange, Spoils}
 use Rattle.nt_commit.specs.Locked.{LockedState, place_of, IsInStep, history_of_locked}
 use Rattle.nt_logged.specs.Steps.{bytes_where_told}
+use Rattle.nt_logged.proofs.Growing.{log-settle, log-spoil}
 use Rattle.nt_commit.proofs.Following.{risen, Follows-back}
 use Rattle.nt_commit.proofs.Telling.{told_entry}
 use Rattle.nt_commit.proofs.Stepping.{locked_of, grows_to, claimed}
@@ -75,12 +76,14 @@ module _ {D : Type 0} (state : D → DiskState) (begun d : D) (contexts : ℕ) (
         let start : ext.range.start ≡ out.cluster.start = ap (λ (r : Range). r.start) (sym range) in
         let len : ext.range.len ≡ out.cluster.len = ap (λ (r : Range). r.len) (sym range) in
         let step = Settle ext.range.start ext.range.len ext.content in
+        let whole = subst (λ (m : ℕ). AreAsLong bytes m) len (long_where (state begun).held ext.content long) in
         grows_to state begun d contexts b was d' b' (settled_entry i n) (settled_with i n bytes) spare (step ∷ []) is
         (λ h was. let next = log h was in (next.0, next.1, next.2.log))
         (told-settled (state begun).held i n ext.range.start ext.range.len ext.content)
         (Follows-back (state begun) (state d) (state d') contexts history was.follows i n (Settled bytes) (entry.Settled n bytes)
-        bytes out refl refl refl
-        (out, subst (λ (m : ℕ). AreAsLong bytes m) len (long_where (state begun).held ext.content long)) context
+        bytes out refl refl
+        (λ steps w. log-settle (state begun).end (state d).end history [] [] steps w i n bytes out whole)
+        (out, whole) context
         (λ begins told h was.
         let next = log h was in
         let same : ext.content ≡ bytes = sym (ap (λ (o : Option Held). bytes_where_told o ext.content) told) in (
@@ -112,7 +115,8 @@ module _ {D : Type 0} (state : D → DiskState) (begun d : D) (contexts : ℕ) (
         (Settle ext.range.start ext.range.len ext.content ∷ []) is
         log (told-spoiled (state begun).held i n faults (Settle ext.range.start ext.range.len ext.content ∷ []))
         (Follows-back (state begun) (state d) (state d') contexts history was.follows i n (Spoiled faults) (entry.Spoiled n faults)
-        None out refl refl refl out context
+        None out refl refl
+        (λ steps w. log-spoil (state begun).end (state d).end history [] [] steps w i n faults out) out context
         (λ begins told h was.
         let next = log h was in (
           next.0,

@@ -12,7 +12,7 @@ use Rattle.nt_outside.specs.Faults.{Rose}
 use Rattle.nt_machine.specs.declared.entry.Entry.{Entry}
 use Rattle.nt_machine.specs.declared.entry.EntryKind.TheVariants as entry
 use Rattle.nt_machine.specs.History.{ranges_of}
-use Rattle.nt_machine.specs.Legal.{IsOut, end_after}
+use Rattle.nt_machine.specs.Legal.{IsOut, last_end, end_after}
 use Rattle.nt_book.specs.declared.limits.Limits.{Limits}
 use Rattle.nt_book.specs.declared.limits.LimitError.{LimitError}
 use Rattle.nt_book.specs.declared.meta.ClusterMeta.{ClusterMeta}
@@ -24,12 +24,14 @@ use Rattle.nt_commit.specs.declared.claim.Claim.{Claim}
 use Rattle.nt_commit.specs.Claims.{IsNewClaim, IsClaimOf}
 use Rattle.nt_commit.specs.Holds.{IsStep, locked_end, locked_count}
 use Rattle.nt_commit.specs.Locked.{LockedState, place_of, Follows, IsInStep, birth_with, history_of_locked, locked_by}
+use Rattle.nt_logged.specs.Tails.{range_steps}
 use Rattle.nt_logged.specs.Steps.{told_history}
 use Rattle.nt_commit.proofs.Claimed.{claim_out}
 use Rattle.nt_commit.proofs.Handed.{contains_out}
 use Rattle.nt_commit.proofs.Short.{IsShort, ReservesShort, short-snoc}
 use Rattle.nt_commit.proofs.Following.{risen, Follows-same, Follows-commit, Follows-fault}
-use Rattle.nt_commit.proofs.Telling.{told_entry, told_history-snoc, steps_are_counted, told_out, told_end, told_count}
+use Rattle.nt_commit.proofs.Telling.{told_entry, steps_count, GainsSo, told_history-snoc, steps_are_counted, told_out, told_end, told_last}
+use Rattle.nt_commit.proofs.Telling.{told_count}
 
 abbrev pub locked_of : {D : Type 0} → D → D → ℕ → BookData → LockedState D
 locked_of begun disk contexts book = locked_by (birth_with begun book contexts) disk book
@@ -61,6 +63,16 @@ module _ {D : Type 0} (state : D → DiskState) (begun d : D) (contexts : ℕ) (
   end_is =
       ap (λ (m : ℕ). end_after m (ranges_of b.history)) was.begin
       ∙ sym (told_end (state begun).end (state begun).held (state d).held b.history)
+
+  -- the last range ends where the book's does, or before
+  begun_behind : last_end b.begin (ranges_of b.history) ≤ book_end b → last_end (state begun).end (ranges_of history) ≤ book_end b
+  begun_behind behind =
+      omega (
+        arith,
+        behind,
+        ap (λ (m : ℕ). last_end m (ranges_of b.history)) was.begin,
+        told_last (state begun).end (state begun).held (state d).held b.history,
+      )
 
   count_is : length (book_clusters b) ≡ locked_count state old
   count_is = sym (told_count (state begun).held (state d).held b.history)
@@ -136,18 +148,31 @@ module _ {D : Type 0} (state : D → DiskState) (begun d : D) (contexts : ℕ) (
           };
         }
 
+    -- the disk has as many steps as the book's history
+    counted : BecomesSome (state begun).held (state d).held (GainsSo (steps_count b.history))
+    counted h told =
+        let first = was.follows.log h told in (
+          first.0,
+          first.1,
+          record {
+            steps = first.2.steps;
+            log = first.2.log;
+            counted = ap (λ (l : List Step). length l) first.2.is_log.ranges
+                ∙ steps_are_counted (state begun).end (state begun).held (state d).held b.history was.follows.legal;
+          },
+        )
+
     -- a history that grows by an entry of the book, and its steps
     grown : (e : Entry ClusterMeta) (spare : ℕ) (steps : List Step) → HasHistory (b.history ++ e ∷ []) spare
         → BecomesSome (state d).held (state d').held (λ h h'. h'.log ≡ h.log ++ steps)
-        → history_of_locked state new ≡ history ++ told_entry (state begun).held e steps ∷ []
+        → history_of_locked state new ≡ history ++ told_entry (state begun).held e (range_steps steps) ∷ []
     grown e spare steps is log =
         ap (λ (x : BookData). told_history (state begun).held (state d').held x.history) is
-        ∙ told_history-snoc (state begun).held (state d).held (state d').held b.history history e steps was.follows.log
-        (steps_are_counted (state begun).end (state begun).held (state d).held b.history was.follows.legal) log
+        ∙ told_history-snoc (state begun).held (state d).held (state d').held b.history e steps counted log
 
     pub grows_to : (e e' : Entry ClusterMeta) (spare : ℕ) (steps : List Step) → HasHistory (b.history ++ e ∷ []) spare
         → BecomesSome (state d).held (state d').held (λ h h'. h'.log ≡ h.log ++ steps)
-        → told_entry (state begun).held e steps ≡ e'
+        → told_entry (state begun).held e (range_steps steps) ≡ e'
         → Follows (state begun) (state d') contexts (history ++ e' ∷ []) → ReservesShort b.limits.range e'.kind
         → IsStep state old new × (history_of_locked state new ≡ history ++ e' ∷ [])
     grows_to e e' spare steps is log told follows low =
@@ -186,19 +211,19 @@ module _ {D : Type 0} (state : D → DiskState) (begun d : D) (contexts : ℕ) (
 
     -- a range was reserved for a cluster, which was entered
     pub committed : (n spare : ℕ) (meta : ClusterMeta) → HasHistory (b.history ++ committed_entry n (book_end b) meta ∷ []) spare
-        → n ≡ length (book_clusters b)
+        → n ≡ length (book_clusters b) → last_end b.begin (ranges_of b.history) ≤ book_end b
         → None ≡ limit_error b.limits (book_end b) (length (book_clusters b)) meta.len → meta.context ≤ contexts → 42 ≤ meta.len
         → BecomesSome (state d).held (state d').held (IsReserved (state d).end meta.len) → (state d').end ≡ (state d).end + meta.len
         → (state d').out ≡ (state d).out ++ record { start = (state d).end; len = meta.len } ∷ [] → (state d).faults ≤ (state d').faults
         → IsStep state old new × (history_of_locked state new ≡ history ++ committed_entry (locked_count state old)
         (locked_end state old) meta ∷ [])
-    committed n spare meta is number limits context room log end out later =
+    committed n spare meta is number behind limits context room log end out later =
         let done = grows_to (committed_entry n (book_end b) meta) (committed_entry n (book_end b) meta) spare
         (Reserve (state d).end meta.len ∷ []) is
         (λ h was. let next = log h was in (next.0, next.1, next.2.log))
         (told-committed (state begun).held meta.context n (book_end b) meta.len meta (Reserve (state d).end meta.len ∷ []))
         (Follows-commit (state begun) (state d) (state d') contexts history was.follows meta.context n (book_end b) meta.len meta
-        (number ∙ count_is) end_is context room log end out later)
+        (number ∙ count_is) (begun_behind behind) end_is context room log end out later)
         (limit_error-none b.limits (book_end b) (length (book_clusters b)) meta.len (sym limits)).0 in (
           done.0,
           done.1 ∙ (ap (λ (m : ℕ). history ++ committed_entry m (book_end b) meta ∷ []) (number ∙ count_is)

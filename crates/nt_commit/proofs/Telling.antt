@@ -2,8 +2,8 @@
 use Rattle.std.proofs.Common.{◌≡◌, ◌∙◌, ap, sym, refl, ℕ, zero, suc, ◌+◌, ◌≤◌, List, [], ◌∷◌, ◌++◌, length, map, drop, Option, Some, None}
 use Rattle.std.proofs.Common.{arith, append_assoc, append-nil}
 use Rattle.std.specs.Prelude.{slice_get}
-use Rattle.std.specs.List.{fold}
-use Rattle.std.proofs.lemmas.List.{map-append, length-append, length-map, drop-append-le}
+use Rattle.std.proofs.lemmas.List.{length-append, length-map, drop-append-le}
+use Rattle.std.proofs.lemmas.List.Elements.{filter-append}
 use Rattle.std.proofs.Math.Seq.{drop-append_seam}
 use Rattle.nt_outside.specs.Log.{Step}
 use Rattle.nt_outside.specs.Held.{Held, BecomesSome}
@@ -11,10 +11,11 @@ use Rattle.nt_machine.specs.declared.entry.Entry.{Entry}
 use Rattle.nt_machine.specs.declared.entry.EntryKind.{EntryKind}
 use Rattle.nt_machine.specs.declared.entry.EntryKind.TheVariants as entry
 use Rattle.nt_machine.specs.History.{Cluster, after_entry, ranges_of}
-use Rattle.nt_machine.specs.Legal.{IsKindAllowed, IsLegalAfter, IsLegal, IsOut, end_after}
-use Rattle.nt_machine.specs.Told.{DiskStep, settle_at, disk_steps_of, log_after, log_of}
+use Rattle.nt_machine.specs.Legal.{IsKindAllowed, IsLegalAfter, IsLegal, IsOut, last_end, end_after}
+use Rattle.nt_machine.specs.Told.{settle_at, disk_steps_of, log_after, log_of}
 use Rattle.nt_machine.specs.Untold.{settles, settled_count, with_first, with_bytes, without_first, untold}
 use Rattle.nt_machine.proofs.Untelling.{with_bytes-settled, with_bytes-other, same, same_out, same_end}
+use Rattle.nt_logged.specs.Tails.{is_of_range, range_steps}
 use Rattle.nt_logged.specs.Steps.{logged_step, first_bytes, steps_of_history, step_count, told_first, told_bytes, told_history}
 
 length_rest : {A : Type 0} (n m : ℕ) (xs : List A) → length xs ≡ n + m → length (drop n xs) ≡ m
@@ -24,6 +25,12 @@ length_rest (suc n) m (x ∷ xs) is = length_rest n m xs (omega (arith, is))
 
 behind : (front log steps : List Step) → log ≡ front ++ steps → drop (length front) log ≡ steps
 behind front log steps is = ap (λ (l : List Step). drop (length front) l) is ∙ drop-append_seam front steps
+
+-- a log gained steps, so many of them of ranges
+pub record GainsSo (count : ℕ) (h h' : Held) : Type 0 where
+  pub steps : List Step
+  pub log : h'.log ≡ h.log ++ steps
+  pub counted : length (range_steps steps) ≡ count
 
 module _ {M : Type 0} where
   -- how many steps a history is
@@ -89,32 +96,37 @@ module _ {M : Type 0} where
       let e : Entry M = record { context = i; kind = entry.Faulted faults } in
       ap (λ (l : List (Option (List ℕ))). with_bytes (es ++ e ∷ []) l) (append-nil told) ∙ with_bytes-other es e told refl
 
-  told_more : (h now next : Held) (history all : List (Entry M)) (e : Entry M) (steps : List Step)
-      → now.log ≡ h.log ++ steps_of_history all → length (steps_of_history all) ≡ steps_count history → next.log ≡ now.log ++ steps
-      → told_history (Some h) (Some next) (history ++ e ∷ []) ≡ told_history (Some h) (Some now) history ++ told_entry (Some h) e steps ∷ []
-  told_more h now next history all e steps was long log =
-      let before = steps_of_history all in
-      let one : drop (length h.log) now.log ≡ before = behind h.log now.log before was in
-      let two : drop (length h.log) next.log ≡ before ++ steps =
-      behind h.log next.log (before ++ steps) (log ∙ (ap (λ (l : List Step). l ++ steps) was ∙ append_assoc h.log before steps)) in
+  told_more : (h now next : Held) (history : List (Entry M)) (e : Entry M) (steps : List Step)
+      → GainsSo (steps_count history) h now → next.log ≡ now.log ++ steps
+      → told_history (Some h) (Some next) (history ++ e ∷ [])
+      ≡ told_history (Some h) (Some now) history ++ told_entry (Some h) e (range_steps steps) ∷ []
+  told_more h now next history e steps was log =
+      let before = range_steps was.steps in
+      let new = range_steps steps in
+      let one : range_steps (drop (length h.log) now.log) ≡ before =
+      ap (λ (l : List Step). range_steps l) (behind h.log now.log was.steps was.log) in
+      let two : range_steps (drop (length h.log) next.log) ≡ before ++ new =
+      ap (λ (l : List Step). range_steps l)
+      (behind h.log next.log (was.steps ++ steps)
+      (log ∙ (ap (λ (l : List Step). l ++ steps) was.log ∙ append_assoc h.log was.steps steps)))
+      ∙ filter-append is_of_range was.steps steps in
       ap (λ (l : List Step). with_bytes (history ++ e ∷ []) (told_bytes (history ++ e ∷ []) l)) two
-      ∙ (ap (λ (l : List (Option (List ℕ))). with_bytes (history ++ e ∷ []) l) (told_bytes-snoc history e before steps long)
-      ∙ (with_bytes-snoc history e.context e.kind (told_bytes history before) steps (length-told_bytes history before)
-      ∙ ap (λ (l : List Step). with_bytes history (told_bytes history l) ++ told_entry (Some h) e steps ∷ []) (sym one)))
+      ∙ (ap (λ (l : List (Option (List ℕ))). with_bytes (history ++ e ∷ []) l) (told_bytes-snoc history e before new was.counted)
+      ∙ (with_bytes-snoc history e.context e.kind (told_bytes history before) new (length-told_bytes history before)
+      ∙ ap (λ (l : List Step). with_bytes history (told_bytes history l) ++ told_entry (Some h) e new ∷ []) (sym one)))
 
   -- one entry more, and its steps
-  pub told_history-snoc : (begun now next : Option Held) (history all : List (Entry M)) (e : Entry M) (steps : List Step)
-      → BecomesSome begun now (λ h h'. h'.log ≡ h.log ++ steps_of_history all)
-      → length (steps_of_history all) ≡ steps_count history
+  pub told_history-snoc : (begun now next : Option Held) (history : List (Entry M)) (e : Entry M) (steps : List Step)
+      → BecomesSome begun now (GainsSo (steps_count history))
       → BecomesSome now next (λ h h'. h'.log ≡ h.log ++ steps)
-      → told_history begun next (history ++ e ∷ []) ≡ told_history begun now history ++ told_entry begun e steps ∷ []
-  told_history-snoc None now next history all e steps was long log = refl
-  told_history-snoc (Some h) now next history all e steps was long log =
+      → told_history begun next (history ++ e ∷ []) ≡ told_history begun now history ++ told_entry begun e (range_steps steps) ∷ []
+  told_history-snoc None now next history e steps was log = refl
+  told_history-snoc (Some h) now next history e steps was log =
       let first = was h refl in
       let second = log first.0 first.1 in
       ap (λ (o : Option Held). told_history (Some h) o (history ++ e ∷ [])) second.1
-      ∙ (told_more h first.0 second.0 history all e steps first.2 long second.2
-      ∙ ap (λ (o : Option Held). told_history (Some h) o history ++ told_entry (Some h) e steps ∷ []) (sym first.1))
+      ∙ (told_more h first.0 second.0 history e steps first.2 second.2
+      ∙ ap (λ (o : Option Held). told_history (Some h) o history ++ told_entry (Some h) e (range_steps steps) ∷ []) (sym first.1))
 
   length-settle_at : (ranges : List (Cluster M)) (i n : ℕ) (bytes : Option (List ℕ)) → IsOut ranges i n
       → length (settle_at (slice_get ranges n) bytes) ≡ 1
@@ -155,7 +167,8 @@ module _ {M : Type 0} where
       ≡ steps_count history
   steps_count-told None now history = refl
   steps_count-told (Some h) None history = refl
-  steps_count-told (Some h) (Some h') history = steps_count-with_bytes history (told_bytes history (drop (length h.log) h'.log))
+  steps_count-told (Some h) (Some h') history = steps_count-with_bytes history
+      (told_bytes history (range_steps (drop (length h.log) h'.log)))
 
   -- a told history is as many steps as its entries ask for
   pub steps_are_counted : (place : ℕ) (begun now : Option Held) (history : List (Entry M)) → IsLegal place (told_history begun now history)
@@ -169,13 +182,32 @@ module _ {M : Type 0} where
       → IsOut (ranges_of (told_history begun now history)) i n → IsOut (ranges_of history) i n
   told_out None now history i n is = is
   told_out (Some h) None history i n is = is
-  told_out (Some h) (Some h') history i n is = same_out history (told_bytes history (drop (length h.log) h'.log)) i n is
+  told_out (Some h) (Some h') history i n is = same_out history
+      (told_bytes history (range_steps (drop (length h.log) h'.log))) i n is
 
   pub told_end : (place : ℕ) (begun now : Option Held) (history : List (Entry M))
       → end_after place (ranges_of (told_history begun now history)) ≡ end_after place (ranges_of history)
   told_end place None now history = refl
   told_end place (Some h) None history = refl
-  told_end place (Some h) (Some h') history = same_end place history (told_bytes history (drop (length h.log) h'.log))
+  told_end place (Some h) (Some h') history = same_end place history
+      (told_bytes history (range_steps (drop (length h.log) h'.log)))
+
+  last-untold : (place : ℕ) (cs : List (Cluster M)) → last_end place (map untold cs) ≡ last_end place cs
+  last-untold place [] = refl
+  last-untold place (c ∷ cs) = last-untold (c.start + c.len) cs
+
+  last-with_bytes : (place : ℕ) (history : List (Entry M)) (told : List (Option (List ℕ)))
+      → last_end place (ranges_of (with_bytes history told)) ≡ last_end place (ranges_of history)
+  last-with_bytes place history told =
+      sym (last-untold place (ranges_of (with_bytes history told)))
+      ∙ (ap (λ (l : List (Cluster M)). last_end place l) (same history told) ∙ last-untold place (ranges_of history))
+
+  pub told_last : (place : ℕ) (begun now : Option Held) (history : List (Entry M))
+      → last_end place (ranges_of (told_history begun now history)) ≡ last_end place (ranges_of history)
+  told_last place None now history = refl
+  told_last place (Some h) None history = refl
+  told_last place (Some h) (Some h') history = last-with_bytes place history
+      (told_bytes history (range_steps (drop (length h.log) h'.log)))
 
   count-with_bytes : (history : List (Entry M)) (told : List (Option (List ℕ))) → length (ranges_of (with_bytes history told))
       ≡ length (ranges_of history)
@@ -187,19 +219,5 @@ module _ {M : Type 0} where
       ≡ length (ranges_of history)
   told_count None now history = refl
   told_count (Some h) None history = refl
-  told_count (Some h) (Some h') history = count-with_bytes history (told_bytes history (drop (length h.log) h'.log))
-
-  log_after-snoc : (ranges : List (Cluster M)) (es : List (Entry M)) (e : Entry M) → log_after ranges (es ++ e ∷ [])
-      ≡ log_after ranges es ++ disk_steps_of (fold after_entry ranges es) e.kind
-  log_after-snoc ranges [] e = append-nil (disk_steps_of ranges e.kind)
-  log_after-snoc ranges (d ∷ ds) e =
-      ap (λ (l : List DiskStep). disk_steps_of ranges d.kind ++ l) (log_after-snoc (after_entry ranges d) ds e)
-      ∙ sym (append_assoc (disk_steps_of ranges d.kind) (log_after (after_entry ranges d) ds)
-      (disk_steps_of (fold after_entry (after_entry ranges d) ds) e.kind))
-
-  -- the steps of a history with one entry more
-  pub steps_of_history-snoc : (history : List (Entry M)) (e : Entry M)
-      → steps_of_history (history ++ e ∷ []) ≡ steps_of_history history ++ map logged_step (disk_steps_of (ranges_of history) e.kind)
-  steps_of_history-snoc history e =
-      ap (λ (l : List DiskStep). map logged_step l) (log_after-snoc [] history e) ∙ map-append logged_step (log_of history)
-      (disk_steps_of (ranges_of history) e.kind)
+  told_count (Some h) (Some h') history = count-with_bytes history
+      (told_bytes history (range_steps (drop (length h.log) h'.log)))

@@ -10,6 +10,7 @@ use Rattle.nt_outside.specs.declared.fault.Refused.{Refused}
 use Rattle.nt_machine.specs.declared.entry.Entry.{Entry}
 use Rattle.nt_machine.specs.History.{Cluster, is_out, ranges_of}
 use Rattle.nt_machine.specs.Legal.{end_after}
+use Rattle.nt_book.specs.declared.limits.LimitError.{LimitError}
 use Rattle.nt_book.specs.declared.meta.ClusterMeta.{ClusterMeta}
 use Rattle.nt_book.specs.Entries.{spoiled_entry}
 use Rattle.nt_book.specs.Limiting.{limit_error}
@@ -133,6 +134,14 @@ module _ {D : Type 0} (state : D → DiskState) where
     pub given : LockedState D
     pub commits : Commits tell meta taken given result
     pub hold : IsHold committer taken given commits.added old new
+
+  -- a limit that refuses a cluster of this length is passed behind just what the pass has then seen
+  abbrev pub RefusesBehindSeen : {X : Type 0} → TurnState (Birth D) → ℕ → PassState (Entry ClusterMeta) (Birth D)
+      → Result (Claim X) CommitError → Type 0
+  RefusesBehindSeen committer len pass result =
+      (l : LimitError) → limit_answered result ≡ Some l
+      → limit_error committer.birth.limits (end_after (state committer.birth.begun).end (ranges_of pass.seen))
+      (length (ranges_of pass.seen)) len ≡ Some l
 
   -- a hold in which a range was settled, with these bytes where the disk told what it held
   abbrev pub SettlesInHold : TurnState (Birth D) → ℕ → Option (List ℕ) → PassState (Entry ClusterMeta) (Birth D)

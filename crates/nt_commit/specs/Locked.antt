@@ -2,7 +2,8 @@
 use Rattle.std.specs.Prelude.{◌≡◌, ℕ, ◌≤◌, List, [], ◌++◌, map, filter, length}
 use Rattle.std.specs.List.{AllByRecursion}
 use Rattle.nt_outside.specs.declared.range.Range.{Range}
-use Rattle.nt_outside.specs.Held.{BecomesSome}
+use Rattle.nt_outside.specs.Log.{Step}
+use Rattle.nt_outside.specs.Held.{Held, BecomesSome}
 use Rattle.nt_outside.specs.Disk.{DiskState}
 use Rattle.nt_machine.specs.declared.entry.Entry.{Entry}
 use Rattle.nt_machine.specs.Faults.{FaultsRise}
@@ -12,7 +13,8 @@ use Rattle.nt_book.specs.declared.meta.ClusterMeta.{ClusterMeta}
 use Rattle.nt_book.specs.Books.{BookData}
 use Rattle.nt_commit.specs.declared.locked.Birth.{Birth}
 use Rattle.nt_pages.specs.Image.{key_room}
-use Rattle.nt_logged.specs.Steps.{steps_of_history, told_history}
+use Rattle.nt_logged.specs.Logs.{IsLogOf}
+use Rattle.nt_logged.specs.Steps.{told_history}
 
 -- the disk, the book, and what never changes
 pub record LockedState (D : Type 0) : Type 0 where
@@ -52,17 +54,23 @@ module _ {M : Type 0} where
   abbrev pub ranges_out : List (Cluster M) → List Range
   ranges_out cs = map place_of (filter (λ (c : Cluster M). is_out c.state) cs)
 
+  -- a log since this place gained the steps of a history, up to this end: nothing was appended between its ranges
+  pub record GainsSteps (place end : ℕ) (history : List (Entry M)) (old new : Held) : Type 0 where
+    pub steps : List Step
+    pub log : new.log ≡ old.log ++ steps
+    pub is_log : IsLogOf place end history [] [] steps
+
   -- the disk is what a history of so many contexts makes of it as it was begun
   pub record Follows (begun disk : DiskState) (contexts : ℕ) (history : List (Entry M)) : Type 0 where
-    -- ranges are reserved one behind the other, and each is settled or spoiled at most once, by its context
+    -- ranges lie apart, in the order in which they were reserved, and each is settled or spoiled at most once, by its context
     pub legal : IsLegal begun.end history
     pub contexts_are : AllByRecursion (λ (e : Entry M). e.context ≤ contexts) history
     -- a range has room for its key
     pub roomy : AllByRecursion (λ (c : Cluster M). key_room ≤ c.len) (ranges_of history)
     pub end : disk.end ≡ end_after begun.end (ranges_of history)
     pub out : disk.out ≡ ranges_out (ranges_of history)
-    -- its log is that from before, and then the steps of the history
-    pub log : BecomesSome begun.held disk.held (λ h h'. h'.log ≡ h.log ++ steps_of_history history)
+    -- its log is that from before, and then the steps of the history, each range reserved at the end of its time
+    pub log : BecomesSome begun.held disk.held (GainsSteps begun.end disk.end history)
     -- each fault of the history was counted above those before it
     pub rise : FaultsRise begun.faults history disk.faults
 

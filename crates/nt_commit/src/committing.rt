@@ -4,7 +4,7 @@ ghost use Rattle.std.specs.Prelude.{◌≡◌, ◌≤◌, [], true, false, if◌
 ghost use Rattle.nt_machine.specs.History.{ranges_of};
 ghost use Rattle.nt_commit.specs.Claims.{IsClaimOf};
 ghost use Rattle.nt_commit.specs.Images.{IsImageFor, image_after};
-ghost use Rattle.nt_commit.specs.Holds.{IsPassOf, IsCommittable, CommitsInHold, SettlesInHold, SpoilsInHold};
+ghost use Rattle.nt_commit.specs.Holds.{IsPassOf, IsCommittable, CommitsInHold, RefusesBehindSeen, SettlesInHold, SpoilsInHold};
 
 use crate::claim::Claim;
 use crate::committer::CommitterOf;
@@ -50,6 +50,7 @@ impl<D: Disk> CommitterOf<Locked<D>> {
         requires image { IsImageFor self.now.birth.columns pass.old.number image.old }
         ensures commits { CommitsInHold D.state D.Ext.state self.now image.old.meta pass.old pass.new result }
         ensures image { image.new ≡ image_after D.Ext.state image.old result }
+        ensures limit { RefusesBehindSeen D.state self.now image.old.meta.len pass.new result }
     {
         let answer = self.reserve(rt, pass, &mut image.meta);
         if let Ok(claim) = &answer {

@@ -2,7 +2,7 @@
 use Rattle.std.proofs.Common.{◌≡◌, ℕ, zero, suc, ◌+◌, ◌<◌, ◌≤◌, Bool, true, false, cond, List, [], ◌∷◌, ◌++◌, map, length, Option, Some}
 use Rattle.std.proofs.Common.{None, Ok, refl, sym, ap, subst, ◌∙◌, append-nil, arith}
 use Rattle.std.specs.Prelude.{slice_index_or, is_some}
-use Rattle.std.specs.List.{AllByRecursion, concat, range_with_len}
+use Rattle.std.specs.List.{AllByRecursion, range_with_len}
 use Rattle.nt_types.specs.TreeData.{TreesData}
 use Rattle.nt_encode.specs.Elements.{Element}
 use Rattle.nt_column.specs.Column.{Column, elements_at}
@@ -31,9 +31,9 @@ use Rattle.nt_file_meaning.specs.Holds.{HoldsCluster}
 use Rattle.nt_file_meaning.proofs.ClustersBack.{cluster}
 use Rattle.nt_layout.specs.Laid.{Gives, IsBlobOfEntries, AreBlobsOf, none_left, and_blob}
 use Rattle.nt_finished.specs.Listed.{IsListOf, AreListsOf}
-use Rattle.nt_finished.proofs.Standing.{StandsThere, front_stands, back_stands, object_stands}
-use Rattle.nt_finished.proofs.Starts.{AreFollowing}
-use Rattle.nt_finished.proofs.Lengths.{AreTold, range-len}
+use Rattle.nt_lists.specs.Parts.{Part}
+use Rattle.nt_layout.specs.Finished.{range_parts}
+use Rattle.nt_finished.proofs.Standing.{StandsThere, object_stands}
 use Rattle.nt_finished.proofs.Needs.{any-entries}
 use Rattle.nt_finished.proofs.Sound.{length-metas, all-begun}
 use Rattle.nt_finished.proofs.Columns.{seen, seen-at, columns_held}
@@ -139,28 +139,22 @@ module _ (file : List ℕ) (t : Table) (needs : HaveNeeds t) (page : ℕ) (some 
   entries-chain number l ls entries others p q = rw (p, q) refl
 
   -- the clusters from one on
-  pub entries_read : (book : BookData) (n k place : ℕ) (clusters : List (List TreesData)) (ranges : List (List ℕ))
+  pub entries_read : (book : BookData) (n k : ℕ) (clusters : List (List TreesData)) (ranges : List (List ℕ))
       (cs : List (Cluster ClusterMeta)) (ls : List ClusterList)
       → AreBlobsOf t page clusters ranges cs → AreListsOf book k n ls → k + length cs ≡ n
-      → ((j : ℕ) → j < length cs → slice_index_or cs j no_cluster ≡ cluster_at book (k + j)) → AreFollowing place cs → AreTold cs
-      → StandsThere file place (concat ranges) → entries_from file t k ls ≡ Ok clusters
-  entries_read book n k place clusters ranges cs [] none_left lists all at follow told there = refl
-  entries_read book n k place clusters ranges cs (l ∷ ls) none_left lists all at follow told there =
+      → ((j : ℕ) → j < length cs → slice_index_or cs j no_cluster ≡ cluster_at book (k + j))
+      → AllByRecursion (λ (p : Part). StandsThere file p.place p.bytes) (range_parts cs ranges) → entries_from file t k ls ≡ Ok clusters
+  entries_read book n k clusters ranges cs [] none_left lists all at there = refl
+  entries_read book n k clusters ranges cs (l ∷ ls) none_left lists all at there =
       absurd (omega (arith, all, lists-le book (k + 1) n ls lists.1))
-  entries_read book n k place clusters ranges cs [] (and_blob first more) lists all at follow told there =
-      absurd (omega (arith, all, lists))
-  entries_read book n k place clusters ranges cs (l ∷ ls)
-      (and_blob {entries = entries} {others = others} {range = range} {ranges = left} {c = c} {cs = ds} first more) lists all at
-      follow told there =
+  entries_read book n k clusters ranges cs [] (and_blob first more) lists all at there = absurd (omega (arith, all, lists))
+  entries_read book n k clusters ranges cs (l ∷ ls)
+      (and_blob {entries = entries} {others = others} {range = range} {ranges = left} {c = c} {cs = ds} first more) lists all at there =
       let same : k + 0 ≡ k = omega arith in
       let here : cluster_at book k ≡ c = ap (λ (j : ℕ). cluster_at book j) (sym same) ∙ sym (at 0 (omega arith)) in
       let listed : IsListOf (first_entry book k) c l =
       subst (λ (x : Cluster ClusterMeta). IsListOf (first_entry book k) x l) here lists.0 in
-      let long : length range ≡ c.len = range-len t page entries c.start range c.meta first ∙ sym told.0 in
-      let own : StandsThere file c.start range =
-      subst (λ (p : ℕ). StandsThere file p range) (sym follow.0) (front_stands file range (concat left) place there) in
-      entries-chain k l ls entries others (cluster_read k (first_entry book k) c l entries range listed first own)
-      (entries_read book n (k + 1) (place + c.len) others left ds ls more lists.1 (omega (arith, all))
+      entries-chain k l ls entries others (cluster_read k (first_entry book k) c l entries range listed first there.0)
+      (entries_read book n (k + 1) others left ds ls more lists.1 (omega (arith, all))
       (λ j less. let next : k + suc j ≡ k + 1 + j = omega arith in at (suc j) (omega (arith, less))
-      ∙ ap (λ (i : ℕ). cluster_at book i) next) follow.1 told.1
-      (back_stands file range (concat left) place (place + c.len) (omega (arith, long)) there))
+      ∙ ap (λ (i : ℕ). cluster_at book i) next) there.1)

@@ -1,23 +1,24 @@
 -- How long a finished file is.
-use Rattle.std.proofs.Common.{◌≡◌, ℕ, suc, ◌+◌, ◌<◌, List, [], ◌∷◌, ◌++◌, length, map, replicate, sum, refl, sym, ap, ◌∙◌, append-nil}
+use Rattle.std.proofs.Common.{◌≡◌, ℕ, suc, ◌+◌, ◌<◌, List, [], ◌∷◌, ◌++◌, length, map, replicate, refl, sym, ap, ◌∙◌, append-nil}
 use Rattle.std.proofs.Common.{arith}
 use Rattle.std.specs.Prelude.{slice_index_or}
 use Rattle.std.specs.List.{concat, AllByRecursion}
 use Rattle.std.proofs.lemmas.List.{length-append, length-replicate}
-use Rattle.std.proofs.lemmas.List.Sums.{sum-map}
-use Rattle.nt_format.proofs.Pieces.{length-concat, concat-append}
+use Rattle.nt_format.proofs.Pieces.{concat-append}
 use Rattle.nt_types.specs.TreeData.{TreesData}
 use Rattle.nt_grammar.specs.Table.{Table}
 use Rattle.nt_machine.specs.History.{Cluster}
 use Rattle.nt_book.specs.declared.meta.ClusterMeta.{ClusterMeta}
-use Rattle.nt_book.specs.Books.{BookData, book_clusters, book_end, no_cluster}
+use Rattle.nt_book.specs.Books.{BookData, book_clusters, no_cluster}
 use Rattle.nt_book.specs.Kept.{IsBookKept}
 use Rattle.nt_container.proofs.FinishedBack.{finished-len}
 use Rattle.nt_pages.specs.Image.{payload, image}
 use Rattle.nt_column.specs.Column.{Column}
 use Rattle.nt_layout.specs.Blobs.{blob_len}
 use Rattle.nt_layout.specs.Headers.{header_object, header_blob, clusters_place}
-use Rattle.nt_layout.specs.Finished.{list_blobs, footer_object, footer_place, footer_blob, anchor_of_file, blobs, finished, anchor_start}
+use Rattle.nt_lists.specs.Parts.{Part, part_bytes}
+use Rattle.nt_layout.specs.Groups.{ListPlace}
+use Rattle.nt_layout.specs.Finished.{footer_object, footer_place, footer_blob, anchor_of_file, blobs, finished_with, anchor_start}
 use Rattle.nt_layout.specs.Finished.{file_len}
 use Rattle.nt_layout.specs.Laid.{IsBlobOfEntries, AreBlobsOf, none_left, and_blob}
 use Rattle.nt_finished.proofs.Standing.{length-blob}
@@ -56,56 +57,34 @@ ranges-len t page clusters ranges cs
     ap (λ (n : ℕ). n ∷ map length left) here ∙ ap (λ (ns : List ℕ). c.len ∷ ns) (ranges-len t page others left ds more told.1)
 
 -- what the blobs of a file are, one behind the other
-pub blobs-are : (t : Table) (book : BookData) (most : ℕ) (ranges : List (List ℕ))
-    → concat (blobs t book most ranges) ≡ header_blob t ++ (concat ranges ++ (concat (list_blobs t book most) ++ footer_blob t book most))
-blobs-are t book most ranges =
-    let last : concat (footer_blob t book most ∷ []) ≡ footer_blob t book most = append-nil (footer_blob t book most) in
+pub blobs-are : (t : Table) (book : BookData) (ls : List ListPlace) (parts : List Part)
+    → concat (blobs t book ls parts) ≡ header_blob t ++ (concat (part_bytes parts) ++ footer_blob t book ls)
+blobs-are t book ls parts =
+    let last : concat (footer_blob t book ls ∷ []) ≡ footer_blob t book ls = append-nil (footer_blob t book ls) in
     ap (λ (l : List ℕ). header_blob t ++ l)
-    (concat-append ranges (list_blobs t book most ++ footer_blob t book most ∷ [])
-    ∙ ap (λ (l : List ℕ). concat ranges ++ l)
-    (concat-append (list_blobs t book most) (footer_blob t book most ∷ [])
-    ∙ ap (λ (l : List ℕ). concat (list_blobs t book most) ++ l) last))
+    (concat-append (part_bytes parts) (footer_blob t book ls ∷ []) ∙ ap (λ (l : List ℕ). concat (part_bytes parts) ++ l) last)
 
-pub footer_place-is : (t : Table) (book : BookData) (most : ℕ)
-    → footer_place t book most ≡ book_end book + length (concat (list_blobs t book most))
-unfolding footer_place
-footer_place-is t book most = refl
-
-pub anchor_start-is : (t : Table) (book : BookData) (most : ℕ)
-    → anchor_start t book most ≡ footer_place t book most + blob_len (length (footer_object t book most))
+pub anchor_start-is : (t : Table) (book : BookData) (ls : List ListPlace)
+    → anchor_start t book ls ≡ footer_place t book ls + blob_len (length (footer_object t book ls))
 unfolding anchor_start
-anchor_start-is t book most = refl
+anchor_start-is t book ls = refl
 
--- ranges of these lengths stand behind the header
-module _ (t : Table) (ranges : List (List ℕ)) (book : BookData) (begin : book.begin ≡ clusters_place t)
-    (lens : map length ranges ≡ map (λ (c : Cluster ClusterMeta). c.len) (book_clusters book)) where
-  -- where they end
-  pub ranges-end : 226 + length (header_blob t) + length (concat ranges) ≡ book_end book
-  ranges-end =
-      omega (
-        arith,
-        length-blob 226 (header_object t),
-        begin,
-        length-concat ranges,
-        ap sum lens,
-        sum-map (λ (c : Cluster ClusterMeta). c.len) (book_clusters book),
-      )
-
+-- parts stand behind the header, and the footer behind them
+module _ (t : Table) (book : BookData) (ls : List ListPlace) (parts : List Part)
+    (ends : clusters_place t + length (concat (part_bytes parts)) ≡ footer_place t book ls) where
   -- the bytes between the container's parts
-  pub length-blobs : (most : ℕ) → 226 + length (concat (blobs t book most ranges)) ≡ anchor_start t book most
-  length-blobs most =
-      let lists : List ℕ = concat (list_blobs t book most) in
+  pub length-blobs : 226 + length (concat (blobs t book ls parts)) ≡ anchor_start t book ls
+  length-blobs =
       omega (
         arith,
-        ap length (blobs-are t book most ranges),
-        length-append (header_blob t) (concat ranges ++ (lists ++ footer_blob t book most)),
-        length-append (concat ranges) (lists ++ footer_blob t book most),
-        length-append lists (footer_blob t book most),
-        length-blob (footer_place t book most) (footer_object t book most),
-        ranges-end,
-        footer_place-is t book most,
-        anchor_start-is t book most,
+        ap length (blobs-are t book ls parts),
+        length-append (header_blob t) (concat (part_bytes parts) ++ footer_blob t book ls),
+        length-append (concat (part_bytes parts)) (footer_blob t book ls),
+        length-blob (footer_place t book ls) (footer_object t book ls),
+        length-blob 226 (header_object t),
+        ends,
+        anchor_start-is t book ls,
       )
 
-  pub length-finished : (most : ℕ) → length (finished t book most ranges) ≡ file_len t book most
-  length-finished most = omega (arith, finished-len (anchor_of_file t book most) (blobs t book most ranges), length-blobs most)
+  pub length-finished : length (finished_with t book ls parts) ≡ file_len t book ls
+  length-finished = omega (arith, finished-len (anchor_of_file t book ls) (blobs t book ls parts), length-blobs)

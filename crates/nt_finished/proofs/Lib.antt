@@ -1,9 +1,11 @@
 pub mod Standing
-pub mod Starts
 pub mod Lengths
-pub mod Parts
 pub mod Spans
 pub mod Counts
+pub mod Arranged
+pub mod Staged
+pub mod Parts
+pub mod PartsThere
 pub mod Headers
 pub mod Needs
 pub mod Pages

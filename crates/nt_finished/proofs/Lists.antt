@@ -2,7 +2,7 @@
 use Rattle.std.proofs.Common.{◌≡◌, ℕ, zero, suc, ◌+◌, ◌<◌, ◌≤◌, ◌^◌, List, [], ◌∷◌, ◌++◌, map, length, replicate, Ok, refl, sym, ap, subst}
 use Rattle.std.proofs.Common.{◌∙◌, append-nil, arith}
 use Rattle.std.specs.Prelude.{slice_index_or}
-use Rattle.std.specs.List.{concat, AllByRecursion, range_with_len}
+use Rattle.std.specs.List.{AllByRecursion, range_with_len}
 use Rattle.std.proofs.lemmas.List.FromFn.{length-map-range_with_len, get_or-map-range_with_len}
 use Rattle.nt_format.specs.Reading.{standing}
 use Rattle.nt_format.specs.Envelopes.{envelope}
@@ -21,9 +21,9 @@ use Rattle.nt_file_meaning.specs.Outlines.{list_block, moved_column, moved_clust
 use Rattle.nt_file_meaning.specs.Outlines.{no_progress}
 use Rattle.nt_file_meaning.specs.Clusters.{no_list}
 use Rattle.nt_layout.specs.Blobs.{blob, object_place}
-use Rattle.nt_layout.specs.Groups.{ClusterSpan, list_object, list_len, lists_from, span_group, groups_from}
+use Rattle.nt_layout.specs.Groups.{ClusterSpan, list_object, list_len, ListPlace, span_group, list_groups}
 use Rattle.nt_finished.specs.Listed.{IsListOf, AreListsOf}
-use Rattle.nt_finished.proofs.Standing.{StandsThere, front_stands, back_stands, object_stands, length-blob, length-envelope, opened}
+use Rattle.nt_finished.proofs.Standing.{StandsThere, object_stands, length-envelope, opened}
 use Rattle.nt_finished.proofs.Spans.{AreInOrder, order-le, group-ends}
 
 -- ---- what is read of clusters
@@ -133,29 +133,29 @@ module _ (file : List ℕ) (sum : ℕ) (columns : List KnownColumn) (book : Book
     pub reads : groups_clusters file sum columns gs (progress_before book k) ≡ Ok lists
     pub are : AreListsOf book k n lists
 
-  pub groups_read : (n place k : ℕ) (ss : List ClusterSpan) → n ≤ length (book_clusters book) → AreInOrder k n ss
-      → AllByRecursion (λ (s : ClusterSpan). list_len sum book s ≤ 2 ^ 30) ss
-      → StandsThere file place (concat (lists_from sum book place ss)) → AreRead (groups_from sum book place ss) k n
-  groups_read n place k [] inside order short there = record { lists = []; reads = refl; are = order }
-  groups_read n place k (s ∷ ss) inside order short there =
-      let last = order-le (k + s.count) n ss order.2 in
+  pub groups_read : (n k : ℕ) (ls : List ListPlace) → n ≤ length (book_clusters book) → AreInOrder k n (map (λ (l : ListPlace). l.span) ls)
+      → AllByRecursion (λ (l : ListPlace). list_len sum book l.span ≤ 2 ^ 30) ls
+      → AllByRecursion (λ (l : ListPlace). StandsThere file l.place (blob l.place (list_object sum book l.span))) ls
+      → AreRead (list_groups sum book ls) k n
+  groups_read n k [] inside order short there = record { lists = []; reads = refl; are = order }
+  groups_read n k (l ∷ ls) inside order short there =
+      let s = l.span in
+      let place = l.place in
+      let last = order-le (k + s.count) n (map (λ (l : ListPlace). l.span) ls) order.2 in
       let from : s.from ≡ k = order.0 in
-      let rest : List ℕ = concat (lists_from sum book (place + list_len sum book s) ss) in
-      let here : List ℕ = blob place (list_object sum book s) in
       let first : group_clusters file sum columns (span_group sum book place s) (progress_before book k) ≡ Ok
       (read_at place s, progress_before book (k + s.count)) =
       ap (λ (j : ℕ). group_clusters file sum columns (span_group sum book place s) (progress_before book j)) (sym from)
-      ∙ (group-reads place s (omega (arith, from, last, inside)) short.0 (front_stands file here rest place there)
+      ∙ (group-reads place s (omega (arith, from, last, inside)) short.0 there.0
       ∙ ap (λ (j : ℕ). Ok (read_at place s, progress_before book (j + s.count))) from) in
-      let more = groups_read n (place + list_len sum book s) (k + s.count) ss inside order.2 short.1
-      (back_stands file here rest place (place + list_len sum book s) (omega (arith, length-blob place (list_object sum book s))) there) in
+      let more = groups_read n (k + s.count) ls inside order.2 short.1 there.1 in
       let own : AreListsOf book k (k + s.count) (read_at place s) =
       subst (λ (j : ℕ). AreListsOf book j (j + s.count) (read_at place s)) from
       (lists-are book (object_place place + payload_start) (first_cluster_place 0 (listed_clusters book s.from s.count)) s.from s.count) in
       record {
         lists = read_at place s ++ more.lists;
         reads =
-            groups-chain (span_group sum book place s) (groups_from sum book (place + list_len sum book s) ss) (progress_before book k)
+            groups-chain (span_group sum book place s) (list_groups sum book ls) (progress_before book k)
             (progress_before book (k + s.count))
             (read_at place s) more.lists first more.reads;
         are = lists-append book k (k + s.count) n (read_at place s) more.lists own more.are;

@@ -1,7 +1,7 @@
 -- Bytes that stand at a place of a file, and the blobs and envelopes among them.
-use Rattle.std.proofs.Common.{◌≡◌, ℕ, ◌+◌, ◌*◌, ◌<◌, ◌≤◌, ◌^◌, List, [], ◌++◌, length, eqb, true, Some, Ok, refl, sym, ap, ◌∙◌}
+use Rattle.std.proofs.Common.{◌≡◌, ℕ, ◌+◌, ◌*◌, ◌<◌, ◌≤◌, ◌^◌, List, [], ◌∷◌, ◌++◌, length, eqb, true, Some, Ok, refl, sym, ap, subst, ◌∙◌}
 use Rattle.std.proofs.Common.{append_assoc, append-nil, arith}
-use Rattle.std.specs.List.{concat}
+use Rattle.std.specs.List.{AllByRecursion, concat}
 use Rattle.std.specs.Int.{w64, to_le_bytes}
 use Rattle.std.proofs.lemmas.Bool.{eq-eqb}
 use Rattle.std.proofs.lemmas.List.{length-append}
@@ -18,6 +18,7 @@ use Rattle.nt_container.proofs.Lengths.{header-len, file_record-len, blob_key-le
 use Rattle.nt_container.proofs.Gate.{blob_found}
 use Rattle.nt_file_meaning.specs.Envelopes.{sealed, envelope_of}
 use Rattle.nt_layout.specs.Blobs.{blob, blob_len, object_place}
+use Rattle.nt_lists.specs.Parts.{Part, AreBehind, part_bytes}
 
 -- these bytes stand at this place
 abbrev pub StandsThere : List ℕ → ℕ → List ℕ → Type 0
@@ -31,6 +32,32 @@ front_stands file a b at e = inside_at file (a ++ b) [] a b at (length (a ++ b))
 pub back_stands : (file a b : List ℕ) (at from : ℕ) → at + length a ≡ from → StandsThere file at (a ++ b) → StandsThere file from b
 back_stands file a b at from place e =
     inside_at file (a ++ b) a b [] at (length (a ++ b)) from (length b) e (ap (λ (l : List ℕ). a ++ l) (sym (append-nil b))) place refl
+
+-- parts that lie in order stand each at its place
+pub stand_parts : (file : List ℕ) (place : ℕ) (parts : List Part) → AreBehind place parts
+    → StandsThere file place (concat (part_bytes parts)) → AllByRecursion (λ (p : Part). StandsThere file p.place p.bytes) parts
+stand_parts file place [] behind there = tt
+stand_parts file place (p ∷ ps) behind there = (
+  subst (λ (n : ℕ). StandsThere file n p.bytes) (sym behind.0) (front_stands file p.bytes (concat (part_bytes ps)) place there),
+  stand_parts file (place + length p.bytes) ps behind.1
+      (back_stands file p.bytes (concat (part_bytes ps)) place (place + length p.bytes) refl there),
+)
+
+-- and end where all of them end, or before
+pub low_parts : (place : ℕ) (parts : List Part) → AreBehind place parts
+    → AllByRecursion (λ (p : Part). p.place + length p.bytes ≤ place + length (concat (part_bytes parts))) parts
+low_parts place [] behind = tt
+low_parts place (p ∷ ps) behind =
+    let long = length-append p.bytes (concat (part_bytes ps)) in (
+      omega (arith, behind.0, long),
+      lower (place + length p.bytes + length (concat (part_bytes ps))) (place + length (p.bytes ++ concat (part_bytes ps))) ps
+          (omega (arith, long)) (low_parts (place + length p.bytes) ps behind.1),
+    )
+  where
+    lower : (a b : ℕ) (qs : List Part) → a ≤ b → AllByRecursion (λ (q : Part). q.place + length q.bytes ≤ a) qs
+        → AllByRecursion (λ (q : Part). q.place + length q.bytes ≤ b) qs
+    lower a b [] le h = tt
+    lower a b (q ∷ qs) le h = (omega (arith, le, h.0), lower a b qs le h.1)
 
 -- the middle of a finished file
 pub middle_stands : (a : Anchor) (middle : List (List ℕ)) → StandsThere (finished_file a middle) begun_len (concat middle)

@@ -1,14 +1,16 @@
 //! The laws of finished files.
 
-ghost use Rattle.std.specs.Prelude.{◌≡◌, ◌+◌, ◌≤◌, ℕ, Bool, List, ◌∷◌, ◌++◌, map, length, replicate, Ok};
+ghost use Rattle.std.specs.Prelude.{◌≡◌, ◌+◌, ◌≤◌, ℕ, Bool, true, List, ◌∷◌, ◌++◌, map, length, replicate, Ok};
 ghost use Rattle.std.specs.List.{concat};
+ghost use Rattle.nt_lists.specs.Parts.{part_bytes};
 ghost use Rattle.nt_types.specs.ShapeData.{MemberData};
 ghost use Rattle.nt_types.specs.Rules.{AreFields};
 ghost use Rattle.nt_types.specs.TreeData.{TreesData};
+ghost use Rattle.nt_grammar.specs.declared.rows.ColumnRow.{ColumnRow};
 ghost use Rattle.nt_grammar.specs.Rows.{Rows};
 ghost use Rattle.nt_grammar.specs.Table.{Table};
 ghost use Rattle.nt_grammar.specs.ReadingBack.{IsDescribed};
-ghost use Rattle.nt_machine.specs.History.{Cluster};
+ghost use Rattle.nt_machine.specs.History.{Cluster, ranges_of};
 ghost use Rattle.nt_book.specs.declared.meta.ClusterMeta.{ClusterMeta};
 ghost use Rattle.nt_book.specs.Books.{BookData, book_clusters};
 ghost use Rattle.nt_book.specs.Kept.{IsBookKept};
@@ -17,7 +19,7 @@ ghost use Rattle.nt_pagelists.specs.SoundBooks.{HasSoundClusters};
 ghost use Rattle.nt_file_meaning.specs.Outlines.{known_columns, outline_of};
 ghost use Rattle.nt_file_meaning.specs.Files.{Means};
 ghost use Rattle.nt_layout.specs.Headers.{header_blob, clusters_place};
-ghost use Rattle.nt_layout.specs.Finished.{finished, file_len, tail, front};
+ghost use Rattle.nt_layout.specs.Finished.{list_places, lists_behind, middle, finished, file_len, ending, tail, front};
 ghost use Rattle.nt_layout.specs.Laid.{AreBlobsOf, Measures, AreMeasures, IsWithin, IsBookOf, IsLaid};
 ghost use Rattle.nt_finished.specs.Listed.{AreListsOf};
 ghost use Rattle.nt_finished.specs.Ranged.{IsRangedBook};
@@ -32,41 +34,68 @@ pub fn finished_files_are_as_long()
         (ranges : List (List ℕ)) (book : BookData) → IsBookKept book
         → AreBlobsOf t page clusters ranges (book_clusters book)
         → map length ranges ≡ map (λ (c : Cluster ClusterMeta). c.len) (book_clusters book) }
-    ensures file { (t : Table) (most : ℕ) (ranges : List (List ℕ)) (book : BookData)
-        → book.begin ≡ clusters_place t
-        → map length ranges ≡ map (λ (c : Cluster ClusterMeta). c.len) (book_clusters book)
-        → length (finished t book most ranges) ≡ file_len t book most }
+    ensures file { (staged : Bool) (t : Table) (most : ℕ) (ranges : List (List ℕ))
+        (book : BookData) → book.begin ≡ clusters_place t
+        → map length ranges ≡ map (λ (c : Cluster ClusterMeta). c.len) (ranges_of book.history)
+        → length (finished staged t book most ranges)
+        ≡ file_len t book (list_places staged t book most) }
 {}
 
-/// Such a file is its first byte, the rest of its front, the header's blob, the ranges, and the tail.
+/// Such a file is its first byte, the rest of its front, the header's blob, the ranges with the page
+/// lists, and what stands behind them; where all page lists stand behind the ranges, these begin the
+/// tail.
 pub fn finished_files_are_parts()
-    ensures { (t : Table) (most : ℕ) (ranges : List (List ℕ)) (book : BookData)
+    ensures parts { (staged : Bool) (t : Table) (most : ℕ) (ranges : List (List ℕ))
+        (book : BookData) → book.begin ≡ clusters_place t
+        → map length ranges ≡ map (λ (c : Cluster ClusterMeta). c.len) (ranges_of book.history)
+        → finished staged t book most ranges
+        ≡ 0x72 ∷ (front t book (list_places staged t book most) ++ (header_blob t
+        ++ (concat (part_bytes (middle staged t book most ranges))
+        ++ ending t book (list_places staged t book most)))) }
+    ensures behind { (t : Table) (most : ℕ) (ranges : List (List ℕ)) (book : BookData)
         → book.begin ≡ clusters_place t
-        → map length ranges ≡ map (λ (c : Cluster ClusterMeta). c.len) (book_clusters book)
-        → finished t book most ranges
-        ≡ 0x72 ∷ (front t book most ++ (header_blob t ++ (concat ranges ++ tail t book most))) }
+        → map length ranges ≡ map (λ (c : Cluster ClusterMeta). c.len) (ranges_of book.history)
+        → finished true t book most ranges
+        ≡ 0x72 ∷ (front t book (lists_behind t book most)
+        ++ (header_blob t ++ (concat ranges ++ tail t book (lists_behind t book most)))) }
 {}
 
-/// A finished file is read as the outline of its schema, with the clusters of its book.
-pub fn finished_files_are_outlined()
-    ensures { (t : Table) (m : Measures) (clusters : List (List TreesData))
+/// A finished file of a kept book with all page lists behind the ranges is laid out: its parts lie
+/// in order, each range and each list where the book has it.
+pub fn files_are_laid_behind()
+    ensures ranged { (t : Table) (most : ℕ) (book : BookData) (ranges : List (List ℕ))
+        → IsBookKept book → book.begin ≡ clusters_place t
+        → map (λ (c : ColumnRow). c.first) t.columns ≡ book.firsts
+        → map length ranges ≡ map (λ (c : Cluster ClusterMeta). c.len) (ranges_of book.history)
+        → IsRangedBook true t most book ranges }
+    ensures laid { (file : List ℕ) (t : Table) (clusters : List (List TreesData)) (m : Measures)
         (ranges : List (List ℕ)) (book : BookData)
-        → IsDescribed t → AreMeasures m → IsBookOf t book → IsWithin t m book
+        → m.staged ≡ true → IsBookOf t book → IsWithin t m book
         → AreBlobsOf t m.page clusters ranges (book_clusters book)
-        → (lists : List ClusterList)
-        × (outline_of (finished t book m.group ranges) ≡ Ok (record { table = t; clusters = lists }))
-        × AreListsOf book 0 (length (book_clusters book)) lists }
+        → file ≡ finished m.staged t book m.group ranges → IsLaid file t clusters m }
 {}
 
-/// Whatever stands in the ranges of a finished file, if they are as long as its book says, and a
-/// reader takes the clusters, it is read as the outline of its schema, with the clusters of its book.
+/// A file that is laid out is read as the outline of its schema, with the clusters of its book.
+pub fn finished_files_are_outlined()
+    ensures { (file : List ℕ) (t : Table) (clusters : List (List TreesData)) (m : Measures)
+        → IsDescribed t → AreMeasures m → (laid : IsLaid file t clusters m)
+        → (lists : List ClusterList)
+        × (outline_of file ≡ Ok (record { table = t; clusters = lists }))
+        × AreListsOf laid.book 0 (length (book_clusters laid.book)) lists }
+{}
+
+/// Whatever stands in the ranges of a finished file, if they are as long as its book says and stand
+/// where it says, and a reader takes the clusters, it is read as the outline of its schema, with the
+/// clusters of its book: page lists beside their clusters or behind all of them.
 pub fn ranged_files_are_outlined()
     ensures { (t : Table) (m : Measures) (ranges : List (List ℕ)) (book : BookData)
-        → IsDescribed t → AreMeasures m → IsRangedBook t book ranges → IsWithin t m book
+        → IsDescribed t → AreMeasures m → IsRangedBook m.staged t m.group book ranges
+        → IsWithin t m book
         → ((from count : ℕ) → from + count ≤ length (book_clusters book)
         → HasSoundClusters (known_columns t) book from count)
         → (lists : List ClusterList)
-        × (outline_of (finished t book m.group ranges) ≡ Ok (record { table = t; clusters = lists }))
+        × (outline_of (finished m.staged t book m.group ranges)
+        ≡ Ok (record { table = t; clusters = lists }))
         × AreListsOf book 0 (length (book_clusters book)) lists }
 {}
 

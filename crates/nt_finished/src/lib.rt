@@ -13,9 +13,10 @@
 //! entries (`finished_files_mean_their_entries`), and so does one whose schema is that of fields
 //! that keep their rules (`files_of_fields_mean_their_entries`); on the way, which outline it has
 //! (`finished_files_are_outlined`), and any other finished file whose clusters a reader takes
-//! (`ranged_files_are_outlined`). For who writes the file: how long it is
+//! (`ranged_files_are_outlined`), page lists beside their clusters or behind all of them. For who writes the file: how long it is
 //! (`finished_files_are_as_long`), and of which parts, in order (`finished_files_are_parts`), both
-//! whatever stands in the ranges of the clusters; and which books are of the schema of fields
+//! whatever stands in the ranges of the clusters; that it is laid out where all page lists stand
+//! behind the ranges (`files_are_laid_behind`); and which books are of the schema of fields
 //! (`books_of_fields_are_of_their_schema`). Nothing is only tested.
 //!
 //! Choices that bind nobody else:
@@ -28,7 +29,7 @@
 mod laws;
 
 pub use laws::{
-    books_of_fields_are_of_their_schema, files_of_fields_mean_their_entries,
+    books_of_fields_are_of_their_schema, files_are_laid_behind, files_of_fields_mean_their_entries,
     finished_files_are_as_long, finished_files_are_outlined, finished_files_are_parts,
     finished_files_mean_their_entries, ranged_files_are_outlined,
 };

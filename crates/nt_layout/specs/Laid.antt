@@ -1,10 +1,10 @@
 -- The finished file of entries: the range of each cluster is the blob of its entries.
-use Rattle.std.specs.Prelude.{ℕ, ◌≡◌, ◌<◌, ◌≤◌, ◌^◌, List, [], ◌∷◌, map, length, Some}
+use Rattle.std.specs.Prelude.{ℕ, ◌≡◌, ◌<◌, ◌≤◌, ◌^◌, Bool, List, [], ◌∷◌, map, length, slice_index_or, Some}
 use Rattle.std.specs.List.{AllByRecursion, range_with_len}
 use Rattle.nt_types.specs.TreeData.{TreesData}
 use Rattle.nt_grammar.specs.Table.{Table}
 use Rattle.nt_grammar.specs.declared.rows.ColumnRow.{ColumnRow}
-use Rattle.nt_machine.specs.History.{Cluster}
+use Rattle.nt_machine.specs.History.{Cluster, ranges_of}
 use Rattle.nt_book.specs.declared.meta.ClusterMeta.{ClusterMeta}
 use Rattle.nt_book.specs.Books.{BookData, book_clusters}
 use Rattle.nt_book.specs.Kept.{IsBookKept}
@@ -20,7 +20,8 @@ use Rattle.nt_trees.specs.TreeAt.{each_at}
 use Rattle.nt_layout.specs.Blobs.{blob, blob_len}
 use Rattle.nt_layout.specs.Headers.{header_object, header_sum, clusters_place}
 use Rattle.nt_layout.specs.Groups.{ClusterSpan, list_len}
-use Rattle.nt_layout.specs.Finished.{spans, footer_object, finished, file_len}
+use Rattle.nt_lists.specs.Parts.{AreBehind}
+use Rattle.nt_layout.specs.Finished.{spans, list_places, middle, footer_object, finished, file_len}
 
 -- the columns of a schema give these entries: their elements are of their types, they are sound, and of each entry they have the
 -- trees of the open fields
@@ -45,8 +46,10 @@ pub data AreBlobsOf (t : Table) (page : ℕ) : List (List TreesData) → List (L
       {cs : List (Cluster ClusterMeta)} → IsBlobOfEntries t page entries c.start range c.meta → AreBlobsOf t page others ranges cs
       → AreBlobsOf t page (entries ∷ others) (range ∷ ranges) (c ∷ cs)
 
--- how a file is laid out: the most elements of a page, the most clusters of a group, and the most bytes of a blob and of the file
+-- how a file is laid out: whether its clusters are staged, the most elements of a page, the most clusters of a group, and the most bytes of
+-- a blob and of the file
 pub record Measures : Type 0 where
+  pub staged : Bool
   pub page : ℕ
   pub group : ℕ
   pub range : ℕ
@@ -63,8 +66,8 @@ pub record AreMeasures (m : Measures) : Type 0 where
 pub record IsWithin (t : Table) (m : Measures) (book : BookData) : Type 0 where
   pub header : blob_len (length (header_object t)) ≤ m.range
   pub lists : AllByRecursion (λ (s : ClusterSpan). list_len (header_sum t) book s ≤ m.range) (spans book m.group)
-  pub footer : blob_len (length (footer_object t book m.group)) ≤ m.range
-  pub file : file_len t book m.group ≤ m.file
+  pub footer : blob_len (length (footer_object t book (list_places m.staged t book m.group))) ≤ m.range
+  pub file : file_len t book (list_places m.staged t book m.group) ≤ m.file
 
 -- the book of a schema's file: its ranges begin behind the header, and no column is deferred
 pub record IsBookOf (t : Table) (book : BookData) : Type 0 where
@@ -73,11 +76,19 @@ pub record IsBookOf (t : Table) (book : BookData) : Type 0 where
   pub firsts : map (λ (c : ColumnRow). c.first) t.columns ≡ book.firsts
   pub none_deferred : AllByRecursion (λ (c : ColumnRow). c.first ≡ 0) t.columns
 
--- the file is the finished one of a schema and these entries, cluster by cluster
+-- the bytes of the range that a cluster has, by the number of that range
+abbrev pub range_of : List (List ℕ) → Cluster ClusterMeta → List ℕ
+range_of ranges c = slice_index_or ranges c.number []
+
+-- the file is the finished one of a schema and these entries, cluster by cluster: the range of each holds the blob of its entries, and
+-- all parts lie in order, each where the book has it
 pub record IsLaid (file : List ℕ) (t : Table) (clusters : List (List TreesData)) (m : Measures) : Type 0 where
   pub book : BookData
   pub is_of : IsBookOf t book
   pub within : IsWithin t m book
+  -- by the number of the range, as they were reserved
   pub ranges : List (List ℕ)
-  pub blobs_are : AreBlobsOf t m.page clusters ranges (book_clusters book)
-  pub is : file ≡ finished t book m.group ranges
+  pub lens : map length ranges ≡ map (λ (c : Cluster ClusterMeta). c.len) (ranges_of book.history)
+  pub blobs_are : AreBlobsOf t m.page clusters (map (range_of ranges) (book_clusters book)) (book_clusters book)
+  pub behind : AreBehind (clusters_place t) (middle m.staged t book m.group ranges)
+  pub is : file ≡ finished m.staged t book m.group ranges

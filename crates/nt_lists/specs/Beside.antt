@@ -7,9 +7,9 @@ pub record Beside (A : Type 0) : Type 0 where
   pub item : A
 
 -- items, and behind each group of so many that of the group
-abbrev pub beside : {A : Type 0} → List (Beside A) → List A → List A
-beside [] xs = xs
-beside (l ∷ ls) xs = take l.count xs ++ (l.item ∷ beside ls (drop l.count xs))
+abbrev pub with_beside : {A : Type 0} → List (Beside A) → List A → List A
+with_beside [] xs = xs
+with_beside (l ∷ ls) xs = take l.count xs ++ (l.item ∷ with_beside ls (drop l.count xs))
 
 -- how many items have one behind them
 abbrev pub grouped : {A : Type 0} → List (Beside A) → ℕ

@@ -16,9 +16,9 @@ abbrev pub part_bytes : List Part → List (List ℕ)
 part_bytes parts = map (λ (p : Part). p.bytes) parts
 
 -- how many bytes they have
-abbrev pub parts_len : List Part → ℕ
-parts_len [] = 0
-parts_len (p ∷ ps) = length p.bytes + parts_len ps
+abbrev pub joined_len : List Part → ℕ
+joined_len [] = 0
+joined_len (p ∷ ps) = length p.bytes + joined_len ps
 
 -- these bytes stand in a list at a place
 abbrev pub StandAt : List ℕ → ℕ → List ℕ → Type 0

@@ -2,9 +2,9 @@
 
 ghost use Rattle.std.specs.Prelude.{◌≡◌, ◌+◌, ◌<◌, ◌≤◌, ℕ, List, [], ◌∷◌, ◌++◌, length, take, drop, slice_index_or};
 ghost use Rattle.std.specs.List.{AllByRecursion, concat, flat_map};
-ghost use Rattle.nt_lists.specs.Beside.{Beside, beside, grouped};
+ghost use Rattle.nt_lists.specs.Beside.{Beside, with_beside, grouped};
 ghost use Rattle.nt_lists.specs.Chunks.{chunks};
-ghost use Rattle.nt_lists.specs.Parts.{Part, AreBehind, part_bytes, parts_len, StandAt};
+ghost use Rattle.nt_lists.specs.Parts.{Part, AreBehind, part_bytes, joined_len, StandAt};
 ghost use Rattle.nt_lists.specs.Places.{put_at};
 
 /// The groups joined are the list; each has n elements but the last, which has at most n and at
@@ -32,10 +32,10 @@ pub fn writes_keep_the_rest<T>()
 /// ones, where these had none.
 pub fn lists_stand_beside<T>()
     ensures more { (ls : List (Beside T)) (xs : List T) (x : T) → grouped ls ≤ length xs
-        → beside ls (xs ++ x ∷ []) ≡ beside ls xs ++ x ∷ [] }
+        → with_beside ls (xs ++ x ∷ []) ≡ with_beside ls xs ++ x ∷ [] }
     ensures beside { (ls : List (Beside T)) (xs : List T) (l : Beside T)
         → grouped ls + l.count ≡ length xs
-        → beside (ls ++ l ∷ []) xs ≡ beside ls xs ++ l.item ∷ [] }
+        → with_beside (ls ++ l ∷ []) xs ≡ with_beside ls xs ++ l.item ∷ [] }
 {}
 
 /// A part that begins where the others end goes on from them. A list that begins with a front, in
@@ -43,11 +43,11 @@ pub fn lists_stand_beside<T>()
 /// of them, is the front and the bytes of the parts.
 pub fn parts_make_the_whole()
     ensures behind { (place : ℕ) (ps : List Part) (p : Part) → AreBehind place ps
-        → p.place ≡ place + parts_len ps → AreBehind place (ps ++ p ∷ []) }
+        → p.place ≡ place + joined_len ps → AreBehind place (ps ++ p ∷ []) }
     ensures bytes { (ps : List Part) (p : Part)
-        → parts_len (ps ++ p ∷ []) ≡ parts_len ps + length p.bytes }
+        → joined_len (ps ++ p ∷ []) ≡ joined_len ps + length p.bytes }
     ensures whole { (front whole : List ℕ) (ps : List Part) → take (length front) whole ≡ front
         → AreBehind (length front) ps
         → AllByRecursion (λ (p : Part). StandAt whole p.place p.bytes) ps
-        → length whole ≡ length front + parts_len ps → whole ≡ front ++ concat (part_bytes ps) }
+        → length whole ≡ length front + joined_len ps → whole ≡ front ++ concat (part_bytes ps) }
 {}

@@ -1,5 +1,6 @@
 -- A log with one step more.
-use Rattle.std.proofs.Common.{◌≡◌, ◌∙◌, ap, sym, refl, subst, ℕ, zero, suc, ◌+◌, ◌==◌, ◌&&◌, Bool, true, false, cond, List, [], ◌∷◌, ◌++◌, length, map}
+use Rattle.std.proofs.Common.{◌≡◌, ◌∙◌, ap, sym, refl, subst, ℕ, zero, suc, ◌+◌, ◌==◌, ◌&&◌, Bool, true, false, cond, List, [], ◌∷◌, ◌++◌}
+use Rattle.std.proofs.Common.{length, map}
 use Rattle.std.proofs.Common.{filter, Option, Some, None, append_assoc, append-nil, arith}
 use Rattle.std.specs.Prelude.{slice_get, Contains}
 use Rattle.std.specs.List.{fold}
@@ -25,7 +26,8 @@ tail-snoc end spans [] s is next = (next, tt)
 tail-snoc end spans (step ∷ steps) s is next =
     (is.0, tail-snoc (end_after_step end step) (with_reserved spans step) steps s is.1 next)
 
-pub ends-snoc : (end : ℕ) (steps : List Step) (s : Step) → end_after_steps end (steps ++ s ∷ []) ≡ end_after_step (end_after_steps end steps) s
+pub ends-snoc : (end : ℕ) (steps : List Step) (s : Step)
+    → end_after_steps end (steps ++ s ∷ []) ≡ end_after_step (end_after_steps end steps) s
 ends-snoc end [] s = refl
 ends-snoc end (step ∷ steps) s = ends-snoc (end_after_step end step) steps s
 
@@ -69,8 +71,12 @@ module _ {M : Type 0} where
       ap (λ (s : Span). s ∷ spans_of (map (handed_back i n state) cs)) (at (c.context == i && c.number == n && is_out c.state))
       ∙ ap (λ (l : List Span). record { start = c.start; len = c.len } ∷ l) (spans-back i n state cs)
     where
-      at : (b : Bool) → ◌≡◌ {A = Span} (record { start = (cond b (record c { state = state }) c).start; len = (cond b (record c { state = state }) c).len })
-          (record { start = c.start; len = c.len })
+      at : (b : Bool)
+         
+              → ◌≡◌ {A = Span} (record {
+            start = (cond b (record c { state = state }) c).start;
+            len = (cond b (record c { state = state }) c).len;
+          }) (record { start = c.start; len = c.len })
       at true = refl
       at false = refl
 

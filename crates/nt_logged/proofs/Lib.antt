@@ -6,3 +6,4 @@ mod Pieces
 pub mod Reading
 pub mod Growing
 pub mod Written
+pub mod Tiles

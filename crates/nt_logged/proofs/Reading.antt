@@ -1,5 +1,6 @@
 -- What is read where the steps of a writer cover nothing.
-use Rattle.std.proofs.Common.{◌≡◌, ◌∙◌, ap, sym, refl, subst, ℕ, zero, suc, ◌+◌, ◌≤◌, ◌==◌, Bool, true, false, List, [], ◌∷◌, ◌++◌, length, map}
+use Rattle.std.proofs.Common.{◌≡◌, ◌∙◌, ap, sym, refl, subst, ℕ, zero, suc, ◌+◌, ◌≤◌, ◌==◌, Bool, true, false, List, [], ◌∷◌, ◌++◌}
+use Rattle.std.proofs.Common.{length, map}
 use Rattle.std.proofs.Common.{take, drop, Option, Some, None, eqb-true, arith}
 use Rattle.std.specs.Prelude.{◌&&◌, ◌||◌}
 use Rattle.std.specs.List.{AllByRecursion}
@@ -16,7 +17,8 @@ use Rattle.nt_lists.specs.Parts.{StandAt}
 use Rattle.nt_logged.specs.Stands.{LieApart}
 use Rattle.nt_logged.specs.Spares.{SparesPlace}
 use Rattle.nt_logged.proofs.Pieces.{piece_front, piece_beside, length-put}
-use Rattle.nt_logged.proofs.Sparing.{all_among, AreInside, inside-step, inside-steps, tail-split, settled_spared, appended_spared, front_spared}
+use Rattle.nt_logged.proofs.Sparing.{all_among, AreInside, inside-step, inside-steps, tail-split, settled_spared, appended_spared}
+use Rattle.nt_logged.proofs.Sparing.{front_spared}
 
 -- ---- what is known at a place
 
@@ -130,11 +132,12 @@ pub known-append : (known : List Known) (one two : List Step) → known_from kno
 known-append known [] two = refl
 known-append known (step ∷ one) two = known-append (after_step known step) one two
 
-stands : (log before after : List Step) (step : Step) (at : ℕ) (bytes image : List ℕ)
+-- what is told behind a step stays told, where no later step covers it
+told-on : (log before after : List Step) (step : Step) (at : ℕ) (bytes : List ℕ)
     → IsTail (length (known_of log)) [] (before ++ step ∷ after) → AllByRecursion (SparesPlace at (length bytes)) after
-    → TellsAt (after_step (known_from (known_of log) before) step) at bytes → Reads (log ++ (before ++ step ∷ after)) image
-    → StandAt image at bytes
-stands log before after step at bytes image is spares tells reads =
+    → TellsAt (after_step (known_from (known_of log) before) step) at bytes
+    → TellsAt (known_of (log ++ (before ++ step ∷ after))) at bytes
+told-on log before after step at bytes is spares tells =
     let start = known_of log in
     let split = tail-split (length start) [] before (step ∷ after) is in
     let inside = inside-steps (length start) [] before split.0 tt in
@@ -146,19 +149,17 @@ stands log before after step at bytes image is spares tells reads =
     (inside-step end spans step split.1.0 inside) split.1.1 (known-length end spans known step inside split.1.0 long) spares tells in
     let whole : known_of (log ++ (before ++ step ∷ after)) ≡ known_from (after_step known step) after =
     known-append [] log (before ++ step ∷ after) ∙ known-append start before (step ∷ after) in
-    read_at at bytes (known_from (after_step known step) after) image last.are
-    (subst (λ (l : List Known). all_allowed l image ≡ true) whole reads)
+    subst (λ (l : List Known). TellsAt l at bytes) (sym whole) last
 
 front_at : {A : Type 0} (xs ys : List A) → take (length ys) (drop (length xs) (xs ++ ys)) ≡ ys
 front_at [] [] = refl
 front_at [] (y ∷ ys) = ap (λ (l : List _). y ∷ l) (front_at [] ys)
 front_at (x ∷ xs) ys = front_at xs ys
 
-pub appended_read : (log before after : List Step) (bytes image : List ℕ)
+pub appended_told : (log before after : List Step) (bytes : List ℕ)
     → IsTail (length (known_of log)) [] (before ++ Append bytes ∷ after)
-    → Reads (log ++ (before ++ Append bytes ∷ after)) image
-    → StandAt image (end_after_steps (length (known_of log)) before) bytes
-appended_read log before after bytes image is reads =
+    → TellsAt (known_of (log ++ (before ++ Append bytes ∷ after))) (end_after_steps (length (known_of log)) before) bytes
+appended_told log before after bytes is =
     let start = known_of log in
     let split = tail-split (length start) [] before (Append bytes ∷ after) is in
     let known = known_from start before in
@@ -169,15 +170,22 @@ appended_read log before after bytes image is reads =
           ∙ (ap (λ (n : ℕ). take n (drop (length known) (known ++ map exactly bytes))) (sym (length-map bytes exactly))
           ∙ front_at known (map exactly bytes));
     } in
-    stands log before after (Append bytes) (end_after_steps (length start) before) bytes image is
-    (appended_spared (length start) before after bytes is) tells reads
+    told-on log before after (Append bytes) (end_after_steps (length start) before) bytes is
+    (appended_spared (length start) before after bytes is) tells
 
-pub settled_read : (log before after : List Step) (start len : ℕ) (bytes image : List ℕ)
+pub appended_read : (log before after : List Step) (bytes image : List ℕ)
+    → IsTail (length (known_of log)) [] (before ++ Append bytes ∷ after)
+    → Reads (log ++ (before ++ Append bytes ∷ after)) image
+    → StandAt image (end_after_steps (length (known_of log)) before) bytes
+appended_read log before after bytes image is reads =
+    read_at (end_after_steps (length (known_of log)) before) bytes (known_of (log ++ (before ++ Append bytes ∷ after))) image
+    (appended_told log before after bytes is).are reads
+
+pub settled_told : (log before after : List Step) (start len : ℕ) (bytes : List ℕ)
     → IsTail (length (known_of log)) [] (before ++ Settle start len (Some bytes) ∷ after)
     → StandOnceSettled (range_steps (before ++ Settle start len (Some bytes) ∷ after))
-    → Reads (log ++ (before ++ Settle start len (Some bytes) ∷ after)) image
-    → StandAt image start bytes
-settled_read log before after start len bytes image is once reads =
+    → TellsAt (known_of (log ++ (before ++ Settle start len (Some bytes) ∷ after))) start bytes
+settled_told log before after start len bytes is once =
     let place = length (known_of log) in
     let split = tail-split place [] before (Settle start len (Some bytes) ∷ after) is in
     let known = known_from (known_of log) before in
@@ -191,19 +199,32 @@ settled_read log before after start len bytes image is once reads =
       are = ap (λ (n : ℕ). take n (drop start (put_at known start (map exactly bytes)))) (sym (length-map bytes exactly))
           ∙ put_at-there known (map exactly bytes) start (omega (arith, within));
     } in
-    stands log before after (Settle start len (Some bytes)) start bytes image is
+    told-on log before after (Settle start len (Some bytes)) start bytes is
     (subst (λ (n : ℕ). AllByRecursion (SparesPlace start n) after) (sym same)
-    (settled_spared place before after start len bytes is once)) tells reads
+    (settled_spared place before after start len bytes is once)) tells
 
-pub front_read : (log steps : List Step) (front image : List ℕ) → IsKnown log front → IsTail (length front) [] steps
-    → Reads (log ++ steps) image
-    → take (length front) image ≡ front
-front_read log steps front image known is reads =
+pub settled_read : (log before after : List Step) (start len : ℕ) (bytes image : List ℕ)
+    → IsTail (length (known_of log)) [] (before ++ Settle start len (Some bytes) ∷ after)
+    → StandOnceSettled (range_steps (before ++ Settle start len (Some bytes) ∷ after))
+    → Reads (log ++ (before ++ Settle start len (Some bytes) ∷ after)) image
+    → StandAt image start bytes
+settled_read log before after start len bytes image is once reads =
+    read_at start bytes (known_of (log ++ (before ++ Settle start len (Some bytes) ∷ after))) image
+    (settled_told log before after start len bytes is once).are reads
+
+pub front_told : (log steps : List Step) (front : List ℕ) → IsKnown log front → IsTail (length front) [] steps
+    → TellsAt (known_of (log ++ steps)) 0 front
+front_told log steps front known is =
     let long : length (known_of log) ≡ length front = ap (λ (l : List Known). length l) known ∙ length-map front exactly in
     let all : take (length front) (drop 0 (known_of log)) ≡ map exactly front =
     ap (λ (l : List Known). take (length front) l) known
     ∙ (ap (λ (n : ℕ). take n (map exactly front)) (sym (length-map front exactly)) ∙ front_at {A = Known} [] (map exactly front)) in
     let tells = tells-steps (length front) [] (known_of log) steps 0 front tt is long (front_spared (length front) steps is)
     (record { inside = omega (arith, long); are = all }) in
-    read_at 0 front (known_from (known_of log) steps) image tells.are
-    (subst (λ (l : List Known). all_allowed l image ≡ true) (known-append [] log steps) reads)
+    subst (λ (l : List Known). TellsAt l 0 front) (sym (known-append [] log steps)) tells
+
+pub front_read : (log steps : List Step) (front image : List ℕ) → IsKnown log front → IsTail (length front) [] steps
+    → Reads (log ++ steps) image
+    → take (length front) image ≡ front
+front_read log steps front image known is reads =
+    read_at 0 front (known_of (log ++ steps)) image (front_told log steps front known is).are reads

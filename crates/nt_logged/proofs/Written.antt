@@ -73,7 +73,7 @@ module _ (log : List Step) (image : List ℕ) where
       (subst (λ (l : List Step). Reads (log ++ l) image) (moved before s steps) reads))
 
 -- only steps of ranges settle
-settles-range : (steps : List Step) → settles_in (range_steps steps) ≡ settles_in steps
+pub settles-range : (steps : List Step) → settles_in (range_steps steps) ≡ settles_in steps
 settles-range [] = refl
 settles-range (Write at bytes ∷ steps) = settles-range steps
 settles-range (FailedWrite at bytes ∷ steps) = settles-range steps

@@ -2,7 +2,7 @@
 //! them.
 
 ghost use Rattle.std.specs.Prelude.{◌≡◌, ◌+◌, ℕ, List, [], ◌∷◌, ◌++◌, length, take, Option, Some, None, slice_get};
-ghost use Rattle.std.specs.List.{AllByRecursion};
+ghost use Rattle.std.specs.List.{AllByRecursion, AllZip, flat_map};
 ghost use Rattle.nt_lists.specs.Parts.{Part, StandAt};
 ghost use Rattle.nt_outside.specs.Faults.{Rose};
 ghost use Rattle.nt_outside.specs.Log.{Step, Append, FailedAppend, Reserve, Settle};
@@ -10,8 +10,8 @@ ghost use Rattle.nt_outside.specs.Reads.{Reads, IsKnown, known_of};
 ghost use Rattle.nt_machine.specs.declared.entry.Entry.{Entry};
 ghost use Rattle.nt_machine.specs.declared.entry.EntryKind.TheVariants as entry;
 ghost use Rattle.nt_machine.specs.Faults.{HasFaults, FaultsRise};
-ghost use Rattle.nt_machine.specs.History.{mine_of, ranges_of};
-ghost use Rattle.nt_machine.specs.Legal.{IsLegal, IsOut, AreAsLong};
+ghost use Rattle.nt_machine.specs.History.{Settled, mine_of, ranges_of};
+ghost use Rattle.nt_machine.specs.Legal.{IsLegal, IsOut, AreAsLong, end_after};
 ghost use Rattle.nt_logged.specs.Stands.{IsBehind, StandOnceSettled};
 ghost use Rattle.nt_logged.specs.Settled.{IsLogged};
 ghost use Rattle.nt_logged.specs.Steps.{steps_of_history};
@@ -126,4 +126,14 @@ pub fn all_that_is_written_is_read<M>()
     ensures end { (log : List Step) (end : ℕ) (history : List (Entry M)) (lists : List Part) (torn : List ℕ)
         (steps : List Step) (image : List ℕ) → IsLogOf (length (known_of log)) end history lists torn steps
         → Reads (log ++ steps) image → length image ≡ end }
+{}
+
+/// Where nothing was appended between the ranges, and each was handed back with its bytes, the file
+/// is known: what was known before, and then their bytes.
+pub fn settled_ranges_are_known<M>()
+    ensures { (log steps : List Step) (front : List ℕ) (history : List (Entry M)) (parts : List (List ℕ))
+        → IsKnown log front → IsLegal (length front) history
+        → IsLogOf (length front) (end_after (length front) (ranges_of history)) history [] [] steps
+        → AllZip (λ part c. c.state ≡ Settled (Some part)) parts (ranges_of history)
+        → IsKnown (log ++ steps) (front ++ flat_map (λ part. part) parts) }
 {}

@@ -16,5 +16,6 @@ mod laws;
 
 pub use laws::{
     all_that_is_written_is_read, faults_are_counted, fronts_stand, logs_gain_lists, logs_grow,
-    settled_ranges_are_logged, steps_stand, what_is_appended_stands, what_is_settled_is_read,
+    settled_ranges_are_known, settled_ranges_are_logged, steps_stand, what_is_appended_stands,
+    what_is_settled_is_read,
 };
