@@ -9,7 +9,7 @@
 //! Words: `run` *reports* an answer where it prints its line on err; a status is *an answer to* words that may be answered so
 //! (`specs/Runs.antt`).
 //!
-//! Proved: all that `docs/PROOFS.md` lists of the program, as clauses of `run`. Tested, over memory in test_run: whole files, each
+//! Proved: all that `docs/PROOFS.md` lists of the program, as clauses of `run`. Tested, over memory in test_trials: whole files, each
 //! answer with its line, and each call of the outside failing in turn.
 #![tactic(auto)]
 

@@ -12,7 +12,7 @@
 //! that is read back never comes where the host tells its bytes. Wherever a crash comes behind the first sync, it leaves a file that is
 //! refused as unfinished, or, where the first byte was written over before, one that is made; behind all steps of `Ok` just that.
 //! `Outside` comes only where the host's count rose, and each object that was opened comes back (all by `Generates`). Tested in
-//! test_generate: lines and files that were worked out by hand, and each call of the outside failing in turn.
+//! test_trials: lines and files that were worked out by hand, and each call of the outside failing in turn.
 #![tactic(auto)]
 
 mod error;

@@ -4,10 +4,7 @@ use nt_outside::{Gate, Point};
 use std::sync::atomic::{AtomicU64, Ordering};
 
 /// How often a gate looks where the others must come: for seconds.
-pub const LONG: u64 = 1 << 31;
-
-/// How often a gate looks where the others may never come.
-pub const SHORT: u64 = 1 << 20;
+const LONG: u64 = 1 << 31;
 
 /// Looks at a count until it is at least this, so often at most, and says whether it was.
 fn reaches(count: &AtomicU64, least: u64) -> bool {
@@ -17,48 +14,6 @@ fn reaches(count: &AtomicU64, least: u64) -> bool {
         }
     }
     false
-}
-
-/// Lets contexts commit in this order: each waits until the clusters before its own have been settled.
-#[derive(Drop)]
-pub struct InOrder<'a> {
-    pub order: &'a [u32],
-    pub settled: AtomicU64,
-    pub looks: u64,
-}
-
-impl<'a> InOrder<'a> {
-    pub fn new(order: &'a [u32], looks: u64) -> Self {
-        InOrder {
-            order,
-            settled: AtomicU64::new(0),
-            looks,
-        }
-    }
-
-    /// Whether the next cluster is this context's.
-    fn is_next(&self, context: u32) -> bool {
-        let settled = self.settled.load(Ordering::SeqCst);
-        self.order.get(settled as usize).copied() == Some(context)
-    }
-}
-
-impl<'a> Gate for InOrder<'a> {
-    fn at(&self, context: u32, point: Point) {
-        match point {
-            Point::BeforeCommit => {
-                for _ in 0..self.looks {
-                    if self.is_next(context) {
-                        return;
-                    }
-                }
-            }
-            Point::Filling => {}
-            Point::Settled => {
-                self.settled.fetch_add(1, Ordering::SeqCst);
-            }
-        }
-    }
 }
 
 /// Holds context 0 at the filling of its range until context 1 has settled one.

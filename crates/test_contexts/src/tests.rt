@@ -1,82 +1,53 @@
-//! The program over memory, with several inputs.
+//! Contexts really run beside each other, and hold nothing from the filling of a range on.
 
-mod failing;
-mod gates;
-mod orders;
-
+use crate::gates::{HoldsFirst, Meeting};
 use nt_app::{Status, run};
 use nt_memory::MemHost;
 use nt_outside::Gate;
 use std::alloc::{AllocError, Global};
 use std::sync::Wait;
+use std::sync::atomic::Ordering;
+use std::test::*;
 use std::thread::Threads;
 
-/// What a run answered, and what it left.
-#[derive(Drop)]
-struct Ran {
-    status: Status,
-    host: MemHost,
-}
+/// The inputs, each of one entry.
+const INPUTS: [(&str, &[u8]); 4] = [
+    ("a", b"[1]\n"),
+    ("b", b"[2]\n"),
+    ("c", b"[3]\n"),
+    ("d", b"[4]\n"),
+];
 
-impl Ran {
-    /// It left the file of this run, and the line of its order.
-    fn is_as(&self, other: &Ran) -> bool {
-        self.host.file("o") == other.host.file("o") && self.host.out() == other.host.out()
-    }
-}
-
-/// The names of the inputs, in order.
-const NAMES: [&str; 4] = ["a", "b", "c", "d"];
-
-/// A host with the schema `x u64` and these inputs under their names.
-fn host_of(alloc: Global, inputs: &[&[u8]]) -> Result<MemHost, AllocError> {
-    let mut host = MemHost::new(alloc);
-    host.add("s", b"x u64\n")?;
-    for (name, input) in NAMES.iter().zip(inputs) {
-        host.add(name, input)?;
-    }
-    Ok(host)
-}
-
-/// These words, each as a text of its own.
-fn words_of(alloc: Global, words: &[&str]) -> Result<Vec<String>, AllocError> {
-    let mut list = Vec::new(alloc);
-    for word in words {
-        list.push(String::from_str(alloc, word)?)?;
-    }
-    Ok(list)
-}
-
-fn run_words<R: Threads + Wait + Sync, G: Gate + Sync>(
+/// Whether the first so many inputs are written into one file.
+fn is_written<R: Threads + Wait + Sync, G: Gate + Sync>(
     rt: &R,
     alloc: Global,
-    host: MemHost,
-    words: &[&str],
-    gate: &G,
-) -> Result<Ran, AllocError> {
-    let mut host = host;
-    let words = words_of(alloc, words)?;
-    let status = run(rt, alloc, words, &mut host, gate);
-    Ok(Ran { status, host })
-}
-
-/// A run of `write --cluster N o s` with the first so many names.
-fn write_of<R: Threads + Wait + Sync, G: Gate + Sync>(
-    rt: &R,
-    alloc: Global,
-    host: MemHost,
-    cluster: &str,
     inputs: usize,
     gate: &G,
-) -> Result<Ran, AllocError> {
-    let mut host = host;
-    let mut words = words_of(alloc, &["write", "--cluster"])?;
-    words.push(String::from_str(alloc, cluster)?)?;
-    words.push(String::from_str(alloc, "o")?)?;
-    words.push(String::from_str(alloc, "s")?)?;
-    for name in NAMES.iter().take(inputs) {
+) -> Result<bool, AllocError> {
+    let mut host = MemHost::new(alloc);
+    host.add("s", b"x u64\n")?;
+    let mut words = Vec::new(alloc);
+    for word in ["write", "--cluster", "10", "o", "s"] {
+        words.push(String::from_str(alloc, word)?)?;
+    }
+    for (name, text) in INPUTS.iter().take(inputs) {
+        host.add(name, text)?;
         words.push(String::from_str(alloc, name)?)?;
     }
-    let status = run(rt, alloc, words, &mut host, gate);
-    Ok(Ran { status, host })
+    Ok(run(rt, alloc, words, &mut host, gate) == Status::Done)
+}
+
+#[test]
+fn a_context_fills_while_another_settles(rt: HostRuntime) {
+    let gate = HoldsFirst::new();
+    let is_done = is_written(&rt, rt.alloc(), 2, &gate) == Ok(true);
+    assert!(rt; is_done && gate.seen.load(Ordering::SeqCst) == 1);
+}
+
+#[test]
+fn all_contexts_meet_before_they_commit_and_while_they_fill(rt: HostRuntime) {
+    let gate = Meeting::new(4);
+    let is_done = is_written(&rt, rt.alloc(), 4, &gate) == Ok(true);
+    assert!(rt; is_done && gate.met.load(Ordering::SeqCst) == 8);
 }
