@@ -68,7 +68,8 @@ pub record StaysAtEnd (old new : LinesState) : Type 0 where
   pub is : IsAtEnd new.left
   pub number : new.number ≡ old.number
 
--- the next line, none exactly at the end, where the reader stays; a line that is too long, or has too large a number; a fault of the source, or no memory
+-- the next line, none exactly at the end, where the reader stays; a line that is too long, or has too large a number; a fault of the
+-- source, or no memory
 abbrev pub GivesLine : LinesState → LinesState → Result (Option Line) LineError → Type 0
 GivesLine old new (Ok (Some line)) = IsNextLine old new line
 GivesLine old new (Ok None) = StaysAtEnd old new
