@@ -13,8 +13,9 @@
 //!
 //! Choices that bind nobody else:
 //! - Refused are strings with escapes, lines above 4096 bytes, and those for which there is no memory.
-//! - Each element stands in the line as one byte at least. So room for as many elements as the line has
-//!   bytes is made in each column, and then nothing can fail.
+//! - Each element of a column stands in the line as one byte at least that no other element of that column has.
+//!   So room for as many elements as the line has bytes is made in each column, and then nothing can fail.
+//! - What an optional may contain is `null` itself in no schema. By a plan in which it is, `null` alone is taken.
 //! - What was added of a refused line is cut off again, at the lengths that were noted as room was made.
 //! - A line of ASCII alone, as most are, is seen to be UTF-8 sixteen bytes at a time (`ascii.rt`), others by simdutf8.
 //! - Lists of integers, where most values are, have a loop of their own for each width and sign, in which the plan and

@@ -1,6 +1,6 @@
 -- Trees that were added to columns in memory have texts of bytes, since their elements are of the columns' types.
 use Rattle.std.proofs.Common.{◌≡◌, ◌∙◌, ap, subst, ℕ, zero, suc, ◌<◌, ◌^◌, true, List, [], ◌∷◌, ◌++◌, length, map, Some, arith}
-use Rattle.std.proofs.Common.{append_assoc, ◌+◌, ◌||◌, Bool, cond, false}
+use Rattle.std.proofs.Common.{append_assoc, refl, ◌+◌, ◌||◌, Bool, cond, false}
 use Rattle.std.proofs.lemmas.Bool.{and_parts, false≢true}
 use Rattle.std.specs.Option.{option_map}
 use Rattle.std.specs.Prelude.{Option, slice_get}

@@ -12,6 +12,8 @@ use Rattle.nt_plans.specs.Place.{open_plans}
 use Rattle.nt_trees.specs.Columns.{Cols}
 use Rattle.nt_trees.specs.Described.{AreDescribed, are_stored}
 use Rattle.nt_trees.specs.Sound.{Sound, AllSound, EachSound}
+use Rattle.nt_trees.specs.Nones.{HaveZeroNones}
+use Rattle.nt_trees.proofs.Nones.{all_empty-nones}
 use Rattle.nt_layout.specs.Laid.{Gives}
 
 abbrev none_at : Cols
@@ -60,6 +62,7 @@ emptied_gives t cs described =
       set = record { described = same_codes cs ∙ described; stored = all_stored cs };
       in_range = λ k kind is. subst (λ es. AreElementsOf kind es) (sym (none k)) (λ i d h. absurd (omega (arith, h)));
       sound = subst (λ (cols : Cols). AllSound (open_plans t) cols 0) (λ i k. sym (none k) i) (all_none_sound (open_plans t));
+      nones = subst (HaveZeroNones (open_plans t)) (λ i k. sym (none k) i) (all_empty-nones (open_plans t));
       trees = refl;
     }
 

@@ -1,5 +1,6 @@
 -- The entries that columns give.
-use Rattle.std.proofs.Common.{◌≡◌, ◌∙◌, ap, ap₂, sym, refl, subst, ℕ, zero, suc, ◌+◌, ◌<◌, List, [], ◌∷◌, ◌++◌, length, map, Some, arith}
+use Rattle.std.proofs.Common.{◌≡◌, ◌∙◌, ap, ap₂, sym, refl, subst, ℕ, zero, suc, ◌+◌, ◌<◌, true, List, [], ◌∷◌, ◌++◌, length, map, Some}
+use Rattle.std.proofs.Common.{arith}
 use Rattle.std.proofs.lemmas.List.FromFn.{length-map-range_with_len, map-range_with_len_more}
 use Rattle.std.specs.List.{range_with_len}
 use Rattle.nt_types.specs.TreeData.{TreesData}
@@ -8,12 +9,18 @@ use Rattle.nt_types.specs.declared.column_type.ColumnType.{ColumnType}
 use Rattle.nt_grammar.specs.Table.{Table}
 use Rattle.nt_column.specs.Elements.{AreElementsOf}
 use Rattle.nt_column.specs.Column.{Column, Buffer, columns_of, elements_at, kind_at}
+use Rattle.nt_grammar.specs.Open.{open_shapes}
 use Rattle.nt_plans.specs.Place.{open_plans}
+use Rattle.nt_plans.proofs.Tops.{plans-differ}
 use Rattle.nt_trees.specs.Described.{IsSetOf}
 use Rattle.nt_trees.specs.Sound.{AllSound}
 use Rattle.nt_trees.specs.Put.{put_trees}
 use Rattle.nt_trees.specs.TreeAt.{each_at}
+use Rattle.nt_trees.specs.Fits.{fits_entry}
+use Rattle.nt_trees.specs.Nones.{HaveZeroNones}
 use Rattle.nt_trees.specs.Views.{cols_of}
+use Rattle.nt_trees.proofs.FitPlans.{fit-open}
+use Rattle.nt_trees.proofs.Nones.{trees-nones}
 use Rattle.nt_trees.proofs.Stable.{each_at-stays, put_trees-extends}
 use Rattle.nt_shred.specs.Steps.{IsLast}
 use Rattle.nt_layout.specs.Laid.{Gives}
@@ -49,15 +56,24 @@ module _ (t : Table) (ts : TreesData) (old new : List Buffer) (n : ℕ) (added :
       (λ i h. ap (λ cols. each_at (open_plans t) cols i) added ∙ each_at-stays (open_plans t) (cols_of old)
       (put_trees (open_plans t) ts (cols_of old)) n i (put_trees-extends (open_plans t) ts (cols_of old)) sound h)) (last.entry bytes)
 
+-- choices without a value have index 0 also after an entry is added
+pub nones_more : (t : Table) (ts : TreesData) (old new : List Buffer) → cols_of new ≡ put_trees (open_plans t) ts (cols_of old)
+    → fits_entry t ts ≡ true → HaveZeroNones (open_plans t) (cols_of old) → HaveZeroNones (open_plans t) (cols_of new)
+nones_more t ts old new added fits nones =
+    subst (HaveZeroNones (open_plans t)) (sym added) (trees-nones (open_plans t) ts (cols_of old) (plans-differ t) nones
+    (fit-open t.fields t.columns 0 (open_shapes t.fields t.columns 0 t.fields) ts ∙ fits))
+
 -- sound columns give their entries
 pub gives_of : (t : Table) (columns : List Column) (n : ℕ) → IsSetOf t.columns columns
     → ((k : ℕ) (kind : ColumnType) → kind_at columns k ≡ Some kind → AreElementsOf kind (elements_at columns k))
-    → AllSound (open_plans t) (elements_at columns) n → Gives t columns (entries_given t columns n)
-gives_of t columns n set in_range sound =
+    → AllSound (open_plans t) (elements_at columns) n → HaveZeroNones (open_plans t) (elements_at columns)
+    → Gives t columns (entries_given t columns n)
+gives_of t columns n set in_range sound nones =
     let count = entries_count t columns n in
     record {
       set = set;
       in_range = in_range;
       sound = subst (λ m. AllSound (open_plans t) (elements_at columns) m) (sym count) sound;
+      nones = nones;
       trees = ap (λ m. map (each_at (open_plans t) (elements_at columns)) (range_with_len 0 m)) (sym count);
     }

@@ -16,6 +16,7 @@ use Rattle.nt_pages.specs.Metas.{cluster_meta}
 use Rattle.nt_plans.specs.Place.{open_plans}
 use Rattle.nt_trees.specs.Described.{IsSetOf}
 use Rattle.nt_trees.specs.Sound.{AllSound}
+use Rattle.nt_trees.specs.Nones.{HaveZeroNones}
 use Rattle.nt_trees.specs.TreeAt.{each_at}
 use Rattle.nt_layout.specs.Blobs.{blob, blob_len}
 use Rattle.nt_layout.specs.Headers.{header_object, header_sum, clusters_place}
@@ -23,12 +24,13 @@ use Rattle.nt_layout.specs.Groups.{ClusterSpan, list_len}
 use Rattle.nt_lists.specs.Parts.{AreBehind}
 use Rattle.nt_layout.specs.Finished.{spans, list_places, middle, footer_object, finished, file_len}
 
--- the columns of a schema give these entries: their elements are of their types, they are sound, and of each entry they have the
--- trees of the open fields
+-- the columns of a schema give these entries: their elements are of their types, they are sound, choices without a value have index 0,
+-- and of each entry they have the trees of the open fields
 pub record Gives (t : Table) (columns : List Column) (entries : List TreesData) : Type 0 where
   pub set : IsSetOf t.columns columns
   pub in_range : (k : ℕ) (kind : ColumnType) → kind_at columns k ≡ Some kind → AreElementsOf kind (elements_at columns k)
   pub sound : AllSound (open_plans t) (elements_at columns) (length entries)
+  pub nones : HaveZeroNones (open_plans t) (elements_at columns)
   pub trees : entries ≡ map (each_at (open_plans t) (elements_at columns)) (range_with_len 0 (length entries))
 
 -- the bytes are the blob of these entries at a place, on pages of at most so many elements, and this is kept of it

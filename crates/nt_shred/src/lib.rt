@@ -20,7 +20,7 @@
 //! - What lies inside is added first. So an end is the number of its elements then, and the index
 //!   of a choice that before, and nothing is counted beside the columns.
 //! - Each column gets room for as many elements as the entry adds to any one of them at most: texts
-//!   and lists count what they hold, a record its largest part.
+//!   and lists count what they hold, a record its largest part, and each of them one at least.
 //! - What ends of 32 bits can't count is want of memory.
 //! - The walk goes as deep as the plans, which are of open fields and so of 64 levels at most.
 #![tactic(auto)]

@@ -12,7 +12,7 @@ use Rattle.nt_shred.specs.Frame.{set_frame}
 use Rattle.nt_shred.proofs.Typed.{all-typed-take}
 use Rattle.nt_fill.specs.Context.{gathered}
 use Rattle.nt_fill.proofs.Bytes.{all_bytes, small_of}
-use Rattle.nt_fill.proofs.Entries.{entries_more, entries_count, gives_of}
+use Rattle.nt_fill.proofs.Entries.{entries_more, entries_count, nones_more, gives_of}
 use Rattle.nt_fill.proofs.filling.FillContext+D.fill.Goals as goal
 
 pub overflow_add-self : goal.overflow_add-self
@@ -36,7 +36,10 @@ invariant_of-self-2 g c =
       count = c.self.invariant.count;
       some = c.self.invariant.some;
       gives = gives_of t (columns_of c.shred.new.out) (n + 1) c.in_ok-shred.ensures.set c.in_range.ensures
-          (subst (λ m. AllSound (open_plans t) (cols_of c.shred.new.out) m) more last.sound);
+          (subst (λ m. AllSound (open_plans t) (cols_of c.shred.new.out) m) more last.sound)
+          (nones_more t (trees_of (trees_view c.args.trees.now)) c.self.inside.store.columns c.shred.new.out c.in_ok-shred.ensures.added
+          (subst (λ s. fits_entry s.table (trees_of (trees_view c.args.trees.now)) ≡ true) (sym c.self.view_is) c.requires.fits)
+          c.self.invariant.gives.nones);
       few = omega (arith, room, count);
       cluster = c.self.invariant.cluster;
       page = c.self.invariant.page;

@@ -11,7 +11,7 @@ use Rattle.nt_shred.proofs.Typed.{all-typed-take}
 use Rattle.nt_direct.specs.Lines.{PutsEntry}
 use Rattle.nt_fill.specs.Context.{gathered}
 use Rattle.nt_fill.proofs.Bytes.{all_bytes, small_of}
-use Rattle.nt_fill.proofs.Entries.{entries_more, entries_count, gives_of}
+use Rattle.nt_fill.proofs.Entries.{entries_more, entries_count, nones_more, gives_of}
 use Rattle.nt_fill.proofs.filling.FillContext+D.fill_line.Goals as goal
 
 pub overflow_add-self : goal.overflow_add-self
@@ -40,7 +40,8 @@ invariant_of-self-2 g c =
       count = c.self.invariant.count;
       some = c.self.invariant.some;
       gives = gives_of t (columns_of new) (n + 1) taken.set c.in_range.ensures
-          (subst (λ m. AllSound (open_plans t) (cols_of new) m) more last.sound);
+          (subst (λ m. AllSound (open_plans t) (cols_of new) m) more last.sound)
+          (nones_more t (trees_of taken.found) old new taken.added taken.fitting c.self.invariant.gives.nones);
       few = omega (arith, room, count);
       cluster = c.self.invariant.cluster;
       page = c.self.invariant.page;

@@ -11,7 +11,7 @@ use Rattle.nt_trees.proofs.FitPlans.{fit-open}
 use Rattle.nt_shred.specs.Frame.{set_frame}
 use Rattle.nt_shred.proofs.Typed.{all-typed-take}
 use Rattle.nt_fill.proofs.Bytes.{all_bytes, small_of}
-use Rattle.nt_fill.proofs.Entries.{entries_more, entries_count, gives_of}
+use Rattle.nt_fill.proofs.Entries.{entries_more, entries_count, nones_more, gives_of}
 use Rattle.nt_seq.specs.Writer.{gathered_by}
 use Rattle.nt_seq.proofs.Filled.{writing-filled}
 use Rattle.nt_seq.proofs.writer.SeqWriter.fill.Goals as goal
@@ -38,7 +38,10 @@ invariant_of-self-2 g c =
       unclosed = c.self.invariant.unclosed;
       writing = λ _. writing-filled g.D.Disk.state _ (columns_of c.shred.new.out) (n + 1) was
           (gives_of t (columns_of c.shred.new.out) (n + 1) c.in_ok-shred.ensures.set c.in_range.ensures
-          (subst (λ m. AllSound (open_plans t) (cols_of c.shred.new.out) m) more last.sound)) (omega (arith, room, count));
+          (subst (λ m. AllSound (open_plans t) (cols_of c.shred.new.out) m) more last.sound)
+          (nones_more t (trees_of (trees_view c.args.trees.now)) c.self.inside.columns c.shred.new.out c.in_ok-shred.ensures.added
+          (subst (λ s. fits_entry s.table (trees_of (trees_view c.args.trees.now)) ≡ true) (sym c.self.view_is) c.requires.fits)
+          was.gives.nones)) (omega (arith, room, count));
     }
 
 pub returns-clause-ok : goal.returns-clause-ok

@@ -10,7 +10,7 @@ use Rattle.nt_shred.specs.Frame.{set_frame}
 use Rattle.nt_shred.proofs.Typed.{all-typed-take}
 use Rattle.nt_direct.specs.Lines.{PutsEntry}
 use Rattle.nt_fill.proofs.Bytes.{all_bytes, small_of}
-use Rattle.nt_fill.proofs.Entries.{entries_more, entries_count, gives_of}
+use Rattle.nt_fill.proofs.Entries.{entries_more, entries_count, nones_more, gives_of}
 use Rattle.nt_seq.specs.Writer.{gathered_by}
 use Rattle.nt_seq.proofs.Filled.{writing-filled}
 use Rattle.nt_seq.proofs.writer.SeqWriter.fill_line.Goals as goal
@@ -42,7 +42,8 @@ invariant_of-self-2 g c =
       unclosed = c.self.invariant.unclosed;
       writing = λ _. writing-filled g.D.Disk.state _ (columns_of new) (n + 1) was
           (gives_of t (columns_of new) (n + 1) taken.set c.in_range.ensures
-          (subst (λ m. AllSound (open_plans t) (cols_of new) m) more last.sound)) (omega (arith, room, count));
+          (subst (λ m. AllSound (open_plans t) (cols_of new) m) more last.sound)
+          (nones_more t (trees_of taken.found) old new taken.added taken.fitting was.gives.nones)) (omega (arith, room, count));
     }
 
 pub returns : goal.returns
