@@ -9,3 +9,4 @@ pub mod Zips
 pub mod Following
 pub mod Picking
 pub mod Walking
+pub mod Refusing

@@ -7,7 +7,7 @@ use Rattle.nt_outside.specs.Log.{Step, Write, FailedWrite, Append, FailedAppend,
 use Rattle.nt_memory.specs.declared.log.Row.{Row}
 use Rattle.nt_memory.specs.declared.left.Leaves.{Leaves}
 use Rattle.nt_memory.specs.Rows.{steps, step, bytes_of, total_bytes}
-use Rattle.nt_memory.specs.Left.{Left, zeros, renew, renewed, failed_over, left_after, left_from, left_by, length_after, IsInside, AreInside}
+use Rattle.nt_memory.specs.Left.{Left, zeros, failed_over, left_after, left_from, left_by, length_after, IsInside, AreInside}
 use Rattle.nt_memory.specs.Leaves.{left_view}
 use Rattle.nt_memory.proofs.Allowed.{put_at_same}
 use Rattle.nt_memory.proofs.Following.{length-over, length-failed, length-zeros}

@@ -37,5 +37,5 @@ shown_by range true items is = refl
 shown_by range false items is = absurd (cc)
 
 -- a filled extent has its bytes
-pub shown_of : (e : MemExt) → (state_of e).filled ≡ true → (state_of e).tells ≡ true → IsSome (state_of e).content
-shown_of e filled tells = shown_by e.range e.filled e.bytes.items filled
+pub has_bytes_of : (e : MemExt) → (state_of e).filled ≡ true → (state_of e).tells ≡ true → IsSome (state_of e).content
+has_bytes_of e filled tells = shown_by e.range e.filled e.bytes.items filled

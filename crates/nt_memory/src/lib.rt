@@ -27,6 +27,7 @@
 
 mod bytes;
 mod calls;
+mod cells;
 mod disk;
 mod file;
 mod finding;

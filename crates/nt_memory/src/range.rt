@@ -20,13 +20,13 @@ pub struct MemExt {
 }
 
 impl Ext for MemExt {
-    ghost use Rattle.nt_memory.specs.Ext.{state_of, sized_of, shown_of};
+    ghost use Rattle.nt_memory.specs.Ext.{state_of, sized_of, has_bytes_of};
 
     ghost state = { state_of };
 
     ghost sized = { sized_of };
 
-    ghost told = { shown_of };
+    ghost told = { has_bytes_of };
 
     fn start(&self) -> u64 {
         self.range.start

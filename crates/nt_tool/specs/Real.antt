@@ -1,5 +1,6 @@
 -- What the real objects tell: counts, names that were asked for, and the length of a disk. None tells what a file or a stream holds.
-use Rattle.std.specs.Prelude.{◌≡◌, ℕ, ◌-◌, ◌<◌, ◌^◌, All, Bool, true, false, IsSome, List, [], ◌∷◌, ◌++◌, length, map, Some, None, Result, OnOk, OnErr}
+use Rattle.std.specs.Prelude.{◌≡◌, ℕ, ◌-◌, ◌<◌, ◌^◌, All, Bool, true, false, IsSome, List, [], ◌∷◌, ◌++◌, length, map, Some, None, Result}
+use Rattle.std.specs.Prelude.{OnOk, OnErr}
 use Rattle.std.specs.declared.alloc.AllocError.{AllocError}
 use Rattle.nt_outside.specs.declared.fault.Refused.{Refused}
 use Rattle.nt_outside.specs.Faults.{RoseOnFailed}

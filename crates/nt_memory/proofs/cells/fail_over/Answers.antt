@@ -1,6 +1,6 @@
 use Rattle.std.proofs.Common.{arith}
 use Rattle.nt_memory.proofs.Walking.{missed_one}
-use Rattle.nt_memory.proofs.left.fail_over.Goals as goal
+use Rattle.nt_memory.proofs.cells.fail_over.Goals as goal
 
 pub returns-then-bytes-eq1-clause-items : goal.returns-then-bytes-eq1-clause-items
 returns-then-bytes-eq1-clause-items c =
