@@ -4,8 +4,7 @@ use crate::payloads::{EXTENDED, FOOTER, LONGER_FOOTER, MANY, NO_GROUP, SUM, WIDE
 use nt_meta::{MetaError, read_footer};
 use nt_num::ReadError;
 use nt_schema::Schema;
-use std::alloc::Global;
-use std::test::Fail;
+use std::alloc::{AllocError, Global};
 
 /// Groups, and of the last one its first entry, span, clusters and link; fields and columns.
 type Told = (usize, u64, u64, u32, u64, u32, u64, u32, u32);
@@ -39,29 +38,22 @@ fn fault(code: u8, at: u64, kept: u64, found: u64) -> Option<MetaError> {
     }))
 }
 
-fn bent(alloc: Global, byte: usize, to: u8) -> Result<Option<MetaError>, Fail> {
-    let mut bytes = FOOTER.to_vec(alloc)?;
-    if let Some(at) = bytes.get_mut(byte) {
-        *at = to;
-    }
-    Ok(read(alloc, &bytes).err())
-}
+/// Footers, and what is read of them.
+const READ: [(&[u8], Told); 4] = [
+    (&FOOTER, (1, 0, 2, 1, 124, 124, 553, 0, 0)),
+    (&LONGER_FOOTER, (1, 0, 2, 1, 124, 124, 553, 0, 0)),
+    (&NO_GROUP, (0, 0, 0, 0, 0, 0, 0, 0, 0)),
+    (&EXTENDED, (1, 0, 2, 1, 124, 124, 553, 1, 1)),
+];
 
-#[test]
-fn groups_are_read(rt: HostRuntime) -> Result<(), Fail> {
-    let alloc = rt.alloc();
-    let one = Some((1, 0, 2, 1, 124, 124, 553, 0, 0));
-    assert_eq!(rt; read(alloc, &FOOTER).ok(), one);
-    assert_eq!(rt; read(alloc, &LONGER_FOOTER).ok(), one);
-    assert_eq!(rt;
-        read(alloc, &NO_GROUP).ok(),
-        Some((0, 0, 0, 0, 0, 0, 0, 0, 0))
-    );
-    assert_eq!(rt;
-        read(alloc, &EXTENDED).ok(),
-        Some((1, 0, 2, 1, 124, 124, 553, 1, 1))
-    );
-    Ok(())
+/// Whether groups are read.
+fn groups_are_read(alloc: Global) -> bool {
+    for (bytes, told) in READ {
+        if read(alloc, bytes).ok() != Some(told) {
+            return false;
+        }
+    }
+    true
 }
 
 /// A byte, what it is changed to, and the code, place, kept and found value of the fault.
@@ -77,24 +69,28 @@ const FAULTS: [(usize, u8, u8, u64, u64, u64); 9] = [
     (36, 0x17, 12, 52, 0, 0), // a short span
 ];
 
-#[test]
-fn each_fault_stands_where_it_shows(rt: HostRuntime) -> Result<(), Fail> {
+/// Whether each byte that is changed makes its fault.
+fn each_fault_stands_where_it_shows(alloc: Global) -> Result<bool, AllocError> {
     for (byte, to, code, at, kept, found) in FAULTS {
-        assert_eq!(rt; bent(rt.alloc(), byte, to)?, fault(code, at, kept, found));
+        let mut bytes = FOOTER.to_vec(alloc)?;
+        if let Some(place) = bytes.get_mut(byte) {
+            *place = to;
+        }
+        if read(alloc, &bytes).err() != fault(code, at, kept, found) {
+            return Ok(false);
+        }
     }
-    Ok(())
+    Ok(true)
 }
 
-#[test]
-fn sums_of_groups_fit_their_numbers(rt: HostRuntime) -> Result<(), Fail> {
-    let alloc = rt.alloc();
-    assert_eq!(rt; read(alloc, &WIDE).err(), fault(17, 84, 0, 0));
-    assert_eq!(rt; read(alloc, &MANY).err(), fault(17, 84, 0, 0));
-    Ok(())
+/// Whether the sums of groups that pass their numbers are refused.
+fn sums_of_groups_fit_their_numbers(alloc: Global) -> bool {
+    read(alloc, &WIDE).err() == fault(17, 84, 0, 0)
+        && read(alloc, &MANY).err() == fault(17, 84, 0, 0)
 }
 
-#[test]
-fn a_cut_footer_is_short_in_its_outermost_part(rt: HostRuntime) -> Result<(), Fail> {
+/// Whether a footer that is cut is short in its outermost part.
+fn a_cut_footer_is_short(alloc: Global) -> bool {
     for len in 0..FOOTER.len() {
         let at = if len < 8 {
             0
@@ -105,7 +101,25 @@ fn a_cut_footer_is_short_in_its_outermost_part(rt: HostRuntime) -> Result<(), Fa
         } else {
             24
         };
-        assert_eq!(rt; read(rt.alloc(), &FOOTER[..len]).err(), fault(12, at, 0, 0));
+        if read(alloc, &FOOTER[..len]).err() != fault(12, at, 0, 0) {
+            return false;
+        }
     }
-    Ok(())
+    true
+}
+
+#[test]
+fn footers(rt: HostRuntime) {
+    let alloc = rt.alloc();
+    for (holds, name) in [
+        (Ok(groups_are_read(alloc)), "groups are read"),
+        (each_fault_stands_where_it_shows(alloc), "each fault"),
+        (
+            Ok(sums_of_groups_fit_their_numbers(alloc)),
+            "sums of groups",
+        ),
+        (Ok(a_cut_footer_is_short(alloc)), "a cut footer"),
+    ] {
+        assert!(rt; holds == Ok(true), "{name}");
+    }
 }

@@ -6,7 +6,6 @@ use nt_meta::{KnownColumns, MetaError, Progress, read_page_list};
 use nt_num::ReadError;
 use nt_pagelists::{ClusterLists, Group, KnownColumn};
 use std::alloc::{AllocError, Global};
-use std::test::Fail;
 
 /// What is known of the one column: whether it is open, and its first element.
 type Known = (bool, u64);
@@ -97,8 +96,13 @@ fn fault_in(code: u8, at: u64, cluster: u32, column: u32) -> Option<MetaError> {
     }))
 }
 
-/// The page list of one cluster with some bytes changed, as it is read.
-fn bent(alloc: Global, changes: &[(usize, u8)], known: Known) -> Result<Option<MetaError>, Fail> {
+/// Whether the page list of one cluster with some bytes changed has this fault.
+fn has_fault(
+    alloc: Global,
+    changes: &[(usize, u8)],
+    known: Known,
+    fault: Option<MetaError>,
+) -> Result<bool, AllocError> {
     let mut bytes = ONE.to_vec(alloc)?;
     for (at, to) in changes {
         if let Some(byte) = bytes.get_mut(*at) {
@@ -106,29 +110,29 @@ fn bent(alloc: Global, changes: &[(usize, u8)], known: Known) -> Result<Option<M
         }
     }
     let columns = one_known(alloc, known)?;
-    Ok(read(alloc, &bytes, 2, 1, &columns).err())
+    Ok(read(alloc, &bytes, 2, 1, &columns).err() == fault)
 }
 
-#[test]
-fn one_page_is_read(rt: HostRuntime) -> Result<(), Fail> {
-    let alloc = rt.alloc();
-    let known = one_known(alloc, (true, 0))?;
-    match read(alloc, &ONE, 2, 1, &known) {
-        Ok((lists, so_far)) => assert_eq!(rt; told(&lists, &so_far), (1, 2, 2, 2, 16, 487, 0)),
-        Err(_) => assert!(rt; false),
+/// Whether this is told of a page list.
+fn is_told(
+    alloc: Global,
+    bytes: &[u8],
+    numbers: (u64, u32),
+    known: &KnownColumns,
+    want: Told,
+) -> bool {
+    match read(alloc, bytes, numbers.0, numbers.1, known) {
+        Ok((lists, so_far)) => told(&lists, &so_far) == want,
+        Err(_) => false,
     }
-    Ok(())
 }
 
-#[test]
-fn what_is_behind_the_known_contents_is_skipped(rt: HostRuntime) -> Result<(), Fail> {
-    let alloc = rt.alloc();
+/// Whether one page is read, and what is behind the known contents skipped.
+fn one_page_is_read(alloc: Global) -> Result<bool, AllocError> {
     let known = one_known(alloc, (true, 0))?;
-    match read(alloc, &LONGER, 2, 1, &known) {
-        Ok((lists, so_far)) => assert_eq!(rt; told(&lists, &so_far), (1, 2, 2, 2, 16, 487, 0)),
-        Err(_) => assert!(rt; false),
-    }
-    Ok(())
+    let want = (1, 2, 2, 2, 16, 487, 0);
+    let is_read = is_told(alloc, &ONE, (2, 1), &known, want);
+    Ok(is_read && is_told(alloc, &LONGER, (2, 1), &known, want))
 }
 
 /// A byte, what it is changed to, and the code and place of the fault.
@@ -150,73 +154,64 @@ const FAULTS: [(usize, u8, u8, u64); 15] = [
     (103, 0x80, 19, 68), // a negative offset
 ];
 
-#[test]
-fn each_fault_stands_where_it_shows(rt: HostRuntime) -> Result<(), Fail> {
-    let alloc = rt.alloc();
+/// Whether each byte that is changed makes its fault.
+fn each_fault_stands_where_it_shows(alloc: Global) -> Result<bool, AllocError> {
     for (byte, to, code, at) in FAULTS {
-        assert_eq!(rt;
-            bent(alloc, &[(byte, to)], (true, 0))?,
-            fault(code, at, 0, 0)
-        );
+        if !has_fault(alloc, &[(byte, to)], (true, 0), fault(code, at, 0, 0))? {
+            return Ok(false);
+        }
     }
     let least = [(80, 0), (81, 0), (82, 0), (83, 0x80)];
-    assert_eq!(rt; bent(alloc, &least, (true, 0))?, fault(19, 80, 0, 0));
-    assert_eq!(rt;
-        bent(alloc, &[(0, 9)], (true, 0))?,
-        fault(16, 0, SUM + 8, SUM)
-    );
-    Ok(())
+    let is_least = has_fault(alloc, &least, (true, 0), fault(19, 80, 0, 0))?;
+    let other = fault(16, 0, SUM + 8, SUM);
+    Ok(is_least && has_fault(alloc, &[(0, 9)], (true, 0), other)?)
 }
 
-#[test]
-fn a_closed_column_is_not_judged(rt: HostRuntime) -> Result<(), Fail> {
-    for (byte, to) in [(103, 0x80), (80, 0xfd), (64, 0), (96, 1)] {
-        assert_eq!(rt; bent(rt.alloc(), &[(byte, to)], (false, 1))?, None);
+/// A change, if any, what is known of the column, and the code and place of the fault, if there is one.
+const JUDGED: [(&[(usize, u8)], Known, Option<(u8, u64)>); 8] = [
+    // a closed column is not judged
+    (&[(103, 0x80)], (false, 1), None),
+    (&[(80, 0xfd)], (false, 1), None),
+    (&[(64, 0)], (false, 1), None),
+    (&[(96, 1)], (false, 1), None),
+    // a column may begin behind a cluster, and not inside
+    (&[], (true, 1), Some((20, 68))),
+    (&[(64, 0)], (true, 1), Some((20, 56))),
+    (&[], (true, 2), Some((18, 68))),
+    (&[(64, 0)], (true, 2), None),
+];
+
+/// Whether columns are judged so by what is known of them.
+fn columns_are_judged(alloc: Global) -> Result<bool, AllocError> {
+    for (changes, known, wrong) in JUDGED {
+        let fault = match wrong {
+            Some((code, at)) => fault(code, at, 0, 0),
+            None => None,
+        };
+        if !has_fault(alloc, changes, known, fault)? {
+            return Ok(false);
+        }
     }
-    Ok(())
+    Ok(true)
 }
 
-#[test]
-fn a_column_may_begin_behind_a_cluster_and_not_inside(rt: HostRuntime) -> Result<(), Fail> {
-    let alloc = rt.alloc();
-    assert_eq!(rt; bent(alloc, &[], (true, 1))?, fault(20, 68, 0, 0));
-    assert_eq!(rt; bent(alloc, &[(64, 0)], (true, 1))?, fault(20, 56, 0, 0));
-    assert_eq!(rt; bent(alloc, &[], (true, 2))?, fault(18, 68, 0, 0));
-    assert_eq!(rt; bent(alloc, &[(64, 0)], (true, 2))?, None);
-    Ok(())
-}
+/// Where the second column begins, and the fault of two clusters then.
+const DEFERRED: [(u64, u8, u64, u32); 3] = [(1, 20, 80, 0), (0, 18, 80, 0), (3, 20, 184, 1)];
 
-#[test]
-fn a_deferred_column_has_its_elements_from_its_first_cluster_on(
-    rt: HostRuntime,
-) -> Result<(), Fail> {
-    let alloc = rt.alloc();
-    let deferred = two_known(alloc, 2)?;
-    match read(alloc, &TWO, 4, 2, &deferred) {
-        Ok((lists, so_far)) => assert_eq!(rt; told(&lists, &so_far), (2, 4, 2, 2, 16, 700, 2)),
-        Err(_) => assert!(rt; false),
+/// Whether a deferred column has its elements from its first cluster on.
+fn a_deferred_column_has_its_elements(alloc: Global) -> Result<bool, AllocError> {
+    for (first, code, at, cluster) in DEFERRED {
+        let known = two_known(alloc, first)?;
+        if read(alloc, &TWO, 4, 2, &known).err() != fault_in(code, at, cluster, 1) {
+            return Ok(false);
+        }
     }
-    let inside = two_known(alloc, 1)?;
-    assert_eq!(rt;
-        read(alloc, &TWO, 4, 2, &inside).err(),
-        fault_in(20, 80, 0, 1)
-    );
-    let early = two_known(alloc, 0)?;
-    assert_eq!(rt;
-        read(alloc, &TWO, 4, 2, &early).err(),
-        fault_in(18, 80, 0, 1)
-    );
-    let late = two_known(alloc, 3)?;
-    assert_eq!(rt;
-        read(alloc, &TWO, 4, 2, &late).err(),
-        fault_in(20, 184, 1, 1)
-    );
-    Ok(())
+    let known = two_known(alloc, 2)?;
+    Ok(is_told(alloc, &TWO, (4, 2), &known, (2, 4, 2, 2, 16, 700, 2)))
 }
 
-#[test]
-fn a_cut_list_is_short_in_its_outermost_part(rt: HostRuntime) -> Result<(), Fail> {
-    let alloc = rt.alloc();
+/// Whether a list that is cut is short in its outermost part.
+fn a_cut_list_is_short(alloc: Global) -> Result<bool, AllocError> {
     let known = one_known(alloc, (true, 0))?;
     for len in 0..ONE.len() {
         let at = if len < 8 {
@@ -226,10 +221,26 @@ fn a_cut_list_is_short_in_its_outermost_part(rt: HostRuntime) -> Result<(), Fail
         } else {
             44
         };
-        assert_eq!(rt;
-            read(alloc, &ONE[..len], 2, 1, &known).err(),
-            fault(12, at, 0, 0)
-        );
+        if read(alloc, &ONE[..len], 2, 1, &known).err() != fault(12, at, 0, 0) {
+            return Ok(false);
+        }
     }
-    Ok(())
+    Ok(true)
+}
+
+#[test]
+fn lists(rt: HostRuntime) {
+    let alloc = rt.alloc();
+    for (holds, name) in [
+        (one_page_is_read(alloc), "one page is read"),
+        (each_fault_stands_where_it_shows(alloc), "each fault"),
+        (columns_are_judged(alloc), "columns are judged"),
+        (
+            a_deferred_column_has_its_elements(alloc),
+            "a deferred column",
+        ),
+        (a_cut_list_is_short(alloc), "a cut list"),
+    ] {
+        assert!(rt; holds == Ok(true), "{name}");
+    }
 }

@@ -10,7 +10,6 @@ use nt_meta::{write_footer, write_page_list};
 use nt_pagelists::Group;
 use nt_schema::Schema;
 use std::alloc::{AllocError, Global};
-use std::test::Fail;
 
 /// The cluster of the file of 1137 bytes: two entries, one column, one page.
 fn cluster(alloc: Global) -> Result<ClusterMeta, AllocError>
@@ -47,33 +46,38 @@ fn group() -> Group {
     }
 }
 
-#[test]
-fn a_book_is_written_as_it_is_laid_out(rt: HostRuntime) -> Result<(), Fail> {
-    let alloc = rt.alloc();
-    let limits = Limits::new(1024, 2048, 7).expect(&rt, "the limits are small");
+/// Whether a book is written as it is laid out.
+fn a_book_is_written(alloc: Global) -> Result<bool, AllocError> {
+    let Some(limits) = Limits::new(1024, 2048, 7) else {
+        return Ok(false);
+    };
     let mut book = Book::new(alloc, 445, 1, limits)?;
     book.room()?;
     let mut meta = cluster(alloc)?;
-    if book.check(66).is_ok() {
-        book.append(&mut meta);
-        let sealed = write_page_list(alloc, &book, 0, 1, SUM)?;
-        assert_eq!(rt; sealed.len(), 124);
-        assert_eq!(rt; &sealed[8..116], ONE.as_slice());
-        return Ok(());
+    if book.check(66).is_err() {
+        return Ok(false);
     }
-    assert!(rt; false);
-    Ok(())
+    book.append(&mut meta);
+    let sealed = write_page_list(alloc, &book, 0, 1, SUM)?;
+    Ok(sealed.len() == 124 && sealed.get(8..116) == Some(ONE.as_slice()))
+}
+
+/// Whether groups are written as they are laid out, and none too.
+fn groups_are_written(alloc: Global) -> Result<bool, AllocError> {
+    let schema = Schema::new(alloc);
+    let one = write_footer(alloc, &schema, &[group()], SUM)?;
+    let none = write_footer(alloc, &schema, &[], SUM)?;
+    let is_one = one.len() == 100 && one.get(8..92) == Some(FOOTER.as_slice());
+    Ok(is_one && none.len() == 52 && none.get(8..44) == Some(NO_GROUP.as_slice()))
 }
 
 #[test]
-fn groups_are_written_as_they_are_laid_out(rt: HostRuntime) -> Result<(), Fail> {
+fn writing(rt: HostRuntime) {
     let alloc = rt.alloc();
-    let schema = Schema::new(alloc);
-    let one = write_footer(alloc, &schema, &[group()], SUM)?;
-    assert_eq!(rt; one.len(), 100);
-    assert_eq!(rt; &one[8..92], FOOTER.as_slice());
-    let none = write_footer(alloc, &schema, &[], SUM)?;
-    assert_eq!(rt; none.len(), 52);
-    assert_eq!(rt; &none[8..44], NO_GROUP.as_slice());
-    Ok(())
+    for (holds, name) in [
+        (a_book_is_written(alloc), "a book is written"),
+        (groups_are_written(alloc), "groups are written"),
+    ] {
+        assert!(rt; holds == Ok(true), "{name}");
+    }
 }

@@ -4,7 +4,6 @@ use TextKind::{Count, Misfit, NotArray, NotJson};
 use nt_event::{TextError, TextKind, read_line, write_line};
 use nt_types::parse_schema;
 use std::alloc::{AllocError, Global};
-use std::test::Fail;
 
 /// A schema text, lines, and the lines that are printed for their entries.
 const READ: [(&str, &str, &str); 34] = [
@@ -156,56 +155,76 @@ fn is_line(text: &[u8], line: &str) -> bool {
     }
 }
 
-#[test]
-fn lines_have_entries(rt: HostRuntime) -> Result<(), Fail> {
+/// Whether a line has this fault.
+fn has_fault(alloc: Global, schema: &str, line: &[u8], kind: TextKind) -> bool {
+    printed(alloc, schema, line).err() == Some(TextError::Kind(kind))
+}
+
+/// Whether a line has the entry that is printed so.
+fn has_entry(alloc: Global, schema: &str, line: &str, expected: &str) -> bool {
+    match printed(alloc, schema, line.as_bytes()) {
+        Ok(text) => is_line(text.as_slice(), expected),
+        Err(_) => false,
+    }
+}
+
+/// Whether lines have these entries.
+fn lines_have_entries(alloc: Global) -> bool {
     for (schema, line, expected) in READ {
-        match printed(rt.alloc(), schema, line.as_bytes()) {
-            Ok(text) => assert!(rt; is_line(text.as_slice(), expected), "{line}"),
-            Err(error) => assert!(rt; false, "{line}: {error:?}"),
+        if !has_entry(alloc, schema, line, expected) {
+            return false;
         }
     }
     for (schema, line, expected) in OPTIONAL {
-        match printed(rt.alloc(), schema, line.as_bytes()) {
-            Ok(text) => assert!(rt; is_line(text.as_slice(), expected), "{line}"),
-            Err(error) => assert!(rt; false, "{line}: {error:?}"),
+        if !has_entry(alloc, schema, line, expected) {
+            return false;
         }
     }
-    Ok(())
+    true
 }
 
-#[test]
-fn lines_have_faults(rt: HostRuntime) -> Result<(), Fail> {
+/// Whether lines have these faults.
+fn lines_have_faults(alloc: Global) -> bool {
     for (schema, line, kind) in REFUSED {
-        match printed(rt.alloc(), schema, line) {
-            Ok(_) => assert!(rt; false, "{line:?}"),
-            Err(error) => assert_eq!(rt; error, TextError::Kind(kind), "{line:?}"),
+        if !has_fault(alloc, schema, line, kind) {
+            return false;
         }
     }
-    Ok(())
+    true
 }
 
-#[test]
-fn arrays_nest_so_deep(rt: HostRuntime) -> Result<(), Fail> {
+/// Whether arrays nest no deeper than JSON is read.
+fn arrays_nest_so_deep(alloc: Global) -> Result<bool, AllocError> {
     for (depth, kind) in [(127, Misfit), (128, NotJson)] {
-        let mut line = vec![in rt.alloc(); b'['; depth]?;
-        line.extend_from_slice(vec![in rt.alloc(); b']'; depth]?.as_slice())?;
-        match printed(rt.alloc(), "x u64", line.as_slice()) {
-            Ok(_) => assert!(rt; false),
-            Err(error) => assert_eq!(rt; error, TextError::Kind(kind)),
+        let mut line = vec![in alloc; b'['; depth]?;
+        line.extend_from_slice(vec![in alloc; b']'; depth]?.as_slice())?;
+        if !has_fault(alloc, "x u64", line.as_slice(), kind) {
+            return Ok(false);
         }
     }
-    Ok(())
+    Ok(true)
+}
+
+/// Whether a line has at most 2^24 bytes.
+fn a_line_has_so_many_bytes(alloc: Global) -> Result<bool, AllocError> {
+    let mut line = vec![in alloc; b' '; (1 << 24) - 3]?;
+    line.extend_from_slice(b"[1]")?;
+    if printed(alloc, "x u64", line.as_slice()).is_err() {
+        return Ok(false);
+    }
+    line.push(b' ')?;
+    Ok(has_fault(alloc, "x u64", line.as_slice(), TextKind::TooLong))
 }
 
 #[test]
-fn a_line_has_so_many_bytes(rt: HostRuntime) -> Result<(), Fail> {
-    let mut line = vec![in rt.alloc(); b' '; (1 << 24) - 3]?;
-    line.extend_from_slice(b"[1]")?;
-    assert!(rt; printed(rt.alloc(), "x u64", line.as_slice()).is_ok());
-    line.push(b' ')?;
-    match printed(rt.alloc(), "x u64", line.as_slice()) {
-        Ok(_) => assert!(rt; false),
-        Err(error) => assert_eq!(rt; error, TextError::Kind(TextKind::TooLong)),
+fn entries(rt: HostRuntime) {
+    let alloc = rt.alloc();
+    for (holds, name) in [
+        (Ok(lines_have_entries(alloc)), "lines have entries"),
+        (Ok(lines_have_faults(alloc)), "lines have faults"),
+        (arrays_nest_so_deep(alloc), "arrays nest so deep"),
+        (a_line_has_so_many_bytes(alloc), "a line has so many bytes"),
+    ] {
+        assert!(rt; holds == Ok(true), "{name}");
     }
-    Ok(())
 }

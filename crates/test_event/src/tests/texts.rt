@@ -5,7 +5,6 @@ use nt_lists::Bytes;
 use nt_memory::{Calls, MemSource};
 use nt_outside::{Failed, Source};
 use std::alloc::{AllocError, Global};
-use std::test::Fail;
 
 /// A text, and its lines, each with a bar behind it.
 const TEXTS: [(&str, &str); 7] = [
@@ -67,60 +66,87 @@ fn mem(alloc: Global, bytes: Vec<u8>, fails: &[u64]) -> Result<MemSource, AllocE
     ))
 }
 
-#[test]
-fn texts_have_lines(rt: HostRuntime) -> Result<(), Fail> {
-    let alloc = rt.alloc();
-    for (text, expected) in TEXTS {
-        let bytes = text.as_bytes().to_vec(alloc)?;
-        match barred(alloc, ByteByByte { bytes, at: 0 }) {
-            Ok(lines) => assert_eq!(rt; lines.as_slice(), expected.as_bytes()),
-            Err(_) => assert!(rt; false, "{text}"),
-        }
-        match barred(alloc, mem(alloc, text.as_bytes().to_vec(alloc)?, &[])?) {
-            Ok(lines) => assert_eq!(rt; lines.as_slice(), expected.as_bytes()),
-            Err(_) => assert!(rt; false, "{text}"),
-        }
+/// Whether a source has these lines.
+fn has_lines<S: Source + Drop>(alloc: Global, source: S, expected: &[u8]) -> bool {
+    match barred(alloc, source) {
+        Ok(lines) => lines.as_slice() == expected,
+        Err(_) => false,
     }
-    Ok(())
 }
 
-#[test]
-fn a_line_may_be_so_long(rt: HostRuntime) -> Result<(), Fail> {
-    let alloc = rt.alloc();
+/// Whether texts have these lines, in whatever pieces they come.
+fn texts_have_lines(alloc: Global) -> Result<bool, AllocError> {
+    for (text, expected) in TEXTS {
+        let bytes = text.as_bytes().to_vec(alloc)?;
+        let whole = mem(alloc, text.as_bytes().to_vec(alloc)?, &[])?;
+        let expected = expected.as_bytes();
+        if !has_lines(alloc, ByteByByte { bytes, at: 0 }, expected)
+            || !has_lines(alloc, whole, expected)
+        {
+            return Ok(false);
+        }
+    }
+    Ok(true)
+}
+
+/// Whether a line has at most 2^24 bytes.
+fn a_line_may_be_so_long(alloc: Global) -> Result<bool, AllocError> {
     for (count, fits) in [(1 << 24, true), ((1 << 24) + 1, false)] {
         let mut bytes = vec![in alloc; b'\n'; 1]?;
         bytes.extend_from_slice(vec![in alloc; b' '; count]?.as_slice())?;
-        match barred(alloc, mem(alloc, bytes, &[])?) {
-            Ok(lines) => assert!(rt; fits && lines.len() == count + 2),
-            Err(error) => assert!(rt; !fits && error == LineError::TooLong { line: 2 }),
+        let is_so = match barred(alloc, mem(alloc, bytes, &[])?) {
+            Ok(lines) => fits && lines.len() == count + 2,
+            Err(error) => !fits && error == LineError::TooLong { line: 2 },
+        };
+        if !is_so {
+            return Ok(false);
         }
     }
-    Ok(())
+    Ok(true)
 }
 
-#[test]
-fn a_failing_read_is_a_fault(rt: HostRuntime) -> Result<(), Fail> {
-    let alloc = rt.alloc();
-    // after the last line the end is looked for once more
+/// Whether a read that fails is a fault: behind the last line the end is looked for once more.
+fn a_failing_read_is_a_fault(alloc: Global) -> Result<bool, AllocError> {
     for (number, fails) in [(1, true), (2, true), (3, true), (4, false)] {
         let source = mem(alloc, b"a\nb".to_vec(alloc)?, &[number])?;
-        match barred(alloc, source) {
-            Ok(lines) => assert!(rt; !fails && lines.as_slice() == b"a|b|".as_slice()),
-            Err(error) => assert!(rt; fails && error == LineError::Fault),
+        let is_so = match barred(alloc, source) {
+            Ok(lines) => !fails && lines.as_slice() == b"a|b|".as_slice(),
+            Err(error) => fails && error == LineError::Fault,
+        };
+        if !is_so {
+            return Ok(false);
         }
     }
-    Ok(())
+    Ok(true)
 }
 
-#[test]
-fn blank_lines_are_told(rt: HostRuntime) -> Result<(), Fail> {
+/// Whether lines without an entry are told from others.
+fn blank_lines_are_told() -> bool {
     for (line, is_blank) in [
         ("", true),
         (" \t\r", true),
         ("\u{b}", false),
         (" x ", false),
     ] {
-        assert_eq!(rt; blank(line.as_bytes()), is_blank);
+        if blank(line.as_bytes()) != is_blank {
+            return false;
+        }
     }
-    Ok(())
+    true
+}
+
+#[test]
+fn texts(rt: HostRuntime) {
+    let alloc = rt.alloc();
+    for (holds, name) in [
+        (texts_have_lines(alloc), "texts have lines"),
+        (a_line_may_be_so_long(alloc), "a line may be so long"),
+        (
+            a_failing_read_is_a_fault(alloc),
+            "a failing read is a fault",
+        ),
+        (Ok(blank_lines_are_told()), "blank lines are told"),
+    ] {
+        assert!(rt; holds == Ok(true), "{name}");
+    }
 }

@@ -158,7 +158,7 @@ impl Trials {
 
     /// `cut NAME`: a run of the words over a file that is cut to each length.
     fn cut<R: Threads + Wait + Sync>(
-        &mut self,
+        &self,
         rt: &R,
         rest: &[&str],
         told: &mut Vec<u8>,
@@ -166,7 +166,10 @@ impl Trials {
         let [name] = rest else {
             return Ok(());
         };
-        let file = find(&self.files, name).unwrap_or(b"".as_slice());
+        let file = match find(&self.files, name) {
+            Some(file) => file.to_vec(self.alloc)?,
+            None => Vec::new(self.alloc),
+        };
         let mut rows = Rows::new(self.alloc);
         for len in 0..file.len() {
             let mut host = host_of(self.alloc, &self.files, None)?;

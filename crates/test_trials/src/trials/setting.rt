@@ -3,6 +3,7 @@
 use super::{LONG, SHORT, Trials};
 use crate::named::{Named, find, put};
 use crate::spelling::{add_number, add_spelled, number_of, short_of};
+use nt_xxh3::sum;
 use std::alloc::{AllocError, Global};
 
 /// The bytes of words: `#` is before hex digits, `@` before a name that `let` gave, `N*@` before one that stands N times; any other
@@ -49,8 +50,9 @@ impl Trials {
     }
 
     /// Sets something, unless the command is none of these: `clear` takes all files away, `file NAME PART..` puts one there,
-    /// `bend NAME PLACE PART..` puts bytes over those of one, and `take NAME NEW` takes one that the last run left; `words WORD..` are
-    /// those of runs; `order NUMBER..` lets contexts commit so, and `soon NUMBER..` unless that takes too long.
+    /// `bend NAME PLACE PART..` puts bytes over those of one, `seal NAME PLACE LEN` puts the checksum of an envelope over its last
+    /// bytes, and `take NAME NEW` takes a file that the last run left; `words WORD..` are those of runs; `order NUMBER..` lets
+    /// contexts commit so, and `soon NUMBER..` unless that takes too long.
     pub fn set(&mut self, command: &str, rest: &[&str]) -> Result<bool, AllocError> {
         match command {
             "clear" => {
@@ -60,6 +62,7 @@ impl Trials {
             }
             "file" => self.set_file(rest)?,
             "bend" => self.bend(rest)?,
+            "seal" => self.seal(rest)?,
             "take" => self.take(rest)?,
             "words" => self.set_words(rest)?,
             "order" => self.set_order(rest, LONG)?,
@@ -77,18 +80,34 @@ impl Trials {
         put(self.alloc, &mut self.files, name, bytes)
     }
 
+    /// Puts bytes over those of a file at a place.
+    fn put_over(&mut self, name: &str, place: u64, other: &[u8]) -> Result<(), AllocError> {
+        let file = find(&self.files, name).unwrap_or(b"".as_slice());
+        let mut bytes = file.to_vec(self.alloc)?;
+        for (byte, new) in bytes.iter_mut().skip(place as usize).zip(other.iter()) {
+            *byte = *new;
+        }
+        put(self.alloc, &mut self.files, name, bytes)
+    }
+
     fn bend(&mut self, rest: &[&str]) -> Result<(), AllocError> {
         let [name, place, parts @ ..] = rest else {
             return Ok(());
         };
         let other = bytes_of(self.alloc, &self.texts, parts)?;
+        self.put_over(name, number_of(place), &other)
+    }
+
+    fn seal(&mut self, rest: &[&str]) -> Result<(), AllocError> {
+        let [name, place, len] = rest else {
+            return Ok(());
+        };
+        let place = number_of(place);
+        let covered = number_of(len).saturating_sub(8);
         let file = find(&self.files, name).unwrap_or(b"".as_slice());
-        let mut bytes = file.to_vec(self.alloc)?;
-        let place = number_of(place) as usize;
-        for (byte, new) in bytes.iter_mut().skip(place).zip(other.iter()) {
-            *byte = *new;
-        }
-        put(self.alloc, &mut self.files, name, bytes)
+        let behind = file.get(place as usize..).unwrap_or(b"".as_slice());
+        let checksum = sum(behind.get(..covered as usize).unwrap_or(b"".as_slice()));
+        self.put_over(name, place.saturating_add(covered), &checksum.to_le_bytes())
     }
 
     fn take(&mut self, rest: &[&str]) -> Result<(), AllocError> {
