@@ -1,6 +1,8 @@
 -- A command and the message after it, joined.
-use Rattle.std.proofs.Common.{◌≡◌, ◌⊎◌, ◌∙◌, inl, inr, ap, subst, refl, ℕ, List}
-use Rattle.nt_outside.specs.World.{HostState}
+use Rattle.std.proofs.Common.{◌≡◌, ◌⊎◌, ◌∙◌, inl, inr, ap, subst, refl, ℕ, ◌<◌, ◌^◌, List, Some}
+use Rattle.std.specs.Prelude.{All}
+use Rattle.nt_payloads.proofs.WholeFiles.{as_it_is}
+use Rattle.nt_outside.specs.World.{World, HostState, file}
 use Rattle.nt_show.specs.Shown.{entries_shown, fields_shown}
 use Rattle.nt_command_line.specs.Commands.{IsWrong}
 use Rattle.nt_command_line.proofs.Wrong.{wrong_is_none}
@@ -8,7 +10,7 @@ use Rattle.nt_app.specs.declared.status.Status.{Status}
 use Rattle.nt_app.specs.declared.status.Status.TheVariants as status
 use Rattle.nt_app.specs.Statuses.{message_of}
 use Rattle.nt_app.specs.Reports.{Reports}
-use Rattle.nt_app.specs.Runs.{RefusesWords, range_said, Obeys, Runs}
+use Rattle.nt_app.specs.Runs.{RefusesWords, range_said, Obeys, TellsFiles, Runs}
 use Rattle.nt_app.proofs.Joined.{either_after}
 use Rattle.nt_app.proofs.Writing.{memory_writes, run_write}
 use Rattle.nt_app.proofs.Scripting.{memory_scripts, run_seq}
@@ -38,11 +40,19 @@ run_usage old mid new answer is same reports = record {
   opened = reports.opened ∙ ap (λ (h : HostState). h.opened) same;
 }
 
+-- each byte of a host's files is one
+abbrev pub AreBytes : HostState → Type 0
+AreBytes host = (w : World) (name told : List ℕ) → host.world ≡ Some w → file w name ≡ Some told → All (λ (b : ℕ). b < 2 ^ 8) told
+
+-- so they are read as they are
+tells_files : (host : HostState) → AreBytes host → TellsFiles host
+tells_files host bytes w name told is here = as_it_is told (bytes w name told is here)
+
 -- what the words say was done, and then its message printed
 pub runs : (words : List (List ℕ)) (old mid new : HostState) (answer : Status) → Obeys words old mid answer
-    → Reports (message_of answer) mid new
+    → Reports (message_of answer) mid new → AreBytes new
     → Runs words old new answer
-runs words old mid new answer obeys reports = record {
+runs words old mid new answer obeys reports bytes = record {
   write = λ o s is p said. run_write o s is p old mid new answer (obeys.write o s is p said) reports;
   seq = λ o s i p said. run_seq o s i p old mid new answer (obeys.seq o s i p said) reports;
   gen = λ o m said. run_gen o m old mid new answer (obeys.gen o m said) reports;
@@ -51,6 +61,7 @@ runs words old mid new answer obeys reports = record {
   schema = λ name said. run_shows fields_shown name old mid new answer (obeys.schema name said) reports;
   usage = λ none. let refused = obeys.usage none in run_usage old mid new answer refused.0 refused.1 reports;
   answers = obeys.answers;
+  grammar = tells_files new bytes;
 }
 
 -- the same, of words that are known to be those
@@ -61,10 +72,10 @@ runs_as words' words old new answer same runs-so = subst (λ (l : List (List ℕ
 -- and of a host too
 pub runs_after : (words' words : List (List ℕ)) (one old mid new : HostState) (answer : Status) → words' ≡ words → one ≡ old
     → Obeys words' one mid answer
-    → Reports (message_of answer) mid new → Runs words old new answer
-runs_after words' words one old mid new answer same stays obeys reports =
+    → Reports (message_of answer) mid new → AreBytes new → Runs words old new answer
+runs_after words' words one old mid new answer same stays obeys reports bytes =
     runs words old mid new answer (subst (λ (h : HostState). Obeys words h mid answer) stays
-    (subst (λ (l : List (List ℕ)). Obeys l one mid answer) same obeys)) reports
+    (subst (λ (l : List (List ℕ)). Obeys l one mid answer) same obeys)) reports bytes
 
 -- want of memory for the words
 pub no_memory : (words : List (List ℕ)) (state : HostState) → Obeys words state state status.Memory

@@ -1,6 +1,7 @@
 -- What the program does to a host, whole: the command, and then its message on err.
 use Rattle.std.specs.Prelude.{⊤, ◌≡◌, ◌⊎◌, ℕ, List, codes, Option, Some, unwrap_or}
-use Rattle.nt_outside.specs.World.{World, HostState}
+use Rattle.nt_payloads.specs.Files.{IsReadAsItIs}
+use Rattle.nt_outside.specs.World.{World, HostState, file}
 use Rattle.nt_book.specs.declared.params.Params.{Params}
 use Rattle.nt_draws.specs.declared.making.Making.{Making}
 use Rattle.nt_show.specs.declared.entry_range.EntryRange.{EntryRange}
@@ -82,6 +83,11 @@ pub record Obeys (words : List (List ℕ)) (old new : HostState) (answer : Statu
   pub usage : IsNoCommand words → ((answer ≡ status.Usage) ⊎ (answer ≡ status.Memory)) × (new ≡ old)
   pub answers : IsAnswerTo words answer
 
+-- what a host tells of a file, be it written or shown, is read as it is: what the file means, and its outline, are what the grammar of the
+-- format says that it is, with no reading
+abbrev pub TellsFiles : HostState → Type 0
+TellsFiles host = (w : World) (name bytes : List ℕ) → host.world ≡ Some w → file w name ≡ Some bytes → IsReadAsItIs bytes
+
 -- what the words say was done, and its message printed
 pub record Runs (words : List (List ℕ)) (old new : HostState) (answer : Status) : Type 0 where
   pub write : (out schema : List ℕ) (inputs : List (List ℕ)) (p : Params) → IsWrite words out schema inputs p
@@ -92,3 +98,5 @@ pub record Runs (words : List (List ℕ)) (old new : HostState) (answer : Status
   pub schema : (name : List ℕ) → IsSchemaCommand words name → RunsSchema name old new answer
   pub usage : IsNoCommand words → RefusesWords old new answer
   pub answers : IsAnswerTo words answer
+  -- the OUT that was written, the FILE that was shown, and any other file mean what they are by the grammar
+  pub grammar : TellsFiles new

@@ -19,3 +19,4 @@ pub mod Headers
 pub mod Footers
 pub mod Files
 pub mod Outlines
+pub mod WholeFiles

@@ -4,3 +4,4 @@ pub mod Conditions
 pub mod Descriptions
 pub mod Footers
 pub mod Outlines
+pub mod Files

@@ -1,6 +1,7 @@
 //! The laws that join the readings of payloads to their grammar.
 
-ghost use Rattle.std.specs.Prelude.{ℕ, List};
+ghost use Rattle.std.specs.Prelude.{ℕ, ◌<◌, ◌^◌, List, All};
+ghost use Rattle.nt_types.specs.TreeData.{TreesData};
 ghost use Rattle.nt_num.specs.Place.{At};
 ghost use Rattle.nt_format.specs.Reading.{standing, IsBytes};
 ghost use Rattle.nt_format.specs.Relations.{Agrees, Stands};
@@ -15,11 +16,13 @@ ghost use Rattle.nt_pagelists.specs.Footers.{footer_at};
 ghost use Rattle.nt_file_meaning.specs.Envelopes.{Sealed, Block, IsEnvelope};
 ghost use Rattle.nt_file_meaning.specs.Headers.{header_payload_at};
 ghost use Rattle.nt_file_meaning.specs.Outlines.{Outline, outline_of};
+ghost use Rattle.nt_file_meaning.specs.Files.{Means};
 ghost use Rattle.nt_file_meaning.specs.Describes.{DescribesHeader, DescribesFooter, DescribesClusters, HasOutline};
 ghost use Rattle.nt_payloads.specs.Conditions.{IsPageList};
 ghost use Rattle.nt_payloads.specs.Descriptions.{AddsDescription, IsHeaderPayload};
 ghost use Rattle.nt_payloads.specs.Footers.{IsFooter};
 ghost use Rattle.nt_payloads.specs.Outlines.{IsOutlined};
+ghost use Rattle.nt_payloads.specs.Files.{IsNtupleFile, IsReadAsItIs};
 
 /// Bytes are read as a description exactly where one stands in front of them: as the rows that were
 /// there with its own.
@@ -71,4 +74,12 @@ pub fn outlines_are_of_payloads()
     ensures read { (file : List ℕ) → IsBytes file → Agrees (outline_of file) (IsOutlined file) }
     ensures same { (file : List ℕ) (o : Outline) → IsBytes file
         → (HasOutline file o → IsOutlined file o) × (IsOutlined file o → HasOutline file o) }
+{}
+
+/// A file of bytes means a schema and the entries of its clusters exactly where it is the file of an
+/// ntuple that has these; and its outline is read exactly where it has that.
+pub fn files_mean_what_they_are()
+    ensures means { (file : List ℕ) (t : Table) (clusters : List (List TreesData)) → All (λ (b : ℕ). b < 2 ^ 8) file
+        → (Means file t clusters → IsNtupleFile file (t, clusters)) × (IsNtupleFile file (t, clusters) → Means file t clusters) }
+    ensures read { (file : List ℕ) → All (λ (b : ℕ). b < 2 ^ 8) file → IsReadAsItIs file }
 {}
