@@ -13,7 +13,7 @@ use Rattle.nt_machine.specs.declared.entry.EntryKind.{EntryKind}
 use Rattle.nt_machine.specs.declared.entry.EntryKind.TheVariants as entry
 use Rattle.nt_machine.specs.Faults.{HasRisen, HasFaults, faults_after, FaultsRise}
 use Rattle.nt_machine.specs.History.{Cluster, Fate, Out, is_out, handed_back, after_kind, after_entry, ranges_of}
-use Rattle.nt_machine.specs.Legal.{IsKindAllowed, IsAllowed, IsOut, last_end, end_after}
+use Rattle.nt_machine.specs.Legal.{IsKindAllowed, IsAllowed, IsOut, ranges_end, end_after}
 use Rattle.nt_machine.proofs.Histories.{AllByRecursion-append}
 use Rattle.nt_machine.proofs.Legality.{IsLegalAfter-snoc, ranges_of-snoc, ranges_of-back, end_after-snoc, IsApart-fold}
 use Rattle.nt_commit.specs.Locked.{place_of, ranges_out, Follows}
@@ -112,7 +112,7 @@ module _ {M : Type 0} where
 
     -- a range was reserved for a cluster
     pub Follows-commit : (i n start len : ℕ) (meta : M) → n ≡ length (ranges_of history)
-        → last_end begun.end (ranges_of history) ≤ start → start ≡ end_after begun.end (ranges_of history) → i ≤ contexts → 42 ≤ len
+        → ranges_end begun.end (ranges_of history) ≤ start → start ≡ end_after begun.end (ranges_of history) → i ≤ contexts → 42 ≤ len
         → BecomesSome d.held d'.held (IsReserved d.end len) → d'.end ≡ d.end + len → d'.out ≡ d.out ++ record {
           start = d.end;
           len = len;
@@ -159,7 +159,7 @@ module _ {M : Type 0} where
         (end ∙ (follows.end ∙ (sym (end_after-handed_back begun.end i n fate old)
         ∙ ap (λ (l : List (Cluster M)). end_after begun.end l) (sym after))))
         (out ∙ (ap (λ (l : List _). without (place_of is.cluster) l) follows.out
-        ∙ (sym (ranges_out-set begun.end (last_end begun.end old) old n is.cluster fate apart follows.roomy is.at is.out back)
+        ∙ (sym (ranges_out-set begun.end (ranges_end begun.end old) old n is.cluster fate apart follows.roomy is.at is.out back)
         ∙ (ap (λ (l : List (Cluster M)). ranges_out l) (sym put) ∙ ap (λ (l : List (Cluster M)). ranges_out l) (sym after)))))
         log
         (λ steps was.

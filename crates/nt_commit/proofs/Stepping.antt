@@ -12,7 +12,7 @@ use Rattle.nt_outside.specs.Faults.{Rose}
 use Rattle.nt_machine.specs.declared.entry.Entry.{Entry}
 use Rattle.nt_machine.specs.declared.entry.EntryKind.TheVariants as entry
 use Rattle.nt_machine.specs.History.{ranges_of}
-use Rattle.nt_machine.specs.Legal.{IsOut, last_end, end_after}
+use Rattle.nt_machine.specs.Legal.{IsOut, ranges_end, end_after}
 use Rattle.nt_book.specs.declared.limits.Limits.{Limits}
 use Rattle.nt_book.specs.declared.limits.LimitError.{LimitError}
 use Rattle.nt_book.specs.declared.meta.ClusterMeta.{ClusterMeta}
@@ -65,12 +65,12 @@ module _ {D : Type 0} (state : D → DiskState) (begun d : D) (contexts : ℕ) (
       ∙ sym (told_end (state begun).end (state begun).held (state d).held b.history)
 
   -- the last range ends where the book's does, or before
-  begun_behind : last_end b.begin (ranges_of b.history) ≤ book_end b → last_end (state begun).end (ranges_of history) ≤ book_end b
+  begun_behind : ranges_end b.begin (ranges_of b.history) ≤ book_end b → ranges_end (state begun).end (ranges_of history) ≤ book_end b
   begun_behind behind =
       omega (
         arith,
         behind,
-        ap (λ (m : ℕ). last_end m (ranges_of b.history)) was.begin,
+        ap (λ (m : ℕ). ranges_end m (ranges_of b.history)) was.begin,
         told_last (state begun).end (state begun).held (state d).held b.history,
       )
 
@@ -211,7 +211,7 @@ module _ {D : Type 0} (state : D → DiskState) (begun d : D) (contexts : ℕ) (
 
     -- a range was reserved for a cluster, which was entered
     pub committed : (n spare : ℕ) (meta : ClusterMeta) → HasHistory (b.history ++ committed_entry n (book_end b) meta ∷ []) spare
-        → n ≡ length (book_clusters b) → last_end b.begin (ranges_of b.history) ≤ book_end b
+        → n ≡ length (book_clusters b) → ranges_end b.begin (ranges_of b.history) ≤ book_end b
         → None ≡ limit_error b.limits (book_end b) (length (book_clusters b)) meta.len → meta.context ≤ contexts → 42 ≤ meta.len
         → BecomesSome (state d).held (state d').held (IsReserved (state d).end meta.len) → (state d').end ≡ (state d).end + meta.len
         → (state d').out ≡ (state d).out ++ record { start = (state d).end; len = meta.len } ∷ [] → (state d).faults ≤ (state d').faults

@@ -11,7 +11,7 @@ use Rattle.nt_machine.specs.declared.entry.Entry.{Entry}
 use Rattle.nt_machine.specs.declared.entry.EntryKind.{EntryKind}
 use Rattle.nt_machine.specs.declared.entry.EntryKind.TheVariants as entry
 use Rattle.nt_machine.specs.History.{Cluster, after_entry, ranges_of}
-use Rattle.nt_machine.specs.Legal.{IsKindAllowed, IsLegalAfter, IsLegal, IsOut, last_end, end_after}
+use Rattle.nt_machine.specs.Legal.{IsKindAllowed, IsLegalAfter, IsLegal, IsOut, ranges_end, end_after}
 use Rattle.nt_machine.specs.Told.{settle_at, disk_steps_of, log_after, log_of}
 use Rattle.nt_machine.specs.Untold.{settles, settled_count, with_first, with_bytes, without_first, untold}
 use Rattle.nt_machine.proofs.Untelling.{with_bytes-settled, with_bytes-other, same, same_out, same_end}
@@ -192,18 +192,18 @@ module _ {M : Type 0} where
   told_end place (Some h) (Some h') history = same_end place history
       (told_bytes history (range_steps (drop (length h.log) h'.log)))
 
-  last-untold : (place : ℕ) (cs : List (Cluster M)) → last_end place (map untold cs) ≡ last_end place cs
+  last-untold : (place : ℕ) (cs : List (Cluster M)) → ranges_end place (map untold cs) ≡ ranges_end place cs
   last-untold place [] = refl
   last-untold place (c ∷ cs) = last-untold (c.start + c.len) cs
 
   last-with_bytes : (place : ℕ) (history : List (Entry M)) (told : List (Option (List ℕ)))
-      → last_end place (ranges_of (with_bytes history told)) ≡ last_end place (ranges_of history)
+      → ranges_end place (ranges_of (with_bytes history told)) ≡ ranges_end place (ranges_of history)
   last-with_bytes place history told =
       sym (last-untold place (ranges_of (with_bytes history told)))
-      ∙ (ap (λ (l : List (Cluster M)). last_end place l) (same history told) ∙ last-untold place (ranges_of history))
+      ∙ (ap (λ (l : List (Cluster M)). ranges_end place l) (same history told) ∙ last-untold place (ranges_of history))
 
   pub told_last : (place : ℕ) (begun now : Option Held) (history : List (Entry M))
-      → last_end place (ranges_of (told_history begun now history)) ≡ last_end place (ranges_of history)
+      → ranges_end place (ranges_of (told_history begun now history)) ≡ ranges_end place (ranges_of history)
   told_last place None now history = refl
   told_last place (Some h) None history = refl
   told_last place (Some h) (Some h') history = last-with_bytes place history

@@ -72,8 +72,7 @@ module _ {M : Type 0} where
       ∙ ap (λ (l : List Span). record { start = c.start; len = c.len } ∷ l) (spans-back i n state cs)
     where
       at : (b : Bool)
-         
-              → ◌≡◌ {A = Span} (record {
+          → ◌≡◌ {A = Span} (record {
             start = (cond b (record c { state = state }) c).start;
             len = (cond b (record c { state = state }) c).len;
           }) (record { start = c.start; len = c.len })

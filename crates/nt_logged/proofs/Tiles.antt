@@ -11,7 +11,7 @@ use Rattle.nt_machine.specs.declared.entry.Entry.{Entry}
 use Rattle.nt_machine.specs.declared.entry.EntryKind.{EntryKind}
 use Rattle.nt_machine.specs.declared.entry.EntryKind.TheVariants as entry
 use Rattle.nt_machine.specs.History.{Cluster, Fate, Settled, Spoiled, handed_back, after_kind, after_entry, ranges_of}
-use Rattle.nt_machine.specs.Legal.{AreAsLong, spans_of, last_end, end_after, IsOut, IsKindAllowed, IsLegalAfter, IsLegal}
+use Rattle.nt_machine.specs.Legal.{AreAsLong, spans_of, ranges_end, end_after, IsOut, IsKindAllowed, IsLegalAfter, IsLegal}
 use Rattle.nt_machine.specs.Spans.{Span, IsDisjoint}
 use Rattle.nt_machine.specs.Told.{settle_at, disk_steps_of, log_after}
 use Rattle.nt_machine.proofs.Histories.{AllByRecursion-append}
@@ -60,7 +60,8 @@ module _ (log : List Step) where
   all_settled before [] is once = tt
   all_settled before (s ∷ steps) is once =
       let here = one_settled before s steps is once in
-      let rest = all_settled (before ++ s ∷ []) steps (subst (λ (l : List Step). IsTail (length (known_of log)) [] l) (moved before s steps) is)
+      let rest = all_settled (before ++ s ∷ []) steps
+      (subst (λ (l : List Step). IsTail (length (known_of log)) [] l) (moved before s steps) is)
       (subst (λ (l : List Step). StandOnceSettled (range_steps l)) (moved before s steps) once) in
       AllByRecursion-append (λ (p : Part). TellsAt (behind (before ++ s ∷ steps)) p.place p.bytes) (settled_by s) (settles_in steps) here
       (subst (λ (l : List Step). AreTold (behind l) (settles_in steps)) (sym (moved before s steps)) rest)
@@ -139,7 +140,7 @@ module _ {M : Type 0} (known : List Known) where
       told-all place (after_entry cs e) es ok.1 (IsNumbered-after_entry place cs e.context e.kind ok.0 numbered) parts.1
       (told-kind place cs e.context e.kind ok.0 numbered parts.0 h)
 
-  last-within : (from end : ℕ) (cs : List (Cluster M)) → from ≤ end → AreInside end (spans_of cs) → last_end from cs ≤ end
+  last-within : (from end : ℕ) (cs : List (Cluster M)) → from ≤ end → AreInside end (spans_of cs) → ranges_end from cs ≤ end
   last-within from end [] le h = le
   last-within from end (c ∷ cs) le h = last-within (c.start + c.len) end cs h.0 h.1
 
@@ -192,12 +193,12 @@ module _ {M : Type 0} (log steps : List Step) (front : List ℕ) (history : List
       let whole : length known ≡ end_after place cs =
       ap (λ (l : List Known). length l) (known-append [] log steps)
       ∙ (length-steps place [] (known_of log) steps tt logged.tail long ∙ logged.ends) in
-      let apart : IsDisjoint place (spans_of cs) (last_end place cs) = IsApart-fold place [] history ok (omega arith) in
+      let apart : IsDisjoint place (spans_of cs) (ranges_end place cs) = IsApart-fold place [] history ok (omega arith) in
       let inside : AreInside (end_after place cs) (spans_of cs) =
       subst (λ (l : List Span). AreInside (end_after place cs) l) logged.reserved
       (subst (λ (e : ℕ). AreInside e (with_all_reserved [] steps)) logged.ends (inside-steps place [] steps logged.tail tt)) in
       let first = (front_told log steps front is logged.tail).are in
-      let rest = tiled known place (end_after place cs) cs parts (later place (spans_of cs) (last_end place cs) (end_after place cs) apart
+      let rest = tiled known place (end_after place cs) cs parts (later place (spans_of cs) (ranges_end place cs) (end_after place cs) apart
       (last-within known place (end_after place cs) cs (omega arith) inside)) refl whole states settled in
       sym (take-append-drop place known)
       ∙ (ap (λ (l : List Known). l ++ drop place known) first

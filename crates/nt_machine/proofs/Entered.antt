@@ -12,7 +12,7 @@ use Rattle.nt_machine.specs.Legal.{IsLegal, IsAllowed, IsKindAllowed, IsOut}
 use Rattle.nt_machine.specs.Machine.{Mark, Out, Settled, Spoiled, Content, Empty, Bytes, Failed, ChunkRange, MachineState, ContextStep}
 use Rattle.nt_machine.specs.Machine.{Settle, with_changed, mark_of, after_context_step, IsRangeOut, IsRunFrom}
 use Rattle.nt_machine.specs.Entering.{mark_of_fate, steps_of_entry, IsHandedBackAs, IsWriteInto, IsRangeOf, HasRanges, IsNextOf}
-use Rattle.nt_machine.proofs.Legality.{last_end-back, last_end-snoc, ranges_of-back}
+use Rattle.nt_machine.proofs.Legality.{ranges_end-back, ranges_end-snoc, ranges_of-back}
 
 -- what is handed back as it was reserved has no content
 out-empty : (content : Content) → mark_of content ≡ Out → content ≡ Empty
@@ -77,7 +77,7 @@ module _ {M : Type 0} where
         → HasRanges place (record s { ranges = with_changed n (λ x. record x { mark = mark_of x.content }) s.ranges })
         (map (handed_back i n state) (ranges_of past))
     back i n state is marks = record {
-      end = h.end ∙ sym (last_end-back place i n state (ranges_of past));
+      end = h.end ∙ sym (ranges_end-back place i n state (ranges_of past));
       running = h.running;
       ranges =
           let done : ChunkRange → ChunkRange = λ r. record r { mark = mark_of r.content } in
@@ -128,7 +128,7 @@ module _ {M : Type 0} where
             let c : Cluster M = record { context = i; number = n; start = start; len = len; meta = meta; state = history.Out } in (
               (h.running, (next.0, next.1, next.2, end), tt),
               record {
-                end = omega (arith, next.3, last_end-snoc place (ranges_of past) c);
+                end = omega (arith, next.3, ranges_end-snoc place (ranges_of past) c);
                 running = h.running;
                 ranges = zip-snoc s.ranges (ranges_of past) _ c h.ranges
                     (record { context = refl; start = refl; len = next.3; mark = refl });

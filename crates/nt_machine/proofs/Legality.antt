@@ -14,7 +14,7 @@ use Rattle.nt_machine.specs.declared.entry.EntryKind.{EntryKind}
 use Rattle.nt_machine.specs.declared.entry.EntryKind.TheVariants as entry
 use Rattle.nt_machine.specs.History.{Fate, Out, Settled, Spoiled, Cluster, handed_back, after_kind, after_entry, clusters_of, is_out}
 use Rattle.nt_machine.specs.Spans.{Span, IsDisjoint}
-use Rattle.nt_machine.specs.Legal.{spans_of, last_end, end_after, IsOut, IsKindAllowed, IsAllowed, IsLegalAfter, IsLegal}
+use Rattle.nt_machine.specs.Legal.{spans_of, ranges_end, end_after, IsOut, IsKindAllowed, IsAllowed, IsLegalAfter, IsLegal}
 
 module _ {M : Type 0} where
   -- handing back changes no range
@@ -30,29 +30,29 @@ module _ {M : Type 0} where
       at false = refl
 
   abbrev pub IsApart : ℕ → List (Cluster M) → Type 0
-  IsApart place cs = IsDisjoint place (spans_of cs) (last_end place cs)
+  IsApart place cs = IsDisjoint place (spans_of cs) (ranges_end place cs)
 
-  pub last_end-back : (place i n : ℕ) (state : Fate) (cs : List (Cluster M)) → last_end place (map (handed_back i n state) cs)
-      ≡ last_end place cs
-  last_end-back place i n state [] = refl
-  last_end-back place i n state (c ∷ cs) =
-      ap (λ (e : ℕ). last_end e (map (handed_back i n state) cs)) (at (c.context == i && c.number == n && is_out c.state))
-      ∙ last_end-back (c.start + c.len) i n state cs
+  pub ranges_end-back : (place i n : ℕ) (state : Fate) (cs : List (Cluster M)) → ranges_end place (map (handed_back i n state) cs)
+      ≡ ranges_end place cs
+  ranges_end-back place i n state [] = refl
+  ranges_end-back place i n state (c ∷ cs) =
+      ap (λ (e : ℕ). ranges_end e (map (handed_back i n state) cs)) (at (c.context == i && c.number == n && is_out c.state))
+      ∙ ranges_end-back (c.start + c.len) i n state cs
     where
       at : (b : Bool) → (cond b (record c { state = state }) c).start + (cond b (record c { state = state }) c).len ≡ c.start + c.len
       at true = refl
       at false = refl
 
-  pub last_end-snoc : (place : ℕ) (cs : List (Cluster M)) (c : Cluster M) → last_end place (cs ++ c ∷ []) ≡ c.start + c.len
-  last_end-snoc place [] c = refl
-  last_end-snoc place (d ∷ cs) c = last_end-snoc (d.start + d.len) cs c
+  pub ranges_end-snoc : (place : ℕ) (cs : List (Cluster M)) (c : Cluster M) → ranges_end place (cs ++ c ∷ []) ≡ c.start + c.len
+  ranges_end-snoc place [] c = refl
+  ranges_end-snoc place (d ∷ cs) c = ranges_end-snoc (d.start + d.len) cs c
 
   IsApart-back : (place i n : ℕ) (state : Fate) (cs : List (Cluster M)) → IsApart place cs → IsApart place (map (handed_back i n state) cs)
   IsApart-back place i n state cs h =
       let ranges : spans_of (map (handed_back i n state) cs) ≡ spans_of cs =
       handed_back-same (λ (c : Cluster M). record { start = c.start; len = c.len }) (λ c s. refl) i n state cs in
-      subst (λ (l : List Span). IsDisjoint place l (last_end place (map (handed_back i n state) cs))) (sym ranges)
-      (subst (λ (e : ℕ). IsDisjoint place (spans_of cs) e) (sym (last_end-back place i n state cs)) h)
+      subst (λ (l : List Span). IsDisjoint place l (ranges_end place (map (handed_back i n state) cs))) (sym ranges)
+      (subst (λ (e : ℕ). IsDisjoint place (spans_of cs) e) (sym (ranges_end-back place i n state cs)) h)
 
   pub end_after-snoc : (place : ℕ) (cs : List (Cluster M)) (c : Cluster M) → end_after place (cs ++ c ∷ []) ≡ end_after place cs + c.len
   end_after-snoc place cs c = omega (arith, sum_by-append (λ (d : Cluster M). d.len) cs (c ∷ []))
@@ -61,12 +61,12 @@ module _ {M : Type 0} where
       → IsApart place cs → IsApart place (after_kind cs i k)
   IsApart-after_entry place cs i (entry.Committed n start len meta) ok h =
       let c : Cluster M = record { context = i; number = n; start = start; len = len; meta = meta; state = Out } in
-      let grown = IsDisjoint-snoc place (spans_of cs) (last_end place cs) (record { start = start; len = len }) h ok.1 in
+      let grown = IsDisjoint-snoc place (spans_of cs) (ranges_end place cs) (record { start = start; len = len }) h ok.1 in
       let ranges : spans_of (cs ++ c ∷ []) ≡ spans_of cs ++ record { start = start; len = len } ∷ [] =
       map-append (λ (d : Cluster M). record { start = d.start; len = d.len }) cs (c ∷ []) in
-      subst (λ (l : List Span). IsDisjoint place l (last_end place (cs ++ c ∷ []))) (sym ranges)
+      subst (λ (l : List Span). IsDisjoint place l (ranges_end place (cs ++ c ∷ []))) (sym ranges)
       (subst (λ (e : ℕ). IsDisjoint place (spans_of cs ++ record { start = start; len = len } ∷ []) e)
-      (sym (last_end-snoc place cs c)) grown)
+      (sym (ranges_end-snoc place cs c)) grown)
   IsApart-after_entry place cs i (entry.Settled n bytes) ok h = IsApart-back place i n (Settled bytes) cs h
   IsApart-after_entry place cs i (entry.Spoiled n faults) ok h = IsApart-back place i n (Spoiled faults) cs h
   IsApart-after_entry place cs i (entry.Faulted faults) ok h = h

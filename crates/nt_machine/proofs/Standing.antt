@@ -10,7 +10,7 @@ use Rattle.nt_machine.specs.declared.entry.Entry.{Entry}
 use Rattle.nt_machine.specs.declared.entry.EntryKind.{EntryKind}
 use Rattle.nt_machine.specs.declared.entry.EntryKind.TheVariants as entry
 use Rattle.nt_machine.specs.History.{Fate, Settled, Spoiled, Cluster, handed_back, after_kind, after_entry, is_out}
-use Rattle.nt_machine.specs.Legal.{last_end, IsOut, IsKindAllowed, IsLegalAfter, IsLegal}
+use Rattle.nt_machine.specs.Legal.{ranges_end, IsOut, IsKindAllowed, IsLegalAfter, IsLegal}
 use Rattle.nt_machine.specs.Spans.{Span}
 use Rattle.nt_machine.specs.Told.{span_of, settle_at, disk_steps_of, log_after, log_of, IsApartFrom, IsFrom, StaysSettled}
 use Rattle.nt_machine.proofs.Histories.{AllByRecursion-append, IsBack, handed_back-back}
@@ -23,13 +23,13 @@ slice_get-append (z ∷ xs) ys (suc n) x at = slice_get-append xs ys n x at
 
 module _ {M : Type 0} where
   -- ranges that lie apart end at their beginning or behind
-  apart-end : (p : ℕ) (cs : List (Cluster M)) → IsApart p cs → p ≤ last_end p cs
+  apart-end : (p : ℕ) (cs : List (Cluster M)) → IsApart p cs → p ≤ ranges_end p cs
   apart-end p [] h = h
   apart-end p (c ∷ cs) h = let rest = apart-end (c.start + c.len) cs h.1 in let first = h.0 in omega (arith, rest, first)
 
   -- a range lies between the beginning and the end
   IsPlaced-at : (p : ℕ) (cs : List (Cluster M)) (n : ℕ) (c : Cluster M) → IsApart p cs → slice_get cs n ≡ Some c
-      → (p ≤ c.start) × (c.start + c.len ≤ last_end p cs)
+      → (p ≤ c.start) × (c.start + c.len ≤ ranges_end p cs)
   IsPlaced-at p [] n c h at = cc
   IsPlaced-at p (d ∷ cs) zero c h at =
       let same : d ≡ c = cc in

@@ -6,7 +6,7 @@ use Rattle.nt_machine.specs.declared.entry.EntryKind.{EntryKind}
 use Rattle.nt_machine.specs.declared.entry.EntryKind.TheVariants as entry
 use Rattle.nt_machine.specs.History.{Fate, Cluster}
 use Rattle.nt_machine.specs.History as history
-use Rattle.nt_machine.specs.Legal.{last_end}
+use Rattle.nt_machine.specs.Legal.{ranges_end}
 use Rattle.nt_machine.specs.Machine.{Mark, Out, Settled, Spoiled, ChunkRange, MachineState, ContextStep, Reserve, Write, WriteFail, Settle}
 use Rattle.nt_machine.specs.Machine.{mark_of, chunks_of}
 
@@ -45,7 +45,7 @@ module _ {M : Type 0} where
 
   -- the machine has the ranges that a history left, one by one, of a file that ended at `place`
   pub record HasRanges (place : ℕ) (s : MachineState) (cs : List (Cluster M)) : Type 0 where
-    pub end : s.end ≡ last_end place cs
+    pub end : s.end ≡ ranges_end place cs
     pub running : s.closed ≡ false
     pub ranges : AllZip IsRangeOf s.ranges cs
 

@@ -9,7 +9,7 @@ ghost use Rattle.nt_machine.specs.Example.{example_blob, example_chunks, example
 ghost use Rattle.nt_machine.specs.Entering.{HasRanges, IsNextOf, IsHandedBackAs, IsWriteInto, steps_of_entry};
 ghost use Rattle.nt_machine.specs.Faults.{HasRisen, HasFaults, FaultsRise};
 ghost use Rattle.nt_machine.specs.History.{Settled, Spoiled, Cluster, WrittenChunk, entries_of, mine_of, ranges_of, clusters_of, order_of, after_entry, IsIdle, Wrote, AreDealt};
-ghost use Rattle.nt_machine.specs.Legal.{IsLegal, IsAllowed, IsOut, spans_of, last_end, end_after};
+ghost use Rattle.nt_machine.specs.Legal.{IsLegal, IsAllowed, IsOut, spans_of, ranges_end, end_after};
 ghost use Rattle.nt_machine.specs.Machine.{ContextStep, MachineState, Out, IsRun, IsRunFrom, IsInOrder, IsNamedDeal, AreTrue, state_after, after_context_step, contexts_of, range_spans, chunk_names};
 ghost use Rattle.nt_machine.specs.Spans.{IsDisjoint};
 ghost use Rattle.nt_machine.specs.Told.{IsFrom, StaysSettled, log_of};
@@ -85,7 +85,7 @@ pub fn contexts_write_on<C, M, B: Blobs<C, M>>()
 /// The ranges of a legal history lie apart, from its beginning to its end.
 pub fn legal_ranges_are_apart<M>()
     ensures { (place : ℕ) (history : List (Entry M)) → IsLegal place history
-        → IsDisjoint place (spans_of (ranges_of history)) (last_end place (ranges_of history)) }
+        → IsDisjoint place (spans_of (ranges_of history)) (ranges_end place (ranges_of history)) }
 {}
 
 /// A legal history grows by an entry that is allowed.

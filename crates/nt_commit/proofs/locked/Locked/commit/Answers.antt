@@ -1,6 +1,6 @@
 use Rattle.std.proofs.Common.{◌∙◌, ap, subst, refl, arith, ◌++◌, ◌∷◌, [], ◌-◌, ◌≤◌, length}
 use Rattle.nt_machine.specs.History.{ranges_of}
-use Rattle.nt_machine.specs.Legal.{last_end}
+use Rattle.nt_machine.specs.Legal.{ranges_end}
 use Rattle.nt_book.specs.Books.{BookData, book_end, book_clusters}
 use Rattle.nt_book.specs.Entries.{committed_entry, faulted_entry}
 use Rattle.nt_commit.proofs.Stepping.{limits_are, range_fits, same_history, faulted, committed, new_claim}
@@ -21,7 +21,7 @@ invariant_of-self-in-Ok g c =
     }) room in
     let number = c.append-cluster.ensures.number ∙ ap (λ (x : BookData). length (book_clusters x)) room in
     let context : meta.context ≤ c.self.inside.contexts = omega (arith, ap (λ v. v.birth.contexts) c.self.view_is, c.requires.context) in
-    let behind = subst (λ (x : BookData). last_end x.begin (ranges_of x.history) ≤ book_end x) room c.append-cluster.ensures.allowed.1 in
+    let behind = subst (λ (x : BookData). ranges_end x.begin (ranges_of x.history) ≤ book_end x) room c.append-cluster.ensures.allowed.1 in
     (committed g.D.Disk.state _ _ _ _ c.self.invariant _ _ c.append-cluster.result _ meta book number behind c.in_ok-check.ensures
     context c.requires.room reserved.ok reserved.end reserved.out reserved.cause.later).0.after
 
@@ -73,7 +73,7 @@ returns-in-Ok-clause-step g c =
     }) room in
     let number = c.append-cluster.ensures.number ∙ ap (λ (x : BookData). length (book_clusters x)) room in
     let context : meta.context ≤ c.self.inside.contexts = omega (arith, ap (λ v. v.birth.contexts) c.self.view_is, c.requires.context) in
-    let behind = subst (λ (x : BookData). last_end x.begin (ranges_of x.history) ≤ book_end x) room c.append-cluster.ensures.allowed.1 in
+    let behind = subst (λ (x : BookData). ranges_end x.begin (ranges_of x.history) ≤ book_end x) room c.append-cluster.ensures.allowed.1 in
     let done = committed g.D.Disk.state _ _ _ _ c.self.invariant _ _ c.append-cluster.result _ meta book number behind c.in_ok-check.ensures
     context c.requires.room reserved.ok reserved.end reserved.out reserved.cause.later in
     step_from g.D.Disk.state _ _ _ c.self.view_is done.0
@@ -89,7 +89,7 @@ returns-in-Ok-clause-commits g c =
     }) room in
     let number = c.append-cluster.ensures.number ∙ ap (λ (x : BookData). length (book_clusters x)) room in
     let context : meta.context ≤ c.self.inside.contexts = omega (arith, ap (λ v. v.birth.contexts) c.self.view_is, c.requires.context) in
-    let behind = subst (λ (x : BookData). last_end x.begin (ranges_of x.history) ≤ book_end x) room c.append-cluster.ensures.allowed.1 in
+    let behind = subst (λ (x : BookData). ranges_end x.begin (ranges_of x.history) ≤ book_end x) room c.append-cluster.ensures.allowed.1 in
     let done = committed g.D.Disk.state _ _ _ _ c.self.invariant _ _ c.append-cluster.result _ meta book number behind c.in_ok-check.ensures
     context c.requires.room reserved.ok reserved.end reserved.out reserved.cause.later in
     commits_from g.D.Disk.state _ _ _ c.self.view_is g.D.Ext.Ext.state meta _ (record {
