@@ -9,6 +9,7 @@ use Rattle.nt_outside.specs.Reads.{Known, Anything, unknown, torn, allows, after
 use Rattle.nt_outside.specs.Crash.{Crash, no_crash, shaken, crash_after, crash_from, crash_of, MayLeave}
 use Rattle.nt_outside.specs.Laws.{Reaches, Lengthens, Overwrites, Settling, over}
 use Rattle.nt_outside.proofs.Known.{allowed-length}
+use Rattle.nt_outside.proofs.Allowed.{first_part, second_part, both_parts, allowed-take, take-front, any_allowed, allowed-behind}
 
 crash_from-push : (c : Crash) (log : List Step) (step : Step) → crash_from c (log ++ step ∷ []) ≡ crash_after (crash_from c log) step
 crash_from-push c [] step = refl
@@ -100,36 +101,6 @@ from-holds c (s ∷ log) h = from-holds (crash_after c s) log (after-holds c s h
 of-holds : (log : List Step) → (crash_of log).synced ≤ length (crash_of log).left
 of-holds log = from-holds no_crash log (omega arith)
 
-first_part : (a b : Bool) → (a && b) ≡ true → a ≡ true
-first_part true b h = refl
-first_part false b h = h
-
-second_part : (a b : Bool) → (a && b) ≡ true → b ≡ true
-second_part true b h = h
-second_part false b h = absurd (cc)
-
-both_parts : (a b : Bool) → a ≡ true → b ≡ true → (a && b) ≡ true
-both_parts true b p q = q
-both_parts false b p q = p
-
-allowed-take : (n : ℕ) (known : List Known) (bytes : List ℕ) → IsTrue (all_allowed known bytes)
-    → IsTrue (all_allowed (take n known) (take n bytes))
-allowed-take zero known bytes h = refl
-allowed-take (suc n) [] [] h = refl
-allowed-take (suc n) [] (y ∷ bytes) h = absurd (cc)
-allowed-take (suc n) (x ∷ known) [] h = absurd (cc)
-allowed-take (suc n) (x ∷ known) (y ∷ bytes) h =
-    both_parts (allows x y) _ (first_part (allows x y) _ h) (allowed-take n known bytes (second_part (allows x y) _ h))
-
-take-front : (left more : List Known) (n least : ℕ) → least ≡ min (length left) n → take (length left) (take n (left ++ more))
-    ≡ take least left
-take-front [] more n zero is = refl
-take-front [] more n (suc least) is = refl
-take-front (x ∷ left) more zero zero is = refl
-take-front (x ∷ left) more zero (suc least) is = absurd (omega arith)
-take-front (x ∷ left) more (suc n) zero is = absurd (omega arith)
-take-front (x ∷ left) more (suc n) (suc least) is = ap (λ (l : List Known). x ∷ l) (take-front left more n least (omega arith))
-
 -- what stood before the old end is left as before
 reaches : (c : Crash) (known : List Known) (more : ℕ) (bytes : List ℕ) → c.synced ≤ length c.left
     → MayLeave (record { known = known; left = c.left ++ unknown more; synced = c.synced }) bytes → Reaches c more bytes
@@ -146,21 +117,6 @@ reaches c known more bytes h left =
             (allowed-take old (take (length bytes) (c.left ++ unknown more)) bytes left.allowed);
       },
     )
-
-any_allowed : (more : ℕ) (bytes : List ℕ) → length bytes ≤ more → IsTrue (all_allowed (take (length bytes) (unknown more)) bytes)
-any_allowed zero [] few = refl
-any_allowed zero (y ∷ bytes) few = absurd (omega (arith, few))
-any_allowed (suc more) [] few = refl
-any_allowed (suc more) (y ∷ bytes) few = any_allowed more bytes (omega (arith, few))
-
-allowed-behind : (left : List Known) (more : ℕ) (bytes : List ℕ) → length bytes ≤ length left + more
-    → IsTrue (all_allowed (take (length (take (length left) bytes)) left) (take (length left) bytes))
-    → IsTrue (all_allowed (take (length bytes) (left ++ unknown more)) bytes)
-allowed-behind [] more bytes few h = any_allowed more bytes (omega (arith, few))
-allowed-behind (x ∷ left) more [] few h = refl
-allowed-behind (x ∷ left) more (y ∷ bytes) few h =
-    both_parts (allows x y) _ (first_part (allows x y) _ h)
-    (allowed-behind left more bytes (omega (arith, few)) (second_part (allows x y) _ h))
 
 -- anything may be left behind the old end
 reached : (c : Crash) (known : List Known) (more : ℕ) (bytes : List ℕ) → Reaches c more bytes

@@ -1,3 +1,4 @@
+pub mod Allowed
 pub mod Crashes
 pub mod Order
 pub mod Known
