@@ -32,10 +32,10 @@ use Rattle.nt_plans.specs.Plan.{PlanData, PlansData}
 use Rattle.nt_plans.specs.Place.{first_column, place, place_members, place_each}
 use Rattle.nt_plans.specs.Needs.{NeedData, entries, inside as under_list, need_at, need_in, need_in_any, is_entries}
 use Rattle.nt_plans.specs.Late.{GrowsBy}
-use Rattle.nt_late.specs.LeftOut.{AllBeginBehind, IsLeftOut}
-use Rattle.nt_late.proofs.GrownTables.{all-begin}
-use Rattle.nt_late.proofs.MissingColumns.{at-other, in-other, under-other}
-use Rattle.nt_late.proofs.AddedColumns.{no-columns, added-from, own-first}
+use Rattle.nt_finished.specs.LeftOut.{AllBeginBehind, IsLeftOut}
+use Rattle.nt_finished.proofs.GrownTables.{all-begin}
+use Rattle.nt_finished.proofs.MissingColumns.{at-other, in-other, under-other}
+use Rattle.nt_finished.proofs.AddedColumns.{no-columns, added-from, own-first}
 
 -- ---- columns that need an element for each entry
 

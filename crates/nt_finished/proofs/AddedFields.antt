@@ -12,9 +12,9 @@ use Rattle.nt_grammar.specs.AsRead.{as_read, parts_as_read, places_as_read}
 use Rattle.nt_grammar.specs.ReadingBack.{IsDescribed}
 use Rattle.nt_grammar.proofs.AddedRows.{added-count, added-length, Added-described, Added-few}
 use Rattle.nt_plans.specs.Place.{place}
-use Rattle.nt_late.specs.AddedFields.{AddsField, AddsFields, adds_none, adds_one}
-use Rattle.nt_late.specs.LeftOut.{IsLeftOut, LacksFields, lacks_none, lacks_one}
-use Rattle.nt_late.specs.Zeros.{zero_tree, zero_parts, zero_kinds, zero_of}
+use Rattle.nt_finished.specs.AddedFields.{AddsField, AddsFields, adds_none, adds_one}
+use Rattle.nt_finished.specs.LeftOut.{IsLeftOut, LacksFields, lacks_none, lacks_one}
+use Rattle.nt_finished.specs.Zeros.{zero_tree, zero_parts, zero_kinds, zero_of}
 
 -- ---- a shape and what it is read as have one zero
 

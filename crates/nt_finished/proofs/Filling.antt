@@ -27,12 +27,12 @@ use Rattle.nt_file_meaning.specs.Files.{entries_from, read_file, Means}
 use Rattle.nt_file_meaning.specs.Holds.{HoldsColumns}
 use Rattle.nt_file_meaning.specs.Holds.{HoldsCluster}
 use Rattle.nt_file_meaning.proofs.ClustersBack.{cluster}
-use Rattle.nt_late.specs.LeftOut.{IsLeftOut, and_trees, filled, LacksFields, lacks_none, lacks_one, AreFilled, none_filled}
-use Rattle.nt_late.specs.LeftOut.{and_filled}
-use Rattle.nt_late.specs.Missing.{missing_elements, AreMissing}
-use Rattle.nt_late.specs.Zeros.{zero_of}
-use Rattle.nt_late.proofs.MissingColumns.{missing-fault, missing-tree}
-use Rattle.nt_late.proofs.LeftColumns.{missing_from, rows-held, all-held, length-held, missing-at}
+use Rattle.nt_finished.specs.LeftOut.{IsLeftOut, and_trees, filled, LacksFields, lacks_none, lacks_one, AreFilled, none_filled}
+use Rattle.nt_finished.specs.LeftOut.{and_filled}
+use Rattle.nt_finished.specs.Missing.{missing_elements, AreMissing}
+use Rattle.nt_finished.specs.Zeros.{zero_of}
+use Rattle.nt_finished.proofs.MissingColumns.{missing-fault, missing-tree}
+use Rattle.nt_finished.proofs.LeftColumns.{missing_from, rows-held, all-held, length-held, missing-at}
 
 -- ---- plans with one more behind them
 

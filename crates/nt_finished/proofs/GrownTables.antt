@@ -14,7 +14,7 @@ use Rattle.nt_pagelists.specs.declared.column.KnownColumn.{KnownColumn}
 use Rattle.nt_pagelists.specs.Columns.{unknown_column}
 use Rattle.nt_file_meaning.specs.Outlines.{known_column, known_columns}
 use Rattle.nt_finished.proofs.Needs.{known-at}
-use Rattle.nt_late.specs.LeftOut.{AllBeginBehind, IsLeftOut, LacksFields, lacks_none, lacks_one}
+use Rattle.nt_finished.specs.LeftOut.{AllBeginBehind, IsLeftOut, LacksFields, lacks_none, lacks_one}
 
 no_row : ColumnRow
 no_row = record { code = 0; bits = 0; field = 0; flags = 0; representation = 0; first = 0 }

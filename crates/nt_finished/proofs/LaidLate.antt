@@ -2,7 +2,7 @@
 use Rattle.std.proofs.Common.{◌≡◌, ℕ, zero, suc, ◌+◌, ◌<◌, ◌≤◌, List, [], ◌∷◌, map, length, Ok, refl, sym, ap, subst, ◌∙◌}
 use Rattle.std.proofs.Common.{inr, arith}
 use Rattle.std.specs.Prelude.{slice_index_or, take}
-use Rattle.std.specs.List.{concat}
+use Rattle.std.specs.List.{AllByRecursion}
 use Rattle.std.proofs.lemmas.List.Sums.{sum_by-cons}
 use Rattle.nt_types.specs.TreeData.{TreesData}
 use Rattle.nt_grammar.specs.ReadingBack.{IsDescribed}
@@ -20,21 +20,21 @@ use Rattle.nt_pagelists.proofs.SoundLists.{entries-more}
 use Rattle.nt_file_meaning.specs.Outlines.{Outline, known_columns, outline_of}
 use Rattle.nt_file_meaning.specs.Files.{Means}
 use Rattle.nt_file_meaning.specs.Holds.{HoldsCluster}
-use Rattle.nt_layout.specs.Finished.{finished}
-use Rattle.nt_layout.specs.Laid.{Measures, AreMeasures}
+use Rattle.nt_lists.specs.Parts.{Part}
+use Rattle.nt_layout.specs.Finished.{range_parts, finished}
+use Rattle.nt_layout.specs.Laid.{Measures, AreMeasures, range_of}
 use Rattle.nt_finished.specs.Listed.{IsListOf, AreListsOf}
 use Rattle.nt_finished.specs.Ranged.{IsRangedBook}
-use Rattle.nt_finished.proofs.Standing.{StandsThere, front_stands, back_stands}
-use Rattle.nt_finished.proofs.Starts.{AreFollowing, clusters_follow}
-use Rattle.nt_finished.proofs.Lengths.{AreTold, clusters_told, range-len}
+use Rattle.nt_finished.proofs.Standing.{StandsThere}
+use Rattle.nt_finished.proofs.Lengths.{AreTold, range-len}
 use Rattle.nt_finished.proofs.Needs.{known-firsts, length-known}
 use Rattle.nt_finished.proofs.Sound.{length-described, length-metas, sound-list}
 use Rattle.nt_finished.proofs.Clusters.{HaveNeeds, cluster_held}
-use Rattle.nt_finished.proofs.Headers.{parts_stand}
+use Rattle.nt_finished.proofs.Headers.{ranges-stand}
 use Rattle.nt_finished.proofs.Outlines.{ranged-outlined}
-use Rattle.nt_late.specs.LeftOut.{LacksFields, AreFilled, none_filled, and_filled}
-use Rattle.nt_late.specs.LateFiles.{IsLateBlob, AreLateBlobs, no_blob, late_blob, IsLaidLate}
-use Rattle.nt_late.proofs.GrownTables.{known-chain, behind-chain}
+use Rattle.nt_finished.specs.LeftOut.{LacksFields, AreFilled, none_filled, and_filled}
+use Rattle.nt_finished.specs.LateFiles.{IsLateBlob, AreLateBlobs, no_blob, late_blob, IsLaidLate}
+use Rattle.nt_finished.proofs.GrownTables.{known-chain, behind-chain}
 
 -- ---- the blobs
 
@@ -77,33 +77,30 @@ module _ (need_before : (t new : Table) (p : PlanData) → GrowsBy t new p → (
     → need_of new k ≡ need_in entries p k) (needs : (t : Table) → HaveNeeds t)
     (mean : (file : List ℕ) (o : Outline) (clusters : List (List TreesData)) → outline_of file ≡ Ok o
     → AreFilled file o.table o.clusters clusters → Means file o.table clusters) where
-  filled-from : (file : List ℕ) (new : Table) (page : ℕ) → 0 < page → (book : BookData) (n k first place : ℕ)
+  lists-le : (book : BookData) (k n : ℕ) (ls : List ClusterList) → AreListsOf book k n ls → k ≤ n
+  lists-le book k n [] h = omega (arith, h)
+  lists-le book k n (l ∷ ls) h = omega (arith, lists-le book (k + 1) n ls h.1)
+
+  filled-from : (file : List ℕ) (new : Table) (page : ℕ) → 0 < page → (book : BookData) (n k first : ℕ)
       (clusters : List (List TreesData)) (ranges : List (List ℕ)) (cs : List (Cluster ClusterMeta)) (ls : List ClusterList)
       → AreLateBlobs new page first clusters ranges cs → first ≡ first_entry book k → AreListsOf book k n ls → k + length cs ≡ n
       → n ≡ length (book_clusters book)
-      → ((j : ℕ) → j < length cs → slice_index_or cs j no_cluster ≡ cluster_at book (k + j)) → AreFollowing place cs → AreTold cs
-      → StandsThere file place (concat ranges) → AreFilled file new ls clusters
-  filled-from file new page some book n k first place clusters ranges cs [] no_blob begin lists all full at follow told there = none_filled
-  filled-from file new page some book n k first place clusters ranges cs (l ∷ ls) no_blob begin lists all full at follow told there =
+      → ((j : ℕ) → j < length cs → slice_index_or cs j no_cluster ≡ cluster_at book (k + j))
+      → AllByRecursion (λ (p : Part). StandsThere file p.place p.bytes) (range_parts cs ranges) → AreFilled file new ls clusters
+  filled-from file new page some book n k first clusters ranges cs [] no_blob begin lists all full at there = none_filled
+  filled-from file new page some book n k first clusters ranges cs (l ∷ ls) no_blob begin lists all full at there =
       absurd (omega (arith, all, lists-le book (k + 1) n ls lists.1))
-    where
-      lists-le : (book : BookData) (k n : ℕ) (ls : List ClusterList) → AreListsOf book k n ls → k ≤ n
-      lists-le book k n [] h = omega (arith, h)
-      lists-le book k n (l ∷ ls) h = omega (arith, lists-le book (k + 1) n ls h.1)
-  filled-from file new page some book n k first place clusters ranges cs [] (late_blob one more) begin lists all full at follow told there =
+  filled-from file new page some book n k first clusters ranges cs [] (late_blob one more) begin lists all full at there =
       absurd (omega (arith, all, lists))
-  filled-from file new page some book n k first place clusters ranges cs (l ∷ ls)
+  filled-from file new page some book n k first clusters ranges cs (l ∷ ls)
       (late_blob {all = own_entries} {others = others} {range = range} {ranges = left} {c = c} {cs = ds} one more) begin lists all full at
-      follow told there =
+      there =
       let same : k + 0 ≡ k = omega arith in
       let here : cluster_at book k ≡ c = ap (λ (j : ℕ). cluster_at book j) (sym same) ∙ sym (at 0 (omega arith)) in
       let listed : IsListOf first c l =
       subst (λ (b : ℕ). IsListOf b c l) (sym begin) (subst (λ (x : Cluster ClusterMeta). IsListOf (first_entry book k) x l) here lists.0) in
-      let long : length range ≡ c.len = range-len one.table page one.entries c.start range c.meta one.blob ∙ sym told.0 in
-      let own : StandsThere file c.start range =
-      subst (λ (p : ℕ). StandsThere file p range) (sym follow.0) (front_stands file range (concat left) place there) in
       let held : HoldsCluster file one.table l one.entries =
-      cluster_held file one.table (needs one.table) page some first c l one.entries range listed one.begun one.blob own in
+      cluster_held file one.table (needs one.table) page some first c l one.entries range listed one.begun one.blob there.0 in
       let few = listed.few in
       let first_is = listed.first_is in
       let count = listed.entries in
@@ -119,11 +116,10 @@ module _ (need_before : (t new : Table) (p : PlanData) → GrowsBy t new p → (
       ) in
       subst (λ (a : List TreesData). AreFilled file new (l ∷ ls) (a ∷ others)) (sym one.all_are)
       (and_filled held (omega (arith, few, listed-columns new page first c range own_entries one)) lacks
-      (filled-from file new page some book n (k + 1) (first + c.meta.entries) (place + c.len) others left ds ls more next lists.1
+      (filled-from file new page some book n (k + 1) (first + c.meta.entries) others left ds ls more next lists.1
       (omega (arith, all)) full
       (λ j less. let step : k + suc j ≡ k + 1 + j = omega arith in at (suc j) (omega (arith, less))
-      ∙ ap (λ (i : ℕ). cluster_at book i) step) follow.1 told.1
-      (back_stands file range (concat left) place (place + c.len) (omega (arith, long)) there)))
+      ∙ ap (λ (i : ℕ). cluster_at book i) step) there.1))
 
   module _ (file : List ℕ) (t : Table) (clusters : List (List TreesData)) (m : Measures) (is : IsDescribed t) (measures : AreMeasures m)
       (laid : IsLaidLate file t clusters m) where
@@ -132,7 +128,8 @@ module _ (need_before : (t new : Table) (p : PlanData) → GrowsBy t new p → (
     late-book k less =
         let same : 0 + first_entry laid.book k ≡ first_entry laid.book k = omega arith in
         subst (λ (n : ℕ). IsSomeLate t m.page n (cluster_at laid.book k)) same
-        (late-at t m.page 0 clusters laid.ranges (book_clusters laid.book) laid.blobs_are k less)
+        (late-at t m.page 0 clusters (map (range_of laid.ranges) (book_clusters laid.book)) (book_clusters laid.book)
+        laid.blobs_are k less)
 
     listed-at : (k : ℕ) (less : k < length (book_clusters laid.book))
         → length (cluster_at laid.book k).meta.pages ≡ length (late-book k less).is.table.columns
@@ -162,22 +159,18 @@ module _ (need_before : (t new : Table) (p : PlanData) → GrowsBy t new p → (
           (omega (arith, past, listed-at k there)) (omega (arith, less, length-known t 0 t.columns)) principal);
     }
 
-    ranged : IsRangedBook t laid.book laid.ranges
-    ranged = record {
-      kept = laid.kept;
-      begin = laid.begin;
-      firsts = laid.firsts;
-      lens = lens-late t m.page 0 clusters laid.ranges (book_clusters laid.book) laid.blobs_are (clusters_told laid.book laid.kept);
-    }
+    ranged : IsRangedBook m.staged t m.group laid.book laid.ranges
+    ranged = record { kept = laid.kept; begin = laid.begin; firsts = laid.firsts; lens = laid.lens; behind = laid.behind }
 
     pub laid-late : Means file t clusters
     laid-late =
+        let made = finished m.staged t laid.book m.group laid.ranges in
         let outline = ranged-outlined t m laid.ranges laid.book is measures ranged laid.within sound-late in
-        let stand = parts_stand t m.group laid.ranges laid.book ranged in
         let begin : 0 ≡ first_entry laid.book 0 = refl in
         subst (λ (f : List ℕ). Means f t clusters) (sym laid.is)
-        (mean (finished t laid.book m.group laid.ranges) (record { table = t; clusters = outline.0 }) clusters outline.1
-        (filled-from (finished t laid.book m.group laid.ranges) t m.page measures.page laid.book (length (book_clusters laid.book)) 0 0
-        laid.book.begin clusters laid.ranges (book_clusters laid.book) outline.0 laid.blobs_are begin outline.2 (omega arith) refl
+        (mean made (record { table = t; clusters = outline.0 }) clusters outline.1
+        (filled-from made t m.page measures.page laid.book (length (book_clusters laid.book)) 0 0
+        clusters (map (range_of laid.ranges) (book_clusters laid.book)) (book_clusters laid.book) outline.0 laid.blobs_are begin outline.2
+        (omega arith) refl
         (λ j less. let same : j ≡ 0 + j = omega arith in ap (λ (k : ℕ). cluster_at laid.book k) same)
-        (clusters_follow laid.book.begin laid.book.history laid.kept.legal) (clusters_told laid.book laid.kept) stand.ranges_stand))
+        (ranges-stand t m laid.ranges laid.book is measures ranged laid.within)))

@@ -17,8 +17,8 @@ use Rattle.nt_file_meaning.specs.Outlines.{known_column}
 use Rattle.nt_file_meaning.specs.Clusters.{kind_of_code, no_list, pages_listed, begins_behind}
 use Rattle.nt_file_meaning.specs.Holds.{HoldsPages, no_page, HoldsColumn, closed, not_begun, untyped, in_pages, HoldsColumns, no_column}
 use Rattle.nt_file_meaning.specs.Holds.{and_column}
-use Rattle.nt_late.specs.LeftOut.{AllBeginBehind}
-use Rattle.nt_late.specs.Missing.{missing_elements}
+use Rattle.nt_finished.specs.LeftOut.{AllBeginBehind}
+use Rattle.nt_finished.specs.Missing.{missing_elements}
 
 -- the elements of columns whose ids go on from this one
 abbrev pub missing_from : Table → ℕ → ℕ → List ColumnRow → List (List Element)

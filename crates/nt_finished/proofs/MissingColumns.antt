@@ -12,9 +12,9 @@ use Rattle.nt_trees.specs.Columns.{Cols}
 use Rattle.nt_trees.specs.TreeAt.{tree_at}
 use Rattle.nt_trees.specs.Faults.{fault_in}
 use Rattle.nt_trees.proofs.Elsewhere.{apart, other_side}
-use Rattle.nt_late.specs.Missing.{missing_elements, AreMissing}
-use Rattle.nt_late.specs.Zeros.{zero_of}
-use Rattle.nt_late.proofs.ZeroColumns.{zeros, HasZeros, HaveZeros, fault-zeros, tree-zeros}
+use Rattle.nt_finished.specs.Missing.{missing_elements, AreMissing}
+use Rattle.nt_finished.specs.Zeros.{zero_of}
+use Rattle.nt_finished.proofs.ZeroColumns.{zeros, HasZeros, HaveZeros, fault-zeros, tree-zeros}
 
 or-true : (a b : Bool) → b ≡ true → (a || b) ≡ true
 or-true true b h = refl

@@ -20,7 +20,7 @@ use Rattle.nt_trees.specs.Sound.{how_many_plans}
 use Rattle.nt_trees.specs.TreeAt.{text_from, trees_from, picked, tree_at, each_at, one_at}
 use Rattle.nt_trees.specs.Faults.{Spot, free, rising, tagged, lower, column_fault, fault_in, fault_in_any, fault_under}
 use Rattle.nt_trees.proofs.Zeros.{column_fault-zeros, last_end-zeros, count_tag-zeros}
-use Rattle.nt_late.specs.Zeros.{zero_tree, zero_parts, zero_kinds, zero_of, zeros_of}
+use Rattle.nt_finished.specs.Zeros.{zero_tree, zero_parts, zero_kinds, zero_of, zeros_of}
 
 abbrev pub zeros : ℕ → List Element
 zeros n = replicate n (plain 0)

@@ -8,7 +8,7 @@ use Rattle.nt_plans.specs.Needs.{entries, need_in, is_entries}
 use Rattle.nt_plans.specs.Late.{GrowsBy}
 use Rattle.nt_pagelists.specs.declared.cluster.ClusterList.{ClusterList}
 use Rattle.nt_file_meaning.specs.Holds.{HoldsCluster}
-use Rattle.nt_late.specs.Zeros.{zero_of}
+use Rattle.nt_finished.specs.Zeros.{zero_of}
 
 -- of these columns of a plan, whose ids go on from this one, each principal one begins behind so many entries
 abbrev pub AllBeginBehind : ℕ → PlanData → ℕ → List ColumnRow → Type 0

@@ -8,9 +8,9 @@ ghost use Rattle.nt_grammar.specs.AsRead.{as_read};
 ghost use Rattle.nt_grammar.specs.ReadingBack.{IsDescribed};
 ghost use Rattle.nt_grammar.specs.Table.{Table, IsFew};
 ghost use Rattle.nt_plans.specs.Place.{place};
-ghost use Rattle.nt_late.specs.AddedFields.{AddsField, AddsFields};
-ghost use Rattle.nt_late.specs.LeftOut.{IsLeftOut, LacksFields};
-ghost use Rattle.nt_late.specs.Zeros.{zero_tree, zero_parts, zero_of};
+ghost use Rattle.nt_finished.specs.AddedFields.{AddsField, AddsFields};
+ghost use Rattle.nt_finished.specs.LeftOut.{IsLeftOut, LacksFields};
+ghost use Rattle.nt_finished.specs.Zeros.{zero_tree, zero_parts, zero_of};
 
 use crate::missing::plans_have_the_zeros_of_their_shapes;
 use nt_plans::late_fields_are_planned;

@@ -9,8 +9,8 @@ ghost use Rattle.nt_plans.specs.Place.{place};
 ghost use Rattle.nt_trees.specs.Columns.{Cols};
 ghost use Rattle.nt_trees.specs.Faults.{fault_in};
 ghost use Rattle.nt_trees.specs.TreeAt.{tree_at};
-ghost use Rattle.nt_late.specs.Missing.{AreMissing};
-ghost use Rattle.nt_late.specs.Zeros.{zero_tree, zero_of};
+ghost use Rattle.nt_finished.specs.Missing.{AreMissing};
+ghost use Rattle.nt_finished.specs.Zeros.{zero_tree, zero_of};
 
 /// Where the columns of a field are missing, nothing is wrong with them, and each of its trees is
 /// the zero of its plan.

@@ -1,5 +1,5 @@
-use Rattle.nt_late.proofs.AddedFields.{fields-lacked}
-use Rattle.nt_late.proofs.added.added_fields_are_lacked.Goals as goal
+use Rattle.nt_finished.proofs.AddedFields.{fields-lacked}
+use Rattle.nt_finished.proofs.added.added_fields_are_lacked.Goals as goal
 
 pub returns : goal.returns
 returns c = λ before t new fields described few few_new adds.

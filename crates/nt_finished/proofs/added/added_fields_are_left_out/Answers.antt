@@ -1,8 +1,8 @@
 use Rattle.std.proofs.Common.{◌∙◌}
 use Rattle.nt_grammar.specs.AsRead.{as_read}
-use Rattle.nt_late.proofs.AddedBegin.{added-left_out}
-use Rattle.nt_late.proofs.AddedFields.{zero-read}
-use Rattle.nt_late.proofs.added.added_fields_are_left_out.Goals as goal
+use Rattle.nt_finished.proofs.AddedBegin.{added-left_out}
+use Rattle.nt_finished.proofs.AddedFields.{zero-read}
+use Rattle.nt_finished.proofs.added.added_fields_are_left_out.Goals as goal
 
 pub returns-clause-plan : goal.returns-clause-plan
 returns-clause-plan c = λ before t field new described few f.

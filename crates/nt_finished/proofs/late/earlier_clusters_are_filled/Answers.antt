@@ -1,5 +1,5 @@
-use Rattle.nt_late.proofs.Filling.{one-filled, all-filled}
-use Rattle.nt_late.proofs.laws.earlier_clusters_are_filled.Goals as goal
+use Rattle.nt_finished.proofs.Filling.{one-filled, all-filled}
+use Rattle.nt_finished.proofs.late.earlier_clusters_are_filled.Goals as goal
 
 pub returns-clause-one : goal.returns-clause-one
 returns-clause-one c = λ file t new p k es held unlisted out.
