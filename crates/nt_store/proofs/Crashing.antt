@@ -1,6 +1,5 @@
 -- What a crash leaves of a file on its disk, by what the parts of its writing say.
-use Rattle.std.proofs.Common.{◌≡◌, ◌⊎◌, ◌∙◌, inl, inr, subst, refl, ℕ, zero, suc, true, List, [], ◌∷◌, ◌++◌, take, Option, Some, Result}
-use Rattle.std.proofs.Common.{Ok, Err}
+use Rattle.std.proofs.Common.{◌≡◌, ◌⊎◌, ◌∙◌, inl, inr, subst, refl, ℕ, zero, suc, List, [], ◌∷◌, ◌++◌, take, Option, Some, Result, Ok, Err}
 use Rattle.nt_types.specs.ShapeData.{MemberData}
 use Rattle.nt_num.specs.Codes.{unfinished}
 use Rattle.nt_num.specs.Faults.{fault}
@@ -14,7 +13,7 @@ use Rattle.nt_book.specs.Books.{BookData}
 use Rattle.nt_container.specs.Spelling.{begun}
 use Rattle.nt_file_meaning.specs.Files.{HasDefect}
 use Rattle.nt_layout.specs.Headers.{header_blob, clusters_place}
-use Rattle.nt_layout.specs.Finished.{lists_behind, finished, tail, front}
+use Rattle.nt_layout.specs.Finished.{finished, tail, front}
 use Rattle.nt_close.specs.declared.error.BeginError.{BeginError}
 use Rattle.nt_close.specs.declared.error.BeginError.TheVariants as begin
 use Rattle.nt_close.specs.Beginning.{IsNotBegun}
@@ -76,14 +75,13 @@ nothing_leaves k bytes has may = absurd (no_sync k has)
 abbrev pub ClosingLeaves : Type 0
 ClosingLeaves =
     (t : Table) (book : BookData) (most : ℕ) (ranges : List (List ℕ)) (h left : Held) → IsRangedAs t book ranges → IsFilled t ranges h.log
-    → IsClosedSoFar (tail t book (lists_behind t book most)) (front t book (lists_behind t book most)) h left
-    → LeavesUnfinishedOr (λ (bytes : List ℕ). bytes ≡ finished true t book most ranges) left.log
+    → IsClosedSoFar (tail t book most) (front t book most) h left
+    → LeavesUnfinishedOr (λ (bytes : List ℕ). bytes ≡ finished t book most ranges) left.log
 
 abbrev pub ClosedLeaves : Type 0
 ClosedLeaves =
     (t : Table) (book : BookData) (most : ℕ) (ranges : List (List ℕ)) (h : Held) → IsRangedAs t book ranges → IsFilled t ranges h.log
-    → LeavesOnly (λ (bytes : List ℕ). bytes ≡ finished true t book most ranges)
-    (closed_on (tail t book (lists_behind t book most)) (front t book (lists_behind t book most)) h).log
+    → LeavesOnly (λ (bytes : List ℕ). bytes ≡ finished t book most ranges) (closed_on (tail t book most) (front t book most) h).log
 
 ranged : RangesAreAsLong → (fields : List MemberData) (p : Params) (texts : List (List ℕ)) (t : Table) (book : BookData)
     (ranges : List (List ℕ)) → HoldsChunks fields p texts t book ranges → IsRangedAs t book ranges
@@ -98,7 +96,7 @@ chunks_leave long stored beginning filling closing closed = record {
   beginning = beginning;
   filling = filling;
   closing = λ fields p texts t book ranges h left holds stays filled so_far.
-      or_as (λ (bytes : List ℕ). bytes ≡ finished true t book p.group ranges) (IsStored p fields texts (commit_order book)) left.log
+      or_as (λ (bytes : List ℕ). bytes ≡ finished t book p.group ranges) (IsStored p fields texts (commit_order book)) left.log
       (λ bytes is. stored fields p texts t book ranges bytes holds stays is)
       (closing t book p.group ranges h left (ranged long fields p texts t book ranges holds) filled so_far);
   closed = λ fields p texts t book ranges h holds stays filled bytes may.

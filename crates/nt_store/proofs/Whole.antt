@@ -18,7 +18,6 @@ use Rattle.nt_file_meaning.specs.Files.{Means}
 use Rattle.nt_layout.specs.Blobs.{blob_len}
 use Rattle.nt_layout.specs.Headers.{header_object, clusters_place}
 use Rattle.nt_layout.specs.Laid.{AreBlobsOf, Measures, AreMeasures, IsBookOf, IsLaid}
-use Rattle.nt_finished.proofs.Staged.{laid-staged}
 use Rattle.nt_close.specs.Passing.{first_passed, passed_by_begin, measures_of}
 use Rattle.nt_store.specs.Laws.{HoldsChunks, RangesAreAsLong, FinishedAreStored}
 
@@ -71,9 +70,14 @@ as_long long fields p texts t book ranges holds = long t p.page holds.are.dealt 
 
 pub stored_whole : BooksAreOf → FilesMean → FinishedAreStored
 stored_whole books mean fields p texts t book ranges bytes holds stays is =
-    let laid : IsLaid bytes t holds.are.dealt (measures_of p) =
-    laid-staged bytes t holds.are.dealt (measures_of p) ranges book refl (book_of books fields p texts t book ranges holds)
-    (stays (header_within p.limits t holds.within)) holds.are.blobs_are is in
+    let laid : IsLaid bytes t holds.are.dealt (measures_of p) = record {
+      book = book;
+      is_of = book_of books fields p texts t book ranges holds;
+      within = stays (header_within p.limits t holds.within);
+      ranges = ranges;
+      blobs_are = holds.are.blobs_are;
+      is = is;
+    } in
     record {
       sound = holds.sound;
       uses = holds.are.uses;
