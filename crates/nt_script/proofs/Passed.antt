@@ -169,7 +169,7 @@ module _ (t : Table) (p : Params) (book : BookData) (kept : IsBookKept book) (be
         (length-list_object book (header_sum t) s within ∙ ap page_list_len (sym same))
 
     footer_written : IsLateBlobLen t p clusters (blob_len (length (footer_object t book (lists_behind t book p.group))))
-    footer_written = late_footer (length-footer_object t book p.group ∙ ap (λ (n : ℕ). footer_len t (group_count p.group n)) counts)
+    footer_written = late_footer (length-footer_object true t book p.group ∙ ap (λ (n : ℕ). footer_len t (group_count p.group n)) counts)
 
     -- a limit that the closing passes is one that the clusters pass
     pub closed_over : (e : LimitError) (reached most : ℕ) → passed_by_close p t book ≡ Some e → Names e reached most
@@ -190,7 +190,7 @@ module _ (t : Table) (p : Params) (book : BookData) (kept : IsBookKept book) (be
                 | inr last ↦
                     let end = ends p.limits (file_len t book (lists_behind t book p.group)) e last in
                     let named = file_named e reached most (file_len t book (lists_behind t book p.group)) p.limits.file names end.1 in
-                    let long = length-file_of t book p.group kept begin some in
+                    let long = length-file_of true t book p.group kept begin some in
                     late_file_passed book_metas (kept-blobs t p.page late) (omega (arith, named.0, long)) named.1
                     (omega (arith, end.0, named.0, named.1))
               ]
