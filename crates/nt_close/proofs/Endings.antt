@@ -16,8 +16,10 @@ use Rattle.nt_book.specs.Books.{BookData, book_end}
 use Rattle.nt_pagelists.specs.declared.group.Group.{Group}
 use Rattle.nt_layout.specs.Blobs.{blob, blob_len}
 use Rattle.nt_layout.specs.Headers.{header_sum}
-use Rattle.nt_layout.specs.Groups.{list_len, lists_from, groups_from}
-use Rattle.nt_layout.specs.Finished.{spans, list_blobs, footer_object, footer_place, footer_blob, anchor_of_file, anchor_start, file_len}
+use Rattle.nt_layout.specs.Groups.{list_len, ListPlace, lists_from, groups_from}
+use Rattle.nt_layout.proofs.Middles.{length-list_parts}
+use Rattle.nt_layout.specs.Finished.{ending, lists_behind, spans, list_blobs, footer_object, footer_place, footer_blob, anchor_of_file}
+use Rattle.nt_layout.specs.Finished.{anchor_start, file_len}
 use Rattle.nt_layout.specs.Finished.{tail}
 use Rattle.nt_close.specs.declared.error.CloseError.{CloseError}
 use Rattle.nt_close.specs.Passing.{first_passed, blobs_behind, passed_by_close}
@@ -64,21 +66,25 @@ pub file-passed : (limits : Limits) (end : ℕ) → limits.file < end → first_
 file-passed limits end passed = let yes : nat_lt limits.file end ≡ true = grind (arith, nat_tests, passed) in rw yes refl
 
 module _ (t : Table) (book : BookData) (most : ℕ) where
+  -- the page lists, behind all ranges
+  abbrev ls : List ListPlace
+  ls = lists_behind t book most
+
   -- the footer of all groups
   footer_of_all : (sum : ℕ) (gs : List Group) → sum ≡ header_sum t → gs ≡ groups_from sum book (book_end book) (spans book most)
-      → footer_with t gs ≡ footer_object t book most
+      → footer_with t gs ≡ footer_object t book ls
   unfolding footer_object footer_with
   footer_of_all sum gs sum-is are =
       ap (footer_with t) (are ∙ ap (λ (k : ℕ). groups_from k book (book_end book) (spans book most)) sum-is)
 
   lists_of_all : (sum : ℕ) (old : List ℕ) → sum ≡ header_sum t
-      → old ≡ concat (lists_from sum book (book_end book) (spans book most)) → old ≡ concat (list_blobs t book most)
+      → old ≡ concat (lists_from sum book (book_end book) (spans book most)) → old ≡ concat (list_blobs t book ls)
   lists_of_all sum old sum-is are = are ∙ ap (λ (k : ℕ). concat (lists_from k book (book_end book) (spans book most))) sum-is
 
-  place_of_footer : (start : ℕ) (old : List ℕ) → start ≡ book_end book → old ≡ concat (list_blobs t book most)
-      → start + length old ≡ footer_place t book most
+  place_of_footer : (start : ℕ) (old : List ℕ) → start ≡ book_end book → old ≡ concat (list_blobs t book ls)
+      → start + length old ≡ footer_place t book ls
   unfolding footer_place
-  place_of_footer start old start-is are = ap (λ (k : ℕ). k + length old) start-is ∙ ap (λ (l : List ℕ). book_end book + length l) are
+  place_of_footer start old start-is are = omega (arith, start-is, ap length are, length-list_parts (header_sum t) book ls)
 
   -- behind the page lists of all groups
   pub footer-behind : (sum start : ℕ) (gs : List Group) (old new : List ℕ) (a : Anchor) → sum ≡ header_sum t → start ≡ book_end book
@@ -91,10 +97,10 @@ module _ (t : Table) (book : BookData) (most : ℕ) where
       record {
         bytes_are = adds.bytes_are
             ∙ (ap (λ (l : List ℕ). l ++ blob (start + length old) (footer_with t gs)) lists
-            ∙ (ap (λ (k : ℕ). concat (list_blobs t book most) ++ blob k (footer_with t gs)) place
-            ∙ ap (λ (l : List ℕ). concat (list_blobs t book most) ++ blob (footer_place t book most) l) object));
+            ∙ (ap (λ (k : ℕ). concat (list_blobs t book ls) ++ blob k (footer_with t gs)) place
+            ∙ ap (λ (l : List ℕ). concat (list_blobs t book ls) ++ blob (footer_place t book ls) l) object));
         anchor_is = adds.anchor_is
-            ∙ (ap (λ (k : ℕ). anchor_to t k (footer_with t gs)) place ∙ ap (anchor_to t (footer_place t book most)) object);
+            ∙ (ap (λ (k : ℕ). anchor_to t k (footer_with t gs)) place ∙ ap (anchor_to t (footer_place t book ls)) object);
       }
 
   -- the lengths of the blobs, with the footer's last
@@ -106,22 +112,23 @@ module _ (t : Table) (book : BookData) (most : ℕ) where
       (footer_of_all sum gs sum-is gs-are)
 
   -- the anchor begins behind them
-  anchor_place_is : (bytes : List ℕ) → bytes ≡ concat (list_blobs t book most) ++ footer_blob t book most
-      → book_end book + length bytes ≡ anchor_start t book most
+  anchor_place_is : (bytes : List ℕ) → bytes ≡ concat (list_blobs t book ls) ++ footer_blob t book ls
+      → book_end book + length bytes ≡ anchor_start t book ls
   unfolding anchor_start footer_place
   anchor_place_is bytes are =
       omega (
         arith,
         ap length are,
-        length-append (concat (list_blobs t book most)) (footer_blob t book most),
-        blob_length (footer_place t book most) (footer_object t book most),
+        length-append (concat (list_blobs t book ls)) (footer_blob t book ls),
+        length-list_parts (header_sum t) book ls,
+        blob_length (footer_place t book ls) (footer_object t book ls),
       )
 
-  tail_is : concat (list_blobs t book most) ++ footer_blob t book most ++ container_behind (anchor_start t book most)
-      (anchor_of_file t book most) ≡ tail t book most
-  unfolding tail
-  tail_is = append_assoc (concat (list_blobs t book most)) (footer_blob t book most)
-      (container_behind (anchor_start t book most) (anchor_of_file t book most))
+  tail_is : concat (list_blobs t book ls) ++ footer_blob t book ls ++ container_behind (anchor_start t book ls)
+      (anchor_of_file t book ls) ≡ tail t book ls
+  unfolding ending
+  tail_is = append_assoc (concat (list_blobs t book ls)) (footer_blob t book ls)
+      (container_behind (anchor_start t book ls) (anchor_of_file t book ls))
 
   -- the container's parts behind the blobs end the file
   pub ending-is : (start : ℕ) (bytes all : List ℕ) (a : Anchor) (f : FileFields) → start ≡ book_end book
@@ -130,13 +137,13 @@ module _ (t : Table) (book : BookData) (most : ℕ) where
       ≡ start + length all
       → IsEnding t book most all f
   ending-is start bytes all a f start-is blobs all-is f-is places end-is =
-      let place : start + length bytes ≡ anchor_start t book most =
+      let place : start + length bytes ≡ anchor_start t book ls =
       ap (λ (k : ℕ). k + length bytes) start-is ∙ anchor_place_is bytes blobs.bytes_are in
       record {
         bytes_are = all-is
             ∙ (ap (λ (k : ℕ). bytes ++ container_behind k a) place
-            ∙ (ap (λ (b : Anchor). bytes ++ container_behind (anchor_start t book most) b) blobs.anchor_is
-            ∙ (ap (λ (l : List ℕ). l ++ container_behind (anchor_start t book most) (anchor_of_file t book most))
+            ∙ (ap (λ (b : Anchor). bytes ++ container_behind (anchor_start t book ls) b) blobs.anchor_is
+            ∙ (ap (λ (l : List ℕ). l ++ container_behind (anchor_start t book ls) (anchor_of_file t book ls))
             blobs.bytes_are ∙ tail_is)));
         fields_are = f-is ∙ ap fields_behind place;
         places = places;
@@ -147,14 +154,16 @@ module _ (t : Table) (book : BookData) (most : ℕ) where
 pub passed-none : (t : Table) (book : BookData) (p : Params) (bytes : List ℕ) (f : FileFields) → IsEnding t book p.group bytes f
     → NonePassed p.limits (blobs_behind t book p.group) → f.end ≤ p.limits.file → passed_by_close p t book ≡ None
 passed-none t book p bytes f is fit low =
-    fit-all p.limits (blobs_behind t book p.group) (file_len t book p.group) fit
-    ∙ file-fits p.limits (file_len t book p.group) (subst (λ (g : FileFields). g.end ≤ p.limits.file) is.fields_are low)
+    fit-all p.limits (blobs_behind t book p.group) (file_len t book (lists_behind t book p.group)) fit
+    ∙ file-fits p.limits (file_len t book (lists_behind t book p.group))
+    (subst (λ (g : FileFields). g.end ≤ p.limits.file) is.fields_are low)
 
 -- one that may not passes that one
 pub passed-file : (t : Table) (book : BookData) (p : Params) (bytes : List ℕ) (f : FileFields) → IsEnding t book p.group bytes f
     → NonePassed p.limits (blobs_behind t book p.group) → p.limits.file < f.end → passed_by_close p t book
     ≡ Some (FileTooLarge f.end p.limits.file)
 passed-file t book p bytes f is fit high =
-    fit-all p.limits (blobs_behind t book p.group) (file_len t book p.group) fit
-    ∙ (file-passed p.limits (file_len t book p.group) (subst (λ (g : FileFields). p.limits.file < g.end) is.fields_are high)
+    fit-all p.limits (blobs_behind t book p.group) (file_len t book (lists_behind t book p.group)) fit
+    ∙ (file-passed p.limits (file_len t book (lists_behind t book p.group))
+    (subst (λ (g : FileFields). p.limits.file < g.end) is.fields_are high)
     ∙ ap (λ (g : FileFields). Some (FileTooLarge g.end p.limits.file)) (sym is.fields_are))

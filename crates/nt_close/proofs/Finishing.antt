@@ -1,10 +1,11 @@
 -- What the last steps make of a file that was begun and holds its ranges.
-use Rattle.std.proofs.Common.{◌≡◌, ◌∙◌, ℕ, suc, ◌+◌, List, [], ◌∷◌, ◌++◌, length, drop, sum, refl, ap, sym, arith, append_assoc}
+use Rattle.std.proofs.Common.{◌≡◌, ◌∙◌, ℕ, suc, ◌+◌, true, List, [], ◌∷◌, ◌++◌, length, map, drop, sum, refl, ap, sym, arith, append_assoc}
 use Rattle.std.specs.List.{concat}
 use Rattle.std.proofs.Math.Seq.{drop-append_seam}
-use Rattle.std.proofs.lemmas.List.{length-append, append-nil}
+use Rattle.std.proofs.lemmas.List.{length-append, length-map, map-append, append-nil}
 use Rattle.std.proofs.lemmas.List.Sums.{sum-map}
 use Rattle.std.proofs.lemmas.List.Folds.{concat-append}
+use Rattle.nt_lists.specs.Parts.{Part, part_bytes}
 use Rattle.nt_lists.specs.Places.{put_at}
 use Rattle.nt_format.proofs.Pieces.{length-concat}
 use Rattle.nt_outside.specs.Held.{Held}
@@ -16,8 +17,12 @@ use Rattle.nt_machine.specs.History.{Cluster}
 use Rattle.nt_grammar.specs.Table.{Table}
 use Rattle.nt_book.specs.declared.meta.ClusterMeta.{ClusterMeta}
 use Rattle.nt_book.specs.Books.{BookData, book_clusters, book_end}
-use Rattle.nt_layout.specs.Headers.{header_object, header_blob, file_begun, clusters_place}
-use Rattle.nt_layout.specs.Finished.{list_blobs, footer_object, footer_place, footer_blob, blobs, anchor_of_file, anchor_start, keys_start}
+use Rattle.nt_layout.specs.Headers.{header_object, header_sum, header_blob, file_begun, clusters_place}
+use Rattle.nt_layout.proofs.Middles.{concat-range_parts, length-list_parts}
+use Rattle.nt_layout.specs.Groups.{ListPlace, list_parts}
+use Rattle.nt_layout.specs.Finished.{lists_behind, list_blobs, range_parts, middle, ending, footer_object, footer_place, footer_blob}
+use Rattle.nt_layout.specs.Finished.{blobs, anchor_of_file}
+use Rattle.nt_layout.specs.Finished.{anchor_start, keys_start}
 use Rattle.nt_layout.specs.Finished.{free_start, file_len, tail, front, finished}
 use Rattle.nt_close.specs.Steps.{first_byte, closed_on}
 use Rattle.nt_close.specs.Closing.{AreRangesOf}
@@ -65,34 +70,48 @@ front_apart end free keys rest =
     ∙ ap (λ (l : List ℕ). 0x72 ∷ l) (sym (append_assoc (drop 1 (header_part end free)) (record_part keys) rest))
 
 module _ (t : Table) (book : BookData) (most : ℕ) where
+  -- the page lists, behind all ranges
+  abbrev ls : List ListPlace
+  ls = lists_behind t book most
+
   -- anchor and lists behind so many bytes
-  behind_is : (n : ℕ) → 226 + n ≡ anchor_start t book most
-      → concat (parts_behind n (anchor_of_file t book most))
-      ≡ anchor_part (anchor_start t book most) (anchor_of_file t book most)
-      ++ (key_list_part (keys_start t book most) (anchor_start t book most) ++ free_list_part (free_start t book most)
-      (file_len t book most))
+  behind_is : (n : ℕ) → 226 + n ≡ anchor_start t book ls
+      → concat (parts_behind n (anchor_of_file t book ls))
+      ≡ anchor_part (anchor_start t book ls) (anchor_of_file t book ls)
+      ++ (key_list_part (keys_start t book ls) (anchor_start t book ls) ++ free_list_part (free_start t book ls)
+      (file_len t book ls))
   behind_is n is =
-      let keys : 360 + n ≡ keys_start t book most = omega (arith, is) in
-      let free : 473 + n ≡ free_start t book most = omega (arith, is) in
-      let end : 544 + n ≡ file_len t book most = omega (arith, is) in
-      ap (λ (l : List ℕ). anchor_part (226 + n) (anchor_of_file t book most) ++ (key_list_part (360 + n) (226 + n) ++ l))
+      let keys : 360 + n ≡ keys_start t book ls = omega (arith, is) in
+      let free : 473 + n ≡ free_start t book ls = omega (arith, is) in
+      let end : 544 + n ≡ file_len t book ls = omega (arith, is) in
+      ap (λ (l : List ℕ). anchor_part (226 + n) (anchor_of_file t book ls) ++ (key_list_part (360 + n) (226 + n) ++ l))
       (append-nil (free_list_part (473 + n) (544 + n)))
-      ∙ (ap (λ (p : ℕ). anchor_part p (anchor_of_file t book most) ++ (key_list_part (360 + n) p ++ free_list_part (473 + n) (544 + n))) is
-      ∙ (ap (λ (p : ℕ). anchor_part (anchor_start t book most) (anchor_of_file t book most)
-      ++ (key_list_part p (anchor_start t book most) ++ free_list_part (473 + n) (544 + n))) keys
-      ∙ (ap (λ (p : ℕ). anchor_part (anchor_start t book most) (anchor_of_file t book most)
-      ++ (key_list_part (keys_start t book most) (anchor_start t book most) ++ free_list_part p (544 + n))) free
-      ∙ ap (λ (p : ℕ). anchor_part (anchor_start t book most) (anchor_of_file t book most)
-      ++ (key_list_part (keys_start t book most) (anchor_start t book most) ++ free_list_part (free_start t book most) p)) end)))
+      ∙ (ap (λ (p : ℕ). anchor_part p (anchor_of_file t book ls) ++ (key_list_part (360 + n) p ++ free_list_part (473 + n) (544 + n))) is
+      ∙ (ap (λ (p : ℕ). anchor_part (anchor_start t book ls) (anchor_of_file t book ls)
+      ++ (key_list_part p (anchor_start t book ls) ++ free_list_part (473 + n) (544 + n))) keys
+      ∙ (ap (λ (p : ℕ). anchor_part (anchor_start t book ls) (anchor_of_file t book ls)
+      ++ (key_list_part (keys_start t book ls) (anchor_start t book ls) ++ free_list_part p (544 + n))) free
+      ∙ ap (λ (p : ℕ). anchor_part (anchor_start t book ls) (anchor_of_file t book ls)
+      ++ (key_list_part (keys_start t book ls) (anchor_start t book ls) ++ free_list_part (free_start t book ls) p)) end)))
 
   -- header, ranges, page lists and footer, one behind the other
-  middle_is : (ranges : List (List ℕ)) → concat (blobs t book most ranges) ≡ header_blob t
-      ++ (concat ranges ++ (concat (list_blobs t book most) ++ footer_blob t book most))
-  middle_is ranges =
+  middle_is : (ranges : List (List ℕ)) → AreRangesOf book ranges → concat (blobs t book ls (middle true t book most ranges)) ≡ header_blob t
+      ++ (concat ranges ++ (concat (list_blobs t book ls) ++ footer_blob t book ls))
+  middle_is ranges are =
+      let cs = book_clusters book in
+      let foot = footer_blob t book ls in
+      let lists = concat (list_blobs t book ls) in
+      let same : length ranges ≡ length cs =
+      sym (length-map ranges length) ∙ (ap length are ∙ length-map cs (λ (c : Cluster ClusterMeta). c.len)) in
+      let bytes : concat (part_bytes (middle true t book most ranges)) ≡ concat ranges ++ lists =
+      ap (λ (l : List (List ℕ)). concat l)
+      (map-append (λ (p : Part). p.bytes) (range_parts cs ranges) (list_parts (header_sum t) book ls))
+      ∙ (concat-append (part_bytes (range_parts cs ranges)) (list_blobs t book ls)
+      ∙ ap (λ (l : List ℕ). l ++ lists) (concat-range_parts cs ranges same)) in
       ap (λ (l : List ℕ). header_blob t ++ l)
-      (concat-append ranges (list_blobs t book most ++ footer_blob t book most ∷ [])
-      ∙ (ap (λ (l : List ℕ). concat ranges ++ l) (concat-append (list_blobs t book most) (footer_blob t book most ∷ []))
-      ∙ ap (λ (l : List ℕ). concat ranges ++ (concat (list_blobs t book most) ++ l)) (append-nil (footer_blob t book most))))
+      (concat-append (part_bytes (middle true t book most ranges)) (foot ∷ [])
+      ∙ (ap (λ (l : List ℕ). concat (part_bytes (middle true t book most ranges)) ++ l) (append-nil foot)
+      ∙ (ap (λ (l : List ℕ). l ++ foot) bytes ∙ append_assoc (concat ranges) lists foot)))
 
   -- the ranges end where the last one does
   length-ranges : (ranges : List (List ℕ)) → AreRangesOf book ranges → book.begin + length (concat ranges) ≡ book_end book
@@ -102,79 +121,82 @@ module _ (t : Table) (book : BookData) (most : ℕ) where
 
   -- and the anchor begins behind the footer
   anchor_behind : (ranges : List (List ℕ)) → book.begin ≡ clusters_place t → AreRangesOf book ranges
-      → 226 + length (concat (blobs t book most ranges)) ≡ anchor_start t book most
+      → 226 + length (concat (blobs t book ls (middle true t book most ranges))) ≡ anchor_start t book ls
   unfolding anchor_start footer_place
   anchor_behind ranges begins are =
-      let lists = concat (list_blobs t book most) in
+      let lists = concat (list_blobs t book ls) in
       omega (
         arith,
-        ap length (middle_is ranges),
-        length-append (header_blob t) (concat ranges ++ (lists ++ footer_blob t book most)),
-        length-append (concat ranges) (lists ++ footer_blob t book most),
-        length-append lists (footer_blob t book most),
+        ap length (middle_is ranges are),
+        length-list_parts (header_sum t) book ls,
+        length-append (header_blob t) (concat ranges ++ (lists ++ footer_blob t book ls)),
+        length-append (concat ranges) (lists ++ footer_blob t book ls),
+        length-append lists (footer_blob t book ls),
         blob_length 226 (header_object t),
-        blob_length (footer_place t book most) (footer_object t book most),
+        blob_length (footer_place t book ls) (footer_object t book ls),
         length-ranges ranges are,
         begins,
       )
 
   -- what stands behind file header and directory
-  behind_record : (ranges : List (List ℕ)) (n : ℕ) → 226 + n ≡ anchor_start t book most
-      → concat (blobs t book most ranges ++ parts_behind n (anchor_of_file t book most)) ≡ header_blob t
-      ++ (concat ranges ++ tail t book most)
-  unfolding tail
-  behind_record ranges n is =
-      let lists = concat (list_blobs t book most) in
-      let foot = footer_blob t book most in
-      let last = anchor_part (anchor_start t book most) (anchor_of_file t book most)
-      ++ (key_list_part (keys_start t book most) (anchor_start t book most) ++ free_list_part (free_start t book most)
-      (file_len t book most)) in
-      concat-append (blobs t book most ranges) (parts_behind n (anchor_of_file t book most))
-      ∙ (ap (λ (l : List ℕ). l ++ concat (parts_behind n (anchor_of_file t book most))) (middle_is ranges)
+  behind_record : (ranges : List (List ℕ)) (n : ℕ) → AreRangesOf book ranges → 226 + n ≡ anchor_start t book ls
+      → concat (blobs t book ls (middle true t book most ranges) ++ parts_behind n (anchor_of_file t book ls)) ≡ header_blob t
+      ++ (concat ranges ++ tail t book ls)
+  unfolding ending
+  behind_record ranges n are is =
+      let lists = concat (list_blobs t book ls) in
+      let foot = footer_blob t book ls in
+      let last = anchor_part (anchor_start t book ls) (anchor_of_file t book ls)
+      ++ (key_list_part (keys_start t book ls) (anchor_start t book ls) ++ free_list_part (free_start t book ls)
+      (file_len t book ls)) in
+      concat-append (blobs t book ls (middle true t book most ranges)) (parts_behind n (anchor_of_file t book ls))
+      ∙ (ap (λ (l : List ℕ). l ++ concat (parts_behind n (anchor_of_file t book ls))) (middle_is ranges are)
       ∙ (ap (λ (l : List ℕ). (header_blob t ++ (concat ranges ++ (lists ++ foot))) ++ l) (behind_is n is)
       ∙ (append_assoc (header_blob t) (concat ranges ++ (lists ++ foot)) last
       ∙ ap (λ (l : List ℕ). header_blob t ++ l)
       (append_assoc (concat ranges) (lists ++ foot) last ∙ ap (λ (l : List ℕ). concat ranges ++ l) (append_assoc lists foot last)))))
 
   -- the finished file, by its parts
-  finished_parts : (ranges : List (List ℕ)) → let n = length (concat (blobs t book most ranges)) in
-      finished t book most ranges ≡ header_part (544 + n) (473 + n)
-      ++ (record_part (360 + n) ++ concat (blobs t book most ranges ++ parts_behind n (anchor_of_file t book most)))
+  finished_parts : (ranges : List (List ℕ)) → let n = length (concat (blobs t book ls (middle true t book most ranges))) in
+      finished true t book most ranges ≡ header_part (544 + n) (473 + n)
+      ++ (record_part (360 + n) ++ concat (blobs t book ls (middle true t book most ranges) ++ parts_behind n (anchor_of_file t book ls)))
   unfolding finished_file
   finished_parts ranges = refl
 
-  front_len : length (front t book most) ≡ 225
+  front_len : length (front t book ls) ≡ 225
   unfolding front
-  front_len = length-front (file_len t book most) (free_start t book most) (keys_start t book most)
+  front_len = length-front (file_len t book ls) (free_start t book ls) (keys_start t book ls)
 
   -- with its front apart
-  finished_is : (ranges : List (List ℕ)) (n : ℕ) → n ≡ length (concat (blobs t book most ranges)) → 226 + n ≡ anchor_start t book most
-      → finished t book most ranges ≡ 0x72 ∷ (front t book most ++ (header_blob t ++ (concat ranges ++ tail t book most)))
+  finished_is : (ranges : List (List ℕ)) (n : ℕ) → AreRangesOf book ranges
+      → n ≡ length (concat (blobs t book ls (middle true t book most ranges))) → 226 + n ≡ anchor_start t book ls
+      → finished true t book most ranges ≡ 0x72 ∷ (front t book ls ++ (header_blob t ++ (concat ranges ++ tail t book ls)))
   unfolding front
-  finished_is ranges n long is =
-      let keys : 360 + n ≡ keys_start t book most = omega (arith, is) in
-      let free : 473 + n ≡ free_start t book most = omega (arith, is) in
-      let end : 544 + n ≡ file_len t book most = omega (arith, is) in
-      let rest = header_blob t ++ (concat ranges ++ tail t book most) in
+  finished_is ranges n are long is =
+      let keys : 360 + n ≡ keys_start t book ls = omega (arith, is) in
+      let free : 473 + n ≡ free_start t book ls = omega (arith, is) in
+      let end : 544 + n ≡ file_len t book ls = omega (arith, is) in
+      let rest = header_blob t ++ (concat ranges ++ tail t book ls) in
       finished_parts ranges
       ∙ (ap (λ (k : ℕ). header_part (544 + k) (473 + k) ++ (record_part (360 + k)
-      ++ concat (blobs t book most ranges ++ parts_behind k (anchor_of_file t book most)))) (sym long)
-      ∙ (ap (λ (l : List ℕ). header_part (544 + n) (473 + n) ++ (record_part (360 + n) ++ l)) (behind_record ranges n is)
+      ++ concat (blobs t book ls (middle true t book most ranges) ++ parts_behind k (anchor_of_file t book ls)))) (sym long)
+      ∙ (ap (λ (l : List ℕ). header_part (544 + n) (473 + n) ++ (record_part (360 + n) ++ l)) (behind_record ranges n are is)
       ∙ (ap (λ (k : ℕ). header_part k (473 + n) ++ (record_part (360 + n) ++ rest)) end
-      ∙ (ap (λ (k : ℕ). header_part (file_len t book most) k ++ (record_part (360 + n) ++ rest)) free
-      ∙ (ap (λ (k : ℕ). header_part (file_len t book most) (free_start t book most) ++ (record_part k ++ rest)) keys
-      ∙ front_apart (file_len t book most) (free_start t book most) (keys_start t book most) rest)))))
+      ∙ (ap (λ (k : ℕ). header_part (file_len t book ls) k ++ (record_part (360 + n) ++ rest)) free
+      ∙ (ap (λ (k : ℕ). header_part (file_len t book ls) (free_start t book ls) ++ (record_part k ++ rest)) keys
+      ∙ front_apart (file_len t book ls) (free_start t book ls) (keys_start t book ls) rest)))))
 
   -- what the last steps make of a file that was begun and holds its ranges
   pub closed-is : (ranges : List (List ℕ)) (h : Held) → book.begin ≡ clusters_place t → AreRangesOf book ranges
       → h.image ≡ file_begun t ++ concat ranges
-      → (closed_on (tail t book most) (front t book most) h).image ≡ finished t book most ranges
+      → (closed_on (tail t book ls) (front t book ls) h).image ≡ finished true t book most ranges
   closed-is ranges h begins are was =
-      let rest = header_blob t ++ (concat ranges ++ tail t book most) in
-      let joined : h.image ++ tail t book most ≡ begun 0 0 0 ++ rest =
-      ap (λ (l : List ℕ). l ++ tail t book most) was
-      ∙ (append_assoc (begun 0 0 0 ++ header_blob t) (concat ranges) (tail t book most) ∙ append_assoc (begun 0 0 0) (header_blob t)
-      (concat ranges ++ tail t book most)) in
-      ap (λ (l : List ℕ). put_at (put_at l 1 (front t book most)) 0 first_byte) joined
-      ∙ (put_over (begun 0 0 0) rest (front t book most) 0x72 (omega (arith, begin-len 0 0 0, front_len))
-      ∙ sym (finished_is ranges (length (concat (blobs t book most ranges))) refl (anchor_behind ranges begins are)))
+      let rest = header_blob t ++ (concat ranges ++ tail t book ls) in
+      let joined : h.image ++ tail t book ls ≡ begun 0 0 0 ++ rest =
+      ap (λ (l : List ℕ). l ++ tail t book ls) was
+      ∙ (append_assoc (begun 0 0 0 ++ header_blob t) (concat ranges) (tail t book ls) ∙ append_assoc (begun 0 0 0) (header_blob t)
+      (concat ranges ++ tail t book ls)) in
+      ap (λ (l : List ℕ). put_at (put_at l 1 (front t book ls)) 0 first_byte) joined
+      ∙ (put_over (begun 0 0 0) rest (front t book ls) 0x72 (omega (arith, begin-len 0 0 0, front_len))
+      ∙ sym (finished_is ranges (length (concat (blobs t book ls (middle true t book most ranges)))) are refl
+      (anchor_behind ranges begins are)))

@@ -11,7 +11,7 @@ use Rattle.nt_book.specs.Books.{BookData}
 use Rattle.nt_layout.specs.Blobs.{blob_len}
 use Rattle.nt_layout.specs.Headers.{header_sum}
 use Rattle.nt_layout.specs.Groups.{list_len}
-use Rattle.nt_layout.specs.Finished.{spans, footer_object, file_len}
+use Rattle.nt_layout.specs.Finished.{lists_behind, spans, footer_object, file_len}
 use Rattle.nt_close.specs.Passing.{first_passed, passed_by_close}
 use Rattle.nt_close.specs.Closing.{StaysWithin}
 
@@ -33,9 +33,10 @@ within_all f limits (x ∷ xs) more end none =
 pub within : (t : Table) (p : Params) (book : BookData) → passed_by_close p t book ≡ None → StaysWithin t p book
 within t p book none header =
     let lists = within_all (list_len (header_sum t) book) p.limits (spans book p.group)
-    (blob_len (length (footer_object t book p.group)) ∷ []) (file_len t book p.group) none in
-    let foot = not_above p.limits.range (blob_len (length (footer_object t book p.group)))
-    (nat_lt p.limits.range (blob_len (length (footer_object t book p.group)))) _
-    (first_passed p.limits [] (file_len t book p.group)) refl lists.1 in
-    let file = not_above p.limits.file (file_len t book p.group) (nat_lt p.limits.file (file_len t book p.group)) _ None refl foot.1 in
+    (blob_len (length (footer_object t book (lists_behind t book p.group))) ∷ []) (file_len t book (lists_behind t book p.group)) none in
+    let foot = not_above p.limits.range (blob_len (length (footer_object t book (lists_behind t book p.group))))
+    (nat_lt p.limits.range (blob_len (length (footer_object t book (lists_behind t book p.group))))) _
+    (first_passed p.limits [] (file_len t book (lists_behind t book p.group))) refl lists.1 in
+    let len = file_len t book (lists_behind t book p.group) in
+    let file = not_above p.limits.file len (nat_lt p.limits.file len) _ None refl foot.1 in
     record { header = header; lists = lists.0; footer = foot.0; file = file.0 }

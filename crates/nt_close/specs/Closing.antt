@@ -1,5 +1,5 @@
 -- What the closing of a file leaves.
-use Rattle.std.specs.Prelude.{◌≡◌, ℕ, ◌≤◌, List, [], ◌++◌, map, length, Option, Some, None, Result, Ok, Err}
+use Rattle.std.specs.Prelude.{◌≡◌, ℕ, ◌≤◌, true, List, [], ◌++◌, map, length, Option, Some, None, Result, Ok, Err}
 use Rattle.std.specs.List.{concat}
 use Rattle.nt_outside.specs.Faults.{Rose}
 use Rattle.nt_outside.specs.Held.{Held, Becomes, BecomesSome}
@@ -70,7 +70,7 @@ AreRangesOf book ranges = map length ranges ≡ map (λ (c : Cluster ClusterMeta
 abbrev pub BecomesFinished : Table → BookData → ℕ → Option Held → Option Held → Type 0
 BecomesFinished t book most old new =
     (ranges : List (List ℕ)) → AreRangesOf book ranges → (h : Held) → old ≡ Some h → h.image ≡ file_begun t ++ concat ranges
-    → (h' : Held) × (new ≡ Some h') × (h'.image ≡ finished t book most ranges)
+    → (h' : Held) × (new ≡ Some h') × (h'.image ≡ finished true t book most ranges)
 
 -- if the header's blob is within the limits, so are all blobs and the file
 abbrev pub StaysWithin : Table → Params → BookData → Type 0

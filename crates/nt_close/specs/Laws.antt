@@ -1,5 +1,5 @@
 -- What the steps by which a file is begun and closed leave of it.
-use Rattle.std.specs.Prelude.{◌≡◌, ◌⊎◌, ℕ, ◌<◌, List, [], ◌∷◌, ◌++◌, length}
+use Rattle.std.specs.Prelude.{◌≡◌, ◌⊎◌, ℕ, ◌<◌, true, List, [], ◌∷◌, ◌++◌, length}
 use Rattle.std.specs.List.{concat}
 use Rattle.nt_outside.specs.Log.{FailedAppend}
 use Rattle.nt_outside.specs.Held.{Held, nothing_held}
@@ -9,7 +9,7 @@ use Rattle.nt_container.specs.Spelling.{begun}
 use Rattle.nt_grammar.specs.Table.{Table}
 use Rattle.nt_book.specs.Books.{BookData}
 use Rattle.nt_layout.specs.Headers.{file_begun, clusters_place}
-use Rattle.nt_layout.specs.Finished.{finished, tail, front}
+use Rattle.nt_layout.specs.Finished.{lists_behind, finished, tail, front}
 use Rattle.nt_close.specs.Steps.{closed_on, IsBegunSoFar, IsClosedSoFar}
 use Rattle.nt_close.specs.Closing.{AreRangesOf}
 
@@ -17,7 +17,9 @@ use Rattle.nt_close.specs.Closing.{AreRangesOf}
 abbrev pub ClosedIsFinished : Type 0
 ClosedIsFinished =
     (t : Table) (book : BookData) (most : ℕ) (ranges : List (List ℕ)) (h : Held) → book.begin ≡ clusters_place t → AreRangesOf book ranges
-    → h.image ≡ file_begun t ++ concat ranges → (closed_on (tail t book most) (front t book most) h).image ≡ finished t book most ranges
+    → h.image ≡ file_begun t ++ concat ranges
+    → (closed_on (tail t book (lists_behind t book most)) (front t book (lists_behind t book most)) h).image
+    ≡ finished true t book most ranges
 
 -- the first byte is 0, and there is one
 abbrev pub IsShut : List ℕ → Type 0

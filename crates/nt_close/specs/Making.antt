@@ -19,7 +19,7 @@ use Rattle.nt_layout.specs.Blobs.{blob, object_place}
 use Rattle.nt_layout.specs.Headers.{header_object, header_sum}
 use Rattle.nt_layout.specs.Groups.{ClusterSpan, list_object, span_group}
 use Rattle.nt_tfile.specs.Places.{ArePlaces}
-use Rattle.nt_layout.specs.Finished.{list_blobs, footer_blob, anchor_of_file, keys_start, free_start, file_len, tail}
+use Rattle.nt_layout.specs.Finished.{lists_behind, list_blobs, footer_blob, anchor_of_file, keys_start, free_start, file_len, tail}
 use Rattle.nt_close.specs.declared.error.CloseError.{CloseError}
 use Rattle.nt_close.specs.declared.error.CloseError.TheVariants.{Spoiled, Memory, RangeTooLarge, FileTooLarge, Fault}
 use Rattle.nt_close.specs.declared.headers.HeaderFacts.{HeaderFacts}
@@ -100,16 +100,20 @@ fields_behind place = record {
 
 -- where the lists and the end of the finished file are
 abbrev pub fields_of : Table → BookData → ℕ → FileFields
-fields_of t book most = record { end = file_len t book most; keys = keys_start t book most; free = free_start t book most }
+fields_of t book most = record {
+  end = file_len t book (lists_behind t book most);
+  keys = keys_start t book (lists_behind t book most);
+  free = free_start t book (lists_behind t book most);
+}
 
 -- page lists and footer stand behind the ranges, and the anchor leads to header and footer
 pub record AreBlobsBehind (t : Table) (book : BookData) (most : ℕ) (bytes : List ℕ) (a : Anchor) : Type 0 where
-  pub bytes_are : bytes ≡ concat (list_blobs t book most) ++ footer_blob t book most
-  pub anchor_is : a ≡ anchor_of_file t book most
+  pub bytes_are : bytes ≡ concat (list_blobs t book (lists_behind t book most)) ++ footer_blob t book (lists_behind t book most)
+  pub anchor_is : a ≡ anchor_of_file t book (lists_behind t book most)
 
 -- all of it stands behind the ranges, where file header and directory say so; the file ends behind it
 pub record IsEnding (t : Table) (book : BookData) (most : ℕ) (bytes : List ℕ) (f : FileFields) : Type 0 where
-  pub bytes_are : bytes ≡ tail t book most
+  pub bytes_are : bytes ≡ tail t book (lists_behind t book most)
   pub fields_are : f ≡ fields_of t book most
   pub places : ArePlaces f
   pub end : f.end ≡ book_end book + length bytes

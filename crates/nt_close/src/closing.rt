@@ -1,7 +1,7 @@
 //! How a file is closed.
 
 ghost use Rattle.std.specs.Prelude.{◌≡◌, OnOk};
-ghost use Rattle.nt_layout.specs.Finished.{tail, front};
+ghost use Rattle.nt_layout.specs.Finished.{lists_behind, tail, front};
 ghost use Rattle.nt_close.specs.Passing.{passed_by_close};
 ghost use Rattle.nt_close.specs.Closing.{IsClosable, HasCloseCause, LeavesClosed, BecomesFinished, StaysWithin};
 
@@ -29,8 +29,10 @@ pub fn close<D: Disk>(
 ) -> Result<(), CloseError>
     requires { IsClosable (D.state disk.old) book.now schema.now }
     ensures cause { HasCloseCause book.now (passed_by_close params.now schema.now book.now) result }
-    ensures left { LeavesClosed (tail schema.now book.now params.now.group)
-        (front schema.now book.now params.now.group) (D.state disk.old) (D.state disk.new) result }
+    ensures left { LeavesClosed
+        (tail schema.now book.now (lists_behind schema.now book.now params.now.group))
+        (front schema.now book.now (lists_behind schema.now book.now params.now.group))
+        (D.state disk.old) (D.state disk.new) result }
     ensures finished { OnOk result (BecomesFinished schema.now book.now params.now.group
         (D.state disk.old).held (D.state disk.new).held) }
     ensures within { OnOk result (StaysWithin schema.now params.now book.now) }

@@ -16,3 +16,13 @@ pub mod Columns
 pub mod Clusters
 pub mod Whole
 pub mod Fields
+pub mod ZeroColumns
+pub mod MissingColumns
+pub mod LeftColumns
+pub mod Filling
+pub mod GrownTables
+pub mod LaidLate
+pub mod AddedColumns
+pub mod AddedBegin
+pub mod AddedFields
+pub mod LaidBehind

@@ -13,7 +13,7 @@ use Rattle.nt_book.specs.declared.limits.LimitError.TheVariants as limit
 use Rattle.nt_book.specs.declared.params.Params.{Params}
 use Rattle.nt_book.specs.Books.{BookData}
 use Rattle.nt_book.specs.Kept.{IsBookKept}
-use Rattle.nt_layout.specs.Finished.{tail, front}
+use Rattle.nt_layout.specs.Finished.{lists_behind, tail, front}
 use Rattle.nt_close.specs.declared.error.CloseError.{CloseError}
 use Rattle.nt_close.specs.declared.error.CloseError.TheVariants as close
 use Rattle.nt_close.specs.Closing.{HasCloseCause, LeavesClosed}
@@ -54,10 +54,10 @@ module _ {D : Type 0} (state : D → DiskState) (w : SeqState D) (F : List Membe
   module _ (law : LateFilesMean) (leave : AppendsLeave) (is : IsWriting state w) (kept : IsBookKept w.book) (reads : ReadAsWritten state)
       (empty : (state w.given).held ≡ Some nothing_held) (disk : D) where
     abbrev behind : List ℕ
-    behind = tail w.table w.book w.params.group
+    behind = tail w.table w.book (lists_behind w.table w.book w.params.group)
 
     abbrev before : List ℕ
-    before = front w.table w.book w.params.group
+    before = front w.table w.book (lists_behind w.table w.book w.params.group)
 
     -- what is held before it is closed
     abbrev h : Held
@@ -149,7 +149,8 @@ module _ {D : Type 0} (state : D → DiskState) (w : SeqState D) (F : List Membe
 -- the disk has failed where the closing did
 closing_failed : {D : Type 0} (state : D → DiskState) (w : SeqState D) (disk : D) (e : CloseError) → NoneSpoiled w.book
     → HasCloseCause w.book (passed_by_close w.params w.table w.book) (Err e)
-    → LeavesClosed (tail w.table w.book w.params.group) (front w.table w.book w.params.group) (state w.disk) (state disk) (Err e)
+    → LeavesClosed (tail w.table w.book (lists_behind w.table w.book w.params.group))
+    (front w.table w.book (lists_behind w.table w.book w.params.group)) (state w.disk) (state disk) (Err e)
     → script_error_of_close e ≡ Outside → 0 < (state disk).faults
 closing_failed state w disk (close.Spoiled cluster faults) none cause left is = absurd (none_spoiled w.book cluster faults none cause)
 closing_failed state w disk close.Memory none cause left is = absurd (cc is)

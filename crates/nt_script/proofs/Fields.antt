@@ -17,7 +17,7 @@ use Rattle.nt_plans.specs.Place.{place}
 use Rattle.nt_plans.specs.Late.{GrowsBy}
 use Rattle.nt_book.specs.Books.{book_clusters, entry_count}
 use Rattle.nt_book.specs.declared.params.Params.{Params}
-use Rattle.nt_late.specs.LeftOut.{filled}
+use Rattle.nt_finished.specs.LeftOut.{filled}
 use Rattle.nt_seq.specs.Writer.{SeqState}
 use Rattle.nt_seq.specs.Written.{HasWritten, entries_of_clusters, zero_behind}
 use Rattle.nt_seq.specs.Changing.{GainsField}

@@ -25,12 +25,12 @@ use Rattle.nt_pages.specs.Metas.{cluster_meta}
 use Rattle.nt_layout.specs.Blobs.{blob_len}
 use Rattle.nt_layout.specs.Groups.{ClusterSpan, list_len}
 use Rattle.nt_layout.specs.Headers.{header_object, header_sum, clusters_place}
-use Rattle.nt_layout.specs.Finished.{spans, footer_object, file_len}
+use Rattle.nt_layout.specs.Finished.{lists_behind, spans, footer_object, file_len}
 use Rattle.nt_layout.specs.Laid.{Gives}
 use Rattle.nt_finished.proofs.Spans.{spans_in_order}
 use Rattle.nt_close.specs.Passing.{passed_by_begin, passed_by_close}
-use Rattle.nt_late.specs.LateFiles.{AreLateBlobs, no_blob, late_blob}
-use Rattle.nt_late.specs.LeftOut.{lacks_none}
+use Rattle.nt_finished.specs.LateFiles.{AreLateBlobs, no_blob, late_blob}
+use Rattle.nt_finished.specs.LeftOut.{lacks_none}
 use Rattle.nt_dealing.specs.Lengths.{page_list_len, group_count, footer_len}
 use Rattle.nt_dealing.proofs.Lengths.{length-list_object}
 use Rattle.nt_dealing.proofs.Files.{length-footer_object, length-file_of, ranges-told}
@@ -168,29 +168,29 @@ module _ (t : Table) (p : Params) (book : BookData) (kept : IsBookKept book) (be
         late_page_list book_metas s.from s.count (kept-blobs t p.page late) few
         (length-list_object book (header_sum t) s within ∙ ap page_list_len (sym same))
 
-    footer_written : IsLateBlobLen t p clusters (blob_len (length (footer_object t book p.group)))
-    footer_written = late_footer (length-footer_object t book p.group ∙ ap (λ (n : ℕ). footer_len t (group_count p.group n)) counts)
+    footer_written : IsLateBlobLen t p clusters (blob_len (length (footer_object t book (lists_behind t book p.group))))
+    footer_written = late_footer (length-footer_object true t book p.group ∙ ap (λ (n : ℕ). footer_len t (group_count p.group n)) counts)
 
     -- a limit that the closing passes is one that the clusters pass
     pub closed_over : (e : LimitError) (reached most : ℕ) → passed_by_close p t book ≡ Some e → Names e reached most
         → IsOverLate t p clusters reached most
     closed_over e reached most passed names =
         let n = length (book_clusters book) in
-        let foot = blob_len (length (footer_object t book p.group)) in
+        let foot = blob_len (length (footer_object t book (lists_behind t book p.group))) in
         let some : 0 < p.group = omega (arith, p.group_range.0) in
         elim (blobs_or (list_len (header_sum t) book) (λ (s : ClusterSpan). s.from + s.count ≤ n) (λ (s : ClusterSpan). s.count ≤
-        p.group) p.limits (spans book p.group) (foot ∷ []) (file_len t book p.group) e
+        p.group) p.limits (spans book p.group) (foot ∷ []) (file_len t book (lists_behind t book p.group)) e
         (inside 0 n (spans book p.group) (spans_in_order p.group n some)) (small p.group n 0 (div_ceil n p.group)) passed) [
           | inl list ↦ blob_over reached most _ (list_written list.x list.first list.second) list.above
               (range_named e reached most _ p.limits.range names list.is)
-          | inr rest ↦ elim (blobs_or (λ (m : ℕ). m) (λ (m : ℕ). m ≡ foot) (λ (m : ℕ). Unit {0}) p.limits (foot ∷ []) [] (file_len t book
-              p.group) e (refl, tt) (tt, tt) rest) [
+          | inr rest ↦ elim (blobs_or (λ (m : ℕ). m) (λ (m : ℕ). m ≡ foot) (λ (m : ℕ). Unit {0}) p.limits (foot ∷ []) []
+              (file_len t book (lists_behind t book p.group)) e (refl, tt) (tt, tt) rest) [
                 | inl blob ↦ blob_over reached most blob.x (subst (IsLateBlobLen t p clusters) (sym blob.first) footer_written)
                     blob.above (range_named e reached most blob.x p.limits.range names blob.is)
                 | inr last ↦
-                    let end = ends p.limits (file_len t book p.group) e last in
-                    let named = file_named e reached most (file_len t book p.group) p.limits.file names end.1 in
-                    let long = length-file_of t book p.group kept begin some in
+                    let end = ends p.limits (file_len t book (lists_behind t book p.group)) e last in
+                    let named = file_named e reached most (file_len t book (lists_behind t book p.group)) p.limits.file names end.1 in
+                    let long = length-file_of true t book p.group kept begin some in
                     late_file_passed book_metas (kept-blobs t p.page late) (omega (arith, named.0, long)) named.1
                     (omega (arith, end.0, named.0, named.1))
               ]

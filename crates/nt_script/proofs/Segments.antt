@@ -10,8 +10,8 @@ use Rattle.nt_types.specs.ShapeData.{MemberData, parts_of}
 use Rattle.nt_types.specs.TreeData.{TreesData, tree}
 use Rattle.nt_grammar.specs.Added.{Added}
 use Rattle.nt_grammar.specs.Table.{Table}
-use Rattle.nt_late.specs.LeftOut.{and_trees, filled}
-use Rattle.nt_late.specs.Zeros.{zero_tree, zero_parts}
+use Rattle.nt_finished.specs.LeftOut.{and_trees, filled}
+use Rattle.nt_finished.specs.Zeros.{zero_tree, zero_parts}
 use Rattle.nt_seq.specs.Written.{entries_of_clusters, zero_behind}
 use Rattle.nt_seq.proofs.Grown.{filled-filled}
 use Rattle.nt_script.specs.Script.{BadScriptLine, last_entries}

@@ -13,7 +13,7 @@ use Rattle.nt_file_meaning.specs.Files.{Means}
 use Rattle.nt_layout.specs.Headers.{clusters_place}
 use Rattle.nt_layout.specs.Laid.{Measures, AreMeasures}
 use Rattle.nt_close.specs.Passing.{measures_of, passed_by_close}
-use Rattle.nt_late.specs.LateFiles.{IsLaidLate}
+use Rattle.nt_finished.specs.LateFiles.{IsLaidLate}
 use Rattle.nt_seq.specs.Writer.{SeqState}
 use Rattle.nt_seq.specs.Written.{HasWritten}
 use Rattle.nt_seq.specs.Closing.{IsFileOf, AreCounts}

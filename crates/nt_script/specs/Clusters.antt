@@ -5,8 +5,8 @@ use Rattle.nt_types.specs.ShapeData.{MemberData, parts_of}
 use Rattle.nt_types.specs.TreeData.{TreesData}
 use Rattle.nt_grammar.specs.Table.{Table}
 use Rattle.nt_grammar.specs.Added.{Added}
-use Rattle.nt_late.specs.LeftOut.{filled}
-use Rattle.nt_late.specs.Zeros.{zero_parts}
+use Rattle.nt_finished.specs.LeftOut.{filled}
+use Rattle.nt_finished.specs.Zeros.{zero_parts}
 use Rattle.nt_script.specs.Script.{BadScriptLine, Script, last_entries, and_field}
 
 -- the first line that is bad, if there is one

@@ -12,7 +12,7 @@ use Rattle.nt_pages.specs.Metas.{cluster_meta}
 use Rattle.nt_layout.specs.Blobs.{blob_len}
 use Rattle.nt_layout.specs.Headers.{header_object, clusters_place}
 use Rattle.nt_layout.specs.Laid.{Gives}
-use Rattle.nt_late.specs.LeftOut.{filled, LacksFields}
+use Rattle.nt_finished.specs.LeftOut.{filled, LacksFields}
 use Rattle.nt_dealing.specs.Lengths.{page_list_len, group_count, footer_len, whole_len}
 use Rattle.nt_script.specs.Script.{Script, last_entries}
 use Rattle.nt_script.specs.Clusters.{script_clusters, GrowsByScript}

@@ -12,7 +12,7 @@ use Rattle.nt_book.specs.Books.{book_clusters}
 use Rattle.nt_layout.specs.Laid.{IsLaid}
 use Rattle.nt_file_meaning.specs.Files.{Means}
 use Rattle.nt_close.specs.Passing.{measures_of}
-use Rattle.nt_late.specs.LateFiles.{IsLaidLate}
+use Rattle.nt_finished.specs.LateFiles.{IsLaidLate}
 use Rattle.nt_seq.specs.Written.{entries_of_clusters}
 use Rattle.nt_script.specs.Script.{read_script}
 use Rattle.nt_script.specs.Clusters.{bad_line, fields_of_script, script_clusters, GrowsByScript}

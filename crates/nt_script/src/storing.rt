@@ -17,7 +17,7 @@ use crate::running::write_script;
 use crate::store_error::ScriptStoreError;
 use nt_book::{LimitError, Params};
 use nt_event::LineReader;
-use nt_late::late_files_mean_their_entries;
+use nt_finished::late_files_mean_their_entries;
 use nt_outside::{Disk, Source};
 use nt_seq::SeqWriter;
 use nt_types::Fields;

@@ -18,7 +18,7 @@ use Rattle.nt_layout.specs.Laid.{AreBlobsOf, none_left}
 use Rattle.nt_close.specs.Beginning.{IsBegun}
 use Rattle.nt_close.specs.Closing.{IsClosable}
 use Rattle.nt_close.specs.Steps.{begun_on}
-use Rattle.nt_late.specs.LateFiles.{AreLateBlobs, no_blob}
+use Rattle.nt_finished.specs.LateFiles.{AreLateBlobs, no_blob}
 use Rattle.nt_column.specs.Column.{Column}
 use Rattle.nt_grammar.specs.ReadingBack.{IsDescribed}
 use Rattle.nt_seq.specs.Standing.{IsSettledCluster, IsShortCluster, IsFitToBegin, IsWriting}

@@ -10,8 +10,8 @@ use Rattle.nt_machine.specs.History.{Cluster}
 use Rattle.nt_book.specs.declared.meta.ClusterMeta.{ClusterMeta}
 use Rattle.nt_book.specs.Books.{entry_count}
 use Rattle.nt_layout.specs.Laid.{IsBlobOfEntries, AreBlobsOf, none_left, and_blob}
-use Rattle.nt_late.specs.LateFiles.{IsLateBlob, AreLateBlobs, no_blob, late_blob}
-use Rattle.nt_late.specs.LeftOut.{and_trees, filled, lacks_none}
+use Rattle.nt_finished.specs.LateFiles.{IsLateBlob, AreLateBlobs, no_blob, late_blob}
+use Rattle.nt_finished.specs.LeftOut.{and_trees, filled, lacks_none}
 use Rattle.nt_seq.specs.Written.{entries_of_clusters}
 
 and_trees-none : (ts : TreesData) → and_trees ts no_trees ≡ ts

@@ -18,18 +18,20 @@ use Rattle.nt_book.specs.Books.{book_clusters, no_cluster}
 use Rattle.nt_book.specs.Kept.{IsBookKept}
 use Rattle.nt_layout.specs.Blobs.{blob_len}
 use Rattle.nt_layout.specs.Headers.{header_object, clusters_place}
-use Rattle.nt_layout.specs.Finished.{finished, tail, front}
+use Rattle.nt_layout.specs.Finished.{lists_behind, finished, tail, front}
 use Rattle.nt_close.specs.declared.error.CloseError.{CloseError}
 use Rattle.nt_close.specs.declared.error.CloseError.TheVariants.{Spoiled, Memory, RangeTooLarge, FileTooLarge, Fault}
 use Rattle.nt_close.specs.Closing.{HasCloseCause, LeavesClosed, AreRangesOf}
-use Rattle.nt_close.specs.Passing.{first_passed, passed_by_begin, passed_by_close}
+use Rattle.nt_close.specs.Passing.{first_passed, passed_by_begin, passed_by_close, measures_of}
 use Rattle.nt_close.specs.Spoiled.{IsUnspoiled}
 use Rattle.nt_close.specs.Steps.{closed_on, IsClosedSoFar, closed_whole}
 use Rattle.nt_close.proofs.Finishing.{closed-is}
 use Rattle.nt_close.proofs.FirstByte.{closes_shut, closes_in_order}
 use Rattle.nt_close.proofs.Within.{within}
 use Rattle.nt_finished.proofs.Lengths.{clusters_told}
-use Rattle.nt_late.proofs.LaidLate.{lens-late}
+use Rattle.nt_finished.proofs.Staged.{laid-staged}
+use Rattle.nt_finished.proofs.LaidBehind.{late-behind}
+use Rattle.nt_finished.proofs.LaidLate.{lens-late}
 use Rattle.nt_seq.specs.Closing.{IsFileOf, IsShutOrWhole}
 use Rattle.nt_seq.specs.Standing.{IsSettledCluster, IsWriting}
 use Rattle.nt_seq.specs.Writer.{SeqState}
@@ -64,10 +66,10 @@ module _ {D : Type 0} (state : D → DiskState) (w : SeqState D) (is : IsWriting
     (reads : (h : Held) → (state w.disk).held ≡ Some h → Reads h.log h.image) (first : Held)
     (told : (state w.given).held ≡ Some first) where
   abbrev behind : List ℕ
-  behind = tail w.table w.book w.params.group
+  behind = tail w.table w.book (lists_behind w.table w.book w.params.group)
 
   abbrev before : List ℕ
-  before = front w.table w.book w.params.group
+  before = front w.table w.book (lists_behind w.table w.book w.params.group)
 
   abbrev h : Held
   h = file_so_far w.table is.ranges
@@ -83,7 +85,7 @@ module _ {D : Type 0} (state : D → DiskState) (w : SeqState D) (is : IsWriting
       lens-late w.table w.params.page 0 clusters has.ranges (book_clusters w.book) has.late (clusters_told w.book kept)
 
   image-is : (clusters : List (List TreesData)) (has : HasWritten state w clusters)
-      → (closed_on behind before h).image ≡ finished w.table w.book w.params.group has.ranges
+      → (closed_on behind before h).image ≡ finished true w.table w.book w.params.group has.ranges
   image-is clusters has =
       closed-is w.table w.book w.params.group has.ranges h is.closable.begin (lens clusters has)
       (ap (λ (k : Held). k.image) (same_held (state w.disk).held h (file_so_far w.table has.ranges) held (has.held first told))
@@ -95,30 +97,17 @@ module _ {D : Type 0} (state : D → DiskState) (w : SeqState D) (is : IsWriting
       let stays = within w.table w.params w.book passed (header-within w.params.limits w.table is.within) in
       record {
         described = is.described;
-        late = λ clusters has. record {
-          book = w.book;
-          kept = kept;
-          begin = is.closable.begin;
-          firsts = is.firsts;
-          within = stays;
-          ranges = has.ranges;
-          blobs_are = has.late;
-          is = image-is clusters has;
-        };
+        late = λ clusters has.
+            late-behind (closed_on behind before h).image w.table clusters (measures_of w.params) has.ranges w.book refl kept
+            is.closable.begin is.firsts stays has.late (image-is clusters has);
         short = λ clusters has. is.short;
-        first = λ fields rows clusters has. record {
-          book = w.book;
-          is_of = record {
-            kept = kept;
-            begin = is.closable.begin;
-            firsts = is.firsts;
-            none_deferred = described-first fields w.params.plain w.table rows;
-          };
-          within = stays;
-          ranges = has.ranges;
-          blobs_are = has.first rows.fields_in_header;
-          is = image-is clusters has;
-        };
+        first = λ fields rows clusters has.
+            laid-staged (closed_on behind before h).image w.table clusters (measures_of w.params) has.ranges w.book refl (record {
+              kept = kept;
+              begin = is.closable.begin;
+              firsts = is.firsts;
+              none_deferred = described-first fields w.params.plain w.table rows;
+            }) stays (has.first rows.fields_in_header) (image-is clusters has);
       }
 
   -- ---- the steps of a close

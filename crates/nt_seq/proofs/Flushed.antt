@@ -25,7 +25,7 @@ use Rattle.nt_layout.specs.Headers.{header_blob}
 use Rattle.nt_layout.specs.Laid.{Gives, IsBlobOfEntries, AreBlobsOf}
 use Rattle.nt_close.specs.Steps.{begun_on}
 use Rattle.nt_close.specs.Closing.{IsClosable}
-use Rattle.nt_late.specs.LateFiles.{IsLateBlob, AreLateBlobs}
+use Rattle.nt_finished.specs.LateFiles.{IsLateBlob, AreLateBlobs}
 use Rattle.nt_fill.proofs.Entries.{entries_count}
 use Rattle.nt_fill.proofs.Images.{blob_of, image_for}
 use Rattle.nt_commit.specs.Images.{IsImageFor}

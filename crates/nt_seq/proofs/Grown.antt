@@ -8,9 +8,9 @@ use Rattle.nt_plans.specs.Plan.{PlanData}
 use Rattle.nt_machine.specs.History.{Cluster}
 use Rattle.nt_book.specs.declared.meta.ClusterMeta.{ClusterMeta}
 use Rattle.nt_book.specs.Books.{entry_count}
-use Rattle.nt_late.specs.LateFiles.{IsLateBlob, AreLateBlobs, no_blob, late_blob}
-use Rattle.nt_late.specs.LeftOut.{AllBeginBehind, IsLeftOut, and_trees, filled, LacksFields, lacks_none, lacks_one}
-use Rattle.nt_late.specs.Zeros.{zero_of}
+use Rattle.nt_finished.specs.LateFiles.{IsLateBlob, AreLateBlobs, no_blob, late_blob}
+use Rattle.nt_finished.specs.LeftOut.{AllBeginBehind, IsLeftOut, and_trees, filled, LacksFields, lacks_none, lacks_one}
+use Rattle.nt_finished.specs.Zeros.{zero_of}
 
 begin-earlier : (low high : ℕ) (p : PlanData) (id : ℕ) (rows : List ColumnRow) → low ≤ high → AllBeginBehind high p id rows
     → AllBeginBehind low p id rows

@@ -17,7 +17,7 @@ use Rattle.nt_seq.specs.Written.{file_so_far, HasClusters, IsUnclosed}
 use Rattle.nt_seq.specs.Changing.{StaysAsItWas}
 use Rattle.nt_types.specs.TreeData.{TreesData}
 use Rattle.nt_layout.specs.Laid.{AreBlobsOf}
-use Rattle.nt_late.specs.LateFiles.{AreLateBlobs}
+use Rattle.nt_finished.specs.LateFiles.{AreLateBlobs}
 
 -- a writer whose disk failed
 unclosed-cut : (given old new : DiskState) (t : Table) (ranges : List (List ℕ)) (len : ℕ)

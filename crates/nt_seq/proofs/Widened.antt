@@ -30,9 +30,9 @@ use Rattle.nt_layout.specs.Blobs.{blob, blob_len}
 use Rattle.nt_layout.specs.Headers.{header_object, clusters_place}
 use Rattle.nt_close.specs.Passing.{first_passed, passed_by_begin}
 use Rattle.nt_close.specs.Steps.{begun_on}
-use Rattle.nt_late.specs.LateFiles.{AreLateBlobs}
-use Rattle.nt_late.specs.LeftOut.{IsLeftOut, filled}
-use Rattle.nt_late.specs.Zeros.{zero_of, zero_tree}
+use Rattle.nt_finished.specs.LateFiles.{AreLateBlobs}
+use Rattle.nt_finished.specs.LeftOut.{IsLeftOut, filled}
+use Rattle.nt_finished.specs.Zeros.{zero_of, zero_tree}
 use Rattle.nt_seq.specs.Standing.{IsSettledCluster, IsShortCluster, IsWriting}
 use Rattle.nt_seq.specs.Widening.{first_elements}
 use Rattle.nt_seq.specs.Writer.{SeqState, gathered_by}

@@ -17,7 +17,7 @@ use Rattle.nt_commit.specs.declared.error.CommitError.{CommitError}
 use Rattle.nt_commit.specs.declared.error.CommitError.TheVariants.{Fault}
 use Rattle.nt_commit.specs.Claims.{limit_answered}
 use Rattle.nt_close.specs.Beginning.{IsBegun, IsUntouched}
-use Rattle.nt_late.specs.LeftOut.{filled}
+use Rattle.nt_finished.specs.LeftOut.{filled}
 use Rattle.nt_seq.specs.Writer.{SeqState, gathered_by}
 use Rattle.nt_seq.specs.Written.{HasWritten, zero_behind}
 

@@ -9,14 +9,14 @@ use Rattle.nt_outside.specs.Order.{FirstByteLast}
 use Rattle.nt_grammar.specs.ReadingBack.{IsDescribed}
 use Rattle.nt_grammar.specs.Rows.{Rows}
 use Rattle.nt_book.specs.Books.{book_clusters}
-use Rattle.nt_layout.specs.Finished.{tail, front}
+use Rattle.nt_layout.specs.Finished.{lists_behind, tail, front}
 use Rattle.nt_layout.specs.Laid.{IsLaid}
 use Rattle.nt_close.specs.declared.error.CloseError.{CloseError}
 use Rattle.nt_close.specs.Closing.{HasCloseCause, LeavesClosed}
 use Rattle.nt_close.specs.Laws.{IsShut}
 use Rattle.nt_close.specs.Passing.{passed_by_close, measures_of}
 use Rattle.nt_close.specs.Spoiled.{NoneSpoiled}
-use Rattle.nt_late.specs.LateFiles.{IsLaidLate}
+use Rattle.nt_finished.specs.LateFiles.{IsLaidLate}
 use Rattle.nt_seq.specs.Standing.{IsShortCluster}
 use Rattle.nt_seq.specs.Writer.{SeqState}
 use Rattle.nt_seq.specs.Written.{HasWritten, entries_of_clusters}
@@ -53,7 +53,8 @@ module _ {D : Type 0} (state : D → DiskState) (w : SeqState D) where
   -- the steps of a close that were taken, and all of them after Ok
   abbrev pub EndsFile : D → Result (ℕ × ℕ) CloseError → Type 0
   EndsFile disk result =
-      LeavesClosed (tail w.table w.book w.params.group) (front w.table w.book w.params.group) (state w.disk) (state disk) (done_of result)
+      LeavesClosed (tail w.table w.book (lists_behind w.table w.book w.params.group)) (front w.table w.book (lists_behind w.table w.book
+          w.params.group)) (state w.disk) (state disk) (done_of result)
 
   -- after a refusal the first byte is 0, or the file stands there whole
   abbrev pub IsShutOrWhole : List ℕ → Type 0

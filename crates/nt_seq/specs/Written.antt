@@ -11,8 +11,8 @@ use Rattle.nt_book.specs.Books.{BookData, book_clusters}
 use Rattle.nt_layout.specs.Headers.{header_blob}
 use Rattle.nt_layout.specs.Laid.{AreBlobsOf}
 use Rattle.nt_close.specs.Steps.{begun_on}
-use Rattle.nt_late.specs.LateFiles.{AreLateBlobs}
-use Rattle.nt_late.specs.Zeros.{zero_tree}
+use Rattle.nt_finished.specs.LateFiles.{AreLateBlobs}
+use Rattle.nt_finished.specs.Zeros.{zero_tree}
 use Rattle.nt_seq.specs.Writer.{SeqState}
 
 -- these ranges are appended, one behind the other

@@ -7,7 +7,7 @@
 //! what is gathered as the next cluster, in one append; `extend` adds a field behind all entries
 //! so far; `close` closes the file, and `abandon` gives the disk back as it is.
 //!
-//! Words: those of nt_fill and nt_late. The *clusters* of a writer are the lists of the entries
+//! Words: those of nt_fill and nt_finished. The *clusters* of a writer are the lists of the entries
 //! that it has written, each entry with the zeros of the fields that were added behind it
 //! (`HasWritten` in `specs/Written`); a writer is *alive* until a call on its disk fails, or
 //! memory is wanting while a field is added; *given* is the disk as it was before all calls, by

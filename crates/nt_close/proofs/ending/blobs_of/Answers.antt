@@ -3,7 +3,7 @@ use Rattle.std.proofs.lemmas.Result.{err_from_is_err_and, IfOk-weaker, IfErr-wea
 use Rattle.nt_layout.specs.Blobs.{blob_len}
 use Rattle.nt_layout.specs.Headers.{header_sum}
 use Rattle.nt_layout.specs.Groups.{list_len}
-use Rattle.nt_layout.specs.Finished.{spans, footer_object}
+use Rattle.nt_layout.specs.Finished.{lists_behind, spans, footer_object}
 use Rattle.nt_close.specs.Making.{NonePassed, ArePassedBy}
 use Rattle.nt_close.proofs.Endings.{fit-more, passed-last, passed-before, footer-behind, footer_len_is}
 use Rattle.nt_close.proofs.ending.blobs_of.Goals as goal
@@ -13,7 +13,7 @@ returns-in_err-lists-clause-err c =
     let t = c.args.schema.now in let book = c.args.book.now in let most = c.args.params.now.group in
     let p = err_from_is_err_and c.from_residual-in_err-lists.result c.from_residual-in_err-lists.ensures.1 in
     rw (p.1, p.2) (passed-before c.args.params.now.limits (map (list_len (header_sum t) book) (spans book most))
-    (blob_len (length (footer_object t book most))) c.in_err-lists.field-0.0
+    (blob_len (length (footer_object t book (lists_behind t book most)))) c.in_err-lists.field-0.0
     (subst (λ (k : ℕ). ArePassedBy c.args.params.now.limits (map (list_len k book) (spans book most)) c.in_err-lists.field-0.0)
     c.in_ok-header.ensures.sum c.in_err-lists.ensures.err))
 

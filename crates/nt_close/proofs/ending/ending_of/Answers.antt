@@ -1,5 +1,5 @@
 use Rattle.std.proofs.lemmas.Result.{err_from_is_err_and}
-use Rattle.nt_layout.specs.Finished.{file_len}
+use Rattle.nt_layout.specs.Finished.{lists_behind, file_len}
 use Rattle.nt_close.specs.Passing.{blobs_behind}
 use Rattle.nt_close.proofs.Endings.{passed-all, passed-none, passed-file, ending-is}
 use Rattle.nt_close.proofs.ending.ending_of.Goals as goal
@@ -8,7 +8,8 @@ pub returns-in_err-bytes-clause-err : goal.returns-in_err-bytes-clause-err
 returns-in_err-bytes-clause-err c =
     let p = err_from_is_err_and c.from_residual.result c.from_residual.ensures.1 in
     rw (p.1, p.2) (passed-all c.args.params.now.limits (blobs_behind c.args.schema.now c.args.book.now c.args.params.now.group)
-    (file_len c.args.schema.now c.args.book.now c.args.params.now.group) c.in_err-bytes.field-0.0 c.in_err-bytes.ensures.err)
+    (file_len c.args.schema.now c.args.book.now (lists_behind c.args.schema.now c.args.book.now c.args.params.now.group))
+    c.in_err-bytes.field-0.0 c.in_err-bytes.ensures.err)
 
 pub returns-clause-ok : goal.returns-clause-ok
 returns-clause-ok c =

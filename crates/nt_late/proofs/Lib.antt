@@ -1,9 +1,0 @@
-pub mod ZeroColumns
-pub mod MissingColumns
-pub mod LeftColumns
-pub mod Filling
-pub mod GrownTables
-pub mod LaidLate
-pub mod AddedColumns
-pub mod AddedBegin
-pub mod AddedFields

@@ -1,5 +1,0 @@
-use Rattle.nt_late.proofs.Filling.{file-filled}
-use Rattle.nt_late.proofs.laws.files_mean_filled_entries.Goals as goal
-
-pub returns : goal.returns
-returns c = file-filled c.earlier_clusters_are_filled.ensures.all
