@@ -60,7 +60,7 @@ fn agrees(
     page: u32,
     pages: &[Page],
     bytes: &[u8],
-) -> Result<bool, Fail> {
+) -> Result<bool, AllocError> {
     let kind = buffer.kind();
     let field = (0, 0, 0, b"x".as_slice(), b"".as_slice());
     let schema = schema_of(alloc, &[field], &[(kind.code(), kind.bits(), 0, 0, 0, 0)])?;
@@ -75,32 +75,28 @@ fn agrees(
     )
 }
 
-#[test]
-fn columns_of_each_type(rt: HostRuntime) -> Result<(), Fail> {
+/// Whether columns of each type have their pages.
+fn columns_of_each_type(alloc: Global) -> Result<bool, AllocError> {
     for (kinds, values, page, pages, bytes) in &COLUMNS {
         for kind in *kinds {
-            let buffer = filled(rt.alloc(), *kind, values)?;
-            assert_eq!(rt; buffer.len(), values.len(), "of {kind:?}");
-            assert!(rt;
-                agrees(rt.alloc(), buffer, *page, pages, bytes)?,
-                "of {kind:?}"
-            );
+            let buffer = filled(alloc, *kind, values)?;
+            if buffer.len() != values.len() || !agrees(alloc, buffer, *page, pages, bytes)? {
+                return Ok(false);
+            }
         }
     }
-    Ok(())
+    Ok(true)
 }
 
-#[test]
-fn pairs_of_a_switch(rt: HostRuntime) -> Result<(), Fail> {
+/// Whether pairs of a switch have their pages.
+fn pairs_of_a_switch(alloc: Global) -> Result<bool, AllocError> {
     let pairs = [(3, 1), (0, 0), (0x0102_0304_0506_0708, 0xffff_fffe)];
-    let buffer = switched(rt.alloc(), &pairs)?;
-    assert!(rt; agrees(rt.alloc(), buffer, 2, &[(2, 0, 24), (1, 32, 12)], PAIRS)?);
-    Ok(())
+    let buffer = switched(alloc, &pairs)?;
+    agrees(alloc, buffer, 2, &[(2, 0, 24), (1, 32, 12)], PAIRS)
 }
 
-#[test]
-fn clusters(rt: HostRuntime) -> Result<(), Fail> {
-    let alloc = rt.alloc();
+/// Whether the image of a cluster is this one, with its meta data.
+fn clusters(alloc: Global) -> Result<bool, AllocError> {
     let schema = described(alloc, b"x u16\nt string\n", false)?;
     let kinds = [
         ColumnType::SplitUInt16,
@@ -112,40 +108,51 @@ fn clusters(rt: HostRuntime) -> Result<(), Fail> {
     columns.zeros(1, 3);
     *columns.buffer(2) = spelled(alloc, &[b"abcde"])?;
     let image = built(alloc, &columns, &schema, 2)?;
-    assert!(rt; image.bytes.as_slice() == IMAGE);
-    assert_eq!(rt;
-        (image.meta.context, image.meta.entries, image.meta.len),
-        (7, 3, IMAGE.len() as u64)
-    );
-    let lists = image.meta.pages.as_slice();
-    assert_eq!(rt; lists.len(), METAS.len());
-    for (list, want) in lists.iter().zip(&METAS) {
-        assert!(rt; lie_so(list.as_slice(), want));
+    let meta = &image.meta;
+    let lists = meta.pages.as_slice();
+    if (meta.context, meta.entries, meta.len) != (7, 3, IMAGE.len() as u64)
+        || lists.len() != METAS.len()
+    {
+        return Ok(false);
     }
-    assert_eq!(rt; image.bytes.into_vec().capacity(), IMAGE.len());
-    Ok(())
+    for (list, want) in lists.iter().zip(&METAS) {
+        if !lie_so(list.as_slice(), want) {
+            return Ok(false);
+        }
+    }
+    Ok(image.bytes.as_slice() == IMAGE && image.bytes.into_vec().capacity() == IMAGE.len())
 }
 
-#[test]
-fn no_columns(rt: HostRuntime) -> Result<(), Fail> {
-    let alloc = rt.alloc();
+/// Whether the image of no columns is the room for a key.
+fn no_columns(alloc: Global) -> Result<bool, AllocError> {
     let image = built(alloc, &ColumnSet::new(alloc, &[])?, &Schema::new(alloc), 16)?;
-    assert!(rt; image.bytes.as_slice() == [0; 42].as_slice());
-    assert_eq!(rt;
-        (image.meta.len, image.meta.pages.as_slice().len()),
-        (42, 0)
-    );
-    Ok(())
+    let counts = (image.meta.len, image.meta.pages.as_slice().len());
+    Ok(image.bytes.as_slice() == [0; 42].as_slice() && counts == (42, 0))
 }
 
-#[test]
-fn too_large(rt: HostRuntime) -> Result<(), Fail> {
-    let alloc = rt.alloc();
+/// Whether there is no image of more elements than memory has.
+fn too_large(alloc: Global) -> Result<bool, AllocError> {
     let schema = described(alloc, b"x u16\n", false)?;
     for count in [1 << 63, u64::MAX] {
         let mut columns = ColumnSet::new(alloc, &[ColumnType::SplitUInt16])?;
         columns.zeros(0, count);
-        assert!(rt; built(alloc, &columns, &schema, 1).is_err());
+        if built(alloc, &columns, &schema, 1).is_ok() {
+            return Ok(false);
+        }
     }
-    Ok(())
+    Ok(true)
+}
+
+#[test]
+fn images(rt: HostRuntime) {
+    let alloc = rt.alloc();
+    for (holds, name) in [
+        (columns_of_each_type(alloc), "columns of each type"),
+        (pairs_of_a_switch(alloc), "pairs of a switch"),
+        (clusters(alloc), "clusters"),
+        (no_columns(alloc), "no columns"),
+        (too_large(alloc), "too large"),
+    ] {
+        assert!(rt; holds == Ok(true), "{name}");
+    }
 }

@@ -4,7 +4,6 @@ use nt_num::{Cur, put_u16le, put_u32le, put_u64le};
 use nt_schema::{ColumnRow, FieldRow, Part, Schema, describe, read_description};
 use nt_types::parse_schema;
 use std::alloc::{AllocError, Global};
-use std::test::Fail;
 
 /// The parent, role, flags, name and type name of a field.
 pub type Field = (u32, u16, u16, &'static [u8], &'static [u8]);
@@ -12,10 +11,12 @@ pub type Field = (u32, u16, u16, &'static [u8], &'static [u8]);
 /// The code, bits, field, flags, representation and first element of a column.
 pub type Column = (u16, u16, u32, u16, u16, u64);
 
-/// The schema of this text, split or plain.
-pub fn described(alloc: Global, text: &[u8], plain: bool) -> Result<Schema, Fail> {
-    let fields = parse_schema(alloc, text)?;
-    Ok(describe(alloc, &fields, plain)?)
+/// The schema of this text, split or plain; an error too where it is no text of a schema.
+pub fn described(alloc: Global, text: &[u8], plain: bool) -> Result<Schema, AllocError> {
+    match parse_schema(alloc, text) {
+        Ok(fields) => describe(alloc, &fields, plain),
+        Err(_) => Err(AllocError),
+    }
 }
 
 fn is_field(row: &FieldRow, wanted: &Field) -> bool {
@@ -98,8 +99,12 @@ fn put_column(alloc: Global, out: &mut Vec<u8>, row: &Column) -> Result<(), Allo
     put_record(out, &inside)
 }
 
-/// The schema that a header with these rows describes, and no alias column nor type information.
-pub fn schema_of(alloc: Global, fields: &[Field], columns: &[Column]) -> Result<Schema, Fail> {
+/// The schema that a header with these rows describes, and no alias column nor type information; an error too where they are none.
+pub fn schema_of(
+    alloc: Global,
+    fields: &[Field],
+    columns: &[Column],
+) -> Result<Schema, AllocError> {
     let (mut rows, mut bytes) = (Vec::new(alloc), Vec::new(alloc));
     for row in fields {
         put_field(alloc, &mut rows, row)?;
@@ -113,6 +118,8 @@ pub fn schema_of(alloc: Global, fields: &[Field], columns: &[Column]) -> Result<
     put_list(&mut bytes, 0, b"")?;
     put_list(&mut bytes, 0, b"")?;
     let mut schema = Schema::new(alloc);
-    read_description(&mut Cur::new(&bytes), &mut schema, Part::Header)?;
-    Ok(schema)
+    match read_description(&mut Cur::new(&bytes), &mut schema, Part::Header) {
+        Ok(()) => Ok(schema),
+        Err(_) => Err(AllocError),
+    }
 }

@@ -2,7 +2,6 @@
 
 use nt_types::{SchemaError, SchemaFault, SchemaKind, Shape, parse_member, parse_schema};
 use std::alloc::{AllocError, Global};
-use std::test::Fail;
 
 /// A text, a line and the kind of its fault.
 const FAULTS: [(&str, u64, SchemaKind); 34] = [
@@ -61,14 +60,14 @@ fn repeated(alloc: Global, count: usize, pieces: [&str; 5]) -> Result<Vec<u8>, A
     Ok(text)
 }
 
-#[test]
-fn first_fault(rt: HostRuntime) {
+/// Whether these texts have their first faults.
+fn first_fault(alloc: Global) -> bool {
     for (text, line, kind) in FAULTS {
-        match parse_schema(rt.alloc(), text.as_bytes()) {
-            Ok(_) => assert!(rt; false, "{text}"),
-            Err(error) => assert_eq!(rt; error, fault(line, kind), "{text}"),
+        if parse_schema(alloc, text.as_bytes()).err() != Some(fault(line, kind)) {
+            return false;
         }
     }
+    true
 }
 
 const SCHEMA: &[u8] =
@@ -140,99 +139,152 @@ fn is_third(shape: &Shape) -> bool {
     }
 }
 
-#[test]
-fn fields_in_order(rt: HostRuntime) -> Result<(), Fail> {
-    let fields = parse_schema(rt.alloc(), SCHEMA)?.into_vec();
-    assert_eq!(rt; fields.len(), 3);
-    assert_eq!(rt; fields[0].name.as_slice(), b"a_1".as_slice());
-    assert!(rt; is_first(&fields[0].of));
-    assert_eq!(rt; fields[1].name.as_slice(), b"_b".as_slice());
-    assert!(rt; is_second(&fields[1].of));
-    assert!(rt; is_third(&fields[2].of));
-    Ok(())
+/// Whether the fields of a text come in its order.
+fn fields_in_order(alloc: Global) -> bool {
+    let Ok(fields) = parse_schema(alloc, SCHEMA) else {
+        return false;
+    };
+    match fields.into_vec().as_slice() {
+        [first, second, third] => {
+            first.name.as_slice() == b"a_1".as_slice()
+                && is_first(&first.of)
+                && second.name.as_slice() == b"_b".as_slice()
+                && is_second(&second.of)
+                && is_third(&third.of)
+        }
+        _ => false,
+    }
 }
 
-#[test]
-fn one_member(rt: HostRuntime) -> Result<(), Fail> {
-    let member = parse_member(rt.alloc(), b"n_2\tu32 ")?;
-    assert_eq!(rt; member.name.as_slice(), b"n_2".as_slice());
-    assert!(rt;
-        matches!(
-            member.of,
-            Shape::Int {
-                bits: 32,
-                signed: false
-            }
-        )
+/// Lines that are no field, and their faults.
+const NO_MEMBERS: [(&str, SchemaKind); 5] = [
+    ("", SchemaKind::BadName),
+    (" \t\r", SchemaKind::BadName),
+    ("x\nu8", SchemaKind::BadName),
+    ("2n u32", SchemaKind::BadName),
+    ("n u32,", SchemaKind::BadType),
+];
+
+/// Whether a line is one field, and others are none.
+fn one_member(alloc: Global) -> bool {
+    let Ok(member) = parse_member(alloc, b"n_2\tu32 ") else {
+        return false;
+    };
+    for (line, kind) in NO_MEMBERS {
+        if parse_member(alloc, line.as_bytes()).err() != Some(fault(0, kind)) {
+            return false;
+        }
+    }
+    let is_number = matches!(
+        member.of,
+        Shape::Int {
+            bits: 32,
+            signed: false
+        }
     );
-    for (line, kind) in [
-        ("", SchemaKind::BadName),
-        (" \t\r", SchemaKind::BadName),
-        ("x\nu8", SchemaKind::BadName),
-        ("2n u32", SchemaKind::BadName),
-        ("n u32,", SchemaKind::BadType),
-    ] {
-        assert_eq!(rt;
-            parse_member(rt.alloc(), line.as_bytes()).err(),
-            Some(fault(0, kind)),
-            "{line}"
-        );
+    is_number && member.name.as_slice() == b"n_2".as_slice()
+}
+
+/// How often pieces of a text stand, the pieces, and the line and kind of its fault.
+const LIMITS: [(usize, [&str; 5], Option<(u64, SchemaKind)>); 19] = [
+    (31, ["x ", "vec<", "u8", ">", ""], None),
+    (
+        32,
+        ["x ", "vec<", "u8", ">", ""],
+        Some((1, SchemaKind::TooDeep)),
+    ),
+    (
+        100000,
+        ["x ", "vec<", "u8", ">", ""],
+        Some((1, SchemaKind::TooDeep)),
+    ),
+    (
+        100000,
+        ["x ", "vec<", "u9", ">", ""],
+        Some((1, SchemaKind::BadType)),
+    ),
+    (
+        100000,
+        ["x ", "rec{a:", "u8", "}", ""],
+        Some((1, SchemaKind::TooDeep)),
+    ),
+    (15, ["x ", "opt<vec<", "opt<u8>", ">>", ""], None),
+    (
+        100000,
+        ["x ", "opt<vec<", "u8", ">>", ""],
+        Some((1, SchemaKind::TooDeep)),
+    ),
+    (
+        100000,
+        ["x ", "opt<", "u8", ">", ""],
+        Some((1, SchemaKind::BadType)),
+    ),
+    (
+        100000,
+        ["x ", "vec<", "opt<var<u8>>", ">", ""],
+        Some((1, SchemaKind::BadType)),
+    ),
+    (1, ["x opt<vec<opt<string>>>", "", "", "", ""], None),
+    (99, ["x var<", "u8,", "u8>", "", ""], None),
+    (
+        100,
+        ["x var<", "u8,", "u8>", "", ""],
+        Some((1, SchemaKind::BadType)),
+    ),
+    (255, ["", "a", " u8", "", ""], None),
+    (
+        256,
+        ["", "a", " u8", "", ""],
+        Some((1, SchemaKind::BadName)),
+    ),
+    (4094, ["x tuple<", "u8,", "u8>", "", ""], None),
+    (
+        4095,
+        ["x tuple<", "u8,", "u8>", "", ""],
+        Some((1, SchemaKind::TooMany)),
+    ),
+    (
+        4094,
+        ["x tuple<", "u8,", "u8>", "", "\ny u8"],
+        Some((2, SchemaKind::TooMany)),
+    ),
+    (
+        1 << 20,
+        ["", "\n", "", "", ""],
+        Some((0, SchemaKind::Empty)),
+    ),
+    (
+        1 << 20,
+        ["x", "\n", "", "", ""],
+        Some((0, SchemaKind::TooLong)),
+    ),
+];
+
+/// Whether limits are kept.
+fn limits(alloc: Global) -> Result<bool, AllocError> {
+    for (count, pieces, expected) in LIMITS {
+        let text = repeated(alloc, count, pieces)?;
+        let found = parse_schema(alloc, text.as_slice()).err();
+        let is_so = match expected {
+            Some((line, kind)) => found == Some(fault(line, kind)),
+            None => found.is_none(),
+        };
+        if !is_so {
+            return Ok(false);
+        }
     }
-    Ok(())
+    Ok(true)
 }
 
 #[test]
-fn limits(rt: HostRuntime) -> Result<(), Fail> {
+fn schemas(rt: HostRuntime) {
     let alloc = rt.alloc();
-    let deep = Some(fault(1, SchemaKind::TooDeep));
-    let malformed = Some(fault(1, SchemaKind::BadType));
-    for (count, pieces, expected) in [
-        (31, ["x ", "vec<", "u8", ">", ""], None),
-        (32, ["x ", "vec<", "u8", ">", ""], deep),
-        (100000, ["x ", "vec<", "u8", ">", ""], deep),
-        (100000, ["x ", "vec<", "u9", ">", ""], malformed),
-        (100000, ["x ", "rec{a:", "u8", "}", ""], deep),
-        (15, ["x ", "opt<vec<", "opt<u8>", ">>", ""], None),
-        (100000, ["x ", "opt<vec<", "u8", ">>", ""], deep),
-        (100000, ["x ", "opt<", "u8", ">", ""], malformed),
-        (100000, ["x ", "vec<", "opt<var<u8>>", ">", ""], malformed),
-        (1, ["x opt<vec<opt<string>>>", "", "", "", ""], None),
-        (99, ["x var<", "u8,", "u8>", "", ""], None),
-        (100, ["x var<", "u8,", "u8>", "", ""], malformed),
-        (255, ["", "a", " u8", "", ""], None),
-        (
-            256,
-            ["", "a", " u8", "", ""],
-            Some(fault(1, SchemaKind::BadName)),
-        ),
-        (4094, ["x tuple<", "u8,", "u8>", "", ""], None),
-        (
-            4095,
-            ["x tuple<", "u8,", "u8>", "", ""],
-            Some(fault(1, SchemaKind::TooMany)),
-        ),
-        (
-            4094,
-            ["x tuple<", "u8,", "u8>", "", "\ny u8"],
-            Some(fault(2, SchemaKind::TooMany)),
-        ),
-        (
-            1 << 20,
-            ["", "\n", "", "", ""],
-            Some(fault(0, SchemaKind::Empty)),
-        ),
-        (
-            1 << 20,
-            ["x", "\n", "", "", ""],
-            Some(fault(0, SchemaKind::TooLong)),
-        ),
+    for (holds, name) in [
+        (Ok(first_fault(alloc)), "first fault"),
+        (Ok(fields_in_order(alloc)), "fields in order"),
+        (Ok(one_member(alloc)), "one member"),
+        (limits(alloc), "limits"),
     ] {
-        let text = repeated(alloc, count, pieces)?;
-        assert_eq!(rt;
-            parse_schema(alloc, text.as_slice()).err(),
-            expected,
-            "{count}"
-        );
+        assert!(rt; holds == Ok(true), "{name}");
     }
-    Ok(())
 }

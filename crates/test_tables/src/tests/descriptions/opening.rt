@@ -2,8 +2,7 @@
 
 use crate::tests::rows::{Column, Field, described, schema_of};
 use nt_types::Shape;
-use std::alloc::Global;
-use std::test::Fail;
+use std::alloc::{AllocError, Global};
 
 /// A field of this parent, role, flags and type name.
 fn field(parent: u32, role: u16, flags: u16, of: &'static [u8]) -> Field {
@@ -16,7 +15,7 @@ fn column(code: u16, bits: u16, field: u32) -> Column {
 }
 
 /// Whether the first field of these rows is open.
-fn is_open(alloc: Global, fields: &[Field], columns: &[Column]) -> Result<bool, Fail> {
+fn is_open(alloc: Global, fields: &[Field], columns: &[Column]) -> Result<bool, AllocError> {
     Ok(schema_of(alloc, fields, columns)?.shape(0).is_some())
 }
 
@@ -36,17 +35,15 @@ const NUMBERS: [(u16, Column, bool); 12] = [
     (0, (0x14, 32, 0, 1, 0, 1 << 63), false),
 ];
 
-#[test]
-fn numbers(rt: HostRuntime) -> Result<(), Fail> {
+/// Whether these numbers are open or closed.
+fn numbers(alloc: Global) -> Result<bool, AllocError> {
     for (flags, column, open) in NUMBERS {
         let fields = [field(0, 0, flags, b"std::uint32_t")];
-        assert_eq!(rt;
-            is_open(rt.alloc(), &fields, &[column])?,
-            open,
-            "{column:?}"
-        );
+        if is_open(alloc, &fields, &[column])? != open {
+            return Ok(false);
+        }
     }
-    Ok(())
+    Ok(true)
 }
 
 /// Of a field with bools inside: its role, the code and the bits of its column, how many bools
@@ -68,11 +65,11 @@ const PARENTS: [(u16, u16, u16, u32, u64, bool); 14] = [
     (4, 0xFF, 0, 1, 0, false),
 ];
 
-#[test]
-fn fields_with_fields(rt: HostRuntime) -> Result<(), Fail> {
+/// Whether these fields with fields inside are open or closed.
+fn fields_with_fields(alloc: Global) -> Result<bool, AllocError> {
     for (role, code, bits, bools, first, open) in PARENTS {
-        let mut fields = Vec::new(rt.alloc());
-        let mut columns = Vec::new(rt.alloc());
+        let mut fields = Vec::new(alloc);
+        let mut columns = Vec::new(alloc);
         fields.push(field(0, role, 0, b""))?;
         if code != 0xFF {
             columns.push(column(code, bits, 0))?;
@@ -81,25 +78,34 @@ fn fields_with_fields(rt: HostRuntime) -> Result<(), Fail> {
             fields.push(field(0, 0, 0, b"bool"))?;
             columns.push((0, 1, id + 1, 1, 0, first))?;
         }
-        assert_eq!(rt; is_open(rt.alloc(), &fields, &columns)?, open);
+        if is_open(alloc, &fields, &columns)? != open {
+            return Ok(false);
+        }
     }
-    Ok(())
+    Ok(true)
 }
 
-#[test]
-fn texts(rt: HostRuntime) -> Result<(), Fail> {
+/// Whether texts are open or closed by their two columns.
+fn texts(alloc: Global) -> Result<bool, AllocError> {
     let fields = [field(0, 0, 0, b"std::string")];
     let (ends, bytes) = (column(0x0E, 32, 0), column(2, 8, 0));
     let (late, late_bytes) = ((0x0E, 32, 0, 1, 0, 7), (2, 8, 0, 1, 0, 7));
-    assert!(rt; is_open(rt.alloc(), &fields, &[late, bytes])?);
-    assert!(rt; !is_open(rt.alloc(), &fields, &[ends, late_bytes])?);
-    assert!(rt; !is_open(rt.alloc(), &fields, &[bytes, ends])?);
-    assert!(rt; !is_open(rt.alloc(), &fields, &[ends])?);
-    Ok(())
+    let rows: [(&[Column], bool); 4] = [
+        (&[late, bytes], true),
+        (&[ends, late_bytes], false),
+        (&[bytes, ends], false),
+        (&[ends], false),
+    ];
+    for (columns, open) in rows {
+        if is_open(alloc, &fields, columns)? != open {
+            return Ok(false);
+        }
+    }
+    Ok(true)
 }
 
 /// Whether collections inside one another, with a bool in the last, are open.
-fn nested(alloc: Global, lists: u32) -> Result<bool, Fail> {
+fn nested(alloc: Global, lists: u32) -> Result<bool, AllocError> {
     let mut fields = Vec::new(alloc);
     let mut columns = Vec::new(alloc);
     let mut parent = 0;
@@ -113,38 +119,45 @@ fn nested(alloc: Global, lists: u32) -> Result<bool, Fail> {
     is_open(alloc, &fields, &columns)
 }
 
-#[test]
-fn most_levels(rt: HostRuntime) -> Result<(), Fail> {
-    assert!(rt; nested(rt.alloc(), 63)?);
-    assert!(rt; !nested(rt.alloc(), 64)?);
-    Ok(())
+/// Whether shapes are those of the text that described them.
+fn described_shapes(alloc: Global) -> Result<bool, AllocError> {
+    let text = b"n i16\nd tuple<vec<byte>,string>\nc var<bool,tuple<char>>";
+    let schema = described(alloc, text, false)?;
+    let is_number = matches!(
+        schema.shape(0),
+        Some(Shape::Int {
+            bits: 16,
+            signed: true
+        })
+    );
+    let Some(Shape::Rec(members)) = schema.shape(1) else {
+        return Ok(false);
+    };
+    let [first, second] = members.as_slice() else {
+        return Ok(false);
+    };
+    let is_list = first.name.as_slice() == b"_0".as_slice() && matches!(first.of, Shape::List(_));
+    let is_text = second.name.as_slice() == b"_1".as_slice() && matches!(second.of, Shape::Text);
+    let Some(Shape::Choice(alternatives)) = schema.shape(2) else {
+        return Ok(false);
+    };
+    let is_choice = matches!(alternatives.as_slice(), [Shape::Bool, Shape::Rec(_)]);
+    let is_last = schema.shape(3).is_none() && schema.shape(100).is_none();
+    Ok(is_number && is_list && is_text && is_choice && is_last)
 }
 
 #[test]
-fn described_shapes(rt: HostRuntime) -> Result<(), Fail> {
-    let text = b"n i16\nd tuple<vec<byte>,string>\nc var<bool,tuple<char>>";
-    let schema = described(rt.alloc(), text, false)?;
-    assert!(rt;
-        matches!(
-            schema.shape(0),
-            Some(Shape::Int {
-                bits: 16,
-                signed: true
-            })
-        )
-    );
-    let Some(Shape::Rec(members)) = schema.shape(1) else {
-        return Err("a tuple reads as a record".into());
-    };
-    let [first, second] = members.as_slice() else {
-        return Err("two members".into());
-    };
-    assert!(rt; first.name.as_slice() == b"_0".as_slice() && matches!(first.of, Shape::List(_)));
-    assert!(rt; second.name.as_slice() == b"_1".as_slice() && matches!(second.of, Shape::Text));
-    let Some(Shape::Choice(alternatives)) = schema.shape(2) else {
-        return Err("a choice".into());
-    };
-    assert!(rt; matches!(alternatives.as_slice(), [Shape::Bool, Shape::Rec(_)]));
-    assert!(rt; schema.shape(3).is_none() && schema.shape(100).is_none());
-    Ok(())
+fn opening(rt: HostRuntime) {
+    let alloc = rt.alloc();
+    let are_levels = matches!(nested(alloc, 63), Ok(true))
+        && matches!(nested(alloc, 64), Ok(false));
+    for (holds, name) in [
+        (numbers(alloc), "numbers"),
+        (fields_with_fields(alloc), "fields with fields"),
+        (texts(alloc), "texts"),
+        (Ok(are_levels), "most levels"),
+        (described_shapes(alloc), "described shapes"),
+    ] {
+        assert!(rt; holds == Ok(true), "{name}");
+    }
 }

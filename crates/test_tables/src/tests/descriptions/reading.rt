@@ -6,22 +6,21 @@ use crate::tests::rows::{Column, Field, has_columns, has_fields};
 use nt_num::Cur;
 use nt_schema::{DescriptionError, Part, Schema, read_description};
 use std::alloc::Global;
-use std::test::Fail;
 
-#[test]
-fn worked_bytes_are_read(rt: HostRuntime) -> Result<(), Fail> {
-    let mut bytes = Vec::new(rt.alloc());
+/// Whether the worked bytes are read, between others.
+fn worked_bytes_are_read(alloc: Global) -> Result<bool, DescriptionError> {
+    let mut bytes = Vec::new(alloc);
     bytes.extend_from_slice(b"\xaa\xaa")?;
     bytes.extend_from_slice(FIVE_BYTES)?;
     bytes.push(0xbb)?;
     let mut cur = Cur::new(&bytes);
     let before = cur.bytes(2).is_ok();
-    let mut schema = Schema::new(rt.alloc());
+    let mut schema = Schema::new(alloc);
     read_description(&mut cur, &mut schema, Part::Header)?;
-    assert_eq!(rt; (before, cur.place(), cur.left()), (true, 621, 1));
-    assert_eq!(rt; (schema.header_fields(), schema.header_columns()), (8, 8));
-    assert!(rt; has_fields(&schema, &FIVE_FIELDS) && has_columns(&schema, &FIVE_COLUMNS));
-    Ok(())
+    let is_read = (before, cur.place(), cur.left()) == (true, 621, 1);
+    let counts = (schema.header_fields(), schema.header_columns());
+    let are_rows = has_fields(&schema, &FIVE_FIELDS) && has_columns(&schema, &FIVE_COLUMNS);
+    Ok(is_read && counts == (8, 8) && are_rows)
 }
 
 /// The fields of a header and of its extension.
@@ -30,20 +29,18 @@ const FIELDS_OF_BOTH: [Field; 2] = [(0, 2, 4, b"r", b"odd"), (1, 0, 0, b"y", b"s
 /// The columns of a header and of its extension.
 const COLUMNS_OF_BOTH: [Column; 2] = [(4, 8, 0, 0, 3, 0), (0x12, 16, 1, 1, 0, 2)];
 
-#[test]
-fn extension_goes_on(rt: HostRuntime) -> Result<(), Fail> {
-    let mut schema = read(rt.alloc(), FLAGS)?;
+/// Whether an extension goes on behind the rows of a header, and is refused without them.
+fn extension_goes_on(alloc: Global) -> Result<bool, DescriptionError> {
+    let mut schema = read(alloc, FLAGS)?;
     read_description(&mut Cur::new(DEFERRED), &mut schema, Part::Extension)?;
-    assert_eq!(rt; (schema.header_fields(), schema.header_columns()), (1, 1));
-    assert!(rt; has_fields(&schema, &FIELDS_OF_BOTH) && has_columns(&schema, &COLUMNS_OF_BOTH));
-    let alone = read(rt.alloc(), DEFERRED);
+    let counts = (schema.header_fields(), schema.header_columns());
+    let are_rows = has_fields(&schema, &FIELDS_OF_BOTH) && has_columns(&schema, &COLUMNS_OF_BOTH);
     let fault = DescriptionError::BadField {
         at: 12,
         id: 0,
         parent: 1,
     };
-    assert_eq!(rt; alone.err(), Some(fault));
-    Ok(())
+    Ok(counts == (1, 1) && are_rows && read(alloc, DEFERRED).err() == Some(fault))
 }
 
 /// The fields of the foreign bytes.
@@ -56,11 +53,10 @@ const FOREIGN_COLUMNS: [Column; 3] = [
     (3, 8, 0, 3, 0, 6),
 ];
 
-#[test]
-fn foreign_rows(rt: HostRuntime) -> Result<(), Fail> {
-    let schema = read(rt.alloc(), FOREIGN)?;
-    assert!(rt; has_fields(&schema, &FOREIGN_FIELDS) && has_columns(&schema, &FOREIGN_COLUMNS));
-    Ok(())
+/// Whether bytes of another writer have these rows.
+fn foreign_rows(alloc: Global) -> Result<bool, DescriptionError> {
+    let schema = read(alloc, FOREIGN)?;
+    Ok(has_fields(&schema, &FOREIGN_FIELDS) && has_columns(&schema, &FOREIGN_COLUMNS))
 }
 
 /// A byte of the worked description, what it is changed to, and where the fault then is.
@@ -83,49 +79,113 @@ const FRAMES: [(usize, u8, usize); 16] = [
     (607, 0xF3, 607),
 ];
 
-fn changed(alloc: Global, at: usize, to: u8) -> Result<Option<DescriptionError>, Fail> {
+/// Whether the worked description has this fault with a byte changed.
+fn has_fault(
+    alloc: Global,
+    at: usize,
+    to: u8,
+    fault: Option<DescriptionError>,
+) -> Result<bool, DescriptionError> {
     let mut bytes = FIVE_BYTES.to_vec(alloc)?;
     if let Some(byte) = bytes.get_mut(at) {
         *byte = to;
     }
-    Ok(read(alloc, &bytes).err())
+    Ok(read(alloc, &bytes).err() == fault)
 }
 
-#[test]
-fn misplaced(rt: HostRuntime) -> Result<(), Fail> {
+/// Whether frames that don't fit are refused.
+fn misplaced(alloc: Global) -> Result<bool, DescriptionError> {
     for (byte, to, at) in FRAMES {
-        let fault = DescriptionError::BadFrame { at };
-        assert_eq!(rt; changed(rt.alloc(), byte, to)?, Some(fault));
+        if !has_fault(alloc, byte, to, Some(DescriptionError::BadFrame { at }))? {
+            return Ok(false);
+        }
     }
-    Ok(())
+    Ok(true)
 }
 
-#[test]
-fn out_of_range(rt: HostRuntime) -> Result<(), Fail> {
-    for (byte, at, id, parent) in [(28, 12, 0, 1), (295, 279, 5, 6)] {
-        let fault = DescriptionError::BadField { at, id, parent };
-        assert_eq!(rt; changed(rt.alloc(), byte, parent as u8)?, Some(fault));
+/// A byte of the worked description, what it is changed to, and the fault that this makes.
+const RANGES: [(usize, u8, Option<DescriptionError>); 7] = [
+    (
+        28,
+        1,
+        Some(DescriptionError::BadField {
+            at: 12,
+            id: 0,
+            parent: 1,
+        }),
+    ),
+    (
+        295,
+        6,
+        Some(DescriptionError::BadField {
+            at: 279,
+            id: 5,
+            parent: 6,
+        }),
+    ),
+    (
+        507,
+        8,
+        Some(DescriptionError::BadColumn {
+            at: 495,
+            count: 8,
+            id: 8,
+        }),
+    ),
+    (
+        587,
+        9,
+        Some(DescriptionError::BadColumn {
+            at: 575,
+            count: 8,
+            id: 9,
+        }),
+    ),
+    (295, 5, None),
+    (507, 7, None),
+    (591, 2, None),
+];
+
+/// Whether ids out of their range are refused, and others aren't.
+fn out_of_range(alloc: Global) -> Result<bool, DescriptionError> {
+    for (byte, to, fault) in RANGES {
+        if !has_fault(alloc, byte, to, fault)? {
+            return Ok(false);
+        }
     }
-    for (byte, at, id) in [(507, 495, 8), (587, 575, 9)] {
-        let fault = DescriptionError::BadColumn { at, count: 8, id };
-        assert_eq!(rt; changed(rt.alloc(), byte, id as u8)?, Some(fault));
-    }
-    for (byte, to) in [(295, 5), (507, 7), (591, 2)] {
-        assert_eq!(rt; changed(rt.alloc(), byte, to)?, None);
-    }
-    Ok(())
+    Ok(true)
 }
 
 /// Where the lists of the worked description begin.
 const LISTS: [usize; 4] = [0, 423, 595, 607];
 
-#[test]
-fn every_cut(rt: HostRuntime) -> Result<(), Fail> {
+/// Whether the worked description is refused where it is cut, and only there.
+fn every_cut(alloc: Global) -> bool {
     for len in 0..FIVE_BYTES.len() {
-        let cut = LISTS.iter().copied().filter(|at| *at <= len).max();
-        let fault = cut.map(|at| DescriptionError::BadFrame { at });
-        assert_eq!(rt; read(rt.alloc(), &FIVE_BYTES[..len]).err(), fault);
+        let mut fault = None;
+        for at in LISTS {
+            if at <= len {
+                fault = Some(DescriptionError::BadFrame { at });
+            }
+        }
+        if read(alloc, &FIVE_BYTES[..len]).err() != fault {
+            return false;
+        }
     }
-    assert!(rt; read(rt.alloc(), FIVE_BYTES).is_ok());
-    Ok(())
+    read(alloc, FIVE_BYTES).is_ok()
+}
+
+#[test]
+fn reading(rt: HostRuntime) {
+    let alloc = rt.alloc();
+    for (holds, name) in [
+        (worked_bytes_are_read(alloc), "worked bytes are read"),
+        (extension_goes_on(alloc), "extension goes on"),
+        (foreign_rows(alloc), "foreign rows"),
+        (misplaced(alloc), "misplaced"),
+        (out_of_range(alloc), "out of range"),
+        (Ok(every_cut(alloc)), "every cut"),
+    ] {
+        assert!(rt; matches!(holds, Ok(true)), "{name}");
+    }
 }
