@@ -7,7 +7,7 @@ use nt_types::ColumnType;
 use std::test::*;
 
 #[test]
-fn lists_and_choices_of_zeros_are_empty(rt: HostRuntime) -> Result<(), Fail> {
+fn lists_optionals_and_choices_of_zeros_are_empty(rt: HostRuntime) -> Result<(), Fail> {
     let alloc = rt.alloc();
     let number = Plan::Number {
         column: 1,
@@ -26,6 +26,18 @@ fn lists_and_choices_of_zeros_are_empty(rt: HostRuntime) -> Result<(), Fail> {
         b"[[]]\n[[]]\n".as_slice()
     );
     assert_eq!(rt; fault_of(&set, &lists, 3), Some((0, 2)));
+    let item = Plan::Bool { column: 1 };
+    let optional = Plan::Maybe {
+        ends: 0,
+        of: Box::new(alloc, item)?,
+    };
+    let optionals = Plans::from_vec(vec![in alloc; optional]?);
+    let mut set = ColumnSet::new(alloc, &[ColumnType::Index64, ColumnType::Bit])?;
+    set.zeros(0, 2);
+    assert_eq!(rt;
+        lines_of(alloc, &set, &optionals, 2)?.as_slice(),
+        b"[null]\n[null]\n".as_slice()
+    );
     let text = Plan::Text { ends: 1, bytes: 2 };
     let of = Plans::from_vec(vec![in alloc; text]?);
     let choices = Plans::from_vec(vec![in alloc; Plan::Choice { tags: 0, of }]?);
