@@ -1,4 +1,4 @@
-//! The elements of lists, texts and variants, as they stand in the pages of a file.
+//! The elements of lists, texts, variants and optionals, as they stand in the pages of a file.
 
 use super::{file_of, write_of};
 use std::test::*;
@@ -18,14 +18,21 @@ const EITHER: [&[u8]; 4] = [
     b"ab",
 ];
 
+/// No value, 7, and no value: the ends are 0, 1 and 1.
+const OPTIONAL: [&[u8]; 2] = [
+    b"\0\0\0\0\0\0\0\0\x01\0\0\0\0\0\0\0\x01\0\0\0\0\0\0\0",
+    b"\x07\0",
+];
+
 /// A schema, an input, and the pages of its one cluster.
-const PAGES: [(&[u8], &[u8], &[&[u8]]); 2] = [
+const PAGES: [(&[u8], &[u8], &[&[u8]]); 3] = [
     (b"w vec<string>", b"[[\"\",\"\"]]\n[[]]\n", &TEXTS),
     (
         b"v var<u8,string>",
         b"[null]\n[[2,\"a\"]]\n[[1,7]]\n[[2,\"b\"]]\n",
         &EITHER,
     ),
+    (b"o opt<u16>", b"[null]\n[7]\n[null]\n", &OPTIONAL),
 ];
 
 /// The length of a blob, which is the first number of its key.

@@ -20,7 +20,7 @@ fn refuses_schema<R: Threads + Wait + Sync>(
 }
 
 /// A schema text, and what is said of it.
-const FAULTY_SCHEMAS: [(&[u8], &[u8]); 9] = [
+const FAULTY_SCHEMAS: [(&[u8], &[u8]); 12] = [
     (b"", b"ntuple: text: schema line 0: Empty\n"),
     (b"\n \n", b"ntuple: text: schema line 0: Empty\n"),
     (b"x", b"ntuple: text: schema line 1: BadName\n"),
@@ -33,6 +33,12 @@ const FAULTY_SCHEMAS: [(&[u8], &[u8]); 9] = [
     (b"x u65", b"ntuple: text: schema line 1: BadType\n"),
     (
         b"v var<rec{a:u8}>",
+        b"ntuple: text: schema line 1: BadType\n",
+    ),
+    (b"o opt<opt<u8>>", b"ntuple: text: schema line 1: BadType\n"),
+    (b"o opt<var<u8>>", b"ntuple: text: schema line 1: BadType\n"),
+    (
+        b"o opt<rec{a:u8}>",
         b"ntuple: text: schema line 1: BadType\n",
     ),
     (

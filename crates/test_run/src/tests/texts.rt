@@ -34,7 +34,7 @@ fn lines_are_read_as_json(rt: HostRuntime) -> Result<(), Fail> {
 }
 
 /// A schema text, inputs, and what is said of them.
-const REFUSED: [(&[u8], &[&[u8]], &[u8]); 17] = [
+const REFUSED: [(&[u8], &[&[u8]], &[u8]); 19] = [
     (
         b"x u64",
         &[b"[1.0]"],
@@ -96,6 +96,17 @@ const REFUSED: [(&[u8], &[&[u8]], &[u8]); 17] = [
         &[b"[null]\n[[3,1]]"],
         b"ntuple: text: input 0 line 2: Misfit\n",
     ),
+    // an optional is no list, and its value is one of its type
+    (
+        b"o opt<u8>",
+        &[b"[null]\n[[7]]"],
+        b"ntuple: text: input 0 line 2: Misfit\n",
+    ),
+    (
+        b"o opt<u8>",
+        &[b"[7]\n[256]"],
+        b"ntuple: text: input 0 line 2: Misfit\n",
+    ),
     (
         b"x u8",
         &[b"[1]", b"[2]\n[300]"],
@@ -134,7 +145,7 @@ fn other_lines_are_refused(rt: HostRuntime) -> Result<(), Fail> {
 
 /// A schema text, lines that go straight to the columns, and others of the same entries: each is refused there, early or at its
 /// end, or has blanks.
-const WAYS: [(&[u8], &[u8], &[u8]); 4] = [
+const WAYS: [(&[u8], &[u8], &[u8]); 5] = [
     (
         b"run u32\nparticles vec<rec{pt:u32,charge:i8}>\ntrigger string\nhit vec<var<u8,tuple<u8,string>>>\n",
         b"[1,[[10,-1],[20,1]],\"mu\",[null,[1,3],[2,[4,\"y\"]]]]\n[2,[],\"\",[]]\n[3,[[30,1]],\"e\",[[2,[0,\"z\"]]]]\n",
@@ -149,6 +160,11 @@ const WAYS: [(&[u8], &[u8], &[u8]); 4] = [
         b"x vec<vec<u8>>\ny u8\n",
         b"[[[],[1,2]],3]\n[[],4]\n",
         b"[[[], [1,\t2]], 3] \r\n[[ ],4]",
+    ),
+    (
+        b"o opt<vec<u8>>\nt opt<string>\n",
+        b"[null,\"a\"]\n[[1,2],null]\n[[],\"\"]\n",
+        b"[ null,\"\\u0061\"]\n[[1,2] ,null]\n[[ ],\"\" ]\n",
     ),
     (
         b"v var<u8,string>\nt string\n",

@@ -10,7 +10,7 @@ const TWO: &[u8] = b"[1]\n[18446744073709551615]\n";
 
 /// The options, the schema and the inputs of a run of `write`; the order that it prints, how long its file is, and what `entries`
 /// and `schema` print of that.
-const WRITTEN: [(&[&str], &[u8], &[&[u8]], &[u8], usize, &[u8], &[u8]); 6] = [
+const WRITTEN: [(&[&str], &[u8], &[&[u8]], &[u8], usize, &[u8], &[u8]); 7] = [
     (
         &[],
         b"x u64\n",
@@ -55,6 +55,15 @@ const WRITTEN: [(&[&str], &[u8], &[&[u8]], &[u8], usize, &[u8], &[u8]); 6] = [
         1129,
         b"[7]\n",
         b"[0,0,\"x\",\"std::uint64_t\",0,[10],true]\n",
+    ),
+    (
+        &[],
+        b"o opt<u16>",
+        &[b"[null]\n[7]\n[null]\n"],
+        b"order 0\n",
+        1285,
+        b"[null]\n[7]\n[null]\n",
+        b"[0,0,\"o\",\"std::optional<std::uint16_t>\",1,[27],true]\n[1,0,\"_0\",\"std::uint16_t\",0,[18],true]\n",
     ),
     (
         &["--max-file", "1137", "--max-range=1024", "--group", "1"],
@@ -102,7 +111,7 @@ fn plain_files_are_as_laid_out_by_hand(rt: HostRuntime) -> Result<(), Fail> {
 }
 
 /// A schema text, and the lines of events that are printed as they were read.
-const SHAPES: [(&[u8], &[u8]); 7] = [
+const SHAPES: [(&[u8], &[u8]); 10] = [
     (b"w vec<string>", b"[[\"\",\"\"]]\n[[]]\n"),
     (
         b"v var<u8,string>",
@@ -123,6 +132,15 @@ const SHAPES: [(&[u8], &[u8]); 7] = [
     (
         b"r rec{a:u8,b:vec<i16>}\nt tuple<bool,string>\n",
         b"[[1,[]],[true,\"x\"]]\n[[2,[-1,0,1]],[false,\"\"]]\n",
+    ),
+    (b"o opt<u16>", b"[null]\n[7]\n[null]\n"),
+    (
+        b"o opt<vec<opt<string>>>",
+        b"[null]\n[[]]\n[[null,\"a\",\"\",null]]\n",
+    ),
+    (
+        b"o opt<tuple<u8,opt<i64>>>\np vec<opt<bool>>",
+        b"[[1,null],[]]\n[null,[true,null,false]]\n[[255,-9223372036854775808],[null]]\n",
     ),
     (
         b"run u32\nparticles vec<rec{pt:u32,charge:i8}>\ntrigger string\nhit vec<var<u8,tuple<u8,string>>>\n",

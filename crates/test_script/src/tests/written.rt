@@ -40,7 +40,7 @@ fn a_file_of_late_fields_is_as_laid_out(rt: HostRuntime) -> Result<(), Fail> {
 }
 
 /// The most entries of a cluster, schema text, script, and the line of its numbers with the lines of its entries.
-const ROWS: [(u32, &[u8], &[u8], &[u8]); 7] = [
+const ROWS: [(u32, &[u8], &[u8], &[u8]); 9] = [
     (10000, b"x u8", b"", b"clusters 0 entries 0\n"),
     (10000, b"x u8", b"+y bool", b"clusters 0 entries 0\n"),
     (
@@ -69,6 +69,19 @@ const ROWS: [(u32, &[u8], &[u8], &[u8]); 7] = [
         b"x u8",
         b"[1]\n[2]\n[3]\n+ y u8\n[4,5]\n[6,7]\n+ z u8\n[8,9,10]",
         b"clusters 4 entries 6\n[1,0,0]\n[2,0,0]\n[3,0,0]\n[4,5,0]\n[6,7,0]\n[8,9,10]\n",
+    ),
+    // a late optional
+    (
+        10000,
+        b"x u8",
+        b"[1]\n+ o opt<string>\n[2,\"a\"]",
+        b"clusters 2 entries 2\n[1,null]\n[2,\"a\"]\n",
+    ),
+    (
+        1,
+        b"o opt<vec<opt<i8>>>",
+        b"[null]\n[[]]\n+ p opt<tuple<bool,opt<char>>>\n[[null,-1],[true,null]]\n[null,[false,7]]",
+        b"clusters 4 entries 4\n[null,null]\n[[],null]\n[[null,-1],[true,null]]\n[null,[false,7]]\n",
     ),
     // zeros of each kind
     (

@@ -122,7 +122,7 @@ fn most_levels(rt: HostRuntime) -> Result<(), Fail> {
 
 #[test]
 fn described_shapes(rt: HostRuntime) -> Result<(), Fail> {
-    let text = b"n i16\nd tuple<vec<byte>,string>\nc var<bool,tuple<char>>";
+    let text = b"n i16\nd tuple<vec<byte>,string>\nc var<bool,tuple<char>>\no opt<u16>";
     let schema = described(rt.alloc(), text, false)?;
     assert!(rt;
         matches!(
@@ -145,6 +145,18 @@ fn described_shapes(rt: HostRuntime) -> Result<(), Fail> {
         return Err("a choice".into());
     };
     assert!(rt; matches!(alternatives.as_slice(), [Shape::Bool, Shape::Rec(_)]));
-    assert!(rt; schema.shape(3).is_none() && schema.shape(100).is_none());
+    let Some(Shape::Maybe(inner)) = schema.shape(3) else {
+        return Err("an optional".into());
+    };
+    assert!(rt;
+        matches!(
+            &**inner,
+            Shape::Int {
+                bits: 16,
+                signed: false
+            }
+        )
+    );
+    assert!(rt; schema.shape(4).is_none() && schema.shape(100).is_none());
     Ok(())
 }
