@@ -7,4 +7,6 @@ mod bends;
 #[cfg(test)]
 mod files;
 #[cfg(test)]
+mod optionals;
+#[cfg(test)]
 mod tests;

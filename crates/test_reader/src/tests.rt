@@ -2,6 +2,7 @@
 
 use crate::bends::{BENT, BOTH, FIRST, Fault, SMALL};
 use crate::files::{two_clusters, two_entries};
+use crate::optionals::{OPTIONAL_LINES, TWO_VALUES, optionals};
 use nt_event::write_line;
 use nt_lists::Bytes;
 use nt_memory::{Calls, MemFile};
@@ -96,6 +97,25 @@ fn each_fault_has_its_place_in_the_file(rt: HostRuntime) -> Result<(), Fail> {
     let alloc = rt.alloc();
     for (edits, fault) in SMALL {
         let mut file = two_entries(alloc)?;
+        bend(&mut file, edits);
+        let mut lines = Vec::new(alloc);
+        assert_eq!(rt; read_lines(alloc, &file, &[], &mut lines)?, Some(fault));
+        assert_eq!(rt; lines.as_slice(), b"".as_slice());
+    }
+    Ok(())
+}
+
+#[test]
+fn an_optional_has_one_value_at_most(rt: HostRuntime) -> Result<(), Fail> {
+    let alloc = rt.alloc();
+    let mut lines = Vec::new(alloc);
+    assert_eq!(rt;
+        read_lines(alloc, &optionals(alloc)?, &[], &mut lines)?,
+        None
+    );
+    assert_eq!(rt; lines.as_slice(), OPTIONAL_LINES);
+    for (edits, fault) in TWO_VALUES {
+        let mut file = optionals(alloc)?;
         bend(&mut file, edits);
         let mut lines = Vec::new(alloc);
         assert_eq!(rt; read_lines(alloc, &file, &[], &mut lines)?, Some(fault));

@@ -6,7 +6,7 @@ use nt_types::ColumnType;
 use std::alloc::{AllocError, Global};
 use std::test::*;
 
-/// A list of texts, a number or a text, a truth value, and a record of two numbers.
+/// A list of texts, a number or a text, a truth value, a record of two numbers, an optional number and an optional text.
 fn plans(alloc: Global) -> Result<Plans, AllocError> {
     let names = Box::new(alloc, Plan::Text { ends: 1, bytes: 2 })?;
     let number = Plan::Number {
@@ -26,6 +26,15 @@ fn plans(alloc: Global) -> Result<Plans, AllocError> {
         signed: false,
     };
     let both = vec![in alloc; low, high]?;
+    let some = Plan::Number {
+        column: 11,
+        bits: 8,
+        signed: true,
+    };
+    let word = Plan::Text {
+        ends: 13,
+        bytes: 14,
+    };
     Ok(Plans::from_vec(vec![in alloc;
         Plan::List { ends: 0, of: names },
         Plan::Choice {
@@ -34,11 +43,19 @@ fn plans(alloc: Global) -> Result<Plans, AllocError> {
         },
         Plan::Bool { column: 7 },
         Plan::Record(Plans::from_vec(both)),
+        Plan::Maybe {
+            ends: 10,
+            of: Box::new(alloc, some)?
+        },
+        Plan::Maybe {
+            ends: 12,
+            of: Box::new(alloc, word)?
+        },
     ]?))
 }
 
 /// The columns of two entries.
-const COLUMNS: [(ColumnType, Elements); 10] = [
+const COLUMNS: [(ColumnType, Elements); 15] = [
     (ColumnType::SplitIndex64, &[(2, 0), (2, 0)]),
     (ColumnType::Index32, &[(1, 0), (1, 0)]),
     (ColumnType::Char, &[(97, 0)]),
@@ -49,10 +66,15 @@ const COLUMNS: [(ColumnType, Elements); 10] = [
     (ColumnType::Bit, &[(1, 0), (0, 0)]),
     (ColumnType::SplitInt16, &[(0xffff, 0), (1, 0)]),
     (ColumnType::UInt32, &[(1, 0), (2, 0)]),
+    (ColumnType::SplitIndex64, &[(1, 0), (1, 0)]),
+    (ColumnType::Int8, &[(254, 0)]),
+    (ColumnType::Index32, &[(0, 0), (1, 0)]),
+    (ColumnType::Index64, &[(2, 0)]),
+    (ColumnType::Char, &[(111, 0), (107, 0)]),
 ];
 
 /// A column, other elements for it, and what is wrong first then.
-const FAULTS: [(usize, Elements, Option<(u32, u64)>); 23] = [
+const FAULTS: [(usize, Elements, Option<(u32, u64)>); 35] = [
     (2, &[(98, 0)], None),
     (0, &[(2, 0)], Some((0, 1))),
     (0, &[(1, 0), (2, 0), (2, 0)], Some((0, 3))),
@@ -76,6 +98,19 @@ const FAULTS: [(usize, Elements, Option<(u32, u64)>); 23] = [
     (7, &[(1, 0)], Some((7, 1))),
     (8, &[(1, 0), (1, 0), (1, 0)], Some((8, 3))),
     (9, &[], Some((9, 0))),
+    // ends of optionals go up by one at most, whatever their width
+    (10, &[(0, 0), (1, 0)], None),
+    (10, &[(0, 0), (2, 0)], Some((10, 1))),
+    (10, &[(2, 0), (2, 0)], Some((10, 0))),
+    (10, &[(1, 0), (0, 0)], Some((10, 1))),
+    (10, &[(1, 0), (2, 0)], Some((11, 1))),
+    (10, &[(1, 0), (1, 0), (1, 0)], Some((10, 3))),
+    (10, &[(u64::MAX, 0), (0, 0)], Some((10, 0))),
+    (12, &[(0, 0), (2, 0)], Some((12, 1))),
+    (12, &[(2, 0), (2, 0)], Some((12, 0))),
+    (12, &[(1, 0), (0, 0)], Some((12, 1))),
+    (12, &[(0, 0), (0, 0)], Some((13, 1))),
+    (13, &[], Some((13, 0))),
 ];
 
 /// Whether each of these changes makes its fault.
@@ -108,7 +143,8 @@ fn the_lower_column_of_two(alloc: Global) -> Result<bool, AllocError> {
 fn entries_without_a_fault(alloc: Global) -> Result<bool, AllocError> {
     let set = set_of(alloc, &COLUMNS)?;
     let lines = lines_of(alloc, &set, &plans(alloc)?, 2)?;
-    let want = b"[[\"a\",\"\"],[2,\"b\"],true,[-1,1]]\n[[],[1,7],false,[1,2]]\n";
+    let want =
+        b"[[\"a\",\"\"],[2,\"b\"],true,[-1,1],-2,null]\n[[],[1,7],false,[1,2],null,\"ok\"]\n";
     Ok(lines.as_slice() == want.as_slice())
 }
 

@@ -25,6 +25,20 @@ fn lists_of_zeros_are_empty(alloc: Global) -> Result<bool, AllocError> {
     Ok(is_shown && fault_of(&set, &lists, 3) == Some((0, 2)))
 }
 
+/// Whether optionals of zeros are nothing.
+fn optionals_of_zeros_are_empty(alloc: Global) -> Result<bool, AllocError> {
+    let item = Plan::Bool { column: 1 };
+    let optional = Plan::Maybe {
+        ends: 0,
+        of: Box::new(alloc, item)?,
+    };
+    let optionals = Plans::from_vec(vec![in alloc; optional]?);
+    let mut set = ColumnSet::new(alloc, &[ColumnType::Index64, ColumnType::Bit])?;
+    set.zeros(0, 2);
+    let lines = lines_of(alloc, &set, &optionals, 2)?;
+    Ok(lines.as_slice() == b"[null]\n[null]\n".as_slice())
+}
+
 /// Whether choices of zeros are of no alternative.
 fn choices_of_zeros_are_empty(alloc: Global) -> Result<bool, AllocError> {
     let text = Plan::Text { ends: 1, bytes: 2 };
@@ -41,5 +55,6 @@ fn choices_of_zeros_are_empty(alloc: Global) -> Result<bool, AllocError> {
 fn zeros(rt: HostRuntime) {
     let alloc = rt.alloc();
     assert!(rt; lists_of_zeros_are_empty(alloc) == Ok(true));
+    assert!(rt; optionals_of_zeros_are_empty(alloc) == Ok(true));
     assert!(rt; choices_of_zeros_are_empty(alloc) == Ok(true));
 }

@@ -121,7 +121,7 @@ fn nested(alloc: Global, lists: u32) -> Result<bool, AllocError> {
 
 /// Whether shapes are those of the text that described them.
 fn described_shapes(alloc: Global) -> Result<bool, AllocError> {
-    let text = b"n i16\nd tuple<vec<byte>,string>\nc var<bool,tuple<char>>";
+    let text = b"n i16\nd tuple<vec<byte>,string>\nc var<bool,tuple<char>>\no opt<u16>";
     let schema = described(alloc, text, false)?;
     let is_number = matches!(
         schema.shape(0),
@@ -142,8 +142,18 @@ fn described_shapes(alloc: Global) -> Result<bool, AllocError> {
         return Ok(false);
     };
     let is_choice = matches!(alternatives.as_slice(), [Shape::Bool, Shape::Rec(_)]);
-    let is_last = schema.shape(3).is_none() && schema.shape(100).is_none();
-    Ok(is_number && is_list && is_text && is_choice && is_last)
+    let Some(Shape::Maybe(inner)) = schema.shape(3) else {
+        return Ok(false);
+    };
+    let is_optional = matches!(
+        &**inner,
+        Shape::Int {
+            bits: 16,
+            signed: false
+        }
+    );
+    let is_last = schema.shape(4).is_none() && schema.shape(100).is_none();
+    Ok(is_number && is_list && is_text && is_choice && is_optional && is_last)
 }
 
 #[test]
