@@ -19,7 +19,8 @@ use Rattle.nt_commit.specs.declared.error.CommitError.TheVariants.{RangeTooLarge
 use Rattle.nt_commit.specs.Claims.{CommitAdds, limit_in, limit_answered}
 use Rattle.nt_commit.specs.declared.error.CommitError.{CommitError}
 use Rattle.nt_outside.specs.declared.fault.Refused.{Refused}
-use Rattle.nt_commit.specs.Holds.{IsStep, Commits, CommitsInHold, RefusesBehindSeen, OpensPen, SettlesRange, KeepsHistory, Spoils, locked_end, locked_count}
+use Rattle.nt_commit.specs.Holds.{IsStep, Commits, CommitsInHold, RefusesBehindSeen, OpensPen, SettlesRange, KeepsHistory, Spoils}
+use Rattle.nt_commit.specs.Holds.{locked_end, locked_count}
 use Rattle.nt_commit.specs.Locked.{LockedState, history_of_locked}
 
 module _ {D : Type 0} (state : D → DiskState) (v v' w : LockedState D) (same : v ≡ v') where

@@ -124,8 +124,8 @@ module _ {D : Type 0} (state : D → DiskState)
                   history = history;
                   legal = subst (λ (n : ℕ). IsLegal n history) (sym step.begin) step.follows.legal;
                   gains = subst (λ (n : ℕ). GainsSteps n (end_after n (ranges_of history)) history h after.0) (sym step.begin) gains;
-                  front = front_stays stand (state birth.begun).end (end_after (state birth.begun).end (ranges_of history)) history h after.0
-                      gains begins reads;
+                  front = front_stays stand (state birth.begun).end (end_after (state birth.begun).end (ranges_of history)) history h
+                      after.0 gains begins reads;
                 };
                 settled = blobs.states h is;
                 stand = λ known.

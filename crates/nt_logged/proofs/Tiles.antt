@@ -60,7 +60,8 @@ module _ (log : List Step) where
   all_settled before [] is once = tt
   all_settled before (s ∷ steps) is once =
       let here = one_settled before s steps is once in
-      let rest = all_settled (before ++ s ∷ []) steps (subst (λ (l : List Step). IsTail (length (known_of log)) [] l) (moved before s steps) is)
+      let rest = all_settled (before ++ s ∷ []) steps
+      (subst (λ (l : List Step). IsTail (length (known_of log)) [] l) (moved before s steps) is)
       (subst (λ (l : List Step). StandOnceSettled (range_steps l)) (moved before s steps) once) in
       AllByRecursion-append (λ (p : Part). TellsAt (behind (before ++ s ∷ steps)) p.place p.bytes) (settled_by s) (settles_in steps) here
       (subst (λ (l : List Step). AreTold (behind l) (settles_in steps)) (sym (moved before s steps)) rest)
