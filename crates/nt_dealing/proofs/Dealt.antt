@@ -1,32 +1,34 @@
 -- The clusters of a book are the chunks of its contexts, and the disk holds their blobs.
 use Rattle.std.proofs.Common.{◌≡◌, ℕ, List, [], ◌∷◌, ◌++◌, length, map, Option, Some, None, refl, sym, ap, ◌∙◌, subst}
-use Rattle.std.specs.List.{AllZip, flat_map}
+use Rattle.std.specs.List.{AllZip, concat, flat_map}
 use Rattle.std.proofs.lemmas.List.Concat.{concat_is}
 use Rattle.nt_types.specs.TreeData.{TreesData}
 use Rattle.nt_grammar.specs.Table.{Table}
 use Rattle.nt_outside.specs.Held.{Held}
 use Rattle.nt_outside.specs.Reads.{Reads, IsKnown}
 use Rattle.nt_outside.specs.Disk.{DiskState}
+use Rattle.nt_outside.proofs.Known.{known_once}
 use Rattle.nt_turn.specs.Pass.{PassState, Closes}
 use Rattle.nt_machine.specs.declared.entry.Entry.{Entry}
 use Rattle.nt_machine.specs.Deal.{Uses, IsDeal}
 use Rattle.nt_machine.specs.History.{Fate, Settled, Cluster, order_of, ranges_of, IsWritten}
-use Rattle.nt_machine.specs.Legal.{IsLegal}
+use Rattle.nt_machine.specs.Legal.{IsLegal, end_after}
 use Rattle.nt_machine.specs.Untold.{untold}
 use Rattle.nt_machine.proofs.Dealing.{deals}
 use Rattle.nt_machine.proofs.Untelling.{same, same_order}
 use Rattle.nt_book.specs.declared.meta.ClusterMeta.{ClusterMeta}
 use Rattle.nt_book.specs.Books.{BookData}
-use Rattle.nt_logged.specs.Steps.{steps_of_history, told_history, bytes_where_told}
+use Rattle.nt_logged.specs.Logs.{IsLogOf}
+use Rattle.nt_logged.specs.Steps.{told_history, bytes_where_told}
 use Rattle.nt_outside.specs.Log.{Step}
 use Rattle.nt_commit.specs.declared.locked.Birth.{Birth}
-use Rattle.nt_commit.specs.Locked.{IsInStep, birth_of, context_of, history_of_locked, locked_by}
+use Rattle.nt_commit.specs.Locked.{GainsSteps, IsInStep, birth_of, context_of, history_of_locked, locked_by}
 use Rattle.nt_layout.specs.Laid.{IsBlobOfEntries, AreBlobsOf}
 use Rattle.nt_layout.specs.Laid.AreBlobsOf.{none_left, and_blob}
 use Rattle.nt_dealing.specs.Written.{IsChunkBlob, HaveWritten}
 use Rattle.nt_dealing.specs.Dealt.{commit_order, IsDealtOut}
 use Rattle.nt_dealing.proofs.Written.{each_wrote, others_idle}
-use Rattle.nt_dealing.proofs.Filled.{AllTold, front_stays}
+use Rattle.nt_dealing.proofs.Filled.{FrontsStand, front_stays, gained}
 
 module _ (begun : Option Held) (t : Table) (page : ℕ) where
   -- what a range that was written has: its blob, with the bytes of its state
@@ -73,16 +75,17 @@ same_contexts None now history = refl
 same_contexts (Some h) None history = refl
 same_contexts (Some h) (Some h') history = same_order history _
 
--- a file whose ranges are all settled is its front and their bytes
-abbrev pub ReadsSettled : Type 0
-ReadsSettled = (log : List Step) (front image : List ℕ) (history : List (Entry ClusterMeta)) (parts : List (List ℕ)) → IsKnown log front
+-- a log whose ranges are all settled is known: its front, and their bytes
+abbrev pub SettledKnown : Type 0
+SettledKnown = (log steps : List Step) (front : List ℕ) (history : List (Entry ClusterMeta)) (parts : List (List ℕ)) → IsKnown log front
     → IsLegal (length front) history
+    → IsLogOf (length front) (end_after (length front) (ranges_of history)) history [] [] steps
     → AllZip (λ (part : List ℕ) (c : Cluster ClusterMeta). c.state ≡ Settled (Some part)) parts (ranges_of history)
-    → Reads (log ++ steps_of_history history) image → image ≡ front ++ flat_map (λ (part : List ℕ). part) parts
+    → IsKnown (log ++ steps) (front ++ flat_map (λ (part : List ℕ). part) parts)
 
 module _ {D : Type 0} (state : D → DiskState)
     (told : (d : D) (h : Held) → (state d).held ≡ Some h → ((state d).end ≡ length h.image) × Reads h.log h.image)
-    (all_told : AllTold) (all_read : ReadsSettled) where
+    (stand : FrontsStand) (known_all : SettledKnown) where
   pub dealt_out : (birth : Birth D) (disk : D) (book : BookData) (first : PassState (Entry ClusterMeta) (Birth D)) (t : Table) (page : ℕ)
       (chunks : List (List (List TreesData)))
       → Closes (history_of_locked state) birth_of context_of first (locked_by birth disk book)
@@ -109,22 +112,28 @@ module _ {D : Type 0} (state : D → DiskState)
         };
         stand = λ h is.
             let after = step.follows.log h is in
-            let legal : IsLegal (length h.image) history =
-            subst (λ (n : ℕ). IsLegal n history) (told birth.begun h is).0 step.follows.legal in
-            let reads : Reads (h.log ++ steps_of_history history) after.0.image =
-            subst (λ (l : List Step). Reads l after.0.image) after.2 (told disk after.0 after.1).1 in (
+            let begins = (told birth.begun h is).0 in
+            let reads = (told disk after.0 after.1).1 in
+            let gains = gained (state birth.begun).end (state disk).end history h after.0 step.follows.end after.2 in
+            let steps = gains.steps in
+            let bytes : List ℕ = flat_map (λ (part : List ℕ). part) blobs.ranges in (
               after.0,
               after.1,
               record {
                 fills = record {
                   history = history;
                   legal = subst (λ (n : ℕ). IsLegal n history) (sym step.begin) step.follows.legal;
-                  log = after.2;
-                  front = λ known. front_stays all_told h.log h.image after.0.image history legal known reads;
+                  gains = subst (λ (n : ℕ). GainsSteps n (end_after n (ranges_of history)) history h after.0) (sym step.begin) gains;
+                  front = front_stays stand (state birth.begun).end (end_after (state birth.begun).end (ranges_of history)) history h
+                      after.0 gains begins reads;
                 };
                 settled = blobs.states h is;
                 stand = λ known.
-                    all_read h.log h.image after.0.image history blobs.ranges known legal (blobs.states h is) reads
+                    known_once (h.log ++ steps) (h.image ++ bytes) after.0.image
+                    (known_all h.log steps h.image history blobs.ranges known
+                    (subst (λ (n : ℕ). IsLegal n history) begins step.follows.legal)
+                    (subst (λ (n : ℕ). IsLogOf n (end_after n (ranges_of history)) history [] [] steps) begins gains.is_log)
+                    (blobs.states h is)) (subst (λ (l : List Step). Reads l after.0.image) gains.log reads)
                     ∙ ap (λ (l : List ℕ). h.image ++ l) (sym (concat_is blobs.ranges));
               },
             );

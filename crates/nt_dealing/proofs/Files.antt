@@ -3,7 +3,7 @@ use Rattle.std.proofs.Common.{◌≡◌, ℕ, zero, suc, ◌+◌, ◌-◌, ◌*�
 use Rattle.std.proofs.Common.{drop, refl, sym, ap, ◌∙◌, sum_by, arith}
 use Rattle.std.specs.Prelude.{slice_index_or, nat_lt}
 use Rattle.std.specs.Int.{w64, to_le_bytes, div_ceil}
-use Rattle.std.specs.List.{range_with_len, concat}
+use Rattle.std.specs.List.{range_with_len}
 use borrow.Author.Tests.{ltb-true, ltb-false}
 use Rattle.std.proofs.lemmas.List.{length-append, length-map, length-drop, drop_all, take_min}
 use Rattle.std.proofs.lemmas.List.Sums.{sum_by-cons}
@@ -13,28 +13,42 @@ use Rattle.nt_lists.specs.Chunks.{chunk, chunks}
 use Rattle.nt_lists.proofs.Groups.{chunks-joined}
 use Rattle.nt_format.specs.Frames.{record_frame, list_frame}
 use Rattle.nt_grammar.specs.Table.{Table}
-use Rattle.nt_machine.specs.History.{Cluster}
+use Rattle.nt_machine.specs.History.{Cluster, ranges_of}
+use Rattle.nt_machine.specs.Legal.{end_after}
 use Rattle.nt_book.specs.declared.meta.ClusterMeta.{ClusterMeta}
-use Rattle.nt_book.specs.Books.{BookData, book_clusters, book_end, no_cluster}
+use Rattle.nt_book.specs.Books.{BookData, book_clusters, no_cluster}
 use Rattle.nt_book.specs.Kept.{IsBookKept}
 use Rattle.nt_file_meaning.specs.Envelopes.{footer_kind}
 use Rattle.nt_pagelists.specs.declared.group.Group.{Group}
 use Rattle.nt_pagelists.specs.FooterWriting.{group_text, group_texts, extension_text, footer_text}
-use Rattle.nt_layout.specs.Blobs.{blob, blob_len}
+use Rattle.nt_layout.specs.Blobs.{blob_len}
 use Rattle.nt_layout.specs.Headers.{header_sum, clusters_place}
-use Rattle.nt_layout.specs.Groups.{ClusterSpan, cluster_span, spans_of, list_object, list_len, lists_from, groups_from}
-use Rattle.nt_layout.specs.Finished.{spans, groups, footer_object, footer_place, anchor_start, file_len}
+use Rattle.nt_layout.specs.Groups.{ClusterSpan, ListPlace, cluster_span, spans_of, list_len, places_beside, places_behind, list_group}
+use Rattle.nt_layout.specs.Finished.{spans, list_places, groups, footer_object, footer_place, anchor_start, file_len}
 use Rattle.nt_layout.specs.Laid.{IsBookOf}
 use Rattle.nt_dealing.specs.Lengths.{record_len, listed_cluster_len, page_list_len, footer_len, group_count, page_lists_len, whole_len}
 use Rattle.nt_dealing.proofs.Lists.{sum_by-joined, sum_by-same, sum_by-each, sum_by-plus, sum_by-mapped}
-use Rattle.nt_dealing.proofs.Lengths.{length-record, length-list, length-envelope, length-blob, length-list_object, length-no_list}
+use Rattle.nt_dealing.proofs.Lengths.{length-record, length-list, length-envelope, length-list_object, length-no_list}
 
 length-group : (g : Group) → length (group_text g) ≡ record_len 40
 length-group g = refl
 
-length-groups_from : (sum : ℕ) (book : BookData) (place : ℕ) (ss : List ClusterSpan) → length (groups_from sum book place ss) ≡ length ss
-length-groups_from sum book place [] = refl
-length-groups_from sum book place (s ∷ ss) = ap suc (length-groups_from sum book (place + list_len sum book s) ss)
+-- the clusters that page lists list, wherever these stand
+spans-behind : (sum : ℕ) (book : BookData) (place : ℕ) (ss : List ClusterSpan)
+    → map (λ (l : ListPlace). l.span) (places_behind sum book place ss) ≡ ss
+spans-behind sum book place [] = refl
+spans-behind sum book place (s ∷ ss) =
+    ap (λ (l : List ClusterSpan). s ∷ l) (spans-behind sum book (place + list_len sum book s) ss)
+
+spans-beside : (book : BookData) (ss : List ClusterSpan) → map (λ (l : ListPlace). l.span) (places_beside book ss) ≡ ss
+spans-beside book [] = refl
+spans-beside book (s ∷ ss) = ap (λ (l : List ClusterSpan). s ∷ l) (spans-beside book ss)
+
+spans-placed : (staged : Bool) (t : Table) (book : BookData) (most : ℕ)
+    → map (λ (l : ListPlace). l.span) (list_places staged t book most) ≡ spans book most
+spans-placed true t book most =
+    spans-behind (header_sum t) book (end_after book.begin (ranges_of book.history)) (spans book most)
+spans-placed false t book most = spans-beside book (spans book most)
 
 length-group_texts : (gs : List Group) → length (group_texts gs) ≡ record_len 40 * length gs
 length-group_texts gs = length-flat_map group_text gs
@@ -44,16 +58,20 @@ length-spans_of : (most n : ℕ) → length (spans_of most n) ≡ div_ceil n mos
 length-spans_of most n = length-map-range_with_len (cluster_span most n) 0 (div_ceil n most)
 
 -- the footer
-pub length-footer_object : (t : Table) (book : BookData) (most : ℕ) → blob_len (length (footer_object t book most))
+pub length-footer_object : (staged : Bool) (t : Table) (book : BookData) (most : ℕ)
+    → blob_len (length (footer_object t book (list_places staged t book most)))
     ≡ footer_len t (group_count most (length (book_clusters book)))
 unfolding footer_object footer_text
-length-footer_object t book most =
-    let gs : List Group = groups t book most in
+length-footer_object staged t book most =
+    let ls = list_places staged t book most in
+    let gs : List Group = groups t book ls in
     let sum = header_sum t in
     let extension = record_frame (extension_text t) in
     let listed = list_frame (length gs) (group_texts gs) in
     let count : length gs ≡ div_ceil (length (book_clusters book)) most =
-    length-groups_from sum book (book_end book) (spans book most) ∙ length-spans_of most (length (book_clusters book)) in
+    length-map ls (list_group sum book)
+    ∙ (sym (length-map ls (λ (l : ListPlace). l.span))
+    ∙ (ap (λ (l : List ClusterSpan). length l) (spans-placed staged t book most) ∙ length-spans_of most (length (book_clusters book)))) in
     let texts : length (group_texts gs) ≡ record_len 40 * div_ceil (length (book_clusters book)) most =
     length-group_texts gs ∙ ap (λ (n : ℕ). record_len 40 * n) count in
     omega (
@@ -66,17 +84,6 @@ length-footer_object t book most =
       length-list (length gs) (group_texts gs),
       texts,
     )
-
--- page lists, one behind the other
-length-lists_from : (sum : ℕ) (book : BookData) (place : ℕ) (ss : List ClusterSpan) → length (concat (lists_from sum book place ss))
-    ≡ sum_by (list_len sum book) ss
-length-lists_from sum book place [] = refl
-length-lists_from sum book place (s ∷ ss) =
-    let rest = concat (lists_from sum book (place + list_len sum book s) ss) in
-    length-append (blob place (list_object sum book s)) rest
-    ∙ (ap (λ (n : ℕ). n + length rest) (length-blob place (list_object sum book s))
-    ∙ (ap (λ (n : ℕ). list_len sum book s + n) (length-lists_from sum book (place + list_len sum book s) ss)
-    ∙ sym (sum_by-cons (list_len sum book) s ss)))
 
 take-nil : {A : Type 0} (n : ℕ) → ◌≡◌ {A = List A} (take n []) []
 take-nil zero = refl
@@ -115,9 +122,8 @@ module _ (sum : ℕ) (book : BookData) (most : ℕ) where
           ∙ ap (λ (l : List (Cluster ClusterMeta)). page_list_len (metas l)) same
 
   -- all groups
-  length-all_lists : (place : ℕ) → 0 < most → length (concat (lists_from sum book place (spans book most)))
-      ≡ page_lists_len most (metas (book_clusters book))
-  length-all_lists place some =
+  length-all_lists : 0 < most → sum_by (list_len sum book) (spans book most) ≡ page_lists_len most (metas (book_clusters book))
+  length-all_lists some =
       let cs = book_clusters book in
       let places = range_with_len 0 (div_ceil (length cs) most) in
       let f : List (Cluster ClusterMeta) → ℕ = λ (c : List (Cluster ClusterMeta)).
@@ -135,12 +141,11 @@ module _ (sum : ℕ) (book : BookData) (most : ℕ) where
       ∙ sym (sum_by-mapped listed_cluster_len (λ (d : Cluster ClusterMeta). d.meta) cs))) in
       let groups_are : div_ceil (length cs) most ≡ div_ceil (length (metas cs)) most =
       ap (λ (n : ℕ). div_ceil n most) (sym (length-map cs (λ (d : Cluster ClusterMeta). d.meta))) in
-      length-lists_from sum book place (spans book most)
-      ∙ (each
+      each
       ∙ (sum_by-plus (page_list_len []) (λ (i : ℕ). f (chunk most cs i)) places
       ∙ (ap (λ (n : ℕ). page_list_len [] * n + sum_by (λ (i : ℕ). f (chunk most cs i)) places)
       (length-range_with_len 0 (div_ceil (length cs) most) ∙ groups_are)
-      ∙ ap (λ (n : ℕ). page_list_len [] * div_ceil (length (metas cs)) most + n) joined)))
+      ∙ ap (λ (n : ℕ). page_list_len [] * div_ceil (length (metas cs)) most + n) joined))
 
 -- the ranges are as long as what is kept of them says
 pub ranges-told : (cs : List (Cluster ClusterMeta)) → ((k : ℕ) → k < length cs → (slice_index_or cs k no_cluster).len
@@ -157,23 +162,23 @@ ranges-told (c ∷ cs) h =
     )
 
 -- the whole file, whose ranges begin behind the header
-pub length-file_of : (t : Table) (book : BookData) (most : ℕ) → IsBookKept book → book.begin ≡ clusters_place t → 0 < most
-    → file_len t book most ≡ whole_len t most (metas (book_clusters book))
+pub length-file_of : (staged : Bool) (t : Table) (book : BookData) (most : ℕ) → IsBookKept book → book.begin ≡ clusters_place t → 0 < most
+    → file_len t book (list_places staged t book most) ≡ whole_len t most (metas (book_clusters book))
 unfolding anchor_start footer_place
-length-file_of t book most kept begin some =
+length-file_of staged t book most kept begin some =
     let cs = book_clusters book in
+    let ls = list_places staged t book most in
+    let sum = header_sum t in
     let counts : length (metas cs) ≡ length cs = length-map cs (λ (d : Cluster ClusterMeta). d.meta) in
-    let footer : blob_len (length (footer_object t book most)) ≡ footer_len t (group_count most (length (metas cs))) =
-    length-footer_object t book most ∙ ap (λ (n : ℕ). footer_len t (group_count most n)) (sym counts) in
-    omega (
-      arith,
-      begin,
-      ranges-told cs (λ k less. (kept.clusters k less).len),
-      length-all_lists (header_sum t) book most (book_end book) some,
-      footer,
-    )
+    let footer : blob_len (length (footer_object t book ls)) ≡ footer_len t (group_count most (length (metas cs))) =
+    length-footer_object staged t book most ∙ ap (λ (n : ℕ). footer_len t (group_count most n)) (sym counts) in
+    let lists : sum_by (λ (l : ListPlace). list_len sum book l.span) ls ≡ page_lists_len most (metas cs) =
+    sym (sum_by-mapped (list_len sum book) (λ (l : ListPlace). l.span) ls)
+    ∙ (ap (λ (l : List ClusterSpan). sum_by (list_len sum book) l) (spans-placed staged t book most)
+    ∙ length-all_lists sum book most some) in
+    omega (arith, begin, ranges-told cs (λ k less. (kept.clusters k less).len), lists, footer)
 
 -- the same of a book without deferred columns
-pub length-file : (t : Table) (book : BookData) (most : ℕ) → IsBookOf t book → 0 < most
-    → file_len t book most ≡ whole_len t most (metas (book_clusters book))
-length-file t book most is some = length-file_of t book most is.kept is.begin some
+pub length-file : (staged : Bool) (t : Table) (book : BookData) (most : ℕ) → IsBookOf t book → 0 < most
+    → file_len t book (list_places staged t book most) ≡ whole_len t most (metas (book_clusters book))
+length-file staged t book most is some = length-file_of staged t book most is.kept is.begin some

@@ -8,10 +8,10 @@ use Rattle.nt_outside.specs.Reads.{IsKnown}
 use Rattle.nt_machine.specs.Deal.{Uses, IsDeal}
 use Rattle.nt_machine.specs.declared.entry.Entry.{Entry}
 use Rattle.nt_machine.specs.History.{Cluster, Settled, order_of, ranges_of}
-use Rattle.nt_machine.specs.Legal.{IsLegal}
-use Rattle.nt_logged.specs.Steps.{steps_of_history}
+use Rattle.nt_machine.specs.Legal.{IsLegal, end_after}
 use Rattle.nt_book.specs.declared.meta.ClusterMeta.{ClusterMeta}
 use Rattle.nt_book.specs.Books.{BookData, book_clusters}
+use Rattle.nt_commit.specs.Locked.{GainsSteps}
 use Rattle.nt_layout.specs.Laid.{AreBlobsOf}
 
 -- the commit order of a book: the context of each cluster
@@ -26,12 +26,12 @@ pub record AreChunksDealt (t : Table) (page : ℕ) (chunks : List (List (List Tr
   pub is_deal : IsDeal chunks (commit_order book) dealt
   pub blobs_are : AreBlobsOf t page dealt ranges (book_clusters book)
 
--- behind what a disk held at the beginning, where the first range begins there, come the steps of a history of ranges, and what stood
--- there stays where each byte of it was told
+-- behind what a disk held at the beginning, where the first range begins there, come the steps of a history of ranges, one behind the
+-- other, and what stood there stays where each byte of it was told
 pub record FillsBehind (begin : ℕ) (old new : Held) : Type 0 where
   pub history : List (Entry ClusterMeta)
   pub legal : IsLegal begin history
-  pub log : new.log ≡ old.log ++ steps_of_history history
+  pub gains : GainsSteps begin (end_after begin (ranges_of history)) history old new
   pub front : IsKnown old.log old.image → take (length old.image) new.image ≡ old.image
 
 -- each range was settled with its bytes, and just these stand behind what stood there

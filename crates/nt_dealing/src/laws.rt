@@ -14,7 +14,7 @@ ghost use Rattle.nt_dealing.specs.Dealt.{FillsBehind, IsDealtOut};
 ghost use Rattle.nt_outside.specs.Held.{BecomesSome};
 
 use nt_book::ClusterMeta;
-use nt_logged::{ranges_are_told, settled_ranges_are_read};
+use nt_logged::{fronts_stand, settled_ranges_are_known};
 use nt_outside::Disk;
 
 /// However contexts interleave: where each wrote its chunks, the clusters of the book that their
@@ -29,8 +29,8 @@ pub fn commits_are_dealt<D: Disk>()
         → HaveWritten (D.state birth.begun).held t page chunks first.number first.own first.kept
         → IsDealtOut t page chunks book (D.state birth.begun).held (D.state disk).held }
 {
-    ranges_are_told::<ClusterMeta>();
-    settled_ranges_are_read::<ClusterMeta>();
+    fronts_stand();
+    settled_ranges_are_known::<ClusterMeta>();
 }
 
 /// Whatever contexts did, the disk has the steps of one legal history behind those that it had when
@@ -41,5 +41,5 @@ pub fn histories_fill<D: Disk>()
         → BecomesSome (D.state birth.begun).held (D.state disk).held
         (FillsBehind (D.state birth.begun).end) }
 {
-    ranges_are_told::<ClusterMeta>();
+    fronts_stand();
 }

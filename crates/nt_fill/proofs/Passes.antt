@@ -5,9 +5,10 @@ use Rattle.std.proofs.lemmas.Bool.{false≢true}
 use Rattle.std.proofs.lemmas.List.{length-append, length-drop}
 use Rattle.std.specs.Prelude.{◌≢◌, Result, Ok, Err, OnOk, is_ok, slice_get}
 use mathlib.Core.List.{IsPrefix}
+use Rattle.nt_lists.proofs.Variants.{some_is}
 use Rattle.nt_turn.specs.Pass.{TurnState, PassState}
 use Rattle.nt_turn.proofs.Prefixes.{prefix_more}
-use Rattle.nt_outside.specs.Range.{ExtState}
+use Rattle.nt_outside.specs.Range.{ExtState, PenState}
 use Rattle.nt_outside.specs.declared.range.Range.{Range}
 use Rattle.nt_outside.specs.Held.{Held, WhereHeld}
 use Rattle.nt_outside.specs.Disk.{DiskState}
@@ -18,6 +19,7 @@ use Rattle.nt_machine.specs.History.{Cluster, ranges_of}
 use Rattle.nt_machine.specs.Legal.{end_after}
 use Rattle.nt_book.specs.declared.meta.ClusterMeta.{ClusterMeta}
 use Rattle.nt_book.specs.Entries.{committed_entry, committed_by, spoiled_entry, faulted_entry}
+use Rattle.nt_book.specs.declared.limits.LimitError.{LimitError}
 use Rattle.nt_book.specs.Limiting.{limit_error}
 use Rattle.nt_pages.specs.declared.image.ClusterImage.{ClusterImage}
 use Rattle.nt_pages.specs.Image.{key_room}
@@ -26,10 +28,10 @@ use Rattle.nt_commit.specs.declared.locked.Birth.{Birth}
 use Rattle.nt_commit.specs.declared.claim.Claim.{Claim}
 use Rattle.nt_commit.specs.declared.error.CommitError.{CommitError}
 use Rattle.nt_commit.specs.declared.error.CommitError.TheVariants.{RangeTooLarge, FileTooLarge, TooManyClusters, Memory, Fault}
-use Rattle.nt_commit.specs.Claims.{IsClaimOf, RefusalAdds, limit_answered, settled_with}
+use Rattle.nt_commit.specs.Claims.{IsClaimOf, RefusalAdds, CommitAdds, limit_answered, settled_with}
 use Rattle.nt_commit.specs.Holds.{IsPassOf, HasNoneOut, IsHold, AddsInHold, CommitsInHold, SpoilsInHold, locked_end}
 use Rattle.nt_commit.specs.Locked.{LockedState, history_of_locked}
-use Rattle.nt_fill.specs.Passes.{gained, Gains, MeetsFault, SpoilsRange, NamesLimit, WritesImage}
+use Rattle.nt_fill.specs.Passes.{KeepsCount, gained, Gains, MeetsFault, SpoilsRange, NamesLimit, WritesImage}
 use Rattle.nt_fill.proofs.Ranges.{last_got, new_range, ranges-committed, settled_in, spoiled_in, faulted_in}
 
 abbrev Pass : Type 0 → Type 0
@@ -64,6 +66,25 @@ refused_nothing was is context (FileTooLarge end most) added adds apart = adds
 refused_nothing was is context TooManyClusters added adds apart = adds
 refused_nothing was is context Memory added adds apart = adds
 refused_nothing was is context Fault added adds apart = absurd (apart refl)
+
+-- a pen whose fill didn't fail
+pub keeps_count : {P : Type 0} (pen_state : P → PenState) (pen pen' : P) (was : Option P) → was ≡ Some pen
+    → (pen_state pen').faults ≡ (pen_state pen).faults → KeepsCount pen_state was (Some pen')
+keeps_count {P = P} pen_state pen pen' was is kept = λ old new before after.
+    let one : pen ≡ old = some_is pen old (sym is ∙ before) in
+    let two : pen' ≡ new = some_is pen' new after in
+    ap (λ (p : P). (pen_state p).faults) (sym two) ∙ (kept ∙ ap (λ (p : P). (pen_state p).faults) one)
+
+-- a refusal for a limit adds nothing
+limit_nothing : {X : Type 0} (tell : X → ExtState) (held : Option Held) (was is n start : ℕ) (meta : ClusterMeta)
+    (result : Result (Claim X) CommitError) (l : LimitError) → limit_answered result ≡ Some l
+    → (added : List (Entry ClusterMeta)) → CommitAdds tell held was is n start meta result added → added ≡ []
+limit_nothing tell held was is n start meta (Ok claim) l named added adds = absurd (cc named)
+limit_nothing tell held was is n start meta (Err (RangeTooLarge len most)) l named added adds = adds
+limit_nothing tell held was is n start meta (Err (FileTooLarge end most)) l named added adds = adds
+limit_nothing tell held was is n start meta (Err TooManyClusters) l named added adds = adds
+limit_nothing tell held was is n start meta (Err Memory) l named added adds = absurd (cc named)
+limit_nothing tell held was is n start meta (Err Fault) l named added adds = absurd (cc named)
 
 module _ {D : Type 0} where
   -- two gains are one
@@ -123,8 +144,9 @@ module _ {D : Type 0} (state : D → DiskState) (committer : TurnState (Birth D)
     -- the limit of a commit, by what never changes
     pub names : (answer : Result (Claim X) CommitError) (c : CommitsInHold state tell committer meta old mid answer)
         (result : Result Unit CommitError) → limit_answered answer ≡ limit_answered result
-        → (new : Pass D) → IsPrefix mid.seen new.seen → NamesLimit state committer meta.len old new result
-    names answer c result same new on =
+        → (new : Pass D) → IsPrefix mid.seen new.seen → ((l : LimitError) → limit_answered result ≡ Some l → mid.seen ≡ new.seen)
+        → NamesLimit state committer meta.len old new result
+    names answer c result same new on last =
         let history = history_of_locked state c.taken in
         let seen : mid.seen ≡ history ++ c.commits.added = ap (λ (p : Pass D). p.seen) c.hold.now ∙ c.hold.grows in
         record {
@@ -133,6 +155,10 @@ module _ {D : Type 0} (state : D → DiskState) (committer : TurnState (Birth D)
           seen = prefix_then history mid.seen new.seen (c.commits.added, sym seen) on;
           limits = subst (λ (b : Birth D). limit_error b.limits (end_after (state b.begun).end (ranges_of history))
               (length (ranges_of history)) meta.len ≡ limit_answered answer) c.hold.birth c.commits.limits ∙ same;
+          last = λ l named.
+              sym (append-nil history)
+              ∙ (ap (λ (a : List (Entry ClusterMeta)). history ++ a)
+              (sym (limit_nothing tell _ _ _ _ _ meta answer l (same ∙ named) c.commits.added c.commits.adds)) ∙ (sym seen ∙ last l named));
         }
 
     -- a refusal but a fault

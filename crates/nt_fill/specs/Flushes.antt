@@ -53,13 +53,16 @@ module _ {D P : Type 0} where
     pub record WritesCluster (old new : DiskContext D P) : Type 0 where
       pub written : WrittenChunk ClusterMeta
       pub len : written.len ≡ written.meta.len
+      -- it is kept as one of this context
+      pub context : written.meta.context ≡ old.pass.number
       pub blob : IsWrittenAs (state old.committer.birth.begun).held old.table old.page (gathered old) written.start
           written.bytes written.meta
       pub gains : Gains (entries_of old.pass.number written) old.pass new.pass
       pub alive : IsSome new.pen
       pub now : new ≡ record old { pass = new.pass; pen = new.pen; columns = new.columns; entries = 0 }
 
-    -- the answer names the limit that the blob of the gathered entries passes behind a history that the pass has now seen, or none
+    -- the answer names the limit that the blob of the gathered entries passes behind a history that the pass has now seen, and no more than
+    -- that, or none
     pub record KeepsLimits (old new : DiskContext D P) (result : Result Unit CommitError) : Type 0 where
       pub columns : List Column
       pub gives : Gives old.table columns (gathered old)

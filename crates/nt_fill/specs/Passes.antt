@@ -4,12 +4,13 @@ use Rattle.std.specs.Prelude.{Result, Err, IsErrOf}
 use mathlib.Core.List.{IsPrefix}
 use Rattle.nt_turn.specs.Pass.{TurnState, PassState}
 use Rattle.nt_outside.specs.Held.{Held, WhereHeld}
-use Rattle.nt_outside.specs.Range.{ExtState}
+use Rattle.nt_outside.specs.Range.{ExtState, PenState}
 use Rattle.nt_outside.specs.Disk.{DiskState}
 use Rattle.nt_container.specs.Spelling.{blob_key}
 use Rattle.nt_machine.specs.declared.entry.Entry.{Entry}
 use Rattle.nt_machine.specs.History.{WrittenChunk, entries_of, ranges_of}
 use Rattle.nt_machine.specs.Legal.{end_after}
+use Rattle.nt_book.specs.declared.limits.LimitError.{LimitError}
 use Rattle.nt_book.specs.declared.meta.ClusterMeta.{ClusterMeta}
 use Rattle.nt_book.specs.Entries.{committed_by, spoiled_entry, faulted_entry}
 use Rattle.nt_book.specs.Limiting.{limit_error}
@@ -23,6 +24,10 @@ use Rattle.nt_commit.specs.declared.error.CommitError.TheVariants.{Fault}
 use Rattle.nt_commit.specs.Claims.{IsClaimOf, limit_answered}
 use Rattle.nt_commit.specs.Holds.{IsPassOf, HasNoneOut}
 use Rattle.nt_commit.specs.Images.{IsImageFor}
+
+-- a pen has met no more faults: no fill of it failed
+abbrev pub KeepsCount : {P : Type 0} → (P → PenState) → Option P → Option P → Type 0
+KeepsCount {P = P} pen_state pen pen' = (old new : P) → pen ≡ Some old → pen' ≡ Some new → (pen_state new).faults ≡ (pen_state old).faults
 
 module _ {D : Type 0} where
   -- the pass has seen this, and its own list gained these entries
@@ -75,13 +80,15 @@ module _ {D : Type 0} where
       pub long : length bytes ≡ (tell claim.ext).range.len
       pub tells : WhereHeld (state committer.birth.begun).held (λ h. (tell claim.ext).tells ≡ true)
 
-    -- the answer names the limit that a range of this length passes behind a history that the pass has now seen, or none
+    -- the answer names the limit that a range of this length passes behind a history that the pass has now seen, or none; behind a limit
+    -- that is named the pass has seen no more than that history
     pub record NamesLimit (len : ℕ) (old new : PassState (Entry ClusterMeta) (Birth D)) (result : Result Unit CommitError) : Type 0 where
       pub history : List (Entry ClusterMeta)
       pub later : IsPrefix old.seen history
       pub seen : IsPrefix history new.seen
       pub limits : limit_error committer.birth.limits (end_after (state committer.birth.begun).end (ranges_of history))
           (length (ranges_of history)) len ≡ limit_answered result
+      pub last : (l : LimitError) → limit_answered result ≡ Some l → history ≡ new.seen
 
     -- the image was written with the key of its place, and its bytes are told where the disk told what it held at the beginning
     pub record WritesImage (image : ClusterImage) (old new : PassState (Entry ClusterMeta) (Birth D)) : Type 0 where

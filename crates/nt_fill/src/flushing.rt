@@ -4,6 +4,7 @@ ghost use Rattle.std.specs.Prelude.{◌≡◌, ◌≢◌, ◌<◌, [], length, O
 ghost use Rattle.nt_commit.specs.declared.error.CommitError.TheVariants.{Memory};
 ghost use Rattle.nt_fill.specs.Context.{gathered};
 ghost use Rattle.nt_fill.specs.Flushes.{RefusesToFlush, WritesCluster, KeepsLimits};
+ghost use Rattle.nt_fill.specs.Passes.{KeepsCount};
 
 use crate::context::FillContext;
 use crate::writing::write_image;
@@ -20,7 +21,7 @@ impl<'a, D: Disk> FillContext<'a, D> {
         requires alive { IsSome self.old.pen }
         ensures nothing { gathered self.old ≡ [] → (result ≡ Ok tt) × (self.new ≡ self.old) }
         ensures ok { 0 < length (gathered self.old)
-            → OnOk result (WritesCluster D.state self.old self.new) }
+            → OnOk result (WritesCluster D.state self.old self.new × KeepsCount D.Pen.state self.old.pen self.new.pen) }
         ensures limits { 0 < length (gathered self.old) → result ≢ Err Memory
             → KeepsLimits D.state self.old self.new result }
         ensures refused { RefusesToFlush self.old self.new result }

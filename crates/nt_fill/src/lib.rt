@@ -11,9 +11,9 @@
 //! (`specs/Context`). A pass *gains* entries in its own list.
 //!
 //! Proved: a flush adds just the Committed and the Settled entry of one cluster to the pass's own
-//! list, whose bytes and metadata are the blob of the gathered entries (`ok`, by `WritesCluster`); the
-//! limit that it names is the one that this blob passes behind a history that the pass has then seen
-//! (`limits`); a fault only where the own list gained a Faulted or a Spoiled entry, and then the pen
+//! list, whose bytes and metadata, of this context, are the blob of the gathered entries, and the pen
+//! has met no fault more (`ok`, by `WritesCluster`); the limit that it names is the one that this blob
+//! passes behind the history that the pass has then seen (`limits`); a fault only where the own list gained a Faulted or a Spoiled entry, and then the pen
 //! is gone just where its range was spoiled, which was committed with the metadata of the gathered
 //! entries (`refused.fault`); after any other refusal all is as before but
 //! what the pass has seen (`refused.kept`); an entry is gathered whole or not at all (`fill`); of a line that `fill_line` takes, the

@@ -3,7 +3,7 @@
 ghost use Rattle.std.specs.Prelude.{◌≡◌, Some, None, IsSome, OnOk, IfErr};
 ghost use Rattle.nt_commit.specs.Holds.{IsPassOf, HasNoneOut, SettlesInHold, SpoilsInHold};
 ghost use Rattle.nt_commit.specs.declared.error.CommitError.TheVariants.{Fault};
-ghost use Rattle.nt_fill.specs.Passes.{IsClaimFor, MayWrite, LeavesRefused, NamesLimit, WritesImage};
+ghost use Rattle.nt_fill.specs.Passes.{IsClaimFor, KeepsCount, MayWrite, LeavesRefused, NamesLimit, WritesImage};
 
 use nt_commit::{Claim, CommitError, Committer, Locked};
 use nt_outside::{Disk, Gate, Pen, Point};
@@ -25,7 +25,7 @@ fn fill_range<D: Disk>(
     requires alive { IsSome pen.old }
     requires claim { IsClaimFor D.state committer.now D.Ext.state pass.old bytes.now claim }
     ensures ok { OnOk result (SettlesInHold D.state committer.now claim.cluster (Some bytes.now)
-        pass.old pass.new × IsSome pen.new) }
+        pass.old pass.new × IsSome pen.new × KeepsCount D.Pen.state pen.old pen.new) }
     ensures err { IfErr result (λ e. (e ≡ Fault)
         × SpoilsInHold D.state committer.now claim.cluster pass.old pass.new × (pen.new ≡ None)) }
 {
@@ -58,7 +58,8 @@ pub(crate) fn write_image<D: Disk, G: Gate>(
     ensures pass { IsPassOf committer.now pass.new × HasNoneOut pass.new.own }
     ensures limits { NamesLimit D.state committer.now image.old.meta.len pass.old pass.new result }
     ensures ok { OnOk result
-        (WritesImage D.state committer.now image.old pass.old pass.new × IsSome pen.new) }
+        (WritesImage D.state committer.now image.old pass.old pass.new × IsSome pen.new
+        × KeepsCount D.Pen.state pen.old pen.new) }
     ensures refused { LeavesRefused image.old.meta pass.old pass.new pen.old pen.new result }
 {
     let context = pass.number();

@@ -43,3 +43,5 @@ pub record Fills (bytes : List ℕ) (old new : ExtState) (pen pen' : PenState) (
   pub told : OnOk result (old.tells ≡ true → new.content ≡ Some bytes)
   pub err : OnErr result ((new.filled ≡ false) × (new.content ≡ old.content))
   pub cause : HasCause pen.faults pen'.faults result
+  -- a fill that didn't fail counts no fault
+  pub kept : OnOk result (pen'.faults ≡ pen.faults)

@@ -2,4 +2,5 @@ use Rattle.nt_dealing.proofs.Dealt.{dealt_out}
 use Rattle.nt_dealing.proofs.laws.commits_are_dealt.Goals as goal
 
 pub returns : goal.returns
-returns g c = dealt_out g.D.Disk.state g.met.D.Disk.told c.ranges_are_told.ensures c.settled_ranges_are_read.ensures
+returns g c = dealt_out g.D.Disk.state g.met.D.Disk.told c.fronts_stand.ensures.read
+    c.settled_ranges_are_known.ensures

@@ -1,7 +1,7 @@
 use Rattle.std.proofs.Common.{◌∙◌, sym, ℕ, refl, subst, Option, List, [], ◌∷◌}
 use Rattle.nt_commit.specs.Claims.{settled_with}
 use Rattle.nt_commit.specs.Holds.{AddsInHold}
-use Rattle.nt_fill.proofs.Passes.{told_bytes, when_ok}
+use Rattle.nt_fill.proofs.Passes.{told_bytes, when_ok, keeps_count}
 use Rattle.nt_fill.proofs.writing.fill_range.Goals as goal
 
 pub returns-then-filled-clause-ok : goal.returns-then-filled-clause-ok
@@ -14,4 +14,6 @@ returns-then-filled-clause-ok g c =
           (settled_with c.args.pass.now.number c.args.claim.cluster b ∷ []) c.args.pass.now c.settle.new.pass) told
           c.settle.ensures.settles,
       refl,
+      keeps_count g.D.Pen.Pen.state c.in-Some.pen c.fill.new.self c.args.pen.now c.in-Some.is
+          (when_ok c.fill.result (sym filled ∙ c.if-filled.true) c.fill.ensures.kept),
     )

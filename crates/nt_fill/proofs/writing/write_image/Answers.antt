@@ -1,8 +1,9 @@
-use Rattle.std.proofs.Common.{◌≡◌, ◌∙◌, ◌≤◌, ap, sym, refl, subst, true, length, inl, inr}
+use Rattle.std.proofs.Common.{◌≡◌, ◌∙◌, ◌≤◌, ap, sym, refl, subst, true, length, inl, inr, Option, Some, None}
 use Rattle.std.proofs.lemmas.Result.{err_from_is_err_and}
 use Rattle.std.specs.Prelude.{Ok, Err}
 use Rattle.nt_outside.specs.Held.{WhereHeld}
 use Rattle.nt_pages.specs.declared.image.ClusterImage.{ClusterImage}
+use Rattle.nt_book.specs.declared.limits.LimitError.{LimitError}
 use Rattle.nt_commit.specs.declared.locked.Birth.{Birth}
 use Rattle.nt_commit.specs.declared.error.CommitError.{CommitError}
 use Rattle.nt_commit.specs.declared.error.CommitError.TheVariants.{Fault}
@@ -11,6 +12,10 @@ use Rattle.nt_commit.specs.Holds.{CommitsInHold}
 use Rattle.nt_fill.proofs.Passes.{claim_is, writes, spoils, names, kept_by, fault_by, pass_after, writes_in, spoil_in, adds_seen}
 use Rattle.nt_fill.proofs.Passes.{spoils_seen, keyed_length}
 use Rattle.nt_fill.proofs.writing.write_image.Goals as goal
+
+-- where none is named
+none_named : {A : Type 0} (l : LimitError) → ◌≡◌ {A = Option LimitError} None (Some l) → A
+none_named l named = absurd (cc named)
 
 pub returns-in_err-claim-clause-refused : goal.returns-in_err-claim-clause-refused
 returns-in_err-claim-clause-refused g c =
@@ -65,6 +70,7 @@ returns-in_err-fill_range-clause-limits g c =
     (Ok c.in_ok-claim.claim) c.in_ok-claim.ensures.commits c.from_residual-in_err-fill_range.result
     (sym (ap limit_answered same)) c.fill_range.new.pass
     (spoils_seen g.D.Disk.state c.args.committer.now _ c.commit.new.pass c.fill_range.new.pass c.in_err-fill_range.ensures.err.1)
+    (λ l named. none_named l (sym (ap limit_answered same) ∙ named))
 
 pub returns-in_err-fill_range-clause-refused : goal.returns-in_err-fill_range-clause-refused
 returns-in_err-fill_range-clause-refused g c =
@@ -92,6 +98,7 @@ returns-clause-limits g c =
     names g.D.Disk.state c.args.committer.now g.D.Ext.Ext.state c.args.image.now.meta c.args.pass.now c.commit.new.pass
     (Ok c.in_ok-claim.claim) c.in_ok-claim.ensures.commits (Ok tt) refl c.fill_range.new.pass
     (adds_seen g.D.Disk.state c.args.committer.now _ c.commit.new.pass c.fill_range.new.pass c.in_ok-fill_range.ensures.ok.0)
+    (λ l named. none_named l named)
 
 pub returns-clause-ok : goal.returns-clause-ok
 returns-clause-ok g c = (
@@ -100,4 +107,5 @@ returns-clause-ok g c = (
       c.fill_range.new.pass refl (c.as_slice.ensures ∙ ap (λ (i : ClusterImage). i.bytes) c.in_ok-claim.ensures.image)
       c.in_ok-fill_range.ensures.ok.0,
   c.in_ok-fill_range.ensures.ok.1,
+  c.in_ok-fill_range.ensures.ok.2,
 )

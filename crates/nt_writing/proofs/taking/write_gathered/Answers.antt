@@ -9,3 +9,6 @@ returns-in-Err g c =
     subst (λ (e : ContextError). Writes g.D.Disk.state c.args.fill.now c.flush.new.self (Err e)) (sym c.from.ensures)
     (write_refused g.D.Disk.state c.args.fill.now c.flush.new.self c.in-Err.error
     (c.in-Err.ensures.limits c.requires.some) c.in-Err.ensures.refused.kept c.in-Err.ensures.refused.fault)
+
+pub returns-in-Ok : goal.returns-in-Ok
+returns-in-Ok g c = (c.in-Ok.ensures.ok c.requires.some).0
