@@ -35,7 +35,7 @@ use Rattle.nt_script.specs.declared.store_error.ScriptStoreError.TheVariants.{Ou
 use Rattle.nt_script.specs.StoreErrors.{script_error_of_close}
 use Rattle.nt_script.specs.Running.{IsDoneScript}
 use Rattle.nt_script.specs.Whole.{IsScriptFile}
-use Rattle.nt_script.specs.Crashes.{IsClosedBy, AppendsLeave}
+use Rattle.nt_seq.specs.Crashes.{IsClosedBy, AppendsLeave}
 use Rattle.nt_script.specs.Filing.{ScriptFileTold, LeavesScriptFile, FinishesScript}
 use Rattle.nt_script.proofs.Wholes.{LateFilesMean, file_here, numbers_here, over_here}
 

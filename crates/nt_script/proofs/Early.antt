@@ -26,7 +26,7 @@ use Rattle.nt_script.specs.Script.{Script, read_script}
 use Rattle.nt_script.specs.Clusters.{bad_line}
 use Rattle.nt_script.specs.Reading.{GivesScript}
 use Rattle.nt_script.specs.Running.{PassesNamed, IsDoneScript, EndsEarlyFor, IsFirstWriter}
-use Rattle.nt_script.specs.Crashes.{AppendsLeave}
+use Rattle.nt_seq.specs.Crashes.{AppendsLeave}
 use Rattle.nt_script.specs.Filing.{LeavesScriptFile, FinishesScript, FilesScript}
 
 module _ {D : Type 0} (state : D → DiskState) (F : List MemberData) (first : Table) (p : Params) (old new : LinesState) (w : SeqState D)

@@ -11,8 +11,6 @@ pub mod Members
 pub mod Fields
 pub mod Goes
 pub mod Ends
-pub mod Plain
-pub mod Cuts
 pub mod Wholes
 pub mod Closed
 pub mod Early

@@ -34,7 +34,7 @@ use Rattle.nt_script.specs.StoreErrors.{script_error_of_begin}
 use Rattle.nt_script.specs.Script.{Script, last_entries, read_script}
 use Rattle.nt_script.specs.Limits.{IsOverLate, PassesLimit}
 use Rattle.nt_script.specs.Running.{IsFirstWriter}
-use Rattle.nt_script.specs.Crashes.{AppendsLeave}
+use Rattle.nt_seq.specs.Crashes.{AppendsLeave}
 use Rattle.nt_script.specs.Filing.{LeavesScriptFile, FilesScript, WritesLines}
 use Rattle.nt_script.specs.Filing.{WritesScript}
 use Rattle.nt_script.specs.Taking.{HasJustFields}

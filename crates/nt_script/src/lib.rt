@@ -4,23 +4,23 @@
 //! `specs/Script.antt`, which says what is read of a script, and at `store_script` in `hosting.rt`. `storing.rt` writes the
 //! file on a disk; `write_script` in `running.rt` goes from line to line and writes what is read through a sequential
 //! writer, `taking.rt` takes a line of events, `adding.rt` the field of a line; `error.rt` and `store_error.rt` are why that
-//! ends early, `laws.rt` says which fields a table has, and `crashing.rt` what a crash leaves.
+//! ends early, and `laws.rt` says which fields a table has.
 //!
-//! Words: a *segment* is the lines of events up to the next one that adds a field; the *front* of a script is what comes
-//! first of it, cut off somewhere; a table has *just* some fields where their names, their number and what fits them are
+//! Words: a *segment* is the lines of events up to the next one that adds a field; a *front* of a script is a prefix of
+//! it; a table has *just* some fields where their names, their number and what fits them are
 //! those of its rows; the *whole* file of a script means the schema with all its fields and just its clusters, and is laid
 //! out for them (`specs/Whole.antt`). What is *left open*, and what a crash *leaves*, is as in nt_store.
 //!
 //! Proved of `write_script` (`ended`): after `Ok` no line of the text is bad, its fields stand in the schema, each added
 //! behind all entries before it, and the writer has written just its clusters: those of each segment, each entry with the
-//! zeros of the fields that were added behind it. A line that is told is the first bad one, and a limit one that the
-//! front of the script passes; `Outside` comes only where a count of faults rose. What is gathered is written before a
+//! zeros of the fields that were added behind it. A line that is told is the first bad one, and a limit one that
+//! some prefix of the script exceeds; `Outside` comes only where a count of faults rose. What is gathered is written before a
 //! line adds its field, whatever that line says (`done` of `add_field`). A table that describes fields has just these
 //! (`tables_have_just_their_fields`).
 //!
-//! Proved of `store_script` (`StoresScript`): after `Ok` the file is the whole one of the script, and out has just the line
-//! of its numbers; a schema fault is the text's first one, a bad line the script's first one, and a limit one that its front
-//! passes; after these and after `Memory` the file is left open, and after `Outside` too, unless it is whole or its first
+//! Proved of `store_script` (`StoresScript`): after `Ok` the file is the whole one of the script, and exactly the line of
+//! its numbers was printed; a schema fault is the text's first one, a bad line the script's first one, and a limit one that
+//! some prefix of it exceeds; after these and after `Memory` the file is left open, and after `Outside` too, unless it is whole or its first
 //! append failed, and nothing is printed of a file that isn't whole. The first byte is written over only when all the rest
 //! stays. So wherever a crash comes behind the first sync, it leaves a file that is refused as unfinished, or, where the
 //! first byte was written over before, the whole one; behind all steps of `Ok` just that, and of an answer but `Ok` and
@@ -29,7 +29,6 @@
 #![tactic(auto)]
 
 mod adding;
-mod crashing;
 mod error;
 mod hosting;
 mod laws;

@@ -10,7 +10,6 @@ ghost use Rattle.nt_script.specs.StoreErrors.{error_of_script};
 ghost use Rattle.nt_script.specs.Running.{IsFirstWriter};
 ghost use Rattle.nt_script.specs.Filing.{FinishesScript, FilesScript, WritesLines, WritesScript};
 
-use crate::crashing::crashes_leave_closed_or_unfinished;
 use crate::error::ScriptError;
 use crate::laws::tables_have_just_their_fields;
 use crate::running::write_script;
@@ -19,7 +18,7 @@ use nt_book::{LimitError, Params};
 use nt_event::LineReader;
 use nt_finished::late_files_mean_their_entries;
 use nt_outside::{Disk, Source};
-use nt_seq::SeqWriter;
+use nt_seq::{SeqWriter, crashes_leave_closed_or_unfinished};
 use nt_types::Fields;
 use std::alloc::Global;
 

@@ -10,3 +10,5 @@ pub mod Closed
 pub mod Begun
 pub mod Appended
 pub mod Filled
+pub mod Plain
+pub mod Cuts

@@ -54,7 +54,7 @@ module _ {D : Type 0} (state : D → DiskState) (w : SeqState D) where
   abbrev pub EndsFile : D → Result (ℕ × ℕ) CloseError → Type 0
   EndsFile disk result =
       LeavesClosed (tail w.table w.book (lists_behind w.table w.book w.params.group)) (front w.table w.book (lists_behind w.table w.book
-          w.params.group)) (state w.disk) (state disk) (done_of result)
+      w.params.group)) (state w.disk) (state disk) (done_of result)
 
   -- after a refusal the first byte is 0, or the file stands there whole
   abbrev pub IsShutOrWhole : List ℕ → Type 0

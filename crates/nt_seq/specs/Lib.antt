@@ -5,3 +5,4 @@ pub mod Changing
 pub mod Closing
 pub mod Standing
 pub mod Widening
+pub mod Crashes

@@ -8,8 +8,8 @@ ghost use Rattle.nt_seq.specs.Changing.{ExtendsWriter};
 
 use crate::widening::widen;
 use crate::writer::SeqWriter;
-use nt_grammar::late_fields_are_described;
 use nt_finished::added_fields_are_left_out;
+use nt_grammar::late_fields_are_described;
 use nt_outside::Disk;
 use nt_schema::{ExtendError, described_rows_are_whole};
 use nt_types::Member;

@@ -3,7 +3,7 @@
 //!
 //! Start at `SeqWriter` in `writer.rt`. `new` begins the file; `fill` gathers an entry, and
 //! `fill_line` that of a line of event text: it does what nt_event's `read_line` and then `fill`
-//! do, without a tree in between, or refuses the line, which is then to be read. `flush` writes
+//! do, without a tree in between, or refuses the line, whose trees are then to be read. `flush` writes
 //! what is gathered as the next cluster, in one append; `extend` adds a field behind all entries
 //! so far; `close` closes the file, and `abandon` gives the disk back as it is.
 //!
@@ -23,7 +23,10 @@
 //! than a range may get, and as any other where no field was added; after a refusal its first byte
 //! is 0, or it stands there whole; and its steps are in order in any case (`file`). The cause of
 //! each answer is that of nt_close, where no range is spoiled (`cause`). Of a file that isn't
-//! closed the first byte is 0 (`unclosed_files_are_shut`). What holds of each writer at any moment
+//! closed the first byte is 0 (`unclosed_files_are_shut`). Wherever a crash comes behind the first
+//! sync, in `new`, `flush`, `extend` or `close`, it leaves a file that isn't finished, or, once the
+//! first byte was written over, the closed one; behind all steps of `close` just that
+//! (`crashes_leave_closed_or_unfinished`, of what `keeps` and `close` say of the steps). What holds of each writer at any moment
 //! is `IsSequential`, the invariant, with `IsBookKept` of its book (`keeps`). Nothing is only
 //! tested.
 //!
@@ -38,6 +41,7 @@
 
 mod appending;
 mod closing;
+mod crashing;
 mod extending;
 mod filling;
 mod flushing;
@@ -46,5 +50,6 @@ mod laws;
 mod widening;
 mod writer;
 
+pub use crashing::crashes_leave_closed_or_unfinished;
 pub use laws::{unclosed_files_are_shut, written_clusters_are_counted};
 pub use writer::SeqWriter;

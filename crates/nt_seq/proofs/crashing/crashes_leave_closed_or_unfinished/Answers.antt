@@ -1,5 +1,5 @@
-use Rattle.nt_script.proofs.Cuts.{appends_leave}
-use Rattle.nt_script.proofs.crashing.crashes_leave_closed_or_unfinished.Goals as goal
+use Rattle.nt_seq.proofs.Cuts.{appends_leave}
+use Rattle.nt_seq.proofs.crashing.crashes_leave_closed_or_unfinished.Goals as goal
 
 pub returns : goal.returns
 returns c =

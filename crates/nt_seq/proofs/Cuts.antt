@@ -25,9 +25,9 @@ use Rattle.nt_close.specs.Steps.{torn_first, not_kept_open, closed_whole}
 use Rattle.nt_close.proofs.FirstByte.{closes_in_order}
 use Rattle.nt_crash.specs.Cuts.{ReadsButFirst, LeavesUnfinished, LeavesUnfinishedOr, LeavesOnly}
 use Rattle.nt_seq.specs.Written.{file_so_far, IsUnclosed}
-use Rattle.nt_script.specs.Crashes.{IsClosedBy, AppendsLeave}
-use Rattle.nt_script.proofs.Plain.{known-appended, known-synced, known-written, AreBehind, behind-push, behind-take, never_over, HasFirst}
-use Rattle.nt_script.proofs.Plain.{first-push, IsPlain, plain-file, IsAny, Left, or_whole, one_more}
+use Rattle.nt_seq.specs.Crashes.{IsClosedBy, AppendsLeave}
+use Rattle.nt_seq.proofs.Plain.{known-appended, known-synced, known-written, AreBehind, behind-push, behind-take, never_over, HasFirst}
+use Rattle.nt_seq.proofs.Plain.{first-push, IsPlain, plain-file, IsAny, Left, or_whole, one_more}
 
 -- the laws of crashes that are cited here
 abbrev pub OrderedLeaves : Type 0
