@@ -1,6 +1,6 @@
 -- What a crash leaves of a file that is begun, and that contexts fill.
-use Rattle.std.proofs.Common.{◌≡◌, ◌∙◌, ap, sym, subst, refl, ℕ, zero, suc, ◌<◌, List, [], ◌∷◌, ◌++◌, length, take, drop, get_or, arith}
-use Rattle.std.proofs.Common.{append-nil, inl, inr}
+use Rattle.std.proofs.Common.{◌≡◌, ◌∙◌, ap, sym, subst, refl, ℕ, zero, suc, ◌<◌, ◌+◌, List, [], ◌∷◌, ◌++◌, length, take, drop}
+use Rattle.std.proofs.Common.{get_or, arith, append-nil, inl, inr}
 use Rattle.std.specs.Prelude.{◌⊎◌}
 use Rattle.std.specs.List.{AllByRecursion}
 use Rattle.nt_num.specs.Codes.{unfinished}
@@ -11,9 +11,14 @@ use Rattle.nt_container.specs.Spelling.{begun}
 use Rattle.nt_container.proofs.Gate.{unfinished_is, begin-shut, begin-len}
 use Rattle.nt_grammar.specs.Table.{Table}
 use Rattle.nt_machine.specs.declared.entry.Entry.{Entry}
-use Rattle.nt_machine.specs.Legal.{IsLegal}
+use Rattle.nt_machine.specs.History.{ranges_of}
+use Rattle.nt_machine.specs.Legal.{IsLegal, end_after}
+use Rattle.nt_machine.specs.Spans.{Span}
 use Rattle.nt_logged.specs.Stands.{IsBehind}
 use Rattle.nt_logged.specs.Steps.{steps_of_history}
+use Rattle.nt_logged.specs.Tails.{range_steps, IsTail}
+use Rattle.nt_logged.specs.Logs.{IsLogOf}
+use Rattle.nt_logged.proofs.Growing.{log-fresh}
 use Rattle.nt_book.specs.declared.meta.ClusterMeta.{ClusterMeta}
 use Rattle.nt_file_meaning.specs.Outlines.{outline_of}
 use Rattle.nt_file_meaning.specs.Files.{read_file, HasDefect}
@@ -54,17 +59,21 @@ room-of (b ∷ rest) shut long = record { rest = rest; is = ap (λ (n : ℕ). n 
 pub room : Room (begun 0 0 0)
 room = room-of (begun 0 0 0) (ap (λ (l : List ℕ). get_or l 0 0) (sym (append-nil (begun 0 0 0))) ∙ begin-shut 0 0 0 []) (begin-len 0 0 0)
 
-behind-spares : (place : ℕ) (steps : List Step) → 0 < place → AllByRecursion (IsBehind place) steps → AllSpare steps
-behind-spares place [] some behind = tt
-behind-spares place (Write at bytes ∷ steps) some behind = absurd behind.0
-behind-spares place (FailedWrite at bytes ∷ steps) some behind = absurd behind.0
-behind-spares place (Append bytes ∷ steps) some behind = absurd behind.0
-behind-spares place (FailedAppend len ∷ steps) some behind = absurd behind.0
-behind-spares place (Reserve start len ∷ steps) some behind = (tt, behind-spares place steps some behind.1)
-behind-spares place (Settle start len bytes ∷ steps) some behind =
+-- steps of a writer, whose ranges lie behind a place
+tail-spares : (place end : ℕ) (spans : List Span) (steps : List Step) → 0 < place → IsTail end spans steps
+    → AllByRecursion (IsBehind place) (range_steps steps) → AllSpare steps
+tail-spares place end spans [] some is behind = tt
+tail-spares place end spans (Write at bytes ∷ steps) some is behind = absurd is.0
+tail-spares place end spans (FailedWrite at bytes ∷ steps) some is behind = absurd is.0
+tail-spares place end spans (Append bytes ∷ steps) some is behind =
+    (tt, tail-spares place (end + length bytes) spans steps some is.1 behind)
+tail-spares place end spans (FailedAppend len ∷ steps) some is behind = (tt, tail-spares place (end + len) spans steps some is.1 behind)
+tail-spares place end spans (Reserve start len ∷ steps) some is behind =
+    (tt, tail-spares place (end + len) (spans ++ record { start = start; len = len } ∷ []) steps some is.1 behind.1)
+tail-spares place end spans (Settle start len bytes ∷ steps) some is behind =
     let first = behind.0 in
-    (omega arith, behind-spares place steps some behind.1)
-behind-spares place (Sync ∷ steps) some behind = absurd behind.0
+    (omega (arith, some, first), tail-spares place end spans steps some is.1 behind.1)
+tail-spares place end spans (Sync ∷ steps) some is behind = absurd is.0
 
 -- no step of a legal history covers a place before its beginning
 abbrev pub StepsStand : Type 0
@@ -74,12 +83,21 @@ StepsStand =
 -- a file that is being filled leaves its first byte as it is
 pub filling-spared : StepsStand → (t : Table) (log : List Step) → IsFilling t log → Spared log
 filling-spared stand t log filling =
-    let steps = steps_of_history filling.history in
+    let steps = filling.steps in
+    let place = clusters_place t in
     record {
       rest = room.rest;
       more = Append (header_blob t) ∷ Sync ∷ steps;
       is = filling.is ∙ ap (λ (head : List ℕ). Append head ∷ Append (header_blob t) ∷ Sync ∷ steps) room.is;
-      spares = (tt, (tt, behind-spares (clusters_place t) steps (omega arith) (stand (clusters_place t) filling.history filling.legal)));
+      spares = (
+        tt,
+        (
+          tt,
+          tail-spares place place [] steps (omega arith) filling.is_log.tail
+              (subst (λ (l : List Step). AllByRecursion (IsBehind place) l) (sym filling.is_log.ranges)
+              (stand place filling.history filling.legal)),
+        ),
+      );
     }
 
 -- steps of which none is a sync
@@ -102,7 +120,17 @@ unsynced-leaves log steps is none k bytes has may = absurd (none-kept steps none
 
 -- a file that is begun has no ranges yet
 begun-filling : (t : Table) → IsFilling t (begun_file t).log
-begun-filling t = record { history = []; legal = tt; is = refl }
+begun-filling t =
+    let place = clusters_place t in
+    let none : List (Entry ClusterMeta) = [] in
+    let here : place ≡ end_after place (ranges_of none) = omega arith in
+    record {
+      history = none;
+      legal = tt;
+      steps = [];
+      is = refl;
+      is_log = subst (λ (e : ℕ). IsLogOf place e none [] [] []) here (log-fresh place);
+    }
 
 -- and before it is, there is no sync
 pub begun-leaves : StepsStand → (t : Table) (left : Held) → IsBegunSoFar (begun 0 0 0) (header_blob t) nothing_held left

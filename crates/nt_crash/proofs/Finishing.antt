@@ -1,15 +1,15 @@
 -- What a crash leaves of a file that is closed: the finished file, as it is read.
-use Rattle.std.proofs.Common.{◌≡◌, ◌∙◌, ap, sym, subst, refl, ℕ, List, [], ◌∷◌, ◌++◌, length, take, drop, map, arith, append_assoc, Option}
-use Rattle.std.proofs.Common.{Some, inl, inr}
+use Rattle.std.proofs.Common.{◌≡◌, ◌∙◌, ap, sym, subst, ℕ, List, [], ◌∷◌, ◌++◌, length, take, drop, map, arith}
+use Rattle.std.proofs.Common.{append_assoc, Bool, true, Some, inl, inr}
 use Rattle.std.specs.Prelude.{◌⊎◌}
-use Rattle.std.specs.List.{concat, flat_map}
-use Rattle.std.proofs.lemmas.List.{length-append, length-drop, length-map, map-append}
+use Rattle.std.specs.List.{AllZip, concat, flat_map}
+use Rattle.std.proofs.lemmas.List.{length-append, length-drop, map-append}
 use Rattle.std.proofs.lemmas.List.Concat.{concat_is}
 use Rattle.nt_num.specs.Codes.{unfinished}
 use Rattle.nt_num.specs.Faults.{fault}
 use Rattle.nt_outside.specs.Log.{Step}
 use Rattle.nt_outside.specs.Held.{Held}
-use Rattle.nt_outside.specs.Reads.{Known, exactly, known_of, IsKnown}
+use Rattle.nt_outside.specs.Reads.{exactly, known_of, IsKnown}
 use Rattle.nt_container.specs.Spelling.{begun, header_part, record_part}
 use Rattle.nt_container.proofs.Gate.{begin-len}
 use Rattle.nt_container.proofs.Lengths.{header-len, file_record-len}
@@ -17,20 +17,19 @@ use Rattle.nt_types.specs.TreeData.{TreesData}
 use Rattle.nt_grammar.specs.Table.{Table}
 use Rattle.nt_grammar.specs.ReadingBack.{IsDescribed}
 use Rattle.nt_machine.specs.declared.entry.Entry.{Entry}
-use Rattle.nt_machine.specs.History.{ranges_of}
-use Rattle.nt_machine.specs.Legal.{IsLegal}
-use Rattle.nt_machine.proofs.Telling.{whole}
-use Rattle.nt_logged.specs.Stands.{known_byte, told_ranges}
-use Rattle.nt_logged.specs.Steps.{steps_of_history}
+use Rattle.nt_machine.specs.History.{Cluster, Settled, ranges_of}
+use Rattle.nt_machine.specs.Legal.{IsLegal, end_after}
+use Rattle.nt_logged.specs.Logs.{IsLogOf}
 use Rattle.nt_book.specs.declared.meta.ClusterMeta.{ClusterMeta}
 use Rattle.nt_book.specs.Books.{BookData, book_clusters}
 use Rattle.nt_file_meaning.specs.Files.{HasDefect, Means}
 use Rattle.nt_layout.specs.Headers.{header_object, header_blob, clusters_place, file_begun}
-use Rattle.nt_layout.specs.Finished.{finished, tail, front, file_len, free_start, keys_start}
+use Rattle.nt_layout.specs.Groups.{ListPlace}
+use Rattle.nt_layout.specs.Finished.{lists_behind, finished, tail, front, file_len, free_start, keys_start}
 use Rattle.nt_finished.proofs.Standing.{length-blob}
-use Rattle.nt_layout.specs.Laid.{Measures, AreMeasures, IsLaid}
+use Rattle.nt_layout.specs.Laid.{AreBlobsOf, Measures, AreMeasures, IsWithin, IsBookOf, IsLaid}
 use Rattle.nt_finished.proofs.Lengths.{clusters_told, ranges-len}
-use Rattle.nt_finished.proofs.Parts.{parts_written}
+use Rattle.nt_finished.proofs.Parts.{ranges_written}
 use Rattle.nt_close.specs.Steps.{IsClosedSoFar, closed_on}
 use Rattle.nt_crash.specs.Cuts.{WritesFirst, LeavesUnfinished, LeavesUnfinishedOr, LeavesOnly}
 use Rattle.nt_crash.specs.Fillings.{begun_file, IsFilled, IsRangedAs, IsFilledWith, IsWrittenSoFar}
@@ -38,55 +37,52 @@ use Rattle.nt_crash.specs.Fillings.IsWrittenSoFar.{in_beginning, in_filling, in_
 use Rattle.nt_crash.proofs.Filling.{read-cut, read-spared, StepsStand, filling-spared, room, begun-leaves}
 use Rattle.nt_crash.proofs.Closing.{closed-only, closed-cut}
 
--- a log with the steps of a legal history tells what it told before, and then the ranges
-abbrev pub RangesTold : Type 0
-RangesTold =
-    (log : List Step) (history : List (Entry ClusterMeta)) → IsLegal (length (known_of log)) history
-    → known_of (log ++ steps_of_history history) ≡ known_of log ++ told_ranges (ranges_of history)
-
-known-some : (bytes : List ℕ) → map known_byte (map Some bytes) ≡ map exactly bytes
-known-some [] = refl
-known-some (byte ∷ bytes) = ap (λ (l : List Known). exactly byte ∷ l) (known-some bytes)
+-- a log whose ranges are all settled is known: its front, and their bytes
+abbrev pub SettledKnown : Type 0
+SettledKnown =
+    (log steps : List Step) (front : List ℕ) (history : List (Entry ClusterMeta)) (parts : List (List ℕ)) → IsKnown log front
+    → IsLegal (length front) history
+    → IsLogOf (length front) (end_after (length front) (ranges_of history)) history [] [] steps
+    → AllZip (λ (part : List ℕ) (c : Cluster ClusterMeta). c.state ≡ Settled (Some part)) parts (ranges_of history)
+    → IsKnown (log ++ steps) (front ++ flat_map (λ (part : List ℕ). part) parts)
 
 begun-known : (t : Table) → IsKnown (begun_file t).log (file_begun t)
 begun-known t = sym (map-append exactly (begun 0 0 0) (header_blob t))
 
-begun-length : (t : Table) → length (known_of (begun_file t).log) ≡ clusters_place t
-begun-length t =
-    ap (λ (k : List Known). length k) (begun-known t)
-    ∙ (length-map (file_begun t) exactly
-    ∙ omega (arith, length-append (begun 0 0 0) (header_blob t), begin-len 0 0 0, length-blob 226 (header_object t)))
+begun-length : (t : Table) → length (file_begun t) ≡ clusters_place t
+begun-length t = omega (arith, length-append (begun 0 0 0) (header_blob t), begin-len 0 0 0, length-blob 226 (header_object t))
 
 -- a file whose ranges were settled is known byte by byte
-filled-known : RangesTold → (t : Table) (ranges : List (List ℕ)) (log : List Step) → IsFilled t ranges log
+filled-known : SettledKnown → (t : Table) (ranges : List (List ℕ)) (log : List Step) → IsFilled t ranges log
     → IsKnown log (file_begun t ++ concat ranges)
 filled-known all_told t ranges log filled =
-    let history = filled.filling.history in
-    let told : known_of log ≡ known_of (begun_file t).log ++ told_ranges (ranges_of history) =
-    ap (λ (l : List Step). known_of l) filled.filling.is
-    ∙ all_told (begun_file t).log history (subst (λ (n : ℕ). IsLegal n history) (sym (begun-length t)) filled.filling.legal) in
-    let bytes : told_ranges (ranges_of history) ≡ map exactly (concat ranges) =
-    ap (λ (l : List (Option ℕ)). map known_byte l) (whole ranges (ranges_of history) filled.settled)
-    ∙ (known-some (flat_map (λ range. range) ranges) ∙ ap (λ (l : List ℕ). map exactly l) (sym (concat_is ranges))) in
-    told
-    ∙ (ap (λ (k : List Known). k ++ told_ranges (ranges_of history)) (begun-known t)
-    ∙ (ap (λ (k : List Known). map exactly (file_begun t) ++ k) bytes ∙ sym (map-append exactly (file_begun t) (concat ranges))))
+    let f = filled.filling in
+    let place = sym (begun-length t) in
+    ap (λ (l : List Step). known_of l) f.is
+    ∙ (all_told (begun_file t).log f.steps (file_begun t) f.history ranges (begun-known t)
+    (subst (λ (n : ℕ). IsLegal n f.history) place f.legal)
+    (subst (λ (n : ℕ). IsLogOf n (end_after n (ranges_of f.history)) f.history [] [] f.steps) place f.is_log) filled.settled
+    ∙ ap (λ (l : List ℕ). map exactly (file_begun t ++ l)) (sym (concat_is ranges)))
 
-length-front : (t : Table) (book : BookData) (most : ℕ) → length (front t book most) ≡ 225
+length-front : (t : Table) (book : BookData) (ls : List ListPlace) → length (front t book ls) ≡ 225
 unfolding front
-length-front t book most =
-    let header = header_part (file_len t book most) (free_start t book most) in
-    let names = record_part (keys_start t book most) in
+length-front t book ls =
+    let header = header_part (file_len t book ls) (free_start t book ls) in
+    let names = record_part (keys_start t book ls) in
     omega (
       arith,
       length-append (drop 1 header) names,
       length-drop 1 header,
-      header-len (file_len t book most) (free_start t book most),
-      file_record-len (keys_start t book most),
+      header-len (file_len t book ls) (free_start t book ls),
+      file_record-len (keys_start t book ls),
     )
 
-module _ (stand : StepsStand) (told : RangesTold) (t : Table) (book : BookData) (most : ℕ) (ranges : List (List ℕ))
+module _ (stand : StepsStand) (told : SettledKnown) (t : Table) (book : BookData) (most : ℕ) (ranges : List (List ℕ))
     (ranged : IsRangedAs t book ranges) (h : Held) (filled : IsFilled t ranges h.log) where
+  -- where the page lists stand
+  abbrev ls : List ListPlace
+  ls = lists_behind t book most
+
   abbrev body : List ℕ
   body = header_blob t ++ concat ranges
 
@@ -97,25 +93,25 @@ module _ (stand : StepsStand) (told : RangesTold) (t : Table) (book : BookData) 
       (append_assoc (begun 0 0 0) (header_blob t) (concat ranges) ∙ ap (λ (l : List ℕ). l ++ body) room.is)
 
   -- the finished file of these parts
-  whole-is : 0x72 ∷ (front t book most ++ (body ++ tail t book most)) ≡ finished t book most ranges
+  whole-is : 0x72 ∷ (front t book ls ++ (body ++ tail t book ls)) ≡ finished true t book most ranges
   whole-is =
-      ap (λ (l : List ℕ). 0x72 ∷ (front t book most ++ l)) (append_assoc (header_blob t) (concat ranges) (tail t book most))
-      ∙ sym (parts_written t most ranges book ranged.begin ranged.lengths)
+      ap (λ (l : List ℕ). 0x72 ∷ (front t book ls ++ l)) (append_assoc (header_blob t) (concat ranges) (tail t book ls))
+      ∙ sym (ranges_written t most ranges book ranged.begin ranged.lengths)
 
-  same : length room.rest ≡ length (front t book most)
-  same = room.long ∙ sym (length-front t book most)
+  same : length room.rest ≡ length (front t book ls)
+  same = room.long ∙ sym (length-front t book ls)
 
-  pub closing-leaves : (left : Held) → IsClosedSoFar (tail t book most) (front t book most) h left
-      → LeavesUnfinishedOr (λ (bytes : List ℕ). bytes ≡ finished t book most ranges) left.log
+  pub closing-leaves : (left : Held) → IsClosedSoFar (tail t book ls) (front t book ls) h left
+      → LeavesUnfinishedOr (λ (bytes : List ℕ). bytes ≡ finished true t book most ranges) left.log
   closing-leaves left closed =
       subst (λ (file : List ℕ). LeavesUnfinishedOr (λ (bytes : List ℕ). bytes ≡ file) left.log) whole-is
-      (read-cut (λ (bytes : List ℕ). bytes ≡ 0x72 ∷ (front t book most ++ (body ++ tail t book most))) left.log
-      (closed-cut room.rest body (tail t book most) (front t book most) h same known
+      (read-cut (λ (bytes : List ℕ). bytes ≡ 0x72 ∷ (front t book ls ++ (body ++ tail t book ls))) left.log
+      (closed-cut room.rest body (tail t book ls) (front t book ls) h same known
       (filling-spared stand t h.log filled.filling) left closed))
 
-  pub closed-leaves : LeavesOnly (λ (bytes : List ℕ). bytes ≡ finished t book most ranges)
-      (closed_on (tail t book most) (front t book most) h).log
-  closed-leaves bytes may = closed-only room.rest body (tail t book most) (front t book most) h same known bytes may ∙ whole-is
+  pub closed-leaves : LeavesOnly (λ (bytes : List ℕ). bytes ≡ finished true t book most ranges)
+      (closed_on (tail t book ls) (front t book ls) h).log
+  closed-leaves bytes may = closed-only room.rest body (tail t book ls) (front t book ls) h same known bytes may ∙ whole-is
 
 -- the finished file, as it is read
 abbrev pub FilesMean : Type 0
@@ -123,8 +119,15 @@ FilesMean =
     (file : List ℕ) (t : Table) (clusters : List (List TreesData)) (m : Measures) → IsDescribed t → AreMeasures m
     → IsLaid file t clusters m → Means file t clusters
 
-module _ (stand : StepsStand) (told : RangesTold) (mean : FilesMean) (t : Table) (clusters : List (List TreesData)) (m : Measures)
-    (book : BookData) (is : IsDescribed t) (measures : AreMeasures m) where
+-- a finished file with all page lists behind its ranges is laid out
+abbrev pub LaidBehind : Type 0
+LaidBehind =
+    (file : List ℕ) (t : Table) (clusters : List (List TreesData)) (m : Measures) (ranges : List (List ℕ)) (book : BookData)
+    → m.staged ≡ true → IsBookOf t book → IsWithin t m book → AreBlobsOf t m.page clusters ranges (book_clusters book)
+    → file ≡ finished m.staged t book m.group ranges → IsLaid file t clusters m
+
+module _ (stand : StepsStand) (told : SettledKnown) (laid : LaidBehind) (mean : FilesMean) (t : Table)
+    (clusters : List (List TreesData)) (m : Measures) (book : BookData) (is : IsDescribed t) (measures : AreMeasures m) where
   ranged-as : (h : Held) (filled : IsFilledWith t clusters m book h.log) → IsRangedAs t book filled.ranges
   ranged-as h filled = record {
     begin = filled.is_of.begin;
@@ -132,20 +135,15 @@ module _ (stand : StepsStand) (told : RangesTold) (mean : FilesMean) (t : Table)
   }
 
   finished-means : (h : Held) (filled : IsFilledWith t clusters m book h.log) (bytes : List ℕ)
-      → bytes ≡ finished t book m.group filled.ranges → Means bytes t clusters
+      → bytes ≡ finished true t book m.group filled.ranges → Means bytes t clusters
   finished-means h filled bytes same =
       mean bytes t clusters m is measures
-      (record {
-        book = book;
-        is_of = filled.is_of;
-        within = filled.within;
-        ranges = filled.ranges;
-        blobs_are = filled.blobs_are;
-        is = same;
-      })
+      (laid bytes t clusters m filled.ranges book filled.staged filled.is_of filled.within filled.blobs_are
+      (same ∙ ap (λ (b : Bool). finished b t book m.group filled.ranges) (sym filled.staged)))
 
   pub entries-kept : (h : Held) → IsFilledWith t clusters m book h.log
-      → LeavesOnly (λ (bytes : List ℕ). Means bytes t clusters) (closed_on (tail t book m.group) (front t book m.group) h).log
+      → LeavesOnly (λ (bytes : List ℕ). Means bytes t clusters)
+      (closed_on (tail t book (lists_behind t book m.group)) (front t book (lists_behind t book m.group)) h).log
   entries-kept h filled bytes may =
       finished-means h filled bytes
       (closed-leaves stand told t book m.group filled.ranges (ranged-as h filled) h filled.filled bytes may)
@@ -158,12 +156,13 @@ module _ (stand : StepsStand) (told : RangesTold) (mean : FilesMean) (t : Table)
   unless-first log leaves k bytes has may = inl (leaves k bytes has may)
 
   closing-means : (h left : Held) → IsFilledWith t clusters m book h.log
-      → IsClosedSoFar (tail t book m.group) (front t book m.group) h left → LeavesUnfinishedOr MeansAll left.log
+      → IsClosedSoFar (tail t book (lists_behind t book m.group)) (front t book (lists_behind t book m.group)) h left
+      → LeavesUnfinishedOr MeansAll left.log
   closing-means h left filled closed k bytes has may =
       at (closing-leaves stand told t book m.group filled.ranges (ranged-as h filled) h filled.filled left closed
       k bytes has may)
     where
-      at : HasDefect bytes (fault unfinished 0) ⊎ (WritesFirst (take k left.log) × (bytes ≡ finished t book m.group filled.ranges))
+      at : HasDefect bytes (fault unfinished 0) ⊎ (WritesFirst (take k left.log) × (bytes ≡ finished true t book m.group filled.ranges))
           → HasDefect bytes (fault unfinished 0) ⊎ (WritesFirst (take k left.log) × MeansAll bytes)
       at (inl none) = inl none
       at (inr whole) = inr (whole.0, finished-means h filled bytes whole.1)

@@ -1,6 +1,6 @@
 //! What a crash leaves of a file, wherever it cuts the steps off.
 
-ghost use Rattle.std.specs.Prelude.{◌≡◌, ◌⊎◌, ℕ, List, [], ◌∷◌, ◌++◌};
+ghost use Rattle.std.specs.Prelude.{◌≡◌, ◌⊎◌, ℕ, List, [], ◌∷◌, ◌++◌, true};
 ghost use Rattle.nt_types.specs.TreeData.{TreesData};
 ghost use Rattle.nt_outside.specs.Log.{Step, Write, FailedWrite, Append, Sync};
 ghost use Rattle.nt_outside.specs.Reads.{Reads};
@@ -13,15 +13,15 @@ ghost use Rattle.nt_grammar.specs.ReadingBack.{IsDescribed};
 ghost use Rattle.nt_book.specs.Books.{BookData};
 ghost use Rattle.nt_file_meaning.specs.Files.{Means};
 ghost use Rattle.nt_layout.specs.Headers.{header_blob};
-ghost use Rattle.nt_layout.specs.Finished.{finished, tail, front};
+ghost use Rattle.nt_layout.specs.Finished.{lists_behind, finished, tail, front};
 ghost use Rattle.nt_layout.specs.Laid.{Measures, AreMeasures};
 ghost use Rattle.nt_close.specs.Steps.{IsBegunSoFar, closed_on, IsClosedSoFar};
 ghost use Rattle.nt_crash.specs.Cuts.{ReadsButFirst, LeavesUnfinished, LeavesUnfinishedOr, LeavesOnly};
 ghost use Rattle.nt_crash.specs.Fillings.{IsFilling, IsFilled, IsRangedAs, IsFilledWith, IsWrittenSoFar};
 
 use nt_book::ClusterMeta;
-use nt_finished::finished_files_mean_their_entries;
-use nt_logged::{ranges_are_told, steps_stand};
+use nt_finished::{files_are_laid_behind, finished_files_mean_their_entries};
+use nt_logged::{settled_ranges_are_known, steps_stand};
 
 /// Of a file that began with an append, and whose first byte is written over only right behind a
 /// sync, a crash leaves what isn't finished, or that byte was written over before, whole or not;
@@ -54,15 +54,17 @@ pub fn filling_leaves_unfinished()
 pub fn closing_leaves_unfinished_or_finished()
     ensures closing { (t : Table) (book : BookData) (most : ℕ) (ranges : List (List ℕ))
         (h left : Held) → IsRangedAs t book ranges → IsFilled t ranges h.log
-        → IsClosedSoFar (tail t book most) (front t book most) h left
-        → LeavesUnfinishedOr (λ bytes. bytes ≡ finished t book most ranges) left.log }
+        → IsClosedSoFar (tail t book (lists_behind t book most))
+        (front t book (lists_behind t book most)) h left
+        → LeavesUnfinishedOr (λ bytes. bytes ≡ finished true t book most ranges) left.log }
     ensures closed { (t : Table) (book : BookData) (most : ℕ) (ranges : List (List ℕ)) (h : Held)
         → IsRangedAs t book ranges → IsFilled t ranges h.log
-        → LeavesOnly (λ bytes. bytes ≡ finished t book most ranges)
-        (closed_on (tail t book most) (front t book most) h).log }
+        → LeavesOnly (λ bytes. bytes ≡ finished true t book most ranges)
+        (closed_on (tail t book (lists_behind t book most))
+        (front t book (lists_behind t book most)) h).log }
 {
     steps_stand::<ClusterMeta>();
-    ranges_are_told::<ClusterMeta>();
+    settled_ranges_are_known::<ClusterMeta>();
 }
 
 /// So a crash never leaves a file that is read and lacks entries, however far it is written: it
@@ -76,9 +78,11 @@ pub fn crashes_leave_all_entries_or_none()
         (book : BookData) (h : Held)
         → IsDescribed t → AreMeasures m → IsFilledWith t clusters m book h.log
         → LeavesOnly (λ bytes. Means bytes t clusters)
-        (closed_on (tail t book m.group) (front t book m.group) h).log }
+        (closed_on (tail t book (lists_behind t book m.group))
+        (front t book (lists_behind t book m.group)) h).log }
 {
     steps_stand::<ClusterMeta>();
-    ranges_are_told::<ClusterMeta>();
+    settled_ranges_are_known::<ClusterMeta>();
+    files_are_laid_behind();
     finished_files_mean_their_entries();
 }

@@ -3,10 +3,10 @@ use Rattle.nt_crash.proofs.laws.closing_leaves_unfinished_or_finished.Goals as g
 
 pub returns-clause-closing : goal.returns-clause-closing
 returns-clause-closing c = λ t book most ranges h left ranged filled closed.
-    closing-leaves c.steps_stand.ensures.behind c.ranges_are_told.ensures
+    closing-leaves c.steps_stand.ensures.behind c.settled_ranges_are_known.ensures
     t book most ranges ranged h filled left closed
 
 pub returns-clause-closed : goal.returns-clause-closed
 returns-clause-closed c = λ t book most ranges h ranged filled.
-    closed-leaves c.steps_stand.ensures.behind c.ranges_are_told.ensures
+    closed-leaves c.steps_stand.ensures.behind c.settled_ranges_are_known.ensures
     t book most ranges ranged h filled
