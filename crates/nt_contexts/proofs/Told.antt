@@ -9,11 +9,16 @@ use Rattle.nt_types.specs.TreeData.{TreesData}
 use Rattle.nt_types.specs.Rules.{AreFields}
 use Rattle.nt_grammar.specs.Table.{Table}
 use Rattle.nt_grammar.specs.Rows.{Rows}
+use Rattle.nt_outside.specs.Held.{Held}
 use Rattle.nt_outside.specs.Disk.{DiskState}
 use Rattle.nt_outside.specs.Faults.{Rose}
 use Rattle.nt_outside.specs.Source.{SourceState}
 use Rattle.nt_turn.specs.Pass.{TurnState, first_pass}
-use Rattle.nt_machine.specs.History.{Cluster}
+use Rattle.nt_machine.specs.declared.entry.Entry.{Entry}
+use Rattle.nt_machine.specs.History.{Cluster, ranges_of}
+use Rattle.nt_machine.specs.Legal.{end_after}
+use Rattle.nt_logged.specs.Logs.{IsLogOf}
+use Rattle.nt_logged.proofs.Growing.{log-fresh}
 use Rattle.nt_book.specs.declared.meta.ClusterMeta.{ClusterMeta}
 use Rattle.nt_book.specs.declared.params.Params.{Params}
 use Rattle.nt_book.specs.declared.limits.Limits.{Limits}
@@ -24,6 +29,7 @@ use Rattle.nt_commit.specs.declared.locked.Birth.{Birth}
 use Rattle.nt_commit.specs.Locked.{birth_with}
 use Rattle.nt_layout.specs.Headers.{clusters_place}
 use Rattle.nt_close.specs.Beginning.{new_book}
+use Rattle.nt_dealing.specs.Dealt.{FillsBehind}
 use Rattle.nt_dealing.specs.Texts.{all_chunks}
 use Rattle.nt_dealing.specs.Limits.{IsOver, IsOverBy}
 use Rattle.nt_writing.specs.Seats.{DiskPass}
@@ -92,6 +98,26 @@ module _ {D : Type 0} (state : D → DiskState) (fields : List MemberData) (t : 
       tell-all texts (Err Memory) w = tt
 
 -- nothing was done, for want of memory
+take-whole : (l : List ℕ) → take (length l) l ≡ l
+take-whole [] = refl
+take-whole (x ∷ l) = ap (λ (r : List ℕ). x ∷ r) (take-whole l)
+
+-- no range was reserved
+nothing-fills : (begin : ℕ) (h : Held) → FillsBehind begin h h
+nothing-fills begin h =
+    let none : List (Entry ClusterMeta) = [] in
+    let here : begin ≡ end_after begin (ranges_of none) = omega arith in
+    record {
+      history = none;
+      legal = tt;
+      gains = record {
+        steps = [];
+        log = sym (append-nil h.log);
+        is_log = subst (λ (e : ℕ). IsLogOf begin e none [] [] []) here (log-fresh begin);
+      };
+      front = λ known. take-whole h.image;
+    }
+
 pub runs-nothing : (fields : List MemberData) (t : Table) (p : Params) (disk : DiskState) (book : BookData) (sources : List SourceState)
     (n : ℕ)
     → IsReady fields p t book disk n → RunsContexts t fields p disk disk book book sources sources (Err Memory)
@@ -102,7 +128,7 @@ runs-nothing fields t p disk book sources n ready = record {
   later = omega arith;
   number = refl;
   sources_later = same-later sources;
-  held = λ h is. (h, is, record { history = []; legal = tt; log = sym (append-nil h.log); front = λ known. whole h.image });
+  held = λ h is. (h, is, nothing-fills disk.end h);
   book_on = record { begin = refl; limits = refl; firsts = refl };
   end = ready.end ∙ begins;
   out = ready.out;
@@ -110,10 +136,6 @@ runs-nothing fields t p disk book sources n ready = record {
       ready.book_is) tt;
 }
   where
-    whole : (l : List ℕ) → take (length l) l ≡ l
-    whole [] = refl
-    whole (x ∷ l) = ap (λ (r : List ℕ). x ∷ r) (whole l)
-
     begins : clusters_place t ≡ book_end book
     begins = subst (λ (b : BookData). clusters_place t ≡ book_end b) (sym ready.book_is) (omega arith)
 

@@ -10,7 +10,7 @@ use Rattle.nt_book.specs.declared.params.Params.{Params}
 use Rattle.nt_book.specs.declared.limits.LimitError.{LimitError}
 use Rattle.nt_book.specs.Books.{BookData}
 use Rattle.nt_layout.specs.Headers.{clusters_place}
-use Rattle.nt_layout.specs.Finished.{tail, front, finished}
+use Rattle.nt_layout.specs.Finished.{lists_behind, tail, front, finished}
 use Rattle.nt_close.specs.declared.error.CloseError.{CloseError}
 use Rattle.nt_close.specs.declared.error.CloseError.TheVariants as close
 use Rattle.nt_close.specs.Steps.{closed_on, closed_whole}
@@ -46,10 +46,10 @@ module _ (long : RangesAreAsLong) (stored : FinishedAreStored) (over : PassedAre
     (begin : book.begin ≡ clusters_place t) (fields : List MemberData) (texts : List (List ℕ)) (h : Held)
     (filled : IsFilledFile fields p texts t book h) where
   abbrev ends : List ℕ
-  ends = tail t book p.group
+  ends = tail t book (lists_behind t book p.group)
 
   abbrev begins : List ℕ
-  begins = front t book p.group
+  begins = front t book (lists_behind t book p.group)
 
   -- a file that stands there whole is stored
   stands : (left : Held) → StaysWithin t p book → left.image ≡ (closed_on ends begins h).image
@@ -108,13 +108,14 @@ module _ (leave : CrashesLeave) (t : Table) (p : Params) (book : BookData) (fiel
     (filled : IsFilledFile fields p texts t book h) where
   -- what a crash leaves of one that is closed
   pub closed_crash : (new : Option Held) → StaysWithin t p book
-      → new ≡ Some (closed_on (tail t book p.group) (front t book p.group) h)
+      → new ≡ Some (closed_on (tail t book (lists_behind t book p.group)) (front t book (lists_behind t book p.group)) h)
       → HoldsNow new (λ left. CrashLeaves (IsStored p fields texts (commit_order book)) left.log (Ok tt))
   closed_crash new stays is = (
-    closed_on (tail t book p.group) (front t book p.group) h,
+    closed_on (tail t book (lists_behind t book p.group)) (front t book (lists_behind t book p.group)) h,
     is,
     (
-      leave.closing fields p texts t book filled.ranges h (closed_on (tail t book p.group) (front t book p.group) h) filled.holds stays
+      leave.closing fields p texts t book filled.ranges h
+          (closed_on (tail t book (lists_behind t book p.group)) (front t book (lists_behind t book p.group)) h) filled.holds stays
           filled.filled (closed_whole refl),
       leave.closed fields p texts t book filled.ranges h filled.holds stays filled.filled,
     ),
@@ -127,7 +128,7 @@ module _ (leave : CrashesLeave) (t : Table) (p : Params) (book : BookData) (fiel
   -- and of one that isn't
   pub unclosed_crash : (e : CloseError) (old new : DiskState) → old.held ≡ Some h → NoneSpoiled book
       → HasCloseCause book (passed_by_close p t book) (Err e)
-      → LeavesClosed (tail t book p.group) (front t book p.group) old new (Err e)
+      → LeavesClosed (tail t book (lists_behind t book p.group)) (front t book (lists_behind t book p.group)) old new (Err e)
       → HoldsNow new.held (λ left. CrashLeaves (IsStored p fields texts (commit_order book)) left.log (Err (error_of_close e)))
   unclosed_crash (close.Spoiled cluster faults) old new is unspoiled cause left = absurd (none_spoiled book cluster faults unspoiled cause)
   unclosed_crash close.Memory old new is unspoiled cause left = untouched close.Memory new.held (left.place.held ∙ is)

@@ -1,5 +1,5 @@
 -- What a crash leaves of a file on its disk, by what the parts of its writing say.
-use Rattle.std.proofs.Common.{◌≡◌, ◌⊎◌, ◌∙◌, inl, inr, subst, refl, ℕ, zero, suc, List, [], ◌∷◌, ◌++◌, take, Option, Some, Result, Ok, Err}
+use Rattle.std.proofs.Common.{◌≡◌, ◌⊎◌, ◌∙◌, inl, inr, subst, true, ℕ, zero, suc, List, [], ◌∷◌, ◌++◌, take, Some, Result, Ok, Err}
 use Rattle.nt_types.specs.ShapeData.{MemberData}
 use Rattle.nt_num.specs.Codes.{unfinished}
 use Rattle.nt_num.specs.Faults.{fault}
@@ -7,13 +7,15 @@ use Rattle.nt_outside.specs.Log.{Step, Sync}
 use Rattle.nt_outside.specs.Held.{Held, nothing_held}
 use Rattle.nt_outside.specs.Disk.{DiskState}
 use Rattle.nt_grammar.specs.Table.{Table}
-use Rattle.nt_machine.specs.Legal.{IsLegal}
+use Rattle.nt_machine.specs.History.{ranges_of}
+use Rattle.nt_machine.specs.Legal.{IsLegal, end_after}
+use Rattle.nt_logged.specs.Logs.{IsLogOf}
 use Rattle.nt_book.specs.declared.params.Params.{Params}
 use Rattle.nt_book.specs.Books.{BookData}
 use Rattle.nt_container.specs.Spelling.{begun}
 use Rattle.nt_file_meaning.specs.Files.{HasDefect}
 use Rattle.nt_layout.specs.Headers.{header_blob, clusters_place}
-use Rattle.nt_layout.specs.Finished.{finished, tail, front}
+use Rattle.nt_layout.specs.Finished.{lists_behind, finished, tail, front}
 use Rattle.nt_close.specs.declared.error.BeginError.{BeginError}
 use Rattle.nt_close.specs.declared.error.BeginError.TheVariants as begin
 use Rattle.nt_close.specs.Beginning.{IsNotBegun}
@@ -75,13 +77,14 @@ nothing_leaves k bytes has may = absurd (no_sync k has)
 abbrev pub ClosingLeaves : Type 0
 ClosingLeaves =
     (t : Table) (book : BookData) (most : ℕ) (ranges : List (List ℕ)) (h left : Held) → IsRangedAs t book ranges → IsFilled t ranges h.log
-    → IsClosedSoFar (tail t book most) (front t book most) h left
-    → LeavesUnfinishedOr (λ (bytes : List ℕ). bytes ≡ finished t book most ranges) left.log
+    → IsClosedSoFar (tail t book (lists_behind t book most)) (front t book (lists_behind t book most)) h left
+    → LeavesUnfinishedOr (λ (bytes : List ℕ). bytes ≡ finished true t book most ranges) left.log
 
 abbrev pub ClosedLeaves : Type 0
 ClosedLeaves =
     (t : Table) (book : BookData) (most : ℕ) (ranges : List (List ℕ)) (h : Held) → IsRangedAs t book ranges → IsFilled t ranges h.log
-    → LeavesOnly (λ (bytes : List ℕ). bytes ≡ finished t book most ranges) (closed_on (tail t book most) (front t book most) h).log
+    → LeavesOnly (λ (bytes : List ℕ). bytes ≡ finished true t book most ranges)
+    (closed_on (tail t book (lists_behind t book most)) (front t book (lists_behind t book most)) h).log
 
 ranged : RangesAreAsLong → (fields : List MemberData) (p : Params) (texts : List (List ℕ)) (t : Table) (book : BookData)
     (ranges : List (List ℕ)) → HoldsChunks fields p texts t book ranges → IsRangedAs t book ranges
@@ -96,7 +99,7 @@ chunks_leave long stored beginning filling closing closed = record {
   beginning = beginning;
   filling = filling;
   closing = λ fields p texts t book ranges h left holds stays filled so_far.
-      or_as (λ (bytes : List ℕ). bytes ≡ finished t book p.group ranges) (IsStored p fields texts (commit_order book)) left.log
+      or_as (λ (bytes : List ℕ). bytes ≡ finished true t book p.group ranges) (IsStored p fields texts (commit_order book)) left.log
       (λ bytes is. stored fields p texts t book ranges bytes holds stays is)
       (closing t book p.group ranges h left (ranged long fields p texts t book ranges holds) filled so_far);
   closed = λ fields p texts t book ranges h holds stays filled bytes may.
@@ -111,7 +114,10 @@ run_crash leave t begin left place fills =
     leave.filling t left.log (record {
       history = fills.history;
       legal = subst (λ (n : ℕ). IsLegal n fills.history) place fills.legal;
-      is = fills.log;
+      steps = fills.gains.steps;
+      is = fills.gains.log;
+      is_log = subst (λ (n : ℕ). IsLogOf n (end_after n (ranges_of fills.history)) fills.history [] [] fills.gains.steps) place
+          fills.gains.is_log;
     })
 
 -- and of one that isn't begun

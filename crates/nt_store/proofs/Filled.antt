@@ -11,13 +11,14 @@ use Rattle.nt_outside.specs.Order.{FirstByteLast}
 use Rattle.nt_outside.specs.Source.{SourceState}
 use Rattle.nt_grammar.specs.Table.{Table}
 use Rattle.nt_grammar.specs.Rows.{Rows}
-use Rattle.nt_machine.specs.History.{Cluster}
+use Rattle.nt_machine.specs.History.{Cluster, ranges_of}
 use Rattle.nt_book.specs.declared.meta.ClusterMeta.{ClusterMeta}
 use Rattle.nt_book.specs.declared.params.Params.{Params}
 use Rattle.nt_book.specs.declared.limits.LimitError.TheVariants as limit
 use Rattle.nt_book.specs.Books.{BookData, book_clusters}
 use Rattle.nt_book.specs.Kept.{IsBookKept}
-use Rattle.nt_machine.specs.Legal.{IsLegal}
+use Rattle.nt_machine.specs.Legal.{IsLegal, end_after}
+use Rattle.nt_logged.specs.Logs.{IsLogOf}
 use Rattle.nt_layout.specs.Headers.{header_blob, file_begun, clusters_place}
 use Rattle.nt_crash.specs.Cuts.{LeavesUnfinished}
 use Rattle.nt_crash.specs.Fillings.{IsFilled}
@@ -142,7 +143,10 @@ dealt_from fields p texts t given book old new h rules rows within given_is kept
         filling = record {
           history = left.2.fills.history;
           legal = subst (λ (n : ℕ). IsLegal n left.2.fills.history) book_on.begin left.2.fills.legal;
-          is = left.2.fills.log;
+          steps = left.2.fills.gains.steps;
+          is = left.2.fills.gains.log;
+          is_log = subst (λ (n : ℕ). IsLogOf n (end_after n (ranges_of left.2.fills.history)) left.2.fills.history [] []
+              left.2.fills.gains.steps) book_on.begin left.2.fills.gains.is_log;
         };
         settled = left.2.settled;
       });

@@ -21,7 +21,7 @@ use Rattle.nt_book.specs.Kept.{IsBookKept}
 use Rattle.nt_layout.specs.Blobs.{blob_len}
 use Rattle.nt_layout.specs.Headers.{header_object, header_sum, clusters_place}
 use Rattle.nt_layout.specs.Groups.{ClusterSpan, cluster_span, list_len}
-use Rattle.nt_layout.specs.Finished.{spans, footer_object, file_len}
+use Rattle.nt_layout.specs.Finished.{list_places, lists_behind, spans, footer_object, file_len}
 use Rattle.nt_layout.specs.Laid.{IsBookOf}
 use Rattle.nt_finished.proofs.Spans.{AreInOrder, spans_in_order, order-le}
 use Rattle.nt_close.specs.Passing.{first_passed, passed_by_begin, passed_by_close}
@@ -45,13 +45,14 @@ ListsAreAsLong =
 
 abbrev pub FootersAreAsLong : Type 0
 FootersAreAsLong =
-    (t : Table) (book : BookData) (most : ℕ)
-    → blob_len (length (footer_object t book most)) ≡ footer_len t (group_count most (length (book_clusters book)))
+    (staged : Bool) (t : Table) (book : BookData) (most : ℕ)
+    → blob_len (length (footer_object t book (list_places staged t book most)))
+    ≡ footer_len t (group_count most (length (book_clusters book)))
 
 abbrev pub FilesAreAsLong : Type 0
 FilesAreAsLong =
-    (t : Table) (book : BookData) (most : ℕ) → IsBookOf t book → 0 < most
-    → file_len t book most ≡ whole_len t most (metas (book_clusters book))
+    (staged : Bool) (t : Table) (book : BookData) (most : ℕ) → IsBookOf t book → 0 < most
+    → file_len t book (list_places staged t book most) ≡ whole_len t most (metas (book_clusters book))
 
 abbrev pub DealtAreAll : Type 0
 DealtAreAll =
@@ -215,28 +216,28 @@ module _ (lists : ListsAreAsLong) (footers : FootersAreAsLong) (files : FilesAre
               (c : Cluster ClusterMeta). c.context),
         )
 
-    footer_written : IsBlobLen t p chunks (blob_len (length (footer_object t book p.group)))
-    footer_written = of_footer (footers t book p.group ∙ ap (λ (n : ℕ). footer_len t (group_count p.group n)) counts)
+    footer_written : IsBlobLen t p chunks (blob_len (length (footer_object t book (lists_behind t book p.group))))
+    footer_written = of_footer (footers true t book p.group ∙ ap (λ (n : ℕ). footer_len t (group_count p.group n)) counts)
 
     closed_over : (e : LimitError) (reached most : ℕ) → passed_by_close p t book ≡ Some e → Names e reached most
         → IsOver t p chunks reached most
     closed_over e reached most passed names =
         let n = length (book_clusters book) in
-        let foot = blob_len (length (footer_object t book p.group)) in
+        let foot = blob_len (length (footer_object t book (lists_behind t book p.group))) in
         let some : 0 < p.group = omega (arith, p.group_range.0) in
         elim (blobs_or (list_len (header_sum t) book) (λ (s : ClusterSpan). s.from + s.count ≤ n) (λ (s : ClusterSpan). s.count ≤
-        p.group) p.limits (spans book p.group) (foot ∷ []) (file_len t book p.group) e
+        p.group) p.limits (spans book p.group) (foot ∷ []) (file_len t book (lists_behind t book p.group)) e
         (inside 0 n (spans book p.group) (spans_in_order p.group n some)) (small p.group n 0 (div_ceil n p.group)) passed) [
           | inl list ↦ blob_over t p chunks reached most _ (list_written list.x list.first list.second) list.above (range_named e reached
               most _ p.limits.range names list.is)
           | inr rest ↦ elim (blobs_or (λ (m : ℕ). m) (λ (m : ℕ). m ≡ foot) (λ (m : ℕ). Unit {0}) p.limits (foot ∷ []) [] (file_len t book
-              p.group) e (refl, tt) (tt, tt) rest) [
+              (lists_behind t book p.group)) e (refl, tt) (tt, tt) rest) [
                 | inl blob ↦ blob_over t p chunks reached most blob.x (subst (IsBlobLen t p chunks) (sym blob.first) footer_written)
                     blob.above (range_named e reached most blob.x p.limits.range names blob.is)
                 | inr last ↦
-                    let end = ends p.limits (file_len t book p.group) e last in
-                    let named = file_named e reached most (file_len t book p.group) p.limits.file names end.1 in
-                    let long = files t book p.group (book_of books fields p texts t book ranges holds) some in
+                    let end = ends p.limits (file_len t book (lists_behind t book p.group)) e last in
+                    let named = file_named e reached most (file_len t book (lists_behind t book p.group)) p.limits.file names end.1 in
+                    let long = files true t book p.group (book_of books fields p texts t book ranges holds) some in
                     file_passed all-dealt.2.0 all-dealt.2.1 (omega (arith, named.0, long, all-dealt.2.2)) named.1 (omega (
                       arith,
                       end.0,

@@ -1,5 +1,5 @@
 -- A file whose clusters are the chunks of texts, finished within the limits.
-use Rattle.std.proofs.Common.{◌≡◌, ℕ, ◌≤◌, Bool, true, false, List, [], length, replicate, map, Option, Some, None, refl, arith}
+use Rattle.std.proofs.Common.{◌≡◌, ℕ, ◌≤◌, Bool, true, false, List, [], length, replicate, map, Option, Some, None, refl, sym, subst, arith}
 use Rattle.std.specs.Prelude.{nat_lt, if◌then◌else◌}
 use Rattle.std.proofs.lemmas.Bool.Decides.{nat_tests}
 use Rattle.nt_types.specs.ShapeData.{MemberData}
@@ -18,6 +18,8 @@ use Rattle.nt_file_meaning.specs.Files.{Means}
 use Rattle.nt_layout.specs.Blobs.{blob_len}
 use Rattle.nt_layout.specs.Headers.{header_object, clusters_place}
 use Rattle.nt_layout.specs.Laid.{AreBlobsOf, Measures, AreMeasures, IsBookOf, IsLaid}
+use Rattle.nt_finished.proofs.Lengths.{clusters_told, ranges-len}
+use Rattle.nt_finished.proofs.Staged.{all_behind, ranges-by_number}
 use Rattle.nt_close.specs.Passing.{first_passed, passed_by_begin, measures_of}
 use Rattle.nt_store.specs.Laws.{HoldsChunks, RangesAreAsLong, FinishedAreStored}
 
@@ -70,12 +72,18 @@ as_long long fields p texts t book ranges holds = long t p.page holds.are.dealt 
 
 pub stored_whole : BooksAreOf → FilesMean → FinishedAreStored
 stored_whole books mean fields p texts t book ranges bytes holds stays is =
+    let cs = book_clusters book in
+    let of = book_of books fields p texts t book ranges holds in
+    let lens = ranges-len t p.page holds.are.dealt ranges cs holds.are.blobs_are (clusters_told book holds.kept) in
     let laid : IsLaid bytes t holds.are.dealt (measures_of p) = record {
       book = book;
-      is_of = book_of books fields p texts t book ranges holds;
+      is_of = of;
       within = stays (header_within p.limits t holds.within);
       ranges = ranges;
-      blobs_are = holds.are.blobs_are;
+      lens = lens;
+      blobs_are = subst (λ (l : List (List ℕ)). AreBlobsOf t p.page holds.are.dealt l cs)
+          (sym (ranges-by_number book ranges holds.kept lens)) holds.are.blobs_are;
+      behind = all_behind t p.group book ranges holds.kept of.begin lens;
       is = is;
     } in
     record {

@@ -1,5 +1,5 @@
 -- What the laws of files say of one whose clusters are the chunks of texts.
-use Rattle.std.specs.Prelude.{◌≡◌, ℕ, ◌≤◌, List, None}
+use Rattle.std.specs.Prelude.{◌≡◌, ℕ, ◌≤◌, true, List, None}
 use Rattle.std.specs.List.{AllByRecursion}
 use Rattle.nt_types.specs.ShapeData.{MemberData}
 use Rattle.nt_types.specs.Rules.{AreFields}
@@ -14,7 +14,7 @@ use Rattle.nt_outside.specs.Log.{Step}
 use Rattle.nt_outside.specs.Held.{Held, nothing_held}
 use Rattle.nt_container.specs.Spelling.{begun}
 use Rattle.nt_layout.specs.Headers.{header_blob}
-use Rattle.nt_layout.specs.Finished.{finished, tail, front}
+use Rattle.nt_layout.specs.Finished.{lists_behind, finished, tail, front}
 use Rattle.nt_close.specs.Steps.{closed_on, IsBegunSoFar, IsClosedSoFar}
 use Rattle.nt_crash.specs.Cuts.{LeavesUnfinished, LeavesUnfinishedOr, LeavesOnly}
 use Rattle.nt_crash.specs.Fillings.{IsFilling, IsFilled}
@@ -50,7 +50,7 @@ RangesAreAsLong =
 abbrev pub FinishedAreStored : Type 0
 FinishedAreStored =
     (fields : List MemberData) (p : Params) (texts : List (List ℕ)) (t : Table) (book : BookData) (ranges : List (List ℕ)) (bytes : List ℕ)
-    → HoldsChunks fields p texts t book ranges → StaysWithin t p book → bytes ≡ finished t book p.group ranges
+    → HoldsChunks fields p texts t book ranges → StaysWithin t p book → bytes ≡ finished true t book p.group ranges
     → IsStored p fields texts (commit_order book) bytes
 
 -- a limit that its closing passes is one that its chunks pass
@@ -67,8 +67,9 @@ pub record CrashesLeave : Type 0 where
   pub filling : (t : Table) (log : List Step) → IsFilling t log → LeavesUnfinished log
   pub closing : (fields : List MemberData) (p : Params) (texts : List (List ℕ)) (t : Table) (book : BookData) (ranges : List (List ℕ))
       (h left : Held) → HoldsChunks fields p texts t book ranges → StaysWithin t p book → IsFilled t ranges h.log
-      → IsClosedSoFar (tail t book p.group) (front t book p.group) h left
+      → IsClosedSoFar (tail t book (lists_behind t book p.group)) (front t book (lists_behind t book p.group)) h left
       → LeavesUnfinishedOr (IsStored p fields texts (commit_order book)) left.log
   pub closed : (fields : List MemberData) (p : Params) (texts : List (List ℕ)) (t : Table) (book : BookData) (ranges : List (List ℕ))
       (h : Held) → HoldsChunks fields p texts t book ranges → StaysWithin t p book → IsFilled t ranges h.log
-      → LeavesOnly (IsStored p fields texts (commit_order book)) (closed_on (tail t book p.group) (front t book p.group) h).log
+      → LeavesOnly (IsStored p fields texts (commit_order book))
+      (closed_on (tail t book (lists_behind t book p.group)) (front t book (lists_behind t book p.group)) h).log

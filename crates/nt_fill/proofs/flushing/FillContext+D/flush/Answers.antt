@@ -107,17 +107,20 @@ returns-clause-ok g c = λ some.
     let is = c.in_ok-image.ensures.meta ∙ ap (λ (m : ℕ). cluster_meta page c.number.result m columns) (sym (entries_count t columns n)) in
     let kept = c.in_ok-write_image.ensures.ok.2 in
     let context = ap (λ (m : ClusterMeta). m.context) (w.meta ∙ is) ∙ c.number.ensures in
-    rw (← c.self.view_is) (record {
-      written = w.written;
-      len = w.len ∙ sym (ap (λ (m : ClusterMeta). m.len) w.meta);
-      context = context;
-      blob = record {
-        bytes = blob_key (length c.in_ok-image.image.bytes - key_room) w.written.start ++ drop key_room c.in_ok-image.image.bytes;
-        blob = blob_of t columns (entries_given t columns n) c.self.invariant.gives page c.number.result w.written.start
-            c.in_ok-image.image w.written.meta c.in_ok-image.ensures.bytes is w.meta;
-        told_are = w.bytes;
-      };
-      gains = w.gains;
-      alive = c.in_ok-write_image.ensures.ok.1;
-      now = refl;
-    }, kept)
+    rw (← c.self.view_is) (
+      record {
+        written = w.written;
+        len = w.len ∙ sym (ap (λ (m : ClusterMeta). m.len) w.meta);
+        context = context;
+        blob = record {
+          bytes = blob_key (length c.in_ok-image.image.bytes - key_room) w.written.start ++ drop key_room c.in_ok-image.image.bytes;
+          blob = blob_of t columns (entries_given t columns n) c.self.invariant.gives page c.number.result w.written.start
+              c.in_ok-image.image w.written.meta c.in_ok-image.ensures.bytes is w.meta;
+          told_are = w.bytes;
+        };
+        gains = w.gains;
+        alive = c.in_ok-write_image.ensures.ok.1;
+        now = refl;
+      },
+      kept,
+    )
