@@ -98,7 +98,8 @@ module _ (e : ℕ) (p : PlanData) (line : List ℕ) (at end : ℕ) (old now : Li
     (can : CanPut (maybe e p) (length line - at) old) (h : PutsSome p line at end old now) where
   -- no column gets more elements than there are bytes
   grown : (k : ℕ) → length (put_tree (maybe e p) h.found (cols_of old) k) ≤ length (cols_of old k) + (end - at)
-  grown k = subst (λ (c : Cols). length (c k) ≤ length (cols_of old k) + (end - at)) (sym (put_maybe-some e (put_tree p) h.found (cols_of old)))
+  grown k = subst (λ (c : Cols). length (c k) ≤ length (cols_of old k) + (end - at))
+      (sym (put_maybe-some e (put_tree p) h.found (cols_of old)))
       (one-apart e (plain (last_end (cols_of old e) + how_many_in h.found)) (end - at) (cols_of old)
       (put_some (put_tree p) h.found (cols_of old)) (omega (arith, h.stands.some))
       (some-elsewhere p h.found (cols_of old) e can.differ.0)

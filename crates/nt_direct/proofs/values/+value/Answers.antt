@@ -206,7 +206,8 @@ value-optional-requires t c =
       search (rules, plan_lemmas, c.decreases, c.deref-in-Maybe.ensures, c.in-Maybe.is),
       (
         c.requires.within,
-        maybe-inside ends p left c.args.out.now (can-is (plan_view c.args.plan.now) (maybe ends p) left c.args.out.now plan_is c.requires.can),
+        maybe-inside ends p left c.args.out.now
+            (can-is (plan_view c.args.plan.now) (maybe ends p) left c.args.out.now plan_is c.requires.can),
       ),
     )
 

@@ -13,8 +13,10 @@ use Rattle.nt_plans.proofs.PlanViews.{view-Text, view-List, view-Maybe, view-Cho
 use Rattle.nt_trees.specs.TreeAt.{tree_at, each_at, trees_from}
 use Rattle.nt_join.specs.Readable.{Readable, ReadableTo, ReadableEach}
 use Rattle.nt_join.proofs.Plans.{plans_view-list}
-use Rattle.nt_join.proofs.Joins.{trees_of-list_from, list_from-next, before_trees, before_trees-push, before_trees-none, only-none, only-first}
-use Rattle.nt_join.proofs.Reach.{of_tag-at, readable-is, text-within, items-readable, optional-readable, tag-among, picked-readable, tree_at-picked}
+use Rattle.nt_join.proofs.Joins.{trees_of-list_from, list_from-next, before_trees, before_trees-push}
+use Rattle.nt_join.proofs.Joins.{before_trees-none, only-none, only-first}
+use Rattle.nt_join.proofs.Reach.{of_tag-at, readable-is, text-within, items-readable, optional-readable}
+use Rattle.nt_join.proofs.Reach.{tag-among, picked-readable, tree_at-picked}
 use Rattle.nt_join.proofs.join.+join.Goals as goal
 
 pub range-loop-i-preserved : goal.range-loop-i-preserved

@@ -1,4 +1,5 @@
-use Rattle.std.proofs.Common.{◌≡◌, ◌+◌, ◌-◌, ◌&&◌, ◌∙◌, nat_le, true, ℕ, suc, get_or, map, sym, ap, ap₂, subst, inl, inr, eq-zero-or-pos, arith}
+use Rattle.std.proofs.Common.{◌≡◌, ◌+◌, ◌-◌, ◌&&◌, ◌∙◌, nat_le, true, ℕ, suc, get_or, map, sym, ap, ap₂, subst, inl, inr}
+use Rattle.std.proofs.Common.{eq-zero-or-pos, arith}
 use Rattle.nt_column.specs.Elements.{plain}
 use Rattle.nt_trees.specs.Columns.{begin_at, number_at}
 use Rattle.nt_trees.specs.Faults.{stepping, is_met}

@@ -17,9 +17,9 @@ use Rattle.nt_plans.proofs.PlanViews.{view-Bool, view-Number, view-Text, view-Li
 use Rattle.nt_trees.specs.Columns.{Cols, begin_at}
 use Rattle.nt_trees.specs.TreeAt.{tree_at, each_at, trees_from, text_from, only}
 use Rattle.nt_join.specs.Readable.{Readable, ReadableTo, ReadableEach}
-use Rattle.nt_join.proofs.Joins.{only-none, only-first}
 use Rattle.nt_join.proofs.Plans.{plans_view-list}
-use Rattle.nt_join.proofs.Reach.{of_tag-at, readable-is, text-within, items-readable, optional-readable, tag-among, picked-readable, tree_at-picked}
+use Rattle.nt_join.proofs.Reach.{of_tag-at, readable-is, text-within, items-readable, optional-readable}
+use Rattle.nt_join.proofs.Reach.{tag-among, picked-readable, tree_at-picked}
 use Rattle.nt_print.proofs.Arrays.{IsBegun, pick-put, IsBegun-none, IsBegun-next, IsBegun-end, kept-kept, mark-put, trees_from-first}
 use Rattle.nt_print.proofs.Arrays.{trees_from-none}
 use Rattle.nt_print.proofs.Places.{lent-within, lent-trees}
