@@ -39,14 +39,12 @@ metas cs = map (λ (c : Cluster ClusterMeta). c.meta) cs
 
 -- the laws of lengths and of chunks that were dealt out
 abbrev pub ListsAreAsLong : Type 0
-ListsAreAsLong =
-    (sum : ℕ) (book : BookData) (s : ClusterSpan) → s.from + s.count ≤ length (book_clusters book)
+ListsAreAsLong = (sum : ℕ) (book : BookData) (s : ClusterSpan) → s.from + s.count ≤ length (book_clusters book)
     → list_len sum book s ≡ page_list_len (metas (take s.count (drop s.from (book_clusters book))))
 
 abbrev pub FootersAreAsLong : Type 0
 FootersAreAsLong =
-    (staged : Bool) (t : Table) (book : BookData) (most : ℕ)
-    → blob_len (length (footer_object t book (list_places staged t book most)))
+    (staged : Bool) (t : Table) (book : BookData) (most : ℕ) → blob_len (length (footer_object t book (list_places staged t book most)))
     ≡ footer_len t (group_count most (length (book_clusters book)))
 
 abbrev pub FilesAreAsLong : Type 0
@@ -55,8 +53,7 @@ FilesAreAsLong =
     → file_len t book (list_places staged t book most) ≡ whole_len t most (metas (book_clusters book))
 
 abbrev pub DealtAreAll : Type 0
-DealtAreAll =
-    (t : Table) (page most : ℕ) (chunks : List (List (List TreesData))) (book : BookData) (ranges : List (List ℕ))
+DealtAreAll = (t : Table) (page most : ℕ) (chunks : List (List (List TreesData))) (book : BookData) (ranges : List (List ℕ))
     (is : AreChunksDealt t page chunks book ranges) → IsBookKept book
     → IsPermutation is.dealt (joined_chunks chunks) × AreKeptOf t page is.dealt (metas (book_clusters book))
     × ((ms : List ClusterMeta) × AreKeptOf t page (joined_chunks chunks) ms × (whole_len t most ms ≡ whole_len t most (metas (book_clusters
@@ -159,8 +156,7 @@ file_named e reached most end file (inr is) named = (cc, cc)
 
 -- a blob that is written of the chunks, above the limit
 blob_over : (t : Table) (p : Params) (chunks : List (List TreesData)) (reached most len : ℕ) → IsBlobLen t p chunks len
-    → p.limits.range < len → (reached ≡ len) × (most ≡ p.limits.range)
-    → IsOver t p chunks reached most
+    → p.limits.range < len → (reached ≡ len) × (most ≡ p.limits.range) → IsOver t p chunks reached most
 blob_over t p chunks reached most len blob above (is, limit-is) =
     range_passed (subst (IsBlobLen t p chunks) (sym is) blob) limit-is (omega (arith, above, is, limit-is))
 
