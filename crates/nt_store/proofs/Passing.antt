@@ -204,13 +204,8 @@ module _ (lists : ListsAreAsLong) (footers : FootersAreAsLong) (files : FilesAre
 
     counts : length (book_clusters book) ≡ length chunks
     counts =
-        omega (
-          arith,
-          length_permutation holds.are.dealt chunks all-dealt.0,
-          holds.are.is_deal.long,
-          length-map (book_clusters book) (λ
-              (c : Cluster ClusterMeta). c.context),
-        )
+        let contexts = length-map (book_clusters book) (λ (c : Cluster ClusterMeta). c.context) in
+        omega (arith, length_permutation holds.are.dealt chunks all-dealt.0, holds.are.is_deal.long, contexts)
 
     footer_written : IsBlobLen t p chunks (blob_len (length (footer_object t book (lists_behind t book p.group))))
     footer_written = of_footer (footers true t book p.group ∙ ap (λ (n : ℕ). footer_len t (group_count p.group n)) counts)
