@@ -95,7 +95,7 @@ written-left log byte bytes may =
 pub torn-left : (log : List Step) (byte : ℕ) (bytes : List ℕ)
     → MayLeave (crash_of ((log ++ Sync ∷ []) ++ FailedWrite 0 (byte ∷ []) ∷ [])) bytes
     → Reads log bytes ⊎ ReadsButFirst log byte bytes
-torn-left log byte bytes may = written-left log byte bytes ((overwrites (log ++ Sync ∷ [])).failed 0 (byte ∷ []) bytes may)
+torn-left log byte bytes may = written-left log byte bytes (((overwrites (log ++ Sync ∷ [])).failed 0 (byte ∷ []) bytes).0 may)
 
 module _ (log : List Step) where
   -- all of it stays

@@ -2,30 +2,29 @@
 use Rattle.std.proofs.Common.{◌≡◌, ◌∙◌, ap, sym, subst, refl, ℕ, zero, suc, ◌+◌, ◌==◌, ◌≤◌, Bool, true, false, ◌&&◌, ◌||◌, List, [], ◌∷◌}
 use Rattle.std.proofs.Common.{◌++◌, length, take, drop, map, replicate, IsTrue, arith, length-drop, length-take, take-append-drop}
 use Rattle.std.proofs.Common.{drop-drop, append_assoc}
-use Rattle.std.proofs.lemmas.List.{append-nil}
 use Rattle.std.specs.Prelude.{Option, Some, None}
 use Rattle.nt_lists.specs.Places.{put_at}
 use Rattle.nt_outside.specs.Log.{Step, Write, FailedWrite, Append, FailedAppend, Reserve, Settle, Sync}
 use Rattle.nt_outside.specs.Reads.{Known, Anything, OneOf, exactly, or_also, unknown, torn, after_step, known_from, known_of, allows}
 use Rattle.nt_outside.specs.Reads.{all_allowed, Reads}
 
-and_both : (a b : Bool) → a ≡ true → b ≡ true → (a && b) ≡ true
+pub and_both : (a b : Bool) → a ≡ true → b ≡ true → (a && b) ≡ true
 and_both true b p q = q
 and_both false b p q = p
 
-and_first : (a b : Bool) → (a && b) ≡ true → a ≡ true
+pub and_first : (a b : Bool) → (a && b) ≡ true → a ≡ true
 and_first true b p = refl
 and_first false b p = p
 
-and_second : (a b : Bool) → (a && b) ≡ true → b ≡ true
+pub and_second : (a b : Bool) → (a && b) ≡ true → b ≡ true
 and_second true b p = p
 and_second false b p = absurd (cc)
 
-or_second : (a b : Bool) → b ≡ true → (a || b) ≡ true
+pub or_second : (a b : Bool) → b ≡ true → (a || b) ≡ true
 or_second true b p = refl
 or_second false b p = p
 
-or_first : (a b : Bool) → a ≡ true → (a || b) ≡ true
+pub or_first : (a b : Bool) → a ≡ true → (a || b) ≡ true
 or_first true b p = refl
 or_first false b p = absurd (cc)
 
@@ -43,7 +42,7 @@ allowed-append (x ∷ k) [] k' b' h h' = absurd (cc)
 allowed-append (x ∷ k) (y ∷ b) k' b' h h' =
     and_both (allows x y) _ (and_first (allows x y) _ h) (allowed-append k b k' b' (and_second (allows x y) _ h) h')
 
-allowed-take : (n : ℕ) (k : List Known) (b : List ℕ) → IsTrue (all_allowed k b) → IsTrue (all_allowed (take n k) (take n b))
+pub allowed-take : (n : ℕ) (k : List Known) (b : List ℕ) → IsTrue (all_allowed k b) → IsTrue (all_allowed (take n k) (take n b))
 allowed-take zero k b h = refl
 allowed-take (suc n) [] [] h = refl
 allowed-take (suc n) [] (y ∷ b) h = absurd (cc)
@@ -51,27 +50,27 @@ allowed-take (suc n) (x ∷ k) [] h = absurd (cc)
 allowed-take (suc n) (x ∷ k) (y ∷ b) h =
     and_both (allows x y) _ (and_first (allows x y) _ h) (allowed-take n k b (and_second (allows x y) _ h))
 
-allowed-drop : (n : ℕ) (k : List Known) (b : List ℕ) → IsTrue (all_allowed k b) → IsTrue (all_allowed (drop n k) (drop n b))
+pub allowed-drop : (n : ℕ) (k : List Known) (b : List ℕ) → IsTrue (all_allowed k b) → IsTrue (all_allowed (drop n k) (drop n b))
 allowed-drop zero k b h = h
 allowed-drop (suc n) [] [] h = refl
 allowed-drop (suc n) [] (y ∷ b) h = absurd (cc)
 allowed-drop (suc n) (x ∷ k) [] h = absurd (cc)
 allowed-drop (suc n) (x ∷ k) (y ∷ b) h = allowed-drop n k b (and_second (allows x y) _ h)
 
-allowed-length : (k : List Known) (b : List ℕ) → IsTrue (all_allowed k b) → length k ≡ length b
+pub allowed-length : (k : List Known) (b : List ℕ) → IsTrue (all_allowed k b) → length k ≡ length b
 allowed-length [] [] h = refl
 allowed-length [] (y ∷ b) h = absurd (cc)
 allowed-length (x ∷ k) [] h = absurd (cc)
 allowed-length (x ∷ k) (y ∷ b) h = omega (arith, allowed-length k b (and_second (allows x y) _ h))
 
-eq_self : (n : ℕ) → (n == n) ≡ true
+pub eq_self : (n : ℕ) → (n == n) ≡ true
 eq_self n = grind arith
 
-allowed-exactly : (b : List ℕ) → IsTrue (all_allowed (map exactly b) b)
+pub allowed-exactly : (b : List ℕ) → IsTrue (all_allowed (map exactly b) b)
 allowed-exactly [] = refl
 allowed-exactly (y ∷ b) = and_both (allows (exactly y) y) _ (or_first (y == y) false (eq_self y)) (allowed-exactly b)
 
-allowed-anything : (b : List ℕ) → IsTrue (all_allowed (replicate (length b) Anything) b)
+pub allowed-anything : (b : List ℕ) → IsTrue (all_allowed (replicate (length b) Anything) b)
 allowed-anything [] = refl
 allowed-anything (y ∷ b) = allowed-anything b
 
@@ -80,7 +79,7 @@ allows-or_also new Anything y h = refl
 allows-or_also new (OneOf bytes) y h = or_second (new == y) _ h
 
 -- what a failed write may leave allows what was there
-allowed-torn : (bytes : List ℕ) (k : List Known) (old : List ℕ) → IsTrue (all_allowed k old) → length bytes ≤ length old
+pub allowed-torn : (bytes : List ℕ) (k : List Known) (old : List ℕ) → IsTrue (all_allowed k old) → length bytes ≤ length old
     → IsTrue (all_allowed (torn bytes k) (take (length bytes) old))
 allowed-torn [] k old h le = refl
 allowed-torn (x ∷ []) [] [] h le = absurd (omega arith)
@@ -93,7 +92,7 @@ allowed-torn (x ∷ x2 ∷ bytes) k old h le =
     subst (λ (m : ℕ). IsTrue (all_allowed (replicate m Anything) (take n old))) len (allowed-anything (take n old))
 
 -- bytes over those at a place, on both sides
-allowed-put_at : (k : List Known) (b : List ℕ) (at : ℕ) (k' : List Known) (b' : List ℕ) → IsTrue (all_allowed k b)
+pub allowed-put_at : (k : List Known) (b : List ℕ) (at : ℕ) (k' : List Known) (b' : List ℕ) → IsTrue (all_allowed k b)
     → IsTrue (all_allowed k' b') → IsTrue (all_allowed (put_at k at k') (put_at b at b'))
 allowed-put_at k b at k' b' h h' =
     let tail : IsTrue (all_allowed (drop (at + length k') k) (drop (at + length b') b)) =
@@ -126,10 +125,12 @@ reads-append log log' image image' bytes reads log-is image-is =
     reads-step log log' (Append bytes) (image ++ bytes) image' log-is (allowed-append (known_of log) image (map exactly bytes) bytes
     reads (allowed-exactly bytes)) (sym image-is)
 
-pub reads-failed_append : (log log' : List Step) (image : List ℕ) → Reads log image → log' ≡ log ++ FailedAppend 0 ∷ [] → Reads log' image
-reads-failed_append log log' image reads log-is =
-    reads-step log log' (FailedAppend 0) (image ++ []) image log-is (allowed-append (known_of log) image [] [] reads refl)
-    (append-nil image)
+pub reads-failed_append : (log log' : List Step) (image image' more : List ℕ) (len : ℕ) → Reads log image
+    → log' ≡ log ++ FailedAppend len ∷ [] → len ≡ length more → image' ≡ image ++ more → Reads log' image'
+reads-failed_append log log' image image' more len reads log-is whole image-is =
+    reads-step log log' (FailedAppend len) (image ++ more) image' log-is
+    (allowed-append (known_of log) image (unknown len) more reads
+    (subst (λ (n : ℕ). IsTrue (all_allowed (replicate n Anything) more)) (sym whole) (allowed-anything more))) (sym image-is)
 
 pub reads-write : (log log' : List Step) (image image' bytes : List ℕ) (at : ℕ) → Reads log image → log' ≡ log ++ Write at bytes
     ∷ [] → image' ≡ put_at image at bytes → Reads log' image'

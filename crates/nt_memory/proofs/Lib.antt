@@ -5,3 +5,8 @@ pub mod Holding
 pub mod Newest
 pub mod Ranges
 pub mod Out
+pub mod Zips
+pub mod Following
+pub mod Picking
+pub mod Walking
+pub mod Refusing

@@ -14,6 +14,7 @@ use Rattle.nt_outside.specs.Range.{is_same_range, without}
 use Rattle.nt_outside.proofs.Ranges.{same_is, is_same, without_here, without_next}
 use Rattle.nt_outside.specs.Held.{Held, BecomesSome, IsRangeSettled, IsReserved}
 use Rattle.nt_memory.specs.Grown.{IsGrown}
+use Rattle.nt_memory.specs.Left.{IsInside}
 use Rattle.nt_memory.specs.Ext.{content_of, extent}
 use Rattle.nt_memory.proofs.Allowed.{reads-settle, reads-unfilled, put_at_same}
 
@@ -57,6 +58,12 @@ pub few_bytes : (filled : Bool) (len : ℕ) (items : List ℕ) → (filled ≡ t
     → length items ≤ len
 few_bytes true len items whole empty = omega (arith, whole refl)
 few_bytes false len items whole empty = omega (arith, ap length (empty refl))
+
+-- a range is settled inside the file, with as many bytes as it is long
+pub settle_inside : (filled : Bool) (items : List ℕ) (end start len : ℕ) → (filled ≡ true → length items ≡ len) → start + len ≤ end
+    → IsInside end (Settle start len (content_of filled items))
+settle_inside true items end start len whole inside = (whole refl, inside)
+settle_inside false items end start len whole inside = inside
 
 -- no bytes over those at a place
 put_at_none : (image : List ℕ) (at : ℕ) → put_at image at [] ≡ image

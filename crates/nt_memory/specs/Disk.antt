@@ -1,5 +1,5 @@
 -- A disk in memory.
-use Rattle.std.specs.Prelude.{◌≡◌, ℕ, ◌-◌, min, List, [], length, Some, Result, vec_len, vec_capacity, refl}
+use Rattle.std.specs.Prelude.{◌≡◌, ℕ, ◌-◌, ◌/◌, min, Bool, if◌then◌else◌, List, [], length, take, Some, Result, vec_len, vec_capacity, refl}
 use Rattle.std.proofs.Common.{subst}
 use Rattle.nt_outside.specs.declared.fault.Failed.{Failed}
 use Rattle.nt_outside.specs.Reads.{Reads}
@@ -33,10 +33,15 @@ tally_of d = d.tally
 abbrev pub pens_of : MemDisk → List (List ℕ)
 pens_of d = d.pens.items
 
--- the call failed exactly where its number is listed, and made no pen
+-- what a failed append leaves of its bytes: the first half where appends are torn, else nothing
+abbrev pub left_of_append : Bool → List ℕ → List ℕ
+left_of_append torn bytes = if torn then take (length bytes / 2) bytes else []
+
+-- the call failed where its number is listed, nowhere else unless it counts with other objects, and made no pen
 pub record FailsAsListed {T : Type 0} (old new : MemDisk) (result : Result T Failed) : Type 0 where
   pub tally : FailsWhereListed (tally_of old) (tally_of new) result
   pub pens : pens_of new ≡ pens_of old
+  pub torn : new.torn ≡ old.torn
 
 -- nothing was written to it
 pub record IsEmpty (d : DiskState) : Type 0 where

@@ -1,5 +1,5 @@
 -- An extent in memory.
-use Rattle.std.specs.Prelude.{◌≡◌, ℕ, Bool, true, false, List, length, Option, Some, None, if◌then◌else◌, refl}
+use Rattle.std.specs.Prelude.{◌≡◌, ℕ, Bool, true, false, List, length, Option, Some, None, IsSome, if◌then◌else◌, refl}
 use Rattle.std.proofs.Common.{subst}
 use Rattle.nt_outside.specs.declared.range.Range.{Range}
 use Rattle.nt_outside.specs.Range.{ExtState, IsSized}
@@ -31,3 +31,11 @@ sized_by range false items bytes whole is = absurd (cc)
 -- only a filled extent has bytes, and they are as many as it is long
 pub sized_of : (e : MemExt) (bytes : List ℕ) → (state_of e).content ≡ Some bytes → IsSized (state_of e) bytes
 sized_of e bytes is = sized_by e.range e.filled e.bytes.items bytes e.whole is
+
+shown_by : (range : Range) (filled : Bool) (items : List ℕ) → filled ≡ true → IsSome (extent range filled items).content
+shown_by range true items is = refl
+shown_by range false items is = absurd (cc)
+
+-- a filled extent has its bytes
+pub has_bytes_of : (e : MemExt) → (state_of e).filled ≡ true → (state_of e).tells ≡ true → IsSome (state_of e).content
+has_bytes_of e filled tells = shown_by e.range e.filled e.bytes.items filled

@@ -1,6 +1,6 @@
 -- A host in memory.
 use Rattle.std.specs.Prelude.{◌≡◌, ◌⊎◌, ℕ, ◌+◌, ◌-◌, ◌^◌, ◌<◌, min, List, [], ◌∷◌, ◌++◌, map}
-use Rattle.std.specs.Prelude.{cond, Some, None, Result, OnOk, OnErr, IfOk, IsErr}
+use Rattle.std.specs.Prelude.{cond, false, Some, None, Result, OnOk, OnErr, IfOk, IsErr}
 use Rattle.std.specs.Option.{option_map}
 use Rattle.std.specs.String.{string_bytes}
 use Rattle.std.specs.FinMap as fin
@@ -15,6 +15,7 @@ use Rattle.nt_memory.specs.declared.plan.Plan.{Plan}
 use Rattle.nt_memory.specs.declared.tally.Tally.{Tally}
 use Rattle.nt_memory.specs.declared.host.MemHost.{MemHost}
 use Rattle.nt_memory.specs.Named.{files_of}
+use Rattle.nt_memory.specs.Untripped.{IsUntripped}
 use Rattle.nt_memory.specs.Planned.{is_same, numbers_for, pen_lists, pens_with}
 use Rattle.nt_memory.specs.Streams.{Room, room_of, room_on}
 use Rattle.nt_memory.specs.Tally.{new_tally, one_more, IsListed}
@@ -78,7 +79,8 @@ pub record IsFresh (h : MemHost) : Type 0 where
   pub asked : (state_of h).asked ≡ []
   pub err_faults : (state_of h).err_faults ≡ 0
   pub opened : (state_of h).opened ≡ 0
-  pub tally : tally_of h ≡ new_tally []
+  pub tally : tally_of h ≡ new_tally [] false
+  pub untripped : IsUntripped (plan_of h)
   pub planned : (plan_of h).planned.items ≡ []
   pub texts : (plan_of h).texts ≡ 0
   pub opened_files : (plan_of h).files ≡ 0
@@ -109,12 +111,12 @@ pub record Plans (object : Object) (call : ℕ) (old new : MemHost) (result : Re
   pub pens : OnOk result ((plan_of new).pens ≡ pens_with object (plan_of old).pens)
   pub room : room_of_host new ≡ room_of_host old
 
--- a print was of its whole piece, failed exactly where its number is listed or the room was wanting, and was counted, its failure on
--- its stream
+-- a print was of its whole piece, failed where its number is listed or the room was wanting, nowhere else unless it counts with other
+-- objects, and was counted, its failure on its stream
 pub record PrintsWhereListed (stream : Stream) (len : ℕ) (old new : MemHost) (result : Result ℕ Failed) : Type 0 where
   pub whole : IfOk result (λ n. n ≡ len)
   pub listed : IsListed (tally_of old) → IsErr result
-  pub cause : OnErr result (IsListed (tally_of old) ⊎ (room_on stream (room_of_host old) < len))
+  pub only : (tally_of old).trip ≡ false → OnErr result (IsListed (tally_of old) ⊎ (room_on stream (room_of_host old) < len))
   pub made : (tally_of new).made ≡ one_more (tally_of old).made
   pub list : (tally_of new).listed ≡ (tally_of old).listed
   pub ok : OnOk result (world.counted stream (state_of new) ≡ world.counted stream (state_of old))

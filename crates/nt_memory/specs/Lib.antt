@@ -6,9 +6,15 @@ pub mod Logged
 pub mod Grown
 pub mod Ext
 pub mod Pen
+pub mod Left
+pub mod Leaves
+pub mod Placed
 pub mod Disk
 pub mod Planned
+pub mod Untripped
 pub mod Named
 pub mod Streams
 pub mod Host
+pub mod Trips
 pub mod Opening
+pub mod Fits

@@ -1,6 +1,6 @@
 //! Bytes that are added to a list or put over others in it, in the memory that there is.
 
-ghost use Rattle.std.specs.Prelude.{◌≡◌, ◌+◌, ◌≤◌, ◌++◌, length, vec_len, vec_capacity, OnOk};
+ghost use Rattle.std.specs.Prelude.{◌≡◌, ◌+◌, ◌<◌, ◌^◌, ◌≤◌, ℕ, All, ◌++◌, length, vec_len, vec_capacity, OnOk};
 ghost use Rattle.nt_lists.specs.Places.{put_at};
 ghost use Rattle.nt_memory.specs.Grown.{IsGrown};
 
@@ -18,6 +18,11 @@ pub fn add_reserved(list: &mut Vec<u8>, bytes: &[u8])
         Err(_) => unreachable!(),
     }
 }
+
+/// Bytes are bytes.
+pub fn are_bytes(bytes: &[u8])
+    ensures { All (λ (b : ℕ). b < 2 ^ 8) bytes.now }
+{}
 
 /// Takes the memory of so many more bytes than there is memory for, and no more: room that is kept would double at each call.
 pub fn grow_room(list: &mut Vec<u8>, more: usize) -> Result<(), AllocError>

@@ -1,9 +1,12 @@
 //! A disk in memory.
 
-ghost use Rattle.std.specs.Prelude.{◌≡◌, ◌+◌, ◌^◌, ◌≤◌, [], length, drop, slice_index_or, vec_len, All, Contains, sum_by, if◌then◌else◌, is_ok, IfOk};
+ghost use Rattle.std.specs.Prelude.{◌≡◌, ◌+◌, ◌^◌, ◌≤◌, [], length, drop, ◌++◌, false, take, slice_index_or, vec_len, All, Contains, sum_by, if◌then◌else◌, is_ok, IfOk, OnErr};
 ghost use Rattle.nt_outside.specs.Reads.{Reads};
 ghost use Rattle.nt_outside.specs.declared.range.Range.{Range};
 ghost use Rattle.nt_memory.specs.Logged.{steps_of};
+ghost use Rattle.nt_memory.specs.Left.{AreInside, AreInside-prop};
+
+mod making;
 
 use crate::bytes::{add_reserved, add_zeros, grow_room, put_over};
 use crate::calls::Calls;
@@ -22,54 +25,13 @@ pub struct MemDisk {
     out: Vec<Range>,
     pens: Vec<Calls>,
     tally: Tally,
+    /// Whether an append that fails leaves the first half of its bytes.
+    torn: bool,
     ghost reads: { Reads (steps_of log) image.items },
+    ghost placed: { AreInside 0 (steps_of log) } by { AreInside-prop 0 (steps_of log) },
     ghost inside: { All (λ (r : Range). r.start + r.len ≤ vec_len image) out.items },
     ghost rows_owed: { sum_by (λ (r : Range). 1) out.items ≤ log.owed },
     ghost bytes_owed: { sum_by (λ (r : Range). r.len) out.items ≤ log.owed_bytes },
-}
-
-impl MemDisk {
-    ghost use Rattle.nt_memory.specs.Tally.{new_tally};
-    ghost use Rattle.nt_memory.specs.Disk.{IsEmpty, held_of, state_of, tally_of, pens_of};
-
-    /// An empty disk, whose calls fail where `fails` lists their numbers; those of its k-th pen where the k-th of `pens` does.
-    pub fn new(alloc: Global, fails: Calls, pens: Vec<Calls>) -> Self
-        ensures empty { IsEmpty (state_of result) }
-        ensures tally { tally_of result ≡ new_tally fails }
-        ensures pens { pens_of result ≡ pens.items }
-    {
-        MemDisk {
-            alloc,
-            image: Vec::new(alloc),
-            log: Log::new(alloc),
-            out: Vec::new(alloc),
-            pens,
-            tally: Tally::new(fails),
-        }
-    }
-
-    /// The bytes that stand there, the steps and the faults.
-    pub(crate) fn into_parts(self) -> (Vec<u8>, Log, u64)
-        ensures image { result.0.items ≡ (held_of self).image }
-        ensures log { steps_of result.1 ≡ (held_of self).log }
-        ensures faults { result.2 ≡ (state_of self).faults }
-    {
-        (self.image, self.log, self.tally.faults)
-    }
-
-    /// The calls of the next pen that are to fail.
-    fn next_calls(&mut self) -> Calls
-        ensures calls { result ≡ slice_index_or (pens_of self.old) 0 [] }
-        ensures pens { pens_of self.new ≡ drop 1 (pens_of self.old) }
-        ensures state { state_of self.new ≡ state_of self.old }
-        ensures tally { tally_of self.new ≡ tally_of self.old }
-    {
-        if self.pens.is_empty() {
-            Calls::from_vec(Vec::new(self.alloc))
-        } else {
-            self.pens.remove(0)
-        }
-    }
 }
 
 impl Disk for MemDisk {
@@ -78,7 +40,7 @@ impl Disk for MemDisk {
     type Pen = MemPen;
 
     ghost use Rattle.nt_memory.specs.Tally.{new_tally, takes_in, FailsWhereListedOr};
-    ghost use Rattle.nt_memory.specs.Disk.{state_of, tally_of, pens_of, told_of, FailsAsListed};
+    ghost use Rattle.nt_memory.specs.Disk.{held_of, state_of, tally_of, pens_of, told_of, left_of_append, FailsAsListed};
     ghost use Rattle.nt_memory.specs.Ext as mem_ext;
     ghost use Rattle.nt_memory.specs.Pen as mem_pen;
     ghost use Rattle.nt_outside.specs.Range.{IsApart};
@@ -100,14 +62,15 @@ impl Disk for MemDisk {
         ensures makes { MakesPen (state_of self.old) (state_of self.new) result }
         ensures new { IfOk result (λ p. (mem_pen.state_of p).faults ≡ 0) }
         ensures exact { FailsWhereListedOr ⊥ (tally_of self.old) (tally_of self.new) result }
-        ensures calls { IfOk result (λ p. mem_pen.tally_of p ≡ new_tally (slice_index_or (pens_of self.old) 0 [])) }
+        ensures calls { IfOk result (λ p. mem_pen.tally_of p ≡ new_tally (slice_index_or (pens_of self.old) 0 []) (tally_of self.old).trip) }
         ensures pens { pens_of self.new ≡ (if is_ok result then drop 1 (pens_of self.old) else pens_of self.old) }
     {
+        let trip = self.tally.trip.share()?;
         if self.tally.count_call() {
             return Err(Refused::Failed);
         }
         let fails = self.next_calls();
-        Ok(MemPen::new(fails))
+        Ok(MemPen::new(fails, trip))
     }
 
     fn put_back(&mut self, pen: MemPen)
@@ -179,9 +142,17 @@ impl Disk for MemDisk {
         requires spare { HasSpare (state_of self.old) (length bytes.now) }
         ensures appends { Appends bytes.now (state_of self.old) (state_of self.new) result }
         ensures exact { FailsAsListed self.old self.new result }
+        ensures left { OnErr result ((held_of self.new).image ≡ (held_of self.old).image ++ left_of_append self.old.torn bytes.now) }
     {
         if self.tally.count_call() {
-            self.log.push(Row::FailedAppend, &[]);
+            let left = if self.torn {
+                &bytes[..bytes.len() / 2]
+            } else {
+                &[]
+            };
+            let len = left.len();
+            self.log.push(Row::FailedAppend { len }, &[]);
+            add_reserved(&mut self.image, left);
             return Err(Failed);
         }
         self.log.push(Row::Append { len: bytes.len() }, bytes);

@@ -1,10 +1,12 @@
 //! A file in memory.
 
-ghost use Rattle.std.specs.Prelude.{◌≡◌, Some};
+ghost use Rattle.std.specs.Prelude.{◌≡◌, ◌<◌, ◌^◌, ℕ, false, All, Some};
 
+use crate::bytes::are_bytes;
 use crate::calls::Calls;
 use crate::front::copy_front;
 use crate::tally::Tally;
+use crate::trip::Trip;
 use nt_lists::Bytes;
 use nt_outside::{Failed, ReadAt};
 
@@ -13,6 +15,7 @@ use nt_outside::{Failed, ReadAt};
 pub struct MemFile {
     bytes: Bytes,
     tally: Tally,
+    ghost fit: { All (λ (b : ℕ). b < 2 ^ 8) bytes },
 }
 
 impl MemFile {
@@ -21,12 +24,17 @@ impl MemFile {
 
     pub fn new(bytes: Bytes, fails: Calls) -> Self
         ensures bytes { state_of result ≡ record { bytes = Some bytes; faults = 0 } }
-        ensures tally { tally_of result ≡ new_tally fails }
+        ensures tally { tally_of result ≡ new_tally fails false }
     {
-        MemFile {
-            bytes,
-            tally: Tally::new(fails),
-        }
+        MemFile::open(bytes, Tally::new(fails, Trip::none()))
+    }
+
+    pub(crate) fn open(bytes: Bytes, tally: Tally) -> Self
+        ensures bytes { state_of result ≡ record { bytes = Some bytes; faults = tally.faults } }
+        ensures tally { tally_of result ≡ tally }
+    {
+        are_bytes(bytes.as_slice());
+        MemFile { bytes, tally }
     }
 
     pub(crate) fn faults(&self) -> u64
@@ -38,10 +46,12 @@ impl MemFile {
 
 impl ReadAt for MemFile {
     ghost use Rattle.nt_memory.specs.Tally.{FailsWhereListed};
-    ghost use Rattle.nt_memory.specs.File.{state_of, tally_of};
+    ghost use Rattle.nt_memory.specs.File.{state_of, tally_of, fit_of};
     ghost use Rattle.nt_outside.specs.File.{TellsSize, ReadsAt};
 
     ghost state = { state_of };
+
+    ghost fit = { fit_of };
 
     fn size(&mut self) -> Result<u64, Failed>
         ensures tells { TellsSize (state_of self.old) (state_of self.new) result }
@@ -62,6 +72,7 @@ impl ReadAt for MemFile {
         }
         let bytes = self.bytes.as_slice();
         let start = at.min(bytes.len() as u64) as usize;
-        Ok(copy_front(&bytes[start..], buf))
+        let most = buf.len();
+        Ok(copy_front(&bytes[start..], buf, most))
     }
 }

@@ -1,15 +1,19 @@
 //! A host in memory.
 
-ghost use Rattle.std.specs.Prelude.{◌≡◌, ◌<◌, is_some, true, vec_len, vec_capacity};
+ghost use Rattle.std.specs.Prelude.{◌≡◌, ◌<◌, ◌≤◌, is_some, true, vec_len, vec_capacity};
 
 mod opening;
 mod outside;
+mod trying;
 
+use crate::bytes::are_bytes;
 use crate::calls::Calls;
-use crate::named::{NamedFile, newest};
+use crate::finding::newest;
+use crate::named::NamedFile;
 use crate::plan::{Object, Plan, Planned};
 use crate::streams::Streams;
 use crate::tally::Tally;
+use crate::trip::Trip;
 use nt_outside::Ask;
 use std::alloc::{AllocError, Global};
 
@@ -26,6 +30,7 @@ pub struct MemHost {
     tally: Tally,
     err_faults: u64,
     opened: u64,
+    ghost some: { 1 ≤ plan.most },
     ghost room: { is_some creating ≡ true → vec_len files < vec_capacity files },
 }
 
@@ -48,7 +53,7 @@ impl MemHost {
             streams: Streams::new(alloc),
             asked: Vec::new(alloc),
             plan: Plan::new(alloc),
-            tally: Tally::new(Calls::from_vec(Vec::new(alloc))),
+            tally: Tally::new(Calls::from_vec(Vec::new(alloc)), Trip::none()),
             err_faults: 0,
             opened: 0,
         }
@@ -63,6 +68,7 @@ impl MemHost {
         let bytes = bytes.to_vec(self.alloc)?;
         self.streams.make_room()?;
         self.files.reserve(2)?;
+        are_bytes(&bytes);
         self.files.push_reserved(NamedFile {
             name,
             bytes,

@@ -12,10 +12,23 @@ pub enum Row {
     Write { at: u64, len: usize },
     FailedWrite { at: u64, len: usize },
     Append { len: usize },
-    FailedAppend,
+    FailedAppend { len: usize },
     Reserve { start: u64, len: u64 },
     Settle { start: u64, len: usize, known: bool },
     Sync,
+}
+
+impl Row {
+    /// How many of its bytes are kept.
+    pub fn kept(self) -> usize
+        ensures { result ≡ bytes_of self }
+    {
+        match self {
+            Row::Write { len, .. } | Row::FailedWrite { len, .. } | Row::Append { len } => len,
+            Row::Settle { len, known, .. } if known => len,
+            _ => 0,
+        }
+    }
 }
 
 /// Steps and their bytes, apart, so that a step for which there is room takes no memory.

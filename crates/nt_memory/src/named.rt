@@ -1,10 +1,12 @@
 //! Files by name.
 
-ghost use Rattle.std.specs.Prelude.{◌≡◌};
-ghost use Rattle.std.specs.Option.{option_map};
-ghost use Rattle.nt_memory.specs.Named.{kept, stored_in};
+ghost use Rattle.std.specs.Prelude.{◌≡◌, ◌<◌, ◌^◌, ℕ, All};
+ghost use Rattle.nt_memory.specs.Placed.{ArePlaced, ArePlaced-prop};
 
+use crate::left::pick_left;
 use crate::log::Log;
+use nt_lists::Bytes;
+use std::alloc::{AllocError, Global};
 
 /// A file, its name, and the steps of the disk that wrote it, if one did.
 #[derive(Drop)]
@@ -12,17 +14,26 @@ pub struct NamedFile {
     pub name: String,
     pub bytes: Vec<u8>,
     pub log: Option<Log>,
+    ghost fit: { All (λ (b : ℕ). b < 2 ^ 8) bytes.items },
+    ghost placed: { ArePlaced log } by { ArePlaced-prop log },
 }
 
-/// The last file of a name.
-pub fn newest<'a>(files: &'a [NamedFile], name: &str) -> Option<&'a NamedFile>
-    ensures { option_map (λ f. kept f.now) result ≡ stored_in files.now name.now }
-{
-    for i in (0..files.len()).rev() {
-        let file = &files[i];
-        if name == file.name.as_str() {
-            return Some(file);
+impl NamedFile {
+    ghost use Rattle.nt_memory.specs.Named.{kept};
+    ghost use Rattle.nt_memory.specs.Left.{picked_under, MayBeLeft};
+    ghost use Rattle.std.specs.Prelude.{Some, IfOk, IfSome};
+
+    /// The file of a pick after the first so many steps of its disk.
+    pub fn crash(&self, alloc: Global, count: usize, pick: u8) -> Result<Option<Bytes>, AllocError>
+        ensures picked { IfOk result (λ found. found ≡ picked_under count pick (Some (kept self.now))) }
+        ensures leaves { IfOk result (λ found. IfSome found (MayBeLeft (Some (kept self.now)) count)) }
+    {
+        match &self.log {
+            Some(log) => {
+                let bytes = pick_left(alloc, log, count, pick)?;
+                Ok(Some(bytes))
+            }
+            None => Ok(None),
         }
     }
-    None
 }

@@ -5,6 +5,7 @@ ghost use Rattle.std.specs.Prelude.{◌≡◌, ◌≤◌, true, false, [], lengt
 use crate::bytes::add_reserved;
 use crate::calls::Calls;
 use crate::tally::Tally;
+use crate::trip::Trip;
 use nt_outside::{Ext, Failed, Pen, Range};
 
 /// A range with its bytes, once it is filled, for which it has the memory.
@@ -19,11 +20,13 @@ pub struct MemExt {
 }
 
 impl Ext for MemExt {
-    ghost use Rattle.nt_memory.specs.Ext.{state_of, sized_of};
+    ghost use Rattle.nt_memory.specs.Ext.{state_of, sized_of, has_bytes_of};
 
     ghost state = { state_of };
 
     ghost sized = { sized_of };
+
+    ghost told = { has_bytes_of };
 
     fn start(&self) -> u64 {
         self.range.start
@@ -48,12 +51,12 @@ impl MemPen {
     ghost use Rattle.nt_memory.specs.Tally.{new_tally};
     ghost use Rattle.nt_memory.specs.Pen.{state_of, tally_of};
 
-    pub(crate) fn new(fails: Calls) -> Self
+    pub(crate) fn new(fails: Calls, trip: Trip) -> Self
         ensures faults { (state_of result).faults ≡ 0 }
-        ensures tally { tally_of result ≡ new_tally fails }
+        ensures tally { tally_of result ≡ new_tally fails trip }
     {
         MemPen {
-            tally: Tally::new(fails),
+            tally: Tally::new(fails, trip),
         }
     }
 }

@@ -1,8 +1,8 @@
 -- What a crash leaves after one more step.
 use Rattle.std.proofs.Common.{◌≡◌, ◌∙◌, ap, sym, subst, refl, ℕ, zero, suc, ◌+◌, ◌≤◌, ◌&&◌, Bool, true, false, List, [], ◌∷◌, ◌++◌, length}
-use Rattle.std.proofs.Common.{take, drop, arith, length-append, length-take, length-drop}
-use Rattle.std.specs.Prelude.{IsTrue, min}
-use Rattle.std.proofs.lemmas.List.{take_all, length-replicate}
+use Rattle.std.proofs.Common.{take, drop, arith, length-append, length-take, length-drop, take-append-drop}
+use Rattle.std.specs.Prelude.{◌↔◌, IsTrue, min}
+use Rattle.std.proofs.lemmas.List.{take_all, length-replicate, append-nil}
 use Rattle.nt_lists.specs.Places.{put_at}
 use Rattle.nt_outside.specs.Log.{Step, Write, FailedWrite, Append, FailedAppend, Reserve, Settle, Sync}
 use Rattle.nt_outside.specs.Reads.{Known, Anything, unknown, torn, allows, after_step, known_from, known_of, all_allowed, Reads}
@@ -71,12 +71,15 @@ put_at-longer old items at =
       length-drop (at + length items) old,
     )
 
+append-longer : (left items : List Known) → length left ≤ length (left ++ items)
+append-longer left items = omega (arith, length-append left items)
+
 shaken-longer : (left : List Known) (step : Step) → length left ≤ length (shaken left step)
 shaken-longer left (Write at bytes) = put_at-longer left (torn bytes (drop at left)) at
 shaken-longer left (FailedWrite at bytes) = put_at-longer left (torn bytes (drop at left)) at
-shaken-longer left (Append bytes) = omega (arith, length-append left (unknown (length bytes)))
-shaken-longer left (FailedAppend len) = omega (arith, length-append left (unknown len))
-shaken-longer left (Reserve start len) = omega (arith, length-append left (unknown len))
+shaken-longer left (Append bytes) = append-longer left _
+shaken-longer left (FailedAppend len) = append-longer left _
+shaken-longer left (Reserve start len) = append-longer left _
 shaken-longer left (Settle start len bytes) = put_at-longer left (unknown len) start
 shaken-longer left Sync = omega arith
 
@@ -144,6 +147,32 @@ reaches c known more bytes h left =
       },
     )
 
+any_allowed : (more : ℕ) (bytes : List ℕ) → length bytes ≤ more → IsTrue (all_allowed (take (length bytes) (unknown more)) bytes)
+any_allowed zero [] few = refl
+any_allowed zero (y ∷ bytes) few = absurd (omega (arith, few))
+any_allowed (suc more) [] few = refl
+any_allowed (suc more) (y ∷ bytes) few = any_allowed more bytes (omega (arith, few))
+
+allowed-behind : (left : List Known) (more : ℕ) (bytes : List ℕ) → length bytes ≤ length left + more
+    → IsTrue (all_allowed (take (length (take (length left) bytes)) left) (take (length left) bytes))
+    → IsTrue (all_allowed (take (length bytes) (left ++ unknown more)) bytes)
+allowed-behind [] more bytes few h = any_allowed more bytes (omega (arith, few))
+allowed-behind (x ∷ left) more [] few h = refl
+allowed-behind (x ∷ left) more (y ∷ bytes) few h =
+    both_parts (allows x y) _ (first_part (allows x y) _ h)
+    (allowed-behind left more bytes (omega (arith, few)) (second_part (allows x y) _ h))
+
+-- anything may be left behind the old end
+reached : (c : Crash) (known : List Known) (more : ℕ) (bytes : List ℕ) → Reaches c more bytes
+    → MayLeave (record { known = known; left = c.left ++ unknown more; synced = c.synced }) bytes
+reached c known more bytes reaches =
+    let long : length (take (length c.left) bytes) ≡ min (length c.left) (length bytes) = length-take (length c.left) bytes in
+    record {
+      least = omega (arith, long, reaches.1.least);
+      most = omega (arith, reaches.0, length-append c.left (unknown more), length-replicate more Anything);
+      allowed = allowed-behind c.left more bytes reaches.0 reaches.1.allowed;
+    }
+
 after : (log : List Step) (step : Step) (bytes : List ℕ) → MayLeave (crash_of (log ++ step ∷ [])) bytes
     → MayLeave (crash_after (crash_of log) step) bytes
 after log step bytes left = subst (λ (c : Crash). MayLeave c bytes) (crash_of-push log step) left
@@ -160,39 +189,73 @@ any_known : (known other left : List Known) (synced : ℕ) (bytes : List ℕ) �
 }) bytes → MayLeave (record { known = other; left = left; synced = synced }) bytes
 any_known known other left synced bytes m = record { least = m.least; most = m.most; allowed = m.allowed }
 
-pub lengthens : (log : List Step) → Lengthens log
-lengthens log =
+-- a step that adds at the end leaves exactly what reaches
+lengthened : (log : List Step) (step : Step) (more : ℕ) (bytes : List ℕ) → crash_after (crash_of log) step ≡ record {
+  known = after_step (crash_of log).known step;
+  left = (crash_of log).left ++ unknown more;
+  synced = (crash_of log).synced;
+} → MayLeave (crash_of (log ++ step ∷ [])) bytes ↔ Reaches (crash_of log) more bytes
+lengthened log step more bytes is =
     let c = crash_of log in
-    record {
-      append = λ more bytes left. reaches c (after_step c.known (Append more)) (length more) bytes (of-holds log)
-          (after log (Append more) bytes left);
-      failed = λ more bytes left. reaches c (after_step c.known (FailedAppend more)) more bytes (of-holds log)
-          (after log (FailedAppend more) bytes left);
-      reserve = λ start more bytes left. reaches c (after_step c.known (Reserve start more)) more bytes (of-holds log)
-          (after log (Reserve start more) bytes left);
-    }
+    let known = after_step c.known step in (
+      λ left. reaches c known more bytes (of-holds log) (subst (λ (d : Crash). MayLeave d bytes) is (after log step bytes left)),
+      λ r. before log step bytes (subst (λ (d : Crash). MayLeave d bytes) (sym is) (reached c known more bytes r)),
+    )
+
+pub lengthens : (log : List Step) → Lengthens log
+lengthens log = record {
+  append = λ more bytes. lengthened log (Append more) (length more) bytes refl;
+  failed = λ more bytes. lengthened log (FailedAppend more) more bytes refl;
+  reserve = λ start more bytes. lengthened log (Reserve start more) more bytes refl;
+}
 
 torn_longer : (more : List ℕ) (old : List Known) → 2 ≤ length more → torn more old ≡ unknown (length more)
 torn_longer [] old h = absurd (omega arith)
 torn_longer (x ∷ []) old h = absurd (omega arith)
 torn_longer (x ∷ y ∷ more) old h = refl
 
+-- nothing put over what is there
+put_at-nothing : (old : List Known) (at : ℕ) → put_at old at [] ≡ old
+put_at-nothing old at = ap (λ (n : ℕ). (take at old ++ []) ++ drop n old) (plus_none at) ∙ ap (λ (l : List Known). l ++ drop at old)
+    (append-nil (take at old)) ∙ take-append-drop at old
+  where
+    plus_none : (n : ℕ) → n + 0 ≡ n
+    plus_none n = omega arith
+
+-- a step that writes inside leaves exactly what stood there but for its place
+overwritten : (log : List Step) (step : Step) (at : ℕ) (place : List Known) (bytes : List ℕ) → crash_after (crash_of log) step ≡ record {
+  known = after_step (crash_of log).known step;
+  left = put_at (crash_of log).left at place;
+  synced = (crash_of log).synced;
+} → MayLeave (crash_of (log ++ step ∷ [])) bytes ↔ MayLeave (over (crash_of log) at place) bytes
+overwritten log step at place bytes is =
+    let c = crash_of log in
+    let known = after_step c.known step in (
+      λ left. any_known known c.known _ c.synced bytes (subst (λ (d : Crash). MayLeave d bytes) is (after log step bytes left)),
+      λ left. before log step bytes (subst (λ (d : Crash). MayLeave d bytes) (sym is) (any_known c.known known _ c.synced bytes left)),
+    )
+
+-- two steps that leave the same
+left_alike : {A B C : Type 0} → A ↔ C → B ↔ C → A ↔ B
+left_alike one two = (λ a. two.1 (one.0 a), λ b. one.1 (two.0 b))
+
 pub overwrites : (log : List Step) → Overwrites log
 overwrites log =
     let c = crash_of log in
+    let writing : (at : ℕ) (more : List ℕ) (bytes : List ℕ) → MayLeave (crash_of (log ++ Write at more ∷ [])) bytes
+    ↔ MayLeave (over c at (torn more (drop at c.left))) bytes =
+    λ at more bytes. overwritten log (Write at more) at (torn more (drop at c.left)) bytes refl in
     record {
-      single = λ at byte bytes left. any_known (after_step c.known (Write at (byte ∷ []))) c.known _ c.synced bytes
-          (after log (Write at (byte ∷ [])) bytes left);
-      longer = λ at more bytes long left.
-          subst (λ (k : List Known). MayLeave (over c at k) bytes) (torn_longer more (drop at c.left) long)
-          (any_known (after_step c.known (Write at more)) c.known _ c.synced bytes (after log (Write at more) bytes left));
-      failed = λ at more bytes left.
-          before log (Write at more) bytes
-          (any_known (after_step c.known (FailedWrite at more)) (after_step c.known (Write at more)) _ c.synced bytes
-          (after log (FailedWrite at more) bytes left));
+      nothing = λ at bytes.
+          subst (λ (k : List Known). MayLeave (crash_of (log ++ Write at [] ∷ [])) bytes
+          ↔ MayLeave (record { known = c.known; left = k; synced = c.synced }) bytes) (put_at-nothing c.left at) (writing at [] bytes);
+      single = λ at byte bytes. writing at (byte ∷ []) bytes;
+      longer = λ at more bytes long.
+          subst (λ (k : List Known). MayLeave (crash_of (log ++ Write at more ∷ [])) bytes ↔ MayLeave (over c at k) bytes)
+          (torn_longer more (drop at c.left) long) (writing at more bytes);
+      failed = λ at more bytes. left_alike (overwritten log (FailedWrite at more) at (torn more (drop at c.left)) bytes refl)
+          (writing at more bytes);
     }
 
 pub settling : (log : List Step) → Settling log
-settling log start len content bytes left =
-    let c = crash_of log in
-    any_known (after_step c.known (Settle start len content)) c.known _ c.synced bytes (after log (Settle start len content) bytes left)
+settling log start len content bytes = overwritten log (Settle start len content) start (unknown len) bytes refl

@@ -1,5 +1,5 @@
--- What a crash leaves after one more step of a log.
-use Rattle.std.specs.Prelude.{ℕ, ◌+◌, ◌≤◌, List, [], ◌∷◌, ◌++◌, length, take, drop, map, Option}
+-- What a crash leaves after one more step of a log: exactly which bytes, for each kind of step.
+use Rattle.std.specs.Prelude.{◌↔◌, ℕ, ◌+◌, ◌≤◌, List, [], ◌∷◌, ◌++◌, length, take, drop, map, Option}
 use Rattle.nt_lists.specs.Places.{put_at}
 use Rattle.nt_outside.specs.Log.{Step, Write, FailedWrite, Append, FailedAppend, Reserve, Settle}
 use Rattle.nt_outside.specs.Reads.{Known, or_also, unknown}
@@ -13,23 +13,25 @@ over c at known = record { known = c.known; left = put_at c.left at known; synce
 abbrev pub Reaches : Crash → ℕ → List ℕ → Type 0
 Reaches c more bytes = (length bytes ≤ length c.left + more) × MayLeave c (take (length c.left) bytes)
 
--- an append, failed or not, and a reserved range leave what stood before the old end as it was
+-- after an append, failed or not, or a reserved range a crash leaves what it left before, and anything behind the old end
 pub record Lengthens (log : List Step) : Type 0 where
-  pub append : (more bytes : List ℕ) → MayLeave (crash_of (log ++ Append more ∷ [])) bytes → Reaches (crash_of log) (length more) bytes
-  pub failed : (more : ℕ) (bytes : List ℕ) → MayLeave (crash_of (log ++ FailedAppend more ∷ [])) bytes → Reaches (crash_of log) more bytes
+  pub append : (more bytes : List ℕ) → MayLeave (crash_of (log ++ Append more ∷ [])) bytes ↔ Reaches (crash_of log) (length more) bytes
+  pub failed : (more : ℕ) (bytes : List ℕ) → MayLeave (crash_of (log ++ FailedAppend more ∷ [])) bytes ↔ Reaches (crash_of log) more bytes
   pub reserve : (start more : ℕ) (bytes : List ℕ) → MayLeave (crash_of (log ++ Reserve start more ∷ [])) bytes
-      → Reaches (crash_of log) more bytes
+      ↔ Reaches (crash_of log) more bytes
 
--- a write over one byte, failed or not, leaves the old one or the new one; a longer one anything; and the rest as it was
+-- after a write over one byte, failed or not, a crash leaves the old one or the new one; after a longer one anything; of none what it
+-- left before; and each time the rest as it was
 pub record Overwrites (log : List Step) : Type 0 where
+  pub nothing : (at : ℕ) (bytes : List ℕ) → MayLeave (crash_of (log ++ Write at [] ∷ [])) bytes ↔ MayLeave (crash_of log) bytes
   pub single : (at byte : ℕ) (bytes : List ℕ) → MayLeave (crash_of (log ++ Write at (byte ∷ []) ∷ [])) bytes
-      → MayLeave (over (crash_of log) at (map (or_also byte) (take 1 (drop at (crash_of log).left)))) bytes
+      ↔ MayLeave (over (crash_of log) at (map (or_also byte) (take 1 (drop at (crash_of log).left)))) bytes
   pub longer : (at : ℕ) (more bytes : List ℕ) → 2 ≤ length more → MayLeave (crash_of (log ++ Write at more ∷ [])) bytes
-      → MayLeave (over (crash_of log) at (unknown (length more))) bytes
+      ↔ MayLeave (over (crash_of log) at (unknown (length more))) bytes
   pub failed : (at : ℕ) (more bytes : List ℕ) → MayLeave (crash_of (log ++ FailedWrite at more ∷ [])) bytes
-      → MayLeave (crash_of (log ++ Write at more ∷ [])) bytes
+      ↔ MayLeave (crash_of (log ++ Write at more ∷ [])) bytes
 
--- settling leaves anything in the range, and the rest as it was
+-- after a range is settled a crash leaves anything in it, and the rest as it was
 abbrev pub Settling : List Step → Type 0
 Settling log = (start len : ℕ) (content : Option (List ℕ)) (bytes : List ℕ)
-    → MayLeave (crash_of (log ++ Settle start len content ∷ [])) bytes → MayLeave (over (crash_of log) start (unknown len)) bytes
+    → MayLeave (crash_of (log ++ Settle start len content ∷ [])) bytes ↔ MayLeave (over (crash_of log) start (unknown len)) bytes

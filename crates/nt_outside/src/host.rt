@@ -1,7 +1,7 @@
 //! A host: texts, files and disks by name, and two streams.
 
-ghost use Rattle.std.specs.Prelude.{◌≡◌, ◌<◌, length, IfOk};
-ghost use Rattle.nt_outside.specs.World.{HostState, Text as asked_text, File as asked_file, Opens, Creates, IsOpenText, IsOpenFile, IsNewDisk, TakesBack, KeepsDisk, Prints, PrintsAll};
+ghost use Rattle.std.specs.Prelude.{◌≡◌, ◌<◌, ◌^◌, List, ℕ, length, Some, All, IfOk};
+ghost use Rattle.nt_outside.specs.World.{World, HostState, file, Text as asked_text, File as asked_file, Opens, Creates, IsOpenText, IsOpenFile, IsNewDisk, TakesBack, KeepsDisk, Prints, PrintsAll};
 
 use crate::disk::Disk;
 use crate::fault::{Failed, Refused};
@@ -49,6 +49,10 @@ pub trait Host {
     fn print(&mut self, stream: Stream, piece: &[u8]) -> Result<usize, Failed>
         requires { 0 < length piece.now }
         ensures { Prints stream piece.now (state self.old) (state self.new) result };
+
+    /// Each byte of its files is one.
+    ghost fit: { (h : Self) (w : World) (name : List ℕ) (told : List ℕ) → (state h).world ≡ Some w → file w name ≡ Some told
+        → All (λ (b : ℕ). b < 2 ^ 8) told };
 }
 
 /// Prints all bytes on a stream, or those before a failure.

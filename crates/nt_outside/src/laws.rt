@@ -13,7 +13,7 @@ pub fn known_logs_read_once()
     ensures once { (log : List Step) (bytes : List ℕ) (other : List ℕ) → IsKnown log bytes → Reads log other → other ≡ bytes }
 {}
 
-/// What a crash leaves after one more step, by the kind of the step. After a sync it leaves just what the log reads as.
+/// Exactly what a crash may leave after one more step, by the kind of the step. After a sync it leaves just what the log reads as.
 pub fn crashes_follow_steps()
     ensures syncs { (log : List Step) (bytes : List ℕ) → MayLeave (crash_of (log ++ Sync ∷ [])) bytes ↔ Reads log bytes }
     ensures appends { (log : List Step) → Lengthens log }

@@ -1,6 +1,6 @@
 //! Ranges of a file that are written beside its other calls, without a lock.
 
-ghost use Rattle.std.specs.Prelude.{◌≡◌, ◌≤◌, List, ℕ, length, false, Some};
+ghost use Rattle.std.specs.Prelude.{◌≡◌, ◌≤◌, List, ℕ, length, false, true, Some, IsSome};
 ghost use Rattle.std.specs.List.{remove};
 ghost use Rattle.nt_outside.specs.Range.{ExtState, PenState, IsSized, Fills, without};
 
@@ -31,6 +31,9 @@ pub trait Ext {
 
     /// Only a filled extent has bytes, and they are as many as it is long.
     ghost sized: { (e : Self) (bytes : List ℕ) → (state e).content ≡ Some bytes → IsSized (state e) bytes };
+
+    /// A filled extent that tells its bytes has some.
+    ghost told: { (e : Self) → (state e).filled ≡ true → (state e).tells ≡ true → IsSome (state e).content };
 }
 
 /// What fills extents. It touches no other range and no lock.

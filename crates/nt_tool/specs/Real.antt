@@ -1,5 +1,6 @@
 -- What the real objects tell: counts, names that were asked for, and the length of a disk. None tells what a file or a stream holds.
-use Rattle.std.specs.Prelude.{◌≡◌, ℕ, ◌-◌, ◌^◌, Bool, false, List, [], ◌∷◌, ◌++◌, length, map, Some, None, Result, OnOk, OnErr}
+use Rattle.std.specs.Prelude.{◌≡◌, ℕ, ◌-◌, ◌<◌, ◌^◌, All, Bool, true, false, IsSome, List, [], ◌∷◌, ◌++◌, length, map, Some, None, Result}
+use Rattle.std.specs.Prelude.{OnOk, OnErr}
 use Rattle.std.specs.declared.alloc.AllocError.{AllocError}
 use Rattle.nt_outside.specs.declared.fault.Refused.{Refused}
 use Rattle.nt_outside.specs.Faults.{RoseOnFailed}
@@ -10,7 +11,7 @@ use Rattle.nt_outside.specs.Held.{Held}
 use Rattle.nt_outside.specs.Source.{SourceState}
 use Rattle.nt_outside.specs.File.{FileState}
 use Rattle.nt_outside.specs.Disk.{DiskState}
-use Rattle.nt_outside.specs.World.{HostState, Asked, asked_of}
+use Rattle.nt_outside.specs.World.{World, HostState, Asked, asked_of, file}
 use Rattle.nt_tool.specs.declared.host.RealHost.{RealHost}
 
 -- a text counts its faults
@@ -29,6 +30,15 @@ ext_state range filled = record { range = range; filled = filled; content = None
 pub unsized : (range : Range) (filled : Bool) (bytes : List ℕ) → (ext_state range filled).content ≡ Some bytes
     → IsSized (ext_state range filled) bytes
 unsized range filled bytes is = absurd (cc)
+
+-- it tells nothing, whether it is filled or not
+pub unshown : (range : Range) (filled : Bool) → (ext_state range filled).filled ≡ true → (ext_state range filled).tells ≡ true
+    → IsSome (ext_state range filled).content
+unshown range filled is tells = absurd (cc)
+
+-- a file tells nothing of its bytes
+pub unread : (faults : ℕ) (told : List ℕ) → (file_state faults).bytes ≡ Some told → All (λ (b : ℕ). b < 2 ^ 8) told
+unread faults told is = absurd (cc)
 
 -- a disk knows its length and its ranges, and counts its faults; the system has the memory for its writes
 abbrev pub disk_state : ℕ → List Range → ℕ → DiskState
@@ -55,6 +65,11 @@ state_of h = record {
   err_faults = h.err_faults.count;
   opened = h.opened;
 }
+
+-- it tells nothing of its files
+pub unseen : (h : RealHost) (w : World) (name told : List ℕ) → (state_of h).world ≡ Some w → file w name ≡ Some told
+    → All (λ (b : ℕ). b < 2 ^ 8) told
+unseen h w name told is here = absurd (cc)
 
 -- nothing was asked for, nothing is out, and nothing failed
 abbrev pub fresh : HostState

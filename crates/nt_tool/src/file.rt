@@ -1,7 +1,7 @@
 //! A file of the system that is read at any place.
 
 ghost use Rattle.std.specs.Prelude.{◌≤◌, length, IfOk};
-ghost use Rattle.nt_tool.specs.Real.{file_state};
+ghost use Rattle.nt_tool.specs.Real.{file_state, unread};
 
 use crate::faults::Faults;
 use nt_outside::{Failed, ReadAt};
@@ -19,6 +19,8 @@ pub struct RealFile<F> {
 
 impl<F: FileExt + OpenFile> ReadAt for RealFile<F> {
     ghost state = { λ f. file_state f.faults.count };
+
+    ghost fit = { λ f. unread f.faults.count };
 
     fn size(&mut self) -> Result<u64, Failed> {
         match self.file.metadata() {

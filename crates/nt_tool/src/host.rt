@@ -101,7 +101,7 @@ impl RealHost {
 }
 
 impl Host for RealHost {
-    ghost use Rattle.nt_tool.specs.Real.{state_of};
+    ghost use Rattle.nt_tool.specs.Real.{state_of, unseen};
 
     type Text = RealText<File>;
 
@@ -110,6 +110,8 @@ impl Host for RealHost {
     type Out = RealDisk<File>;
 
     ghost state = { state_of };
+
+    ghost fit = { unseen };
 
     fn open_text(&mut self, name: &str) -> Result<RealText<File>, Refused> {
         let file = self.open(Kind::Text, name)?;

@@ -1,6 +1,6 @@
 //! Ranges of a file of the system, and the pens that fill them.
 
-ghost use Rattle.nt_tool.specs.Real.{ext_state, unsized};
+ghost use Rattle.nt_tool.specs.Real.{ext_state, unsized, unshown};
 
 use crate::faults::Faults;
 use crate::positioned::write_from;
@@ -18,6 +18,8 @@ impl Ext for RealExt {
     ghost state = { λ e. ext_state e.range e.filled };
 
     ghost sized = { λ e bytes is. unsized e.range e.filled bytes is };
+
+    ghost told = { λ e. unshown e.range e.filled };
 
     fn start(&self) -> u64 {
         self.range.start

@@ -2,18 +2,23 @@
 
 use super::MemHost;
 use crate::calls::Calls;
-use crate::named::newest;
+use crate::disk::MemDisk;
+use crate::finding::newest;
 use crate::plan::{Object, numbers_for};
+use crate::tally::Tally;
 use nt_lists::Bytes;
 use nt_outside::{Ask, Kind};
 use std::alloc::AllocError;
 
 impl MemHost {
-    ghost use Rattle.std.specs.Prelude.{◌≡◌, ◌<◌, vec_len, vec_capacity, OnOk, IfOk};
+    ghost use Rattle.std.specs.Prelude.{◌≡◌, ◌<◌, vec_len, vec_capacity, OnOk, IfOk, IfSome, IsSome, IsNone};
     ghost use Rattle.nt_outside.specs.World.{file, asked_as, asked_of};
     ghost use Rattle.nt_memory.specs.Planned.{numbers_for};
     ghost use Rattle.nt_memory.specs.Host.{state_of, world_of, tally_of, plan_of, listed_of_pens};
-    ghost use Rattle.nt_memory.specs.Opening.{MayOpen, IsSameHost, Admits, KeepsAsked, HoldsSame};
+    ghost use Rattle.nt_memory.specs.Tally.{new_tally};
+    ghost use Rattle.nt_memory.specs.Disk as mem_disk;
+    ghost use Rattle.nt_memory.specs.Disk.{IsEmpty};
+    ghost use Rattle.nt_memory.specs.Opening.{MayOpen, IsListedDisk, IsSameHost, Admits, KeepsAsked, HoldsSame};
 
     /// Copies the name, and takes the memory to keep it and for some prints. One object more can be counted as out.
     pub(super) fn prepare(&mut self, kind: Kind, name: &str) -> Result<Ask, AllocError>
@@ -58,6 +63,39 @@ impl MemHost {
             pens.push(calls)?;
         }
         Ok(pens)
+    }
+
+    /// The counts of a new text or file, and which of its calls are to fail.
+    pub(super) fn new_tally(&self, object: Object) -> Result<Tally, AllocError>
+        ensures { IfOk result (λ t. t ≡ new_tally (numbers_for object (plan_of self.now).planned.items) (plan_of self.now).trip) }
+    {
+        let fails = self.calls_of(object)?;
+        let trip = self.plan.trip.share()?;
+        Ok(Tally::new(fails, trip))
+    }
+
+    /// An empty disk, which knows which of its calls and of its pens' calls are to fail.
+    pub(super) fn new_disk(&self) -> Result<MemDisk, AllocError>
+        ensures listed { IfOk result (IsListedDisk self.now) }
+        ensures empty { IfOk result (λ d. IsEmpty (mem_disk.state_of d)) }
+    {
+        let fails = self.calls_of(Object::Disk)?;
+        let pens = self.calls_of_pens()?;
+        let trip = self.plan.disk_trip.share()?;
+        Ok(MemDisk::open(self.alloc, Tally::new(fails, trip), pens, self.plan.torn))
+    }
+
+    /// A name for a disk, unless one is out.
+    pub(super) fn name_unless_out(&self, name: String) -> Option<String>
+        ensures same { IfSome result (λ n. n ≡ name) }
+        ensures out { IsSome (world_of self.now).creating → IsNone result }
+        ensures only { IsNone result → IsSome (world_of self.now).creating }
+    {
+        if self.creating.is_none() {
+            Some(name)
+        } else {
+            None
+        }
     }
 
     /// Counts a call that asks for something, and gives what was found, unless the call is to fail.

@@ -3,6 +3,7 @@
 ghost use Rattle.std.specs.Prelude.{◌≡◌, ◌<◌, length, if◌then◌else◌, is_ok, IfOk, IsNone, IsSome};
 
 use super::MemHost;
+use crate::bytes::are_bytes;
 use crate::disk::MemDisk;
 use crate::file::MemFile;
 use crate::named::NamedFile;
@@ -13,10 +14,11 @@ use nt_outside::{Failed, Host, Kind, Refused, Stream};
 
 impl Host for MemHost {
     ghost use Rattle.nt_outside.specs.World.{file, Text as asked_text, File as asked_file, Opens, Creates, IsOpenText, IsOpenFile, IsNewDisk, TakesBack, KeepsDisk, Prints};
-    ghost use Rattle.nt_memory.specs.Tally.{new_tally, takes_in, FailsWhereListedOr};
+    ghost use Rattle.nt_memory.specs.Tally.{takes_in, FailsWhereListedOr};
     ghost use Rattle.nt_memory.specs.Streams.{SpendsRoom};
-    ghost use Rattle.nt_memory.specs.Host.{state_of, world_of, tally_of, plan_of, room_of_host, listed_of, opens_text, opens_file, PrintsWhereListed};
-    ghost use Rattle.nt_memory.specs.Opening.{IsLeftWith, IsListedDisk};
+    ghost use Rattle.nt_memory.specs.Host.{state_of, world_of, tally_of, plan_of, room_of_host, opens_text, opens_file, PrintsWhereListed};
+    ghost use Rattle.nt_memory.specs.Opening.{IsLeftWith, IsListedText, IsListedFile, IsListedDisk};
+    ghost use Rattle.nt_memory.specs.Fits.{fit_of};
     ghost use Rattle.nt_memory.specs.Text as mem_text;
     ghost use Rattle.nt_memory.specs.File as mem_file;
     ghost use Rattle.nt_memory.specs.Disk as mem_disk;
@@ -29,21 +31,23 @@ impl Host for MemHost {
 
     ghost state = { state_of };
 
+    ghost fit = { fit_of };
+
     fn open_text(&mut self, name: &str) -> Result<MemSource, Refused>
         ensures opens { Opens (asked_text name.now) (state_of self.old) (state_of self.new) result }
         ensures text { IfOk result (λ t. IsOpenText (state_of self.old).world name.now (mem_text.state_of t)) }
         ensures exact { FailsWhereListedOr (IsNone (file (world_of self.old) name.now)) (tally_of self.old) (tally_of self.new) result }
-        ensures calls { IfOk result (λ t. mem_text.tally_of t ≡ new_tally (listed_of self.old (Object.Text (plan_of self.old).texts))) }
+        ensures calls { IfOk result (IsListedText self.old) }
         ensures left { IsLeftWith (if is_ok result then opens_text (plan_of self.old) else plan_of self.old) self.new result }
     {
         let ask = self.prepare(Kind::Text, name)?;
         let found = self.copy_of(name)?;
-        let fails = self.calls_of(Object::Text(self.plan.texts))?;
+        let tally = self.new_tally(Object::Text(self.plan.texts))?;
         match self.admit(ask, found) {
             Some(bytes) => {
                 self.plan.texts = self.plan.texts.saturating_add(1);
                 self.opened += 1;
-                Ok(MemSource::new(bytes, fails))
+                Ok(MemSource::open(bytes, tally, self.plan.most))
             }
             None => Err(Refused::Failed),
         }
@@ -64,17 +68,17 @@ impl Host for MemHost {
         ensures opens { Opens (asked_file name.now) (state_of self.old) (state_of self.new) result }
         ensures opened { IfOk result (λ f. IsOpenFile (state_of self.old).world name.now (mem_file.state_of f)) }
         ensures exact { FailsWhereListedOr (IsNone (file (world_of self.old) name.now)) (tally_of self.old) (tally_of self.new) result }
-        ensures calls { IfOk result (λ f. mem_file.tally_of f ≡ new_tally (listed_of self.old (Object.File (plan_of self.old).files))) }
+        ensures calls { IfOk result (IsListedFile self.old) }
         ensures left { IsLeftWith (if is_ok result then opens_file (plan_of self.old) else plan_of self.old) self.new result }
     {
         let ask = self.prepare(Kind::File, name)?;
         let found = self.copy_of(name)?;
-        let fails = self.calls_of(Object::File(self.plan.files))?;
+        let tally = self.new_tally(Object::File(self.plan.files))?;
         match self.admit(ask, found) {
             Some(bytes) => {
                 self.plan.files = self.plan.files.saturating_add(1);
                 self.opened += 1;
-                Ok(MemFile::new(bytes, fails))
+                Ok(MemFile::open(bytes, tally))
             }
             None => Err(Refused::Failed),
         }
@@ -102,21 +106,16 @@ impl Host for MemHost {
         let ask = self.prepare(Kind::Out, name)?;
         let creating = String::from_str(self.alloc, name)?;
         let created = String::from_str(self.alloc, name)?;
-        let fails = self.calls_of(Object::Disk)?;
-        let pens = self.calls_of_pens()?;
+        let disk = self.new_disk()?;
         self.files.reserve(1)?;
         self.created.reserve(1)?;
-        let found = if self.creating.is_none() {
-            Some(creating)
-        } else {
-            None
-        };
+        let found = self.name_unless_out(creating);
         match self.admit(ask, found) {
             Some(creating) => {
                 self.created.push_reserved(created);
                 self.creating = Some(creating);
                 self.opened += 1;
-                Ok(MemDisk::new(self.alloc, fails, pens))
+                Ok(disk)
             }
             None => Err(Refused::Failed),
         }
@@ -135,6 +134,7 @@ impl Host for MemHost {
         let Some(name) = self.creating.take() else {
             return;
         };
+        are_bytes(&bytes);
         self.files.push_reserved(NamedFile {
             name,
             bytes,

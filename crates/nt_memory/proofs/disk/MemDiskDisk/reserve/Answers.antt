@@ -4,6 +4,7 @@ use Rattle.std.proofs.lemmas.List.Sums.{sum_by_push}
 use Rattle.nt_outside.specs.declared.range.Range.{Range}
 use Rattle.nt_outside.specs.Log.{Step, Reserve}
 use Rattle.nt_memory.specs.Logged.{steps_of}
+use Rattle.nt_memory.proofs.Picking.{placed-step}
 use Rattle.nt_memory.proofs.Allowed.{reads-reserve}
 use Rattle.nt_memory.proofs.Ranges.{within_push, reserve_holds}
 use Rattle.nt_memory.proofs.disk.MemDiskDisk.reserve.Goals as goal
@@ -18,6 +19,9 @@ invariant_of-self-2 c =
       reads = reads-reserve _ _ old.image.items _ grown.more _ c.args.len old.reads (c.push_reserve.ensures.steps
           ∙ ap (λ (l : List Step). l ++ Reserve c.len-start.result c.args.len ∷ []) c.in_ok-range_room.ensures.same.steps)
           grown.whole (grown.is ∙ ap (λ (l : List ℕ). l ++ grown.more) c.in_ok-grow_room.ensures.items);
+      placed = placed-step _ _ (Reserve c.len-start.result c.args.len) old.image.items old.placed old.reads
+          (c.push_reserve.ensures.steps ∙ ap (λ (l : List Step). l ++ Reserve c.len-start.result c.args.len ∷ [])
+          c.in_ok-range_room.ensures.same.steps) tt;
       inside = within_push old.out.items _ _ _ range old.inside
           (omega (arith, c.add_zeros.ensures.len, c.in_ok-grow_room.ensures.len))
           (omega (arith, c.add_zeros.ensures.len, c.in_ok-grow_room.ensures.len, c.len-start.ensures)) out;

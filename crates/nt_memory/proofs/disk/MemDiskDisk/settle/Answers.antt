@@ -5,7 +5,8 @@ use Rattle.nt_lists.specs.Places.{put_at}
 use Rattle.nt_outside.specs.Log.{Settle}
 use Rattle.nt_memory.specs.Logged.{steps_of}
 use Rattle.nt_memory.specs.Ext.{content_of}
-use Rattle.nt_memory.proofs.Ranges.{within_off, within_one, weight_less, few_bytes, settle_reads, settle_holds}
+use Rattle.nt_memory.proofs.Picking.{placed-step}
+use Rattle.nt_memory.proofs.Ranges.{within_off, within_one, weight_less, few_bytes, settle_inside, settle_reads, settle_holds}
 use Rattle.nt_memory.proofs.disk.MemDiskDisk.settle.Goals as goal
 
 pub put_over-requires : goal.put_over-requires
@@ -31,6 +32,10 @@ invariant_of-self c =
           e.bytes.items r.start r.len old.reads e.empty inside (c.push_settle.ensures.steps
           ∙ ap (λ (b : List ℕ). steps_of old.log ++ Settle r.start r.len (content_of e.filled b) ∷ []) c.deref.ensures.value)
           (c.put_over.ensures.items ∙ ap (put_at old.image.items r.start) c.deref-2.ensures.value);
+      placed = placed-step _ _ (Settle r.start r.len (content_of e.filled e.bytes.items)) old.image.items old.placed old.reads
+          (c.push_settle.ensures.steps
+          ∙ ap (λ (b : List ℕ). steps_of old.log ++ Settle r.start r.len (content_of e.filled b) ∷ []) c.deref.ensures.value)
+          (settle_inside e.filled e.bytes.items (length old.image.items) r.start r.len e.whole inside);
       inside = within_off old.out.items _ _ _ r old.inside (omega (arith, c.put_over.ensures.len)) c.take_off.ensures;
       rows_owed = omega (
         arith,

@@ -1,6 +1,6 @@
 use Rattle.std.proofs.Common.{◌∙◌, sym, arith}
 use Rattle.nt_memory.proofs.Newest.{here, before, none_left}
-use Rattle.nt_memory.proofs.named.newest.Goals as goal
+use Rattle.nt_memory.proofs.finding.newest.Goals as goal
 
 pub returns-then-eq : goal.returns-then-eq
 returns-then-eq c =

@@ -1,0 +1,84 @@
+//! A count of calls that several objects share.
+
+ghost use Rattle.std.specs.Prelude.{◌≡◌, Bool, true, false, is_some, IsTrue, IfOk};
+
+use std::alloc::{AllocError, Global};
+use std::marker::Model;
+use std::sync::Arc;
+use std::sync::atomic::{AtomicU64, Ordering};
+
+/// Which calls are to fail by their number, from 1, over all objects that count in one word. Nothing is proved of that number: only
+/// that no call fails by it where nothing is counted.
+#[derive(Drop)]
+pub struct Trip {
+    word: Option<Arc<AtomicU64, Global>>,
+    from: u64,
+    to: u64,
+}
+
+impl Model for Trip {
+    ghost Value = { Bool };
+
+    ghost view = { λ t. is_some t.word };
+}
+
+impl Trip {
+    /// Nothing is counted.
+    pub fn none() -> Self
+        ensures { result ≡ false }
+    {
+        Trip {
+            word: None,
+            from: 0,
+            to: 0,
+        }
+    }
+
+    /// The calls from one number to another fail.
+    pub fn new(alloc: Global, from: u64, to: u64) -> Result<Self, AllocError>
+        ensures { IfOk result (λ t. t ≡ true) }
+    {
+        let word = Arc::new(alloc, AtomicU64::new(0))?;
+        Ok(Trip {
+            word: Some(word),
+            from,
+            to,
+        })
+    }
+
+    /// What counts in the same word.
+    pub fn share(&self) -> Result<Self, AllocError>
+        ensures { IfOk result (λ t. t ≡ self.now) }
+    {
+        let word = match &self.word {
+            Some(word) => Some(Arc::try_clone(word)?),
+            None => None,
+        };
+        Ok(Trip {
+            word,
+            from: self.from,
+            to: self.to,
+        })
+    }
+
+    /// Counts a call, and says whether it is to fail.
+    pub fn hits(&self) -> bool
+        ensures { IsTrue result → self.now ≡ true }
+    {
+        match &self.word {
+            Some(word) => {
+                let number = word.fetch_add(1, Ordering::SeqCst).wrapping_add(1);
+                self.from <= number && number <= self.to
+            }
+            None => false,
+        }
+    }
+
+    /// How many calls were counted.
+    pub fn count(&self) -> u64 {
+        match &self.word {
+            Some(word) => word.load(Ordering::SeqCst),
+            None => 0,
+        }
+    }
+}
