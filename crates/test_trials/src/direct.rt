@@ -2,7 +2,7 @@
 
 use crate::named::Named;
 use crate::points::Points;
-use crate::running::{Ran, host_of};
+use crate::running::{Fails, Ran, host_of};
 use nt_book::{Limits, Params};
 use nt_draws::Making;
 use nt_generate::generate;
@@ -27,7 +27,7 @@ pub fn store(
     params: &Params,
     told: &mut Vec<u8>,
 ) -> Result<Ran, AllocError> {
-    let mut host = host_of(alloc, files, None)?;
+    let mut host = host_of(alloc, files, Fails::Nothing, 0)?;
     let names = ScriptNames {
         out: "o",
         schema: "s",

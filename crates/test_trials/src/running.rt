@@ -18,17 +18,37 @@ pub struct Ran {
     pub host: MemHost,
 }
 
-/// A call that is to fail.
-pub type Fails = Option<(Object, u64)>;
+/// Which calls of a host are to fail.
+#[derive(Clone, Copy, Debug, PartialEq, Eq)]
+pub enum Fails {
+    Nothing,
+    /// This call of an object.
+    Of(Object, u64),
+    /// The call of this number over all objects.
+    Call(u64),
+    /// Each call of disks and pens behind so many, where a failing append leaves half of its bytes.
+    Behind(u64),
+}
 
-/// A host with these files, of which this call fails.
-pub fn host_of(alloc: Global, files: &[Named], fails: Fails) -> Result<MemHost, AllocError> {
+/// A host with these files, of which these calls fail, and whose texts give at most so many bytes at a time, or any number for 0.
+pub fn host_of(
+    alloc: Global,
+    files: &[Named],
+    fails: Fails,
+    most: usize,
+) -> Result<MemHost, AllocError> {
     let mut host = MemHost::new(alloc);
     for file in files {
         host.add(file.name.as_str(), &file.bytes)?;
     }
-    if let Some((object, call)) = fails {
-        host.fail(object, call)?;
+    match fails {
+        Fails::Nothing => {}
+        Fails::Of(object, call) => host.fail(object, call)?,
+        Fails::Call(number) => host.fail_call(number)?,
+        Fails::Behind(count) => host.stop_after(count)?,
+    }
+    if most > 0 {
+        host.step(most);
     }
     Ok(host)
 }

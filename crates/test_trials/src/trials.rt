@@ -1,6 +1,7 @@
 //! The lines of a transcript, and what each does.
 
 mod asking;
+mod crashing;
 mod looking;
 mod setting;
 
@@ -31,6 +32,8 @@ pub struct Trials {
     /// The order in which contexts commit, if there is any, and how often each looks for its turn.
     order: Vec<u32>,
     looks: u64,
+    /// The most bytes that texts give at a time, or 0.
+    most: usize,
     /// The runs that were done.
     wholes: Vec<Whole>,
     /// The run before.
@@ -46,6 +49,7 @@ impl Trials {
             words: Vec::new(alloc),
             order: Vec::new(alloc),
             looks: 0,
+            most: 0,
             wholes: Vec::new(alloc),
             last: None,
         }

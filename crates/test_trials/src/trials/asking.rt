@@ -29,6 +29,9 @@ impl Trials {
         match command {
             "fails" => return self.fail_each(rt, rest, told),
             "cut" => return self.cut(rt, rest, told),
+            "each" => return self.fail_numbered(rt, rest, told),
+            "stop" => return self.stop(rt, rest, told),
+            "crash" => return self.crash(rt, rest, told),
             _ => told.push(b' ')?,
         }
         match command {
@@ -62,12 +65,12 @@ impl Trials {
     }
 
     /// A run of the words of which this call fails.
-    fn run_failing<R: Threads + Wait + Sync>(
+    pub fn run_failing<R: Threads + Wait + Sync>(
         &self,
         rt: &R,
         fails: Fails,
     ) -> Result<Ran, AllocError> {
-        self.run_over(rt, host_of(self.alloc, &self.files, fails)?)
+        self.run_over(rt, host_of(self.alloc, &self.files, fails, self.most)?)
     }
 
     /// Adds the answer of a run, of one that writes with its file, and keeps it as the last.
@@ -91,7 +94,7 @@ impl Trials {
         told: &mut Vec<u8>,
     ) -> Result<(), AllocError> {
         self.set_words(rest)?;
-        let ran = self.run_failing(rt, None)?;
+        let ran = self.run_failing(rt, Fails::Nothing)?;
         self.answer(ran, self.is_writing(), told)
     }
 
@@ -106,7 +109,7 @@ impl Trials {
             return Ok(());
         };
         let object = object_of(kind, short_of(number));
-        let ran = self.run_failing(rt, Some((object, number_of(call))))?;
+        let ran = self.run_failing(rt, Fails::Of(object, number_of(call)))?;
         self.answer(ran, self.is_writing(), told)
     }
 
@@ -127,7 +130,7 @@ impl Trials {
         told: &mut Vec<u8>,
     ) -> Result<(), AllocError> {
         self.set_words(rest)?;
-        let ran = self.run_failing(rt, None)?;
+        let ran = self.run_failing(rt, Fails::Nothing)?;
         told.push(b' ')?;
         add_judged(self.alloc, &self.wholes, &ran, told)
     }
@@ -145,7 +148,7 @@ impl Trials {
         let object = object_of(kind, short_of(number));
         let mut rows = Rows::new(self.alloc);
         for call in 1..MOST_CALLS {
-            let ran = self.run_failing(rt, Some((object, call)))?;
+            let ran = self.run_failing(rt, Fails::Of(object, call))?;
             if is_done(&self.wholes, &ran) {
                 break;
             }
@@ -172,7 +175,7 @@ impl Trials {
         };
         let mut rows = Rows::new(self.alloc);
         for len in 0..file.len() {
-            let mut host = host_of(self.alloc, &self.files, None)?;
+            let mut host = host_of(self.alloc, &self.files, Fails::Nothing, self.most)?;
             host.add(name, &file[..len])?;
             let ran = self.run_over(rt, host)?;
             let mut answer = Vec::new(self.alloc);
@@ -190,7 +193,7 @@ impl Trials {
         told: &mut Vec<u8>,
     ) -> Result<(), AllocError> {
         self.set_words(rest)?;
-        let ran = self.run_failing(rt, None)?;
+        let ran = self.run_failing(rt, Fails::Nothing)?;
         let mut lines = 0u64;
         for byte in ran.host.out() {
             if *byte == b'\n' {

@@ -52,14 +52,17 @@ impl Trials {
     /// Sets something, unless the command is none of these: `clear` takes all files away, `file NAME PART..` puts one there,
     /// `bend NAME PLACE PART..` puts bytes over those of one, `seal NAME PLACE LEN` puts the checksum of an envelope over its last
     /// bytes, and `take NAME NEW` takes a file that the last run left; `words WORD..` are those of runs; `order NUMBER..` lets
-    /// contexts commit so, and `soon NUMBER..` unless that takes too long.
+    /// contexts commit so, and `soon NUMBER..` unless that takes too long;
+    /// `step MOST` lets texts give at most so many bytes at a time.
     pub fn set(&mut self, command: &str, rest: &[&str]) -> Result<bool, AllocError> {
         match command {
             "clear" => {
                 self.files.clear();
                 self.wholes.clear();
                 self.order.clear();
+                self.most = 0;
             }
+            "step" => self.most = number_of(rest.first().copied().unwrap_or("")) as usize,
             "file" => self.set_file(rest)?,
             "bend" => self.bend(rest)?,
             "seal" => self.seal(rest)?,
