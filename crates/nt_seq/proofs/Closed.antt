@@ -29,8 +29,8 @@ use Rattle.nt_close.proofs.Finishing.{closed-is}
 use Rattle.nt_close.proofs.FirstByte.{closes_shut, closes_in_order}
 use Rattle.nt_close.proofs.Within.{within}
 use Rattle.nt_finished.proofs.Lengths.{clusters_told}
-use Rattle.nt_finished.proofs.Staged.{laid-staged}
-use Rattle.nt_finished.proofs.LaidBehind.{late-behind}
+use Rattle.nt_finished.proofs.Staged.{all_behind, laid-staged, ranges-by_number}
+use Rattle.nt_finished.specs.LateFiles.{AreLateBlobs}
 use Rattle.nt_finished.proofs.LaidLate.{lens-late}
 use Rattle.nt_seq.specs.Closing.{IsFileOf, IsShutOrWhole}
 use Rattle.nt_seq.specs.Standing.{IsSettledCluster, IsWriting}
@@ -97,9 +97,19 @@ module _ {D : Type 0} (state : D → DiskState) (w : SeqState D) (is : IsWriting
       let stays = within w.table w.params w.book passed (header-within w.params.limits w.table is.within) in
       record {
         described = is.described;
-        late = λ clusters has.
-            late-behind (closed_on behind before h).image w.table clusters (measures_of w.params) has.ranges w.book refl kept
-            is.closable.begin is.firsts stays has.late (image-is clusters has);
+        late = λ clusters has. record {
+          book = w.book;
+          kept = kept;
+          begin = is.closable.begin;
+          firsts = is.firsts;
+          within = stays;
+          ranges = has.ranges;
+          lens = lens clusters has;
+          blobs_are = subst (λ (l : List (List ℕ)). AreLateBlobs w.table w.params.page 0 clusters l (book_clusters w.book))
+              (sym (ranges-by_number w.book has.ranges kept (lens clusters has))) has.late;
+          behind = all_behind w.table w.params.group w.book has.ranges kept is.closable.begin (lens clusters has);
+          is = image-is clusters has;
+        };
         short = λ clusters has. is.short;
         first = λ fields rows clusters has.
             laid-staged (closed_on behind before h).image w.table clusters (measures_of w.params) has.ranges w.book refl (record {
