@@ -4,7 +4,6 @@ pub mod Allowed
 pub mod Holding
 pub mod Newest
 pub mod Ranges
-pub mod Out
 pub mod Zips
 pub mod Following
 pub mod Picking

@@ -12,8 +12,8 @@
 //! that its steps allow (the type's `reads`, and `told`); there is memory to settle each range that is out; the file that `crash`
 //! gives is one that a crash may leave (`leaves`).
 //!
-//! Only tested: that the calls succeed with ample memory, which call is the n-th over all objects, and that the objects can be handed
-//! to another thread.
+//! Only tested, in test_memory: that the calls succeed with ample memory, which call is the n-th over all objects, and that the objects
+//! can be handed to another thread.
 //!
 //! Choices that bind nobody else:
 //! - After a failed append nothing more stands in memory, or the first half of its bytes once `stop_after` was called, and after a
@@ -50,6 +50,3 @@ pub use host::MemHost;
 pub use plan::Object;
 pub use range::{MemExt, MemPen};
 pub use text::MemSource;
-
-#[cfg(test)]
-mod tests;

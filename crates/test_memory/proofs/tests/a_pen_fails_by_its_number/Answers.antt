@@ -1,6 +1,6 @@
 use Rattle.std.proofs.Common.{◌∙◌}
-use Rattle.nt_memory.proofs.Out.{stays_out}
-use Rattle.nt_memory.proofs.tests.a_pen_fails_by_its_number.Goals as goal
+use Rattle.test_memory.proofs.Out.{stays_out}
+use Rattle.test_memory.proofs.tests.a_pen_fails_by_its_number.Goals as goal
 
 pub settle-requires-2 : goal.settle-requires-2
 settle-requires-2 g c =

@@ -1,7 +1,7 @@
 //! What is read, printed and kept at calls that fail.
 
-use super::*;
 use nt_lists::Bytes;
+use nt_memory::{Calls, MemDisk, MemExt, MemFile, MemHost, MemSource, Object};
 use nt_outside::{Disk, Ext, Failed, Host, Pen, Refused, read_front};
 use std::alloc::{AllocError, Global};
 use std::test::Fail;
