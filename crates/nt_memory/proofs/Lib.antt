@@ -1,12 +1,5 @@
 pub mod Taken
-pub mod Steps
-pub mod Allowed
 pub mod Holding
 pub mod Newest
 pub mod Ranges
-pub mod Out
-pub mod Zips
-pub mod Following
-pub mod Picking
-pub mod Walking
 pub mod Refusing

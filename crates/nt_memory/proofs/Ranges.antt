@@ -14,9 +14,9 @@ use Rattle.nt_outside.specs.Range.{is_same_range, without}
 use Rattle.nt_outside.proofs.Ranges.{same_is, is_same, without_here, without_next}
 use Rattle.nt_outside.specs.Held.{Held, BecomesSome, IsRangeSettled, IsReserved}
 use Rattle.nt_memory.specs.Grown.{IsGrown}
-use Rattle.nt_memory.specs.Left.{IsInside}
+use Rattle.nt_disk_log.specs.Left.{IsInside}
 use Rattle.nt_memory.specs.Ext.{content_of, extent}
-use Rattle.nt_memory.proofs.Allowed.{reads-settle, reads-unfilled, put_at_same}
+use Rattle.nt_disk_log.proofs.Allowed.{reads-settle, reads-unfilled, put_at_same}
 
 -- the ranges lie inside a longer file too
 pub within_more : (out : List Range) (n m : ℕ) → All (λ (r : Range). r.start + r.len ≤ n) out → n ≤ m

@@ -5,7 +5,7 @@ use Rattle.nt_outside.specs.declared.fault.Failed.{Failed}
 use Rattle.nt_outside.specs.Reads.{Reads}
 use Rattle.nt_outside.specs.Held.{Held, nothing_held}
 use Rattle.nt_outside.specs.Disk.{DiskState}
-use Rattle.nt_memory.specs.Logged.{steps_of, spare_rows, spare_bytes}
+use Rattle.nt_disk_log.specs.Logged.{steps_of, spare_rows, spare_bytes}
 use Rattle.nt_memory.specs.Tally.{FailsWhereListed}
 use Rattle.nt_memory.specs.declared.tally.Tally.{Tally}
 use Rattle.nt_memory.specs.declared.disk.MemDisk.{MemDisk}

@@ -1,13 +1,9 @@
 pub mod Tally
 pub mod Text
 pub mod File
-pub mod Rows
-pub mod Logged
 pub mod Grown
 pub mod Ext
 pub mod Pen
-pub mod Left
-pub mod Leaves
 pub mod Placed
 pub mod Disk
 pub mod Planned

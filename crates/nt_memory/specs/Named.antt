@@ -4,7 +4,7 @@ use Rattle.std.specs.Option.{option_map}
 use Rattle.std.specs.String.{string_bytes}
 use Rattle.std.specs.FinMap as fin
 use Rattle.nt_outside.specs.World.{Files, Stored}
-use Rattle.nt_memory.specs.Logged.{steps_of}
+use Rattle.nt_disk_log.specs.Logged.{steps_of}
 use Rattle.nt_memory.specs.declared.named.NamedFile.{NamedFile}
 
 -- what stands there

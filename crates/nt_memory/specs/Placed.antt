@@ -1,9 +1,9 @@
 -- The steps of a disk that wrote a file.
 use Rattle.std.specs.Prelude.{Option, Some, None}
 use Rattle.std.specs.Coded.{Unit-prop}
-use Rattle.nt_memory.specs.declared.log.Log.{Log}
-use Rattle.nt_memory.specs.Logged.{steps_of}
-use Rattle.nt_memory.specs.Left.{AreInside, AreInside-prop}
+use Rattle.nt_disk_log.specs.declared.log.Log.{Log}
+use Rattle.nt_disk_log.specs.Logged.{steps_of}
+use Rattle.nt_disk_log.specs.Left.{AreInside, AreInside-prop}
 
 -- where a disk wrote it, its steps lie inside the file
 abbrev pub ArePlaced : Option Log → Type 0

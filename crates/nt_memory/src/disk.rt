@@ -3,16 +3,16 @@
 ghost use Rattle.std.specs.Prelude.{◌≡◌, ◌+◌, ◌^◌, ◌≤◌, [], length, drop, ◌++◌, false, take, slice_index_or, vec_len, All, Contains, sum_by, if◌then◌else◌, is_ok, IfOk, OnErr};
 ghost use Rattle.nt_outside.specs.Reads.{Reads};
 ghost use Rattle.nt_outside.specs.declared.range.Range.{Range};
-ghost use Rattle.nt_memory.specs.Logged.{steps_of};
-ghost use Rattle.nt_memory.specs.Left.{AreInside, AreInside-prop};
+ghost use Rattle.nt_disk_log.specs.Logged.{steps_of};
+ghost use Rattle.nt_disk_log.specs.Left.{AreInside, AreInside-prop};
 
 mod making;
 
-use crate::bytes::{add_reserved, add_zeros, grow_room, put_over};
+use crate::bytes::{add_zeros, grow_room};
 use crate::calls::Calls;
-use crate::log::{Log, Row};
 use crate::range::{MemExt, MemPen};
 use crate::tally::Tally;
+use nt_disk_log::{Log, Row, add_reserved, put_over};
 use nt_outside::{Disk, Failed, Pen, Range, Refused, take_off};
 use std::alloc::{AllocError, Global};
 

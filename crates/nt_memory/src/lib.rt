@@ -10,10 +10,10 @@
 //! name isn't there, a print also where its stream has no room, and `create` also while a disk is out (`exact`), unless calls fail by
 //! their number over all objects, when nothing is said of which, but that a count of faults rises with each; a disk's bytes are ones
 //! that its steps allow (the type's `reads`, and `told`); there is memory to settle each range that is out; the file that `crash`
-//! gives is one that a crash may leave (`leaves`).
+//! gives is one that a crash may leave (`leaves`). A disk's log, and what a crash may leave of it, are nt_disk_log's.
 //!
-//! Only tested: that the calls succeed with ample memory, which call is the n-th over all objects, and that the objects can be handed
-//! to another thread.
+//! Only tested, in test_memory: that the calls succeed with ample memory, which call is the n-th over all objects, and that the objects
+//! can be handed to another thread.
 //!
 //! Choices that bind nobody else:
 //! - After a failed append nothing more stands in memory, or the first half of its bytes once `stop_after` was called, and after a
@@ -27,14 +27,11 @@
 
 mod bytes;
 mod calls;
-mod cells;
 mod disk;
 mod file;
 mod finding;
 mod front;
 mod host;
-mod left;
-mod log;
 mod named;
 mod plan;
 mod range;
@@ -50,6 +47,3 @@ pub use host::MemHost;
 pub use plan::Object;
 pub use range::{MemExt, MemPen};
 pub use text::MemSource;
-
-#[cfg(test)]
-mod tests;

@@ -3,8 +3,7 @@
 ghost use Rattle.std.specs.Prelude.{◌≡◌, ◌<◌, ◌^◌, ℕ, All};
 ghost use Rattle.nt_memory.specs.Placed.{ArePlaced, ArePlaced-prop};
 
-use crate::left::pick_left;
-use crate::log::Log;
+use nt_disk_log::{Log, pick_left};
 use nt_lists::Bytes;
 use std::alloc::{AllocError, Global};
 
@@ -20,7 +19,7 @@ pub struct NamedFile {
 
 impl NamedFile {
     ghost use Rattle.nt_memory.specs.Named.{kept};
-    ghost use Rattle.nt_memory.specs.Left.{picked_under, MayBeLeft};
+    ghost use Rattle.nt_disk_log.specs.Left.{picked_under, MayBeLeft};
     ghost use Rattle.std.specs.Prelude.{Some, IfOk, IfSome};
 
     /// The file of a pick after the first so many steps of its disk.

@@ -2,10 +2,10 @@
 
 ghost use Rattle.std.specs.Prelude.{◌≡◌, ◌≤◌, true, false, [], length, vec_capacity};
 
-use crate::bytes::add_reserved;
 use crate::calls::Calls;
 use crate::tally::Tally;
 use crate::trip::Trip;
+use nt_disk_log::add_reserved;
 use nt_outside::{Ext, Failed, Pen, Range};
 
 /// A range with its bytes, once it is filled, for which it has the memory.

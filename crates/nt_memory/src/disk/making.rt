@@ -1,22 +1,21 @@
 //! How a disk in memory is made, taken apart, and what a crash leaves of it.
 
 ghost use Rattle.std.specs.Prelude.{◌≡◌, [], drop, take, false, slice_index_or, IfOk};
-ghost use Rattle.nt_memory.specs.Logged.{steps_of};
-ghost use Rattle.nt_memory.specs.Left.{AreInside};
+ghost use Rattle.nt_disk_log.specs.Logged.{steps_of};
+ghost use Rattle.nt_disk_log.specs.Left.{AreInside};
 
 use super::MemDisk;
 use crate::calls::Calls;
-use crate::left::pick_left;
-use crate::log::Log;
 use crate::tally::Tally;
 use crate::trip::Trip;
+use nt_disk_log::{Log, pick_left};
 use nt_lists::Bytes;
 use std::alloc::{AllocError, Global};
 
 impl MemDisk {
     ghost use Rattle.nt_memory.specs.Tally.{new_tally};
     ghost use Rattle.nt_memory.specs.Disk.{IsEmpty, held_of, state_of, tally_of, pens_of};
-    ghost use Rattle.nt_memory.specs.Left.{picked_file};
+    ghost use Rattle.nt_disk_log.specs.Left.{picked_file};
     ghost use Rattle.nt_outside.specs.Crash.{LeavesBehind};
 
     /// An empty disk, whose calls fail where `fails` lists their numbers; those of its k-th pen where the k-th of `pens` does.

@@ -9,7 +9,7 @@ use std::alloc::AllocError;
 impl MemHost {
     ghost use Rattle.std.specs.Prelude.{◌≡◌, ◌≤◌, IfOk, IfSome};
     ghost use Rattle.nt_outside.specs.World.{stored};
-    ghost use Rattle.nt_memory.specs.Left.{picked_under, MayBeLeft};
+    ghost use Rattle.nt_disk_log.specs.Left.{picked_under, MayBeLeft};
     ghost use Rattle.nt_memory.specs.Host.{world_of};
     ghost use Rattle.nt_memory.specs.Trips.{Trips, Steps};
 

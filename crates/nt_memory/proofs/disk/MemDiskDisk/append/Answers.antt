@@ -1,7 +1,7 @@
 use Rattle.std.proofs.Common.{arith, refl, ◌+◌, ◌≤◌}
-use Rattle.nt_memory.proofs.Allowed.{reads-append, reads-failed_append}
+use Rattle.nt_disk_log.proofs.Allowed.{reads-append, reads-failed_append}
 use Rattle.nt_outside.specs.Log.{Append, FailedAppend}
-use Rattle.nt_memory.proofs.Picking.{placed-step}
+use Rattle.nt_disk_log.proofs.Picking.{placed-step}
 use Rattle.nt_memory.proofs.Ranges.{within_more}
 use Rattle.nt_memory.proofs.disk.MemDiskDisk.append.Goals as goal
 

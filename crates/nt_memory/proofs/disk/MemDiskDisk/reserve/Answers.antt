@@ -3,9 +3,9 @@ use Rattle.std.specs.Prelude.{sum_by}
 use Rattle.std.proofs.lemmas.List.Sums.{sum_by_push}
 use Rattle.nt_outside.specs.declared.range.Range.{Range}
 use Rattle.nt_outside.specs.Log.{Step, Reserve}
-use Rattle.nt_memory.specs.Logged.{steps_of}
-use Rattle.nt_memory.proofs.Picking.{placed-step}
-use Rattle.nt_memory.proofs.Allowed.{reads-reserve}
+use Rattle.nt_disk_log.specs.Logged.{steps_of}
+use Rattle.nt_disk_log.proofs.Picking.{placed-step}
+use Rattle.nt_disk_log.proofs.Allowed.{reads-reserve}
 use Rattle.nt_memory.proofs.Ranges.{within_push, reserve_holds}
 use Rattle.nt_memory.proofs.disk.MemDiskDisk.reserve.Goals as goal
 

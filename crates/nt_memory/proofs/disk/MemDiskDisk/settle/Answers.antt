@@ -3,9 +3,9 @@ use Rattle.std.specs.Prelude.{sum_by}
 use Rattle.nt_outside.specs.declared.range.Range.{Range}
 use Rattle.nt_lists.specs.Places.{put_at}
 use Rattle.nt_outside.specs.Log.{Settle}
-use Rattle.nt_memory.specs.Logged.{steps_of}
+use Rattle.nt_disk_log.specs.Logged.{steps_of}
 use Rattle.nt_memory.specs.Ext.{content_of}
-use Rattle.nt_memory.proofs.Picking.{placed-step}
+use Rattle.nt_disk_log.proofs.Picking.{placed-step}
 use Rattle.nt_memory.proofs.Ranges.{within_off, within_one, weight_less, few_bytes, settle_inside, settle_reads, settle_holds}
 use Rattle.nt_memory.proofs.disk.MemDiskDisk.settle.Goals as goal
 

@@ -1,7 +1,7 @@
 use Rattle.std.proofs.Common.{arith, ◌+◌, ◌≤◌}
-use Rattle.nt_memory.proofs.Allowed.{reads-sync}
+use Rattle.nt_disk_log.proofs.Allowed.{reads-sync}
 use Rattle.nt_outside.specs.Log.{Sync}
-use Rattle.nt_memory.proofs.Picking.{placed-step}
+use Rattle.nt_disk_log.proofs.Picking.{placed-step}
 use Rattle.nt_memory.proofs.disk.MemDiskDisk.sync.Goals as goal
 
 pub invariant_of-self-2 : goal.invariant_of-self-2

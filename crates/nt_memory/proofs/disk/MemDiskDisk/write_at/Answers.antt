@@ -1,7 +1,7 @@
 use Rattle.std.proofs.Common.{arith, rules, ◌+◌, ◌≤◌}
-use Rattle.nt_memory.proofs.Allowed.{reads-write, reads-failed_write}
+use Rattle.nt_disk_log.proofs.Allowed.{reads-write, reads-failed_write}
 use Rattle.nt_outside.specs.Log.{Write, FailedWrite}
-use Rattle.nt_memory.proofs.Picking.{placed-step}
+use Rattle.nt_disk_log.proofs.Picking.{placed-step}
 use Rattle.nt_memory.proofs.Holding.{torn_old}
 use Rattle.nt_memory.proofs.Ranges.{within_more}
 use Rattle.nt_memory.proofs.disk.MemDiskDisk.write_at.Goals as goal

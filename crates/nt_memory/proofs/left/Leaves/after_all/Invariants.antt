@@ -1,5 +1,0 @@
-use Rattle.nt_memory.proofs.Walking.{Walked}
-use Rattle.nt_memory.proofs.left.Leaves.after_all.Given as goal
-
-abbrev pub invariant-loop-i : goal.invariant-loop-i
-invariant-loop-i l = Walked l.leaves l.i l.rows l.bytes l.rest
