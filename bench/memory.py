@@ -32,8 +32,8 @@ def run(program, words, refuse=0):
     """Status, out, err, and how many requests there were."""
     environ = dict(os.environ, LD_PRELOAD=sys.argv[2], REFUSE=str(refuse), REQUESTS="requests")
     done = subprocess.run([program, *words], capture_output=True, env=environ, timeout=60)
-    with open("requests") as file:
-        return done.returncode, done.stdout, done.stderr, int(file.read())
+    with open("requests", "rb") as file:
+        return done.returncode, done.stdout, done.stderr, int.from_bytes(file.read(), "little")
 
 
 def looks_finished(name):
