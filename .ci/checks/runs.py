@@ -3,6 +3,7 @@
 - RUNS times eight small inputs are written, in clusters, pages and groups of other sizes each time, and printed again. The order line deals
   out the chunks of each input, whole, once and in their order, and the lines that are printed are just these chunks.
 - An input of 100000 events is written with the defaults, listed, and printed again; what is printed is written again as the same file.
+- An input of 100000 events with optional values, one in three of them null, is written and printed again, and so is what is printed.
 - Eight inputs of 100000 drawn events each are written with the defaults: ten clusters of each, dealt out in the order that is told.
 - The generator makes these eight inputs' events ten times, with the same lines each time; its file has just their chunks, each context's
   in their order. Of one context its file is that which `write` makes of the text.
@@ -107,6 +108,25 @@ def long_run(program):
         raise Amiss("the entries, written again, are another file")
 
 
+def optional_run(program):
+    def number(k, most):
+        return "null" if k % 3 == 0 else str(k * 48271 % most)
+
+    lines = []
+    for k in range(100000):
+        text = "null" if k % 5 == 0 else f'"t{k % 10}"'
+        lines.append(f'[{number(k, 1 << 32)},{text},[{",".join(number(k + j, 1 << 16) for j in range(k % 7))}]]\n')
+    save("optional.schema", "n opt<u32>\ntag opt<string>\nids vec<opt<u16>>\n")
+    save("optional", "".join(lines))
+    for text, out in (("optional", "first.root"), ("again", "second.root")):
+        call(program, "write", out, "optional.schema", text)
+        save("again", call(program, "entries", out))
+        if bytes_of("again") != bytes_of("optional"):
+            raise Amiss(f"{out}: the entries aren't the events with optional values")
+    if bytes_of("first.root") != bytes_of("second.root"):
+        raise Amiss("the entries with optional values, written again, are another file")
+
+
 def drawn_lines(number):
     """100000 events, by draws that multiply the number before by 48271, modulo 2^31 - 1."""
     lines = []
@@ -187,6 +207,7 @@ def main():
         try:
             orders = small_runs(program)
             long_run(program)
+            optional_run(program)
             eight_long(program)
             made = generated(program)
         except Amiss as fault:
@@ -194,7 +215,7 @@ def main():
             return 1
         finally:
             os.chdir("/")
-    print(f"runs: {RUNS} of eight inputs in {orders} orders, a long one, eight long ones, and what the generator makes in {made} orders, in {time.monotonic() - begun:.1f} seconds")
+    print(f"runs: {RUNS} of eight inputs in {orders} orders, a long one, one of optional values, eight long ones, and what the generator makes in {made} orders, in {time.monotonic() - begun:.1f} seconds")
     return 0
 
 
