@@ -6,7 +6,7 @@ use nt_outside::{Disk, Ext, Failed, Host, Pen, Refused, read_front};
 use std::alloc::{AllocError, Global};
 use std::test::Fail;
 
-fn failing(alloc: Global, numbers: &[u64]) -> Result<Calls, AllocError> {
+pub fn failing(alloc: Global, numbers: &[u64]) -> Result<Calls, AllocError> {
     Ok(Calls::from_vec(numbers.to_vec(alloc)?))
 }
 
