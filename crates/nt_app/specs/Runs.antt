@@ -1,12 +1,12 @@
 -- What the program does to a host, whole: the command, and then its message on err.
-use Rattle.std.specs.Prelude.{⊤, ◌≡◌, ◌⊎◌, ℕ, List, codes, Option, Some, unwrap_or}
+use Rattle.std.specs.Prelude.{⊤, ◌≡◌, ◌⊎◌, ℕ, List, Option, Some, unwrap_or}
 use Rattle.nt_payloads.specs.Files.{IsReadAsItIs}
 use Rattle.nt_outside.specs.World.{World, HostState, file}
 use Rattle.nt_book.specs.declared.params.Params.{Params}
 use Rattle.nt_draws.specs.declared.making.Making.{Making}
 use Rattle.nt_show.specs.declared.entry_range.EntryRange.{EntryRange}
 use Rattle.nt_show.specs.Shown.{entries_shown, fields_shown}
-use Rattle.nt_command_line.specs.CommandLine.{Begins, IsEntries, IsSchemaCommand}
+use Rattle.nt_command_line.specs.CommandLine.{IsEntries, IsSchemaCommand}
 use Rattle.nt_command_line.specs.WriteWords.{IsWrite}
 use Rattle.nt_command_line.specs.SeqWords.{IsSeq}
 use Rattle.nt_command_line.specs.GenWords.{IsGen}
@@ -56,10 +56,6 @@ SayMaking words = (m : Making) × (out : List ℕ) × IsGen words m out
 abbrev pub SayReading : List (List ℕ) → Type 0
 SayReading words =
     ((from count : Option ℕ) × (name : List ℕ) × IsEntries words from count name) ⊎ ((name : List ℕ) × IsSchemaCommand words name)
-
--- the first word is that of a command that has contexts: `write` or `gen`
-abbrev pub HasContexts : List (List ℕ) → Type 0
-HasContexts words = Begins words (codes "write") ⊎ Begins words (codes "gen")
 
 -- each answer comes of some commands alone, and `Usage` of words that are wrong
 abbrev pub IsAnswerTo : List (List ℕ) → Status → Type 0

@@ -1,10 +1,11 @@
 //! The top calls.
 
-ghost use Rattle.std.specs.Prelude.{◌≡◌, true, false, None, IfSome};
+ghost use Rattle.std.specs.Prelude.{◌≡◌, None, IfSome};
 ghost use Rattle.nt_command_line.specs.CommandLine.{texts};
 ghost use Rattle.nt_app.specs.Statuses.{message_of};
 ghost use Rattle.nt_app.specs.Reports.{Reports};
-ghost use Rattle.nt_app.specs.Runs.{HasContexts, Obeys, Runs};
+ghost use Rattle.nt_command_line.specs.Commands.{NeedsThreads};
+ghost use Rattle.nt_app.specs.Runs.{Obeys, Runs};
 
 use crate::generate::make;
 use crate::message::message_of;
@@ -12,10 +13,10 @@ use crate::seq::seq;
 use crate::show::{entries, schema};
 use crate::status::Status;
 use crate::write::write;
-use nt_command_line::{Command, command_of};
+use nt_command_line::{Alone, Parallel, alone_of, needs_threads, parallel_of};
 use nt_outside::{Disk, Gate, Host, Stream, print_all};
 use nt_show::EntryRange;
-use std::alloc::Global;
+use std::alloc::{AllocError, Global};
 use std::sync::Wait;
 use std::thread::Threads;
 
@@ -27,39 +28,25 @@ fn report<H: Host>(host: &mut H, status: &Status)
     let _ = print_all(host, Stream::ToErr, line.as_str().as_bytes());
 }
 
-/// Whether the first word is that of a command that has contexts.
-fn has_contexts(words: &[String]) -> bool
-    ensures yes { result ≡ true → HasContexts (texts words.now) }
-    ensures no { result ≡ false → HasContexts (texts words.now) → ⊥ }
-{
-    match words {
-        [first, ..] => first.as_str() == "write" || first.as_str() == "gen",
-        [] => false,
-    }
-}
-
-/// Does what words say whose command has no contexts.
+/// Does what words say whose command waits for nobody.
 fn do_alone<H: Host>(alloc: Global, words: &[String], host: &mut H) -> Status
-    requires { HasContexts (texts words.now) → ⊥ }
+    requires { NeedsThreads (texts words.now) → ⊥ }
     ensures { Obeys (texts words.entry.now) (H.state host.old) (H.state host.new) result }
 {
-    let Ok(command) = command_of(alloc, words) else {
-        return Status::Memory;
-    };
-    match command {
-        Command::Seq(said) => seq(alloc, host, &said),
-        Command::Entries { from, count, file } => {
+    match alone_of(alloc, words) {
+        Ok(Some(Alone::Seq(said))) => seq(alloc, host, &said),
+        Ok(Some(Alone::Entries { from, count, file })) => {
             let from = from.unwrap_or(0);
             entries(alloc, host, EntryRange { from, count }, file)
         }
-        Command::Schema { file } => schema(alloc, host, file),
-        Command::Unknown => Status::Usage,
-        Command::Write(_) | Command::Gen(_) => unreachable!(),
+        Ok(Some(Alone::Schema { file })) => schema(alloc, host, file),
+        Ok(None) => Status::Usage,
+        Err(AllocError) => Status::Memory,
     }
 }
 
-/// Does what words say whose command has contexts.
-fn do_with_contexts<R, H, G>(
+/// Does what words say whose command starts threads.
+fn do_in_parallel<R, H, G>(
     rt: &R,
     alloc: Global,
     words: &[String],
@@ -74,17 +61,14 @@ where
     <H::Out as Disk>::Pen: Send,
     <H::Out as Disk>::Ext: Send,
     G: Gate + Sync,
-    requires { HasContexts (texts words.now) }
+    requires { NeedsThreads (texts words.now) }
     ensures { Obeys (texts words.entry.now) (H.state host.old) (H.state host.new) result }
 {
-    let Ok(command) = command_of(alloc, words) else {
-        return Status::Memory;
-    };
-    match command {
-        Command::Write(said) => write(rt, alloc, host, &said, gate),
-        Command::Gen(said) => make(rt, alloc, host, &said, gate),
-        Command::Unknown => Status::Usage,
-        _ => unreachable!(),
+    match parallel_of(alloc, words) {
+        Ok(Some(Parallel::Write(said))) => write(rt, alloc, host, &said, gate),
+        Ok(Some(Parallel::Gen(said))) => make(rt, alloc, host, &said, gate),
+        Ok(None) => Status::Usage,
+        Err(AllocError) => Status::Memory,
     }
 }
 
@@ -92,10 +76,10 @@ where
 /// `write` or `gen`. Of these nothing is done.
 pub fn run_alone<H: Host>(alloc: Global, words: &[String], host: &mut H) -> Option<Status>
     ensures some { IfSome result (Runs (texts words.now) (H.state host.old) (H.state host.new)) }
-    ensures none { result ≡ None → HasContexts (texts words.now) × (H.state host.new ≡ H.state host.old) }
-    ensures only { HasContexts (texts words.now) → result ≡ None }
+    ensures none { result ≡ None → NeedsThreads (texts words.now) × (H.state host.new ≡ H.state host.old) }
+    ensures only { NeedsThreads (texts words.now) → result ≡ None }
 {
-    if has_contexts(words) {
+    if needs_threads(words) {
         return None;
     }
     let status = do_alone(alloc, words, host);
@@ -124,7 +108,7 @@ where
     match run_alone(alloc, &words, host) {
         Some(status) => status,
         None => {
-            let status = do_with_contexts(rt, alloc, &words, host, gate);
+            let status = do_in_parallel(rt, alloc, &words, host, gate);
             report(host, &status);
             status
         }

@@ -3,7 +3,7 @@
 //! `begin` puts the head of a file, whose first byte is 0, and the header of its fields on an empty
 //! disk, and gives the schema and the book of the clusters to come. `close` puts page lists, footer,
 //! anchor and lists behind the clusters' ranges, then file header and directory in front of the
-//! header, and the first byte when all of that stays. `write_begin` and `write_end` are the steps of
+//! header; it writes the first byte last, once all of that is synced. `write_begin` and `write_end` are the steps of
 //! each, for bytes that are made. Start at `beginning.rt` and `closing.rt`. Which bytes these are is
 //! said in `nt_layout` (`file_begun`, `tail`, `front`, `finished`), in which order they are written
 //! in `specs/Steps.antt`, which limits they keep in `specs/Passing.antt`.

@@ -1,10 +1,12 @@
 -- What words say as a command.
-use Rattle.std.specs.Prelude.{ℕ, List, map, codes, Option}
+use Rattle.std.specs.Prelude.{◌⊎◌, ℕ, List, map, codes, Option, Some, None}
 use Rattle.std.specs.Borrow.{Bor}
 use Rattle.nt_book.specs.declared.params.Params.{Params}
 use Rattle.nt_draws.specs.declared.making.Making.{Making}
-use Rattle.nt_command_line.specs.declared.command.Command.{Command}
-use Rattle.nt_command_line.specs.declared.command.Command.TheVariants.{Write, Seq, Gen, Entries, Schema, Unknown}
+use Rattle.nt_command_line.specs.declared.command.Parallel.{Parallel}
+use Rattle.nt_command_line.specs.declared.command.Parallel.TheVariants.{Write, Gen}
+use Rattle.nt_command_line.specs.declared.command.Alone.{Alone}
+use Rattle.nt_command_line.specs.declared.command.Alone.TheVariants.{Seq, Entries, Schema}
 use Rattle.nt_command_line.specs.CommandLine.{entries_app, schema_app, Begins, IsTaken, IsEntries, IsSchemaCommand}
 use Rattle.nt_command_line.specs.WriteWords.{IsWrite, IsWrongWrite}
 use Rattle.nt_command_line.specs.SeqWords.{IsSeq, IsWrongSeq}
@@ -31,11 +33,19 @@ pub record IsWrong (words : List (List ℕ)) : Type 0 where
   pub entries : Begins words (codes "entries") → IsTaken entries_app words → ⊥
   pub schema : Begins words (codes "schema") → IsTaken schema_app words → ⊥
 
--- the words say this command
-abbrev pub Says : List (List ℕ) → Command → Type 0
-Says words (Write w) = IsWrite words w.out.now w.schema.now (names_of w.inputs.items) w.params
-Says words (Seq s) = IsSeq words s.out.now s.schema.now s.input.now s.params
-Says words (Gen g) = IsGen words g.making g.out.now
-Says words (Entries from count file) = IsEntries words from count file.now
-Says words (Schema file) = IsSchemaCommand words file.now
-Says words Unknown = IsWrong words
+-- the first word is that of a command that starts threads
+abbrev pub NeedsThreads : List (List ℕ) → Type 0
+NeedsThreads words = Begins words (codes "write") ⊎ Begins words (codes "gen")
+
+-- the words say this command, which starts threads, or are wrong
+abbrev pub SaysParallel : List (List ℕ) → Option Parallel → Type 0
+SaysParallel words (Some (Write w)) = IsWrite words w.out.now w.schema.now (names_of w.inputs.items) w.params
+SaysParallel words (Some (Gen g)) = IsGen words g.making g.out.now
+SaysParallel words None = IsWrong words
+
+-- the words say this command, which waits for nobody, or are wrong
+abbrev pub SaysAlone : List (List ℕ) → Option Alone → Type 0
+SaysAlone words (Some (Seq s)) = IsSeq words s.out.now s.schema.now s.input.now s.params
+SaysAlone words (Some (Entries from count file)) = IsEntries words from count file.now
+SaysAlone words (Some (Schema file)) = IsSchemaCommand words file.now
+SaysAlone words None = IsWrong words

@@ -1,8 +1,8 @@
 //! The command that words say.
 
-ghost use Rattle.std.specs.Prelude.{ℕ, List, IfOk};
+ghost use Rattle.std.specs.Prelude.{ℕ, List, ◌≡◌, true, false, IfOk};
 ghost use Rattle.nt_command_line.specs.CommandLine.{texts};
-ghost use Rattle.nt_command_line.specs.Commands.{Says, IsNoCommand, IsWrong};
+ghost use Rattle.nt_command_line.specs.Commands.{NeedsThreads, SaysParallel, SaysAlone, IsNoCommand, IsWrong};
 
 use crate::generate::{GenWords, gen_of};
 use crate::seq::{SeqWords, seq_of};
@@ -10,12 +10,17 @@ use crate::show::{entries_of, schema_of};
 use crate::write::{WriteWords, write_of};
 use std::alloc::{AllocError, Global};
 
-/// A command, by the names and numbers that its words give.
+/// A command that starts threads, by the names and numbers that its words give.
 #[derive(Drop)]
-pub enum Command<'a> {
+pub enum Parallel<'a> {
     Write(WriteWords<'a>),
-    Seq(SeqWords<'a>),
     Gen(GenWords<'a>),
+}
+
+/// A command that waits for nobody, by the names and numbers that its words give.
+#[derive(Drop)]
+pub enum Alone<'a> {
+    Seq(SeqWords<'a>),
     /// The entries from `from` on, and at most `count` of them, where the words say so.
     Entries {
         from: Option<u64>,
@@ -25,20 +30,40 @@ pub enum Command<'a> {
     Schema {
         file: &'a str,
     },
-    Unknown,
 }
 
-/// The command of these words.
-pub fn command_of<'a>(alloc: Global, words: &'a [String]) -> Result<Command<'a>, AllocError>
-    ensures { IfOk result (Says (texts words.entry.now)) }
+/// Whether the first word is that of a command that starts threads.
+pub fn needs_threads(words: &[String]) -> bool
+    ensures yes { result ≡ true → NeedsThreads (texts words.now) }
+    ensures no { result ≡ false → NeedsThreads (texts words.now) → ⊥ }
+{
+    match words {
+        [first, ..] => first.as_str() == "write" || first.as_str() == "gen",
+        [] => false,
+    }
+}
+
+/// The command of these words, the first of which is that of a command that starts threads; None where they are wrong.
+pub fn parallel_of<'a>(alloc: Global, words: &'a [String]) -> Result<Option<Parallel<'a>>, AllocError>
+    requires { NeedsThreads (texts words.now) }
+    ensures { IfOk result (SaysParallel (texts words.entry.now)) }
 {
     match words {
         [first, ..] if first.as_str() == "write" => write_of(alloc, words),
+        _ => gen_of(alloc, words),
+    }
+}
+
+/// The command of these words, the first of which is that of no command that starts threads; None where they are wrong.
+pub fn alone_of<'a>(alloc: Global, words: &'a [String]) -> Result<Option<Alone<'a>>, AllocError>
+    requires { NeedsThreads (texts words.now) → ⊥ }
+    ensures { IfOk result (SaysAlone (texts words.entry.now)) }
+{
+    match words {
         [first, ..] if first.as_str() == "seq" => seq_of(alloc, words),
-        [first, ..] if first.as_str() == "gen" => gen_of(alloc, words),
         [first, ..] if first.as_str() == "entries" => entries_of(alloc, words),
         [first, ..] if first.as_str() == "schema" => schema_of(alloc, words),
-        _ => Ok(Command::Unknown),
+        _ => Ok(None),
     }
 }
 

@@ -3,11 +3,11 @@
 ghost use Rattle.std.specs.Prelude.{codes, IfOk};
 ghost use Rattle.nt_command_line.specs.CommandLine.{texts, Begins};
 ghost use Rattle.nt_command_line.specs.GenWords.{gen_rules};
-ghost use Rattle.nt_command_line.specs.Commands.{Says};
+ghost use Rattle.nt_command_line.specs.Commands.{SaysParallel};
 ghost use Rattle.nt_command_line.specs.Arguments.{IsCommandOf};
 
 use crate::arguments::{bare, matches_of, name_in, number_operand, operand, operand_number};
-use crate::command::Command;
+use crate::command::Parallel;
 use nt_draws::Making;
 use std::alloc::{AllocError, Global};
 
@@ -29,12 +29,12 @@ fn gen_command<'a>(alloc: Global) -> Result<clap::Command<'a>, AllocError>
 }
 
 /// The command of words that begin with `gen`.
-pub(crate) fn gen_of<'a>(alloc: Global, words: &'a [String]) -> Result<Command<'a>, AllocError>
+pub(crate) fn gen_of<'a>(alloc: Global, words: &'a [String]) -> Result<Option<Parallel<'a>>, AllocError>
     requires { Begins (texts words.now) (codes "gen") }
-    ensures { IfOk result (Says (texts words.entry.now)) }
+    ensures { IfOk result (SaysParallel (texts words.entry.now)) }
 {
     let Some(matches) = matches_of(gen_command(alloc)?, words)? else {
-        return Ok(Command::Unknown);
+        return Ok(None);
     };
     let contexts = operand_number(&matches, "C") as u32;
     let events = operand_number(&matches, "E") as u32;
@@ -42,8 +42,8 @@ pub(crate) fn gen_of<'a>(alloc: Global, words: &'a [String]) -> Result<Command<'
     let Some(making) = Making::new(contexts, events, seed) else {
         unreachable!()
     };
-    Ok(Command::Gen(GenWords {
+    Ok(Some(Parallel::Gen(GenWords {
         making,
         out: name_in(&matches, "OUT"),
-    }))
+    })))
 }

@@ -1,12 +1,12 @@
 //! The words of the command line: which command they say, its names and its numbers, as clap reads them.
 //!
-//! Start at `command.rt` (`command_of`). `write.rt`, `seq.rt` and `generate.rt` have the words of the commands that write a file,
+//! Start at `command.rt`: `needs_threads` says which kind of command the first word is, `parallel_of` and `alone_of` what the words say. `write.rt`, `seq.rt` and `generate.rt` have the words of the commands that write a file,
 //! `show.rt` those of `entries` and `schema`; `options.rt` has the options that `write` and `seq` share, and `arguments.rt` what all
 //! share: arguments and commands of clap's, and what it finds.
 //!
 //! Words: what clap *finds* under a name is what its matches have there; it *takes* the words of a command that it doesn't refuse.
 //!
-//! Proved: words are the command that `command_of` answers exactly as clap's definition of simple commands reads them, and `Unknown`
+//! Proved: words are the command that is answered exactly as clap's definition of simple commands reads them, and None
 //! only where the first word is no command, clap refuses the others for another cause than memory, `write` has no or too many
 //! inputs, or the OUT of `write` or `seq` has the name of a text that is read. The numbers of `gen` lie in their ranges (`Making` of
 //! nt_draws).
@@ -22,7 +22,7 @@ mod seq;
 mod show;
 mod write;
 
-pub use command::{Command, command_of, wrong_words_are_no_command};
+pub use command::{Alone, Parallel, alone_of, needs_threads, parallel_of, wrong_words_are_no_command};
 pub use generate::GenWords;
 pub use seq::SeqWords;
 pub use write::WriteWords;

@@ -3,11 +3,11 @@
 ghost use Rattle.std.specs.Prelude.{codes, IfOk};
 ghost use Rattle.nt_command_line.specs.CommandLine.{texts, Begins};
 ghost use Rattle.nt_command_line.specs.SeqWords.{seq_rules};
-ghost use Rattle.nt_command_line.specs.Commands.{Says};
+ghost use Rattle.nt_command_line.specs.Commands.{SaysAlone};
 ghost use Rattle.nt_command_line.specs.Arguments.{IsCommandOf};
 
 use crate::arguments::{is_among, matches_of, name_in, operand};
-use crate::command::Command;
+use crate::command::Alone;
 use crate::options::{params_in, with_options};
 use nt_book::Params;
 use std::alloc::{AllocError, Global};
@@ -31,23 +31,23 @@ fn seq_command<'a>(alloc: Global) -> Result<clap::Command<'a>, AllocError>
 }
 
 /// The command of words that begin with `seq`.
-pub(crate) fn seq_of<'a>(alloc: Global, words: &'a [String]) -> Result<Command<'a>, AllocError>
+pub(crate) fn seq_of<'a>(alloc: Global, words: &'a [String]) -> Result<Option<Alone<'a>>, AllocError>
     requires { Begins (texts words.now) (codes "seq") }
-    ensures { IfOk result (Says (texts words.entry.now)) }
+    ensures { IfOk result (SaysAlone (texts words.entry.now)) }
 {
     let Some(matches) = matches_of(seq_command(alloc)?, words)? else {
-        return Ok(Command::Unknown);
+        return Ok(None);
     };
     let out = name_in(&matches, "OUT");
     let schema = name_in(&matches, "SCHEMA");
     let input = name_in(&matches, "IN");
     if is_among(out, &[schema, input]) {
-        return Ok(Command::Unknown);
+        return Ok(None);
     }
-    Ok(Command::Seq(SeqWords {
+    Ok(Some(Alone::Seq(SeqWords {
         out,
         schema,
         input,
         params: params_in(&matches),
-    }))
+    })))
 }

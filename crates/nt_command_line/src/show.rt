@@ -2,11 +2,11 @@
 
 ghost use Rattle.std.specs.Prelude.{[], ◌∷◌, codes, IfOk};
 ghost use Rattle.nt_command_line.specs.CommandLine.{texts, operand, entries_rules, Begins};
-ghost use Rattle.nt_command_line.specs.Commands.{Says};
+ghost use Rattle.nt_command_line.specs.Commands.{SaysAlone};
 ghost use Rattle.nt_command_line.specs.Arguments.{IsCommandOf};
 
 use crate::arguments::{bare, matches_of, name_in, number_in, number_option, operand};
-use crate::command::Command;
+use crate::command::Alone;
 use std::alloc::{AllocError, Global};
 
 /// `entries [--from A] [--count C] FILE`.
@@ -26,29 +26,29 @@ fn schema_command<'a>(alloc: Global) -> Result<clap::Command<'a>, AllocError>
 }
 
 /// The command of words that begin with `entries`.
-pub(crate) fn entries_of<'a>(alloc: Global, words: &'a [String]) -> Result<Command<'a>, AllocError>
+pub(crate) fn entries_of<'a>(alloc: Global, words: &'a [String]) -> Result<Option<Alone<'a>>, AllocError>
     requires { Begins (texts words.now) (codes "entries") }
-    ensures { IfOk result (Says (texts words.entry.now)) }
+    ensures { IfOk result (SaysAlone (texts words.entry.now)) }
 {
     let Some(matches) = matches_of(entries_command(alloc)?, words)? else {
-        return Ok(Command::Unknown);
+        return Ok(None);
     };
-    Ok(Command::Entries {
+    Ok(Some(Alone::Entries {
         from: number_in(&matches, "from"),
         count: number_in(&matches, "count"),
         file: name_in(&matches, "FILE"),
-    })
+    }))
 }
 
 /// The command of words that begin with `schema`.
-pub(crate) fn schema_of<'a>(alloc: Global, words: &'a [String]) -> Result<Command<'a>, AllocError>
+pub(crate) fn schema_of<'a>(alloc: Global, words: &'a [String]) -> Result<Option<Alone<'a>>, AllocError>
     requires { Begins (texts words.now) (codes "schema") }
-    ensures { IfOk result (Says (texts words.entry.now)) }
+    ensures { IfOk result (SaysAlone (texts words.entry.now)) }
 {
     match matches_of(schema_command(alloc)?, words)? {
-        Some(matches) => Ok(Command::Schema {
+        Some(matches) => Ok(Some(Alone::Schema {
             file: name_in(&matches, "FILE"),
-        }),
-        None => Ok(Command::Unknown),
+        })),
+        None => Ok(None),
     }
 }

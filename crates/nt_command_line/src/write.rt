@@ -3,11 +3,11 @@
 ghost use Rattle.std.specs.Prelude.{List, ℕ, codes, IfOk, MatchBool};
 ghost use Rattle.nt_command_line.specs.CommandLine.{texts, Begins};
 ghost use Rattle.nt_command_line.specs.WriteWords.{write_rules, AreApart};
-ghost use Rattle.nt_command_line.specs.Commands.{names_of, Says};
+ghost use Rattle.nt_command_line.specs.Commands.{names_of, SaysParallel};
 ghost use Rattle.nt_command_line.specs.Arguments.{IsCommandOf};
 
 use crate::arguments::{is_among, matches_of, name_in, names_in, operand, operands};
-use crate::command::Command;
+use crate::command::Parallel;
 use crate::options::{params_in, with_options};
 use nt_book::Params;
 use std::alloc::{AllocError, Global};
@@ -49,23 +49,23 @@ fn are_apart(out: &str, schema: &str, inputs: &[&str]) -> bool
 }
 
 /// The command of words that begin with `write`.
-pub(crate) fn write_of<'a>(alloc: Global, words: &'a [String]) -> Result<Command<'a>, AllocError>
+pub(crate) fn write_of<'a>(alloc: Global, words: &'a [String]) -> Result<Option<Parallel<'a>>, AllocError>
     requires { Begins (texts words.now) (codes "write") }
-    ensures { IfOk result (Says (texts words.entry.now)) }
+    ensures { IfOk result (SaysParallel (texts words.entry.now)) }
 {
     let Some(matches) = matches_of(write_command(alloc)?, words)? else {
-        return Ok(Command::Unknown);
+        return Ok(None);
     };
     let out = name_in(&matches, "OUT");
     let schema = name_in(&matches, "SCHEMA");
     let inputs = names_in(alloc, &matches, "IN")?;
     if !are_apart(out, schema, &inputs) {
-        return Ok(Command::Unknown);
+        return Ok(None);
     }
-    Ok(Command::Write(WriteWords {
+    Ok(Some(Parallel::Write(WriteWords {
         out,
         schema,
         inputs,
         params: params_in(&matches),
-    }))
+    })))
 }

@@ -1,4 +1,4 @@
-//! The steps of a disk on which a history of contexts was made: nt_machine's histories in the words of nt_outside's logs.
+//! Which steps of a disk make a history of contexts (nt_machine's histories), and what the log of the disk (nt_outside's) then says.
 //! Definitions and laws alone; no code runs.
 //!
 //! Start at `specs/Steps.antt`: which steps a history is (`steps_of_history`), and how a history has the bytes that a disk tells

@@ -10,7 +10,7 @@
 //! not yet printed.
 //!
 //! Proved: by the answer, what was printed of the bytes of a file that tells them (`ShowsFile`): all of
-//! what nt_file_meaning reads of it, or the lines before exactly its first fault, or else some front of these;
+//! what nt_file_meaning reads of it, or the lines before its first fault and not one more, or, where printing failed, a prefix of these;
 //! that a fault comes only where the host's or the file's count rose; and that nothing but prints on out
 //! happens to the host. `sound_clusters_end_at_the_fault` says which clusters are shown of a file with a
 //! fault. That lines are gathered to 64 KiB, and that memory is that of one cluster, no clause says.

@@ -1,7 +1,7 @@
 use Rattle.std.proofs.Common.{subst}
 use Rattle.nt_show.specs.Shown.{entries_shown}
 use Rattle.nt_command_line.specs.CommandLine.{texts}
-use Rattle.nt_command_line.specs.Commands.{Says}
+use Rattle.nt_command_line.specs.Commands.{SaysAlone}
 use Rattle.nt_app.specs.Shows.{ShowsNamed}
 use Rattle.nt_app.proofs.Running.{no_memory}
 use Rattle.nt_app.proofs.Obeying.{scripted_words, listed_words}
@@ -14,12 +14,12 @@ pub returns-in-Seq : goal.returns-in-Seq
 returns-in-Seq g c =
     let said = c.in-Seq.said in
     scripted_words _ said.out.now said.schema.now said.input.now said.params _ _ _
-    (subst (Says (texts c.args.words.now)) c.in-Seq.is c.in-Ok.ensures) c.seq.ensures
+    (subst (SaysAlone (texts c.args.words.now)) c.in-Seq.is c.in-Ok.ensures) c.seq.ensures
 
 pub returns-in-Entries : goal.returns-in-Entries
 returns-in-Entries g c =
     listed_words _ c.in-Entries.from c.in-Entries.count c.in-Entries.file.now _ _ _
-    (subst (Says (texts c.args.words.now)) c.in-Entries.is c.in-Ok.ensures)
+    (subst (SaysAlone (texts c.args.words.now)) c.in-Entries.is c.in-Ok.ensures)
     (subst (λ n. ShowsNamed (entries_shown (record { from = n; count = c.in-Entries.count })) c.in-Entries.file.now
     (g.H.Host.state c.args.host.now)
     (g.H.Host.state c.entries.new.host) c.entries.result) c.unwrap_or-from.ensures c.entries.ensures)

@@ -9,4 +9,4 @@ returns-in-Some g c = runs_as _ _ _ _ _ (ap texts c.deref.ensures.value) c.in-So
 pub returns : goal.returns
 returns g c =
     runs_after _ _ _ _ _ _ _ (ap texts c.deref-in-None.ensures.value) (c.run_alone.ensures.none c.in-None.is).1
-    c.do_with_contexts-status.ensures c.report.ensures (g.met.H.Host.fit c.report.new.host)
+    c.do_in_parallel-status.ensures c.report.ensures (g.met.H.Host.fit c.report.new.host)

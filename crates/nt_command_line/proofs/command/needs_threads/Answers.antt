@@ -1,6 +1,6 @@
 use Rattle.std.proofs.Common.{◌≡◌, ◌∙◌, inl, inr, sym, codes, rules}
 use Rattle.nt_command_line.proofs.Spoken.{begins_by}
-use Rattle.nt_app.proofs.program.has_contexts.Goals as goal
+use Rattle.nt_command_line.proofs.command.needs_threads.Goals as goal
 
 pub returns-then-eq-clause-yes : goal.returns-then-eq-clause-yes
 returns-then-eq-clause-yes c = λ yes.
