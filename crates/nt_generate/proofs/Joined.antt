@@ -10,12 +10,12 @@ use Rattle.nt_outside.specs.Log.{Step}
 use Rattle.nt_outside.specs.World.{World, Asked, Out, File, HostState, file, prints}
 use Rattle.nt_grammar.specs.Table.{Table}
 use Rattle.nt_book.specs.declared.params.Params.{Params}
-use Rattle.nt_totals.specs.declared.total.Total.{Total}
-use Rattle.nt_totals.specs.Totals.{totals_of}
-use Rattle.nt_totals.specs.Made.{made_totals}
-use Rattle.nt_totals.specs.Lines.{total_lines}
-use Rattle.nt_totals.proofs.Sums.{made_totals-is}
-use Rattle.nt_tell.specs.Telling.{totals_in}
+use Rattle.nt_generate.specs.declared.total.Total.{Total}
+use Rattle.nt_generate.specs.Totals.{totals_of}
+use Rattle.nt_generate.specs.MadeTotals.{made_totals}
+use Rattle.nt_generate.specs.Lines.{total_lines}
+use Rattle.nt_generate.proofs.Sums.{made_totals-is}
+use Rattle.nt_generate.specs.ReadTotals.{totals_in}
 use Rattle.nt_draws.specs.declared.making.Making.{Making}
 use Rattle.nt_store.specs.Worlds.{IsThereWith, AsksFor, MakesDisk, IsWrittenInOrder}
 use Rattle.nt_store.proofs.Asking.{asks_front}

@@ -1,3 +1,9 @@
+pub mod Returning
+pub mod Sums
+pub mod Counting
+pub mod Adding
+pub mod Entries
+pub mod Reading
 pub mod Texts
 pub mod Sources
 pub mod Stored

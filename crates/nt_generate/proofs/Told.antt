@@ -12,9 +12,9 @@ use Rattle.nt_outside.specs.declared.fault.Refused.TheVariants as refused
 use Rattle.nt_outside.specs.Faults.{Rose}
 use Rattle.nt_outside.specs.File.{FileState}
 use Rattle.nt_tfile.specs.Calls.{IsReadOrFails, ReadsFile, Serves}
-use Rattle.nt_totals.specs.declared.total.Total.{Total}
-use Rattle.nt_totals.specs.Lines.{total_lines}
-use Rattle.nt_tell.specs.Telling.{totals_in}
+use Rattle.nt_generate.specs.declared.total.Total.{Total}
+use Rattle.nt_generate.specs.Lines.{total_lines}
+use Rattle.nt_generate.specs.ReadTotals.{totals_in}
 use Rattle.nt_store.specs.Worlds.{IsThereWith}
 use Rattle.nt_generate.specs.declared.error.GenerateError.{GenerateError}
 use Rattle.nt_generate.specs.declared.error.GenerateError.TheVariants.{Outside, Memory, Limit, Defect}

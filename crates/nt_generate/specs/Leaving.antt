@@ -8,9 +8,9 @@ use Rattle.nt_book.specs.declared.params.Params.{Params}
 use Rattle.nt_draws.specs.declared.making.Making.{Making}
 use Rattle.nt_store.specs.Worlds.{IsThereWith, AsksFor, LeavesOut, KeepsFiles, OthersStay, MakesDisk, IsLeftOpen, IsNeverBegun, LeavesOpen}
 use Rattle.nt_store.specs.Worlds.{IsLeftByMemory, WritesInOrder}
-use Rattle.nt_totals.specs.declared.total.Total.{Total}
-use Rattle.nt_totals.specs.Lines.{total_lines}
-use Rattle.nt_tell.specs.Telling.{totals_in}
+use Rattle.nt_generate.specs.declared.total.Total.{Total}
+use Rattle.nt_generate.specs.Lines.{total_lines}
+use Rattle.nt_generate.specs.ReadTotals.{totals_in}
 use Rattle.nt_generate.specs.declared.error.GenerateError.{GenerateError}
 use Rattle.nt_generate.specs.declared.error.GenerateError.TheVariants.{Outside, Memory, Limit, Defect}
 use Rattle.nt_generate.specs.Made.{IsMade, IsMadeFile, PassesMade}

@@ -1,3 +1,9 @@
+pub mod Numbers
+pub mod Totals
+pub mod Adding
+pub mod Lines
+pub mod MadeTotals
+pub mod ReadTotals
 pub mod Made
 pub mod Errors
 pub mod Writing

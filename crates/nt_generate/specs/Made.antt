@@ -18,7 +18,7 @@ use Rattle.nt_dealing.specs.Limits.{IsOver}
 use Rattle.nt_draws.specs.Events.{event_fields, made_events}
 use Rattle.nt_draws.specs.Lines.{events_text}
 use Rattle.nt_draws.specs.declared.making.Making.{Making}
-use Rattle.nt_totals.specs.Made.{made_totals_lines}
+use Rattle.nt_generate.specs.MadeTotals.{made_totals_lines}
 
 -- the event text of each context
 abbrev pub made_texts : Making → List (List ℕ)

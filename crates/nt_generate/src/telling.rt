@@ -3,9 +3,10 @@
 ghost use Rattle.nt_generate.specs.Leaving.{ReadsTotals, TellsTotals};
 
 use crate::error::GenerateError;
+use crate::lines::total_lines;
+use crate::reading::tell_totals;
+use crate::total::Total;
 use nt_outside::{Host, Stream, print_all};
-use nt_tell::tell_totals;
-use nt_totals::{Total, total_lines};
 use std::alloc::Global;
 
 /// Opens the file of this name, reads it whole, and gives it back: the totals of its contexts, by the order of the commits.

@@ -1,6 +1,6 @@
 use Rattle.std.proofs.Common.{◌∙◌, ap, inl, arith}
 use Rattle.std.proofs.lemmas.Result.{err_from_is_err_and}
-use Rattle.nt_totals.specs.Lines.{total_lines}
+use Rattle.nt_generate.specs.Lines.{total_lines}
 use Rattle.nt_generate.proofs.Told.{none_told, front_told, all_told}
 use Rattle.nt_generate.proofs.Joined.{served_as}
 use Rattle.nt_generate.proofs.telling.print_totals.Goals as goal

@@ -1,4 +1,0 @@
-pub mod Back
-pub mod Sums
-pub mod Counting
-pub mod Adding

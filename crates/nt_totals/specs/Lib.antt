@@ -1,5 +1,0 @@
-pub mod Numbers
-pub mod Totals
-pub mod Adding
-pub mod Lines
-pub mod Made
