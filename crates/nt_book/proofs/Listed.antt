@@ -15,7 +15,7 @@ use Rattle.nt_book.specs.declared.list.Tear.{Tear}
 use Rattle.nt_book.specs.declared.state.RangeState.{RangeState}
 use Rattle.nt_book.specs.declared.row.ClusterRow.{ClusterRow}
 use Rattle.nt_book.specs.Entries.{row_cluster, row_clusters}
-use Rattle.nt_book.specs.Keeping.{IsListed, with_state}
+use Rattle.nt_book.specs.Keeping.{KeepsLists, with_state}
 use Rattle.nt_book.specs.Listing.{AreBeside, AtMostOneUnlisted, clusters_listed, group_size, is_due_after, spans_len, torn_bytes}
 use Rattle.nt_book.proofs.Beside.{beside-range}
 use Rattle.nt_book.proofs.Fitting.{fewer}
@@ -46,11 +46,11 @@ not-full (Some g) lists n not_due few =
     omega (arith, fewer n (clusters_listed g.0 lists + g.0) few (eqb-false n (clusters_listed g.0 lists + g.0) not_due))
 
 module _ (begin end spare : ℕ) (group : Option (ℕ × ℕ)) (lists : List NotedList) (torn : Option Tear) (listed room : ℕ)
-    (rows : List ClusterRow) (h : IsListed begin end spare group lists torn listed room rows) where
+    (rows : List ClusterRow) (h : KeepsLists begin end spare group lists torn listed room rows) where
   -- a row more, of a range that starts at the end
-  pub IsListed-append : (row : ClusterRow) → row.start ≡ end → spare ≤ 1 → is_due_after group lists torn (length rows) ≡ false
-      → IsListed begin (end + row.meta.len) (spare - 1) group lists torn listed room (rows ++ row ∷ [])
-  IsListed-append row start one not_due =
+  pub KeepsLists-append : (row : ClusterRow) → row.start ≡ end → spare ≤ 1 → is_due_after group lists torn (length rows) ≡ false
+      → KeepsLists begin (end + row.meta.len) (spare - 1) group lists torn listed room (rows ++ row ∷ [])
+  KeepsLists-append row start one not_due =
       let one_more = length-append rows (row ∷ []) in
       record {
         ends = omega (arith, h.ends, sum-clusters-append rows row (λ (c : Cluster ClusterMeta). c.len));
@@ -83,8 +83,8 @@ module _ (begin end spare : ℕ) (group : Option (ℕ × ℕ)) (lists : List Not
       }
 
   -- the state of a row is no matter
-  pub IsListed-with_state : (n : ℕ) (s : RangeState) → IsListed begin end spare group lists torn listed room (with_state rows n s)
-  IsListed-with_state n s =
+  pub KeepsLists-with_state : (n : ℕ) (s : RangeState) → KeepsLists begin end spare group lists torn listed room (with_state rows n s)
+  KeepsLists-with_state n s =
       let same = length-with_state rows n s in
       record {
         ends = omega (arith, h.ends, sum-with_state (λ (c : Cluster ClusterMeta). c.len) (λ m row t. refl) rows n s);
@@ -103,9 +103,9 @@ module _ (begin end spare : ℕ) (group : Option (ℕ × ℕ)) (lists : List Not
       }
 
   -- room for a list that is due
-  pub IsListed-roomy : (some space : ℕ) → (is_due_after group lists torn (length rows) ≡ true → length lists < space)
-      → IsListed begin end some group lists torn listed space rows
-  IsListed-roomy some space enough = record {
+  pub KeepsLists-roomy : (some space : ℕ) → (is_due_after group lists torn (length rows) ≡ true → length lists < space)
+      → KeepsLists begin end some group lists torn listed space rows
+  KeepsLists-roomy some space enough = record {
     ends = h.ends;
     placed = h.placed;
     counted = h.counted;
@@ -118,8 +118,8 @@ module _ (begin end spare : ℕ) (group : Option (ℕ × ℕ)) (lists : List Not
   }
 
   -- less room for clusters needs no more room for lists
-  pub IsListed-spends : (less : ℕ) → less ≤ spare → IsListed begin end less group lists torn listed room rows
-  IsListed-spends less le = record {
+  pub KeepsLists-spends : (less : ℕ) → less ≤ spare → KeepsLists begin end less group lists torn listed room rows
+  KeepsLists-spends less le = record {
     ends = h.ends;
     placed = h.placed;
     counted = h.counted;

@@ -13,7 +13,7 @@ use Rattle.nt_book.specs.declared.list.NotedList.{NotedList}
 use Rattle.nt_book.specs.declared.list.Tear.{Tear}
 use Rattle.nt_book.specs.declared.row.ClusterRow.{ClusterRow}
 use Rattle.nt_book.specs.Entries.{row_clusters}
-use Rattle.nt_book.specs.Keeping.{IsCounted, IsListed}
+use Rattle.nt_book.specs.Keeping.{IsCounted, KeepsLists}
 use Rattle.nt_book.specs.Listing.{clusters_listed, is_due_after}
 use Rattle.nt_book.proofs.Beside.{beside-list, clusters_listed-more, fewer-lists}
 use Rattle.nt_book.proofs.Rows.{length-row_clusters}
@@ -36,13 +36,13 @@ IsCounted-later begin end more entries out limits firsts rows le most h = record
 }
 
 -- a list that is due is noted behind all that there is
-pub IsListed-noted : (begin end spare : ℕ) (group : Option (ℕ × ℕ)) (lists : List NotedList) (torn : Option Tear) (listed room : ℕ)
-    (rows : List ClusterRow) → IsListed begin end spare group lists torn listed room rows
+pub KeepsLists-noted : (begin end spare : ℕ) (group : Option (ℕ × ℕ)) (lists : List NotedList) (torn : Option Tear) (listed room : ℕ)
+    (rows : List ClusterRow) → KeepsLists begin end spare group lists torn listed room rows
     → is_due_after group lists torn (length rows) ≡ true → (l : NotedList) (space : ℕ)
-    → IsListed begin (end + l.len) spare group (lists ++ l ∷ []) torn (length rows) space rows
-IsListed-noted begin end spare None lists torn listed room rows h due l space = absurd (cc due)
-IsListed-noted begin end spare (Some g) lists (Some t) listed room rows h due l space = absurd (cc due)
-IsListed-noted begin end spare (Some g) lists None listed room rows h due l space =
+    → KeepsLists begin (end + l.len) spare group (lists ++ l ∷ []) torn (length rows) space rows
+KeepsLists-noted begin end spare None lists torn listed room rows h due l space = absurd (cc due)
+KeepsLists-noted begin end spare (Some g) lists (Some t) listed room rows h due l space = absurd (cc due)
+KeepsLists-noted begin end spare (Some g) lists None listed room rows h due l space =
     let full = eqb-true (length rows) (clusters_listed g.0 lists + g.0) due in
     let more = clusters_listed-more g.0 lists l in
     record {
@@ -68,13 +68,13 @@ IsListed-noted begin end spare (Some g) lists None listed room rows h due l spac
     }
 
 -- a list that is due failed, and left so many bytes
-pub IsListed-torn : (begin end spare : ℕ) (group : Option (ℕ × ℕ)) (lists : List NotedList) (torn : Option Tear) (listed room : ℕ)
-    (rows : List ClusterRow) → IsListed begin end spare group lists torn listed room rows
+pub KeepsLists-torn : (begin end spare : ℕ) (group : Option (ℕ × ℕ)) (lists : List NotedList) (torn : Option Tear) (listed room : ℕ)
+    (rows : List ClusterRow) → KeepsLists begin end spare group lists torn listed room rows
     → is_due_after group lists torn (length rows) ≡ true → (t : Tear) (next : ℕ) → next ≡ end + t.len
-    → IsListed begin next spare group lists (Some t) listed room rows
-IsListed-torn begin end spare None lists torn listed room rows h due t next is = absurd (cc due)
-IsListed-torn begin end spare (Some g) lists (Some u) listed room rows h due t next is = absurd (cc due)
-IsListed-torn begin end spare (Some g) lists None listed room rows h due t next is =
+    → KeepsLists begin next spare group lists (Some t) listed room rows
+KeepsLists-torn begin end spare None lists torn listed room rows h due t next is = absurd (cc due)
+KeepsLists-torn begin end spare (Some g) lists (Some u) listed room rows h due t next is = absurd (cc due)
+KeepsLists-torn begin end spare (Some g) lists None listed room rows h due t next is =
     let full = eqb-true (length rows) (clusters_listed g.0 lists + g.0) due in
     record {
       ends = omega (arith, h.ends, is);
@@ -98,17 +98,17 @@ no-lists most (l ∷ ls) some none = absurd (omega (arith, some, none))
 
 -- a book without clusters has neither list nor tear
 pub none-yet : (begin end spare : ℕ) (group : Option (ℕ × ℕ)) (lists : List NotedList) (torn : Option Tear) (listed room : ℕ)
-    → IsListed begin end spare group lists torn listed room [] → (lists ≡ []) × (torn ≡ None)
+    → KeepsLists begin end spare group lists torn listed room [] → (lists ≡ []) × (torn ≡ None)
 none-yet begin end spare group lists (Some t) listed room h = absurd (omega (arith, h.late))
 none-yet begin end spare None lists None listed room h = (((h.ungrouped refl).none_noted), refl)
 none-yet begin end spare (Some g) lists None listed room h =
     (no-lists g.0 lists (omega (arith, h.sized)) (omega (arith, h.counted, h.inside)), refl)
 
 -- its groups are asked for
-pub IsListed-grouped : (begin end spare : ℕ) (group : Option (ℕ × ℕ)) (listed room : ℕ) (g : ℕ × ℕ)
-    → IsListed begin end spare group [] None listed room [] → 1 ≤ g.0
-    → IsListed begin end spare (Some g) [] None 0 room []
-IsListed-grouped begin end spare group listed room g h some = record {
+pub KeepsLists-grouped : (begin end spare : ℕ) (group : Option (ℕ × ℕ)) (listed room : ℕ) (g : ℕ × ℕ)
+    → KeepsLists begin end spare group [] None listed room [] → 1 ≤ g.0
+    → KeepsLists begin end spare (Some g) [] None 0 room []
+KeepsLists-grouped begin end spare group listed room g h some = record {
   ends = h.ends;
   placed = λ whole. tt;
   counted = refl;
@@ -122,7 +122,7 @@ IsListed-grouped begin end spare group listed room g h some = record {
 
 -- there are no more lists than clusters
 pub lists-few : (begin end spare : ℕ) (group : Option (ℕ × ℕ)) (lists : List NotedList) (torn : Option Tear) (listed room : ℕ)
-    (rows : List ClusterRow) → IsListed begin end spare group lists torn listed room rows → length lists ≤ length rows
+    (rows : List ClusterRow) → KeepsLists begin end spare group lists torn listed room rows → length lists ≤ length rows
 lists-few begin end spare None lists torn listed room rows h = omega (arith, ap length (h.ungrouped refl).none_noted)
 lists-few begin end spare (Some g) lists torn listed room rows h =
     omega (arith, fewer-lists g.0 lists (omega (arith, h.sized)), h.counted, h.inside)

@@ -1,5 +1,5 @@
 -- What holds of each book.
-use Rattle.std.specs.Prelude.{◌≡◌, ℕ, ◌+◌, ◌<◌, ◌≤◌, ◌^◌, List, length, slice_get, Some, None}
+use Rattle.std.specs.Prelude.{◌≡◌, ℕ, ◌+◌, ◌<◌, ◌≤◌, ◌^◌, List, length, slice_get, Some, None, IfSome}
 use Rattle.std.specs.List.{AllByRecursion}
 use Rattle.nt_machine.specs.History.{Cluster, ranges_of}
 use Rattle.nt_machine.specs.Legal.{IsLegal, spans_of}
@@ -29,6 +29,7 @@ pub record IsBookKept (book : BookData) : Type 0 where
   pub apart : IsDisjoint book.begin (spans_of (ranges_of book.history)) (2 ^ 56)
   pub named : AreNamed (ranges_of book.history) (book_clusters book)
   pub placed : book.torn ≡ None → AreBeside book.begin (group_size book.group) book.lists (spans_of (ranges_of book.history))
+  pub sized : IfSome book.group (λ g. 0 < g.0)
   pub listed : clusters_listed (group_size book.group) book.lists ≤ length (book_clusters book)
   pub few_lists : book.torn ≡ None → AtMostOneUnlisted book.group book.lists (length (book_clusters book))
   pub none_between : book.group ≡ None → HasNoLists book.lists book.torn

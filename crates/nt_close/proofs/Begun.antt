@@ -19,17 +19,17 @@ use Rattle.nt_close.specs.Beginning.{new_book, IsHeaderBlob, IsBegun, IsBeginCut
 module _ (ps : List MemberData) (p : Params) (t : Table) (rows : Rows ps p.plain t) (within : passed_by_begin p.limits t ≡ None) where
   -- the new book
   book_is : (len columns : ℕ) (book : BookData)
-      → book ≡ record { begin = 226 + len; limits = p.limits; firsts = replicate columns 0; history = []; spare = 0 }
+      → book ≡ record (new_book t p.limits) { begin = 226 + len; firsts = replicate columns 0 }
       → 226 + len ≡ clusters_place t → columns ≡ length t.columns → book ≡ new_book t p.limits
   book_is len columns book is begins long =
       is
-      ∙ (ap (λ (k : ℕ). record { begin = k; limits = p.limits; firsts = replicate columns 0; history = []; spare = 0 }) begins
-      ∙ ap (λ (k : ℕ). record { begin = clusters_place t; limits = p.limits; firsts = replicate k 0; history = []; spare = 0 }) long)
+      ∙ (ap (λ (k : ℕ). record (new_book t p.limits) { begin = k; firsts = replicate columns 0 }) begins
+      ∙ ap (λ (k : ℕ). record (new_book t p.limits) { firsts = replicate k 0 }) long)
 
   -- all steps were taken on a disk for which there was room
   pub begun-is : (bytes blob : List ℕ) (len columns steps more : ℕ) (book : BookData) (old mid new : DiskState)
       (room : Result (Unit {0}) AllocError)
-      → book ≡ record { begin = 226 + len; limits = p.limits; firsts = replicate columns 0; history = []; spare = 0 }
+      → book ≡ record (new_book t p.limits) { begin = 226 + len; firsts = replicate columns 0 }
       → len ≡ length bytes → columns ≡ length t.columns → blob ≡ bytes → IsHeaderBlob t bytes
       → TakesRoom steps more old mid room → old.end ≡ 0
       → IsBegunWith (begun 0 0 0) blob mid new → new.out ≡ mid.out → mid.faults ≤ new.faults

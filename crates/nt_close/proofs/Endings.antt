@@ -12,11 +12,15 @@ use Rattle.nt_grammar.specs.Table.{Table}
 use Rattle.nt_book.specs.declared.limits.Limits.{Limits}
 use Rattle.nt_book.specs.declared.limits.LimitError.TheVariants.{FileTooLarge}
 use Rattle.nt_book.specs.declared.params.Params.{Params}
-use Rattle.nt_book.specs.Books.{BookData, book_end}
+use Rattle.nt_book.specs.Books.{BookData, IsUngrouped, book_end}
+use Rattle.nt_book.proofs.Ungrouped.{end-ungrouped}
+use Rattle.nt_machine.specs.History.{ranges_of}
+use Rattle.nt_machine.specs.Legal.{end_after}
 use Rattle.nt_pagelists.specs.declared.group.Group.{Group}
-use Rattle.nt_layout.specs.Blobs.{blob, blob_len}
+use Rattle.nt_pagelists.specs.Blobs.{blob, blob_len}
 use Rattle.nt_layout.specs.Headers.{header_sum}
-use Rattle.nt_layout.specs.Groups.{list_len, ListPlace, lists_from, groups_from}
+use Rattle.nt_pagelists.specs.Objects.{list_len}
+use Rattle.nt_layout.specs.Groups.{PlacedList, lists_from, groups_from}
 use Rattle.nt_layout.proofs.Middles.{length-list_parts}
 use Rattle.nt_layout.specs.Finished.{ending, lists_behind, spans, list_blobs, footer_object, footer_place, footer_blob, anchor_of_file}
 use Rattle.nt_layout.specs.Finished.{anchor_start, file_len}
@@ -65,9 +69,13 @@ file-fits limits end fits = let no : nat_lt limits.file end ≡ false = grind (a
 pub file-passed : (limits : Limits) (end : ℕ) → limits.file < end → first_passed limits [] end ≡ Some (FileTooLarge end limits.file)
 file-passed limits end passed = let yes : nat_lt limits.file end ≡ true = grind (arith, nat_tests, passed) in rw yes refl
 
-module _ (t : Table) (book : BookData) (most : ℕ) where
+module _ (t : Table) (book : BookData) (most : ℕ) (bare : IsUngrouped book) where
+  -- the ranges end the book
+  same : book_end book ≡ end_after book.begin (ranges_of book.history)
+  same = end-ungrouped book bare
+
   -- the page lists, behind all ranges
-  abbrev ls : List ListPlace
+  abbrev ls : List PlacedList
   ls = lists_behind t book most
 
   -- the footer of all groups
@@ -75,16 +83,19 @@ module _ (t : Table) (book : BookData) (most : ℕ) where
       → footer_with t gs ≡ footer_object t book ls
   unfolding footer_object footer_with
   footer_of_all sum gs sum-is are =
-      ap (footer_with t) (are ∙ ap (λ (k : ℕ). groups_from k book (book_end book) (spans book most)) sum-is)
+      ap (footer_with t) (are ∙ (ap (λ (k : ℕ). groups_from k book (book_end book) (spans book most)) sum-is
+      ∙ ap (λ (e : ℕ). groups_from (header_sum t) book e (spans book most)) same))
 
   lists_of_all : (sum : ℕ) (old : List ℕ) → sum ≡ header_sum t
       → old ≡ concat (lists_from sum book (book_end book) (spans book most)) → old ≡ concat (list_blobs t book ls)
-  lists_of_all sum old sum-is are = are ∙ ap (λ (k : ℕ). concat (lists_from k book (book_end book) (spans book most))) sum-is
+  lists_of_all sum old sum-is are =
+      are ∙ (ap (λ (k : ℕ). concat (lists_from k book (book_end book) (spans book most))) sum-is
+      ∙ ap (λ (e : ℕ). concat (lists_from (header_sum t) book e (spans book most))) same)
 
   place_of_footer : (start : ℕ) (old : List ℕ) → start ≡ book_end book → old ≡ concat (list_blobs t book ls)
       → start + length old ≡ footer_place t book ls
   unfolding footer_place
-  place_of_footer start old start-is are = omega (arith, start-is, ap length are, length-list_parts (header_sum t) book ls)
+  place_of_footer start old start-is are = omega (arith, start-is, same, ap length are, length-list_parts (header_sum t) book ls)
 
   -- behind the page lists of all groups
   pub footer-behind : (sum start : ℕ) (gs : List Group) (old new : List ℕ) (a : Anchor) → sum ≡ header_sum t → start ≡ book_end book
@@ -118,6 +129,7 @@ module _ (t : Table) (book : BookData) (most : ℕ) where
   anchor_place_is bytes are =
       omega (
         arith,
+        same,
         ap length are,
         length-append (concat (list_blobs t book ls)) (footer_blob t book ls),
         length-list_parts (header_sum t) book ls,

@@ -16,10 +16,11 @@ use Rattle.nt_container.proofs.Lengths.{header-len, file_record-len}
 use Rattle.nt_machine.specs.History.{Cluster}
 use Rattle.nt_grammar.specs.Table.{Table}
 use Rattle.nt_book.specs.declared.meta.ClusterMeta.{ClusterMeta}
-use Rattle.nt_book.specs.Books.{BookData, book_clusters, book_end}
+use Rattle.nt_book.specs.Books.{BookData, book_clusters}
+use Rattle.nt_machine.specs.Legal.{end_after}
 use Rattle.nt_layout.specs.Headers.{header_object, header_sum, header_blob, file_begun, clusters_place}
 use Rattle.nt_layout.proofs.Middles.{concat-range_parts, length-list_parts}
-use Rattle.nt_layout.specs.Groups.{ListPlace, list_parts}
+use Rattle.nt_layout.specs.Groups.{PlacedList, list_parts}
 use Rattle.nt_layout.specs.Finished.{lists_behind, list_blobs, range_parts, middle, ending, footer_object, footer_place, footer_blob}
 use Rattle.nt_layout.specs.Finished.{blobs, anchor_of_file}
 use Rattle.nt_layout.specs.Finished.{anchor_start, keys_start}
@@ -71,7 +72,7 @@ front_apart end free keys rest =
 
 module _ (t : Table) (book : BookData) (most : ℕ) where
   -- the page lists, behind all ranges
-  abbrev ls : List ListPlace
+  abbrev ls : List PlacedList
   ls = lists_behind t book most
 
   -- anchor and lists behind so many bytes
@@ -114,7 +115,7 @@ module _ (t : Table) (book : BookData) (most : ℕ) where
       ∙ (ap (λ (l : List ℕ). l ++ foot) bytes ∙ append_assoc (concat ranges) lists foot)))
 
   -- the ranges end where the last one does
-  length-ranges : (ranges : List (List ℕ)) → AreRangesOf book ranges → book.begin + length (concat ranges) ≡ book_end book
+  length-ranges : (ranges : List (List ℕ)) → AreRangesOf book ranges → book.begin + length (concat ranges) ≡ end_after book.begin (book_clusters book)
   length-ranges ranges are =
       ap (λ (k : ℕ). book.begin + k) (length-concat ranges
       ∙ (ap sum are ∙ sum-map (λ (c : Cluster ClusterMeta). c.len) (book_clusters book)))

@@ -11,8 +11,9 @@ use Rattle.nt_container.proofs.Lengths.{blob_key-len}
 use Rattle.nt_book.specs.declared.limits.Limits.{Limits}
 use Rattle.nt_book.specs.Books.{BookData, book_clusters, book_end}
 use Rattle.nt_pagelists.specs.declared.group.Group.{Group}
-use Rattle.nt_layout.specs.Blobs.{blob, blob_len}
-use Rattle.nt_layout.specs.Groups.{ClusterSpan, cluster_span, list_object, list_len, lists_from, span_group, groups_from}
+use Rattle.nt_pagelists.specs.Blobs.{blob, blob_len}
+use Rattle.nt_pagelists.specs.Objects.{ClusterSpan, cluster_span, list_object, list_len}
+use Rattle.nt_layout.specs.Groups.{lists_from, span_group, groups_from}
 use Rattle.nt_layout.specs.Finished.{spans}
 use Rattle.nt_close.specs.declared.error.CloseError.{CloseError}
 use Rattle.nt_close.specs.Passing.{first_passed}

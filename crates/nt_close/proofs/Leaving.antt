@@ -7,7 +7,7 @@ use Rattle.nt_container.specs.declared.parts.FileFields.{FileFields}
 use Rattle.nt_grammar.specs.Table.{Table}
 use Rattle.nt_book.specs.Books.{BookData}
 use Rattle.nt_layout.specs.Headers.{clusters_place}
-use Rattle.nt_layout.specs.Groups.{ListPlace}
+use Rattle.nt_layout.specs.Groups.{PlacedList}
 use Rattle.nt_layout.specs.Finished.{lists_behind, tail, front}
 use Rattle.nt_close.specs.Steps.{closed_on, IsClosedSoFar, IsEndedWith}
 use Rattle.nt_close.specs.Making.{IsEnding, front_with}
@@ -16,7 +16,7 @@ use Rattle.nt_close.proofs.Finishing.{closed-is}
 
 module _ (t : Table) (book : BookData) (most : ℕ) where
   -- the page lists, behind all ranges
-  abbrev ls : List ListPlace
+  abbrev ls : List PlacedList
   ls = lists_behind t book most
 
   front_is : (bytes : List ℕ) (f : FileFields) → IsEnding t book most bytes f → front_with f ≡ front t book ls

@@ -7,3 +7,4 @@ pub mod FirstByte
 pub mod Groups
 pub mod Leaving
 pub mod Within
+pub mod NewBooks

@@ -8,9 +8,9 @@ use Rattle.nt_book.specs.declared.limits.Limits.{Limits}
 use Rattle.nt_book.specs.declared.limits.LimitError.{LimitError}
 use Rattle.nt_book.specs.declared.params.Params.{Params}
 use Rattle.nt_book.specs.Books.{BookData}
-use Rattle.nt_layout.specs.Blobs.{blob_len}
+use Rattle.nt_pagelists.specs.Blobs.{blob_len}
 use Rattle.nt_layout.specs.Headers.{header_sum}
-use Rattle.nt_layout.specs.Groups.{list_len}
+use Rattle.nt_pagelists.specs.Objects.{list_len}
 use Rattle.nt_layout.specs.Finished.{lists_behind, spans, footer_object, file_len}
 use Rattle.nt_close.specs.Passing.{first_passed, passed_by_close}
 use Rattle.nt_close.specs.Closing.{StaysWithin}

@@ -26,8 +26,16 @@ pub record IsUntouched (old new : DiskState) : Type 0 where
 
 -- a new book: its ranges begin behind the header, and no column is deferred
 abbrev pub new_book : Table → Limits → BookData
-new_book t limits =
-    record { begin = clusters_place t; limits = limits; firsts = replicate (length t.columns) 0; history = []; spare = 0 }
+new_book t limits = record {
+  begin = clusters_place t;
+  limits = limits;
+  firsts = replicate (length t.columns) 0;
+  history = [];
+  spare = 0;
+  group = None;
+  lists = [];
+  torn = None;
+}
 
 -- the file of these fields is begun with this schema and book, within the limits
 pub record IsBegun (ps : List MemberData) (p : Params) (old new : DiskState) (book : BookData) (t : Table) : Type 0 where

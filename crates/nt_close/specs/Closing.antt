@@ -11,8 +11,8 @@ use Rattle.nt_book.specs.declared.meta.ClusterMeta.{ClusterMeta}
 use Rattle.nt_book.specs.declared.params.Params.{Params}
 use Rattle.nt_book.specs.declared.limits.LimitError.{LimitError}
 use Rattle.nt_book.specs.declared.limits.LimitError.TheVariants as limit
-use Rattle.nt_book.specs.Books.{BookData, book_clusters, book_end}
-use Rattle.nt_layout.specs.Blobs.{blob_len}
+use Rattle.nt_book.specs.Books.{BookData, IsUngrouped, book_clusters, book_end}
+use Rattle.nt_pagelists.specs.Blobs.{blob_len}
 use Rattle.nt_layout.specs.Headers.{header_object, file_begun, clusters_place}
 use Rattle.nt_layout.specs.Finished.{finished, tail, front}
 use Rattle.nt_layout.specs.Laid.{IsWithin}
@@ -23,10 +23,11 @@ use Rattle.nt_close.specs.Passing.{measures_of}
 use Rattle.nt_close.specs.Beginning.{IsUntouched}
 use Rattle.nt_close.specs.Spoiled.{NoneSpoiled, IsFirstSpoiled}
 
--- a file can be closed: the book's ranges begin behind the header of its schema, the last one ends the file, and none is out; and a
--- description holds the rows whole
+-- a file can be closed: the book's ranges begin behind the header of its schema, no page list stands between them, the last one ends the
+-- file, and none is out; and a description holds the rows whole
 pub record IsClosable (disk : DiskState) (book : BookData) (t : Table) : Type 0 where
   pub begin : book.begin ≡ clusters_place t
+  pub ungrouped : IsUngrouped book
   pub end : disk.end ≡ book_end book
   pub out : disk.out ≡ []
   pub whole : AreWhole t

@@ -12,12 +12,13 @@ use Rattle.nt_schema.specs.Whole.{AreWhole}
 use Rattle.nt_book.specs.declared.limits.Limits.{Limits}
 use Rattle.nt_book.specs.declared.limits.LimitError.{LimitError}
 use Rattle.nt_book.specs.declared.limits.LimitError.TheVariants as limit
-use Rattle.nt_book.specs.Books.{BookData, book_end}
+use Rattle.nt_book.specs.Books.{BookData, IsUngrouped, book_end}
 use Rattle.nt_pagelists.specs.declared.group.Group.{Group}
 use Rattle.nt_pagelists.specs.FooterWriting.{footer_text}
-use Rattle.nt_layout.specs.Blobs.{blob, object_place}
+use Rattle.nt_pagelists.specs.Blobs.{blob, object_place}
 use Rattle.nt_layout.specs.Headers.{header_object, header_sum}
-use Rattle.nt_layout.specs.Groups.{ClusterSpan, list_object, span_group}
+use Rattle.nt_pagelists.specs.Objects.{ClusterSpan, list_object}
+use Rattle.nt_layout.specs.Groups.{span_group}
 use Rattle.nt_tfile.specs.Places.{ArePlaces}
 use Rattle.nt_layout.specs.Finished.{lists_behind, list_blobs, footer_blob, anchor_of_file, keys_start, free_start, file_len, tail}
 use Rattle.nt_close.specs.declared.error.CloseError.{CloseError}
@@ -55,6 +56,11 @@ pub record AreHeaderFacts (t : Table) (facts : HeaderFacts) : Type 0 where
 pub record AddsList (sum : ℕ) (book : BookData) (s : ClusterSpan) (old new : List ℕ) (groups more : List Group) : Type 0 where
   pub bytes : new ≡ old ++ blob (book_end book + length old) (list_object sum book s)
   pub group : more ≡ groups ++ span_group sum book (book_end book + length old) s ∷ []
+
+-- what stands behind the ranges of a book can be made: none of it stands between them, and a description holds the rows whole
+pub record CanBeEnded (t : Table) (book : BookData) : Type 0 where
+  pub whole : AreWhole t
+  pub ungrouped : IsUngrouped book
 
 -- a footer of these groups can be written behind bytes that begin at a place, by what is said of the header
 pub record CanHaveFooter (t : Table) (start : ℕ) (gs : List Group) (facts : HeaderFacts) : Type 0 where

@@ -6,9 +6,9 @@ use Rattle.nt_book.specs.declared.limits.LimitError.{LimitError}
 use Rattle.nt_book.specs.declared.limits.LimitError.TheVariants.{RangeTooLarge, FileTooLarge}
 use Rattle.nt_book.specs.declared.params.Params.{Params}
 use Rattle.nt_book.specs.Books.{BookData}
-use Rattle.nt_layout.specs.Blobs.{blob_len}
+use Rattle.nt_pagelists.specs.Blobs.{blob_len}
 use Rattle.nt_layout.specs.Headers.{header_object, header_sum, clusters_place}
-use Rattle.nt_layout.specs.Groups.{list_len}
+use Rattle.nt_pagelists.specs.Objects.{list_len}
 use Rattle.nt_layout.specs.Finished.{lists_behind, spans, footer_object, file_len}
 use Rattle.nt_layout.specs.Laid.{Measures}
 

@@ -7,7 +7,7 @@ ghost use Rattle.nt_outside.specs.Faults.{HasCause};
 ghost use Rattle.nt_outside.specs.Held.{BecomesSome, WhereHeld, nothing_held};
 ghost use Rattle.nt_container.specs.Lengths.{begun_len};
 ghost use Rattle.nt_container.specs.Spelling.{begun};
-ghost use Rattle.nt_layout.specs.Blobs.{blob_len};
+ghost use Rattle.nt_pagelists.specs.Blobs.{blob_len};
 ghost use Rattle.nt_layout.specs.Headers.{clusters_place};
 ghost use Rattle.nt_schema.specs.Whole.{AreWhole};
 ghost use Rattle.nt_close.specs.Steps.{HasRoomToBegin, IsBegunWith, IsBegunSoFar};

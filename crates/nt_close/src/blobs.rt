@@ -1,7 +1,7 @@
 //! Blobs behind their keys.
 
 ghost use Rattle.std.specs.Prelude.{◌≡◌, ◌+◌, ◌≤◌, ◌^◌, ◌++◌, length, OnOk, IfOk};
-ghost use Rattle.nt_layout.specs.Blobs.{blob, blob_len};
+ghost use Rattle.nt_pagelists.specs.Blobs.{blob, blob_len};
 
 use std::alloc::AllocError;
 

@@ -2,10 +2,9 @@
 
 ghost use Rattle.std.specs.Prelude.{◌≡◌, ◌+◌, ◌<◌, ◌≤◌, ◌^◌, ◌++◌, None, length, OnOk, IfOk, IfErr};
 ghost use Rattle.nt_tfile.specs.Places.{ArePlaces};
-ghost use Rattle.nt_layout.specs.Blobs.{blob_len};
-ghost use Rattle.nt_schema.specs.Whole.{AreWhole};
+ghost use Rattle.nt_pagelists.specs.Blobs.{blob_len};
 ghost use Rattle.nt_close.specs.Passing.{blobs_behind, passed_by_close};
-ghost use Rattle.nt_close.specs.Making.{IsPassed, IsPassedBy, ArePassedBy, NonePassed, CanHaveFooter, footer_with, AddsFooter, container_behind, fields_behind, AreBlobsBehind, IsEnding};
+ghost use Rattle.nt_close.specs.Making.{CanBeEnded, IsPassed, IsPassedBy, ArePassedBy, NonePassed, CanHaveFooter, footer_with, AddsFooter, container_behind, fields_behind, AreBlobsBehind, IsEnding};
 
 use crate::blobs::{KEY, LAST_PLACE, put_blob};
 use crate::error::CloseError;
@@ -126,7 +125,7 @@ fn blobs_of(
     schema: &Schema,
     params: &Params,
 ) -> Result<Blobs, CloseError>
-    requires { AreWhole schema.now }
+    requires { CanBeEnded schema.now book.now }
     ensures ok { IfOk result (λ blobs. AreBlobsBehind schema.now book.now params.now.group
         blobs.bytes.items blobs.anchor) }
     ensures fit { OnOk result (NonePassed params.now.limits
@@ -147,7 +146,7 @@ pub(crate) fn ending_of(
     schema: &Schema,
     params: &Params,
 ) -> Result<Ending, CloseError>
-    requires { AreWhole schema.now }
+    requires { CanBeEnded schema.now book.now }
     ensures ok { IfOk result (λ ending. IsEnding schema.now book.now params.now.group
         ending.tail.items ending.fields) }
     ensures within { OnOk result (passed_by_close params.now schema.now book.now ≡ None) }

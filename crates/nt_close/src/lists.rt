@@ -3,8 +3,9 @@
 ghost use Rattle.std.specs.Prelude.{◌≡◌, ℕ, ◌+◌, ◌-◌, ◌<◌, ◌≤◌, ◌^◌, ◌++◌, List, length, map, OnOk, IfOk, IfErr};
 ghost use Rattle.std.specs.List.{concat};
 ghost use Rattle.nt_book.specs.Books.{book_clusters, book_end, first_entry};
-ghost use Rattle.nt_layout.specs.Blobs.{blob_len};
-ghost use Rattle.nt_layout.specs.Groups.{list_object, list_len, lists_from, span_group, groups_from};
+ghost use Rattle.nt_pagelists.specs.Blobs.{blob_len};
+ghost use Rattle.nt_pagelists.specs.Objects.{list_object, list_len};
+ghost use Rattle.nt_layout.specs.Groups.{lists_from, span_group, groups_from};
 ghost use Rattle.nt_layout.specs.Finished.{spans};
 ghost use Rattle.nt_close.specs.Making.{IsPassedBy, ArePassedBy, NonePassed, AddsList};
 
@@ -80,7 +81,7 @@ fn group_of(book: &Book, from: u32, to: u32, place: u64, len: u32) -> Group
 }
 
 /// Appends the page list of the clusters from one number up to another, and their group.
-#[tactic(auto, unfolding(nt_layout::specs::Groups::list_object))]
+#[tactic(auto, unfolding(nt_pagelists::specs::Objects::list_object))]
 fn put_list(
     alloc: Global,
     lists: &mut Lists,

@@ -1,6 +1,6 @@
 -- A disk and its book with one entry more.
 use Rattle.std.proofs.Common.{◌≡◌, ◌∙◌, ap, sym, refl, ℕ, ◌+◌, ◌^◌, ◌<◌, ◌≤◌, List, [], ◌∷◌, ◌++◌, length, Option, Some, None, arith, subst}
-use Rattle.std.proofs.Common.{append-nil}
+use Rattle.std.proofs.Common.{append-nil, false}
 use Rattle.std.specs.Prelude.{Contains}
 use Rattle.std.specs.List.{AllByRecursion}
 use Rattle.nt_outside.specs.Log.{Step, Reserve}
@@ -16,10 +16,11 @@ use Rattle.nt_machine.specs.Legal.{IsOut, ranges_end, end_after}
 use Rattle.nt_book.specs.declared.limits.Limits.{Limits}
 use Rattle.nt_book.specs.declared.limits.LimitError.{LimitError}
 use Rattle.nt_book.specs.declared.meta.ClusterMeta.{ClusterMeta}
-use Rattle.nt_book.specs.Books.{BookData, book_clusters, book_end}
+use Rattle.nt_book.specs.Books.{BookData, IsUngrouped, book_clusters, book_end, is_due}
 use Rattle.nt_book.specs.Entries.{committed_entry, faulted_entry}
 use Rattle.nt_book.specs.Limiting.{limit_error}
 use Rattle.nt_book.proofs.Fitting.{limit_error-none}
+use Rattle.nt_book.proofs.Ungrouped.{end-ungrouped, due-ungrouped}
 use Rattle.nt_commit.specs.declared.claim.Claim.{Claim}
 use Rattle.nt_commit.specs.Claims.{IsNewClaim, IsClaimOf}
 use Rattle.nt_commit.specs.Holds.{IsStep, locked_end, locked_count}
@@ -61,8 +62,9 @@ module _ {D : Type 0} (state : D → DiskState) (begun d : D) (contexts : ℕ) (
   -- the book's end and count are those of the told history
   end_is : book_end b ≡ locked_end state old
   end_is =
-      ap (λ (m : ℕ). end_after m (ranges_of b.history)) was.begin
-      ∙ sym (told_end (state begun).end (state begun).held (state d).held b.history)
+      end-ungrouped b was.ungrouped
+      ∙ (ap (λ (m : ℕ). end_after m (ranges_of b.history)) was.begin
+      ∙ sym (told_end (state begun).end (state begun).held (state d).held b.history))
 
   -- the last range ends where the book's does, or before
   begun_behind : ranges_end b.begin (ranges_of b.history) ≤ book_end b → ranges_end (state begun).end (ranges_of history) ≤ book_end b
@@ -83,6 +85,10 @@ module _ {D : Type 0} (state : D → DiskState) (begun d : D) (contexts : ℕ) (
   limits_are len answer is =
       ap (λ (m : ℕ). limit_error b.limits m (locked_count state old) len) (sym end_is)
       ∙ (ap (λ (m : ℕ). limit_error b.limits (book_end b) m len) (sym count_is) ∙ sym is)
+
+  -- no page list is due, whatever room there is
+  pub not_due : (room : BookData) → room ≡ record b { spare = room.spare } → is_due room ≡ false
+  not_due room is = ap is_due is ∙ due-ungrouped b was.ungrouped
 
   -- a range that keeps the limits fits into a file
   pub range_fits : (len : ℕ) → None ≡ limit_error b.limits (book_end b) (length (book_clusters b)) len → (state d).end + len ≤ 2 ^ 63
@@ -142,6 +148,7 @@ module _ {D : Type 0} (state : D → DiskState) (begun d : D) (contexts : ℕ) (
             limits = refl;
             columns = refl;
             firsts = refl;
+            ungrouped = subst IsUngrouped (sym is) (record { no_groups = was.ungrouped.no_groups; between = was.ungrouped.between });
             follows = follows;
             short = subst (λ (l : Limits). AllByRecursion (IsShort l.range) (ranges_of (history_of_locked state new)))
                 (sym (ap (λ (x : BookData). x.limits) is)) short;

@@ -10,7 +10,7 @@ use Rattle.nt_machine.specs.Faults.{FaultsRise}
 use Rattle.nt_machine.specs.History.{Cluster, is_out, ranges_of}
 use Rattle.nt_machine.specs.Legal.{IsLegal, end_after}
 use Rattle.nt_book.specs.declared.meta.ClusterMeta.{ClusterMeta}
-use Rattle.nt_book.specs.Books.{BookData}
+use Rattle.nt_book.specs.Books.{BookData, IsUngrouped}
 use Rattle.nt_commit.specs.declared.locked.Birth.{Birth}
 use Rattle.nt_pages.specs.Image.{key_room}
 use Rattle.nt_logged.specs.Logs.{IsLogOf}
@@ -26,9 +26,10 @@ pub record LockedState (D : Type 0) : Type 0 where
 abbrev pub locked_by : {D : Type 0} → Birth D → D → BookData → LockedState D
 locked_by birth disk book = record { disk = disk; book = book; birth = birth }
 
--- a book in which nothing was entered yet, which begins where the disk ends; no range of the disk is out
+-- a book without groups in which nothing was entered yet, which begins where the disk ends; no range of the disk is out
 pub record IsNewBookOn (disk : DiskState) (book : BookData) : Type 0 where
   pub history : book.history ≡ []
+  pub ungrouped : IsUngrouped book
   pub end : book.begin ≡ disk.end
   pub out : disk.out ≡ []
 
@@ -85,6 +86,7 @@ module _ {D : Type 0} (state : D → DiskState) where
     pub limits : locked.book.limits ≡ locked.birth.limits
     pub columns : length locked.book.firsts ≡ locked.birth.columns
     pub firsts : locked.book.firsts ≡ locked.birth.firsts
+    pub ungrouped : IsUngrouped locked.book
     pub follows : Follows (state locked.birth.begun) (state locked.disk) locked.birth.contexts (history_of_locked locked)
     -- no range is longer than the limits let it be
     pub short : AllByRecursion (λ (c : Cluster ClusterMeta). c.len ≤ locked.birth.limits.range) (ranges_of (history_of_locked locked))

@@ -21,6 +21,7 @@ use Rattle.nt_machine.proofs.Rising.{rose}
 use Rattle.nt_machine.proofs.Untelling.{same, same_end}
 use Rattle.nt_book.specs.declared.meta.ClusterMeta.{ClusterMeta}
 use Rattle.nt_book.specs.Books.{BookData, book_clusters, book_end, no_cluster}
+use Rattle.nt_book.proofs.Ungrouped.{end-ungrouped}
 use Rattle.nt_logged.specs.Steps.{told_history}
 use Rattle.nt_commit.specs.declared.locked.Birth.{Birth}
 use Rattle.nt_commit.specs.Locked.{IsInStep, birth_of, context_of, history_of_locked, locked_by}
@@ -122,7 +123,7 @@ module _ {D : Type 0} (state : D → DiskState) (birth : Birth D) (disk : D) (bo
   pub end-is : (state disk).end ≡ book_end book
   end-is =
       step.follows.end ∙ (same-end (state birth.begun).end (state birth.begun).held (state disk).held book.history
-      ∙ ap (λ (n : ℕ). end_after n (ranges_of book.history)) (sym step.begin))
+      ∙ (ap (λ (n : ℕ). end_after n (ranges_of book.history)) (sym step.begin) ∙ sym (end-ungrouped book step.ungrouped)))
 
   pub short-is : AllByRecursion (λ (c : Cluster ClusterMeta). c.len ≤ birth.limits.range) (book_clusters book)
   short-is =

@@ -25,6 +25,7 @@ use Rattle.nt_book.specs.declared.limits.Limits.{Limits}
 use Rattle.nt_book.specs.declared.limits.LimitError.{LimitError}
 use Rattle.nt_book.specs.declared.limits.LimitError.TheVariants as limit
 use Rattle.nt_book.specs.Books.{BookData, book_clusters, book_end}
+use Rattle.nt_close.proofs.NewBooks.{new-ungrouped}
 use Rattle.nt_commit.specs.declared.locked.Birth.{Birth}
 use Rattle.nt_commit.specs.Locked.{birth_with}
 use Rattle.nt_layout.specs.Headers.{clusters_place}
@@ -77,6 +78,7 @@ module _ {D : Type 0} (state : D → DiskState) (fields : List MemberData) (t : 
     sources_later = work.later;
     held = ended.held;
     book_on = record { begin = ended.begin ∙ born.end; limits = ended.limits ∙ born.limits; firsts = ended.firsts ∙ firsts };
+    ungrouped = ended.ungrouped;
     end = ended.end;
     out = ended.out;
     short = subst (λ (l : Limits). AllByRecursion (λ (c : Cluster ClusterMeta). c.len ≤ l.range) (book_clusters book)) born.limits
@@ -130,6 +132,7 @@ runs-nothing fields t p disk book sources n ready = record {
   sources_later = same-later sources;
   held = λ h is. (h, is, nothing-fills disk.end h);
   book_on = record { begin = refl; limits = refl; firsts = refl };
+  ungrouped = new-ungrouped t p.limits book ready.book_is;
   end = ready.end ∙ begins;
   out = ready.out;
   short = subst (λ (b : BookData). AllByRecursion (λ (c : Cluster ClusterMeta). c.len ≤ book.limits.range) (book_clusters b)) (sym

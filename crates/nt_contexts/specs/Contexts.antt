@@ -12,7 +12,7 @@ use Rattle.nt_outside.specs.Disk.{DiskState}
 use Rattle.nt_machine.specs.History.{Cluster}
 use Rattle.nt_book.specs.declared.meta.ClusterMeta.{ClusterMeta}
 use Rattle.nt_book.specs.declared.params.Params.{Params}
-use Rattle.nt_book.specs.Books.{BookData, book_clusters, book_end}
+use Rattle.nt_book.specs.Books.{BookData, IsUngrouped, book_clusters, book_end}
 use Rattle.nt_layout.specs.Headers.{clusters_place}
 use Rattle.nt_close.specs.Beginning.{new_book}
 use Rattle.nt_close.specs.Spoiled.{NoneSpoiled}
@@ -77,6 +77,7 @@ pub record RunsContexts (t : Table) (fields : List MemberData) (p : Params) (dis
   -- the disk tells the steps of a history of ranges behind what it held
   pub held : BecomesSome disk.held disk'.held (FillsBehind disk.end)
   pub book_on : IsBookOn book book'
+  pub ungrouped : IsUngrouped book'
   pub end : disk'.end ≡ book_end book'
   pub out : disk'.out ≡ []
   -- no cluster is longer than a range may get

@@ -15,7 +15,7 @@ use Rattle.nt_machine.specs.History.{Cluster}
 use Rattle.nt_book.specs.declared.meta.ClusterMeta.{ClusterMeta}
 use Rattle.nt_book.specs.declared.params.Params.{Params}
 use Rattle.nt_book.specs.declared.limits.LimitError.{LimitError}
-use Rattle.nt_book.specs.Books.{BookData, book_clusters, book_end}
+use Rattle.nt_book.specs.Books.{BookData, IsUngrouped, book_clusters, book_end}
 use Rattle.nt_commit.specs.declared.locked.Birth.{Birth}
 use Rattle.nt_layout.specs.Headers.{clusters_place}
 use Rattle.nt_close.specs.Spoiled.{NoneSpoiled}
@@ -50,6 +50,7 @@ module _ {D : Type 0} (state : D → DiskState) (birth : Birth D) where
     pub begin : book.begin ≡ (state birth.begun).end
     pub limits : book.limits ≡ birth.limits
     pub firsts : book.firsts ≡ birth.firsts
+    pub ungrouped : IsUngrouped book
     pub end : (state disk).end ≡ book_end book
     pub out : (state disk).out ≡ []
     pub short : AllByRecursion (λ (c : Cluster ClusterMeta). c.len ≤ birth.limits.range) (book_clusters book)

@@ -21,10 +21,10 @@ use Rattle.nt_machine.specs.History.{Cluster, Settled, ranges_of}
 use Rattle.nt_machine.specs.Legal.{IsLegal, end_after}
 use Rattle.nt_logged.specs.Logs.{IsLogOf}
 use Rattle.nt_book.specs.declared.meta.ClusterMeta.{ClusterMeta}
-use Rattle.nt_book.specs.Books.{BookData, book_clusters}
+use Rattle.nt_book.specs.Books.{BookData, IsUngrouped, book_clusters}
 use Rattle.nt_file_meaning.specs.Files.{HasDefect, Means}
 use Rattle.nt_layout.specs.Headers.{header_object, header_blob, clusters_place, file_begun}
-use Rattle.nt_layout.specs.Groups.{ListPlace}
+use Rattle.nt_layout.specs.Groups.{PlacedList}
 use Rattle.nt_layout.specs.Finished.{lists_behind, finished, tail, front, file_len, free_start, keys_start}
 use Rattle.nt_finished.proofs.Standing.{length-blob}
 use Rattle.nt_layout.specs.Laid.{AreBlobsOf, Measures, AreMeasures, IsWithin, IsBookOf, IsLaid}
@@ -64,7 +64,7 @@ filled-known all_told t ranges log filled =
     (subst (λ (n : ℕ). IsLogOf n (end_after n (ranges_of f.history)) f.history [] [] f.steps) place f.is_log) filled.settled
     ∙ ap (λ (l : List ℕ). map exactly (file_begun t ++ l)) (sym (concat_is ranges)))
 
-length-front : (t : Table) (book : BookData) (ls : List ListPlace) → length (front t book ls) ≡ 225
+length-front : (t : Table) (book : BookData) (ls : List PlacedList) → length (front t book ls) ≡ 225
 unfolding front
 length-front t book ls =
     let header = header_part (file_len t book ls) (free_start t book ls) in
@@ -80,7 +80,7 @@ length-front t book ls =
 module _ (stand : StepsStand) (told : SettledKnown) (t : Table) (book : BookData) (most : ℕ) (ranges : List (List ℕ))
     (ranged : IsRangedAs t book ranges) (h : Held) (filled : IsFilled t ranges h.log) where
   -- where the page lists stand
-  abbrev ls : List ListPlace
+  abbrev ls : List PlacedList
   ls = lists_behind t book most
 
   abbrev body : List ℕ
@@ -123,7 +123,7 @@ FilesMean =
 abbrev pub LaidBehind : Type 0
 LaidBehind =
     (file : List ℕ) (t : Table) (clusters : List (List TreesData)) (m : Measures) (ranges : List (List ℕ)) (book : BookData)
-    → m.staged ≡ true → IsBookOf t book → IsWithin t m book → AreBlobsOf t m.page clusters ranges (book_clusters book)
+    → m.staged ≡ true → IsBookOf t book → IsUngrouped book → IsWithin t m book → AreBlobsOf t m.page clusters ranges (book_clusters book)
     → file ≡ finished m.staged t book m.group ranges → IsLaid file t clusters m
 
 module _ (stand : StepsStand) (told : SettledKnown) (laid : LaidBehind) (mean : FilesMean) (t : Table)
@@ -138,7 +138,7 @@ module _ (stand : StepsStand) (told : SettledKnown) (laid : LaidBehind) (mean : 
       → bytes ≡ finished true t book m.group filled.ranges → Means bytes t clusters
   finished-means h filled bytes same =
       mean bytes t clusters m is measures
-      (laid bytes t clusters m filled.ranges book filled.staged filled.is_of filled.within filled.blobs_are
+      (laid bytes t clusters m filled.ranges book filled.staged filled.is_of filled.ungrouped filled.within filled.blobs_are
       (same ∙ ap (λ (b : Bool). finished b t book m.group filled.ranges) (sym filled.staged)))
 
   pub entries-kept : (h : Held) → IsFilledWith t clusters m book h.log

@@ -11,7 +11,7 @@ use Rattle.nt_machine.specs.History.{Cluster, Settled, ranges_of}
 use Rattle.nt_machine.specs.Legal.{IsLegal, end_after}
 use Rattle.nt_logged.specs.Logs.{IsLogOf}
 use Rattle.nt_book.specs.declared.meta.ClusterMeta.{ClusterMeta}
-use Rattle.nt_book.specs.Books.{BookData, book_clusters}
+use Rattle.nt_book.specs.Books.{BookData, IsUngrouped, book_clusters}
 use Rattle.nt_close.specs.Steps.{begun_on, IsBegunSoFar, IsClosedSoFar}
 use Rattle.nt_close.specs.Closing.{AreRangesOf}
 use Rattle.nt_layout.specs.Headers.{header_blob, clusters_place}
@@ -40,11 +40,12 @@ pub record IsRangedAs (t : Table) (book : BookData) (ranges : List (List ℕ)) :
   pub begin : book.begin ≡ clusters_place t
   pub lengths : AreRangesOf book ranges
 
--- the ranges are the blobs of these entries, cluster by cluster, and the file of their book, whose page lists all stand behind them, is
--- one of this schema and within its measures
+-- the ranges are the blobs of these entries, cluster by cluster, and the file of their book, whose page lists all stand behind them and
+-- none between, is one of this schema and within its measures
 pub record IsFilledWith (t : Table) (clusters : List (List TreesData)) (m : Measures) (book : BookData) (log : List Step) : Type 0 where
   pub staged : m.staged ≡ true
   pub is_of : IsBookOf t book
+  pub ungrouped : IsUngrouped book
   pub within : IsWithin t m book
   pub ranges : List (List ℕ)
   pub blobs_are : AreBlobsOf t m.page clusters ranges (book_clusters book)

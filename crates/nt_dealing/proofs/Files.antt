@@ -21,9 +21,10 @@ use Rattle.nt_book.specs.Kept.{IsBookKept}
 use Rattle.nt_file_meaning.specs.Envelopes.{footer_kind}
 use Rattle.nt_pagelists.specs.declared.group.Group.{Group}
 use Rattle.nt_pagelists.specs.FooterWriting.{group_text, group_texts, extension_text, footer_text}
-use Rattle.nt_layout.specs.Blobs.{blob_len}
+use Rattle.nt_pagelists.specs.Blobs.{blob_len}
 use Rattle.nt_layout.specs.Headers.{header_sum, clusters_place}
-use Rattle.nt_layout.specs.Groups.{ClusterSpan, ListPlace, cluster_span, spans_of, list_len, places_beside, places_behind, list_group}
+use Rattle.nt_pagelists.specs.Objects.{ClusterSpan, cluster_span, spans_of, list_len}
+use Rattle.nt_layout.specs.Groups.{PlacedList, places_beside, places_behind, list_group}
 use Rattle.nt_layout.specs.Finished.{spans, list_places, groups, footer_object, footer_place, anchor_start, file_len}
 use Rattle.nt_layout.specs.Laid.{IsBookOf}
 use Rattle.nt_dealing.specs.Lengths.{record_len, listed_cluster_len, page_list_len, footer_len, group_count, page_lists_len, whole_len}
@@ -35,17 +36,17 @@ length-group g = refl
 
 -- the clusters that page lists list, wherever these stand
 spans-behind : (sum : ℕ) (book : BookData) (place : ℕ) (ss : List ClusterSpan)
-    → map (λ (l : ListPlace). l.span) (places_behind sum book place ss) ≡ ss
+    → map (λ (l : PlacedList). l.span) (places_behind sum book place ss) ≡ ss
 spans-behind sum book place [] = refl
 spans-behind sum book place (s ∷ ss) =
     ap (λ (l : List ClusterSpan). s ∷ l) (spans-behind sum book (place + list_len sum book s) ss)
 
-spans-beside : (book : BookData) (ss : List ClusterSpan) → map (λ (l : ListPlace). l.span) (places_beside book ss) ≡ ss
+spans-beside : (book : BookData) (ss : List ClusterSpan) → map (λ (l : PlacedList). l.span) (places_beside book ss) ≡ ss
 spans-beside book [] = refl
 spans-beside book (s ∷ ss) = ap (λ (l : List ClusterSpan). s ∷ l) (spans-beside book ss)
 
 spans-placed : (staged : Bool) (t : Table) (book : BookData) (most : ℕ)
-    → map (λ (l : ListPlace). l.span) (list_places staged t book most) ≡ spans book most
+    → map (λ (l : PlacedList). l.span) (list_places staged t book most) ≡ spans book most
 spans-placed true t book most =
     spans-behind (header_sum t) book (end_after book.begin (ranges_of book.history)) (spans book most)
 spans-placed false t book most = spans-beside book (spans book most)
@@ -70,7 +71,7 @@ length-footer_object staged t book most =
     let listed = list_frame (length gs) (group_texts gs) in
     let count : length gs ≡ div_ceil (length (book_clusters book)) most =
     length-map ls (list_group sum book)
-    ∙ (sym (length-map ls (λ (l : ListPlace). l.span))
+    ∙ (sym (length-map ls (λ (l : PlacedList). l.span))
     ∙ (ap (λ (l : List ClusterSpan). length l) (spans-placed staged t book most) ∙ length-spans_of most (length (book_clusters book)))) in
     let texts : length (group_texts gs) ≡ record_len 40 * div_ceil (length (book_clusters book)) most =
     length-group_texts gs ∙ ap (λ (n : ℕ). record_len 40 * n) count in
@@ -172,8 +173,8 @@ length-file_of staged t book most kept begin some =
     let counts : length (metas cs) ≡ length cs = length-map cs (λ (d : Cluster ClusterMeta). d.meta) in
     let footer : blob_len (length (footer_object t book ls)) ≡ footer_len t (group_count most (length (metas cs))) =
     length-footer_object staged t book most ∙ ap (λ (n : ℕ). footer_len t (group_count most n)) (sym counts) in
-    let lists : sum_by (λ (l : ListPlace). list_len sum book l.span) ls ≡ page_lists_len most (metas cs) =
-    sym (sum_by-mapped (list_len sum book) (λ (l : ListPlace). l.span) ls)
+    let lists : sum_by (λ (l : PlacedList). list_len sum book l.span) ls ≡ page_lists_len most (metas cs) =
+    sym (sum_by-mapped (list_len sum book) (λ (l : PlacedList). l.span) ls)
     ∙ (ap (λ (l : List ClusterSpan). sum_by (list_len sum book) l) (spans-placed staged t book most)
     ∙ length-all_lists sum book most some) in
     omega (arith, begin, ranges-told cs (λ k less. (kept.clusters k less).len), lists, footer)

@@ -14,13 +14,13 @@ use Rattle.nt_machine.specs.History.{Cluster}
 use Rattle.nt_book.specs.declared.meta.PageMeta.{PageMeta}
 use Rattle.nt_book.specs.declared.meta.ClusterMeta.{ClusterMeta}
 use Rattle.nt_book.specs.Books.{BookData, book_clusters, no_cluster, cluster_at}
-use Rattle.nt_file_meaning.specs.Envelopes.{page_list_kind}
+use Rattle.nt_pagelists.specs.Objects.{page_list_kind}
 use Rattle.nt_pagelists.specs.declared.page.PageItem.{PageItem}
 use Rattle.nt_pagelists.specs.Writing.{ListedColumn, ListedCluster, page_item_text, page_item_texts, column_list_text, column_list_texts}
 use Rattle.nt_pagelists.specs.Writing.{cluster_list_text, cluster_list_texts, summary_text, summary_texts, page_list_text}
 use Rattle.nt_pagelists.specs.Books.{payload_place, page_item, listed_column, listed_cluster, listed_clusters}
-use Rattle.nt_layout.specs.Blobs.{blob, blob_len}
-use Rattle.nt_layout.specs.Groups.{ClusterSpan, list_object, list_len}
+use Rattle.nt_pagelists.specs.Blobs.{blob, blob_len}
+use Rattle.nt_pagelists.specs.Objects.{ClusterSpan, list_object, list_len}
 use Rattle.nt_dealing.specs.Lengths.{record_len, frame_len, envelope_len, listed_column_len, listed_cluster_len, page_list_len}
 use Rattle.nt_dealing.proofs.Lists.{map-places, sum_by-same, sum_by-each, sum_by-both, sum_by-mapped}
 

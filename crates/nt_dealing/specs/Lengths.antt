@@ -9,7 +9,7 @@ use Rattle.nt_grammar.specs.Table.{Table}
 use Rattle.nt_book.specs.declared.meta.PageMeta.{PageMeta}
 use Rattle.nt_book.specs.declared.meta.ClusterMeta.{ClusterMeta}
 use Rattle.nt_pagelists.specs.FooterWriting.{extension_text}
-use Rattle.nt_layout.specs.Blobs.{blob_len}
+use Rattle.nt_pagelists.specs.Blobs.{blob_len}
 use Rattle.nt_layout.specs.Headers.{clusters_place}
 
 -- a record frame with so many bytes inside

@@ -16,7 +16,7 @@ use Rattle.nt_machine.specs.Legal.{end_after}
 use Rattle.nt_column.specs.Column.{Column}
 use Rattle.nt_pages.specs.Image.{image}
 use Rattle.nt_pages.specs.Metas.{cluster_meta}
-use Rattle.nt_layout.specs.Blobs.{blob_len}
+use Rattle.nt_pagelists.specs.Blobs.{blob_len}
 use Rattle.nt_layout.specs.Headers.{header_object, clusters_place}
 use Rattle.nt_layout.specs.Laid.{Gives}
 use Rattle.nt_dealing.specs.Lengths.{page_list_len, group_count, footer_len, whole_len}

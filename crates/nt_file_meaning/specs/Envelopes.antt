@@ -13,17 +13,13 @@ use Rattle.nt_format.specs.Demands.{demand, found_or}
 use Rattle.nt_format.specs.Envelopes.{unsealed, envelope, payload_of}
 use Rattle.nt_format.specs.Pieces.{piece}
 
--- the kinds of envelopes
+-- the kinds of envelopes; that of a page list stands with page lists
 abbrev pub header_kind : ℕ
 header_kind = 1
 
 -- a footer
 abbrev pub footer_kind : ℕ
 footer_kind = 2
-
--- a page list
-abbrev pub page_list_kind : ℕ
-page_list_kind = 3
 
 -- the payload of an envelope begins behind its first word
 abbrev pub payload_start : ℕ

@@ -17,7 +17,8 @@ use Rattle.nt_pagelists.specs.declared.cluster.ClusterList.{ClusterList}
 use Rattle.nt_pagelists.specs.declared.cluster.ColumnList.{ColumnList}
 use Rattle.nt_pagelists.specs.PageLists.{ProgressCounts, page_list_at}
 use Rattle.nt_pagelists.specs.Footers.{footer_at}
-use Rattle.nt_file_meaning.specs.Envelopes.{Block, header_kind, footer_kind, page_list_kind, payload_start, envelope_of, inside_of}
+use Rattle.nt_file_meaning.specs.Envelopes.{Block, header_kind, footer_kind, payload_start, envelope_of, inside_of}
+use Rattle.nt_pagelists.specs.Objects.{page_list_kind}
 use Rattle.nt_file_meaning.specs.Headers.{header_payload_at}
 
 -- the rows of the schema, and the clusters in the order of their groups; the places of frames are counted from the file's beginning

@@ -15,7 +15,8 @@ use Rattle.nt_book.specs.declared.meta.ClusterMeta.{ClusterMeta}
 use Rattle.nt_book.specs.Books.{BookData}
 use Rattle.nt_lists.specs.Parts.{Part, part_bytes}
 use Rattle.nt_layout.specs.Headers.{header_sum, clusters_place}
-use Rattle.nt_layout.specs.Groups.{ClusterSpan, list_object, list_len, ListPlace, places_beside, places_behind, list_part}
+use Rattle.nt_pagelists.specs.Objects.{ClusterSpan, list_object, list_len}
+use Rattle.nt_layout.specs.Groups.{PlacedList, places_beside, places_behind, list_part}
 use Rattle.nt_layout.specs.Groups.{list_parts}
 use Rattle.nt_layout.specs.Finished.{spans, list_places, range_parts, parts_beside, middle, footer_place}
 use Rattle.nt_book.specs.Kept.{AreNamed}
@@ -38,7 +39,7 @@ all_from P [] h = tt
 all_from P (x ∷ xs) h = (h x (0, omega arith, refl), all_from P xs (λ y in_xs. h y (contains-cons xs x y in_xs)))
 
 module _ (sum : ℕ) (book : BookData) where
-  pub ranges_beside : (ls : List ListPlace) (ranges : List Part) (p : Part) → Contains ranges p
+  pub ranges_beside : (ls : List PlacedList) (ranges : List Part) (p : Part) → Contains ranges p
       → Contains (parts_beside sum book ls ranges) p
   ranges_beside [] ranges p is = is
   ranges_beside (l ∷ ls) ranges p is =
@@ -58,7 +59,7 @@ module _ (sum : ℕ) (book : BookData) where
       which (inr b) later = Contains-append_right front (list_part sum book l ∷ parts_beside sum book ls back) p
           (contains-cons (parts_beside sum book ls back) (list_part sum book l) p (later b))
 
-  pub lists_beside : (ls : List ListPlace) (ranges : List Part) (p : Part) → Contains (list_parts sum book ls) p
+  pub lists_beside : (ls : List PlacedList) (ranges : List Part) (p : Part) → Contains (list_parts sum book ls) p
       → Contains (parts_beside sum book ls ranges) p
   lists_beside [] ranges p (k, less, at) = absurd (omega (arith, less))
   lists_beside (l ∷ ls) ranges p (zero, less, at) =
@@ -81,10 +82,10 @@ parts_len-append xs ys =
     ∙ length-append (concat (part_bytes xs)) (concat (part_bytes ys)))
 
 module _ (sum : ℕ) (book : BookData) where
-  abbrev pub lists_len : List ListPlace → ℕ
-  lists_len ls = sum_by (λ (l : ListPlace). list_len sum book l.span) ls
+  abbrev pub lists_len : List PlacedList → ℕ
+  lists_len ls = sum_by (λ (l : PlacedList). list_len sum book l.span) ls
 
-  len-beside : (ls : List ListPlace) (ranges : List Part) → parts_len (parts_beside sum book ls ranges) ≡ parts_len ranges + lists_len ls
+  len-beside : (ls : List PlacedList) (ranges : List Part) → parts_len (parts_beside sum book ls ranges) ≡ parts_len ranges + lists_len ls
   len-beside [] ranges = omega arith
   len-beside (l ∷ ls) ranges =
       let front = take l.span.count ranges in
@@ -96,7 +97,7 @@ module _ (sum : ℕ) (book : BookData) where
         length-append (list_part sum book l).bytes (concat (part_bytes rest)),
         length-blob l.place (list_object sum book l.span),
         len-beside ls back,
-        sum_by-cons (λ (l : ListPlace). list_len sum book l.span) l ls,
+        sum_by-cons (λ (l : PlacedList). list_len sum book l.span) l ls,
         parts_len-append front back,
         ap (λ (ps : List Part). parts_len ps) (take-append-drop l.span.count ranges),
       )
@@ -126,8 +127,8 @@ ranges-named rs ranges (c ∷ cs) p same named (suc k, less, at) =
 
 -- ---- the spans of the page lists
 
-abbrev pub list_spans : List ListPlace → List ClusterSpan
-list_spans ls = map (λ (l : ListPlace). l.span) ls
+abbrev pub list_spans : List PlacedList → List ClusterSpan
+list_spans ls = map (λ (l : PlacedList). l.span) ls
 
 spans-beside : (book : BookData) (ss : List ClusterSpan) → list_spans (places_beside book ss) ≡ ss
 spans-beside book [] = refl
@@ -141,14 +142,14 @@ pub spans-are : (staged : Bool) (t : Table) (book : BookData) (most : ℕ) → l
 spans-are true t book most = spans-behind (header_sum t) book (end_after book.begin (ranges_of book.history)) (spans book most)
 spans-are false t book most = spans-beside book (spans book most)
 
-pub all_spans : (P : ClusterSpan → Type 0) (ls : List ListPlace) → AllByRecursion P (list_spans ls)
-    → AllByRecursion (λ (l : ListPlace). P l.span) ls
+pub all_spans : (P : ClusterSpan → Type 0) (ls : List PlacedList) → AllByRecursion P (list_spans ls)
+    → AllByRecursion (λ (l : PlacedList). P l.span) ls
 all_spans P [] h = tt
 all_spans P (l ∷ ls) h = (h.0, all_spans P ls h.1)
 
 -- ---- the middle of a file
 
-pub footer_place-is : (t : Table) (book : BookData) (ls : List ListPlace)
+pub footer_place-is : (t : Table) (book : BookData) (ls : List PlacedList)
     → footer_place t book ls ≡ end_after book.begin (ranges_of book.history) + lists_len (header_sum t) book ls
 unfolding footer_place
 footer_place-is t book ls = refl

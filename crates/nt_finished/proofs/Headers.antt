@@ -27,10 +27,11 @@ use Rattle.nt_file_meaning.specs.Envelopes.{Sealed, header_kind, footer_kind, se
 use Rattle.nt_file_meaning.specs.Headers.{header_text, header_payload_at}
 use Rattle.nt_file_meaning.specs.Outlines.{header_block, footer_block, described_of}
 use Rattle.nt_file_meaning.proofs.HeadersBack.{header-reads}
-use Rattle.nt_layout.specs.Blobs.{blob, object_place}
+use Rattle.nt_pagelists.specs.Blobs.{blob, object_place}
 use Rattle.nt_lists.specs.Parts.{Part, part_bytes}
 use Rattle.nt_layout.specs.Headers.{header_object, header_sum, clusters_place}
-use Rattle.nt_layout.specs.Groups.{ClusterSpan, list_object, list_len, ListPlace, list_parts, list_group, list_groups}
+use Rattle.nt_pagelists.specs.Objects.{ClusterSpan, list_object, list_len}
+use Rattle.nt_layout.specs.Groups.{PlacedList, list_parts, list_group, list_groups}
 use Rattle.nt_layout.specs.Finished.{spans, list_places, range_parts, middle, footer_object, footer_place, anchor_of_file}
 use Rattle.nt_layout.specs.Finished.{blobs}
 use Rattle.nt_layout.specs.Finished.{finished}
@@ -53,7 +54,7 @@ pub header_sum-is : (t : Table) → header_sum t ≡ xxh3 (unsealed header_kind 
 unfolding header_sum
 header_sum-is t = refl
 
-pub footer_object-is : (t : Table) (book : BookData) (ls : List ListPlace)
+pub footer_object-is : (t : Table) (book : BookData) (ls : List PlacedList)
     → footer_object t book ls ≡ envelope footer_kind (footer_text (header_sum t) t (list_groups (header_sum t) book ls))
 unfolding footer_object
 footer_object-is t book ls = refl
@@ -75,7 +76,7 @@ sealed-sum kind sum payload is = ap (λ (n : ℕ). record { payload = payload; s
 
 module _ (t : Table) (m : Measures) (ranges : List (List ℕ)) (book : BookData)
     (is : IsDescribed t) (measures : AreMeasures m) (of : IsRangedBook m.staged t m.group book ranges) (within : IsWithin t m book) where
-  abbrev ls : List ListPlace
+  abbrev ls : List PlacedList
   ls = list_places m.staged t book m.group
 
   abbrev parts : List Part
@@ -115,7 +116,7 @@ module _ (t : Table) (m : Measures) (ranges : List (List ℕ)) (book : BookData)
       subst (λ (ss : List ClusterSpan). AreInOrder 0 (length (book_clusters book)) ss) (sym (spans-are m.staged t book m.group))
       (spans_in_order m.group (length (book_clusters book)) measures.group)
 
-  pub lists-short : AllByRecursion (λ (l : ListPlace). list_len sum book l.span ≤ 2 ^ 30) ls
+  pub lists-short : AllByRecursion (λ (l : PlacedList). list_len sum book l.span ≤ 2 ^ 30) ls
   lists-short =
       all_spans (λ (s : ClusterSpan). list_len sum book s ≤ 2 ^ 30) ls
       (subst (λ (ss : List ClusterSpan). AllByRecursion (λ (s : ClusterSpan). list_len sum book s ≤ 2 ^ 30) ss)
@@ -126,15 +127,15 @@ module _ (t : Table) (m : Measures) (ranges : List (List ℕ)) (book : BookData)
       all-le [] h = tt
       all-le (s ∷ ss) h = (let a = h.0 in let b = measures.range in omega (arith, a, b), all-le ss h.1)
 
-  lists-low : AllByRecursion (λ (l : ListPlace). l.place + list_len sum book l.span ≤ 2 ^ 56) ls
+  lists-low : AllByRecursion (λ (l : PlacedList). l.place + list_len sum book l.span ≤ 2 ^ 56) ls
   lists-low =
       all-low ls (all_from (λ (p : Part). p.place + length p.bytes ≤ 2 ^ 56) (list_parts sum book ls) (λ p in_lists.
       let low = all_among (λ (q : Part). q.place + length q.bytes ≤ clusters_place t + length (concat (part_bytes parts))) parts p
       (low_parts (clusters_place t) parts of.behind) (lists_in t book m.group ranges m.staged p in_lists) in
       omega (arith, low, ends, footer-low)))
     where
-      all-low : (ks : List ListPlace) → AllByRecursion (λ (p : Part). p.place + length p.bytes ≤ 2 ^ 56) (list_parts sum book ks)
-          → AllByRecursion (λ (l : ListPlace). l.place + list_len sum book l.span ≤ 2 ^ 56) ks
+      all-low : (ks : List PlacedList) → AllByRecursion (λ (p : Part). p.place + length p.bytes ≤ 2 ^ 56) (list_parts sum book ks)
+          → AllByRecursion (λ (l : PlacedList). l.place + list_len sum book l.span ≤ 2 ^ 56) ks
       all-low [] h = tt
       all-low (k ∷ ks) h = (let a = h.0 in omega (arith, a, length-blob k.place (list_object sum book k.span)), all-low ks h.1)
 
@@ -152,14 +153,14 @@ module _ (t : Table) (m : Measures) (ranges : List (List ℕ)) (book : BookData)
   standing_parts = parts_stand t book ls parts ends of.behind
 
   -- each page list stands at its place
-  pub lists-stand : AllByRecursion (λ (l : ListPlace). StandsThere file l.place (blob l.place (list_object sum book l.span))) ls
+  pub lists-stand : AllByRecursion (λ (l : PlacedList). StandsThere file l.place (blob l.place (list_object sum book l.span))) ls
   lists-stand =
       all-stand ls (all_from (λ (p : Part). StandsThere file p.place p.bytes) (list_parts sum book ls) (λ p in_lists.
       all_among (λ (q : Part). StandsThere file q.place q.bytes) parts p standing_parts.parts_are
       (lists_in t book m.group ranges m.staged p in_lists)))
     where
-      all-stand : (ks : List ListPlace) → AllByRecursion (λ (p : Part). StandsThere file p.place p.bytes) (list_parts sum book ks)
-          → AllByRecursion (λ (l : ListPlace). StandsThere file l.place (blob l.place (list_object sum book l.span))) ks
+      all-stand : (ks : List PlacedList) → AllByRecursion (λ (p : Part). StandsThere file p.place p.bytes) (list_parts sum book ks)
+          → AllByRecursion (λ (l : PlacedList). StandsThere file l.place (blob l.place (list_object sum book l.span))) ks
       all-stand [] h = tt
       all-stand (k ∷ ks) h = (h.0, all-stand ks h.1)
 
@@ -217,7 +218,7 @@ module _ (t : Table) (m : Measures) (ranges : List (List ℕ)) (book : BookData)
         arith,
         few,
         length-map ls (list_group sum book),
-        length-map ls (λ (l : ListPlace). l.span),
+        length-map ls (λ (l : PlacedList). l.span),
         order-le 0 (length (book_clusters book)) (list_spans ls) lists-in_order,
       )
 

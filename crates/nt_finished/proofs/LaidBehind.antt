@@ -4,7 +4,7 @@ use Rattle.nt_types.specs.TreeData.{TreesData}
 use Rattle.nt_grammar.specs.declared.rows.ColumnRow.{ColumnRow}
 use Rattle.nt_grammar.specs.Table.{Table}
 use Rattle.nt_lists.specs.Parts.{AreBehind}
-use Rattle.nt_book.specs.Books.{BookData, book_clusters}
+use Rattle.nt_book.specs.Books.{BookData, IsUngrouped, book_clusters}
 use Rattle.nt_book.specs.Kept.{IsBookKept}
 use Rattle.nt_layout.specs.Headers.{clusters_place}
 use Rattle.nt_layout.specs.Finished.{middle, finished}
@@ -15,11 +15,11 @@ use Rattle.nt_finished.specs.LateFiles.{AreLateBlobs, IsLaidLate}
 use Rattle.nt_finished.proofs.LaidLate.{lens-late}
 
 pub late-behind : (file : List ℕ) (t : Table) (clusters : List (List TreesData)) (m : Measures) (ranges : List (List ℕ)) (book : BookData)
-    → m.staged ≡ true → IsBookKept book → book.begin ≡ clusters_place t
+    → m.staged ≡ true → IsBookKept book → IsUngrouped book → book.begin ≡ clusters_place t
     → map (λ (c : ColumnRow). c.first) t.columns ≡ book.firsts → IsWithin t m book
     → AreLateBlobs t m.page 0 clusters ranges (book_clusters book)
     → file ≡ finished m.staged t book m.group ranges → IsLaidLate file t clusters m
-late-behind file t clusters m ranges book staged kept begin firsts within late is =
+late-behind file t clusters m ranges book staged kept bare begin firsts within late is =
     let lens = lens-late t m.page 0 clusters ranges (book_clusters book) late (clusters_told book kept) in
     record {
       book = book;
@@ -32,6 +32,6 @@ late-behind file t clusters m ranges book staged kept begin firsts within late i
       blobs_are = subst (λ (l : List (List ℕ)). AreLateBlobs t m.page 0 clusters l (book_clusters book))
           (sym (ranges-by_number book ranges kept lens)) late;
       behind = subst (λ (b : _). AreBehind (clusters_place t) (middle b t book m.group ranges)) (sym staged)
-          (all_behind t m.group book ranges kept begin lens);
+          (all_behind t m.group book ranges kept bare begin lens);
       is = is;
     }

@@ -14,10 +14,10 @@ use Rattle.nt_book.specs.Kept.{IsBookKept}
 use Rattle.nt_container.proofs.FinishedBack.{finished-len}
 use Rattle.nt_pages.specs.Image.{payload, image}
 use Rattle.nt_column.specs.Column.{Column}
-use Rattle.nt_layout.specs.Blobs.{blob_len}
+use Rattle.nt_pagelists.specs.Blobs.{blob_len}
 use Rattle.nt_layout.specs.Headers.{header_object, header_blob, clusters_place}
 use Rattle.nt_lists.specs.Parts.{Part, part_bytes}
-use Rattle.nt_layout.specs.Groups.{ListPlace}
+use Rattle.nt_layout.specs.Groups.{PlacedList}
 use Rattle.nt_layout.specs.Finished.{footer_object, footer_place, footer_blob, anchor_of_file, blobs, finished_with, anchor_start}
 use Rattle.nt_layout.specs.Finished.{file_len}
 use Rattle.nt_layout.specs.Laid.{IsBlobOfEntries, AreBlobsOf, none_left, and_blob}
@@ -57,20 +57,20 @@ ranges-len t page clusters ranges cs
     ap (λ (n : ℕ). n ∷ map length left) here ∙ ap (λ (ns : List ℕ). c.len ∷ ns) (ranges-len t page others left ds more told.1)
 
 -- what the blobs of a file are, one behind the other
-pub blobs-are : (t : Table) (book : BookData) (ls : List ListPlace) (parts : List Part)
+pub blobs-are : (t : Table) (book : BookData) (ls : List PlacedList) (parts : List Part)
     → concat (blobs t book ls parts) ≡ header_blob t ++ (concat (part_bytes parts) ++ footer_blob t book ls)
 blobs-are t book ls parts =
     let last : concat (footer_blob t book ls ∷ []) ≡ footer_blob t book ls = append-nil (footer_blob t book ls) in
     ap (λ (l : List ℕ). header_blob t ++ l)
     (concat-append (part_bytes parts) (footer_blob t book ls ∷ []) ∙ ap (λ (l : List ℕ). concat (part_bytes parts) ++ l) last)
 
-pub anchor_start-is : (t : Table) (book : BookData) (ls : List ListPlace)
+pub anchor_start-is : (t : Table) (book : BookData) (ls : List PlacedList)
     → anchor_start t book ls ≡ footer_place t book ls + blob_len (length (footer_object t book ls))
 unfolding anchor_start
 anchor_start-is t book ls = refl
 
 -- parts stand behind the header, and the footer behind them
-module _ (t : Table) (book : BookData) (ls : List ListPlace) (parts : List Part)
+module _ (t : Table) (book : BookData) (ls : List PlacedList) (parts : List Part)
     (ends : clusters_place t + length (concat (part_bytes parts)) ≡ footer_place t book ls) where
   -- the bytes between the container's parts
   pub length-blobs : 226 + length (concat (blobs t book ls parts)) ≡ anchor_start t book ls

@@ -16,12 +16,14 @@ use Rattle.nt_pagelists.specs.ReadingBack.{column_lists_from, cluster_list_from,
 use Rattle.nt_pagelists.specs.Books.{listed_column, listed_cluster, listed_clusters, progress_before}
 use Rattle.nt_pagelists.specs.SoundBooks.{HasSoundClusters}
 use Rattle.nt_pagelists.proofs.BooksBack.{book-reads}
-use Rattle.nt_file_meaning.specs.Envelopes.{Sealed, page_list_kind, payload_start, sealed, envelope_of}
+use Rattle.nt_file_meaning.specs.Envelopes.{Sealed, payload_start, sealed, envelope_of}
+use Rattle.nt_pagelists.specs.Objects.{page_list_kind}
 use Rattle.nt_file_meaning.specs.Outlines.{list_block, moved_column, moved_cluster, clusters_of_block, group_clusters, groups_clusters}
 use Rattle.nt_file_meaning.specs.Outlines.{no_progress}
 use Rattle.nt_file_meaning.specs.Clusters.{no_list}
-use Rattle.nt_layout.specs.Blobs.{blob, object_place}
-use Rattle.nt_layout.specs.Groups.{ClusterSpan, list_object, list_len, ListPlace, span_group, list_groups}
+use Rattle.nt_pagelists.specs.Blobs.{blob, object_place}
+use Rattle.nt_pagelists.specs.Objects.{ClusterSpan, list_object, list_len}
+use Rattle.nt_layout.specs.Groups.{PlacedList, span_group, list_groups}
 use Rattle.nt_finished.specs.Listed.{IsListOf, AreListsOf}
 use Rattle.nt_finished.proofs.Standing.{StandsThere, object_stands, length-envelope, opened}
 use Rattle.nt_finished.proofs.Spans.{AreInOrder, order-le, group-ends}
@@ -133,15 +135,15 @@ module _ (file : List ℕ) (sum : ℕ) (columns : List KnownColumn) (book : Book
     pub reads : groups_clusters file sum columns gs (progress_before book k) ≡ Ok lists
     pub are : AreListsOf book k n lists
 
-  pub groups_read : (n k : ℕ) (ls : List ListPlace) → n ≤ length (book_clusters book) → AreInOrder k n (map (λ (l : ListPlace). l.span) ls)
-      → AllByRecursion (λ (l : ListPlace). list_len sum book l.span ≤ 2 ^ 30) ls
-      → AllByRecursion (λ (l : ListPlace). StandsThere file l.place (blob l.place (list_object sum book l.span))) ls
+  pub groups_read : (n k : ℕ) (ls : List PlacedList) → n ≤ length (book_clusters book) → AreInOrder k n (map (λ (l : PlacedList). l.span) ls)
+      → AllByRecursion (λ (l : PlacedList). list_len sum book l.span ≤ 2 ^ 30) ls
+      → AllByRecursion (λ (l : PlacedList). StandsThere file l.place (blob l.place (list_object sum book l.span))) ls
       → AreRead (list_groups sum book ls) k n
   groups_read n k [] inside order short there = record { lists = []; reads = refl; are = order }
   groups_read n k (l ∷ ls) inside order short there =
       let s = l.span in
       let place = l.place in
-      let last = order-le (k + s.count) n (map (λ (l : ListPlace). l.span) ls) order.2 in
+      let last = order-le (k + s.count) n (map (λ (l : PlacedList). l.span) ls) order.2 in
       let from : s.from ≡ k = order.0 in
       let first : group_clusters file sum columns (span_group sum book place s) (progress_before book k) ≡ Ok
       (read_at place s, progress_before book (k + s.count)) =

@@ -14,7 +14,7 @@ use Rattle.nt_container.specs.declared.anchor.Anchor.{Anchor}
 use Rattle.nt_container.specs.Spelling.{header_words, header_part, record_part, anchor_part, key_list_part, free_list_part}
 use Rattle.nt_container.specs.Finished.{finished_file, parts_behind, keys_place, free_place, end_place}
 use Rattle.nt_layout.specs.Headers.{header_blob, header_sum, clusters_place}
-use Rattle.nt_layout.specs.Groups.{ListPlace, list_parts}
+use Rattle.nt_layout.specs.Groups.{PlacedList, list_parts}
 use Rattle.nt_layout.specs.Finished.{list_places, lists_behind, list_blobs, range_parts, middle, footer_blob, footer_place, anchor_of_file}
 use Rattle.nt_layout.specs.Finished.{blobs, finished_with, finished, anchor_start, keys_start, free_start, file_len, ending, tail, front}
 use Rattle.nt_finished.proofs.Lengths.{blobs-are, length-blobs}
@@ -40,7 +40,7 @@ grouped : (byte : ℕ) (h r b m f a k e : List ℕ)
     → (byte ∷ h) ++ (r ++ ((b ++ (m ++ f)) ++ (a ++ (k ++ (e ++ []))))) ≡ byte ∷ ((h ++ r) ++ (b ++ (m ++ (f ++ (a ++ (k ++ e))))))
 grouped byte h r b m f a k e = simp (append_assoc, append-nil) refl
 
-ending-is : (t : Table) (book : BookData) (ls : List ListPlace) → ending t book ls
+ending-is : (t : Table) (book : BookData) (ls : List PlacedList) → ending t book ls
     ≡ footer_blob t book ls
     ++ (anchor_part (anchor_start t book ls) (anchor_of_file t book ls)
     ++ (key_list_part (keys_start t book ls) (anchor_start t book ls)
@@ -48,7 +48,7 @@ ending-is : (t : Table) (book : BookData) (ls : List ListPlace) → ending t boo
 unfolding ending
 ending-is t book ls = refl
 
-front-is : (t : Table) (book : BookData) (ls : List ListPlace)
+front-is : (t : Table) (book : BookData) (ls : List PlacedList)
     → front t book ls ≡ drop 1 (header_part (file_len t book ls) (free_start t book ls)) ++ record_part (keys_start t book ls)
 unfolding front
 front-is t book ls = refl
@@ -65,7 +65,7 @@ placed m a n at is =
     rw (is, keys, free, end) refl
 
 -- any parts between header and footer
-parts_between : (t : Table) (book : BookData) (ls : List ListPlace) (parts : List Part)
+parts_between : (t : Table) (book : BookData) (ls : List PlacedList) (parts : List Part)
     → clusters_place t + length (concat (part_bytes parts)) ≡ footer_place t book ls
     → finished_with t book ls parts
     ≡ 0x72 ∷ (front t book ls ++ (header_blob t ++ (concat (part_bytes parts) ++ ending t book ls)))

@@ -6,18 +6,18 @@ use Rattle.nt_container.specs.Lengths.{begun_len}
 use Rattle.nt_grammar.specs.Table.{Table}
 use Rattle.nt_book.specs.Books.{BookData}
 use Rattle.nt_layout.specs.Headers.{header_object, header_blob, clusters_place}
-use Rattle.nt_layout.specs.Groups.{ListPlace}
+use Rattle.nt_layout.specs.Groups.{PlacedList}
 use Rattle.nt_layout.specs.Finished.{footer_place, footer_blob, anchor_of_file, blobs, finished_with}
 use Rattle.nt_finished.proofs.Standing.{StandsThere, front_stands, back_stands, stand_parts, middle_stands, length-blob}
 use Rattle.nt_finished.proofs.Lengths.{blobs-are}
 
 -- what stands between the container's parts, each at its place
-pub record AreStanding (t : Table) (book : BookData) (ls : List ListPlace) (parts : List Part) (file : List ℕ) : Type 0 where
+pub record AreStanding (t : Table) (book : BookData) (ls : List PlacedList) (parts : List Part) (file : List ℕ) : Type 0 where
   pub header : StandsThere file begun_len (header_blob t)
   pub parts_are : AllByRecursion (λ (p : Part). StandsThere file p.place p.bytes) parts
   pub footer : StandsThere file (footer_place t book ls) (footer_blob t book ls)
 
-pub parts_stand : (t : Table) (book : BookData) (ls : List ListPlace) (parts : List Part)
+pub parts_stand : (t : Table) (book : BookData) (ls : List PlacedList) (parts : List Part)
     → clusters_place t + length (concat (part_bytes parts)) ≡ footer_place t book ls → AreBehind (clusters_place t) parts
     → AreStanding t book ls parts (finished_with t book ls parts)
 parts_stand t book ls parts ends behind =

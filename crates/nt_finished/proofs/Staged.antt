@@ -16,10 +16,12 @@ use Rattle.nt_machine.specs.Legal.{IsLegalAfter, spans_of, end_after}
 use Rattle.nt_machine.specs.Spans.{AreBehindSpans}
 use Rattle.nt_machine.proofs.Legality.{IsNumbered, IsNumbered-after_entry}
 use Rattle.nt_book.specs.declared.meta.ClusterMeta.{ClusterMeta}
-use Rattle.nt_book.specs.Books.{BookData, book_clusters}
+use Rattle.nt_book.specs.Books.{BookData, IsUngrouped, book_clusters}
 use Rattle.nt_book.specs.Kept.{IsBookKept}
+use Rattle.nt_book.proofs.Ungrouped.{placed-ungrouped}
 use Rattle.nt_layout.specs.Headers.{header_sum, clusters_place}
-use Rattle.nt_layout.specs.Groups.{ClusterSpan, list_object, list_len, list_parts, places_behind}
+use Rattle.nt_pagelists.specs.Objects.{ClusterSpan, list_object, list_len}
+use Rattle.nt_layout.specs.Groups.{list_parts, places_behind}
 use Rattle.nt_layout.specs.Finished.{spans, list_places, range_parts, middle, finished}
 use Rattle.nt_layout.specs.Laid.{AreBlobsOf, Measures, IsWithin, IsBookOf, IsLaid, range_of}
 use Rattle.nt_finished.specs.Ranged.{IsRangedBook}
@@ -55,10 +57,11 @@ behind-ranges place (c ∷ cs) (r ∷ ranges) h lens =
     let rest : map length ranges ≡ map (λ (d : Cluster ClusterMeta). d.len) cs = cc in
     (h.0, subst (λ (n : ℕ). AreBehind (place + n) (range_parts cs ranges)) here (behind-ranges (place + c.len) cs ranges h.1 rest))
 
-pub all_behind : (t : Table) (most : ℕ) (book : BookData) (ranges : List (List ℕ)) → IsBookKept book → book.begin ≡ clusters_place t
+pub all_behind : (t : Table) (most : ℕ) (book : BookData) (ranges : List (List ℕ)) → IsBookKept book → IsUngrouped book
+    → book.begin ≡ clusters_place t
     → map length ranges ≡ map (λ (c : Cluster ClusterMeta). c.len) (ranges_of book.history)
     → AreBehind (clusters_place t) (middle true t book most ranges)
-all_behind t most book ranges kept begin lens =
+all_behind t most book ranges kept bare begin lens =
     let cs = ranges_of book.history in
     let same : length ranges ≡ length cs =
     sym (length-map ranges length) ∙ (ap length lens ∙ length-map cs (λ (c : Cluster ClusterMeta). c.len)) in
@@ -72,7 +75,7 @@ all_behind t most book ranges kept begin lens =
       sum-map (λ (c : Cluster ClusterMeta). c.len) cs,
     ) in
     behind-append (clusters_place t) (range_parts cs ranges) (list_parts (header_sum t) book (list_places true t book most))
-    (behind-ranges (clusters_place t) cs ranges (subst (λ (n : ℕ). AreBehindSpans n (spans_of cs)) begin kept.placed) lens)
+    (behind-ranges (clusters_place t) cs ranges (subst (λ (n : ℕ). AreBehindSpans n (spans_of cs)) begin (placed-ungrouped book kept bare)) lens)
     (subst (λ (n : ℕ). AreBehind n (list_parts (header_sum t) book (list_places true t book most))) end
     (behind-lists (header_sum t) book (end_after book.begin cs) (spans book most)))
 
@@ -111,22 +114,23 @@ ranges-by_number book ranges kept lens =
 
 -- ---- what is laid out
 
-pub staged_ranged : (t : Table) (most : ℕ) (book : BookData) (ranges : List (List ℕ)) → IsBookKept book → book.begin ≡ clusters_place t
+pub staged_ranged : (t : Table) (most : ℕ) (book : BookData) (ranges : List (List ℕ)) → IsBookKept book → IsUngrouped book
+    → book.begin ≡ clusters_place t
     → map (λ (c : ColumnRow). c.first) t.columns ≡ book.firsts
     → map length ranges ≡ map (λ (c : Cluster ClusterMeta). c.len) (ranges_of book.history)
     → IsRangedBook true t most book ranges
-staged_ranged t most book ranges kept begin firsts lens = record {
+staged_ranged t most book ranges kept bare begin firsts lens = record {
   kept = kept;
   begin = begin;
   firsts = firsts;
   lens = lens;
-  behind = all_behind t most book ranges kept begin lens;
+  behind = all_behind t most book ranges kept bare begin lens;
 }
 
 pub laid-staged : (file : List ℕ) (t : Table) (clusters : List (List TreesData)) (m : Measures) (ranges : List (List ℕ)) (book : BookData)
-    → m.staged ≡ true → IsBookOf t book → IsWithin t m book → AreBlobsOf t m.page clusters ranges (book_clusters book)
+    → m.staged ≡ true → IsBookOf t book → IsUngrouped book → IsWithin t m book → AreBlobsOf t m.page clusters ranges (book_clusters book)
     → file ≡ finished m.staged t book m.group ranges → IsLaid file t clusters m
-laid-staged file t clusters m ranges book staged of within are is =
+laid-staged file t clusters m ranges book staged of bare within are is =
     let cs = ranges_of book.history in
     let lens = ranges-len t m.page clusters ranges cs are (clusters_told book of.kept) in
     record {
@@ -139,6 +143,6 @@ laid-staged file t clusters m ranges book staged of within are is =
           subst (λ (l : List (List ℕ)). AreBlobsOf t m.page clusters l (book_clusters book))
           (sym (ranges-by_number book ranges of.kept lens)) are;
       behind = subst (λ (b : _). AreBehind (clusters_place t) (middle b t book m.group ranges)) (sym staged)
-          (all_behind t m.group book ranges of.kept of.begin lens);
+          (all_behind t m.group book ranges of.kept bare of.begin lens);
       is = is;
     }

@@ -17,7 +17,7 @@ use Rattle.nt_container.specs.Finished.{finished_file, parts_behind, end_place, 
 use Rattle.nt_container.proofs.Lengths.{header-len, file_record-len, blob_key-len}
 use Rattle.nt_container.proofs.Gate.{blob_found}
 use Rattle.nt_file_meaning.specs.Envelopes.{sealed, envelope_of}
-use Rattle.nt_layout.specs.Blobs.{blob, blob_len, object_place}
+use Rattle.nt_pagelists.specs.Blobs.{blob, blob_len, object_place}
 use Rattle.nt_lists.specs.Parts.{Part, AreBehind, part_bytes}
 
 -- these bytes stand at this place

@@ -5,7 +5,7 @@ ghost use Rattle.nt_types.specs.TreeData.{TreesData, no_trees, tree};
 ghost use Rattle.nt_grammar.specs.declared.rows.ColumnRow.{ColumnRow};
 ghost use Rattle.nt_grammar.specs.Table.{Table};
 ghost use Rattle.nt_plans.specs.Plan.{PlanData};
-ghost use Rattle.nt_book.specs.Books.{BookData, book_clusters};
+ghost use Rattle.nt_book.specs.Books.{BookData, IsUngrouped, book_clusters};
 ghost use Rattle.nt_book.specs.Kept.{IsBookKept};
 ghost use Rattle.nt_pagelists.specs.declared.cluster.ClusterList.{ClusterList};
 ghost use Rattle.nt_file_meaning.specs.Outlines.{Outline, outline_of};
@@ -49,12 +49,12 @@ pub fn late_files_mean_their_entries()
     files_mean_filled_entries();
 }
 
-/// The finished file of a kept book to whose schema fields were added, with all page lists behind
-/// the ranges, is laid out: its parts lie in order, each range and each list where the book has it.
+/// The finished file of a kept book to whose schema fields were added, without page lists between its
+/// ranges and with all of them behind, is laid out: its parts lie in order, each range and each list where the book has it.
 pub fn late_files_are_laid_behind()
     ensures { (file : List ℕ) (t : Table) (clusters : List (List TreesData)) (m : Measures)
         (ranges : List (List ℕ)) (book : BookData) → m.staged ≡ true → IsBookKept book
-        → book.begin ≡ clusters_place t → map (λ (c : ColumnRow). c.first) t.columns ≡ book.firsts
+        → IsUngrouped book → book.begin ≡ clusters_place t → map (λ (c : ColumnRow). c.first) t.columns ≡ book.firsts
         → IsWithin t m book → AreLateBlobs t m.page 0 clusters ranges (book_clusters book)
         → file ≡ finished m.staged t book m.group ranges → IsLaidLate file t clusters m }
 {}

@@ -12,7 +12,7 @@ ghost use Rattle.nt_grammar.specs.Table.{Table};
 ghost use Rattle.nt_grammar.specs.ReadingBack.{IsDescribed};
 ghost use Rattle.nt_machine.specs.History.{Cluster, ranges_of};
 ghost use Rattle.nt_book.specs.declared.meta.ClusterMeta.{ClusterMeta};
-ghost use Rattle.nt_book.specs.Books.{BookData, book_clusters};
+ghost use Rattle.nt_book.specs.Books.{BookData, IsUngrouped, book_clusters};
 ghost use Rattle.nt_book.specs.Kept.{IsBookKept};
 ghost use Rattle.nt_pagelists.specs.declared.cluster.ClusterList.{ClusterList};
 ghost use Rattle.nt_pagelists.specs.SoundBooks.{HasSoundClusters};
@@ -60,17 +60,17 @@ pub fn finished_files_are_parts()
         ++ (header_blob t ++ (concat ranges ++ tail t book (lists_behind t book most)))) }
 {}
 
-/// A finished file of a kept book with all page lists behind the ranges is laid out: its parts lie
+/// A finished file of a kept book without page lists between its ranges, all behind them, is laid out: its parts lie
 /// in order, each range and each list where the book has it.
 pub fn files_are_laid_behind()
     ensures ranged { (t : Table) (most : ℕ) (book : BookData) (ranges : List (List ℕ))
-        → IsBookKept book → book.begin ≡ clusters_place t
+        → IsBookKept book → IsUngrouped book → book.begin ≡ clusters_place t
         → map (λ (c : ColumnRow). c.first) t.columns ≡ book.firsts
         → map length ranges ≡ map (λ (c : Cluster ClusterMeta). c.len) (ranges_of book.history)
         → IsRangedBook true t most book ranges }
     ensures laid { (file : List ℕ) (t : Table) (clusters : List (List TreesData)) (m : Measures)
         (ranges : List (List ℕ)) (book : BookData)
-        → m.staged ≡ true → IsBookOf t book → IsWithin t m book
+        → m.staged ≡ true → IsBookOf t book → IsUngrouped book → IsWithin t m book
         → AreBlobsOf t m.page clusters ranges (book_clusters book)
         → file ≡ finished m.staged t book m.group ranges → IsLaid file t clusters m }
 {}

@@ -9,8 +9,9 @@ use Rattle.nt_container.proofs.Lengths.{blob_key-len}
 use Rattle.nt_machine.specs.History.{Cluster}
 use Rattle.nt_book.specs.declared.meta.ClusterMeta.{ClusterMeta}
 use Rattle.nt_book.specs.Books.{BookData}
-use Rattle.nt_layout.specs.Blobs.{blob, blob_len}
-use Rattle.nt_layout.specs.Groups.{list_object, list_len, ListPlace, list_part, list_parts}
+use Rattle.nt_pagelists.specs.Blobs.{blob, blob_len}
+use Rattle.nt_pagelists.specs.Objects.{list_object, list_len}
+use Rattle.nt_layout.specs.Groups.{PlacedList, list_part, list_parts}
 use Rattle.nt_layout.specs.Finished.{range_parts}
 
 -- a blob is so long
@@ -26,8 +27,8 @@ concat-range_parts (c ∷ cs) [] same = absurd (omega (arith, same))
 concat-range_parts (c ∷ cs) (r ∷ ranges) same = ap (λ (l : List ℕ). r ++ l) (concat-range_parts cs ranges (omega (arith, same)))
 
 -- and those of page lists as many as these are long
-pub length-list_parts : (sum : ℕ) (book : BookData) (ls : List ListPlace)
-    → length (concat (part_bytes (list_parts sum book ls))) ≡ sum_by (λ (l : ListPlace). list_len sum book l.span) ls
+pub length-list_parts : (sum : ℕ) (book : BookData) (ls : List PlacedList)
+    → length (concat (part_bytes (list_parts sum book ls))) ≡ sum_by (λ (l : PlacedList). list_len sum book l.span) ls
 length-list_parts sum book [] = refl
 length-list_parts sum book (l ∷ ls) =
     omega (
@@ -35,5 +36,5 @@ length-list_parts sum book (l ∷ ls) =
       length-append (list_part sum book l).bytes (concat (part_bytes (list_parts sum book ls))),
       length-blob l.place (list_object sum book l.span),
       length-list_parts sum book ls,
-      sum_by-cons (λ (k : ListPlace). list_len sum book k.span) l ls,
+      sum_by-cons (λ (k : PlacedList). list_len sum book k.span) l ls,
     )

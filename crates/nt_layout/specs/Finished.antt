@@ -15,10 +15,11 @@ use Rattle.nt_book.specs.Books.{BookData, book_clusters}
 use Rattle.nt_file_meaning.specs.Envelopes.{footer_kind}
 use Rattle.nt_pagelists.specs.declared.group.Group.{Group}
 use Rattle.nt_pagelists.specs.FooterWriting.{footer_text}
-use Rattle.nt_layout.specs.Blobs.{blob, blob_len, object_place}
+use Rattle.nt_pagelists.specs.Blobs.{blob, blob_len, object_place}
 use Rattle.nt_lists.specs.Parts.{Part, part_bytes}
 use Rattle.nt_layout.specs.Headers.{header_object, header_sum, header_blob}
-use Rattle.nt_layout.specs.Groups.{ClusterSpan, spans_of, list_len, ListPlace, places_beside, places_behind, list_part, list_parts}
+use Rattle.nt_pagelists.specs.Objects.{ClusterSpan, spans_of, list_len}
+use Rattle.nt_layout.specs.Groups.{PlacedList, places_beside, places_behind, list_part, list_parts}
 use Rattle.nt_layout.specs.Groups.{list_groups}
 
 -- the groups of a book's clusters, at most so many clusters each
@@ -26,13 +27,13 @@ abbrev pub spans : BookData → ℕ → List ClusterSpan
 spans book most = spans_of most (length (book_clusters book))
 
 -- where the page lists of a book stand: behind all ranges where its clusters are staged, else each behind its last cluster
-abbrev pub list_places : Bool → Table → BookData → ℕ → List ListPlace
+abbrev pub list_places : Bool → Table → BookData → ℕ → List PlacedList
 list_places true t book most =
     places_behind (header_sum t) book (end_after book.begin (ranges_of book.history)) (spans book most)
 list_places false t book most = places_beside book (spans book most)
 
 -- the page lists of a book behind all ranges
-abbrev pub lists_behind : Table → BookData → ℕ → List ListPlace
+abbrev pub lists_behind : Table → BookData → ℕ → List PlacedList
 lists_behind t book most = list_places true t book most
 
 -- the ranges of clusters, with these bytes
@@ -42,7 +43,7 @@ range_parts (c ∷ cs) [] = []
 range_parts (c ∷ cs) (range ∷ ranges) = record { place = c.start; bytes = range } ∷ range_parts cs ranges
 
 -- ranges, and behind the last one that a page list lists that list
-abbrev pub parts_beside : ℕ → BookData → List ListPlace → List Part → List Part
+abbrev pub parts_beside : ℕ → BookData → List PlacedList → List Part → List Part
 parts_beside sum book [] ranges = ranges
 parts_beside sum book (l ∷ ls) ranges =
     take l.span.count ranges ++ (list_part sum book l ∷ parts_beside sum book ls (drop l.span.count ranges))
@@ -55,28 +56,28 @@ middle false t book most ranges =
     parts_beside (header_sum t) book (list_places false t book most) (range_parts (ranges_of book.history) ranges)
 
 -- the blobs of page lists
-abbrev pub list_blobs : Table → BookData → List ListPlace → List (List ℕ)
+abbrev pub list_blobs : Table → BookData → List PlacedList → List (List ℕ)
 list_blobs t book ls = part_bytes (list_parts (header_sum t) book ls)
 
 -- the groups of page lists
-abbrev pub groups : Table → BookData → List ListPlace → List Group
+abbrev pub groups : Table → BookData → List PlacedList → List Group
 groups t book ls = list_groups (header_sum t) book ls
 
 -- the footer of a file with these page lists
-unfoldable pub footer_object : Table → BookData → List ListPlace → List ℕ
+unfoldable pub footer_object : Table → BookData → List PlacedList → List ℕ
 footer_object t book ls = envelope footer_kind (footer_text (header_sum t) t (groups t book ls))
 
 -- where its blob begins: behind all ranges and page lists
-unfoldable pub footer_place : Table → BookData → List ListPlace → ℕ
+unfoldable pub footer_place : Table → BookData → List PlacedList → ℕ
 footer_place t book ls =
-    end_after book.begin (ranges_of book.history) + sum_by (λ (l : ListPlace). list_len (header_sum t) book l.span) ls
+    end_after book.begin (ranges_of book.history) + sum_by (λ (l : PlacedList). list_len (header_sum t) book l.span) ls
 
 -- the footer's blob
-abbrev pub footer_blob : Table → BookData → List ListPlace → List ℕ
+abbrev pub footer_blob : Table → BookData → List PlacedList → List ℕ
 footer_blob t book ls = blob (footer_place t book ls) (footer_object t book ls)
 
 -- what the anchor says: where header and footer stand, each stored as it is
-abbrev pub anchor_of_file : Table → BookData → List ListPlace → Anchor
+abbrev pub anchor_of_file : Table → BookData → List PlacedList → Anchor
 anchor_of_file t book ls = record {
   header = object_place begun_len;
   header_size = length (header_object t);
@@ -87,11 +88,11 @@ anchor_of_file t book ls = record {
 }
 
 -- the blobs of a file, between its container's parts
-abbrev pub blobs : Table → BookData → List ListPlace → List Part → List (List ℕ)
+abbrev pub blobs : Table → BookData → List PlacedList → List Part → List (List ℕ)
 blobs t book ls parts = header_blob t ∷ (part_bytes parts ++ footer_blob t book ls ∷ [])
 
 -- the finished file of a schema and a book, with these parts between header and footer, the page lists among them
-abbrev pub finished_with : Table → BookData → List ListPlace → List Part → List ℕ
+abbrev pub finished_with : Table → BookData → List PlacedList → List Part → List ℕ
 finished_with t book ls parts = finished_file (anchor_of_file t book ls) (blobs t book ls parts)
 
 -- with at most so many clusters a group, and these bytes in the ranges
@@ -99,23 +100,23 @@ abbrev pub finished : Bool → Table → BookData → ℕ → List (List ℕ) �
 finished staged t book most ranges = finished_with t book (list_places staged t book most) (middle staged t book most ranges)
 
 -- where the anchor begins
-unfoldable pub anchor_start : Table → BookData → List ListPlace → ℕ
+unfoldable pub anchor_start : Table → BookData → List PlacedList → ℕ
 anchor_start t book ls = footer_place t book ls + blob_len (length (footer_object t book ls))
 
 -- where the list of keys begins
-abbrev pub keys_start : Table → BookData → List ListPlace → ℕ
+abbrev pub keys_start : Table → BookData → List PlacedList → ℕ
 keys_start t book ls = anchor_start t book ls + anchor_part_len
 
 -- where the list of free pieces begins
-abbrev pub free_start : Table → BookData → List ListPlace → ℕ
+abbrev pub free_start : Table → BookData → List PlacedList → ℕ
 free_start t book ls = keys_start t book ls + key_list_part_len
 
 -- how many bytes the file has
-abbrev pub file_len : Table → BookData → List ListPlace → ℕ
+abbrev pub file_len : Table → BookData → List PlacedList → ℕ
 file_len t book ls = free_start t book ls + free_list_part_len
 
 -- what stands behind the ranges and page lists
-unfoldable pub ending : Table → BookData → List ListPlace → List ℕ
+unfoldable pub ending : Table → BookData → List PlacedList → List ℕ
 ending t book ls =
     footer_blob t book ls
     ++ (anchor_part (anchor_start t book ls) (anchor_of_file t book ls)
@@ -123,9 +124,9 @@ ending t book ls =
     ++ free_list_part (free_start t book ls) (file_len t book ls)))
 
 -- what stands behind the ranges of the clusters where these page lists do
-abbrev pub tail : Table → BookData → List ListPlace → List ℕ
+abbrev pub tail : Table → BookData → List PlacedList → List ℕ
 tail t book ls = concat (list_blobs t book ls) ++ ending t book ls
 
 -- what stands in front of the header's blob, without the first byte
-unfoldable pub front : Table → BookData → List ListPlace → List ℕ
+unfoldable pub front : Table → BookData → List PlacedList → List ℕ
 front t book ls = drop 1 (header_part (file_len t book ls) (free_start t book ls)) ++ record_part (keys_start t book ls)

@@ -18,9 +18,9 @@ use Rattle.nt_trees.specs.Described.{IsSetOf}
 use Rattle.nt_trees.specs.Sound.{AllSound}
 use Rattle.nt_trees.specs.Nones.{HaveZeroNones}
 use Rattle.nt_trees.specs.TreeAt.{each_at}
-use Rattle.nt_layout.specs.Blobs.{blob, blob_len}
+use Rattle.nt_pagelists.specs.Blobs.{blob, blob_len}
 use Rattle.nt_layout.specs.Headers.{header_object, header_sum, clusters_place}
-use Rattle.nt_layout.specs.Groups.{ClusterSpan, list_len}
+use Rattle.nt_pagelists.specs.Objects.{ClusterSpan, list_len}
 use Rattle.nt_lists.specs.Parts.{AreBehind}
 use Rattle.nt_layout.specs.Finished.{spans, list_places, middle, footer_object, finished, file_len}
 

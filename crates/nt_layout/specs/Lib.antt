@@ -1,4 +1,3 @@
-pub mod Blobs
 pub mod Headers
 pub mod Groups
 pub mod Finished

@@ -9,3 +9,4 @@ pub mod Adding
 pub mod GroupSteps
 pub mod Appended
 pub mod BookFacts
+pub mod DueFacts

@@ -2,7 +2,8 @@
 //! 1.0.0.0, sections Page List Envelope and Footer Envelope).
 //!
 //! `read_footer` and then `read_page_list` for each of its groups read the payloads of envelopes;
-//! `write_page_list` tells of a book's clusters, `write_footer` of groups, each as an envelope.
+//! `write_page_list` tells of a book's clusters, `write_footer` of groups, each as an envelope;
+//! `due_list` gives the page list that a book is due, behind room for the key of its blob.
 //! Start at `reading_list.rt` and `writing_list.rt`. What the bytes mean is said in `nt_pagelists`,
 //! whose words hold here too; *known* columns are those of a schema, made once for all page lists.
 //!
@@ -19,6 +20,7 @@
 #![tactic(auto)]
 
 mod descriptions;
+mod due;
 mod error;
 mod faults;
 mod headers;
@@ -38,6 +40,7 @@ mod writing_columns;
 mod writing_footer;
 mod writing_list;
 
+pub use due::due_list;
 pub use error::MetaError;
 pub use headers::{read_header, write_header};
 pub use known::KnownColumns;

@@ -9,3 +9,6 @@ pub mod FooterWriting
 pub mod ReadingBack
 pub mod Books
 pub mod SoundBooks
+pub mod Blobs
+pub mod Objects
+pub mod Due

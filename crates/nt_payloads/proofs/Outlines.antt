@@ -7,7 +7,8 @@ use Rattle.nt_pagelists.specs.declared.group.Group.{Group}
 use Rattle.nt_pagelists.specs.declared.column.KnownColumn.{KnownColumn}
 use Rattle.nt_pagelists.specs.declared.cluster.ClusterList.{ClusterList}
 use Rattle.nt_pagelists.specs.PageLists.{ProgressCounts}
-use Rattle.nt_file_meaning.specs.Envelopes.{header_kind, footer_kind, page_list_kind}
+use Rattle.nt_file_meaning.specs.Envelopes.{header_kind, footer_kind}
+use Rattle.nt_pagelists.specs.Objects.{page_list_kind}
 use Rattle.nt_file_meaning.specs.Outlines.{Outline, header_block, footer_block, list_block, known_columns, outline_of}
 use Rattle.nt_file_meaning.specs.Describes.{ListsGroup, ListsGroups, no_more, and_more, HasOutline}
 use Rattle.nt_file_meaning.proofs.OutlinesBack.{outlined}

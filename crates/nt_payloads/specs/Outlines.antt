@@ -8,7 +8,8 @@ use Rattle.nt_pagelists.specs.declared.group.Group.{Group}
 use Rattle.nt_pagelists.specs.declared.column.KnownColumn.{KnownColumn}
 use Rattle.nt_pagelists.specs.declared.cluster.ClusterList.{ClusterList}
 use Rattle.nt_pagelists.specs.PageLists.{ProgressCounts}
-use Rattle.nt_file_meaning.specs.Envelopes.{Sealed, IsEnvelope, header_kind, footer_kind, page_list_kind}
+use Rattle.nt_file_meaning.specs.Envelopes.{Sealed, IsEnvelope, header_kind, footer_kind}
+use Rattle.nt_pagelists.specs.Objects.{page_list_kind}
 use Rattle.nt_file_meaning.specs.Outlines.{Outline, header_block, footer_block, list_block, known_columns, no_progress, clusters_of_block}
 use Rattle.nt_payloads.specs.Conditions.{IsPageList}
 use Rattle.nt_payloads.specs.Descriptions.{IsHeaderPayload}

@@ -19,7 +19,8 @@ use Rattle.nt_pagelists.specs.PageLists.{ProgressCounts, page_list_at}
 use Rattle.nt_tfile.specs.declared.failure.ReadFailure.{ReadFailure}
 use Rattle.nt_tfile.specs.declared.failure.ReadFailure.TheVariants.{Defect, Fault, Memory}
 use Rattle.nt_tfile.specs.Calls.{IsReadOrFails}
-use Rattle.nt_file_meaning.specs.Envelopes.{Sealed, Block, header_kind, page_list_kind, envelope_of, inside_of}
+use Rattle.nt_file_meaning.specs.Envelopes.{Sealed, Block, header_kind, envelope_of, inside_of}
+use Rattle.nt_pagelists.specs.Objects.{page_list_kind}
 use Rattle.nt_file_meaning.specs.Headers.{header_payload_at}
 use Rattle.nt_file_meaning.specs.Outlines.{Outline, header_block, list_block, known_columns, no_progress, clusters_of_block, group_clusters}
 use Rattle.nt_file_meaning.specs.Outlines.{groups_clusters, described_of, outline_of}

@@ -8,7 +8,8 @@ use Rattle.nt_pagelists.specs.declared.group.Group.{Group}
 use Rattle.nt_pagelists.specs.declared.column.KnownColumn.{KnownColumn}
 use Rattle.nt_pagelists.specs.declared.cluster.ClusterList.{ClusterList}
 use Rattle.nt_pagelists.specs.PageLists.{ProgressCounts, page_list_at}
-use Rattle.nt_file_meaning.specs.Envelopes.{Sealed, Block, payload_start, page_list_kind, envelope_of}
+use Rattle.nt_file_meaning.specs.Envelopes.{Sealed, Block, payload_start, envelope_of}
+use Rattle.nt_pagelists.specs.Objects.{page_list_kind}
 use Rattle.nt_file_meaning.specs.Outlines.{list_block, moved_cluster, clusters_of_block}
 use Rattle.nt_meta.specs.Defects.{defect_of}
 use Rattle.nt_meta.specs.declared.error.MetaError.{MetaError}

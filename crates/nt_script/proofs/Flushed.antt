@@ -100,17 +100,17 @@ module _ {D : Type 0} (state : D → DiskState) where
 
   -- why the gathered entries weren't written
   halted : (segments : List Segment) (es : List TreesData) (old new : SeqState D) (e : CommitError) → 0 < length (gathered_by old)
-      → length (gathered_by old) ≤ old.params.cluster → IsBookKept old.book → old.book.begin ≡ clusters_place old.table
+      → length (gathered_by old) ≤ old.params.cluster → IsBookKept old.book → IsUngrouped old.book → old.book.begin ≡ clusters_place old.table
       → HasTakenLines state segments es old → (refusal e ≢ refusal commit.Memory → NamesPassed old (Err e))
       → (refusal e ≡ refusal commit.Fault → FailsToAppend state old new)
       → HaltsAt state old.table old.params segments es new (error_of_commit e)
-  halted segments es old new e some few kept begin taken names fault = at e names fault
+  halted segments es old new e some few kept bare begin taken names fault = at e names fault
     where
       over : (error : LimitError) (f : CommitError) → limit_in f ≡ Some error → NamesPassed old (Err f)
           → NamesOver old.table old.params (clusters_of_segments old.params.cluster segments ++ chunks old.params.cluster es) error
       over error f is passed =
           subst (λ (l : List (List TreesData)). NamesOver old.table old.params l error) (with_next segments es old some few taken)
-          (next_over old.table old.params old.book kept begin (clusters_of_segments old.params.cluster segments ++ taken.full)
+          (next_over old.table old.params old.book kept bare begin (clusters_of_segments old.params.cluster segments ++ taken.full)
           taken.written.ranges taken.written.late old.columns (gathered_by old) passed.gives old.book.limits error passed.limits_are
           (passed.names ∙ is))
 
@@ -191,13 +191,13 @@ module _ {D : Type 0} (state : D → DiskState) where
 
   -- a flush that was refused
   pub gathered_refused : (segments : List Segment) (es : List TreesData) (old new : SeqState D) (e : CommitError)
-      → length (gathered_by old) ≤ old.params.cluster → IsBookKept old.book → old.book.begin ≡ clusters_place old.table
+      → length (gathered_by old) ≤ old.params.cluster → IsBookKept old.book → IsUngrouped old.book → old.book.begin ≡ clusters_place old.table
       → HasTakenLines state segments es old → (gathered_by old ≡ [] → (refusal e ≡ Ok tt) × (new ≡ old))
       → (0 < length (gathered_by old) → refusal e ≢ refusal commit.Memory → NamesPassed old (Err e))
       → (refusal e ≡ refusal commit.Fault → FailsToAppend state old new)
       → HaltsAt state old.table old.params segments es new (error_of_commit e)
-  gathered_refused segments es old new e few kept begin taken nothing names fault =
+  gathered_refused segments es old new e few kept bare begin taken nothing names fault =
       elim (some_or_none (gathered_by old)) [
         | inl none ↦ absurd (refused_not_done e (nothing none).0)
-        | inr more ↦ halted segments es old new e more few kept begin taken (names more) fault
+        | inr more ↦ halted segments es old new e more few kept bare begin taken (names more) fault
       ]

@@ -16,14 +16,15 @@ use Rattle.nt_book.specs.declared.params.Params.{Params}
 use Rattle.nt_book.specs.declared.limits.Limits.{Limits}
 use Rattle.nt_book.specs.declared.limits.LimitError.{LimitError}
 use Rattle.nt_book.specs.declared.limits.LimitError.TheVariants as limit
-use Rattle.nt_book.specs.Books.{BookData, book_clusters, book_end}
+use Rattle.nt_book.specs.Books.{BookData, IsUngrouped, book_clusters, book_end}
+use Rattle.nt_book.proofs.Ungrouped.{end-ungrouped}
 use Rattle.nt_book.specs.Kept.{IsBookKept}
 use Rattle.nt_book.specs.Limiting.{limit_error}
 use Rattle.nt_column.specs.Column.{Column}
 use Rattle.nt_pages.specs.Image.{image}
 use Rattle.nt_pages.specs.Metas.{cluster_meta}
-use Rattle.nt_layout.specs.Blobs.{blob_len}
-use Rattle.nt_layout.specs.Groups.{ClusterSpan, list_len}
+use Rattle.nt_pagelists.specs.Blobs.{blob_len}
+use Rattle.nt_pagelists.specs.Objects.{ClusterSpan, list_len}
 use Rattle.nt_layout.specs.Headers.{header_object, header_sum, clusters_place}
 use Rattle.nt_layout.specs.Finished.{lists_behind, spans, footer_object, file_len}
 use Rattle.nt_layout.specs.Laid.{Gives}
@@ -85,8 +86,8 @@ next-kept t page columns es gives first = record {
   all_are = sym (filled-none es);
 }
 
-module _ (t : Table) (p : Params) (book : BookData) (kept : IsBookKept book) (begin : book.begin ≡ clusters_place t)
-    (clusters : List (List TreesData)) (ranges : List (List ℕ)) (late : AreLateBlobs t p.page 0 clusters ranges (book_clusters book))
+module _ (t : Table) (p : Params) (book : BookData) (kept : IsBookKept book) (bare : IsUngrouped book)
+    (begin : book.begin ≡ clusters_place t) (clusters : List (List TreesData)) (ranges : List (List ℕ)) (late : AreLateBlobs t p.page 0 clusters ranges (book_clusters book))
   where
     abbrev book_metas : List ClusterMeta
     book_metas = metas (book_clusters book)
@@ -96,7 +97,7 @@ module _ (t : Table) (p : Params) (book : BookData) (kept : IsBookKept book) (be
         sym (length-map (book_clusters book) (λ (c : Cluster ClusterMeta). c.meta)) ∙ kept-count t p.page (kept-blobs t p.page late)
 
     end-is : book_end book ≡ clusters_place t + sum_by (λ (m : ClusterMeta). m.len) book_metas
-    end-is = omega (arith, begin, ranges-told (book_clusters book) (λ k less. (kept.clusters k less).len))
+    end-is = omega (arith, begin, end-ungrouped book bare, ranges-told (book_clusters book) (λ k less. (kept.clusters k less).len))
 
     -- the clusters with the next one
     module _ (columns : List Column) (es : List TreesData) (gives : Gives t columns es) where

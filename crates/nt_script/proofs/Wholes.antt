@@ -92,16 +92,16 @@ module _ {D : Type 0} (state : D → DiskState) (w : SeqState D) (F : List Membe
   numbers_here counts are =
       let both = are (clusters_of_text w.params F text) written_text in record { clusters = both.0; entries = both.1 }
 
-  pub over_here : (reached most : ℕ) (e : LimitError) → IsBookKept w.book → w.book.begin ≡ clusters_place w.table
+  pub over_here : (reached most : ℕ) (e : LimitError) → IsBookKept w.book → IsUngrouped w.book → w.book.begin ≡ clusters_place w.table
       → passed_by_close w.params w.table w.book ≡ Some e → Names e reached most
       → PassesLimit F w.params (read_script F text) reached most
-  over_here reached most e kept begin passed names = record {
+  over_here reached most e kept bare begin passed names = record {
     front = read_script F text;
     is_front = front_of_all (read_script F text) sound_text;
     first = first;
     rows = rows;
     table = w.table;
     grows = grown_text;
-    over = closed_over w.table w.params w.book kept begin (clusters_of_text w.params F text) written_text.ranges written_text.late e
+    over = closed_over w.table w.params w.book kept bare begin (clusters_of_text w.params F text) written_text.ranges written_text.late e
         reached most passed names;
   }

@@ -9,7 +9,7 @@ use Rattle.nt_book.specs.declared.meta.ClusterMeta.{ClusterMeta}
 use Rattle.nt_book.specs.declared.params.Params.{Params}
 use Rattle.nt_column.specs.Column.{Column}
 use Rattle.nt_pages.specs.Metas.{cluster_meta}
-use Rattle.nt_layout.specs.Blobs.{blob_len}
+use Rattle.nt_pagelists.specs.Blobs.{blob_len}
 use Rattle.nt_layout.specs.Headers.{header_object, clusters_place}
 use Rattle.nt_layout.specs.Laid.{Gives}
 use Rattle.nt_finished.specs.LeftOut.{filled, LacksFields}

@@ -6,9 +6,10 @@ use Rattle.nt_outside.specs.Faults.{Rose}
 use Rattle.nt_machine.specs.History.{Cluster}
 use Rattle.nt_book.specs.declared.meta.ClusterMeta.{ClusterMeta}
 use Rattle.nt_book.specs.Appending.{IsAppendable}
-use Rattle.nt_book.specs.Books.{BookData, book_clusters, book_end}
+use Rattle.nt_book.specs.Books.{BookData, IsUngrouped, book_clusters, book_end, is_due}
 use Rattle.nt_book.specs.Limiting.{limit_error}
 use Rattle.nt_book.proofs.Fitting.{limit_error-none}
+use Rattle.nt_book.proofs.Ungrouped.{due-ungrouped}
 use Rattle.nt_pages.specs.declared.image.ClusterImage.{ClusterImage}
 use Rattle.nt_commit.specs.Images.{IsImageFor}
 use Rattle.nt_fill.proofs.Passes.{keyed_length}
@@ -44,10 +45,11 @@ module _ (old mid : DiskState) (book room : BookData) (i : ClusterImage) (kept :
     pub sum-fits : old.end ≡ book_end book → mid.end + i.meta.len ≤ 2 ^ 63
     sum-fits ends = omega (arith, within-file, room.limits.file_bound, ends, kept.untouched.place.end, same-end)
 
-    pub appendable : HasMemoryFor i.meta.len room mid → IsAppendable room i.meta
-    appendable memory = record {
+    pub appendable : HasMemoryFor i.meta.len room mid → IsUngrouped book → IsAppendable room i.meta
+    appendable memory bare = record {
       limits = fits;
       spare = memory.book_room;
+      not_due = ap is_due kept.book_is ∙ due-ungrouped book bare;
       lists = is.lists ∙ sym (ap (λ (b : BookData). length b.firsts) kept.book_is);
       paged = is.paged;
     }

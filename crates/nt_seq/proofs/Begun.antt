@@ -15,6 +15,7 @@ use Rattle.nt_book.specs.Books.{BookData, book_clusters, book_end, entry_count}
 use Rattle.nt_schema.specs.Whole.{AreWhole}
 use Rattle.nt_layout.specs.Headers.{header_blob}
 use Rattle.nt_layout.specs.Laid.{AreBlobsOf, none_left}
+use Rattle.nt_close.proofs.NewBooks.{new-ungrouped}
 use Rattle.nt_close.specs.Beginning.{IsBegun}
 use Rattle.nt_close.specs.Closing.{IsClosable}
 use Rattle.nt_close.specs.Steps.{begun_on}
@@ -56,6 +57,7 @@ module _ (fields : List MemberData) (p : Params) (given new : DiskState) (book :
   pub closable-begun : given.out ≡ [] → AreWhole t → IsClosable new book t
   closable-begun out whole = record {
     begin = ap (λ (b : BookData). b.begin) is.book_is;
+    ungrouped = new-ungrouped t p.limits book is.book_is;
     end = let ends = ap book_end is.book_is in omega (arith, is.end, ends);
     out = is.out ∙ out;
     whole = whole;

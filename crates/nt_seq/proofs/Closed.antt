@@ -16,7 +16,7 @@ use Rattle.nt_book.specs.declared.limits.Limits.{Limits}
 use Rattle.nt_book.specs.declared.limits.LimitError.{LimitError}
 use Rattle.nt_book.specs.Books.{book_clusters, no_cluster}
 use Rattle.nt_book.specs.Kept.{IsBookKept}
-use Rattle.nt_layout.specs.Blobs.{blob_len}
+use Rattle.nt_pagelists.specs.Blobs.{blob_len}
 use Rattle.nt_layout.specs.Headers.{header_object, clusters_place}
 use Rattle.nt_layout.specs.Finished.{lists_behind, finished, tail, front}
 use Rattle.nt_close.specs.declared.error.CloseError.{CloseError}
@@ -107,7 +107,7 @@ module _ {D : Type 0} (state : D → DiskState) (w : SeqState D) (is : IsWriting
           lens = lens clusters has;
           blobs_are = subst (λ (l : List (List ℕ)). AreLateBlobs w.table w.params.page 0 clusters l (book_clusters w.book))
               (sym (ranges-by_number w.book has.ranges kept (lens clusters has))) has.late;
-          behind = all_behind w.table w.params.group w.book has.ranges kept is.closable.begin (lens clusters has);
+          behind = all_behind w.table w.params.group w.book has.ranges kept is.closable.ungrouped is.closable.begin (lens clusters has);
           is = image-is clusters has;
         };
         short = λ clusters has. is.short;
@@ -117,7 +117,7 @@ module _ {D : Type 0} (state : D → DiskState) (w : SeqState D) (is : IsWriting
               begin = is.closable.begin;
               firsts = is.firsts;
               none_deferred = described-first fields w.params.plain w.table rows;
-            }) stays (has.first rows.fields_in_header) (image-is clusters has);
+            }) is.closable.ungrouped stays (has.first rows.fields_in_header) (image-is clusters has);
       }
 
   -- ---- the steps of a close

@@ -14,9 +14,10 @@ use Rattle.nt_machine.proofs.Legality.{end_after-snoc}
 use Rattle.nt_machine.specs.Legal.{end_after}
 use Rattle.nt_book.specs.declared.limits.Limits.{Limits}
 use Rattle.nt_book.specs.declared.meta.ClusterMeta.{ClusterMeta}
-use Rattle.nt_book.specs.Books.{BookData, book_clusters, book_end, entry_count}
+use Rattle.nt_book.specs.Books.{BookData, IsUngrouped, book_clusters, book_end, entry_count}
 use Rattle.nt_book.specs.Limiting.{limit_error}
 use Rattle.nt_book.proofs.Fitting.{limit_error-none}
+use Rattle.nt_book.proofs.Ungrouped.{end-ungrouped}
 use Rattle.nt_column.specs.Column.{Column}
 use Rattle.nt_pages.specs.declared.image.ClusterImage.{ClusterImage}
 use Rattle.nt_pages.specs.Image.{image}
@@ -81,14 +82,27 @@ module _ (given old new : DiskState) (t : Table) (page : ℕ) (book next : BookD
 
   -- ---- what holds of the book
 
+  next-ungrouped : IsUngrouped book → IsUngrouped next
+  next-ungrouped bare =
+      subst IsUngrouped (sym appends.gains.same) (record { no_groups = bare.no_groups; between = bare.between })
+
   pub closable-more : IsClosable old book t → IsClosable new next t
   closable-more is = record {
     begin = ap (λ (b : BookData). b.begin) appends.gains.same ∙ is.begin;
+    ungrouped = next-ungrouped is.ungrouped;
     end =
         let begin : next.begin ≡ book.begin = ap (λ (b : BookData). b.begin) appends.gains.same in
-        let ends : book_end next ≡ end_after book.begin (book_clusters book ++ cluster ∷ []) =
+        let ends : end_after next.begin (book_clusters next) ≡ end_after book.begin (book_clusters book ++ cluster ∷ []) =
         ap (λ (n : ℕ). end_after n (book_clusters next)) begin ∙ ap (end_after book.begin) appends.gains.clusters in
-        omega (arith, appends.end, is.end, ends, end_after-snoc book.begin (book_clusters book) cluster);
+        omega (
+          arith,
+          appends.end,
+          is.end,
+          ends,
+          end-ungrouped book is.ungrouped,
+          end-ungrouped next (next-ungrouped is.ungrouped),
+          end_after-snoc book.begin (book_clusters book) cluster,
+        );
     out = appends.out ∙ is.out;
     whole = is.whole;
   }

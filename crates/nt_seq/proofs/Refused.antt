@@ -5,7 +5,7 @@ use Rattle.nt_outside.specs.Held.{Becomes, BecomesSome, IsTornAppend}
 use Rattle.nt_outside.specs.Disk.{DiskState}
 use Rattle.nt_grammar.specs.declared.rows.ColumnRow.{ColumnRow}
 use Rattle.nt_grammar.specs.Table.{Table}
-use Rattle.nt_book.specs.Books.{BookData, book_clusters, book_end, entry_count}
+use Rattle.nt_book.specs.Books.{BookData, IsUngrouped, book_clusters, book_end, entry_count}
 use Rattle.nt_commit.specs.declared.error.CommitError.{CommitError}
 use Rattle.nt_commit.specs.declared.error.CommitError.TheVariants.{RangeTooLarge, FileTooLarge, TooManyClusters, Memory, Fault}
 use Rattle.std.proofs.lemmas.Bool.{false≢true}
@@ -39,6 +39,8 @@ module _ {D : Type 0} (state : D → DiskState) (w : SeqState D) (disk : D) (roo
         held = λ h told. place.held ∙ is.held h told;
         closable = record {
           begin = ap (λ (b : BookData). b.begin) book ∙ is.closable.begin;
+          ungrouped = subst IsUngrouped (sym book)
+              (record { no_groups = is.closable.ungrouped.no_groups; between = is.closable.ungrouped.between });
           end = place.end ∙ (is.closable.end ∙ sym (ap book_end book));
           out = place.out ∙ is.closable.out;
           whole = is.closable.whole;

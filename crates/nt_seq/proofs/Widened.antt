@@ -24,9 +24,9 @@ use Rattle.nt_machine.specs.History.{Cluster}
 use Rattle.nt_plans.specs.Plan.{PlanData}
 use Rattle.nt_book.specs.declared.limits.Limits.{Limits}
 use Rattle.nt_book.specs.declared.meta.ClusterMeta.{ClusterMeta}
-use Rattle.nt_book.specs.Books.{BookData, book_clusters, book_end, no_cluster, entry_count}
+use Rattle.nt_book.specs.Books.{BookData, IsUngrouped, book_clusters, book_end, no_cluster, entry_count}
 use Rattle.nt_book.specs.Kept.{IsKeptCluster, IsBookKept}
-use Rattle.nt_layout.specs.Blobs.{blob, blob_len}
+use Rattle.nt_pagelists.specs.Blobs.{blob, blob_len}
 use Rattle.nt_layout.specs.Headers.{header_object, clusters_place}
 use Rattle.nt_close.specs.Passing.{first_passed, passed_by_begin}
 use Rattle.nt_close.specs.Steps.{begun_on}
@@ -127,6 +127,8 @@ module _ {D : Type 0} (state : D → DiskState) (w : SeqState D) (next : BookDat
     held = held-kept w.table new same-header (state w.given) (state w.disk) is.ranges is.held;
     closable = record {
       begin = ap (λ (b : BookData). b.begin) next_is ∙ (is.closable.begin ∙ sym (place-kept w.table new same-header));
+      ungrouped = subst IsUngrouped (sym next_is)
+          (record { no_groups = is.closable.ungrouped.no_groups; between = is.closable.ungrouped.between });
       end = is.closable.end ∙ sym (ap book_end next_is);
       out = is.closable.out;
       whole = whole;

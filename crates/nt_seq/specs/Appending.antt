@@ -6,7 +6,7 @@ use Rattle.nt_outside.specs.Disk.{DiskState}
 use Rattle.nt_container.specs.Spelling.{blob_key}
 use Rattle.nt_machine.specs.History.{Cluster, Settled}
 use Rattle.nt_book.specs.declared.meta.ClusterMeta.{ClusterMeta}
-use Rattle.nt_book.specs.Books.{BookData, book_clusters, book_end}
+use Rattle.nt_book.specs.Books.{BookData, IsUngrouped, book_clusters, book_end}
 use Rattle.nt_pages.specs.declared.image.ClusterImage.{ClusterImage}
 use Rattle.nt_pages.specs.Image.{key_room}
 use Rattle.nt_commit.specs.Images.{IsImageFor}
@@ -32,9 +32,10 @@ pub record HasMemoryFor (len : ℕ) (book : BookData) (disk : DiskState) : Type 
   pub step : 1 ≤ disk.spare_steps
   pub bytes : len ≤ disk.spare_bytes
 
--- an image can be put behind the clusters of a book, which end the disk
+-- an image can be put behind the clusters of a book without groups, which end the disk
 pub record MayAppend (disk : DiskState) (book : BookData) (image : ClusterImage) : Type 0 where
   pub image_is : IsImageFor (length book.firsts) 0 image
+  pub ungrouped : IsUngrouped book
   pub end : disk.end ≡ book_end book
 
 -- disk and book are as before but for their memory

@@ -15,7 +15,7 @@ use Rattle.nt_machine.specs.History.{Cluster, ranges_of}
 use Rattle.nt_book.specs.declared.meta.ClusterMeta.{ClusterMeta}
 use Rattle.nt_book.specs.declared.params.Params.{Params}
 use Rattle.nt_book.specs.declared.limits.LimitError.TheVariants as limit
-use Rattle.nt_book.specs.Books.{BookData, book_clusters}
+use Rattle.nt_book.specs.Books.{BookData, IsUngrouped, book_clusters}
 use Rattle.nt_book.specs.Kept.{IsBookKept}
 use Rattle.nt_machine.specs.Legal.{IsLegal, end_after}
 use Rattle.nt_logged.specs.Logs.{IsLogOf}
@@ -117,11 +117,11 @@ rose_failed (s ∷ old) (s' ∷ new) (inr rose) = inr (rose_failed old new rose)
 -- once all ended well, the file is filled
 pub dealt_from : (fields : List MemberData) (p : Params) (texts : List (List ℕ)) (t : Table) (given book : BookData) (old new : Option Held)
     (h : Held) → AreFields fields → Rows fields p.plain t → passed_by_begin p.limits t ≡ None → given ≡ new_book t p.limits
-    → IsBookKept book → IsBookOn given book
+    → IsBookKept book → IsUngrouped book → IsBookOn given book
     → AllByRecursion (λ (c : Cluster ClusterMeta). c.len ≤ given.limits.range) (book_clusters book) → AreSound fields texts
     → IsDealtOut t p.page (chunks_of p.cluster fields texts) book old new → old ≡ Some (as_begun t) → new ≡ Some h → IsShut h.image
     → LeavesUnfinished h.log → IsFilledFile fields p texts t book h
-dealt_from fields p texts t given book old new h rules rows within given_is kept on short sound dealt begun is shut unfinished =
+dealt_from fields p texts t given book old new h rules rows within given_is kept bare on short sound dealt begun is shut unfinished =
     let book_on : IsBookOn (new_book t p.limits) book = subst (λ (b : BookData). IsBookOn b book) given_is on in
     let left = dealt.stand (as_begun t) begun in
     let same : left.0 ≡ h = held_is left.0 h (sym left.1 ∙ is) in
@@ -132,6 +132,7 @@ dealt_from fields p texts t given book old new h rules rows within given_is kept
         rows = rows;
         within = within;
         kept = kept;
+        ungrouped = bare;
         book_on = book_on;
         short = subst (λ (b : BookData). AllByRecursion (λ (c : Cluster ClusterMeta). c.len ≤ b.limits.range) (book_clusters book)) given_is
             short;

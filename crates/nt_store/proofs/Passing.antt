@@ -18,9 +18,9 @@ use Rattle.nt_book.specs.declared.limits.LimitError.{LimitError}
 use Rattle.nt_book.specs.declared.limits.LimitError.TheVariants as limit
 use Rattle.nt_book.specs.Books.{BookData, book_clusters}
 use Rattle.nt_book.specs.Kept.{IsBookKept}
-use Rattle.nt_layout.specs.Blobs.{blob_len}
+use Rattle.nt_pagelists.specs.Blobs.{blob_len}
 use Rattle.nt_layout.specs.Headers.{header_object, header_sum, clusters_place}
-use Rattle.nt_layout.specs.Groups.{ClusterSpan, cluster_span, list_len}
+use Rattle.nt_pagelists.specs.Objects.{ClusterSpan, cluster_span, list_len}
 use Rattle.nt_layout.specs.Finished.{list_places, lists_behind, spans, footer_object, file_len}
 use Rattle.nt_layout.specs.Laid.{IsBookOf}
 use Rattle.nt_finished.proofs.Spans.{AreInOrder, spans_in_order, order-le}

@@ -15,7 +15,7 @@ use Rattle.nt_book.specs.declared.limits.LimitError.{LimitError}
 use Rattle.nt_book.specs.Books.{BookData, book_clusters}
 use Rattle.nt_book.specs.Kept.{IsBookKept}
 use Rattle.nt_file_meaning.specs.Files.{Means}
-use Rattle.nt_layout.specs.Blobs.{blob_len}
+use Rattle.nt_pagelists.specs.Blobs.{blob_len}
 use Rattle.nt_layout.specs.Headers.{header_object, clusters_place}
 use Rattle.nt_layout.specs.Laid.{AreBlobsOf, Measures, AreMeasures, IsBookOf, IsLaid}
 use Rattle.nt_finished.proofs.Lengths.{clusters_told, ranges-len}
@@ -83,7 +83,7 @@ stored_whole books mean fields p texts t book ranges bytes holds stays is =
       lens = lens;
       blobs_are = subst (λ (l : List (List ℕ)). AreBlobsOf t p.page holds.are.dealt l cs)
           (sym (ranges-by_number book ranges holds.kept lens)) holds.are.blobs_are;
-      behind = all_behind t p.group book ranges holds.kept of.begin lens;
+      behind = all_behind t p.group book ranges holds.kept holds.ungrouped of.begin lens;
       is = is;
     } in
     record {

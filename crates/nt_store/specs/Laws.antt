@@ -8,7 +8,7 @@ use Rattle.nt_grammar.specs.Rows.{Rows}
 use Rattle.nt_machine.specs.History.{Cluster}
 use Rattle.nt_book.specs.declared.meta.ClusterMeta.{ClusterMeta}
 use Rattle.nt_book.specs.declared.params.Params.{Params}
-use Rattle.nt_book.specs.Books.{BookData, book_clusters}
+use Rattle.nt_book.specs.Books.{BookData, IsUngrouped, book_clusters}
 use Rattle.nt_book.specs.Kept.{IsBookKept}
 use Rattle.nt_outside.specs.Log.{Step}
 use Rattle.nt_outside.specs.Held.{Held, nothing_held}
@@ -35,6 +35,7 @@ pub record HoldsChunks (fields : List MemberData) (p : Params) (texts : List (Li
   pub rows : Rows fields p.plain t
   pub within : passed_by_begin p.limits t ≡ None
   pub kept : IsBookKept book
+  pub ungrouped : IsUngrouped book
   pub book_on : IsBookOn (new_book t p.limits) book
   pub short : AllByRecursion (λ (c : Cluster ClusterMeta). c.len ≤ p.limits.range) (book_clusters book)
   pub sound : AreSound fields texts

@@ -4,7 +4,7 @@ ghost use Rattle.std.specs.Prelude.{◌≡◌, ◌+◌, ◌≤◌, ◌∷◌, []
 ghost use Rattle.nt_book.specs.Books.{book_clusters};
 ghost use Rattle.nt_book.specs.Pages.{IsPaged};
 
-use nt_book::{Book, ClusterMeta, LimitError, Limits, PageList, PageLists, PageMeta, RangeState};
+use nt_book::{Book, ClusterMeta, LimitError, Limits, ListPlace, PageList, PageLists, PageMeta, RangeState};
 use std::alloc::{AllocError, Global};
 use std::test::Fail;
 
@@ -63,9 +63,13 @@ fn append(book: &mut Book, meta: &mut ClusterMeta, back: Back) -> Result<(), Fai
     requires paged { IsPaged meta.old }
     requires lists { length meta.old.pages ≡ length book.old.firsts }
     ensures firsts { book.new.firsts ≡ book.old.firsts }
+    ensures limits { book.new.limits ≡ book.old.limits }
 {
     book.check(meta.len)?;
     book.room()?;
+    if book.due() {
+        return Err(Fail::new("a page list is due"));
+    }
     let context = meta.context;
     let number = book.append(meta);
     match back {
@@ -76,7 +80,9 @@ fn append(book: &mut Book, meta: &mut ClusterMeta, back: Back) -> Result<(), Fai
 }
 
 /// Limits of a range, of the file and of its clusters.
-fn limits(range: u64, file: u64, clusters: u32) -> Result<Limits, Fail> {
+fn limits(range: u64, file: u64, clusters: u32) -> Result<Limits, Fail>
+    ensures { IfOk result (λ limits. limits.file ≡ file) }
+{
     let Some(limits) = Limits::new(range, file, clusters) else {
         return Err(Fail::new("limits that are too large"));
     };
@@ -173,5 +179,94 @@ fn a_full_book_takes_no_more(rt: HostRuntime) -> Result<(), Fail> {
             limit: 100
         })
     );
+    Ok(())
+}
+
+/// A book of groups of one cluster, that ends at 500.
+fn grouped(alloc: Global) -> Result<Book, Fail>
+    ensures firsts { IfOk result (λ book. length book.firsts ≡ 1) }
+    ensures limits { IfOk result (λ book. book.limits.file ≡ 1000) }
+{
+    let mut book = Book::new(alloc, 450, 1, limits(100, 1000, 2)?)?;
+    if book.clusters() != 0 {
+        return Err(Fail::new("a new book with clusters"));
+    }
+    book.group_by(1, 77);
+    append(&mut book, &mut cluster(alloc, 0, 50, 5)?, Back::Filled)?;
+    Ok(book)
+}
+
+/// Where the page list of the first group stands.
+const FIRST_LIST: ListPlace = ListPlace {
+    length: 48,
+    size: 48,
+    place: 542,
+};
+
+/// Notes a page list of 90 bytes, if one is due.
+fn note(book: &mut Book) -> Result<(), Fail>
+    ensures { book.new.firsts ≡ book.old.firsts }
+{
+    book.room()?;
+    if !book.due() || book.check_with(0, 90).is_err() {
+        return Err(Fail::new("no page list can be noted"));
+    }
+    book.note_list(FIRST_LIST, 90);
+    Ok(())
+}
+
+#[test]
+fn a_list_counts_in_limits(rt: HostRuntime) -> Result<(), Fail> {
+    let book = grouped(rt.alloc())?;
+    let list = LimitError::RangeTooLarge {
+        len: 120,
+        limit: 100,
+    };
+    assert_eq!(rt; book.check_with(50, 120), Err(list));
+    assert_eq!(rt; book.check_with(90, 90), Ok(()));
+    let range = LimitError::RangeTooLarge {
+        len: 101,
+        limit: 100,
+    };
+    assert_eq!(rt; book.check_with(101, 120), Err(range));
+    Ok(())
+}
+
+#[test]
+fn a_list_is_due_and_noted(rt: HostRuntime) -> Result<(), Fail> {
+    let alloc = rt.alloc();
+    let mut book = grouped(alloc)?;
+    assert_eq!(rt; book.group(), Some((1, 77)));
+    assert!(rt; book.due());
+    assert_eq!(rt; book.lists(), 0);
+    assert_eq!(rt; book.end(), 500);
+    note(&mut book)?;
+    assert!(rt; !book.due());
+    assert_eq!(rt; book.lists(), 1);
+    assert_eq!(rt; book.end(), 590);
+    if book.lists() > 0 {
+        assert_eq!(rt; book.list(0), FIRST_LIST);
+    }
+    append(&mut book, &mut cluster(alloc, 0, 50, 5)?, Back::Filled)?;
+    assert_eq!(rt; told(&book, 1), Some((590, 2, 5, RangeState::Settled)));
+    assert!(rt; book.due());
+    Ok(())
+}
+
+#[test]
+fn a_torn_book_stays_torn(rt: HostRuntime) -> Result<(), Fail> {
+    let alloc = rt.alloc();
+    let mut book = grouped(alloc)?;
+    assert_eq!(rt; book.torn(), None);
+    if book.due() && book.end() <= 512 && book.check_with(0, 12).is_ok() {
+        book.tear(512, 3);
+    }
+    assert_eq!(rt; book.torn(), Some((0, 3)));
+    assert_eq!(rt; book.end(), 512);
+    assert!(rt; !book.due());
+    append(&mut book, &mut cluster(alloc, 0, 50, 5)?, Back::Filled)?;
+    assert_eq!(rt; told(&book, 1), Some((512, 2, 5, RangeState::Settled)));
+    assert!(rt; !book.due());
+    assert_eq!(rt; book.torn(), Some((0, 3)));
     Ok(())
 }

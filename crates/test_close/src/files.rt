@@ -101,7 +101,7 @@ fn add(
 {
     book.keeps();
     let mut meta = meta_of(alloc, (page.len() / 8) as u32)?;
-    if disk.end() != book.end() || book.check(meta.len).is_err() {
+    if disk.end() != book.end() || book.check(meta.len).is_err() || book.due() {
         return Err(AllocError);
     }
     book.room()?;
@@ -140,7 +140,8 @@ fn fill(
         let faults = if k < spoiled { 0 } else { k as u64 };
         add(alloc, disk, book, page, faults)?;
     }
-    if disk.end() != book.end() {
+    book.keeps();
+    if disk.end() != book.end() || book.group().is_some() {
         return Err(AllocError);
     }
     match close(alloc, disk, book, schema, params) {

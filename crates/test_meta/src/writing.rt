@@ -54,7 +54,7 @@ fn a_book_is_written(alloc: Global) -> Result<bool, AllocError> {
     let mut book = Book::new(alloc, 445, 1, limits)?;
     book.room()?;
     let mut meta = cluster(alloc)?;
-    if book.check(66).is_err() {
+    if book.check(66).is_err() || book.due() {
         return Ok(false);
     }
     book.append(&mut meta);

@@ -1,8 +1,8 @@
 use Rattle.std.proofs.Common.{ℕ, List, map, length, subst}
 use Rattle.std.proofs.lemmas.Result.{err_from_is_err_and, IfOk-weaker, IfErr-weaker, on_ok_weaker}
-use Rattle.nt_layout.specs.Blobs.{blob_len}
+use Rattle.nt_pagelists.specs.Blobs.{blob_len}
 use Rattle.nt_layout.specs.Headers.{header_sum}
-use Rattle.nt_layout.specs.Groups.{list_len}
+use Rattle.nt_pagelists.specs.Objects.{list_len}
 use Rattle.nt_layout.specs.Finished.{lists_behind, spans, footer_object}
 use Rattle.nt_close.specs.Making.{NonePassed, ArePassedBy}
 use Rattle.nt_close.proofs.Endings.{fit-more, passed-last, passed-before, footer-behind, footer_len_is}
@@ -20,7 +20,7 @@ returns-in_err-lists-clause-err c =
 pub returns-clause-ok : goal.returns-clause-ok
 returns-clause-ok c =
     IfOk-weaker c.put_footer.result _ _
-    (λ b adds. footer-behind c.args.schema.now c.args.book.now c.args.params.now.group _ _ _ _ _ _ c.in_ok-header.ensures.sum
+    (λ b adds. footer-behind c.args.schema.now c.args.book.now c.args.params.now.group c.requires.ungrouped _ _ _ _ _ _ c.in_ok-header.ensures.sum
     c.end.ensures c.in_ok-lists.ensures.groups c.in_ok-lists.ensures.bytes adds)
     c.put_footer.ensures.ok
 
@@ -28,7 +28,7 @@ pub returns-clause-fit : goal.returns-clause-fit
 returns-clause-fit c =
     on_ok_weaker c.put_footer.result
     (λ fits.
-    subst (NonePassed c.args.params.now.limits) (footer_len_is c.args.schema.now c.args.book.now c.args.params.now.group _ _
+    subst (NonePassed c.args.params.now.limits) (footer_len_is c.args.schema.now c.args.book.now c.args.params.now.group c.requires.ungrouped _ _
     c.in_ok-header.ensures.sum c.in_ok-lists.ensures.groups)
     (fit-more c.args.params.now.limits _ _ c.in_ok-lists.ensures.fit fits))
     c.put_footer.ensures.fits
@@ -38,6 +38,6 @@ returns-clause-err c =
     IfErr-weaker c.put_footer.result _ _
     (λ e passed.
     subst (λ (l : List ℕ). ArePassedBy c.args.params.now.limits l e) (footer_len_is c.args.schema.now c.args.book.now
-    c.args.params.now.group _ _ c.in_ok-header.ensures.sum c.in_ok-lists.ensures.groups)
+    c.args.params.now.group c.requires.ungrouped _ _ c.in_ok-header.ensures.sum c.in_ok-lists.ensures.groups)
     (passed-last c.args.params.now.limits _ _ e c.in_ok-lists.ensures.fit passed))
     c.put_footer.ensures.err

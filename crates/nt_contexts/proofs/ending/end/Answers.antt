@@ -27,6 +27,7 @@ returns g c =
       begin = step.begin;
       limits = step.limits;
       firsts = step.firsts;
+      ungrouped = step.ungrouped;
       end = end-is state birth disk book first closes step;
       out = c.finish-disk.ensures.out;
       short = short-is state birth disk book first closes step;

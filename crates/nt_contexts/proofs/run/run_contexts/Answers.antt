@@ -1,6 +1,7 @@
 use Rattle.std.proofs.Common.{◌≡◌, ◌∙◌, ap, sym, subst, map, length, ℕ, arith, Err}
 use Rattle.nt_types.specs.Views.{members_view}
 use Rattle.nt_book.specs.Books.{BookData}
+use Rattle.nt_close.proofs.NewBooks.{new-ungrouped}
 use Rattle.nt_contexts.specs.declared.error.RunError.TheVariants.{Memory}
 use Rattle.nt_contexts.specs.Contexts.{IsReady, RunsContexts}
 use Rattle.nt_contexts.specs.Seating.{MayWork}
@@ -14,6 +15,7 @@ new-requires g c =
       contexts = (omega (arith, ready.some), omega (arith, ready.few));
       book = record {
         history = ap (λ b. b.history) ready.book_is;
+        ungrouped = new-ungrouped c.args.schema.now c.args.params.now.limits c.args.book ready.book_is;
         end = ap (λ b. b.begin) ready.book_is ∙ sym ready.end;
         out = ready.out;
       };

@@ -1,10 +1,19 @@
-use Rattle.std.proofs.Common.{◌≡◌, ◌∙◌, ap, refl, subst, length, arith}
+use Rattle.std.proofs.Common.{◌≡◌, ◌∙◌, ap, sym, refl, subst, length, arith}
 use Rattle.nt_book.specs.declared.meta.ClusterMeta.{ClusterMeta}
+use Rattle.nt_book.specs.Appending.{IsAppendable}
 use Rattle.nt_book.specs.Books.{book_end}
 use Rattle.nt_pages.specs.declared.image.ClusterImage.{ClusterImage}
 use Rattle.nt_seq.specs.Appending.{keyed, GainsCluster}
-use Rattle.nt_seq.proofs.Appended.{long, sum-fits, appends, cuts}
+use Rattle.nt_seq.proofs.Appended.{long, appendable, sum-fits, appends, cuts}
 use Rattle.nt_seq.proofs.appending.append_image.Goals as goal
+
+pub enter-requires : goal.enter-requires
+enter-requires g c =
+    let room = c.make_room.new.book in
+    let i = c.args.image.now in
+    subst (IsAppendable room) (ap (λ (x : ClusterImage). x.meta) (sym c.write_key.ensures))
+    (appendable (g.D.Disk.state c.args.disk.now) (g.D.Disk.state c.make_room.new.disk) c.args.book.now room i c.make_room.ensures.kept
+    c.requires.image_is c.in_ok-make_room.ensures.fits c.in_ok-make_room.ensures.ok c.requires.ungrouped)
 
 pub append-requires-clause-sum : goal.append-requires-clause-sum
 append-requires-clause-sum g c =

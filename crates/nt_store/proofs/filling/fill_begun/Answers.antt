@@ -24,11 +24,12 @@ returns-in-Ok g c =
             dealt_from (members_view c.args.fields.now) c.args.params.now ts c.args.schema c.args.book
                 c.run_contexts-disk.result.book (g.D.Disk.state c.args.disk).held (g.D.Disk.state c.run_contexts-disk.result.disk).held
                 filled.h c.requires.ready.rules c.requires.ready.rows c.requires.within c.requires.ready.book_is c.keeps.ensures
-                run.book_on run.short told.0 told.1 held filled.is filled.shut filled.unfinished,
+                run.ungrouped run.book_on run.short told.0 told.1 held filled.is filled.shut filled.unfinished,
           );
       may_close = record {
         closable = record {
           begin = run.book_on.begin ∙ ap (λ (b : BookData). b.begin) c.requires.ready.book_is;
+          ungrouped = run.ungrouped;
           end = run.end;
           out = run.out;
           whole = described_whole _ _ _ c.requires.ready.rows;

@@ -4,9 +4,9 @@ use Rattle.nt_book.specs.declared.list.NotedList.{NotedList}
 use Rattle.nt_book.specs.declared.list.Tear.{Tear}
 use Rattle.nt_book.specs.declared.row.ClusterRow.{ClusterRow}
 use Rattle.nt_book.specs.Books.{BookData}
-use Rattle.nt_book.specs.Keeping.{IsListed}
+use Rattle.nt_book.specs.Keeping.{KeepsLists}
 use Rattle.nt_book.proofs.Kept.{length-book}
-use Rattle.nt_book.proofs.Noted.{IsListed-grouped, no-items, none-yet}
+use Rattle.nt_book.proofs.Noted.{KeepsLists-grouped, no-items, none-yet}
 use Rattle.nt_book.proofs.book.Book.group_by.Goals as goal
 
 pub invariant_of-self : goal.invariant_of-self
@@ -17,18 +17,18 @@ invariant_of-self c =
     let rows : i.rows.items ≡ [] =
     no-items i.rows.items (sym (length-book _ _ _ h c.args.self.now told) ∙ ap length c.requires.none_yet) in
     let g : ℕ × ℕ = (c.args.group, c.args.header_sum) in
-    let listed = subst (λ (rs : List ClusterRow). IsListed i.begin i.end i.spare i.group i.lists.items i.torn i.listed
+    let listed = subst (λ (rs : List ClusterRow). KeepsLists i.begin i.end i.spare i.group i.lists.items i.torn i.listed
     (vec_capacity i.lists) rs) rows c.self.invariant.4 in
     let none = none-yet _ _ _ _ _ _ _ _ listed in
-    let bare = subst (λ (t : Option Tear). IsListed i.begin i.end i.spare i.group [] t i.listed (vec_capacity i.lists) []) none.1
-    (subst (λ (ls : List NotedList). IsListed i.begin i.end i.spare i.group ls i.torn i.listed (vec_capacity i.lists) []) none.0 listed) in (
+    let bare = subst (λ (t : Option Tear). KeepsLists i.begin i.end i.spare i.group [] t i.listed (vec_capacity i.lists) []) none.1
+    (subst (λ (ls : List NotedList). KeepsLists i.begin i.end i.spare i.group ls i.torn i.listed (vec_capacity i.lists) []) none.0 listed) in (
       h,
       c.self.invariant.1,
       c.self.invariant.2,
       c.self.invariant.3,
-      subst (λ (rs : List ClusterRow). IsListed i.begin i.end i.spare (Some g) i.lists.items i.torn 0 (vec_capacity i.lists) rs)
+      subst (λ (rs : List ClusterRow). KeepsLists i.begin i.end i.spare (Some g) i.lists.items i.torn 0 (vec_capacity i.lists) rs)
           (sym rows)
-          (subst (λ (t : Option Tear). IsListed i.begin i.end i.spare (Some g) i.lists.items t 0 (vec_capacity i.lists) []) (sym none.1)
-          (subst (λ (ls : List NotedList). IsListed i.begin i.end i.spare (Some g) ls None 0 (vec_capacity i.lists) []) (sym none.0)
-          (IsListed-grouped _ _ _ _ _ _ g bare c.requires.some))),
+          (subst (λ (t : Option Tear). KeepsLists i.begin i.end i.spare (Some g) i.lists.items t 0 (vec_capacity i.lists) []) (sym none.1)
+          (subst (λ (ls : List NotedList). KeepsLists i.begin i.end i.spare (Some g) ls None 0 (vec_capacity i.lists) []) (sym none.0)
+          (KeepsLists-grouped _ _ _ _ _ _ g bare c.requires.some))),
     )

@@ -2,10 +2,10 @@ use Rattle.std.proofs.Common.{◌≡◌, ◌∙◌, ap, sym, subst, ℕ, ◌+◌
 use Rattle.std.specs.Prelude.{vec_capacity}
 use Rattle.nt_book.specs.declared.list.NotedList.{NotedList}
 use Rattle.nt_book.specs.Books.{BookData, book_end}
-use Rattle.nt_book.specs.Keeping.{IsListed}
+use Rattle.nt_book.specs.Keeping.{KeepsLists}
 use Rattle.nt_book.specs.Listing.{is_due_after}
 use Rattle.nt_book.proofs.Kept.{due-book, end-book}
-use Rattle.nt_book.proofs.Noted.{IsCounted-later, IsListed-noted}
+use Rattle.nt_book.proofs.Noted.{IsCounted-later, KeepsLists-noted}
 use Rattle.nt_book.proofs.book.Book.note_list.Goals as goal
 
 pub push_reserved-requires : goal.push_reserved-requires
@@ -42,9 +42,9 @@ invariant_of-self c =
           c.self.invariant.1,
       c.self.invariant.2,
       c.self.invariant.3,
-      subst (λ (n : ℕ). IsListed i.begin (i.end + c.args.len) i.spare i.group c.push_reserved.new.self.items i.torn n space i.rows.items)
+      subst (λ (n : ℕ). KeepsLists i.begin (i.end + c.args.len) i.spare i.group c.push_reserved.new.self.items i.torn n space i.rows.items)
           (sym count)
-          (subst (λ (ls : List NotedList). IsListed i.begin (i.end + c.args.len) i.spare i.group ls i.torn (length i.rows.items) space
+          (subst (λ (ls : List NotedList). KeepsLists i.begin (i.end + c.args.len) i.spare i.group ls i.torn (length i.rows.items) space
           i.rows.items) (sym c.push_reserved.ensures.items)
-          (IsListed-noted _ _ _ _ _ _ _ _ _ c.self.invariant.4 due l space)),
+          (KeepsLists-noted _ _ _ _ _ _ _ _ _ c.self.invariant.4 due l space)),
     )

@@ -1,14 +1,23 @@
-use Rattle.std.proofs.Common.{◌∙◌, ap, subst, refl, arith, ◌++◌, ◌∷◌, [], ◌-◌, ◌≤◌, length}
+use Rattle.std.proofs.Common.{◌∙◌, ap, subst, refl, arith, rules, ◌++◌, ◌∷◌, [], ◌-◌, ◌≤◌, length}
 use Rattle.nt_machine.specs.History.{ranges_of}
 use Rattle.nt_machine.specs.Legal.{ranges_end}
 use Rattle.nt_book.specs.Books.{BookData, book_end, book_clusters}
 use Rattle.nt_book.specs.Entries.{committed_entry, faulted_entry}
-use Rattle.nt_commit.proofs.Stepping.{limits_are, range_fits, same_history, faulted, committed, new_claim}
+use Rattle.nt_commit.proofs.Stepping.{limits_are, not_due, range_fits, same_history, faulted, committed, new_claim}
 use Rattle.nt_commit.proofs.Owned.{step_from, commits_from, limit_named, limit_refuses}
 use Rattle.nt_commit.proofs.locked.Locked.commit.Goals as goal
 
 pub reserve-requires : goal.reserve-requires
 reserve-requires g c = range_fits g.D.Disk.state _ _ _ _ c.self.invariant c.args.meta.now.len c.in_ok-check.ensures
+
+pub append-cluster-requires : goal.append-cluster-requires
+append-cluster-requires g c = record {
+  limits = search rules;
+  spare = search rules;
+  not_due = not_due g.D.Disk.state _ _ _ _ c.self.invariant _ c.room.ensures.same;
+  lists = search rules;
+  paged = search rules;
+}
 
 pub invariant_of-self-in-Ok : goal.invariant_of-self-in-Ok
 invariant_of-self-in-Ok g c =

@@ -18,6 +18,7 @@ append_image-requires g c =
     record {
       image_is = image-fits g.D.Disk.state _ was c.in_ok-image.image c.in_ok-image.ensures.bytes c.in_ok-image.ensures.meta
           (c.columns_have_types.ensures c.self.inside.schema);
+      ungrouped = was.closable.ungrouped;
       end = was.closable.end;
     }
 
