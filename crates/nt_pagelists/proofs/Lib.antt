@@ -6,3 +6,4 @@ pub mod GroupsBack
 pub mod FootersBack
 pub mod SoundLists
 pub mod BooksBack
+pub mod ListsStay

@@ -12,3 +12,4 @@ pub mod SoundBooks
 pub mod Blobs
 pub mod Objects
 pub mod Due
+pub mod Staying

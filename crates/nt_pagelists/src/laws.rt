@@ -1,6 +1,6 @@
 //! The laws that join the readings and the spellings of page lists and footers.
 
-ghost use Rattle.std.specs.Prelude.{◌≡◌, ℕ, ◌+◌, ◌<◌, ◌^◌, List, ◌++◌, length, Ok};
+ghost use Rattle.std.specs.Prelude.{◌≡◌, ℕ, ◌+◌, ◌<◌, ◌≤◌, ◌^◌, List, ◌++◌, length, Ok};
 ghost use Rattle.nt_format.specs.Reading.{standing};
 ghost use Rattle.nt_grammar.specs.Table.{Table};
 ghost use Rattle.nt_grammar.specs.ReadingBack.{IsDescribed, before, up_to};
@@ -10,7 +10,10 @@ ghost use Rattle.nt_pagelists.specs.declared.group.Group.{Group};
 ghost use Rattle.nt_pagelists.specs.PageLists.{ProgressCounts, with_group, page_list_at};
 ghost use Rattle.nt_pagelists.specs.Footers.{footer_at};
 ghost use Rattle.nt_pagelists.specs.Writing.{ListedCluster, page_list_text};
-ghost use Rattle.nt_book.specs.Books.{BookData, first_entry};
+ghost use Rattle.nt_book.specs.Books.{BookData, book_clusters, first_entry};
+ghost use Rattle.nt_book.specs.Kept.{IsBookKept};
+ghost use Rattle.nt_pagelists.specs.Objects.{ClusterSpan, list_object};
+ghost use Rattle.nt_pagelists.specs.Staying.{StaysBelow};
 ghost use Rattle.nt_pagelists.specs.Books.{listed_clusters, progress_before};
 ghost use Rattle.nt_pagelists.specs.SoundBooks.{HasSoundClusters};
 ghost use Rattle.nt_pagelists.specs.FooterWriting.{footer_text};
@@ -39,6 +42,14 @@ pub fn books_are_read_back()
               (listed_clusters book from count),
           progress_before book (from + count),
         ) }
+{}
+
+/// The page list of clusters stays what it is when clusters are added behind them, when their ranges
+/// are handed back, and when columns are added that they don't list.
+pub fn lists_stay()
+    ensures { (sum : ℕ) (old new : BookData) (s : ClusterSpan) → IsBookKept old
+        → s.from + s.count ≤ length (book_clusters old) → StaysBelow (s.from + s.count) old new
+        → list_object sum new s ≡ list_object sum old s }
 {}
 
 /// What is written of a schema's extension and of groups is read back behind the header's rows,

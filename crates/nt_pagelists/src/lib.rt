@@ -15,7 +15,8 @@
 //!
 //! Proved, each as the contract of a function with an empty body: what is written of clusters and
 //! of groups is read back, whatever follows (`page_lists_are_read_back`, `footers_are_read_back`);
-//! so are the clusters of a book whose columns have what they must have (`books_are_read_back`).
+//! so are the clusters of a book whose columns have what they must have (`books_are_read_back`); the
+//! page list of clusters stays what it is while the book grows behind them (`lists_stay`).
 //! That the definitions are the standard's is tested by the crates above, on bytes from outside.
 //!
 //! Choices that bind nobody else: the fault of a cluster's first entry, of its flags, or of too
@@ -31,5 +32,5 @@ mod page;
 pub use cluster::{ClusterList, ClusterLists, ClusterSummary, ColumnList, ColumnLists};
 pub use column::KnownColumn;
 pub use group::{Group, Groups};
-pub use laws::{books_are_read_back, footers_are_read_back, page_lists_are_read_back};
+pub use laws::{books_are_read_back, footers_are_read_back, lists_stay, page_lists_are_read_back};
 pub use page::{PageItem, PageItems};
