@@ -55,7 +55,8 @@ module _ (begin end spare : ℕ) (group : Option (ℕ × ℕ)) (lists : List Not
       record {
         ends = omega (arith, h.ends, sum-clusters-append rows row (λ (c : Cluster ClusterMeta). c.len));
         placed = λ whole.
-            subst (λ (l : List (Cluster ClusterMeta)). AreBeside begin (group_size group) lists (spans_of l)) (sym (clusters-append rows row))
+            subst (λ (l : List (Cluster ClusterMeta)). AreBeside begin (group_size group) lists (spans_of l))
+            (sym (clusters-append rows row))
             (subst (AreBeside begin (group_size group) lists)
             (sym (map-append (λ (c : Cluster ClusterMeta). record { start = c.start; len = c.len }) (row_clusters 0 rows)
             (row_cluster (length rows) row ∷ [])))

@@ -19,7 +19,8 @@ due-ungrouped book is =
     ap (λ (g : Option (ℕ × ℕ)). is_due_after g book.lists book.torn (length (book_clusters book))) is.no_groups
 
 -- its ranges stand behind one another
-pub placed-ungrouped : (book : BookData) → IsBookKept book → IsUngrouped book → AreBehindSpans book.begin (spans_of (ranges_of book.history))
+pub placed-ungrouped : (book : BookData) → IsBookKept book → IsUngrouped book
+    → AreBehindSpans book.begin (spans_of (ranges_of book.history))
 placed-ungrouped book kept is =
     subst (λ (l : List NotedList). AreBeside book.begin (group_size book.group) l (spans_of (ranges_of book.history)))
     is.between.none_noted (kept.placed is.between.none_torn)

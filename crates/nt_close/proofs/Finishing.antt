@@ -115,7 +115,8 @@ module _ (t : Table) (book : BookData) (most : ℕ) where
       ∙ (ap (λ (l : List ℕ). l ++ foot) bytes ∙ append_assoc (concat ranges) lists foot)))
 
   -- the ranges end where the last one does
-  length-ranges : (ranges : List (List ℕ)) → AreRangesOf book ranges → book.begin + length (concat ranges) ≡ end_after book.begin (book_clusters book)
+  length-ranges : (ranges : List (List ℕ)) → AreRangesOf book ranges
+      → book.begin + length (concat ranges) ≡ end_after book.begin (book_clusters book)
   length-ranges ranges are =
       ap (λ (k : ℕ). book.begin + k) (length-concat ranges
       ∙ (ap sum are ∙ sum-map (λ (c : Cluster ClusterMeta). c.len) (book_clusters book)))

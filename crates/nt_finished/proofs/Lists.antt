@@ -135,7 +135,8 @@ module _ (file : List ℕ) (sum : ℕ) (columns : List KnownColumn) (book : Book
     pub reads : groups_clusters file sum columns gs (progress_before book k) ≡ Ok lists
     pub are : AreListsOf book k n lists
 
-  pub groups_read : (n k : ℕ) (ls : List PlacedList) → n ≤ length (book_clusters book) → AreInOrder k n (map (λ (l : PlacedList). l.span) ls)
+  pub groups_read : (n k : ℕ) (ls : List PlacedList) → n ≤ length (book_clusters book)
+      → AreInOrder k n (map (λ (l : PlacedList). l.span) ls)
       → AllByRecursion (λ (l : PlacedList). list_len sum book l.span ≤ 2 ^ 30) ls
       → AllByRecursion (λ (l : PlacedList). StandsThere file l.place (blob l.place (list_object sum book l.span))) ls
       → AreRead (list_groups sum book ls) k n

@@ -75,7 +75,8 @@ all_behind t most book ranges kept bare begin lens =
       sum-map (λ (c : Cluster ClusterMeta). c.len) cs,
     ) in
     behind-append (clusters_place t) (range_parts cs ranges) (list_parts (header_sum t) book (list_places true t book most))
-    (behind-ranges (clusters_place t) cs ranges (subst (λ (n : ℕ). AreBehindSpans n (spans_of cs)) begin (placed-ungrouped book kept bare)) lens)
+    (behind-ranges (clusters_place t) cs ranges
+    (subst (λ (n : ℕ). AreBehindSpans n (spans_of cs)) begin (placed-ungrouped book kept bare)) lens)
     (subst (λ (n : ℕ). AreBehind n (list_parts (header_sum t) book (list_places true t book most))) end
     (behind-lists (header_sum t) book (end_after book.begin cs) (spans book most)))
 

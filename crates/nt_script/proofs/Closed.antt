@@ -118,14 +118,16 @@ module _ {D : Type 0} (state : D → DiskState) (w : SeqState D) (F : List Membe
     }
     unclosed_here (close.RangeTooLarge len most) none cause left ends = record {
       told = (
-        over_here state w F text first rows done len most (limit.RangeTooLarge len most) kept is.closable.ungrouped is.closable.begin cause.1 (inl refl),
+        over_here state w F text first rows done len most (limit.RangeTooLarge len most) kept is.closable.ungrouped is.closable.begin
+            cause.1 (inl refl),
         still left.place.held,
       );
       crash = (h, left.place.held ∙ held, leave.unclosed h unclosed);
     }
     unclosed_here (close.FileTooLarge end most) none cause left ends = record {
       told = (
-        over_here state w F text first rows done end most (limit.FileTooLarge end most) kept is.closable.ungrouped is.closable.begin cause.1 (inr refl),
+        over_here state w F text first rows done end most (limit.FileTooLarge end most) kept is.closable.ungrouped is.closable.begin
+            cause.1 (inr refl),
         still left.place.held,
       );
       crash = (h, left.place.held ∙ held, leave.unclosed h unclosed);

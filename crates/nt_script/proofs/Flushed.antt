@@ -7,6 +7,7 @@ use Rattle.nt_outside.specs.Disk.{DiskState}
 use Rattle.nt_book.specs.declared.limits.LimitError.{LimitError}
 use Rattle.nt_book.specs.declared.limits.LimitError.TheVariants as limit
 use Rattle.nt_book.specs.declared.params.Params.{Params}
+use Rattle.nt_book.specs.Books.{IsUngrouped}
 use Rattle.nt_book.specs.Kept.{IsBookKept}
 use Rattle.nt_layout.specs.Headers.{clusters_place}
 use Rattle.nt_commit.specs.declared.error.CommitError.{CommitError}
@@ -100,7 +101,8 @@ module _ {D : Type 0} (state : D → DiskState) where
 
   -- why the gathered entries weren't written
   halted : (segments : List Segment) (es : List TreesData) (old new : SeqState D) (e : CommitError) → 0 < length (gathered_by old)
-      → length (gathered_by old) ≤ old.params.cluster → IsBookKept old.book → IsUngrouped old.book → old.book.begin ≡ clusters_place old.table
+      → length (gathered_by old) ≤ old.params.cluster → IsBookKept old.book → IsUngrouped old.book
+      → old.book.begin ≡ clusters_place old.table
       → HasTakenLines state segments es old → (refusal e ≢ refusal commit.Memory → NamesPassed old (Err e))
       → (refusal e ≡ refusal commit.Fault → FailsToAppend state old new)
       → HaltsAt state old.table old.params segments es new (error_of_commit e)
@@ -191,7 +193,8 @@ module _ {D : Type 0} (state : D → DiskState) where
 
   -- a flush that was refused
   pub gathered_refused : (segments : List Segment) (es : List TreesData) (old new : SeqState D) (e : CommitError)
-      → length (gathered_by old) ≤ old.params.cluster → IsBookKept old.book → IsUngrouped old.book → old.book.begin ≡ clusters_place old.table
+      → length (gathered_by old) ≤ old.params.cluster → IsBookKept old.book → IsUngrouped old.book
+      → old.book.begin ≡ clusters_place old.table
       → HasTakenLines state segments es old → (gathered_by old ≡ [] → (refusal e ≡ Ok tt) × (new ≡ old))
       → (0 < length (gathered_by old) → refusal e ≢ refusal commit.Memory → NamesPassed old (Err e))
       → (refusal e ≡ refusal commit.Fault → FailsToAppend state old new)

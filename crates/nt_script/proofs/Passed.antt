@@ -87,7 +87,8 @@ next-kept t page columns es gives first = record {
 }
 
 module _ (t : Table) (p : Params) (book : BookData) (kept : IsBookKept book) (bare : IsUngrouped book)
-    (begin : book.begin ≡ clusters_place t) (clusters : List (List TreesData)) (ranges : List (List ℕ)) (late : AreLateBlobs t p.page 0 clusters ranges (book_clusters book))
+    (begin : book.begin ≡ clusters_place t) (clusters : List (List TreesData)) (ranges : List (List ℕ))
+    (late : AreLateBlobs t p.page 0 clusters ranges (book_clusters book))
   where
     abbrev book_metas : List ClusterMeta
     book_metas = metas (book_clusters book)

@@ -20,16 +20,16 @@ returns-in_err-lists-clause-err c =
 pub returns-clause-ok : goal.returns-clause-ok
 returns-clause-ok c =
     IfOk-weaker c.put_footer.result _ _
-    (λ b adds. footer-behind c.args.schema.now c.args.book.now c.args.params.now.group c.requires.ungrouped _ _ _ _ _ _ c.in_ok-header.ensures.sum
-    c.end.ensures c.in_ok-lists.ensures.groups c.in_ok-lists.ensures.bytes adds)
+    (λ b adds. footer-behind c.args.schema.now c.args.book.now c.args.params.now.group c.requires.ungrouped _ _ _ _ _ _
+    c.in_ok-header.ensures.sum c.end.ensures c.in_ok-lists.ensures.groups c.in_ok-lists.ensures.bytes adds)
     c.put_footer.ensures.ok
 
 pub returns-clause-fit : goal.returns-clause-fit
 returns-clause-fit c =
     on_ok_weaker c.put_footer.result
     (λ fits.
-    subst (NonePassed c.args.params.now.limits) (footer_len_is c.args.schema.now c.args.book.now c.args.params.now.group c.requires.ungrouped _ _
-    c.in_ok-header.ensures.sum c.in_ok-lists.ensures.groups)
+    subst (NonePassed c.args.params.now.limits) (footer_len_is c.args.schema.now c.args.book.now c.args.params.now.group
+    c.requires.ungrouped _ _ c.in_ok-header.ensures.sum c.in_ok-lists.ensures.groups)
     (fit-more c.args.params.now.limits _ _ c.in_ok-lists.ensures.fit fits))
     c.put_footer.ensures.fits
 

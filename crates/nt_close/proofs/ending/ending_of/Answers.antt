@@ -13,17 +13,20 @@ returns-in_err-bytes-clause-err c =
 
 pub returns-clause-ok : goal.returns-clause-ok
 returns-clause-ok c =
-    ending-is c.args.schema.now c.args.book.now c.args.params.now.group c.requires.ungrouped _ _ _ _ _ c.end.ensures c.in_ok-bytes.ensures.ok
+    ending-is c.args.schema.now c.args.book.now c.args.params.now.group c.requires.ungrouped _ _ _ _ _ c.end.ensures
+    c.in_ok-bytes.ensures.ok
     c.in_ok-fields.ensures.bytes c.in_ok-fields.ensures.fields c.in_ok-fields.ensures.places c.in_ok-fields.ensures.end
 
 pub returns-then-fields-params-clause-err : goal.returns-then-fields-params-clause-err
 returns-then-fields-params-clause-err c =
-    let is = ending-is c.args.schema.now c.args.book.now c.args.params.now.group c.requires.ungrouped _ _ _ _ _ c.end.ensures c.in_ok-bytes.ensures.ok
+    let is = ending-is c.args.schema.now c.args.book.now c.args.params.now.group c.requires.ungrouped _ _ _ _ _ c.end.ensures
+    c.in_ok-bytes.ensures.ok
     c.in_ok-fields.ensures.bytes c.in_ok-fields.ensures.fields c.in_ok-fields.ensures.places c.in_ok-fields.ensures.end in
     passed-file c.args.schema.now c.args.book.now c.args.params.now _ _ is c.in_ok-bytes.ensures.fit c.if-fields-params.true
 
 pub returns-clause-within : goal.returns-clause-within
 returns-clause-within c =
-    let is = ending-is c.args.schema.now c.args.book.now c.args.params.now.group c.requires.ungrouped _ _ _ _ _ c.end.ensures c.in_ok-bytes.ensures.ok
+    let is = ending-is c.args.schema.now c.args.book.now c.args.params.now.group c.requires.ungrouped _ _ _ _ _ c.end.ensures
+    c.in_ok-bytes.ensures.ok
     c.in_ok-fields.ensures.bytes c.in_ok-fields.ensures.fields c.in_ok-fields.ensures.places c.in_ok-fields.ensures.end in
     passed-none c.args.schema.now c.args.book.now c.args.params.now _ _ is c.in_ok-bytes.ensures.fit c.if-fields-params.false

@@ -21,7 +21,8 @@ invariant_of-self c =
     (vec_capacity i.lists) rs) rows c.self.invariant.4 in
     let none = none-yet _ _ _ _ _ _ _ _ listed in
     let bare = subst (λ (t : Option Tear). KeepsLists i.begin i.end i.spare i.group [] t i.listed (vec_capacity i.lists) []) none.1
-    (subst (λ (ls : List NotedList). KeepsLists i.begin i.end i.spare i.group ls i.torn i.listed (vec_capacity i.lists) []) none.0 listed) in (
+    (subst (λ (ls : List NotedList). KeepsLists i.begin i.end i.spare i.group ls i.torn i.listed (vec_capacity i.lists) []) none.0
+    listed) in (
       h,
       c.self.invariant.1,
       c.self.invariant.2,
