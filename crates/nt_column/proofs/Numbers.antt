@@ -3,10 +3,12 @@ use Rattle.std.proofs.Common.{◌≡◌, ℕ, zero, suc, ◌+◌, ◌-◌, ◌%�
 use Rattle.std.proofs.Common.{replicate, true, false, refl, sym, ◌∙◌, ap, arith, Fits, w8}
 use Rattle.std.specs.List.{slice_range}
 use Rattle.std.specs.Int.{from_bool}
-use Rattle.std.proofs.lemmas.List.{take-map, drop-map, length-map, get_or_read, get_or-map, map_push}
+use Rattle.std.proofs.lemmas.List.{take-map, drop-map, length-map, get_or_read, get_or-map, map_push, ext_get_or}
+use Rattle.std.proofs.lemmas.List.{length-take-le, length-drop, get_or-take, get_or-drop}
 use Rattle.std.proofs.lemmas.List.Edits.{between_more}
 use Rattle.std.proofs.Math.Facts.{Fits-lt-pow}
 use Rattle.std.proofs.Math.Nat.{mod-eq_of_lt}
+use Rattle.nt_encode.proofs.Lists.{Filled}
 use Rattle.nt_column.specs.Elements.{Element, plain, numbers, tags, text_of}
 use Rattle.nt_column.specs.Bits.{bit_of}
 
@@ -71,14 +73,29 @@ low-bytes (x ∷ xs) fits =
     let first : x < 256 = Fits-lt-pow (fits 0) in
     rw (mod-eq_of_lt first, low-bytes xs (λ i. fits (suc i))) refl
 
--- the text of a part of a list of bytes
-pub text-bytes : (xs : List ℕ) (es : List Element) (a b : ℕ) → map plain xs ≡ es → ((i : ℕ) → Fits w8 (get_or xs i 0))
-    → slice_range xs a b ≡ text_of (slice_range es a b)
-text-bytes xs es a b seen fits =
-    let part : numbers (slice_range es a b) ≡ slice_range xs a b =
-    numbers-range es a b ∙ ap (λ (ns : List ℕ). slice_range ns a b) (ap numbers (sym seen) ∙ numbers-plain_list xs) in
-    rw part (ap (λ (ns : List ℕ). slice_range ns a b) (sym (low-bytes xs fits)) ∙ (ap (take (b - a)) (drop-map (λ (n : ℕ). n % 256) a xs)
-    ∙ take-map (λ (n : ℕ). n % 256) (b - a) (drop a xs)))
+-- the text of bytes
+pub text-bytes : (xs : List ℕ) → ((i : ℕ) → Fits w8 (get_or xs i 0)) → xs ≡ text_of (map plain xs)
+text-bytes xs fits = rw (numbers-plain_list xs) (sym (low-bytes xs fits))
+
+-- the elements of a part of what is kept
+pub elements-range : {A : Type 0} (f : A → Element) (xs ys : List A) (a b : ℕ) → xs ≡ ys
+    → map f (slice_range xs a b) ≡ slice_range (map f ys) a b
+elements-range {A = A} f xs ys a b is =
+    sym (ap (take (b - a)) (drop-map f a xs) ∙ take-map f (b - a) (drop a xs))
+    ∙ ap (λ (l : List A). slice_range (map f l) a b) is
+
+-- numbers that are read from a place on
+pub numbers-read : (ns out : List ℕ) (from n : ℕ) → n ≤ length out → from + n ≤ length ns → Filled out n (λ p. get_or ns (from + p) 0)
+    → take n out ≡ slice_range ns from (from + n)
+numbers-read ns out from n room within filled =
+    let count : from + n - from ≡ n = omega arith in
+    let len : length (take n out) ≡ n = length-take-le n out room in
+    let rest : length (take n (drop from ns)) ≡ n = length-take-le n (drop from ns) (omega (arith, length-drop from ns, within)) in
+    rw count (ext_get_or 0 (take n out) (take n (drop from ns)) (len ∙ sym rest)
+    (λ i h.
+    let below : i < n = omega (arith, h, len) in
+    get_or-take n out i 0 below
+    ∙ (filled i below ∙ sym (get_or-take n (drop from ns) i 0 below ∙ get_or-drop from ns i 0))))
 
 -- one element more
 pub text-more : (es : List Element) (a i n : ℕ) → a ≤ i → i < length es → n ≡ get_or (numbers es) i 0

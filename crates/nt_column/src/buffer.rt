@@ -1,6 +1,6 @@
 //! A column in memory, whose elements are added one after the other.
 
-ghost use Rattle.std.specs.Prelude.{◌≡◌, ◌≢◌, ◌+◌, ◌-◌, ◌<◌, ◌≤◌, ◌^◌, [], ◌∷◌, length, map, slice_index, IsSomeAnd, IfSome, OnOk, IfOk};
+ghost use Rattle.std.specs.Prelude.{◌≡◌, ◌≢◌, ◌+◌, ◌-◌, ◌<◌, ◌≤◌, ◌^◌, [], ◌∷◌, length, map, take, slice_index, IsSomeAnd, IfSome, OnOk, IfOk};
 ghost use Rattle.std.specs.List.{slice_range};
 ghost use Rattle.nt_types.specs.declared.column_type.ColumnType.TheVariants.{Switch};
 ghost use Rattle.nt_types.specs.ColumnTable.{bits_of};
@@ -226,16 +226,38 @@ impl ColumnBuf {
         }
     }
 
-    /// The elements as they lie here, where they are neither kept as a count nor pairs.
-    pub fn words(&self) -> Option<WordSlice<'_>>
-        ensures words { IfSome result (λ w. lent_elements w ≡ self.now.column.elements) }
+    /// Reads the numbers from a place on, as many as are there and as there is room for, and gives how
+    /// many.
+    pub fn read(&self, from: usize, out: &mut [u64]) -> usize
+        requires within { from < length self.now.column.elements }
+        requires room { 0 < length out.old }
+        ensures some { (0 < result) × (result ≤ length out.new) × (length out.new ≡ length out.old) }
+        ensures within { from + result ≤ length self.now.column.elements }
+        ensures read { take result out.new
+            ≡ slice_range (numbers self.now.column.elements) from (from + result) }
+    {
+        let count = out.len().min(self.len() - from);
+        for i in 0..count {
+            out[i] = self.number(from + i);
+        }
+        count
+    }
+
+    /// The elements from one place to before another as they lie here, where they are neither kept as a
+    /// count nor pairs.
+    #[inline(always)]
+    pub fn words(&self, from: usize, to: usize) -> Option<WordSlice<'_>>
+        requires order { from ≤ to }
+        requires within { to ≤ length self.now.column.elements }
+        ensures words { IfSome result
+            (λ w. lent_elements w ≡ slice_range self.now.column.elements from to) }
         ensures found { self.now.column.kind ≢ Switch → self.now.column.zeros ≡ 0
             → IsSomeAnd result (λ w. lent_width w ≡ bits_of self.now.column.kind) }
     {
         if self.zeros > 0 {
             None
         } else {
-            words_of(&self.store)
+            words_of(&self.store, from, to)
         }
     }
 }

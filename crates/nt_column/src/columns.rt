@@ -1,6 +1,6 @@
 //! Columns that are read.
 
-ghost use Rattle.std.specs.Prelude.{◌≡◌, ◌<◌, ◌≤◌, ℕ, List, length, slice_index, IfSome, IfOk, Option, Some};
+ghost use Rattle.std.specs.Prelude.{◌≡◌, ◌<◌, ◌≤◌, ◌+◌, ℕ, List, length, take, slice_index, IfSome, IfOk, Option, Some};
 ghost use Rattle.nt_types.specs.declared.column_type.ColumnType.{ColumnType};
 ghost use Rattle.std.specs.List.{slice_range};
 ghost use Rattle.nt_column.specs.Elements.{Element, numbers, tags, text_of, AreElementsOf};
@@ -52,7 +52,21 @@ pub trait Columns: Sync {
         ensures text { IfOk result
             (λ t. cow_items t ≡ text_of (slice_range (elements self.now column) from to)) };
 
-    /// The elements of a column as they lie, where they lie together as numbers of one width.
-    fn words(&self, column: u32) -> Option<WordSlice<'_>>
-        ensures words { IfSome result (λ w. lent_elements w ≡ elements self.now column) };
+    /// The elements from one place to before another as they lie, where they lie together as numbers of
+    /// one width.
+    fn words(&self, column: u32, from: u64, to: u64) -> Option<WordSlice<'_>>
+        requires order { from ≤ to }
+        requires within { to ≤ length (elements self.now column) }
+        ensures words { IfSome result
+            (λ w. lent_elements w ≡ slice_range (elements self.now column) from to) };
+
+    /// Reads the numbers from a place on into `out`, and gives how many: at least one, and no more than
+    /// there is room for and than the column has. Whoever wants more asks again behind them.
+    fn read(&self, column: u32, from: u64, out: &mut [u64]) -> usize
+        requires within { from < length (elements self.now column) }
+        requires room { 0 < length out.old }
+        ensures some { (0 < result) × (result ≤ length out.new) × (length out.new ≡ length out.old) }
+        ensures within { from + result ≤ length (elements self.now column) }
+        ensures read { take result out.new
+            ≡ slice_range (numbers (elements self.now column)) from (from + result) };
 }

@@ -1,7 +1,6 @@
 //! A slice that is borrowed where it can be, and owned where it can't.
 
-ghost use Rattle.std.specs.Prelude.{◌≡◌, ◌≤◌, length, map, IsTrue};
-ghost use Rattle.std.specs.List.{slice_range};
+ghost use Rattle.std.specs.Prelude.{◌≡◌, map, IsTrue};
 ghost use Rattle.nt_column.specs.Elements.{plain, text_of};
 ghost use Rattle.nt_column.specs.Cow.{cow_items, is_borrowed};
 
@@ -24,12 +23,10 @@ impl<'a, T> CowSlice<'a, T> {
     }
 }
 
-/// A part of the elements of 8 bits, as they lie there.
-pub(crate) fn lent(bytes: &[u8], from: usize, to: usize) -> CowSlice<'_, u8>
-    requires order { from ≤ to }
-    requires within { to ≤ length bytes.now }
-    ensures text { cow_items result ≡ text_of (slice_range (map plain bytes.now) from to) }
+/// The elements of 8 bits, as they lie there.
+pub(crate) fn lent(bytes: &[u8]) -> CowSlice<'_, u8>
+    ensures text { cow_items result ≡ text_of (map plain bytes.now) }
     ensures lent { IsTrue (is_borrowed result) }
 {
-    CowSlice::Borrowed(&bytes[from..to])
+    CowSlice::Borrowed(bytes)
 }

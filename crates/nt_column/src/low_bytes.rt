@@ -27,8 +27,8 @@ impl ColumnBuf {
         ensures lent { bits_of self.now.column.kind ≡ 8 → self.now.column.zeros ≡ 0
             → IsOkAnd result (λ t. IsTrue (is_borrowed t)) }
     {
-        match self.words() {
-            Some(WordSlice::Bytes(bytes)) => Ok(lent(bytes, from, to)),
+        match self.words(from, to) {
+            Some(WordSlice::Bytes(bytes)) => Ok(lent(bytes)),
             _ => Ok(CowSlice::Owned(low_bytes(self, alloc, from, to)?)),
         }
     }

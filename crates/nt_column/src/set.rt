@@ -143,17 +143,23 @@ impl Columns for ColumnSet {
         }
     }
 
-    fn words(&self, column: u32) -> Option<WordSlice<'_>>
-        ensures words { IfSome result
-            (λ w. lent_elements w ≡ elements_at (columns_of self.now) column) }
+    fn words(&self, column: u32, from: u64, to: u64) -> Option<WordSlice<'_>>
+        requires order { from ≤ to }
+        requires within { to ≤ length (elements_at (columns_of self.now) column) }
+        ensures words { IfSome result (λ w. lent_elements w
+            ≡ slice_range (elements_at (columns_of self.now) column) from to) }
         // Each column is lent but a Switch and one that is kept as a count of zeros.
         ensures lent { (b : Buffer) → slice_get self.now column ≡ Some b → b.column.kind ≢ Switch
             → b.column.zeros ≡ 0 → IsSome result }
     {
         if (column as usize) < self.columns() {
-            self.column(column).words()
+            self.column(column).words(from as usize, to as usize)
         } else {
             None
         }
+    }
+
+    fn read(&self, column: u32, from: u64, out: &mut [u64]) -> usize {
+        self.column(column).read(from as usize, out)
     }
 }

@@ -7,7 +7,7 @@ ghost use Rattle.nt_join.specs.Spots.{spot_of};
 ghost use Rattle.nt_join.specs.Sweeps.{IsFirstUnmet};
 
 use crate::fault::{ValueFault, first_in};
-use crate::reading::number;
+use crate::reading::{all_words, number};
 use nt_column::{Columns, WordSlice};
 
 /// The first of these ends that is below the one before, or their number.
@@ -29,7 +29,7 @@ fn first_fall_in(ends: &[u64]) -> usize
 fn first_fall<C: Columns>(columns: &C, column: u32) -> u64
     ensures { IsFirstUnmet rising (C.Columns.elements columns.now column) result }
 {
-    if let Some(WordSlice::Words64(ends)) = columns.words(column) {
+    if let Some(WordSlice::Words64(ends)) = all_words(columns, column) {
         return first_fall_in(ends) as u64;
     }
     let len = columns.len(column);

@@ -1,10 +1,11 @@
 //! Elements that are read.
 
-ghost use Rattle.std.specs.Prelude.{◌≡◌, ◌<◌, ◌≤◌, ◌-◌, length, IfOk};
+ghost use Rattle.std.specs.Prelude.{◌≡◌, ◌<◌, ◌≤◌, ◌-◌, length, IfOk, IfSome};
+ghost use Rattle.nt_column.specs.Words.{lent_elements};
 ghost use Rattle.nt_trees.specs.Columns.{number_at, tag_at, begin_at, last_end};
 ghost use Rattle.nt_trees.specs.TreeAt.{text_from};
 
-use nt_column::{Columns, CowSlice};
+use nt_column::{Columns, CowSlice, WordSlice};
 use nt_lists::Bytes;
 use std::alloc::{AllocError, Global};
 
@@ -41,6 +42,13 @@ pub fn last<C: Columns>(columns: &C, ends: u32) -> u64
     ensures { result ≡ last_end (C.Columns.elements columns.now ends) }
 {
     begin(columns, ends, columns.len(ends))
+}
+
+/// All elements of a column as they lie, where they lie together.
+pub fn all_words<C: Columns>(columns: &C, column: u32) -> Option<WordSlice<'_>>
+    ensures { IfSome result (λ w. lent_elements w ≡ C.Columns.elements columns.now column) }
+{
+    columns.words(column, 0, columns.len(column))
 }
 
 /// The bytes from one place to before another; bytes that are lent are copied once.

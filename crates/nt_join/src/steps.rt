@@ -7,7 +7,7 @@ ghost use Rattle.nt_join.specs.Spots.{spot_of};
 ghost use Rattle.nt_join.specs.Sweeps.{IsFirstUnmet};
 
 use crate::fault::{ValueFault, first_in};
-use crate::reading::number;
+use crate::reading::{all_words, number};
 use nt_column::{Columns, WordSlice};
 
 /// Whether an end is the one before it, or the next number.
@@ -36,7 +36,7 @@ fn first_leap_in(ends: &[u64]) -> usize
 fn first_leap<C: Columns>(columns: &C, column: u32) -> u64
     ensures { IsFirstUnmet stepping (C.Columns.elements columns.now column) result }
 {
-    if let Some(WordSlice::Words64(ends)) = columns.words(column) {
+    if let Some(WordSlice::Words64(ends)) = all_words(columns, column) {
         return first_leap_in(ends) as u64;
     }
     let len = columns.len(column);

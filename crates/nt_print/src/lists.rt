@@ -1,7 +1,6 @@
 //! Lists of numbers, printed from where they lie.
 
 ghost use Rattle.std.specs.Prelude.{◌≡◌, ◌≤◌, ◌<◌, ◌∷◌, ◌++◌, ℕ, length, map, take, pos, OnOk, IsTrue};
-ghost use Rattle.std.specs.List.{slice_range};
 ghost use Rattle.nt_column.specs.Elements.{numbers};
 ghost use Rattle.nt_column.specs.Words.{lent_elements};
 ghost use Rattle.nt_event.specs.Json.{line_of};
@@ -201,29 +200,24 @@ fn put_words<W: Word>(
     }
 }
 
-/// Appends a mark, and then the array of the integers that the elements from one place to before another
-/// stand for.
+/// Appends a mark, and then the array of the integers that elements stand for.
 #[inline(always)]
 pub fn put_lent(
     mark: u8,
     words: WordSlice<'_>,
     bits: u8,
     signed: bool,
-    from: usize,
-    to: usize,
     out: &mut Vec<u8>,
 ) -> Result<(), AllocError>
-    requires order { from ≤ to }
-    requires within { to ≤ length (lent_elements words) }
-    ensures ok { OnOk result (out.new.items ≡ out.old.items ++ mark ∷ line_of
-        (integer_trees bits signed (numbers (slice_range (lent_elements words.entry) from to)))) }
+    ensures ok { OnOk result (out.new.items ≡ out.old.items
+        ++ mark ∷ line_of (integer_trees bits signed (numbers (lent_elements words.entry)))) }
     ensures kept { take (length out.old.items) out.new.items ≡ out.old.items }
 {
     match words {
-        WordSlice::Bits(list) => put_words(mark, &list[from..to], bits, signed, out),
-        WordSlice::Bytes(list) => put_words(mark, &list[from..to], bits, signed, out),
-        WordSlice::Words16(list) => put_words(mark, &list[from..to], bits, signed, out),
-        WordSlice::Words32(list) => put_words(mark, &list[from..to], bits, signed, out),
-        WordSlice::Words64(list) => put_words(mark, &list[from..to], bits, signed, out),
+        WordSlice::Bits(list) => put_words(mark, list, bits, signed, out),
+        WordSlice::Bytes(list) => put_words(mark, list, bits, signed, out),
+        WordSlice::Words16(list) => put_words(mark, list, bits, signed, out),
+        WordSlice::Words32(list) => put_words(mark, list, bits, signed, out),
+        WordSlice::Words64(list) => put_words(mark, list, bits, signed, out),
     }
 }

@@ -35,15 +35,22 @@ fn span_read<C: Columns>(columns: &C, ends: u32, i: u64) -> (u64, u64)
     (begin(columns, ends, i), number(columns, ends, i))
 }
 
-/// Where the part of an element begins and ends: one look at a column whose ends lie together.
+/// Where the part of an element begins and ends: one look at a column where its end and the one before it
+/// lie together.
 #[inline(always)]
 pub fn span<C: Columns>(columns: &C, ends: u32, i: u64) -> (u64, u64)
     requires { i < length (C.Columns.elements columns.now ends) }
     ensures begin { result.0 ≡ begin_at (C.Columns.elements columns.now ends) i }
     ensures end { result.1 ≡ number_at (C.Columns.elements columns.now ends) i }
 {
-    if let Some(WordSlice::Words64(list)) = columns.words(ends) {
-        return (begin_in(list, i as usize), end_in(list, i as usize));
+    let from = i.saturating_sub(1);
+    // The last place of all has none behind it.
+    let Some(behind) = i.checked_add(1) else {
+        return span_read(columns, ends, i);
+    };
+    if let Some(WordSlice::Words64(list)) = columns.words(ends, from, behind) {
+        let at = (i - from) as usize;
+        return (begin_in(list, at), end_in(list, at));
     }
     span_read(columns, ends, i)
 }

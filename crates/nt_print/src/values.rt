@@ -95,8 +95,8 @@ fn put_range<C: Columns>(
         signed,
     } = of
     {
-        if let Some(words) = columns.words(*column) {
-            return put_lent(mark, words, *bits, *signed, from as usize, to as usize, out);
+        if let Some(words) = columns.words(*column, from, to) {
+            return put_lent(mark, words, *bits, *signed, out);
         }
     }
     put_items(alloc, columns, of, from, to, mark, out)

@@ -1,6 +1,5 @@
-use Rattle.std.proofs.Common.{refl}
 use Rattle.nt_column.proofs.Numbers.{text-bytes}
 use Rattle.nt_column.proofs.cow.lent.Goals as goal
 
 pub returns-clause-text : goal.returns-clause-text
-returns-clause-text c = text-bytes c.args.bytes.now _ c.args.from c.args.to refl c.type_inv.bytes
+returns-clause-text c = text-bytes c.args.bytes.now c.type_inv.bytes

@@ -1,50 +1,44 @@
 use Rattle.std.proofs.Common.{◌≡◌, ◌∷◌, ◌++◌, ◌∙◌, ℕ, List, ap, sym, subst}
 use Rattle.std.specs.Prelude.{OnOk}
-use Rattle.std.specs.List.{slice_range}
 use Rattle.nt_column.specs.Bits.{bit_of}
 use Rattle.nt_column.specs.Elements.{numbers}
 use Rattle.nt_column.specs.Words.{lent_elements}
+use Rattle.nt_column.proofs.Numbers.{numbers-plain}
 use Rattle.nt_event.specs.Json.{line_of}
 use Rattle.nt_print.specs.Integers.{integer_trees}
-use Rattle.nt_print.proofs.Places.{numbers-part}
 use Rattle.nt_print.proofs.lists.put_lent.Goals as goal
 
 pub returns-in-Bits-clause-ok : goal.returns-in-Bits-clause-ok
 returns-in-Bits-clause-ok c =
     let put = c.put_words in
-    let same = numbers-part bit_of c.in-Bits.list.now c.args.from c.args.to
-    ∙ ap (λ w. numbers (slice_range (lent_elements w) c.args.from c.args.to)) (sym c.in-Bits.is) in
+    let same = sym (numbers-plain bit_of c.in-Bits.list.now) ∙ ap (λ w. numbers (lent_elements w)) (sym c.in-Bits.is) in
     subst (λ (ns : List ℕ). OnOk put.result
     (put.new.out.items ≡ c.args.out.now.items ++ c.args.mark ∷ line_of (integer_trees c.args.bits c.args.signed ns))) same put.ensures.ok
 
 pub returns-in-Bytes-clause-ok : goal.returns-in-Bytes-clause-ok
 returns-in-Bytes-clause-ok c =
     let put = c.put_words-in-Bytes in
-    let same = numbers-part (λ (n : ℕ). n) c.in-Bytes.list.now c.args.from c.args.to
-    ∙ ap (λ w. numbers (slice_range (lent_elements w) c.args.from c.args.to)) (sym c.in-Bytes.is) in
+    let same = sym (numbers-plain (λ (n : ℕ). n) c.in-Bytes.list.now) ∙ ap (λ w. numbers (lent_elements w)) (sym c.in-Bytes.is) in
     subst (λ (ns : List ℕ). OnOk put.result
     (put.new.out.items ≡ c.args.out.now.items ++ c.args.mark ∷ line_of (integer_trees c.args.bits c.args.signed ns))) same put.ensures.ok
 
 pub returns-in-Words16-clause-ok : goal.returns-in-Words16-clause-ok
 returns-in-Words16-clause-ok c =
     let put = c.put_words-in-Words16 in
-    let same = numbers-part (λ (n : ℕ). n) c.in-Words16.list.now c.args.from c.args.to
-    ∙ ap (λ w. numbers (slice_range (lent_elements w) c.args.from c.args.to)) (sym c.in-Words16.is) in
+    let same = sym (numbers-plain (λ (n : ℕ). n) c.in-Words16.list.now) ∙ ap (λ w. numbers (lent_elements w)) (sym c.in-Words16.is) in
     subst (λ (ns : List ℕ). OnOk put.result
     (put.new.out.items ≡ c.args.out.now.items ++ c.args.mark ∷ line_of (integer_trees c.args.bits c.args.signed ns))) same put.ensures.ok
 
 pub returns-in-Words32-clause-ok : goal.returns-in-Words32-clause-ok
 returns-in-Words32-clause-ok c =
     let put = c.put_words-in-Words32 in
-    let same = numbers-part (λ (n : ℕ). n) c.in-Words32.list.now c.args.from c.args.to
-    ∙ ap (λ w. numbers (slice_range (lent_elements w) c.args.from c.args.to)) (sym c.in-Words32.is) in
+    let same = sym (numbers-plain (λ (n : ℕ). n) c.in-Words32.list.now) ∙ ap (λ w. numbers (lent_elements w)) (sym c.in-Words32.is) in
     subst (λ (ns : List ℕ). OnOk put.result
     (put.new.out.items ≡ c.args.out.now.items ++ c.args.mark ∷ line_of (integer_trees c.args.bits c.args.signed ns))) same put.ensures.ok
 
 pub returns-in-Words64-clause-ok : goal.returns-in-Words64-clause-ok
 returns-in-Words64-clause-ok c =
     let put = c.put_words-in-Words64 in
-    let same = numbers-part (λ (n : ℕ). n) c.in-Words64.list.now c.args.from c.args.to
-    ∙ ap (λ w. numbers (slice_range (lent_elements w) c.args.from c.args.to)) (sym c.in-Words64.is) in
+    let same = sym (numbers-plain (λ (n : ℕ). n) c.in-Words64.list.now) ∙ ap (λ w. numbers (lent_elements w)) (sym c.in-Words64.is) in
     subst (λ (ns : List ℕ). OnOk put.result
     (put.new.out.items ≡ c.args.out.now.items ++ c.args.mark ∷ line_of (integer_trees c.args.bits c.args.signed ns))) same put.ensures.ok

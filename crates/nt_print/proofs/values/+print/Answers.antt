@@ -17,14 +17,19 @@ use Rattle.nt_plans.proofs.PlanViews.{view-Bool, view-Number, view-Text, view-Li
 use Rattle.nt_trees.specs.Columns.{Cols, begin_at}
 use Rattle.nt_trees.specs.TreeAt.{tree_at, each_at, trees_from, text_from, only}
 use Rattle.nt_join.specs.Readable.{Readable, ReadableTo, ReadableEach}
-use Rattle.nt_join.proofs.Joins.{only-none, only-first}
 use Rattle.nt_join.proofs.Plans.{plans_view-list}
 use Rattle.nt_join.proofs.Reach.{of_tag-at, readable-is, text-within, items-readable, optional-readable}
 use Rattle.nt_join.proofs.Reach.{tag-among, picked-readable, tree_at-picked}
 use Rattle.nt_print.proofs.Arrays.{IsBegun, pick-put, IsBegun-none, IsBegun-next, IsBegun-end, kept-kept, mark-put, trees_from-first}
 use Rattle.nt_print.proofs.Arrays.{trees_from-none}
-use Rattle.nt_print.proofs.Places.{lent-within, lent-trees}
+use Rattle.nt_print.proofs.Places.{number-within, lent-trees}
 use Rattle.nt_print.proofs.values.+print.Goals as goal
+
+pub put_range-words-requires-clause-within : goal.put_range-words-requires-clause-within
+put_range-words-requires-clause-within g t c =
+    let n = c.in-Number in
+    number-within (plan_view c.args.of.now) (g.C.Columns.elements c.args.columns.now) n.column n.bits n.signed c.args.to
+    (ap plan_view n.is ∙ view-Number n.column n.bits n.signed) c.requires.readable
 
 pub put_range-returns-in-Some-clause-ok : goal.put_range-returns-in-Some-clause-ok
 put_range-returns-in-Some-clause-ok g t c =
@@ -32,8 +37,7 @@ put_range-returns-in-Some-clause-ok g t c =
     let n = c.in-Number in
     let es = lent_elements c.in-Some.words in
     let is = ap plan_view n.is ∙ view-Number n.column n.bits n.signed in
-    let within = lent-within (plan_view c.args.of.now) cols n.column n.bits n.signed es c.args.to is c.in-Some.ensures.words
-    c.requires.readable in
+    let within = number-within (plan_view c.args.of.now) cols n.column n.bits n.signed c.args.to is c.requires.readable in
     subst (λ (ts : TreesData). OnOk c.put_lent.result (c.put_lent.new.out.items ≡ c.args.out.now.items ++ c.args.mark ∷ line_of ts))
     (lent-trees (plan_view c.args.of.now) cols n.column n.bits n.signed es c.args.from c.args.to is c.in-Some.ensures.words
     c.requires.order within) c.put_lent.ensures.ok
