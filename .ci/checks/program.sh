@@ -145,6 +145,7 @@ for input in schema.txt events.txt one.txt; do
         [ ! -s out ] || fail "an order line, though OUT is $input: $out"
     done
 done
+
 # OUT is never a file that the program prints on
 for command in 'seq' 'write'; do
     printf 'kept\n' >stream
@@ -159,6 +160,7 @@ done
 [ $? -eq 4 ] || fail 'out over the file of gen is no status 4'
 "$program" write piped.root schema.txt events.txt | cat >out
 [ "$(cat out)" = 'order 0' ] || fail 'no order line through a pipe'
+
 ln -s linked.root link.root
 expect 0 '' write --plain link.root schema.txt events.txt
 same linked.root "$two"
