@@ -145,6 +145,22 @@ for input in schema.txt events.txt one.txt; do
         [ ! -s out ] || fail "an order line, though OUT is $input: $out"
     done
 done
+
+# OUT is never a file that the program prints on
+for command in 'seq' 'write'; do
+    printf 'kept\n' >stream
+    "$program" "$command" stream schema.txt events.txt >>stream 2>err
+    [ $? -eq 4 ] && [ "$(cat err)" = 'ntuple: outside' ] || fail "out over the file of $command is no status 4"
+    [ "$(cat stream)" = 'kept' ] || fail "$command wrote over the file of its out"
+    "$program" "$command" ./stream schema.txt events.txt >out 2>>stream
+    [ $? -eq 4 ] || fail "err over the file of $command is no status 4"
+    [ "$(cat stream)" = "$(printf 'kept\nntuple: outside')" ] || fail "$command wrote over the file of its err"
+done
+"$program" gen 1 1 1 stream >>stream 2>err
+[ $? -eq 4 ] || fail 'out over the file of gen is no status 4'
+"$program" write piped.root schema.txt events.txt | cat >out
+[ "$(cat out)" = 'order 0' ] || fail 'no order line through a pipe'
+
 ln -s linked.root link.root
 expect 0 '' write --plain link.root schema.txt events.txt
 same linked.root "$two"

@@ -66,6 +66,12 @@ impl ColumnLists {
     {
         &self.lists
     }
+
+    pub fn into_vec(self) -> Vec<ColumnList>
+        ensures { result.items ≡ self }
+    {
+        self.lists
+    }
 }
 
 /// The clusters of a group, in order.
@@ -94,5 +100,11 @@ impl ClusterLists {
         ensures { result.now ≡ self.now }
     {
         &self.lists
+    }
+
+    pub fn into_vec(self) -> Vec<ClusterList>
+        ensures { result.items ≡ self }
+    {
+        self.lists
     }
 }

@@ -45,4 +45,10 @@ impl Groups {
     {
         &self.groups
     }
+
+    pub fn into_vec(self) -> Vec<Group>
+        ensures { result.items ≡ self }
+    {
+        self.groups
+    }
 }

@@ -44,4 +44,10 @@ impl PageItems {
     {
         &self.items
     }
+
+    pub fn into_vec(self) -> Vec<PageItem>
+        ensures { result.items ≡ self }
+    {
+        self.items
+    }
 }

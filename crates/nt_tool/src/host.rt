@@ -1,5 +1,6 @@
 //! The system as a host.
 
+ghost use Rattle.std.specs.Io.{WritesAtMost};
 ghost use Rattle.std.specs.Prelude.{◌≡◌, ◌<◌, Ok, IfOk};
 ghost use Rattle.nt_outside.specs.Faults.{HasCause};
 
@@ -12,7 +13,7 @@ use nt_outside::{Ask, Failed, Host, Kind, Refused, Stream};
 use std::alloc::{AllocError, Global};
 use std::fs::File;
 use std::io;
-use std::io::{ErrorKind, Write};
+use std::io::{Error, ErrorKind, Write};
 
 /// The files and streams of the system. It keeps what it was asked for, and which files it opened.
 #[derive(Drop)]
@@ -85,7 +86,7 @@ impl RealHost {
         Ok(file)
     }
 
-    /// Makes the file of a name empty, or new, unless this host opened it before.
+    /// Makes the file of a name empty, or new, unless this host opened it before, or prints on it.
     fn make(&self, name: &str) -> io::Result<Made> {
         make(&self.rt, name, &self.files)
     }
@@ -137,7 +138,7 @@ impl Host for RealHost {
         self.take_back(file.faults);
     }
 
-    /// A file that this host opened before, under whatever name, is refused as a fault, and keeps its bytes.
+    /// A file that this host opened before, or that it prints on, is refused as a fault under whatever name, and keeps its bytes.
     fn create(&mut self, name: &str) -> Result<RealDisk<File>, Refused> {
         let rt = self.rt;
         let copy = String::from_str(rt.alloc(), name)?;
@@ -147,7 +148,11 @@ impl Host for RealHost {
         self.files.push_reserved(made.id);
         self.opened += 1;
         Ok(RealDisk {
-            named: Named { rt, name: copy },
+            named: Named {
+                rt,
+                name: copy,
+                id: made.id,
+            },
             file: made.file,
             is_new: made.is_new,
             end: 0,
@@ -162,10 +167,23 @@ impl Host for RealHost {
 
     fn print(&mut self, stream: Stream, piece: &[u8]) -> Result<usize, Failed> {
         match stream {
-            Stream::ToOut => taken(self.rt.stdout().write(piece), &mut self.faults),
-            Stream::ToErr => taken(self.rt.stderr().write(piece), &mut self.err_faults),
+            Stream::ToOut => taken(print_on(&mut self.rt.stdout(), piece), &mut self.faults),
+            Stream::ToErr => taken(print_on(&mut self.rt.stderr(), piece), &mut self.err_faults),
         }
     }
+}
+
+/// Prints once, and again where a signal interrupts it: that is no failure.
+pub fn print_on<W: Write>(stream: &mut W, piece: &[u8]) -> io::Result<usize>
+    ensures { WritesAtMost result piece.now }
+{
+    for _ in 0..u64::MAX {
+        match stream.write(piece) {
+            Err(error) if error.kind() == ErrorKind::Interrupted => {}
+            written => return written,
+        }
+    }
+    Err(Error::from(ErrorKind::Interrupted))
 }
 
 /// What a stream took, where nothing is a fault. No buffer holds any of it back.

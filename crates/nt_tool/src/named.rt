@@ -1,6 +1,6 @@
 //! Files of the system by name, and which file a name leads to.
 
-use std::fs::{File, Metadata, OpenFile, OpenOptions, canonicalize, symlink_metadata};
+use std::fs::{File, Metadata, OpenFile, OpenOptions, canonicalize, metadata, symlink_metadata};
 use std::io;
 use std::io::{Error, ErrorKind};
 use std::os::unix::fs::MetadataExt;
@@ -9,8 +9,8 @@ use std::path::Path;
 /// Which file it is, whatever its names are: its device and its number there.
 #[derive(Clone, Copy, Debug, PartialEq, Eq)]
 pub struct FileId {
-    device: u64,
-    number: u64,
+    pub device: u64,
+    pub number: u64,
 }
 
 impl FileId {
@@ -27,19 +27,24 @@ impl FileId {
     }
 }
 
-/// A name in a system.
+/// A name in a system, and the file that it led to.
 #[derive(Drop)]
 pub struct Named {
     pub rt: HostRuntime,
     pub name: String,
+    pub id: FileId,
 }
 
 impl Named {
-    /// Opens its file to be written.
+    /// Opens its file to be written. Where the name leads to another file by now, that one isn't touched.
     pub fn open(&self) -> io::Result<File> {
-        OpenOptions::new()
+        let file = OpenOptions::new()
             .write(true)
-            .open(&self.rt, self.name.as_str())
+            .open(&self.rt, self.name.as_str())?;
+        if FileId::of_file(&file)? != self.id {
+            return Err(Error::from(ErrorKind::Other));
+        }
+        Ok(file)
     }
 
     /// Makes sure that the file stays in its folder, whatever happens: that of the file itself, where the name is a link to it.
@@ -92,7 +97,18 @@ fn open_or_make(rt: &HostRuntime, name: &str) -> io::Result<(File, bool)> {
     }
 }
 
-/// Makes a file empty, or new, unless it is one of those that were opened: then nothing is written.
+/// Whether a file stands behind one of the program's own streams.
+fn is_stream(rt: &HostRuntime, id: FileId) -> bool {
+    for name in ["/dev/stdout", "/dev/stderr"] {
+        if metadata(rt, name).is_ok_and(|metadata| FileId::of(&metadata) == id) {
+            return true;
+        }
+    }
+    false
+}
+
+/// Makes a file empty, or new, unless it is one of those that were opened, or stands behind one of the program's own streams: then
+/// nothing is written. A device or a pipe may be such a stream too, since what is printed there lies over nothing.
 pub fn make(rt: &HostRuntime, name: &str, opened: &[FileId]) -> io::Result<Made> {
     let (file, is_new) = open_or_make(rt, name)?;
     let metadata = file.metadata()?;
@@ -101,6 +117,9 @@ pub fn make(rt: &HostRuntime, name: &str, opened: &[FileId]) -> io::Result<Made>
         return Err(Error::from(ErrorKind::Other));
     }
     if metadata.is_file() {
+        if is_stream(rt, id) {
+            return Err(Error::from(ErrorKind::Other));
+        }
         file.set_len(0)?;
     }
     Ok(Made { file, id, is_new })

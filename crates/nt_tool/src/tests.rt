@@ -1,5 +1,6 @@
 //! The real outside over files that take and give only some bytes at a time, or fail.
 
+mod names;
 mod slow;
 
 ghost use Rattle.std.specs.Prelude.{◌≡◌, [], IfOk};
@@ -7,15 +8,14 @@ ghost use Rattle.std.specs.Prelude.{◌≡◌, [], IfOk};
 use crate::disk::RealDisk;
 use crate::faults::Faults;
 use crate::file::RealFile;
-use crate::host::RealHost;
-use crate::named::{Named, make};
+use crate::host::{RealHost, print_on};
+use crate::named::{FileId, Named};
 use crate::range::{RealExt, RealPen};
 use crate::text::RealText;
 use nt_outside::{Disk, Ext, Failed, Host, Pen, Range, ReadAt, Refused, Source};
 use slow::Slow;
 use std::alloc::AllocError;
-use std::fs::{File, remove_file};
-use std::os::unix::fs::symlink;
+use std::fs::File;
 use std::process::Abort;
 use std::test::Fail;
 
@@ -26,7 +26,14 @@ fn new_disk(rt: &HostRuntime, name: &str, calls: u32) -> Result<RealDisk<Slow>, 
 {
     let name = String::from_str(rt.alloc(), name)?;
     Ok(RealDisk {
-        named: Named { rt: *rt, name },
+        named: Named {
+            rt: *rt,
+            name,
+            id: FileId {
+                device: 0,
+                number: 0,
+            },
+        },
         file: Slow::failing_after(calls),
         is_new: true,
         end: 0,
@@ -123,15 +130,12 @@ fn the_folder_of_a_new_file_is_synced_once(rt: HostRuntime) -> Result<(), Fail> 
 }
 
 #[test]
-fn a_link_to_no_file_makes_a_new_one(rt: HostRuntime) {
-    for name in ["made", "link"] {
-        let _ = remove_file(&rt, name);
-    }
-    assert!(rt; symlink(&rt, "made", "link").is_ok());
-    for (turn, is_new) in [true, false].into_iter().enumerate() {
-        let made = make(&rt, "link", &[]);
-        assert!(rt; made.is_ok_and(|made| made.is_new == is_new), "turn {turn}");
-    }
+fn an_interrupted_print_goes_on(rt: HostRuntime) {
+    let mut slow = Slow::failing_after(1);
+    slow.interrupted.set(2);
+    assert_eq!(rt; print_on(&mut slow, b"VWXYZ").ok(), Some(3));
+    assert_eq!(rt; slow.bytes.get(), *b"VWXdefgh");
+    assert!(rt; print_on(&mut slow, b"YZ").is_err());
 }
 
 #[test]

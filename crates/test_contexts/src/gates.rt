@@ -4,7 +4,7 @@ use nt_outside::{Gate, Point};
 use std::sync::atomic::{AtomicU64, Ordering};
 
 /// How often a gate looks where the others must come: for seconds.
-const LONG: u64 = 1 << 31;
+const LONG: u64 = 100_000_000;
 
 /// Looks at a count until it is at least this, so often at most, and says whether it was.
 fn reaches(count: &AtomicU64, least: u64) -> bool {

@@ -14,7 +14,7 @@ use std::sync::Wait;
 use std::thread::Threads;
 
 /// How often a gate looks where the others must come: for seconds.
-const LONG: u64 = 1 << 31;
+const LONG: u64 = 100_000_000;
 
 /// How often a gate looks where the others may never come.
 const SHORT: u64 = 1 << 20;

@@ -3,7 +3,7 @@
 use std::cell::Cell;
 use std::fs::{Metadata, OpenFile};
 use std::io;
-use std::io::{Error, ErrorKind, Read};
+use std::io::{Error, ErrorKind, Read, Write};
 use std::os::unix::fs::FileExt;
 
 /// Eight bytes, of which a call takes or gives at most three. The first calls are interrupted by a signal, and after so many
@@ -42,6 +42,16 @@ impl Slow {
 impl Read for Slow {
     fn read(&mut self, buf: &mut [u8]) -> io::Result<usize> {
         self.read_at(buf, 0)
+    }
+}
+
+impl Write for Slow {
+    fn write(&mut self, buf: &[u8]) -> io::Result<usize> {
+        self.write_at(buf, 0)
+    }
+
+    fn flush(&mut self) -> io::Result<()> {
+        Ok(())
     }
 }
 
