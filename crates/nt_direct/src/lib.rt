@@ -26,6 +26,7 @@ mod ascii;
 mod integers;
 mod leaves;
 mod line;
+mod optional;
 mod room;
 mod values;
 
