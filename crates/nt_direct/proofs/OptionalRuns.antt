@@ -79,7 +79,8 @@ module _ (e k bits : ℕ) (signed : Bool) (apart : (e == k) ≡ false) where
       ∙ (λ i j. both-more (j == k) (j == e) (cols j) (whole_elements bits zs) (ends_behind (suc m) (length zs)) x (plain (suc m))
       (not-both e k j apart) i)
 
-  fit-ints : (zs : List ℤ) → AllInts bits signed zs → all_trees (fits_plan (maybe e (number k bits signed))) (trees_of (map (λ z. num z) zs)) ≡ true
+  fit-ints : (zs : List ℤ) → AllInts bits signed zs
+      → all_trees (fits_plan (maybe e (number k bits signed))) (trees_of (map (λ z. num z) zs)) ≡ true
   fit-ints [] h = refl
   fit-ints (z ∷ zs) h = rw (h.0, fit-ints zs h.2) refl
 

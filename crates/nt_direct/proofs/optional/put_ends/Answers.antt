@@ -11,7 +11,8 @@ count_on-requires-clause-room c =
     let n = c.args.last - c.args.before in
     omega (
       arith,
-      spare-at c.args.out.now c.args.ends c.buffer-ends.result.now (ends_behind c.args.before n) c.buffer-ends.ensures.value c.requires.room,
+      spare-at c.args.out.now c.args.ends c.buffer-ends.result.now (ends_behind c.args.before n) c.buffer-ends.ensures.value
+          c.requires.room,
       length-ends c.args.before n,
     )
 
@@ -29,7 +30,8 @@ count_on-requires-else-bits-eq64-clause-room c =
     let n = c.args.last - c.args.before in
     omega (
       arith,
-      spare-at c.args.out.now c.args.ends c.buffer-ends.result.now (ends_behind c.args.before n) c.buffer-ends.ensures.value c.requires.room,
+      spare-at c.args.out.now c.args.ends c.buffer-ends.result.now (ends_behind c.args.before n) c.buffer-ends.ensures.value
+          c.requires.room,
       length-ends c.args.before n,
     )
 
