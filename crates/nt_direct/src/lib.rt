@@ -2,7 +2,8 @@
 //!
 //! Start at [`Direct`] in `line.rt`: `put_line` reads a line as it adds its elements, or refuses it. Then
 //! `values.rt`, the one walk over plans and text, `leaves.rt`, the values without parts, `integers.rt`, lists of
-//! integers, `optional.rt`, optional integers and lists of these, and `room.rt`, what is done before and after a line. Nearly every entry that is written comes through here.
+//! integers, `optional.rt`, optional integers and lists of these, and `room.rt`, what is done before and after a
+//! line. Nearly every entry that is written comes through here.
 //!
 //! Words: those of nt_event and nt_shred. A line is *taken* where its entry was added, and *refused* where
 //! nothing was; of a refused line nothing is said, and it is to be read as trees.

@@ -145,10 +145,9 @@ fn put_run(out: &mut ColumnSet, of: Integers, line: &[u8], at: usize) -> Option<
 /// Adds the ends behind one up to another. Inlined, so that a loop has one width alone.
 #[inline(always)]
 fn count_on(ends: &mut ColumnBuf, bits: u8, before: u64, last: u64)
-    requires order { before ≤ last }
     requires width { bits_of ends.old.column.kind ≡ bits }
     requires takes { TakesNumber ends.old.column last }
-    requires room { last - before ≤ ends.old.spare }
+    requires room { (before ≤ last) × (last - before ≤ ends.old.spare) }
     ensures column { ends.new.column ≡ with_more ends.old.column (ends_behind before (last - before)) }
     ensures spare { ends.old.spare ≤ ends.new.spare + (last - before) }
 {

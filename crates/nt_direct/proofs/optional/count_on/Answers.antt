@@ -3,7 +3,7 @@ use Rattle.nt_direct.proofs.RunOfIntegers.{ends-none, ends-more}
 use Rattle.nt_direct.proofs.optional.count_on.Goals as goal
 
 pub loop-end-init : goal.loop-end-init
-loop-end-init c = ends-none c.args.bits c.args.before c.args.last c.args.ends.now c.requires.order
+loop-end-init c = ends-none c.args.bits c.args.before c.args.last c.args.ends.now c.requires.room.0
 
 pub loop-end-preserved : goal.loop-end-preserved
 loop-end-preserved c =

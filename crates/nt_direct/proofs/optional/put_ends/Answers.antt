@@ -8,12 +8,14 @@ use Rattle.nt_direct.proofs.optional.put_ends.Goals as goal
 
 pub count_on-requires-clause-room : goal.count_on-requires-clause-room
 count_on-requires-clause-room c =
-    let n = c.args.last - c.args.before in
-    omega (
-      arith,
-      spare-at c.args.out.now c.args.ends c.buffer-ends.result.now (ends_behind c.args.before n) c.buffer-ends.ensures.value
-          c.requires.room,
-      length-ends c.args.before n,
+    let n = c.args.last - c.args.before in (
+      c.requires.order,
+      omega (
+        arith,
+        spare-at c.args.out.now c.args.ends c.buffer-ends.result.now (ends_behind c.args.before n) c.buffer-ends.ensures.value
+            c.requires.room,
+        length-ends c.args.before n,
+      ),
     )
 
 pub count_on-requires-else-bits-eq64-clause-width : goal.count_on-requires-else-bits-eq64-clause-width
@@ -27,12 +29,14 @@ count_on-requires-else-bits-eq64-clause-takes c =
 
 pub count_on-requires-else-bits-eq64-clause-room : goal.count_on-requires-else-bits-eq64-clause-room
 count_on-requires-else-bits-eq64-clause-room c =
-    let n = c.args.last - c.args.before in
-    omega (
-      arith,
-      spare-at c.args.out.now c.args.ends c.buffer-ends.result.now (ends_behind c.args.before n) c.buffer-ends.ensures.value
-          c.requires.room,
-      length-ends c.args.before n,
+    let n = c.args.last - c.args.before in (
+      c.requires.order,
+      omega (
+        arith,
+        spare-at c.args.out.now c.args.ends c.buffer-ends.result.now (ends_behind c.args.before n) c.buffer-ends.ensures.value
+            c.requires.room,
+        length-ends c.args.before n,
+      ),
     )
 
 pub returns-then-bits-eq64 : goal.returns-then-bits-eq64
