@@ -9,3 +9,7 @@ pub mod Cutting
 pub mod Noting
 pub mod Whole
 pub mod Optionals
+mod Runs
+mod RunOfIntegers
+mod OptionalRuns
+mod OptionalValue

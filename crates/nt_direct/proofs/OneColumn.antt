@@ -54,7 +54,7 @@ takes-at bs k bits signed left b at can =
     }
 
 -- one less
-takes-more : (bits left rest n : ℕ) (old new : Buffer) → TakesIntegers bits left old → new.column ≡ with_more old.column (plain n ∷ [])
+pub takes-more : (bits left rest n : ℕ) (old new : Buffer) → TakesIntegers bits left old → new.column ≡ with_more old.column (plain n ∷ [])
     → old.spare ≤ new.spare + 1 → rest + 1 ≤ left → TakesIntegers bits rest new
 takes-more bits left rest n old new t is le less =
     let kind = ap (λ (c : Column). c.kind) is in

@@ -57,7 +57,7 @@ fits-something (record_of ps) nothing never h = absurd (false≢true h)
 fits-something (maybe e p) nothing never h = absurd (true≢false never)
 fits-something (choice s ps) nothing never h = absurd (true≢false never)
 
-some-put : (p : PlanData) (line : List ℕ) (at end : ℕ) (old new : List Buffer) → takes_null p ≡ false → Puts p line at end old new
+pub some-put : (p : PlanData) (line : List ℕ) (at end : ℕ) (old new : List Buffer) → takes_null p ≡ false → Puts p line at end old new
     → PutsSome p line at end old new
 some-put p line at end old new never h =
     let is = fits-something p h.found never h.fitting in
@@ -69,6 +69,11 @@ some-put p line at end old new never h =
       gains = some-gains (put_tree p) h.found old new is h.gains;
       few = h.few;
     }
+
+pub some-one : (p : PlanData) (line : List ℕ) (at end : ℕ) (old new : List Buffer) (never : takes_null p ≡ false)
+    (h : Puts p line at end old new) → is_nothing (some-put p line at end old new never h).found ≡ false
+unfolding some-put
+some-one p line at end old new never h = fits-something p h.found never h.fitting
 
 pub some-leaves : (p : PlanData) (line : List ℕ) (at : ℕ) (old new : List Buffer) (r : Option ℕ) → takes_null p ≡ false
     → Leaves (λ end. Puts p line at end old new) old new r → Leaves (λ end. PutsSome p line at end old new) old new r

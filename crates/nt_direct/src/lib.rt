@@ -2,7 +2,8 @@
 //!
 //! Start at [`Direct`] in `line.rt`: `put_line` reads a line as it adds its elements, or refuses it. Then
 //! `values.rt`, the one walk over plans and text, `leaves.rt`, the values without parts, `integers.rt`, lists of
-//! integers, and `room.rt`, what is done before and after a line. Nearly every entry that is written comes through here.
+//! integers, `optional.rt`, optional integers and lists of these, and `room.rt`, what is done before and after a
+//! line. Nearly every entry that is written comes through here.
 //!
 //! Words: those of nt_event and nt_shred. A line is *taken* where its entry was added, and *refused* where
 //! nothing was; of a refused line nothing is said, and it is to be read as trees.
@@ -20,12 +21,15 @@
 //! - A line of ASCII alone, as most are, is seen to be UTF-8 sixteen bytes at a time (`ascii.rt`), others by simdutf8.
 //! - Lists of integers, where most values are, have a loop of their own for each width and sign, in which the plan and
 //!   the column are looked up once.
+//! - A list of optional integers is a row of runs: of integers up to the next `null`, by such a loop, and then their ends, which
+//!   count on by one, and of a `null` with the end before it once more.
 #![tactic(auto)]
 
 mod ascii;
 mod integers;
 mod leaves;
 mod line;
+mod optional;
 mod room;
 mod values;
 

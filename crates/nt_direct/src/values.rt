@@ -8,6 +8,7 @@ ghost use Rattle.nt_direct.specs.Walk.{CanPut, CanPutEach, Puts, PutsAll, PutsSo
 
 use crate::integers::wholes;
 use crate::leaves::{flag, string, whole};
+use crate::optional::{integers_of, optional_whole, optional_wholes};
 use nt_column::ColumnSet;
 use nt_event::{after, comma, comma_if, null, number};
 use nt_plans::Plan;
@@ -37,6 +38,9 @@ fn value(out: &mut ColumnSet, plan: &Plan, line: &[u8], at: usize) -> Option<usi
             Some(end)
         }
         Plan::Maybe { ends, of } => {
+            if let Some(integers) = integers_of(of) {
+                return optional_whole(out, *ends, integers, line, at);
+            }
             let end = optional(out, of, line, at)?;
             let total = count(out, of);
             push_end(out, *ends, total);
@@ -89,6 +93,11 @@ fn items(out: &mut ColumnSet, of: &Plan, line: &[u8], at: usize) -> Option<usize
     } = of
     {
         return wholes(out, *column, *bits, *signed, line, at);
+    }
+    if let Plan::Maybe { ends, of: inside } = of {
+        if let Some(integers) = integers_of(inside) {
+            return optional_wholes(out, *ends, integers, line, at);
+        }
     }
     if let Some(end) = after(line, at, b']') {
         return Some(end);

@@ -68,13 +68,13 @@ each-returns t c =
 
 -- ---- items
 
-pub items-returns-in-Some : goal.items-returns-in-Some
-items-returns-in-Some t c =
+pub items-returns-in-Some-after : goal.items-returns-in-Some-after
+items-returns-in-Some-after t c =
     let p = plan_view c.args.of.now in
     let line = c.args.line.now in
     let at = c.args.at in
     let bs = c.args.out.now in
-    all-done p false line at at c.in-Some.end bs bs (all-none p line at bs c.requires.within c.requires.can) c.in-Some.ensures
+    all-done p false line at at c.in-Some-after.end bs bs (all-none p line at bs c.requires.within c.requires.can) c.in-Some-after.ensures
 
 pub items-loop-next-init : goal.items-loop-next-init
 items-loop-next-init t c =
@@ -199,11 +199,11 @@ optional-returns t c =
 pub value-optional-requires : goal.value-optional-requires
 value-optional-requires t c =
     let ends = c.in-Maybe.ends in
-    let p = plan_view c.deref-in-Maybe.result.now in
+    let p = plan_view c.deref-in-Maybe-2.result.now in
     let plan_is = ap plan_view c.in-Maybe.is
-    ∙ (view-Maybe ends c.in-Maybe.of ∙ ap (λ q. maybe ends (plan_view q)) (sym c.deref-in-Maybe.ensures)) in
+    ∙ (view-Maybe ends c.in-Maybe.of ∙ ap (λ q. maybe ends (plan_view q)) (sym c.deref-in-Maybe-2.ensures)) in
     let left = length c.args.line.now - c.args.at in (
-      search (rules, plan_lemmas, c.decreases, c.deref-in-Maybe.ensures, c.in-Maybe.is),
+      search (rules, plan_lemmas, c.decreases, c.deref-in-Maybe-2.ensures, c.in-Maybe.is),
       (
         c.requires.within,
         maybe-inside ends p left c.args.out.now
@@ -214,14 +214,14 @@ value-optional-requires t c =
 pub value-count-total-requires-clause-room : goal.value-count-total-requires-clause-room
 value-count-total-requires-clause-room t c =
     let ends = c.in-Maybe.ends in
-    let p = plan_view c.deref-in-Maybe.result.now in
+    let p = plan_view c.deref-in-Maybe-2.result.now in
     let line = c.args.line.now in
     let at = c.args.at in
     let end = c.in_ok-end-in-Maybe.end in
     let old = c.args.out.now in
     let now = c.optional.new.out in
     let plan_is = ap plan_view c.in-Maybe.is
-    ∙ (view-Maybe ends c.in-Maybe.of ∙ ap (λ q. maybe ends (plan_view q)) (sym c.deref-in-Maybe.ensures)) in
+    ∙ (view-Maybe ends c.in-Maybe.of ∙ ap (λ q. maybe ends (plan_view q)) (sym c.deref-in-Maybe-2.ensures)) in
     let can = can-is (plan_view c.args.plan.now) (maybe ends p) (length line - at) old plan_is c.requires.can in
     let h : PutsSome p line at end old now = c.in_ok-end-in-Maybe.ensures in
     maybe-now ends p h.found old now (maybe-ready ends p line at end old now can h) h.gains
@@ -229,38 +229,38 @@ value-count-total-requires-clause-room t c =
 pub value-push_end-requires-in-Maybe-clause-room : goal.value-push_end-requires-in-Maybe-clause-room
 value-push_end-requires-in-Maybe-clause-room t c =
     let ends = c.in-Maybe.ends in
-    let p = plan_view c.deref-in-Maybe.result.now in
+    let p = plan_view c.deref-in-Maybe-2.result.now in
     let line = c.args.line.now in
     let at = c.args.at in
     let end = c.in_ok-end-in-Maybe.end in
     let old = c.args.out.now in
     let now = c.optional.new.out in
     let plan_is = ap plan_view c.in-Maybe.is
-    ∙ (view-Maybe ends c.in-Maybe.of ∙ ap (λ q. maybe ends (plan_view q)) (sym c.deref-in-Maybe.ensures)) in
+    ∙ (view-Maybe ends c.in-Maybe.of ∙ ap (λ q. maybe ends (plan_view q)) (sym c.deref-in-Maybe-2.ensures)) in
     let can = can-is (plan_view c.args.plan.now) (maybe ends p) (length line - at) old plan_is c.requires.can in
     let h : PutsSome p line at end old now = c.in_ok-end-in-Maybe.ensures in
     let ready = maybe-ready ends p line at end old now can h in
     let size = last_end (cols_of old ends) + how_many_in h.found in
-    let there = subst (λ q. Sound (plan_view q) (cols_of now) size) (c.deref-in-Maybe.ensures ∙ sym c.deref-in-Maybe-2.ensures)
+    let there = subst (λ q. Sound (plan_view q) (cols_of now) size) (c.deref-in-Maybe-2.ensures ∙ sym c.deref-in-Maybe-3.ensures)
     (maybe-sound ends p h.found old now ready h.gains) in
     maybe-end ends p h.found old now ready h.gains c.count-total.result (c.count-total.ensures.size size there)
 
 pub value-returns-in_ok-end-in-Maybe : goal.value-returns-in_ok-end-in-Maybe
 value-returns-in_ok-end-in-Maybe t c =
     let ends = c.in-Maybe.ends in
-    let p = plan_view c.deref-in-Maybe.result.now in
+    let p = plan_view c.deref-in-Maybe-2.result.now in
     let line = c.args.line.now in
     let at = c.args.at in
     let end = c.in_ok-end-in-Maybe.end in
     let old = c.args.out.now in
     let now = c.optional.new.out in
     let plan_is = ap plan_view c.in-Maybe.is
-    ∙ (view-Maybe ends c.in-Maybe.of ∙ ap (λ q. maybe ends (plan_view q)) (sym c.deref-in-Maybe.ensures)) in
+    ∙ (view-Maybe ends c.in-Maybe.of ∙ ap (λ q. maybe ends (plan_view q)) (sym c.deref-in-Maybe-2.ensures)) in
     let can = can-is (plan_view c.args.plan.now) (maybe ends p) (length line - at) old plan_is c.requires.can in
     let h : PutsSome p line at end old now = c.in_ok-end-in-Maybe.ensures in
     let ready = maybe-ready ends p line at end old now can h in
     let size = last_end (cols_of old ends) + how_many_in h.found in
-    let there = subst (λ q. Sound (plan_view q) (cols_of now) size) (c.deref-in-Maybe.ensures ∙ sym c.deref-in-Maybe-2.ensures)
+    let there = subst (λ q. Sound (plan_view q) (cols_of now) size) (c.deref-in-Maybe-2.ensures ∙ sym c.deref-in-Maybe-3.ensures)
     (maybe-sound ends p h.found old now ready h.gains) in
     puts-is (plan_view c.args.plan.now) (maybe ends p) line at end old c.push_end-in-Maybe.new.out plan_is
     (maybe-put ends p line at end old now can h c.push_end-in-Maybe.new.out c.count-total.result c.push_end-in-Maybe.ensures
