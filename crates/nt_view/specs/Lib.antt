@@ -1,0 +1,7 @@
+pub mod Refusals
+pub mod Stored
+pub mod Loaded
+pub mod Loads
+pub mod Stores
+pub mod Pages
+pub mod Table

@@ -1,0 +1,166 @@
+//! The pages of a cluster, loaded as they are stored.
+
+ghost use Rattle.std.specs.Prelude.{◌≡◌, ◌<◌, ◌^◌, [], length, take, Some, slice_get, slice_index_or, IfOk};
+ghost use Rattle.nt_view.specs.declared.page_place.PagePlace.{PagePlace};
+ghost use Rattle.nt_view.specs.Loads.{load_of, LoadsFile, ServesView};
+ghost use Rattle.nt_view.specs.Loaded.{AreLoadable, nothing_loaded, loaded_with};
+ghost use Rattle.nt_view.specs.Stores.{cut_up, lens_of};
+
+use crate::fault::ViewFault;
+use crate::page_place::{PagePlace, ZeroColumn};
+use crate::place::part_of;
+use crate::reading::read_pages;
+use crate::table::{Table, add_columns, set_zeros};
+use crate::wanting::Wanting;
+use nt_outside::ReadAt;
+use std::alloc::Global;
+use std::marker::Model;
+
+/// The pages of the columns of a cluster, as they are stored, and the columns that they give.
+///
+/// A page's bytes are kept as they were read. Of a column of a split index, whose numbers are sums of those before, the sums are kept
+/// beside its pages. Contracts see the pages, their stored bytes and the
+/// columns of zeros; `loaded_elements` says what elements these give.
+#[derive(Drop)]
+pub struct ClusterBytes {
+    store: Vec<u8>,
+    pages: Vec<PagePlace>,
+    zeros: Vec<ZeroColumn>,
+    table: Table,
+}
+
+impl Model for ClusterBytes {
+    ghost use Rattle.nt_view.specs.Loaded.{Loaded};
+    ghost use Rattle.nt_view.specs.Stores.{cut_up};
+    ghost use Rattle.nt_view.specs.Table.{IsClusterLaid};
+
+    ghost Value = { Loaded };
+
+    ghost view = { λ c. record { pages = c.pages.items; stored = cut_up c.pages.items c.store.items; zeros = c.zeros.items } };
+
+    ghost invariant = { λ c. IsClusterLaid c.store.items c.pages.items c.zeros.items c.table.places.items c.table.columns.items c.table.sums.items };
+}
+
+impl ClusterBytes {
+    /// No page and no column.
+    pub fn new(alloc: Global) -> ClusterBytes
+        ensures { result ≡ nothing_loaded }
+    {
+        ClusterBytes {
+            store: Vec::new(alloc),
+            pages: Vec::new(alloc),
+            zeros: Vec::new(alloc),
+            table: Table {
+                places: Vec::new(alloc),
+                columns: Vec::new(alloc),
+                sums: Vec::new(alloc),
+                spare: Vec::new(alloc),
+            },
+        }
+    }
+
+    /// Loads pages, and columns of zeros, from a file. Pages that follow one another closely in the file are read at once. Of the
+    /// first page that doesn't lie in the file or has another checksum the fault is told.
+    pub fn load<F: ReadAt>(
+        alloc: Global,
+        file: &mut F,
+        pages: &[PagePlace],
+        zeros: &[ZeroColumn],
+    ) -> Result<ClusterBytes, ViewFault>
+        requires listed { AreLoadable pages.now zeros.now }
+        ensures file { ServesView (F.state file.old) (F.state file.new) result }
+        ensures read { LoadsFile (λ c. c) (λ told. load_of told pages.now zeros.now) (F.state file.old) result }
+        ensures listed { IfOk result (λ c. (c.pages ≡ pages.now) × (c.zeros ≡ zeros.now)) }
+    {
+        ClusterBytes::new(alloc).load_over(alloc, file, pages, zeros)
+    }
+
+    /// Loads pages, and columns of zeros, as `load` does, in the memory of these.
+    pub fn load_over<F: ReadAt>(
+        self,
+        alloc: Global,
+        file: &mut F,
+        pages: &[PagePlace],
+        zeros: &[ZeroColumn],
+    ) -> Result<ClusterBytes, ViewFault>
+        requires listed { AreLoadable pages.now zeros.now }
+        ensures file { ServesView (F.state file.old) (F.state file.new) result }
+        ensures read { LoadsFile (λ c. c) (λ told. load_of told pages.now zeros.now) (F.state file.old) result }
+        ensures listed { IfOk result (λ c. (c.pages ≡ pages.now) × (c.zeros ≡ zeros.now)) }
+    {
+        let store = read_pages(file, pages, self.store)?;
+        let kept = Kept {
+            pages: self.pages,
+            zeros: self.zeros,
+            table: self.table,
+        };
+        Ok(assembled(alloc, store, pages, zeros, kept)?)
+    }
+
+    /// The number of pages.
+    pub fn pages(&self) -> u32
+        ensures { result ≡ length self.now.pages }
+    {
+        self.pages.len() as u32
+    }
+
+    /// A page as it was listed.
+    pub fn page(&self, i: u32) -> PagePlace
+        requires { i < length self.now.pages }
+        ensures { slice_get self.now.pages i ≡ Some result }
+    {
+        self.pages[i as usize]
+    }
+
+    /// The bytes of a page as they are stored, without its checksum.
+    pub fn page_bytes(&self, i: u32) -> &[u8]
+        requires { i < length self.now.pages }
+        ensures { (d : PagePlace) → result.now ≡ take (slice_index_or self.now.pages i d).size (slice_index_or self.now.stored i []) }
+    {
+        let at = self.table.places[i as usize].at;
+        part_of(&self.store, at, self.pages[i as usize].size as usize)
+    }
+}
+
+/// Lists of other loaded pages, whose memory is taken.
+#[derive(Drop)]
+struct Kept {
+    pages: Vec<PagePlace>,
+    zeros: Vec<ZeroColumn>,
+    table: Table,
+}
+
+/// The cluster whose pages stand one behind the other in a store.
+fn assembled(
+    alloc: Global,
+    store: Vec<u8>,
+    pages: &[PagePlace],
+    zeros: &[ZeroColumn],
+    kept: Kept,
+) -> Result<ClusterBytes, Wanting>
+    requires listed { AreLoadable pages.now zeros.now }
+    requires len { (length store.items ≡ lens_of pages.now) × (length pages.now < 2 ^ 32) }
+    ensures { IfOk result (λ c. c ≡ loaded_with pages.now (cut_up pages.now store.items) zeros.now) }
+{
+    let mut table = kept.table.emptied(alloc);
+    add_columns(alloc, &store, pages, &mut table)?;
+    set_zeros(zeros, &mut table.columns)?;
+    let pages = copied(pages, kept.pages)?;
+    let zeros = copied(zeros, kept.zeros)?;
+    Ok(ClusterBytes {
+        store,
+        pages,
+        zeros,
+        table,
+    })
+}
+
+/// A copy of a list, in the memory of another.
+fn copied<T: Copy>(list: &[T], kept: Vec<T>) -> Result<Vec<T>, Wanting>
+    ensures { IfOk result (λ v. v.items ≡ list.now) }
+{
+    let mut copy = kept;
+    copy.clear();
+    copy.extend_from_slice(list)?;
+    Ok(copy)
+}

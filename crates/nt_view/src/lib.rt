@@ -1,0 +1,35 @@
+//! The pages of a cluster, loaded as they are stored.
+//!
+//! All of it is on the hot path of a reader: each byte of a page is read once, straight to where it stays, and hashed while it is in
+//! the cache. Keep that; memory is taken for the lists alone, and `load_over` takes it from the cluster before.
+//!
+//! Where to start: `cluster.rt` (`ClusterBytes`) with `specs/Loaded` (what was loaded, and what columns it gives) and `specs/Loads`
+//! (what a file gives of a list of pages, or its first fault). `reading.rt` reads the stored bytes (`specs/Stores`), `table.rt` says
+//! of each column where its elements lie (`specs/Table`, `specs/Pages`).
+//!
+//! Words: the *stored* bytes of a page are its own and, where it has one, the checksum behind them; the *store* has those of all
+//! pages, one page behind the other; a page is *laid* where it has its place there; numbers of a split index are *added up* once,
+//! since each is the sum of those before it in its page.
+//!
+//! Proved: a load gives the stored bytes of each page, as the file has them, or the first fault: a page that doesn't lie in the file,
+//! or whose checksum is another (`read`, by `load_of`); a fault of the outside is answered only where its count rose (`file`); the
+//! bytes of a page without its checksum (`page_bytes`); and of what is kept beside the store, that it says of each column just the
+//! elements that its pages give (the invariant of `ClusterBytes`, `IsClusterLaid`).
+//!
+//! Choices that bind nobody else:
+//! - Pages that follow one another closely in the file are read at once, up to 128 KiB, so that they are hashed in the cache.
+//! - Room for all pages is taken once, but never more than the file has: pages that overlap are legal, and may say more.
+//! - A list of more than 2^32 pages, or a column of more than 2^64 elements, is want of memory.
+#![tactic(auto)]
+
+mod cluster;
+mod fault;
+mod page_place;
+mod place;
+mod reading;
+mod table;
+mod wanting;
+
+pub use cluster::ClusterBytes;
+pub use fault::ViewFault;
+pub use page_place::{PagePlace, ZeroColumn};
