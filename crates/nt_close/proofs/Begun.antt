@@ -3,7 +3,7 @@ use Rattle.std.proofs.Common.{◌≡◌, ◌∙◌, ◌+◌, ◌≤◌, ℕ, Lis
 use Rattle.std.specs.declared.alloc.AllocError.{AllocError}
 use Rattle.nt_types.specs.ShapeData.{MemberData}
 use Rattle.nt_outside.specs.Faults.{Rose}
-use Rattle.nt_outside.specs.Held.{BecomesSome}
+use Rattle.nt_outside.specs.Held.{Held, Becomes, BecomesSome, WhereHeld, nothing_held}
 use Rattle.nt_outside.specs.Disk.{DiskState, TakesRoom}
 use Rattle.nt_container.specs.Spelling.{begun}
 use Rattle.nt_container.proofs.Gate.{begin-len}
@@ -11,10 +11,11 @@ use Rattle.nt_grammar.specs.Table.{Table}
 use Rattle.nt_grammar.specs.Rows.{Rows}
 use Rattle.nt_book.specs.Books.{BookData}
 use Rattle.nt_book.specs.declared.params.Params.{Params}
-use Rattle.nt_layout.specs.Headers.{clusters_place}
+use Rattle.nt_layout.specs.Headers.{header_blob, clusters_place}
 use Rattle.nt_close.specs.Steps.{begun_on, IsBegunSoFar, IsBegunWith}
 use Rattle.nt_close.specs.Passing.{passed_by_begin}
 use Rattle.nt_close.specs.Beginning.{new_book, IsHeaderBlob, IsBegun, IsBeginCut}
+use Rattle.nt_close.proofs.Crashes.{begun-crash, cut-crash}
 
 module _ (ps : List MemberData) (p : Params) (t : Table) (rows : Rows ps p.plain t) (within : passed_by_begin p.limits t ≡ None) where
   -- the new book
@@ -31,31 +32,39 @@ module _ (ps : List MemberData) (p : Params) (t : Table) (rows : Rows ps p.plain
       (room : Result (Unit {0}) AllocError)
       → book ≡ record (new_book t p.limits) { begin = 226 + len; firsts = replicate columns 0 }
       → len ≡ length bytes → columns ≡ length t.columns → blob ≡ bytes → IsHeaderBlob t bytes
-      → TakesRoom steps more old mid room → old.end ≡ 0
+      → TakesRoom steps more old mid room → WhereHeld old.held (λ (h : Held). h ≡ nothing_held) → old.end ≡ 0
       → IsBegunWith (begun 0 0 0) blob mid new → new.out ≡ mid.out → mid.faults ≤ new.faults
       → IsBegun ps p old new book t
-  begun-is bytes blob len columns steps more book old mid new room is len-is long same header takes empty ok out later = record {
-    rows = rows;
-    book_is = book_is len columns book is (omega (arith, len-is, header.place)) long;
-    within = within;
-    held = λ h was. ok.held h (takes.held ∙ was) ∙ ap (λ (l : List ℕ). Some (begun_on (begun 0 0 0) l h)) (same ∙ header.bytes_are);
-    end = ok.end ∙ omega (arith, takes.end, empty, header.place, ap length same, begin-len 0 0 0);
-    out = out ∙ takes.out;
-    later = subst (λ (n : ℕ). n ≤ new.faults) takes.faults later;
-  }
+  begun-is bytes blob len columns steps more book old mid new room is len-is long same header takes nothing empty ok out later =
+      let becomes : Becomes old.held new.held (begun_on (begun 0 0 0) (header_blob t)) =
+      λ h was. ok.held h (takes.held ∙ was) ∙ ap (λ (l : List ℕ). Some (begun_on (begun 0 0 0) l h)) (same ∙ header.bytes_are) in
+      record {
+        rows = rows;
+        book_is = book_is len columns book is (omega (arith, len-is, header.place)) long;
+        within = within;
+        held = becomes;
+        crash = begun-crash t old.held new.held nothing becomes;
+        end = ok.end ∙ omega (arith, takes.end, empty, header.place, ap length same, begin-len 0 0 0);
+        out = out ∙ takes.out;
+        later = subst (λ (n : ℕ). n ≤ new.faults) takes.faults later;
+      }
 
   -- a step failed
   pub begin-cut : (bytes blob : List ℕ) (steps more : ℕ) (old mid new : DiskState) (room : Result (Unit {0}) AllocError)
-      → blob ≡ bytes → IsHeaderBlob t bytes → TakesRoom steps more old mid room
+      → blob ≡ bytes → IsHeaderBlob t bytes → TakesRoom steps more old mid room → WhereHeld old.held (λ (h : Held). h ≡ nothing_held)
       → BecomesSome mid.held new.held (IsBegunSoFar (begun 0 0 0) blob) → new.out ≡ mid.out → Rose mid.faults new.faults
       → IsBeginCut ps p old new
-  begin-cut bytes blob steps more old mid new room same header takes left out rose = record {
-    table = t;
-    rows = rows;
-    within = within;
-    held = λ h was.
-        let stands = left h (takes.held ∙ was) in
-        (stands.0, stands.1, subst (λ (l : List ℕ). IsBegunSoFar (begun 0 0 0) l h stands.0) (same ∙ header.bytes_are) stands.2);
-    out = out ∙ takes.out;
-    rose = subst (λ (n : ℕ). Rose n new.faults) takes.faults rose;
-  }
+  begin-cut bytes blob steps more old mid new room same header takes nothing left out rose =
+      let so_far : BecomesSome old.held new.held (IsBegunSoFar (begun 0 0 0) (header_blob t)) =
+      λ h was.
+      let stands = left h (takes.held ∙ was) in
+      (stands.0, stands.1, subst (λ (l : List ℕ). IsBegunSoFar (begun 0 0 0) l h stands.0) (same ∙ header.bytes_are) stands.2) in
+      record {
+        table = t;
+        rows = rows;
+        within = within;
+        held = so_far;
+        crash = cut-crash t old.held new.held nothing so_far;
+        out = out ∙ takes.out;
+        rose = subst (λ (n : ℕ). Rose n new.faults) takes.faults rose;
+      }

@@ -165,7 +165,7 @@ module _ (t : Table) (book : BookData) (most : ℕ) where
   unfolding finished_file
   finished_parts ranges = refl
 
-  front_len : length (front t book ls) ≡ 225
+  pub front_len : length (front t book ls) ≡ 225
   unfolding front
   front_len = length-front (file_len t book ls) (free_start t book ls) (keys_start t book ls)
 
@@ -188,6 +188,12 @@ module _ (t : Table) (book : BookData) (most : ℕ) where
       ∙ (ap (λ (k : ℕ). header_part (file_len t book ls) (free_start t book ls) ++ (record_part k ++ rest)) keys
       ∙ front_apart (file_len t book ls) (free_start t book ls) (keys_start t book ls) rest)))))
 
+  -- with all its parts told
+  pub finished-apart : (ranges : List (List ℕ)) → book.begin ≡ clusters_place t → AreRangesOf book ranges
+      → finished true t book most ranges ≡ 0x72 ∷ (front t book ls ++ (header_blob t ++ (concat ranges ++ tail t book ls)))
+  finished-apart ranges begins are =
+      finished_is ranges (length (concat (blobs t book ls (middle true t book most ranges)))) are refl (anchor_behind ranges begins are)
+
   -- what the last steps make of a file that was begun and holds its ranges
   pub closed-is : (ranges : List (List ℕ)) (h : Held) → book.begin ≡ clusters_place t → AreRangesOf book ranges
       → h.image ≡ file_begun t ++ concat ranges
@@ -200,5 +206,4 @@ module _ (t : Table) (book : BookData) (most : ℕ) where
       (concat ranges ++ tail t book ls)) in
       ap (λ (l : List ℕ). put_at (put_at l 1 (front t book ls)) 0 first_byte) joined
       ∙ (put_over (begun 0 0 0) rest (front t book ls) 0x72 (omega (arith, begin-len 0 0 0, front_len))
-      ∙ sym (finished_is ranges (length (concat (blobs t book ls (middle true t book most ranges)))) are refl
-      (anchor_behind ranges begins are)))
+      ∙ sym (finished-apart ranges begins are))

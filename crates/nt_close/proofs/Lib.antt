@@ -1,5 +1,7 @@
 pub mod Apart
 pub mod Begun
+pub mod Crashes
+pub mod Cutting
 pub mod Endings
 pub mod Entries
 pub mod Finishing

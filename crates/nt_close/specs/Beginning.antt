@@ -14,6 +14,8 @@ use Rattle.nt_book.specs.declared.limits.LimitError.{LimitError}
 use Rattle.nt_book.specs.declared.limits.LimitError.TheVariants as limit
 use Rattle.nt_book.specs.declared.params.Params.{Params}
 use Rattle.nt_layout.specs.Headers.{header_blob, clusters_place}
+use Rattle.nt_cuts.specs.Cuts.{LeavesUnfinished}
+use Rattle.nt_cuts.specs.Shut.{StaysShut}
 use Rattle.nt_close.specs.declared.error.BeginError.{BeginError}
 use Rattle.nt_close.specs.declared.error.BeginError.TheVariants.{Memory, RangeTooLarge, FileTooLarge, Fault}
 use Rattle.nt_close.specs.Steps.{begun_on, IsBegunSoFar}
@@ -37,12 +39,13 @@ new_book t limits = record {
   torn = None;
 }
 
--- the file of these fields is begun with this schema and book, within the limits
+-- the file of these fields is begun with this schema and book, within the limits; it is shut, and so a crash leaves what isn't finished
 pub record IsBegun (ps : List MemberData) (p : Params) (old new : DiskState) (book : BookData) (t : Table) : Type 0 where
   pub rows : Rows ps p.plain t
   pub book_is : book ≡ new_book t p.limits
   pub within : passed_by_begin p.limits t ≡ None
   pub held : Becomes old.held new.held (begun_on (begun 0 0 0) (header_blob t))
+  pub crash : BecomesSome old.held new.held (λ h h'. StaysShut h'.log × LeavesUnfinished h'.log)
   pub end : new.end ≡ clusters_place t
   pub out : new.out ≡ old.out
   pub later : old.faults ≤ new.faults
@@ -54,12 +57,13 @@ pub record IsTooLargeToBegin (ps : List MemberData) (p : Params) (passed : Limit
   pub passed_is : passed_by_begin p.limits table ≡ Some passed
   pub untouched : IsUntouched old new
 
--- a step failed, and those before it were taken
+-- a step failed, and those before it were taken; a crash leaves what isn't finished
 pub record IsBeginCut (ps : List MemberData) (p : Params) (old new : DiskState) : Type 0 where
   pub table : Table
   pub rows : Rows ps p.plain table
   pub within : passed_by_begin p.limits table ≡ None
   pub held : BecomesSome old.held new.held (IsBegunSoFar (begun 0 0 0) (header_blob table))
+  pub crash : BecomesSome old.held new.held (λ h h'. LeavesUnfinished h'.log)
   pub out : new.out ≡ old.out
   pub rose : Rose old.faults new.faults
 

@@ -76,3 +76,8 @@ BecomesFinished t book most old new =
 -- if the header's blob is within the limits, so are all blobs and the file
 abbrev pub StaysWithin : Table → Params → BookData → Type 0
 StaysWithin t p book = blob_len (length (header_object t)) ≤ p.limits.range → IsWithin t (measures_of p) book
+
+-- a file is finished, within the limits
+pub record EndsFinished (t : Table) (p : Params) (book : BookData) (old new : Option Held) : Type 0 where
+  pub file : BecomesFinished t book p.group old new
+  pub within : StaysWithin t p book

@@ -3,7 +3,8 @@
 ghost use Rattle.std.specs.Prelude.{◌≡◌, OnOk};
 ghost use Rattle.nt_layout.specs.Finished.{lists_behind, tail, front};
 ghost use Rattle.nt_close.specs.Passing.{passed_by_close};
-ghost use Rattle.nt_close.specs.Closing.{IsClosable, HasCloseCause, LeavesClosed, BecomesFinished, StaysWithin};
+ghost use Rattle.nt_close.specs.Closing.{IsClosable, HasCloseCause, LeavesClosed, EndsFinished};
+ghost use Rattle.nt_close.specs.Crashes.{CrashesByAnswer};
 
 use crate::ending::ending_of;
 use crate::error::CloseError;
@@ -14,6 +15,31 @@ use nt_book::{Book, Params};
 use nt_outside::Disk;
 use nt_schema::Schema;
 use std::alloc::Global;
+
+/// Takes the steps of `close`.
+fn close_file<D: Disk>(
+    alloc: Global,
+    disk: &mut D,
+    book: &Book,
+    schema: &Schema,
+    params: &Params,
+) -> Result<(), CloseError>
+    requires { IsClosable (D.state disk.old) book.now schema.now }
+    ensures cause { HasCloseCause book.now (passed_by_close params.now schema.now book.now) result }
+    ensures left { LeavesClosed
+        (tail schema.now book.now (lists_behind schema.now book.now params.now.group))
+        (front schema.now book.now (lists_behind schema.now book.now params.now.group))
+        (D.state disk.old) (D.state disk.new) result }
+    ensures finished { OnOk result (EndsFinished schema.now params.now book.now
+        (D.state disk.old).held (D.state disk.new).held) }
+{
+    refuse_spoiled(book)?;
+    let ending = ending_of(alloc, book, schema, params)?;
+    disk.room(5, ending.tail.len() as u64 + 226)?;
+    let front = front_of(&ending.fields);
+    write_end(disk, &ending.tail, &front)?;
+    Ok(())
+}
 
 /// Closes the file of a schema whose ranges are those of a book: page lists, footer, anchor and the
 /// lists of keys and of free pieces behind the ranges, file header and directory behind the first
@@ -33,14 +59,10 @@ pub fn close<D: Disk>(
         (tail schema.now book.now (lists_behind schema.now book.now params.now.group))
         (front schema.now book.now (lists_behind schema.now book.now params.now.group))
         (D.state disk.old) (D.state disk.new) result }
-    ensures finished { OnOk result (BecomesFinished schema.now book.now params.now.group
+    ensures finished { OnOk result (EndsFinished schema.now params.now book.now
         (D.state disk.old).held (D.state disk.new).held) }
-    ensures within { OnOk result (StaysWithin schema.now params.now book.now) }
+    ensures crash { CrashesByAnswer schema.now book.now params.now.group
+        (D.state disk.old).held (D.state disk.new).held result }
 {
-    refuse_spoiled(book)?;
-    let ending = ending_of(alloc, book, schema, params)?;
-    disk.room(5, ending.tail.len() as u64 + 226)?;
-    let front = front_of(&ending.fields);
-    write_end(disk, &ending.tail, &front)?;
-    Ok(())
+    close_file(alloc, disk, book, schema, params)
 }

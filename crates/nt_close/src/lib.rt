@@ -14,7 +14,10 @@
 //! range and the first limit that is passed (`cause`); what is left after each answer, byte for byte
 //! and step for step, and nothing at all before all memory is there and all limits are tested
 //! (`left`); that a file with ranges of the clusters' lengths becomes the finished file with these
-//! ranges (`finished`), within the limits (`within`). A fault comes only where the disk's count rose.
+//! ranges, within the limits (`finished`). Wherever a crash comes behind the first sync, it leaves
+//! what isn't finished of a file that is begun (`crash` of `IsBegun` and `IsBeginCut`), and of one that
+//! is closed that, or the finished file once its first byte was written over; behind all steps only
+//! that file (`crash`, by `specs/Crashes.antt`). A fault comes only where the disk's count rose.
 //! `closed_is_finished`, `first_byte_is_last` and `steps_stay_in_order` are laws on what is left.
 //! Nothing is only tested.
 //!

@@ -3,16 +3,15 @@ use Rattle.std.proofs.Common.{◌≡◌, ◌∙◌, ap, sym, subst, ℕ, List, [
 use Rattle.std.proofs.Common.{append_assoc, Bool, true, Some, inl, inr}
 use Rattle.std.specs.Prelude.{◌⊎◌}
 use Rattle.std.specs.List.{AllZip, concat, flat_map}
-use Rattle.std.proofs.lemmas.List.{length-append, length-drop, map-append}
+use Rattle.std.proofs.lemmas.List.{length-append, map-append}
 use Rattle.std.proofs.lemmas.List.Concat.{concat_is}
 use Rattle.nt_num.specs.Codes.{unfinished}
 use Rattle.nt_num.specs.Faults.{fault}
 use Rattle.nt_outside.specs.Log.{Step}
 use Rattle.nt_outside.specs.Held.{Held}
 use Rattle.nt_outside.specs.Reads.{exactly, known_of, IsKnown}
-use Rattle.nt_container.specs.Spelling.{begun, header_part, record_part}
+use Rattle.nt_container.specs.Spelling.{begun}
 use Rattle.nt_container.proofs.Gate.{begin-len}
-use Rattle.nt_container.proofs.Lengths.{header-len, file_record-len}
 use Rattle.nt_types.specs.TreeData.{TreesData}
 use Rattle.nt_grammar.specs.Table.{Table}
 use Rattle.nt_grammar.specs.ReadingBack.{IsDescribed}
@@ -24,18 +23,18 @@ use Rattle.nt_book.specs.declared.meta.ClusterMeta.{ClusterMeta}
 use Rattle.nt_book.specs.Books.{BookData, IsUngrouped, book_clusters}
 use Rattle.nt_file_meaning.specs.Files.{HasDefect, Means}
 use Rattle.nt_layout.specs.Headers.{header_object, header_blob, clusters_place, file_begun}
-use Rattle.nt_layout.specs.Groups.{PlacedList}
-use Rattle.nt_layout.specs.Finished.{lists_behind, finished, tail, front, file_len, free_start, keys_start}
+use Rattle.nt_layout.specs.Finished.{lists_behind, finished, tail, front}
 use Rattle.nt_finished.proofs.Standing.{length-blob}
 use Rattle.nt_layout.specs.Laid.{AreBlobsOf, Measures, AreMeasures, IsWithin, IsBookOf, IsLaid}
 use Rattle.nt_finished.proofs.Lengths.{clusters_told, ranges-len}
-use Rattle.nt_finished.proofs.Parts.{ranges_written}
 use Rattle.nt_close.specs.Steps.{IsClosedSoFar, closed_on}
-use Rattle.nt_crash.specs.Cuts.{WritesFirst, LeavesUnfinished, LeavesUnfinishedOr, LeavesOnly}
+use Rattle.nt_close.proofs.Crashes.{begun-leaves, closing-leaves as ranged-leaves, closed-leaves as ranged-only}
+use Rattle.nt_cuts.specs.Cuts.{WritesFirst, LeavesUnfinished, LeavesUnfinishedOr, LeavesOnly}
+use Rattle.nt_cuts.proofs.Keeping.{StepsStand}
+use Rattle.nt_cuts.proofs.Reading.{read-shut}
 use Rattle.nt_crash.specs.Fillings.{begun_file, IsFilled, IsRangedAs, IsFilledWith, IsWrittenSoFar}
 use Rattle.nt_crash.specs.Fillings.IsWrittenSoFar.{in_beginning, in_filling, in_closing}
-use Rattle.nt_crash.proofs.Filling.{read-cut, read-spared, StepsStand, filling-spared, room, begun-leaves}
-use Rattle.nt_crash.proofs.Closing.{closed-only, closed-cut}
+use Rattle.nt_crash.proofs.Filling.{filling-shut}
 
 -- a log whose ranges are all settled is known: its front, and their bytes
 abbrev pub SettledKnown : Type 0
@@ -53,7 +52,7 @@ begun-length : (t : Table) → length (file_begun t) ≡ clusters_place t
 begun-length t = omega (arith, length-append (begun 0 0 0) (header_blob t), begin-len 0 0 0, length-blob 226 (header_object t))
 
 -- a file whose ranges were settled is known byte by byte
-filled-known : SettledKnown → (t : Table) (ranges : List (List ℕ)) (log : List Step) → IsFilled t ranges log
+pub filled-known : SettledKnown → (t : Table) (ranges : List (List ℕ)) (log : List Step) → IsFilled t ranges log
     → IsKnown log (file_begun t ++ concat ranges)
 filled-known all_told t ranges log filled =
     let f = filled.filling in
@@ -64,54 +63,18 @@ filled-known all_told t ranges log filled =
     (subst (λ (n : ℕ). IsLogOf n (end_after n (ranges_of f.history)) f.history [] [] f.steps) place f.is_log) filled.settled
     ∙ ap (λ (l : List ℕ). map exactly (file_begun t ++ l)) (sym (concat_is ranges)))
 
-length-front : (t : Table) (book : BookData) (ls : List PlacedList) → length (front t book ls) ≡ 225
-unfolding front
-length-front t book ls =
-    let header = header_part (file_len t book ls) (free_start t book ls) in
-    let names = record_part (keys_start t book ls) in
-    omega (
-      arith,
-      length-append (drop 1 header) names,
-      length-drop 1 header,
-      header-len (file_len t book ls) (free_start t book ls),
-      file_record-len (keys_start t book ls),
-    )
-
-module _ (stand : StepsStand) (told : SettledKnown) (t : Table) (book : BookData) (most : ℕ) (ranges : List (List ℕ))
+module _ (stand : StepsStand ClusterMeta) (told : SettledKnown) (t : Table) (book : BookData) (most : ℕ) (ranges : List (List ℕ))
     (ranged : IsRangedAs t book ranges) (h : Held) (filled : IsFilled t ranges h.log) where
-  -- where the page lists stand
-  abbrev ls : List PlacedList
-  ls = lists_behind t book most
-
-  abbrev body : List ℕ
-  body = header_blob t ++ concat ranges
-
-  known : IsKnown h.log (0 ∷ (room.rest ++ body))
-  known =
-      filled-known told t ranges h.log filled
-      ∙ ap (λ (l : List ℕ). map exactly l)
-      (append_assoc (begun 0 0 0) (header_blob t) (concat ranges) ∙ ap (λ (l : List ℕ). l ++ body) room.is)
-
-  -- the finished file of these parts
-  whole-is : 0x72 ∷ (front t book ls ++ (body ++ tail t book ls)) ≡ finished true t book most ranges
-  whole-is =
-      ap (λ (l : List ℕ). 0x72 ∷ (front t book ls ++ l)) (append_assoc (header_blob t) (concat ranges) (tail t book ls))
-      ∙ sym (ranges_written t most ranges book ranged.begin ranged.lengths)
-
-  same : length room.rest ≡ length (front t book ls)
-  same = room.long ∙ sym (length-front t book ls)
-
-  pub closing-leaves : (left : Held) → IsClosedSoFar (tail t book ls) (front t book ls) h left
+  pub closing-leaves : (left : Held)
+      → IsClosedSoFar (tail t book (lists_behind t book most)) (front t book (lists_behind t book most)) h left
       → LeavesUnfinishedOr (λ (bytes : List ℕ). bytes ≡ finished true t book most ranges) left.log
   closing-leaves left closed =
-      subst (λ (file : List ℕ). LeavesUnfinishedOr (λ (bytes : List ℕ). bytes ≡ file) left.log) whole-is
-      (read-cut (λ (bytes : List ℕ). bytes ≡ 0x72 ∷ (front t book ls ++ (body ++ tail t book ls))) left.log
-      (closed-cut room.rest body (tail t book ls) (front t book ls) h same known
-      (filling-spared stand t h.log filled.filling) left closed))
+      ranged-leaves t book most ranged.begin ranges ranged.lengths h (filled-known told t ranges h.log filled)
+      (filling-shut stand t h.log filled.filling) left closed
 
   pub closed-leaves : LeavesOnly (λ (bytes : List ℕ). bytes ≡ finished true t book most ranges)
-      (closed_on (tail t book ls) (front t book ls) h).log
-  closed-leaves bytes may = closed-only room.rest body (tail t book ls) (front t book ls) h same known bytes may ∙ whole-is
+      (closed_on (tail t book (lists_behind t book most)) (front t book (lists_behind t book most)) h).log
+  closed-leaves = ranged-only t book most ranged.begin ranges ranged.lengths h (filled-known told t ranges h.log filled)
 
 -- the finished file, as it is read
 abbrev pub FilesMean : Type 0
@@ -126,7 +89,7 @@ LaidBehind =
     → m.staged ≡ true → IsBookOf t book → IsUngrouped book → IsWithin t m book → AreBlobsOf t m.page clusters ranges (book_clusters book)
     → file ≡ finished m.staged t book m.group ranges → IsLaid file t clusters m
 
-module _ (stand : StepsStand) (told : SettledKnown) (laid : LaidBehind) (mean : FilesMean) (t : Table)
+module _ (stand : StepsStand ClusterMeta) (told : SettledKnown) (laid : LaidBehind) (mean : FilesMean) (t : Table)
     (clusters : List (List TreesData)) (m : Measures) (book : BookData) (is : IsDescribed t) (measures : AreMeasures m) where
   ranged-as : (h : Held) (filled : IsFilledWith t clusters m book h.log) → IsRangedAs t book filled.ranges
   ranged-as h filled = record {
@@ -168,6 +131,6 @@ module _ (stand : StepsStand) (told : SettledKnown) (laid : LaidBehind) (mean : 
       at (inr whole) = inr (whole.0, finished-means h filled bytes whole.1)
 
   pub entries-left : (left : Held) → IsWrittenSoFar t clusters m book left → LeavesUnfinishedOr MeansAll left.log
-  entries-left left (in_beginning begun) = unless-first left.log (begun-leaves stand t left begun)
-  entries-left left (in_filling filling) = unless-first left.log (read-spared left.log (filling-spared stand t left.log filling))
+  entries-left left (in_beginning begun) = unless-first left.log (begun-leaves t left begun)
+  entries-left left (in_filling filling) = unless-first left.log (read-shut left.log (filling-shut stand t left.log filling))
   entries-left left (in_closing {h = h} filled closed) = closing-means h left filled closed

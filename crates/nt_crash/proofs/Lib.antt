@@ -1,6 +1,2 @@
-mod Firsts
-mod Orders
-mod Opening
-mod Closing
 mod Filling
 mod Finishing

@@ -1,42 +1,27 @@
 //! What a crash leaves of a file, wherever it cuts the steps off.
 
-ghost use Rattle.std.specs.Prelude.{◌≡◌, ◌⊎◌, ℕ, List, [], ◌∷◌, ◌++◌, true};
+ghost use Rattle.std.specs.Prelude.{◌≡◌, ℕ, List, ◌++◌, true};
+ghost use Rattle.std.specs.List.{concat};
 ghost use Rattle.nt_types.specs.TreeData.{TreesData};
-ghost use Rattle.nt_outside.specs.Log.{Step, Write, FailedWrite, Append, Sync};
-ghost use Rattle.nt_outside.specs.Reads.{Reads};
-ghost use Rattle.nt_outside.specs.Crash.{crash_of, MayLeave};
-ghost use Rattle.nt_outside.specs.Order.{FirstByteLast};
+ghost use Rattle.nt_outside.specs.Log.{Step};
+ghost use Rattle.nt_outside.specs.Reads.{IsKnown};
 ghost use Rattle.nt_outside.specs.Held.{Held, nothing_held};
 ghost use Rattle.nt_container.specs.Spelling.{begun};
 ghost use Rattle.nt_grammar.specs.Table.{Table};
 ghost use Rattle.nt_grammar.specs.ReadingBack.{IsDescribed};
 ghost use Rattle.nt_book.specs.Books.{BookData};
 ghost use Rattle.nt_file_meaning.specs.Files.{Means};
-ghost use Rattle.nt_layout.specs.Headers.{header_blob};
+ghost use Rattle.nt_layout.specs.Headers.{header_blob, file_begun};
 ghost use Rattle.nt_layout.specs.Finished.{lists_behind, finished, tail, front};
 ghost use Rattle.nt_layout.specs.Laid.{Measures, AreMeasures};
 ghost use Rattle.nt_close.specs.Steps.{IsBegunSoFar, closed_on, IsClosedSoFar};
-ghost use Rattle.nt_crash.specs.Cuts.{ReadsButFirst, LeavesUnfinished, LeavesUnfinishedOr, LeavesOnly};
+ghost use Rattle.nt_cuts.specs.Cuts.{LeavesUnfinished, LeavesUnfinishedOr, LeavesOnly};
+ghost use Rattle.nt_cuts.specs.Shut.{StaysShut};
 ghost use Rattle.nt_crash.specs.Fillings.{IsFilling, IsFilled, IsRangedAs, IsFilledWith, IsWrittenSoFar};
 
 use nt_book::ClusterMeta;
 use nt_finished::{files_are_laid_behind, finished_files_mean_their_entries};
 use nt_logged::{settled_ranges_are_known, steps_stand};
-
-/// Of a file that began with an append, and whose first byte is written over only right behind a
-/// sync, a crash leaves what isn't finished, or that byte was written over before, whole or not;
-/// right behind that write it leaves what stood there, but maybe for that byte.
-pub fn ordered_steps_leave_unfinished()
-    ensures order { (byte : ℕ) (bytes : List ℕ) (log : List Step)
-        → FirstByteLast (Append (byte ∷ bytes) ∷ log)
-        → LeavesUnfinishedOr (λ (left : List ℕ). Unit {0}) (Append (byte ∷ bytes) ∷ log) }
-    ensures written { (log : List Step) (byte : ℕ) (left : List ℕ)
-        → MayLeave (crash_of ((log ++ Sync ∷ []) ++ Write 0 (byte ∷ []) ∷ [])) left
-        → Reads log left ⊎ ReadsButFirst log byte left }
-    ensures torn { (log : List Step) (byte : ℕ) (left : List ℕ)
-        → MayLeave (crash_of ((log ++ Sync ∷ []) ++ FailedWrite 0 (byte ∷ []) ∷ [])) left
-        → Reads log left ⊎ ReadsButFirst log byte left }
-{}
 
 /// While a file is begun, and while contexts fill it, whatever they do, a crash leaves what isn't
 /// finished.
@@ -48,10 +33,13 @@ pub fn filling_leaves_unfinished()
     steps_stand::<ClusterMeta>();
 }
 
-/// While a file is closed, a crash leaves what isn't finished, or its first byte was written over
-/// before, whole or not, and it may leave the finished file. Once it is closed, a crash leaves
-/// just that.
+/// A file whose ranges are all settled is shut, and its log tells each byte of them: so what `close`
+/// of nt_close says of crashes holds of it. While it is closed, a crash leaves what isn't finished, or
+/// its first byte was written over before, whole or not, and it may leave the finished file. Once it
+/// is closed, a crash leaves just that.
 pub fn closing_leaves_unfinished_or_finished()
+    ensures filled { (t : Table) (ranges : List (List ℕ)) (log : List Step) → IsFilled t ranges log
+        → StaysShut log × IsKnown log (file_begun t ++ concat ranges) }
     ensures closing { (t : Table) (book : BookData) (most : ℕ) (ranges : List (List ℕ))
         (h left : Held) → IsRangedAs t book ranges → IsFilled t ranges h.log
         → IsClosedSoFar (tail t book (lists_behind t book most))

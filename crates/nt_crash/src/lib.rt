@@ -1,26 +1,21 @@
 //! What a crash leaves of a file that contexts write, wherever it cuts the steps off: laws alone,
 //! nothing here runs.
 //!
-//! Start with `src/laws.rt`; its words are in `specs/Cuts.antt` (what is left of a log) and
+//! Start with `src/laws.rt`; its words are those of nt_cuts (what is left of a log) and
 //! `specs/Fillings.antt` (how far a file is written).
 //!
-//! Words: what a crash *leaves* is nt_outside's, over the log of a disk: a byte stays once it is
-//! synced, until a later step covers it; it is *unfinished* where a reader's first fault is that the
-//! writing was not finished; a file is *filling* while the ranges of a history of contexts stand
-//! behind its header, and *filled* once each is settled with its bytes. Nothing is said of a crash
-//! before the first sync.
+//! Words: a file is *filling* while the ranges of a history of contexts stand behind its header, and
+//! *filled* once each is settled with its bytes. Nothing is said of a crash before the first sync.
 //!
 //! Proved, each as the contract of a function, of a crash behind the first sync:
 //! - while a file is begun, and while contexts fill it, it is left unfinished, whatever the contexts
 //!   did and whichever step failed (`filling_leaves_unfinished`);
 //! - while it is closed, whichever step failed, it is left unfinished, or its first byte was written
-//!   over before, and then it may be the finished file; once it is closed it is left so
+//!   over before, and then it may be the finished file; once it is closed it is left so; and what
+//!   `close` of nt_close says of crashes holds of each file that is filled
 //!   (`closing_leaves_unfinished_or_finished`);
 //! - so what is left is unfinished, or means its schema and the entries of all its clusters
-//!   (`crashes_leave_all_entries_or_none`);
-//! - where only the order of the steps is known, it is left unfinished, or its first byte was
-//!   written over before; and right behind that write all else is left as it was
-//!   (`ordered_steps_leave_unfinished`).
+//!   (`crashes_leave_all_entries_or_none`).
 //!
 //! Nothing is only tested. What a real disk leaves is not said: it is a premise that it keeps to
 //! nt_outside's definition.
@@ -33,5 +28,5 @@ mod laws;
 
 pub use laws::{
     closing_leaves_unfinished_or_finished, crashes_leave_all_entries_or_none,
-    filling_leaves_unfinished, ordered_steps_leave_unfinished,
+    filling_leaves_unfinished,
 };

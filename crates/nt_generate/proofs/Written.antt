@@ -9,7 +9,7 @@ use Rattle.nt_outside.specs.Disk.{DiskState}
 use Rattle.nt_grammar.specs.Table.{Table}
 use Rattle.nt_book.specs.declared.params.Params.{Params}
 use Rattle.nt_book.specs.Books.{BookData}
-use Rattle.nt_crash.specs.Cuts.{LeavesUnfinished, LeavesUnfinishedOr}
+use Rattle.nt_cuts.specs.Cuts.{LeavesUnfinished, LeavesUnfinishedOr}
 use Rattle.nt_contexts.specs.Contexts.{TellTexts}
 use Rattle.nt_dealing.specs.Dealt.{commit_order}
 use Rattle.nt_draws.specs.declared.making.Making.{Making}

@@ -10,7 +10,7 @@ use Rattle.nt_grammar.specs.Table.{Table}
 use Rattle.nt_book.specs.declared.params.Params.{Params}
 use Rattle.nt_book.specs.Books.{BookData}
 use Rattle.nt_contexts.specs.Contexts.{TellTexts}
-use Rattle.nt_crash.specs.Cuts.{LeavesUnfinished, LeavesUnfinishedOr, LeavesOnly}
+use Rattle.nt_cuts.specs.Cuts.{LeavesUnfinished, LeavesUnfinishedOr, LeavesOnly}
 use Rattle.nt_draws.specs.declared.making.Making.{Making}
 use Rattle.nt_draws.specs.Events.{event_fields}
 use Rattle.nt_store.specs.Writing.{HoldsNow, NeverBegan, IsInOrderFrom, KeepsOrder, IsEmptyDisk}

@@ -11,7 +11,7 @@ use Rattle.nt_book.specs.declared.limits.LimitError.{LimitError}
 use Rattle.nt_book.specs.declared.limits.LimitError.TheVariants as limit
 use Rattle.nt_book.specs.declared.params.Params.{Params}
 use Rattle.nt_close.specs.Laws.{IsShut}
-use Rattle.nt_crash.specs.Cuts.{LeavesUnfinished}
+use Rattle.nt_cuts.specs.Cuts.{LeavesUnfinished}
 use Rattle.nt_seq.specs.Writer.{SeqState}
 use Rattle.nt_seq.specs.Written.{IsUnclosed}
 use Rattle.nt_seq.proofs.Files.{shut-unclosed, order-unclosed}

@@ -20,7 +20,7 @@ use Rattle.nt_close.specs.declared.error.BeginError.TheVariants as begin
 use Rattle.nt_close.specs.Beginning.{IsNotBegun}
 use Rattle.nt_close.specs.Passing.{passed_by_begin}
 use Rattle.nt_close.proofs.FirstByte.{begins_shut}
-use Rattle.nt_crash.specs.Cuts.{HasSync, LeavesUnfinished}
+use Rattle.nt_cuts.specs.Cuts.{HasSync, LeavesUnfinished}
 use Rattle.nt_seq.specs.Changing.{BeginsFile}
 use Rattle.nt_seq.specs.Writer.{SeqState}
 use Rattle.nt_writing.proofs.Chunking.{chunks-none}

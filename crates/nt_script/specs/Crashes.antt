@@ -2,7 +2,7 @@
 use Rattle.std.specs.Prelude.{◌≡◌, ℕ, List, Option, Some, Result, Ok, Err}
 use Rattle.nt_outside.specs.Log.{Step}
 use Rattle.nt_outside.specs.World.{World, Stored, stored}
-use Rattle.nt_crash.specs.Cuts.{LeavesUnfinished, LeavesUnfinishedOr, LeavesOnly}
+use Rattle.nt_cuts.specs.Cuts.{LeavesUnfinished, LeavesUnfinishedOr, LeavesOnly}
 use Rattle.nt_store.specs.Worlds.{MakesDisk}
 use Rattle.nt_script.specs.declared.store_error.ScriptStoreError.{ScriptStoreError}
 use Rattle.nt_script.specs.declared.store_error.ScriptStoreError.TheVariants.{Outside, Memory, Schema, Line, Limit}

@@ -3,8 +3,6 @@ use Rattle.std.proofs.Common.{◌≡◌, ◌⊎◌, ◌∙◌, inl, inr, ap, sym
 use Rattle.std.proofs.Common.{drop, map, get_or, arith}
 use Rattle.std.specs.Prelude.{IsTrue}
 use Rattle.nt_lists.specs.Places.{put_at}
-use Rattle.nt_num.specs.Codes.{unfinished}
-use Rattle.nt_num.specs.Faults.{fault}
 use Rattle.nt_outside.specs.Log.{Step, Write, FailedWrite, Append, FailedAppend, Sync}
 use Rattle.nt_outside.specs.Held.{Held, nothing_held, appended, written, synced, IsTornAppend}
 use Rattle.nt_outside.specs.Reads.{Known, exactly, all_allowed, Reads, IsKnown}
@@ -14,16 +12,14 @@ use Rattle.nt_outside.proofs.Crashes.{left_by_sync}
 use Rattle.nt_outside.proofs.Known.{known_reads, known_once}
 use Rattle.nt_outside.proofs.Order.{sync_follows}
 use Rattle.nt_container.specs.Spelling.{begun}
-use Rattle.nt_container.proofs.Gate.{unfinished_is}
 use Rattle.nt_grammar.specs.Table.{Table}
 use Rattle.nt_layout.specs.Headers.{header_blob}
-use Rattle.nt_file_meaning.specs.Outlines.{outline_of}
-use Rattle.nt_file_meaning.specs.Files.{read_file, HasDefect}
 use Rattle.nt_close.specs.Laws.{IsShut}
 use Rattle.nt_close.specs.Steps.{IsBegunSoFar, first_byte, shut_on, closed_on, IsClosedSoFar, torn_tail, torn_front, not_kept_shut}
 use Rattle.nt_close.specs.Steps.{torn_first, not_kept_open, closed_whole}
 use Rattle.nt_close.proofs.FirstByte.{closes_in_order}
-use Rattle.nt_crash.specs.Cuts.{ReadsButFirst, LeavesUnfinished, LeavesUnfinishedOr, LeavesOnly}
+use Rattle.nt_cuts.specs.Cuts.{ReadsButFirst, LeavesUnfinished, LeavesUnfinishedOr, LeavesOnly}
+use Rattle.nt_cuts.proofs.Reading.{unfinished-zero}
 use Rattle.nt_seq.specs.Written.{file_so_far, IsUnclosed}
 use Rattle.nt_seq.specs.Crashes.{IsClosedBy, AppendsLeave}
 use Rattle.nt_seq.proofs.Plain.{known-appended, known-synced, known-written, AreBehind, behind-push, behind-take, never_over, HasFirst}
@@ -44,11 +40,6 @@ abbrev pub TornLeaves : Type 0
 TornLeaves =
     (log : List Step) (byte : ℕ) (left : List ℕ) → MayLeave (crash_of ((log ++ Sync ∷ []) ++ FailedWrite 0 (byte ∷ []) ∷ [])) left
     → Reads log left ⊎ ReadsButFirst log byte left
-
--- a file whose first byte is 0 isn't finished
-pub unfinished-zero : (bytes : List ℕ) → get_or bytes 0 0 ≡ 0 → HasDefect bytes (fault unfinished 0)
-unfolding read_file outline_of
-unfinished-zero bytes shut = rw (unfinished_is bytes shut) refl
 
 -- ---- a file that is begun, with ranges behind its header
 

@@ -17,7 +17,7 @@ use Rattle.nt_layout.specs.Headers.{header_blob}
 use Rattle.nt_file_meaning.specs.Files.{HasDefect}
 use Rattle.nt_close.specs.Steps.{begun_on}
 use Rattle.nt_close.proofs.Finishing.{first_and_others}
-use Rattle.nt_crash.specs.Cuts.{IsOverFirst, WritesFirst, HasSync, LeavesUnfinished, LeavesUnfinishedOr}
+use Rattle.nt_cuts.specs.Cuts.{IsOverFirst, WritesFirst, HasSync, LeavesUnfinished, LeavesUnfinishedOr}
 use Rattle.nt_seq.specs.Written.{ranges_on, file_so_far}
 
 -- ---- what steps tell

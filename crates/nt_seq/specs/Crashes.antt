@@ -5,7 +5,7 @@ use Rattle.nt_container.specs.Spelling.{begun}
 use Rattle.nt_grammar.specs.Table.{Table}
 use Rattle.nt_layout.specs.Headers.{header_blob}
 use Rattle.nt_close.specs.Steps.{closed_on, IsBegunSoFar, IsClosedSoFar}
-use Rattle.nt_crash.specs.Cuts.{LeavesUnfinished, LeavesUnfinishedOr, LeavesOnly}
+use Rattle.nt_cuts.specs.Cuts.{LeavesUnfinished, LeavesUnfinishedOr, LeavesOnly}
 use Rattle.nt_seq.specs.Written.{file_so_far, IsUnclosed}
 
 -- these bytes are a file of this schema with these ranges, closed by these parts

@@ -21,7 +21,7 @@ use Rattle.nt_close.specs.declared.error.BeginError.TheVariants as begin
 use Rattle.nt_close.specs.Beginning.{IsNotBegun}
 use Rattle.nt_close.specs.Steps.{closed_on, IsBegunSoFar, IsClosedSoFar}
 use Rattle.nt_dealing.specs.Dealt.{FillsBehind, commit_order}
-use Rattle.nt_crash.specs.Cuts.{WritesFirst, HasSync, LeavesUnfinished, LeavesUnfinishedOr, LeavesOnly}
+use Rattle.nt_cuts.specs.Cuts.{WritesFirst, HasSync, LeavesUnfinished, LeavesUnfinishedOr, LeavesOnly}
 use Rattle.nt_crash.specs.Fillings.{IsFilling, IsFilled, IsRangedAs}
 use Rattle.nt_store.specs.declared.error.StoreError.{StoreError}
 use Rattle.nt_store.specs.declared.error.StoreError.TheVariants.{Outside, Memory, Schema, Line, Limit}

@@ -20,7 +20,7 @@ use Rattle.nt_book.specs.Kept.{IsBookKept}
 use Rattle.nt_machine.specs.Legal.{IsLegal, end_after}
 use Rattle.nt_logged.specs.Logs.{IsLogOf}
 use Rattle.nt_layout.specs.Headers.{header_blob, file_begun, clusters_place}
-use Rattle.nt_crash.specs.Cuts.{LeavesUnfinished}
+use Rattle.nt_cuts.specs.Cuts.{LeavesUnfinished}
 use Rattle.nt_crash.specs.Fillings.{IsFilled}
 use Rattle.nt_close.specs.declared.error.BeginError.{BeginError}
 use Rattle.nt_close.specs.declared.error.BeginError.TheVariants as begin

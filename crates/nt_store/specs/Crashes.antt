@@ -6,7 +6,7 @@ use Rattle.nt_outside.specs.Log.{Step}
 use Rattle.nt_outside.specs.Held.{Held}
 use Rattle.nt_outside.specs.World.{World, Stored, prints, stored}
 use Rattle.nt_book.specs.declared.params.Params.{Params}
-use Rattle.nt_crash.specs.Cuts.{LeavesUnfinished, LeavesUnfinishedOr, LeavesOnly}
+use Rattle.nt_cuts.specs.Cuts.{LeavesUnfinished, LeavesUnfinishedOr, LeavesOnly}
 use Rattle.nt_store.specs.declared.error.StoreError.{StoreError}
 use Rattle.nt_store.specs.declared.error.StoreError.TheVariants.{Outside, Memory, Schema, Line, Limit}
 use Rattle.nt_store.specs.Orders.{order_line}

@@ -13,7 +13,7 @@ use Rattle.nt_layout.specs.Headers.{file_begun}
 use Rattle.nt_close.specs.Laws.{IsShut}
 use Rattle.nt_close.specs.Closing.{IsClosable}
 use Rattle.nt_close.specs.Spoiled.{NoneSpoiled}
-use Rattle.nt_crash.specs.Cuts.{LeavesUnfinished}
+use Rattle.nt_cuts.specs.Cuts.{LeavesUnfinished}
 use Rattle.nt_crash.specs.Fillings.{IsFilled}
 use Rattle.nt_dealing.specs.Dealt.{commit_order}
 use Rattle.nt_dealing.specs.Texts.{IsFirstBad}

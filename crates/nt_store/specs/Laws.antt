@@ -16,7 +16,7 @@ use Rattle.nt_container.specs.Spelling.{begun}
 use Rattle.nt_layout.specs.Headers.{header_blob}
 use Rattle.nt_layout.specs.Finished.{lists_behind, finished, tail, front}
 use Rattle.nt_close.specs.Steps.{closed_on, IsBegunSoFar, IsClosedSoFar}
-use Rattle.nt_crash.specs.Cuts.{LeavesUnfinished, LeavesUnfinishedOr, LeavesOnly}
+use Rattle.nt_cuts.specs.Cuts.{LeavesUnfinished, LeavesUnfinishedOr, LeavesOnly}
 use Rattle.nt_crash.specs.Fillings.{IsFilling, IsFilled}
 use Rattle.nt_close.specs.Beginning.{new_book}
 use Rattle.nt_close.specs.Passing.{passed_by_begin, passed_by_close}

@@ -7,7 +7,7 @@
 //! Words: a file is *filled* whose clusters are the chunks of its texts, and which can't pass for finished yet (`specs/Filling.antt`);
 //! it is *stored* that is whole, laid out within the limits for the chunks of its texts and means them (`specs/Whole.antt`);
 //! it is *left open* where it can't pass for finished (`specs/Worlds.antt`); what a crash *leaves* is nt_outside's, and what of that is
-//! *unfinished* nt_crash's (`specs/Crashes.antt`).
+//! *unfinished* nt_cuts's (`specs/Crashes.antt`).
 //!
 //! Proved: after `Ok` the file is stored, and out has the line of its order; a schema fault is the text's first one, a bad line the
 //! first of the lowest input, and a limit one that the chunks pass in whatever order they are committed; after these and after

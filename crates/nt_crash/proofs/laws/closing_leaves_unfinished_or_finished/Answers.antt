@@ -1,5 +1,10 @@
-use Rattle.nt_crash.proofs.Finishing.{closing-leaves, closed-leaves}
+use Rattle.nt_crash.proofs.Filling.{filling-shut}
+use Rattle.nt_crash.proofs.Finishing.{filled-known, closing-leaves, closed-leaves}
 use Rattle.nt_crash.proofs.laws.closing_leaves_unfinished_or_finished.Goals as goal
+
+pub returns-clause-filled : goal.returns-clause-filled
+returns-clause-filled c = λ t ranges log filled.
+    (filling-shut c.steps_stand.ensures.behind t log filled.filling, filled-known c.settled_ranges_are_known.ensures t ranges log filled)
 
 pub returns-clause-closing : goal.returns-clause-closing
 returns-clause-closing c = λ t book most ranges h left ranged filled closed.

@@ -11,9 +11,9 @@ use Rattle.nt_outside.specs.Reads.{IsKnown}
 use Rattle.nt_outside.specs.Crash.{Crash, no_crash, crash_after, crash_from, crash_of, MayLeave}
 use Rattle.nt_outside.proofs.Known.{known_once}
 use Rattle.nt_outside.proofs.Crashes.{left_by_sync, overwrites}
-use Rattle.nt_close.specs.Steps.{first_byte}
-use Rattle.nt_crash.specs.Cuts.{WritesFirst, ReadsButFirst}
-use Rattle.nt_crash.proofs.Orders.{Spared, spared-push, ZeroOr, Cut, cut-spared, cut-push}
+use Rattle.nt_cuts.specs.Cuts.{WritesFirst, ReadsButFirst}
+use Rattle.nt_cuts.specs.Shut.{StaysShut}
+use Rattle.nt_cuts.proofs.Orders.{shut-push, ZeroOr, Cut, cut-shut, cut-push}
 
 known_from-push : (known : List Known) (log : List Step) (s : Step)
     → known_from known (log ++ s ∷ []) ≡ after_step (known_from known log) s
@@ -104,25 +104,25 @@ module _ (log : List Step) where
 
   -- the first byte was written over, or that failed
   abbrev pub open_log : List Step
-  open_log = kept_log ++ Write 0 first_byte ∷ []
+  open_log = kept_log ++ Write 0 (0x72 ∷ []) ∷ []
 
   abbrev pub torn_log : List Step
-  torn_log = kept_log ++ FailedWrite 0 first_byte ∷ []
+  torn_log = kept_log ++ FailedWrite 0 (0x72 ∷ []) ∷ []
 
   -- and stays
   abbrev pub done_log : List Step
   done_log = open_log ++ Sync ∷ []
 
   open-writes : WritesFirst open_log
-  open-writes = record { before = kept_log; step = Write 0 first_byte; after = []; is = refl; over = refl; kept = (log, refl) }
+  open-writes = record { before = kept_log; step = Write 0 (0x72 ∷ []); after = []; is = refl; over = refl; kept = (log, refl) }
 
   torn-writes : WritesFirst torn_log
-  torn-writes = record { before = kept_log; step = FailedWrite 0 first_byte; after = []; is = refl; over = refl; kept = (log, refl) }
+  torn-writes = record { before = kept_log; step = FailedWrite 0 (0x72 ∷ []); after = []; is = refl; over = refl; kept = (log, refl) }
 
   done-writes : WritesFirst done_log
   done-writes =
-      let is : done_log ≡ kept_log ++ Write 0 first_byte ∷ Sync ∷ [] = append_assoc kept_log (Write 0 first_byte ∷ []) (Sync ∷ []) in
-      record { before = kept_log; step = Write 0 first_byte; after = Sync ∷ []; is = is; over = refl; kept = (log, refl) }
+      let is : done_log ≡ kept_log ++ Write 0 (0x72 ∷ []) ∷ Sync ∷ [] = append_assoc kept_log (Write 0 (0x72 ∷ []) ∷ []) (Sync ∷ []) in
+      record { before = kept_log; step = Write 0 (0x72 ∷ []); after = Sync ∷ []; is = is; over = refl; kept = (log, refl) }
 
   module _ (rest : List ℕ) (is : IsKnown log (0 ∷ rest)) where
     -- the finished file
@@ -143,22 +143,22 @@ module _ (log : List Step) where
     pub done : (bytes : List ℕ) → MayLeave (crash_of done_log) bytes → bytes ≡ 0x72 ∷ rest
     done bytes may =
         let known : IsKnown open_log (0x72 ∷ rest) =
-        known_of-push kept_log (Write 0 first_byte)
-        ∙ ap (λ (k : List Known). after_step k (Write 0 first_byte)) (known_of-push log Sync ∙ is) in
+        known_of-push kept_log (Write 0 (0x72 ∷ []))
+        ∙ ap (λ (k : List Known). after_step k (Write 0 (0x72 ∷ []))) (known_of-push log Sync ∙ is) in
         known_once open_log (0x72 ∷ rest) bytes known (left_by_sync open_log bytes may)
 
-    module _ (spared : Spared log) where
+    module _ (shut : StaysShut log) where
       kept-cut : Cut IsWhole kept_log
-      kept-cut = cut-spared IsWhole kept_log (spared-push log Sync spared tt)
+      kept-cut = cut-shut IsWhole kept_log (shut-push log Sync shut tt)
 
       pub torn-cut : Cut IsWhole torn_log
       torn-cut =
-          cut-push IsWhole kept_log (FailedWrite 0 first_byte) kept-cut
+          cut-push IsWhole kept_log (FailedWrite 0 (0x72 ∷ [])) kept-cut
           (λ bytes may. with-first torn_log torn-writes bytes (torn-left log 0x72 bytes may))
 
       pub open-cut : Cut IsWhole open_log
       open-cut =
-          cut-push IsWhole kept_log (Write 0 first_byte) kept-cut
+          cut-push IsWhole kept_log (Write 0 (0x72 ∷ [])) kept-cut
           (λ bytes may. with-first open_log open-writes bytes (written-left log 0x72 bytes may))
 
       pub done-cut : Cut IsWhole done_log

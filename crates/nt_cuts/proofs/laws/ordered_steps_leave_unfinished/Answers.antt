@@ -1,7 +1,7 @@
-use Rattle.nt_crash.proofs.Filling.{read-cut}
-use Rattle.nt_crash.proofs.Opening.{written-left, torn-left}
-use Rattle.nt_crash.proofs.Orders.{ordered}
-use Rattle.nt_crash.proofs.laws.ordered_steps_leave_unfinished.Goals as goal
+use Rattle.nt_cuts.proofs.Reading.{read-cut}
+use Rattle.nt_cuts.proofs.Opening.{written-left, torn-left}
+use Rattle.nt_cuts.proofs.Orders.{ordered}
+use Rattle.nt_cuts.proofs.laws.ordered_steps_leave_unfinished.Goals as goal
 
 pub returns-clause-order : goal.returns-clause-order
 returns-clause-order c = λ byte bytes log order. read-cut _ _ (ordered byte bytes log order)

@@ -5,8 +5,9 @@ use Rattle.std.specs.Prelude.{◌⊎◌}
 use Rattle.nt_outside.specs.Log.{Step, Write, FailedWrite, Append, FailedAppend, Reserve, Settle, Sync}
 use Rattle.nt_outside.specs.Order.{EndsInSync, MayFollow, MayAllFollow, FirstByteLast}
 use Rattle.nt_outside.specs.Crash.{crash_of, MayLeave, LeavesBehind}
-use Rattle.nt_crash.specs.Cuts.{IsOverFirst, WritesFirst, HasSync}
-use Rattle.nt_crash.proofs.Firsts.{SparesFirst, AllSpare, spared-zero}
+use Rattle.nt_cuts.specs.Cuts.{IsOverFirst, WritesFirst, HasSync}
+use Rattle.nt_cuts.specs.Shut.{SparesFirst, AllSpare, StaysShut}
+use Rattle.nt_cuts.proofs.Firsts.{spared-zero}
 
 no_sync : HasSync [] → ⊥
 no_sync has = at has.before has.is
@@ -24,32 +25,25 @@ all_spare-push : (log : List Step) (s : Step) → AllSpare log → SparesFirst s
 all_spare-push [] s spare spares = (spares, tt)
 all_spare-push (first ∷ log) s spare spares = (spare.0, all_spare-push log s spare.1 spares)
 
--- a log whose first bytes begin with 0, and which leaves that one as it is
-pub record Spared (log : List Step) : Type 0 where
-  pub rest : List ℕ
-  pub more : List Step
-  pub is : log ≡ Append (0 ∷ rest) ∷ more
-  pub spares : AllSpare more
-
-pub spared-push : (log : List Step) (s : Step) → Spared log → SparesFirst s → Spared (log ++ s ∷ [])
-spared-push log s spared spares = record {
-  rest = spared.rest;
-  more = spared.more ++ s ∷ [];
-  is = ap (λ (l : List Step). l ++ s ∷ []) spared.is;
-  spares = all_spare-push spared.more s spared.spares spares;
+pub shut-push : (log : List Step) (s : Step) → StaysShut log → SparesFirst s → StaysShut (log ++ s ∷ [])
+shut-push log s shut spares = record {
+  rest = shut.rest;
+  more = shut.more ++ s ∷ [];
+  is = ap (λ (l : List Step). l ++ s ∷ []) shut.is;
+  spares = all_spare-push shut.more s shut.spares spares;
 }
 
-spared-cut_at : (rest : List ℕ) (more : List Step) → AllSpare more → (k : ℕ) (bytes : List ℕ)
+shut-cut_at : (rest : List ℕ) (more : List Step) → AllSpare more → (k : ℕ) (bytes : List ℕ)
     → HasSync (take k (Append (0 ∷ rest) ∷ more)) → LeavesBehind (Append (0 ∷ rest) ∷ more) k bytes → get_or bytes 0 0 ≡ 0
-spared-cut_at rest more spares zero bytes has may = absurd (no_sync has)
-spared-cut_at rest more spares (suc k) bytes has may = spared-zero rest (take k more) (all_spare-take k more spares) has bytes may
+shut-cut_at rest more spares zero bytes has may = absurd (no_sync has)
+shut-cut_at rest more spares (suc k) bytes has may = spared-zero rest (take k more) (all_spare-take k more spares) has bytes may
 
 -- wherever it is cut off
-pub spared-cut : (log : List Step) → Spared log → (k : ℕ) (bytes : List ℕ) → HasSync (take k log) → LeavesBehind log k bytes
+pub shut-cut : (log : List Step) → StaysShut log → (k : ℕ) (bytes : List ℕ) → HasSync (take k log) → LeavesBehind log k bytes
     → get_or bytes 0 0 ≡ 0
-spared-cut log spared k bytes has may =
-    spared-cut_at spared.rest spared.more spared.spares k bytes
-    (subst (λ (l : List Step). HasSync (take k l)) spared.is has) (subst (λ (l : List Step). LeavesBehind l k bytes) spared.is may)
+shut-cut log shut k bytes has may =
+    shut-cut_at shut.rest shut.more shut.spares k bytes
+    (subst (λ (l : List Step). HasSync (take k l)) shut.is has) (subst (λ (l : List Step). LeavesBehind l k bytes) shut.is may)
 
 -- the first byte is 0, or there is none; or it was written over, and the file is whole
 abbrev pub ZeroOr : (List ℕ → Type 0) → List Step → List ℕ → Type 0
@@ -59,8 +53,8 @@ ZeroOr Whole log bytes = (get_or bytes 0 0 ≡ 0) ⊎ (WritesFirst log × Whole 
 abbrev pub Cut : (List ℕ → Type 0) → List Step → Type 0
 Cut Whole log = (k : ℕ) (bytes : List ℕ) → HasSync (take k log) → LeavesBehind log k bytes → ZeroOr Whole (take k log) bytes
 
-pub cut-spared : (Whole : List ℕ → Type 0) (log : List Step) → Spared log → Cut Whole log
-cut-spared Whole log spared k bytes has may = inl (spared-cut log spared k bytes has may)
+pub cut-shut : (Whole : List ℕ → Type 0) (log : List Step) → StaysShut log → Cut Whole log
+cut-shut Whole log shut k bytes has may = inl (shut-cut log shut k bytes has may)
 
 take-nil : (k : ℕ) → ◌≡◌ {A = List Step} (take k []) []
 take-nil zero = refl

@@ -1,4 +1,4 @@
--- What a crash leaves of a file that is being closed.
+-- What a crash leaves of a file that is being closed, by its parts.
 use Rattle.std.proofs.Common.{◌≡◌, ◌∙◌, ap, sym, subst, ℕ, suc, ◌+◌, List, [], ◌∷◌, ◌++◌, length, drop, map, arith, append_assoc}
 use Rattle.std.proofs.lemmas.List.{map-append, length-map}
 use Rattle.nt_lists.specs.Places.{put_at}
@@ -9,8 +9,9 @@ use Rattle.nt_outside.specs.Reads.{Known, exactly, IsKnown}
 use Rattle.nt_outside.specs.Crash.{crash_of, MayLeave}
 use Rattle.nt_close.specs.Steps.{first_byte, IsClosedSoFar, torn_tail, torn_front, not_kept_shut, torn_first, not_kept_open, closed_whole}
 use Rattle.nt_close.specs.Steps.{shut_on, closed_on}
-use Rattle.nt_crash.proofs.Opening.{known_of-push, done, torn-cut, open-cut, done-cut}
-use Rattle.nt_crash.proofs.Orders.{Spared, spared-push, Cut, cut-spared}
+use Rattle.nt_cuts.proofs.Opening.{known_of-push, done, torn-cut, open-cut, done-cut}
+use Rattle.nt_cuts.specs.Shut.{StaysShut}
+use Rattle.nt_cuts.proofs.Orders.{shut-push, Cut, cut-shut}
 
 put_over : {A : Type 0} (x : A) (old new rest : List A) → length old ≡ length new → put_at (x ∷ (old ++ rest)) 1 new ≡ x ∷ (new ++ rest)
 put_over {A = A} x old new rest same =
@@ -52,15 +53,15 @@ module _ (room body tail front : List ℕ) (h : Held) (same : length room ≡ le
   pub closed-only : (bytes : List ℕ) → MayLeave (crash_of (closed_on tail front h).log) bytes → IsClosedFile bytes
   closed-only bytes may = done shut_log rest known bytes may
 
-  module _ (spared : Spared h.log) where
-    grown-spared : Spared (h.log ++ Append tail ∷ [])
-    grown-spared = spared-push h.log (Append tail) spared tt
+  module _ (shut : StaysShut h.log) where
+    grown-shut : StaysShut (h.log ++ Append tail ∷ [])
+    grown-shut = shut-push h.log (Append tail) shut tt
 
-    shut-spared : Spared shut_log
-    shut-spared = spared-push (h.log ++ Append tail ∷ []) (Write 1 front) grown-spared (omega arith)
+    front-shut : StaysShut shut_log
+    front-shut = shut-push (h.log ++ Append tail ∷ []) (Write 1 front) grown-shut (omega arith)
 
-    spared-as : (log left : List Step) → left ≡ log → Spared log → Cut IsClosedFile left
-    spared-as log left e spares = subst (λ (l : List Step). Cut IsClosedFile l) (sym e) (cut-spared IsClosedFile log spares)
+    shut-as : (log left : List Step) → left ≡ log → StaysShut log → Cut IsClosedFile left
+    shut-as log left e stays = subst (λ (l : List Step). Cut IsClosedFile l) (sym e) (cut-shut IsClosedFile log stays)
 
     cut-as : (now left : Held) → left ≡ now → Cut IsClosedFile now.log → Cut IsClosedFile left.log
     cut-as now left e cut = subst (λ (x : Held). Cut IsClosedFile x.log) (sym e) cut
@@ -69,14 +70,14 @@ module _ (room body tail front : List ℕ) (h : Held) (same : length room ≡ le
     pub closed-cut : (left : Held) → IsClosedSoFar tail front h left → Cut IsClosedFile left.log
     closed-cut left (torn_tail torn) =
         let last = FailedAppend (length torn.junk) in
-        spared-as (h.log ++ last ∷ []) left.log torn.log (spared-push h.log last spared tt)
+        shut-as (h.log ++ last ∷ []) left.log torn.log (shut-push h.log last shut tt)
     closed-cut left (torn_front torn) =
         let grown = h.log ++ Append tail ∷ [] in
-        spared-as (grown ++ FailedWrite 1 front ∷ []) left.log torn.log
-        (spared-push grown (FailedWrite 1 front) grown-spared (omega arith))
-    closed-cut left (not_kept_shut e) = cut-as (shut_on tail front h) left e (cut-spared IsClosedFile shut_log shut-spared)
+        shut-as (grown ++ FailedWrite 1 front ∷ []) left.log torn.log
+        (shut-push grown (FailedWrite 1 front) grown-shut (omega arith))
+    closed-cut left (not_kept_shut e) = cut-as (shut_on tail front h) left e (cut-shut IsClosedFile shut_log front-shut)
     closed-cut left (torn_first torn) =
-        subst (λ (l : List Step). Cut IsClosedFile l) (sym torn.log) (torn-cut shut_log rest known shut-spared)
+        subst (λ (l : List Step). Cut IsClosedFile l) (sym torn.log) (torn-cut shut_log rest known front-shut)
     closed-cut left (not_kept_open e) =
-        cut-as (written 0 first_byte (synced (shut_on tail front h))) left e (open-cut shut_log rest known shut-spared)
-    closed-cut left (closed_whole e) = cut-as (closed_on tail front h) left e (done-cut shut_log rest known shut-spared)
+        cut-as (written 0 first_byte (synced (shut_on tail front h))) left e (open-cut shut_log rest known front-shut)
+    closed-cut left (closed_whole e) = cut-as (closed_on tail front h) left e (done-cut shut_log rest known front-shut)

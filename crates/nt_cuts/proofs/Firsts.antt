@@ -2,31 +2,17 @@
 use Rattle.std.proofs.Common.{◌≡◌, ap, sym, subst, refl, ℕ, zero, suc, ◌<◌, ◌==◌, Bool, true, false, List, [], ◌∷◌, ◌++◌, length, take}
 use Rattle.std.proofs.Common.{drop, map, get_or, arith, eqb-true}
 use Rattle.std.specs.Prelude.{◌||◌, IsTrue}
-use Rattle.std.specs.List.{AllByRecursion}
 use Rattle.nt_lists.specs.Places.{put_at}
 use Rattle.nt_lists.proofs.Bools.{and_first}
 use Rattle.nt_outside.specs.Log.{Step, Write, FailedWrite, Append, FailedAppend, Reserve, Settle, Sync}
 use Rattle.nt_outside.specs.Reads.{Known, exactly, unknown, torn, settled, after_step, all_allowed}
 use Rattle.nt_outside.specs.Crash.{Crash, no_crash, shaken, crash_after, crash_from, crash_of, MayLeave}
-use Rattle.nt_crash.specs.Cuts.{HasSync}
+use Rattle.nt_cuts.specs.Cuts.{HasSync}
+use Rattle.nt_cuts.specs.Shut.{SparesFirst, AllSpare}
 
 -- of the first byte it is known that it is 0
-abbrev IsShut : List Known → Type 0
+abbrev pub IsShut : List Known → Type 0
 IsShut known = (rest : List Known) × (known ≡ exactly 0 ∷ rest)
-
--- a step leaves the first byte of a file that has one as it is
-abbrev pub SparesFirst : Step → Type 0
-SparesFirst (Write at bytes) = 0 < at
-SparesFirst (FailedWrite at bytes) = 0 < at
-SparesFirst (Append bytes) = Unit {0}
-SparesFirst (FailedAppend len) = Unit {0}
-SparesFirst (Reserve start len) = Unit {0}
-SparesFirst (Settle start len bytes) = 0 < start
-SparesFirst Sync = Unit {0}
-
--- all of these do
-abbrev pub AllSpare : List Step → Type 0
-AllSpare log = AllByRecursion SparesFirst log
 
 put-zero : (rest items : List Known) (at : ℕ) → 0 < at → IsShut (put_at (exactly 0 ∷ rest) at items)
 put-zero rest items zero behind = absurd (omega arith)
@@ -39,7 +25,7 @@ put-shut known items at behind shut =
 append-shut : (known more : List Known) → IsShut known → IsShut (known ++ more)
 append-shut known more shut = (shut.0 ++ more, ap (λ (k : List Known). k ++ more) shut.1)
 
-told-shut : (known : List Known) (step : Step) → SparesFirst step → IsShut known → IsShut (after_step known step)
+pub told-shut : (known : List Known) (step : Step) → SparesFirst step → IsShut known → IsShut (after_step known step)
 told-shut known (Write at bytes) spares shut = put-shut known (map exactly bytes) at spares shut
 told-shut known (FailedWrite at bytes) spares shut = put-shut known (torn bytes (drop at known)) at spares shut
 told-shut known (Append bytes) spares shut = append-shut known (map exactly bytes) shut
