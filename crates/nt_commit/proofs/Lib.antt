@@ -3,6 +3,7 @@ mod Ending
 mod Following
 mod Handed
 mod Holding
+mod Leaving
 mod Owned
 mod Returning
 mod Short

@@ -2,11 +2,13 @@
 
 ghost use Rattle.std.specs.Prelude.{◌≡◌, ◌≤◌, [], IfOk, IfErr};
 ghost use Rattle.nt_turn.specs.Pass.{Closes, first_pass};
+ghost use Rattle.nt_commit.specs.Ending.{LeavesDisk};
 ghost use Rattle.nt_commit.specs.Holds.{IsFirstOf, HaveAllLeft};
 ghost use Rattle.nt_commit.specs.Locked.{IsInStep, IsNewBookOn, birth_of, birth_with, context_of, history_of_locked, locked_by};
 
 use crate::locked::Locked;
-use nt_book::Book;
+use nt_book::{Book, ClusterMeta};
+use nt_cuts::{histories_leave_logs_shut, shut_logs_leave_unfinished};
 use nt_outside::Disk;
 use nt_turn::{Logged, MOST_SEATS, Pass, Turn};
 use std::alloc::{AllocError, Global};
@@ -53,9 +55,8 @@ impl<D: Disk> Committer<D> {
         }
     }
 
-    /// Ends the committer, once the pass of each context was joined and no range is out. What stands
-    /// on the disk then, and in the book, is what one history makes of them.
-    pub fn finish(self, first: Pass<Locked<D>>) -> (D, Book)
+    /// Ends the turn, and gives what it locked.
+    fn finish_turn(self, first: Pass<Locked<D>>) -> (D, Book)
         requires first { IsFirstOf self first }
         requires left { HaveAllLeft first }
         ensures closes { Closes (history_of_locked D.state) birth_of context_of first (locked_by self.birth result.0 result.1) }
@@ -65,5 +66,20 @@ impl<D: Disk> Committer<D> {
         let CommitterOf { turn } = self;
         let locked = turn.close(first);
         locked.into_parts()
+    }
+
+    /// Ends the committer, once the pass of each context was joined and no range is out. What stands
+    /// on the disk then, and in the book, is what one history makes of them. Wherever a crash comes
+    /// before that, whatever the contexts did, the file is left unfinished.
+    pub fn finish(self, first: Pass<Locked<D>>) -> (D, Book)
+        requires first { IsFirstOf self first }
+        requires left { HaveAllLeft first }
+        ensures closes { Closes (history_of_locked D.state) birth_of context_of first (locked_by self.birth result.0 result.1) }
+        ensures in_step { IsInStep D.state (locked_by self.birth result.0 result.1) }
+        ensures disk { LeavesDisk D.state (locked_by self.birth result.0 result.1) }
+    {
+        histories_leave_logs_shut::<ClusterMeta>();
+        shut_logs_leave_unfinished();
+        self.finish_turn(first)
     }
 }

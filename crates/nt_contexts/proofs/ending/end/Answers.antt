@@ -29,6 +29,6 @@ returns g c =
       firsts = step.firsts;
       ungrouped = step.ungrouped;
       end = end-is state birth disk book first closes step;
-      out = c.finish-disk.ensures.out;
+      out = c.finish-disk.ensures.disk.out;
       short = short-is state birth disk book first closes step;
     }

@@ -1,9 +1,9 @@
-use Rattle.std.proofs.Common.{◌∙◌, ap}
-use Rattle.nt_commit.proofs.Ending.{nothing_out}
+use Rattle.nt_commit.proofs.Leaving.{crash-left}
 use Rattle.nt_commit.proofs.committer.Committer+D.finish.Goals as goal
 
-pub returns-clause-out : goal.returns-clause-out
-returns-clause-out g c =
-    ap (λ d. (g.D.Disk.state d).out) c.into_parts.ensures.parts.0
-    ∙ nothing_out g.D.Disk.state c.args.first c.close-locked.result c.close-locked.ensures c.requires.left.none_out
-    c.into_parts.ensures.in_step
+pub returns-clause-disk : goal.returns-clause-disk
+returns-clause-disk g c = record {
+  out = c.finish_turn.ensures.out;
+  crash = crash-left g.D.Disk.state g.met.D.Disk.told c.histories_leave_logs_shut.ensures c.shut_logs_leave_unfinished.ensures.leaves _
+      c.finish_turn.ensures.in_step;
+}
