@@ -1,5 +1,6 @@
 -- A cluster whose table is whole.
-use Rattle.std.proofs.Common.{◌≡◌, ℕ, zero, suc, ◌+◌, ◌<◌, ◌≤◌, List, [], ◌∷◌, length, take, drop, get_or, None, Some, refl, sym, ap, ◌∙◌, arith}
+use Rattle.std.proofs.Common.{◌≡◌, ℕ, zero, suc, ◌+◌, ◌<◌, ◌≤◌, List, [], ◌∷◌, length, take}
+use Rattle.std.proofs.Common.{drop, get_or, None, Some, refl, sym, ap, ◌∙◌, arith}
 use Rattle.std.proofs.Common.{if◌then◌else◌, Bool, true, false, All}
 use Rattle.std.proofs.lemmas.List.{take_all, take-take, drop-drop}
 use Rattle.nt_column.specs.Column.{Buffer}
@@ -34,7 +35,8 @@ pub apart-held : (store : List ℕ) (ps : List PagePlace) (zs : List ZeroColumn)
 apart-held store ps zs t listed laid i d lt =
     let k = (get_or zs i d).column in
     let front : take (length ps) ps ≡ ps = take_all (length ps) ps (omega arith) in
-    none-held store t.places.items t.sums.items (held_at t.columns.items k) (pages_with k (take (length ps) ps) (cut_up (take (length ps) ps) store))
+    none-held store t.places.items t.sums.items (held_at t.columns.items k)
+    (pages_with k (take (length ps) ps) (cut_up (take (length ps) ps) store))
     (pages-none k (take (length ps) ps) (cut_up (take (length ps) ps) store) (rw front (listed.apart i d lt))) (laid.held k)
 
 -- what is held where the pages are the same

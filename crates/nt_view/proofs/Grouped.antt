@@ -54,7 +54,8 @@ group-at ps i j at old new order within place are more =
     let first : length (take i ps) ≡ i = length-take-le i ps (omega (arith, order, within)) in
     let whole : length (take j ps) ≡ j = length-take-le j ps within in
     let size : length new ≡ length old + length group =
-    ap (λ (l : List PageAt). length l) more ∙ length-append old (laid_from 0 at group) ∙ ap (λ (n : ℕ). length old + n) (length-laid group 0 at) in
+    ap (λ (l : List PageAt). length l) more ∙ length-append old (laid_from 0 at group)
+    ∙ ap (λ (n : ℕ). length old + n) (length-laid group 0 at) in
     record {
       all = omega (arith, size, long, first, whole, are.all, order);
       at = λ m d lt. ⊎_elim
@@ -62,7 +63,8 @@ group-at ps i j at old new order within place are more =
           ap (λ (l : List PageAt). (get_or l m d).at) more
           ∙ ap (λ (p : PageAt). p.at) (get_or_append_left old (laid_from 0 at group) d m (omega (arith, low, are.all, first)))
           ∙ are.at m d (omega (arith, low, first))
-          ∙ ap (λ (l : List PagePlace). lens_of l) (take-take m i ps (omega (arith, low)) ∙ sym (take-take m j ps (omega (arith, low, order)))))
+          ∙ ap (λ (l : List PagePlace). lens_of l) (take-take m i ps (omega (arith, low))
+          ∙ sym (take-take m j ps (omega (arith, low, order)))))
           (λ high.
           let n : ℕ = m - i in
           let split : length old + n ≡ m = omega (arith, high, are.all, first) in
@@ -105,7 +107,8 @@ group-laid store ps i j at d old filled new g place laid places sums same len ga
     }
 
 -- the next group's column isn't in the table yet
-pub group-behind : (store : List ℕ) (ps : List PagePlace) (i j at : ℕ) (d : PagePlace) (filled new : Table) → AreLoadable ps [] → IsPageGroup ps i j
+pub group-behind : (store : List ℕ) (ps : List PagePlace) (i j at : ℕ) (d : PagePlace) (filled new : Table) → AreLoadable ps []
+    → IsPageGroup ps i j
     → length filled.columns.items ≡ (get_or ps i d).column → GainsColumn store (slice_range ps i j) at filled new
     → j < length ps → length new.columns.items ≤ (get_or ps j d).column
 group-behind store ps i j at d filled new listed g len gain lt =

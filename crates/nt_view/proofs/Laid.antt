@@ -1,5 +1,6 @@
 -- A column whose pages are laid into the table.
-use Rattle.std.proofs.Common.{◌≡◌, ℕ, zero, suc, ◌+◌, ◌-◌, ◌<◌, ◌≤◌, Bool, true, false, List, [], ◌∷◌, ◌++◌, length, map, take, drop, get_or}
+use Rattle.std.proofs.Common.{◌≡◌, ℕ, zero, suc, ◌+◌, ◌-◌, ◌<◌, ◌≤◌, Bool, true, false, List}
+use Rattle.std.proofs.Common.{[], ◌∷◌, ◌++◌, length, map, take, drop, get_or}
 use Rattle.std.proofs.Common.{if◌then◌else◌, Some, refl, sym, ap, ◌∙◌, arith}
 use Rattle.std.specs.List.{slice_range}
 use Rattle.std.proofs.lemmas.List.{append_assoc, length-append, take_all, take_more, drop_at}
@@ -41,7 +42,8 @@ laid-push (q ∷ ps) p first at =
     let sum : elements_counted (q ∷ ps) ≡ q.count + elements_counted ps = sum_by-cons (λ (x : PagePlace). x.count) q ps in
     ap (λ (l : List PageAt). head ∷ l) (laid-push ps p (first + q.count) (at + loaded_len q)
     ∙ ap (λ (x : PageAt). laid_from (first + q.count) (at + loaded_len q) ps ++ x ∷ [])
-    (same-place (first + q.count + elements_counted ps) (first + elements_counted (q ∷ ps)) (at + loaded_len q + lens_of ps) (at + lens_of (q ∷ ps)) p.count
+    (same-place (first + q.count + elements_counted ps) (first + elements_counted (q ∷ ps))
+    (at + loaded_len q + lens_of ps) (at + lens_of (q ∷ ps)) p.count
     (omega (arith, sum)) (omega arith)))
 
 pub places-more : (old now pushed : List PageAt) (ps : List PagePlace) (i at first here : ℕ) → i < length ps
@@ -149,5 +151,6 @@ sums-are store ps at kind old new buffer s h is more place column split = record
     last (b ∷ bs) zero e d = absurd (omega (arith, e))
     last (b ∷ bs) (suc n) e d = last bs n (omega (arith, e)) d
 
-pub lens-taken : (ps : List PagePlace) (i : ℕ) → i < length ps → lens_of (take (i + 1) ps) ≡ lens_of (take i ps) + loaded_len (get_or ps i no_page)
+pub lens-taken : (ps : List PagePlace) (i : ℕ) → i < length ps → lens_of (take (i + 1) ps)
+    ≡ lens_of (take i ps) + loaded_len (get_or ps i no_page)
 lens-taken ps i lt = sym (count-taken ps i no_page (lens_of (take i ps)) _ lt refl refl)

@@ -6,3 +6,5 @@ pub mod Laid
 pub mod Grouped
 pub mod Zeroed
 pub mod Assembled
+pub mod Places
+pub mod Elements

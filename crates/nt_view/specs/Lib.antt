@@ -5,3 +5,4 @@ pub mod Loads
 pub mod Stores
 pub mod Pages
 pub mod Table
+pub mod Searching

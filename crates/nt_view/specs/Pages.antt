@@ -1,7 +1,9 @@
 -- Pages of a column whose bytes lie in one store.
-use Rattle.std.specs.Prelude.{ℕ, ◌≡◌, ◌+◌, ◌<◌, ◌≤◌, List, length, take, drop, slice_index_or}
-use Rattle.std.specs.List.{All, flat_map, sum_by}
+use Rattle.std.specs.Prelude.{ℕ, ◌≡◌, ◌⊎◌, ◌+◌, ◌<◌, ◌≤◌, List, length, take, drop, slice_index_or}
+use Rattle.std.specs.List.{All, Contains, flat_map, sum_by}
 use Rattle.nt_types.specs.declared.column_type.ColumnType.{ColumnType}
+use Rattle.nt_types.specs.ColumnTable.{bits_of}
+use Rattle.nt_encode.specs.Parts.{StandsAlone}
 use Rattle.nt_encode.specs.Pages.{page_size}
 use Rattle.nt_encode.specs.Elements.{Element, page_elements}
 use Rattle.nt_view.specs.declared.place.PageAt.{PageAt}
@@ -30,3 +32,28 @@ Follow ps = (j : ℕ) (d : PageAt) → j < length ps → (slice_index_or ps j d)
 pub record ArePages (kind : ColumnType) (store : List ℕ) (ps : List PageAt) : Type 0 where
   pub lie : All (λ (p : PageAt). p.at + page_size kind p.count ≤ length store) ps
   pub follow : Follow ps
+
+-- such pages, of a type whose values stand each for itself
+pub record AreOwnPages (kind : ColumnType) (store : List ℕ) (ps : List PageAt) : Type 0 where
+  pub pages : ArePages kind store ps
+  pub alone : StandsAlone kind
+
+-- such pages, of a type of 8 bits
+pub record AreBytePages (kind : ColumnType) (store : List ℕ) (ps : List PageAt) : Type 0 where
+  pub own : AreOwnPages kind store ps
+  pub width : bits_of kind ≡ 8
+
+-- pages have the elements from one place to before another
+pub record HaveRange (ps : List PageAt) (from to : ℕ) : Type 0 where
+  pub order : from ≤ to
+  pub within : to ≤ count_of ps
+
+-- element i stands in page j
+pub record IsIn (ps : List PageAt) (j i : ℕ) : Type 0 where
+  pub there : j < length ps
+  pub from : (d : PageAt) → (slice_index_or ps j d).first ≤ i
+  pub before : (d : PageAt) → i < (slice_index_or ps j d).first + (slice_index_or ps j d).count
+
+-- the elements from one place to before another lie in one page, or there are none
+abbrev pub LieInOne : List PageAt → ℕ → ℕ → Type 0
+LieInOne ps from to = (from ≡ to) ⊎ ((p : PageAt) × Contains ps p × (p.first ≤ from) × (to ≤ p.first + p.count))

@@ -20,10 +20,12 @@ returns-then-not-is_split_index-clause-gains c =
       held = Pages kind c.len-begin.result c.len-end.result c.in_ok-count.count;
       columns = c.in_ok-push.ensures.items;
       is =
-          pages-lie c.args.store.now c.args.pages.now c.args.at kind c.args.table.now.places.items c.lay_pages.new.places.items c.len-begin.result
+          pages-lie c.args.store.now c.args.pages.now c.args.at kind c.args.table.now.places.items c.lay_pages.new.places.items
+          c.len-begin.result
           c.len-end.result c.in_ok-count.count c.requires refl c.in_ok-count.ensures.places
           (omega (arith, c.len-begin.ensures, c.args.table.now.places.ok.0)) (omega (arith, c.len-end.ensures, c.lay_pages.new.places.ok.0))
-          c.in_ok-count.ensures.count.0 (λ split. absurd (false≢true (sym c.if-not-is_split_index.true ∙ c.is_split_index.ensures.1 split)));
+          c.in_ok-count.ensures.count.0
+          (λ split. absurd (false≢true (sym c.if-not-is_split_index.true ∙ c.is_split_index.ensures.1 split)));
       none = refl;
     }
 

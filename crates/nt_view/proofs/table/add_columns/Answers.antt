@@ -14,16 +14,24 @@ pub loop-i-preserved : goal.loop-i-preserved
 loop-i-preserved c =
     let inv = c.loop-i.invariant in
     let g = c.group_end-end.ensures in
-    let filled : Table = record { places = c.loop-i.table.places; columns = c.fill_up.new.columns; sums = c.loop-i.table.sums; spare = c.loop-i.table.spare } in
+    let t = c.loop-i.table in
+    let filled : Table = record { places = t.places; columns = c.fill_up.new.columns; sums = t.sums; spare = t.spare } in
     let len : length filled.columns.items ≡ (get_or c.args.pages.now c.loop-i.i no_page).column =
     c.in_ok-fill_up.ensures.len (inv.next no_page c.loop-i-test.true) in
     record {
       within = g.within;
-      place = omega (arith, c.in_ok-at.ensures.end, inv.place, lens-slice c.args.pages.now c.loop-i.i c.group_end-end.result (omega (arith, g.some)));
+      place = omega (
+        arith,
+        c.in_ok-at.ensures.end,
+        inv.place,
+        lens-slice c.args.pages.now c.loop-i.i c.group_end-end.result
+            (omega (arith, g.some)),
+      );
       laid =
           group-laid c.args.store.now c.args.pages.now c.loop-i.i c.group_end-end.result c.loop-i.at no_page c.loop-i.table filled
           c.add_column.new.table g inv.place inv.laid refl refl c.in_ok-fill_up.ensures.same len c.in_ok-at.ensures.gains;
       next = λ d lt. rw (get_or_default c.args.pages.now c.group_end-end.result d no_page lt)
-          (group-behind c.args.store.now c.args.pages.now c.loop-i.i c.group_end-end.result c.loop-i.at no_page filled c.add_column.new.table
+          (group-behind c.args.store.now c.args.pages.now c.loop-i.i c.group_end-end.result c.loop-i.at no_page filled
+          c.add_column.new.table
           c.requires.listed g len c.in_ok-at.ensures.gains lt);
     }

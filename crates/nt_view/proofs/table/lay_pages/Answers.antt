@@ -22,7 +22,8 @@ loop-page-preserved c =
     let lt = c.loop-page-test.true in
     record {
       places =
-          places-more c.args.places.now.items c.loop-page.places.items c.push.new.self.items ps i c.args.at c.loop-page.first c.loop-page.here lt
+          places-more c.args.places.now.items c.loop-page.places.items c.push.new.self.items ps i c.args.at c.loop-page.first
+          c.loop-page.here lt
           inv.places inv.first inv.here c.in_ok-push.ensures.items;
       first = omega (arith, c.in-Some.ensures, c.from.ensures, inv.first, counted-more ps i lt);
       here = omega (arith, inv.here, c.stored_len.ensures.len, lens-taken ps i lt);

@@ -12,7 +12,8 @@ loop-zero-preserved c =
     let there : z.column < length c.fill_up.new.columns.items = omega (arith, c.in_ok-fill_up.ensures.enough) in
     record {
       zero = λ k.
-          zero-step zs i k d c.loop-zero.columns.items c.fill_up.new.columns.items c.loop-zero-test.true (c.in_ok-fill_up.ensures.same k) there
+          zero-step zs i k d c.loop-zero.columns.items c.fill_up.new.columns.items c.loop-zero-test.true
+          (c.in_ok-fill_up.ensures.same k) there
           (c.loop-zero.invariant.zero k);
       pages = λ k.
           pages-step k z.column z.count c.args.columns.now.items c.loop-zero.columns.items c.fill_up.new.columns.items

@@ -28,7 +28,8 @@ returns c d =
     let store = c.self.inside.store.items in
     let places = c.self.inside.table.places.items in
     let lt : c.args.i < length ps = omega (arith, c.requires, ap (λ (l : Loaded). length l.pages) c.self.view_is) in
-    let size : p.size ≡ (get_or ps c.args.i d).size = ap (λ (x : PagePlace). x.size) (c.index-2.ensures ∙ get_or_default ps c.args.i p d lt) in
+    let size : p.size ≡ (get_or ps c.args.i d).size =
+    ap (λ (x : PagePlace). x.size) (c.index-2.ensures ∙ get_or_default ps c.args.i p d lt) in
     let at : e.at ≡ (get_or places c.args.i e).at = ap (λ (x : PageAt). x.at) c.index.ensures in
     c.part_of.ensures ∙ ap (λ (l : List ℕ). take p.size (drop e.at l)) c.deref.ensures.value
     ∙ ap (λ (n : ℕ). take n (drop e.at store)) size
