@@ -1,10 +1,13 @@
 -- The file of a writer that was closed.
 use Rattle.std.proofs.Common.{◌≡◌, ◌∙◌, ap, sym, refl, subst, ℕ, zero, suc, ◌<◌, ◌≤◌, inl, inr, Bool, true, false, List, [], ◌∷◌}
-use Rattle.std.proofs.Common.{length, Option, Some, None, arith}
-use Rattle.std.specs.Prelude.{slice_index_or, Ok, Err, nat_lt, if◌then◌else◌}
+use Rattle.std.proofs.Common.{length, take, Option, Some, None, arith}
+use Rattle.std.specs.Prelude.{◌⊎◌, slice_index_or, Ok, Err, nat_lt, if◌then◌else◌}
 use Rattle.std.specs.List.{AllByRecursion}
 use Rattle.std.proofs.lemmas.Bool.Decides.{nat_tests}
 use Rattle.nt_types.specs.TreeData.{TreesData}
+use Rattle.nt_num.specs.Codes.{unfinished}
+use Rattle.nt_num.specs.Faults.{fault}
+use Rattle.nt_outside.specs.Log.{Step}
 use Rattle.nt_outside.specs.Held.{Held}
 use Rattle.nt_outside.specs.Disk.{DiskState}
 use Rattle.nt_outside.specs.Order.{FirstByteLast}
@@ -16,12 +19,15 @@ use Rattle.nt_book.specs.declared.limits.Limits.{Limits}
 use Rattle.nt_book.specs.declared.limits.LimitError.{LimitError}
 use Rattle.nt_book.specs.Books.{book_clusters, no_cluster}
 use Rattle.nt_book.specs.Kept.{IsBookKept}
+use Rattle.nt_file_meaning.specs.Files.{HasDefect}
 use Rattle.nt_pagelists.specs.Blobs.{blob_len}
 use Rattle.nt_layout.specs.Headers.{header_object, clusters_place}
 use Rattle.nt_layout.specs.Finished.{lists_behind, finished, tail, front}
 use Rattle.nt_close.specs.declared.error.CloseError.{CloseError}
 use Rattle.nt_close.specs.declared.error.CloseError.TheVariants.{Spoiled, Memory, RangeTooLarge, FileTooLarge, Fault}
+use Rattle.nt_cuts.specs.Cuts.{WritesFirst, LeavesUnfinished, LeavesUnfinishedOr}
 use Rattle.nt_close.specs.Closing.{HasCloseCause, LeavesClosed, AreRangesOf}
+use Rattle.nt_close.specs.Crashes.{LeavesByAnswer}
 use Rattle.nt_close.specs.Passing.{first_passed, passed_by_begin, passed_by_close, measures_of}
 use Rattle.nt_close.specs.Spoiled.{IsUnspoiled}
 use Rattle.nt_close.specs.Steps.{closed_on, IsClosedSoFar, closed_whole}
@@ -33,6 +39,7 @@ use Rattle.nt_finished.proofs.Staged.{all_behind, laid-staged, ranges-by_number}
 use Rattle.nt_finished.specs.LateFiles.{AreLateBlobs}
 use Rattle.nt_finished.proofs.LaidLate.{lens-late}
 use Rattle.nt_seq.specs.Closing.{IsFileOf, IsShutOrWhole}
+use Rattle.nt_seq.specs.Crashes.{IsClosedBy, AppendsLeave}
 use Rattle.nt_seq.specs.Standing.{IsSettledCluster, IsWriting}
 use Rattle.nt_seq.specs.Writer.{SeqState}
 use Rattle.nt_seq.specs.Written.{HasWritten, file_so_far, IsUnclosed}
@@ -131,32 +138,69 @@ module _ {D : Type 0} (state : D → DiskState) (w : SeqState D) (is : IsWriting
   abbrev IsLeft : DiskState → (Held → Type 0) → Type 0
   IsLeft new P = (left : Held) × (new.held ≡ Some left) × FirstByteLast left.log × P left
 
-  stays-open : (new : DiskState) → new.held ≡ (state w.disk).held → IsLeft new (λ left. IsShutOrWhole state w left.image)
-  stays-open new same = (h, same ∙ held, order-unclosed h unclosed, inl (shut-unclosed h unclosed))
+  -- the file of the clusters, if it was closed
+  abbrev IsWhole : List ℕ → Type 0
+  IsWhole = IsFileOf state w
 
-  pub left-open : (new : DiskState) (e : CloseError) → LeavesClosed behind before (state w.disk) new (Err e)
-      → HasCloseCause w.book (passed_by_close w.params w.table w.book) (Err e) → IsLeft new (λ left. IsShutOrWhole state w left.image)
-  left-open new (Spoiled cluster faults) left cause = stays-open new left.place.held
-  left-open new Memory left cause = stays-open new left.place.held
-  left-open new (RangeTooLarge len most) left cause = stays-open new left.place.held
-  left-open new (FileTooLarge end most) left cause = stays-open new left.place.held
-  left-open new Fault left cause =
-      let cut = left.held h held in
-      let shown = closes_shut behind before h cut.0 (shut-unclosed h unclosed) cut.2 in (
-        cut.0,
-        cut.1,
-        in-order cut.0 cut.2,
+  abbrev IsClosedFile : List ℕ → Type 0
+  IsClosedFile = IsClosedBy w.table is.ranges behind before
+
+  turn : passed_by_close w.params w.table w.book ≡ None → (bytes : List ℕ) → IsClosedFile bytes → IsWhole bytes
+  turn passed bytes same = subst IsWhole (sym same) (whole passed)
+
+  -- what a crash leaves of it
+  turned : (log : List Step) → ((bytes : List ℕ) → IsClosedFile bytes → IsWhole bytes) → LeavesUnfinishedOr IsClosedFile log
+      → LeavesUnfinishedOr IsWhole log
+  turned log into leaves k bytes has may = at (leaves k bytes has may)
+    where
+      at : HasDefect bytes (fault unfinished 0) ⊎ (WritesFirst (take k log) × IsClosedFile bytes)
+          → HasDefect bytes (fault unfinished 0) ⊎ (WritesFirst (take k log) × IsWhole bytes)
+      at (inl none) = inl none
+      at (inr closed) = inr (closed.0, into bytes closed.1)
+
+  abbrev LeftOpen : CloseError → Held → Type 0
+  LeftOpen e left = IsShutOrWhole state w left.image × LeavesByAnswer IsWhole left.log (Err e)
+
+  module _ (leave : AppendsLeave) where
+    stays-open : (new : DiskState) → new.held ≡ (state w.disk).held
+        → IsLeft new (λ left. IsShutOrWhole state w left.image × LeavesUnfinished left.log)
+    stays-open new same =
+        (h, same ∙ held, order-unclosed h unclosed, (inl (shut-unclosed h unclosed), leave.unclosed h unclosed))
+
+    pub left-open : (new : DiskState) (e : CloseError) → LeavesClosed behind before (state w.disk) new (Err e)
+        → HasCloseCause w.book (passed_by_close w.params w.table w.book) (Err e) → IsLeft new (LeftOpen e)
+    left-open new (Spoiled cluster faults) left cause = stays-open new left.place.held
+    left-open new Memory left cause = stays-open new left.place.held
+    left-open new (RangeTooLarge len most) left cause = stays-open new left.place.held
+    left-open new (FileTooLarge end most) left cause = stays-open new left.place.held
+    left-open new Fault left cause =
+        let cut = left.held h held in
+        let shown = closes_shut behind before h cut.0 (shut-unclosed h unclosed) cut.2 in
+        let image : IsShutOrWhole state w cut.0.image =
         elim shown as (λ _. IsShutOrWhole state w cut.0.image) [
           | inl shut ↦ inl shut
           | inr same ↦ inr (subst (λ (file : List ℕ). IsFileOf state w file) (sym same) (whole cause.1))
-        ],
-      )
+        ] in (
+          cut.0,
+          cut.1,
+          in-order cut.0 cut.2,
+          (image, turned cut.0.log (turn cause.1) (leave.closing w.table is.ranges behind before cut.0 cut.2)),
+        )
 
-  pub left-whole : (new : DiskState) → LeavesClosed behind before (state w.disk) new (Ok tt)
-      → HasCloseCause w.book (passed_by_close w.params w.table w.book) (Ok tt) → IsLeft new (λ left. IsFileOf state w left.image)
-  left-whole new left cause = (
-    closed_on behind before h,
-    left.held h held,
-    in-order (closed_on behind before h) (closed_whole refl),
-    whole cause.1,
-  )
+    pub left-whole : (new : DiskState) → LeavesClosed behind before (state w.disk) new (Ok tt)
+        → HasCloseCause w.book (passed_by_close w.params w.table w.book) (Ok tt)
+        → IsLeft new (λ left. IsFileOf state w left.image × LeavesByAnswer IsWhole left.log (Ok tt))
+    left-whole new left cause =
+        let log = (closed_on behind before h).log in (
+          closed_on behind before h,
+          left.held h held,
+          in-order (closed_on behind before h) (closed_whole refl),
+          (
+            whole cause.1,
+            (
+              turned log (turn cause.1)
+                  (leave.closing w.table is.ranges behind before (closed_on behind before h) (closed_whole refl)),
+              λ bytes may. turn cause.1 bytes (leave.closed w.table is.ranges behind before bytes may),
+            ),
+          ),
+        )

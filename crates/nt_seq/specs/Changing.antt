@@ -3,6 +3,7 @@ use Rattle.std.specs.Prelude.{◌≡◌, ◌≤◌, false, true, List, [], ◌�
 use Rattle.nt_types.specs.ShapeData.{MemberData}
 use Rattle.nt_types.specs.TreeData.{TreesData}
 use Rattle.nt_outside.specs.Faults.{Rose}
+use Rattle.nt_outside.specs.Held.{BecomesSome}
 use Rattle.nt_outside.specs.Disk.{DiskState}
 use Rattle.nt_grammar.specs.Added.{Added}
 use Rattle.nt_schema.specs.Extending.{refused}
@@ -16,6 +17,7 @@ use Rattle.nt_layout.specs.Laid.{Gives}
 use Rattle.nt_commit.specs.declared.error.CommitError.{CommitError}
 use Rattle.nt_commit.specs.declared.error.CommitError.TheVariants.{Fault}
 use Rattle.nt_commit.specs.Claims.{limit_answered}
+use Rattle.nt_cuts.specs.Cuts.{LeavesUnfinished}
 use Rattle.nt_close.specs.Beginning.{IsBegun, IsUntouched}
 use Rattle.nt_finished.specs.LeftOut.{filled}
 use Rattle.nt_seq.specs.Writer.{SeqState, gathered_by}
@@ -55,6 +57,11 @@ module _ {D : Type 0} (state : D → DiskState) where
   pub record RefusesNext (old new : SeqState D) (result : Result Unit CommitError) : Type 0 where
     pub kept : (e : CommitError) → result ≡ Err e → e ≢ Fault → StaysAsItWas old new
     pub fault : IsErrOf result Fault → FailsToAppend old new
+
+  -- what is left of a writer in any case: refused, it stays as it was; and a crash at any step so far leaves what isn't finished
+  pub record LeavesNext (old new : SeqState D) (result : Result Unit CommitError) : Type 0 where
+    pub refused : RefusesNext old new result
+    pub crash : BecomesSome (state new.given).held (state new.disk).held (λ h h'. LeavesUnfinished h'.log)
 
   -- a field was added behind all entries, which have its zero
   pub record GainsField (field : MemberData) (old new : SeqState D) : Type 0 where

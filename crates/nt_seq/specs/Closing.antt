@@ -13,6 +13,7 @@ use Rattle.nt_layout.specs.Finished.{lists_behind, tail, front}
 use Rattle.nt_layout.specs.Laid.{IsLaid}
 use Rattle.nt_close.specs.declared.error.CloseError.{CloseError}
 use Rattle.nt_close.specs.Closing.{HasCloseCause, LeavesClosed}
+use Rattle.nt_close.specs.Crashes.{LeavesByAnswer}
 use Rattle.nt_close.specs.Laws.{IsShut}
 use Rattle.nt_close.specs.Passing.{passed_by_close, measures_of}
 use Rattle.nt_close.specs.Spoiled.{NoneSpoiled}
@@ -60,8 +61,10 @@ module _ {D : Type 0} (state : D → DiskState) (w : SeqState D) where
   abbrev pub IsShutOrWhole : List ℕ → Type 0
   IsShutOrWhole image = IsShut image ⊎ IsFileOf image
 
-  -- what a close leaves of a file: after Ok it is whole; and in any case its steps are in order
+  -- what a close leaves of a file: after Ok it is whole; in any case its steps are in order, and a crash at any of them leaves what isn't
+  -- finished, or, once the first byte was written over, the whole file, and behind all steps of Ok only that
   pub record LeavesFile (left : Held) (result : Result (ℕ × ℕ) CloseError) : Type 0 where
     pub order : FirstByteLast left.log
     pub whole : OnOk result (IsFileOf left.image)
     pub shut : OnErr result (IsShutOrWhole left.image)
+    pub crash : LeavesByAnswer IsFileOf left.log (done_of result)

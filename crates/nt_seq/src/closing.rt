@@ -5,6 +5,7 @@ ghost use Rattle.nt_outside.specs.Held.{BecomesSome};
 ghost use Rattle.nt_seq.specs.Writer.{IsClear};
 ghost use Rattle.nt_seq.specs.Closing.{AnswersClosing, EndsFile, AreCounts, LeavesFile};
 
+use crate::crashing::crashes_leave_closed_or_unfinished;
 use crate::writer::SeqWriter;
 use nt_close::{CloseError, close};
 use nt_outside::Disk;
@@ -34,6 +35,7 @@ impl<D: Disk> SeqWriter<D> {
             direct: _,
         } = self;
         drop(given);
+        crashes_leave_closed_or_unfinished();
         book.keeps();
         match close(alloc, &mut disk, &book, &schema, &params) {
             Ok(()) => (disk, Ok((book.clusters(), book.entries()))),

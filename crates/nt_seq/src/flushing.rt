@@ -9,9 +9,10 @@ ghost use Rattle.nt_pages.specs.Image.{image};
 ghost use Rattle.nt_pages.specs.Metas.{cluster_meta};
 ghost use Rattle.nt_trees.specs.Described.{AreDescribed};
 ghost use Rattle.nt_seq.specs.Writer.{gathered_by};
-ghost use Rattle.nt_seq.specs.Changing.{WritesNext, RefusesNext, NamesPassed};
+ghost use Rattle.nt_seq.specs.Changing.{WritesNext, RefusesNext, LeavesNext, NamesPassed};
 
 use crate::appending::append_image;
+use crate::crashing::crashes_leave_closed_or_unfinished;
 use crate::writer::SeqWriter;
 use nt_column::ColumnSet;
 use nt_commit::CommitError;
@@ -44,9 +45,8 @@ fn image_in(
 }
 
 impl<D: Disk> SeqWriter<D> {
-    /// Writes all gathered entries as the next cluster, in one step of the disk. With nothing gathered
-    /// it does nothing. All memory is taken, and all limits are tested, before that step.
-    pub fn flush(&mut self) -> Result<(), CommitError>
+    /// Does what `flush` does.
+    fn write_next(&mut self) -> Result<(), CommitError>
         requires alive { self.old.alive ≡ true }
         ensures nothing { gathered_by self.old ≡ [] → (result ≡ Ok tt) × (self.new ≡ self.old) }
         ensures ok { 0 < length (gathered_by self.old)
@@ -73,5 +73,23 @@ impl<D: Disk> SeqWriter<D> {
         self.columns.clear();
         self.entries = 0;
         Ok(())
+    }
+
+    /// Writes all gathered entries as the next cluster, in one step of the disk. With nothing gathered
+    /// it does nothing. All memory is taken, and all limits are tested, before that step. Whatever
+    /// came of it, the file isn't closed yet: a crash at any step so far leaves it unfinished.
+    pub fn flush(&mut self) -> Result<(), CommitError>
+        requires alive { self.old.alive ≡ true }
+        ensures nothing { gathered_by self.old ≡ [] → (result ≡ Ok tt) × (self.new ≡ self.old) }
+        ensures ok { 0 < length (gathered_by self.old)
+            → OnOk result (WritesNext D.state self.old self.new) }
+        ensures limits { 0 < length (gathered_by self.old) → result ≢ Err Memory
+            → NamesPassed self.old result }
+        ensures left { LeavesNext D.state self.old self.new result }
+    {
+        crashes_leave_closed_or_unfinished();
+        let answer = self.write_next();
+        self.keeps();
+        answer
     }
 }

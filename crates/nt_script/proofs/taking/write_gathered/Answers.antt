@@ -15,7 +15,8 @@ returns-in-Err-clause-done g c segments es taken =
     let writing = c.keeps.ensures.writer.writing c.requires.alive in
     subst (λ (e : ScriptError). WritesGathered g.D.Disk.state segments es c.args.writer.now c.flush.new.self (Err e)) (sym c.from.ensures)
     (gathered_refused g.D.Disk.state segments es c.args.writer.now c.flush.new.self c.in-Err.error c.requires.few c.keeps.ensures.book
-    writing.closable.ungrouped writing.closable.begin taken c.in-Err.ensures.nothing c.in-Err.ensures.limits c.in-Err.ensures.refused.fault)
+    writing.closable.ungrouped writing.closable.begin taken c.in-Err.ensures.nothing c.in-Err.ensures.limits
+    c.in-Err.ensures.left.refused.fault)
 
 pub returns-in-Ok-clause-flushed : goal.returns-in-Ok-clause-flushed
 returns-in-Ok-clause-flushed g c =
@@ -28,4 +29,4 @@ returns-in-Ok-clause-given g c =
 
 pub returns-in-Err-clause-given : goal.returns-in-Err-clause-given
 returns-in-Err-clause-given g c =
-    given_refused g.D.Disk.state c.args.writer.now c.flush.new.self c.in-Err.error c.in-Err.ensures.refused
+    given_refused g.D.Disk.state c.args.writer.now c.flush.new.self c.in-Err.error c.in-Err.ensures.left.refused

@@ -18,8 +18,9 @@ returns-in-Ok-clause-file g c =
     let was = c.self.invariant.writing alive in
     rw (← c.self.view_is) (λ h told.
     let left = left-whole g.D.Disk.state _ was c.keeps.ensures (λ k held. (g.met.D.Disk.told c.self.inside.disk k held).1) h told
+    c.crashes_leave_closed_or_unfinished.ensures
     (g.D.Disk.state c.close.new.disk) c.in-Ok.ensures.left c.in-Ok.ensures.cause in
-    (left.0, left.1, record { order = left.2; whole = left.3; shut = tt }))
+    (left.0, left.1, record { order = left.2; whole = left.3.0; shut = tt; crash = left.3.1 }))
 
 pub returns-clause-cause : goal.returns-clause-cause
 returns-clause-cause g c =
@@ -36,5 +37,6 @@ returns-clause-file g c =
     let was = c.self.invariant.writing alive in
     rw (← c.self.view_is) (λ h told.
     let left = left-open g.D.Disk.state _ was c.keeps.ensures (λ k held. (g.met.D.Disk.told c.self.inside.disk k held).1) h told
+    c.crashes_leave_closed_or_unfinished.ensures
     (g.D.Disk.state c.close.new.disk) c.in-Err.error c.in-Err.ensures.left c.in-Err.ensures.cause in
-    (left.0, left.1, record { order = left.2; whole = tt; shut = left.3 }))
+    (left.0, left.1, record { order = left.2; whole = tt; shut = left.3.0; crash = left.3.1 }))

@@ -1,0 +1,137 @@
+use Rattle.std.proofs.Common.{◌≡◌, ◌∙◌, ap, sym, refl, subst, true, Bool, List, [], length, arith}
+use Rattle.std.specs.Prelude.{Err}
+use Rattle.std.proofs.lemmas.Result.{err_from_is_err_and}
+use Rattle.nt_commit.specs.declared.error.CommitError.{CommitError}
+use Rattle.nt_column.specs.Column.{Column, columns_of}
+use Rattle.nt_layout.specs.Laid.{Gives}
+use Rattle.nt_fill.proofs.Emptied.{emptied_gives}
+use Rattle.nt_fill.proofs.Entries.{entries_count}
+use Rattle.nt_seq.specs.Writer.{gathered_by}
+use Rattle.nt_seq.proofs.Flushed.{image-fits, meta-gathered, clusters-more, writing-more, unclosed-more}
+use Rattle.nt_seq.proofs.Refused.{writing-alive, after-error, clusters-kept, stays}
+use Rattle.nt_seq.proofs.writer.SeqWriter.write_next.Goals as goal
+
+pub append_image-requires : goal.append_image-requires
+append_image-requires g c =
+    let alive = subst (λ s. s.alive ≡ true) (sym c.self.view_is) c.requires.alive in
+    let was = c.self.invariant.writing alive in
+    record {
+      image_is = image-fits g.D.Disk.state _ was c.in_ok-image.image c.in_ok-image.ensures.bytes c.in_ok-image.ensures.meta
+          (c.columns_have_types.ensures c.self.inside.schema);
+      ungrouped = was.closable.ungrouped;
+      end = was.closable.end;
+    }
+
+pub invariant_of-self-in_err-append_image : goal.invariant_of-self-in_err-append_image
+invariant_of-self-in_err-append_image g c =
+    let alive = subst (λ s. s.alive ≡ true) (sym c.self.view_is) c.requires.alive in
+    let told = c.in_err-append_image.ensures in
+    let e = c.in_err-append_image.field-0.0 in
+    after-error g.D.Disk.state _ (c.self.invariant.writing alive) c.append_image.new.disk c.append_image.new.book
+    c.append_image.new.alive c.in_ok-image.image.meta.len e (λ apart. told.kept e refl apart) (λ same.
+    told.fault (ap (λ (x : CommitError). Err x) same))
+
+pub invariant_of-self-2 : goal.invariant_of-self-2
+invariant_of-self-2 g c =
+    let alive = subst (λ s. s.alive ≡ true) (sym c.self.view_is) c.requires.alive in
+    let was = c.self.invariant.writing alive in
+    let i = c.in_ok-image.image in
+    let made = c.in_ok-image.ensures in
+    let state = g.D.Disk.state in
+    let meta = meta-gathered state _ was i made.bytes made.meta in
+    let appends = c.in_ok-append_image.ensures.ok.0 in
+    let t = c.self.inside.schema in
+    let empty = subst (λ (cs : List Column). Gives t cs []) (sym c.clear.ensures)
+    (emptied_gives t (columns_of c.self.inside.columns) was.gives.set.described) in
+    let fits = c.in_ok-append_image.ensures.limits (λ same. cc same) in
+    let disk = c.append_image.new.disk in
+    let next = c.append_image.new.book in
+    let cleared = columns_of c.clear.new.self in
+    record {
+      unclosed = unclosed-more state _ disk next cleared i was made.bytes meta fits appends empty;
+      writing = λ _. writing-alive state _ c.append_image.new.alive
+          (writing-more state _ disk next cleared i was made.bytes meta fits appends empty);
+    }
+
+pub returns-clause-nothing : goal.returns-clause-nothing
+returns-clause-nothing g c = λ none.
+    let gathered = subst (λ s. gathered_by s ≡ []) (sym c.self.view_is) none in
+    let zero = sym (entries_count c.self.inside.schema (columns_of c.self.inside.columns) c.self.inside.entries) ∙ ap length gathered in
+    absurd (omega (arith, zero, c.if-self-eq0.false))
+
+pub returns-clause-ok : goal.returns-clause-ok
+returns-clause-ok g c = λ some.
+    let alive = subst (λ s. s.alive ≡ true) (sym c.self.view_is) c.requires.alive in
+    let was = c.self.invariant.writing alive in
+    let i = c.in_ok-image.image in
+    let made = c.in_ok-image.ensures in
+    let state = g.D.Disk.state in
+    let meta = meta-gathered state _ was i made.bytes made.meta in
+    let inside = c.self.inside in
+    let appends = c.in_ok-append_image.ensures.ok.0 in
+    rw (← c.self.view_is) (record {
+      written = clusters-more (state inside.given.value) (state inside.disk) (state c.append_image.new.disk) inside.schema
+          inside.params.page inside.book c.append_image.new.book (columns_of inside.columns) _ i was.gives made.bytes meta was.begun
+          appends;
+      none = refl;
+      later = appends.later;
+      now = ap (λ (a : Bool). record {
+        given = inside.given.value;
+        disk = c.append_image.new.disk;
+        book = c.append_image.new.book;
+        table = inside.schema;
+        params = inside.params;
+        columns = columns_of c.clear.new.self;
+        entries = 0;
+        alive = a;
+      }) c.in_ok-append_image.ensures.ok.1;
+    })
+
+pub returns-in_err-image-clause-refused : goal.returns-in_err-image-clause-refused
+returns-in_err-image-clause-refused g c =
+    let p = err_from_is_err_and c.from_residual.result c.from_residual.ensures.1 in
+    record {
+      kept = λ e is apart. rw (← c.self.view_is) (stays g.D.Disk.state _);
+      fault = λ is. absurd (cc (p.1, p.2, is, c.in_err-image.ensures.err));
+    }
+
+pub returns-in_err-append_image-clause-refused : goal.returns-in_err-append_image-clause-refused
+returns-in_err-append_image-clause-refused g c =
+    let p = err_from_is_err_and c.from_residual-in_err-append_image.result c.from_residual-in_err-append_image.ensures.1 in
+    let told = c.in_err-append_image.ensures in
+    let inside = c.self.inside in
+    record {
+      kept = λ e is apart.
+          let left = told.kept e (cc (p.1, p.2, is)) apart in
+          rw (← c.self.view_is) (record {
+            untouched = left.0.untouched;
+            book = left.0.book_is;
+            written = clusters-kept (g.D.Disk.state inside.given.value) (g.D.Disk.state inside.disk)
+                (g.D.Disk.state c.append_image.new.disk) inside.schema inside.params.page inside.book c.append_image.new.book left.0;
+            now = ap (λ (a : Bool). record {
+              given = inside.given.value;
+              disk = c.append_image.new.disk;
+              book = c.append_image.new.book;
+              table = inside.schema;
+              params = inside.params;
+              columns = columns_of inside.columns;
+              entries = inside.entries;
+              alive = a;
+            }) left.1;
+          });
+      fault = λ is.
+          let left = told.fault (cc (p.1, p.2, is)) in
+          rw (← c.self.view_is) (record {
+            rose = left.0.rose;
+            now = ap (λ (a : Bool). record {
+              given = inside.given.value;
+              disk = c.append_image.new.disk;
+              book = c.append_image.new.book;
+              table = inside.schema;
+              params = inside.params;
+              columns = columns_of inside.columns;
+              entries = inside.entries;
+              alive = a;
+            }) left.1;
+          });
+    }
