@@ -44,7 +44,10 @@ pub fn needs_threads(words: &[String]) -> bool
 }
 
 /// The command of these words, the first of which is that of a command that starts threads; None where they are wrong.
-pub fn parallel_of<'a>(alloc: Global, words: &'a [String]) -> Result<Option<Parallel<'a>>, AllocError>
+pub fn parallel_of<'a>(
+    alloc: Global,
+    words: &'a [String],
+) -> Result<Option<Parallel<'a>>, AllocError>
     requires { NeedsThreads (texts words.now) }
     ensures { IfOk result (SaysParallel (texts words.entry.now)) }
 {

@@ -29,7 +29,10 @@ fn gen_command<'a>(alloc: Global) -> Result<clap::Command<'a>, AllocError>
 }
 
 /// The command of words that begin with `gen`.
-pub(crate) fn gen_of<'a>(alloc: Global, words: &'a [String]) -> Result<Option<Parallel<'a>>, AllocError>
+pub(crate) fn gen_of<'a>(
+    alloc: Global,
+    words: &'a [String],
+) -> Result<Option<Parallel<'a>>, AllocError>
     requires { Begins (texts words.now) (codes "gen") }
     ensures { IfOk result (SaysParallel (texts words.entry.now)) }
 {

@@ -22,7 +22,9 @@ mod seq;
 mod show;
 mod write;
 
-pub use command::{Alone, Parallel, alone_of, needs_threads, parallel_of, wrong_words_are_no_command};
+pub use command::{
+    Alone, Parallel, alone_of, needs_threads, parallel_of, wrong_words_are_no_command,
+};
 pub use generate::GenWords;
 pub use seq::SeqWords;
 pub use write::WriteWords;

@@ -31,7 +31,10 @@ fn seq_command<'a>(alloc: Global) -> Result<clap::Command<'a>, AllocError>
 }
 
 /// The command of words that begin with `seq`.
-pub(crate) fn seq_of<'a>(alloc: Global, words: &'a [String]) -> Result<Option<Alone<'a>>, AllocError>
+pub(crate) fn seq_of<'a>(
+    alloc: Global,
+    words: &'a [String],
+) -> Result<Option<Alone<'a>>, AllocError>
     requires { Begins (texts words.now) (codes "seq") }
     ensures { IfOk result (SaysAlone (texts words.entry.now)) }
 {

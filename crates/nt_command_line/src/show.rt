@@ -26,7 +26,10 @@ fn schema_command<'a>(alloc: Global) -> Result<clap::Command<'a>, AllocError>
 }
 
 /// The command of words that begin with `entries`.
-pub(crate) fn entries_of<'a>(alloc: Global, words: &'a [String]) -> Result<Option<Alone<'a>>, AllocError>
+pub(crate) fn entries_of<'a>(
+    alloc: Global,
+    words: &'a [String],
+) -> Result<Option<Alone<'a>>, AllocError>
     requires { Begins (texts words.now) (codes "entries") }
     ensures { IfOk result (SaysAlone (texts words.entry.now)) }
 {
@@ -41,7 +44,10 @@ pub(crate) fn entries_of<'a>(alloc: Global, words: &'a [String]) -> Result<Optio
 }
 
 /// The command of words that begin with `schema`.
-pub(crate) fn schema_of<'a>(alloc: Global, words: &'a [String]) -> Result<Option<Alone<'a>>, AllocError>
+pub(crate) fn schema_of<'a>(
+    alloc: Global,
+    words: &'a [String],
+) -> Result<Option<Alone<'a>>, AllocError>
     requires { Begins (texts words.now) (codes "schema") }
     ensures { IfOk result (SaysAlone (texts words.entry.now)) }
 {

@@ -49,7 +49,10 @@ fn are_apart(out: &str, schema: &str, inputs: &[&str]) -> bool
 }
 
 /// The command of words that begin with `write`.
-pub(crate) fn write_of<'a>(alloc: Global, words: &'a [String]) -> Result<Option<Parallel<'a>>, AllocError>
+pub(crate) fn write_of<'a>(
+    alloc: Global,
+    words: &'a [String],
+) -> Result<Option<Parallel<'a>>, AllocError>
     requires { Begins (texts words.now) (codes "write") }
     ensures { IfOk result (SaysParallel (texts words.entry.now)) }
 {

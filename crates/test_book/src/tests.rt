@@ -4,7 +4,9 @@ ghost use Rattle.std.specs.Prelude.{◌≡◌, ◌+◌, ◌≤◌, ◌∷◌, []
 ghost use Rattle.nt_book.specs.Books.{book_clusters};
 ghost use Rattle.nt_book.specs.Pages.{IsPaged};
 
-use nt_book::{Book, ClusterMeta, LimitError, Limits, ListPlace, PageList, PageLists, PageMeta, RangeState};
+use nt_book::{
+    Book, ClusterMeta, LimitError, Limits, ListPlace, PageList, PageLists, PageMeta, RangeState,
+};
 use std::alloc::{AllocError, Global};
 use std::test::Fail;
 
