@@ -29,9 +29,7 @@ SHARED = set("state_of".split())
 # Names that two crates define and that are still to be changed: each that is mended goes from this list.
 KNOWN_TWICE = set(
     """
-    Follows Gains Gathers GrowsBy IsDone IsFresh IsIdle IsOut
-    IsRun IsStep IsWritten Takes TakesLine Writes chunks_of cluster_of
-    entries_of spans_of untold
+    Follows Gains Gathers GrowsBy IsFresh IsRun IsStep Takes TakesLine Writes
     """.split()
 )
 

@@ -13,7 +13,7 @@ use Rattle.nt_machine.specs.declared.entry.Entry.{Entry}
 use Rattle.nt_machine.specs.declared.entry.EntryKind.{EntryKind}
 use Rattle.nt_machine.specs.declared.entry.EntryKind.TheVariants as entry
 use Rattle.nt_machine.specs.Faults.{HasRisen, HasFaults, faults_after, FaultsRise}
-use Rattle.nt_machine.specs.History.{Fate, Out, Settled, Spoiled, Cluster, mine_of, ranges_of, IsWritten}
+use Rattle.nt_machine.specs.History.{Fate, Out, Settled, Spoiled, Cluster, mine_of, ranges_of, IsSettledWith}
 use Rattle.nt_machine.specs.Legal.{end_after}
 use Rattle.nt_machine.specs.Untold.{untold, untold_fate}
 use Rattle.nt_machine.proofs.Dealing.{deals}
@@ -64,7 +64,7 @@ untold-unspoiled (Spoiled faults) bytes is = cc
 
 none-spoiled : {C : Type 0} (IsBlobOf : C → ℕ → Option (List ℕ) → ClusterMeta
     → Type 0) (dealt : List C) (cs ds : List (Cluster ClusterMeta))
-    → AllZip (IsWritten IsBlobOf) dealt cs → map untold cs ≡ map untold ds → (k : ℕ) → k < length ds
+    → AllZip (IsSettledWith IsBlobOf) dealt cs → map untold cs ≡ map untold ds → (k : ℕ) → k < length ds
     → IsUnspoiled (slice_index_or ds k no_cluster).state
 none-spoiled IsBlobOf dealt cs [] h is k less = absurd (omega arith)
 none-spoiled IsBlobOf dealt [] (d ∷ ds) h is k less = cc

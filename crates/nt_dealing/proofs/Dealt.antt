@@ -11,7 +11,7 @@ use Rattle.nt_outside.proofs.Known.{known_once}
 use Rattle.nt_turn.specs.Pass.{PassState, Closes}
 use Rattle.nt_machine.specs.declared.entry.Entry.{Entry}
 use Rattle.nt_machine.specs.Deal.{Uses, IsDeal}
-use Rattle.nt_machine.specs.History.{Fate, Settled, Cluster, order_of, ranges_of, IsWritten}
+use Rattle.nt_machine.specs.History.{Fate, Settled, Cluster, order_of, ranges_of, IsSettledWith}
 use Rattle.nt_machine.specs.Legal.{IsLegal, end_after}
 use Rattle.nt_machine.specs.Untold.{untold}
 use Rattle.nt_machine.proofs.Dealing.{deals}
@@ -42,7 +42,8 @@ module _ (begun : Option Held) (t : Table) (page : ℕ) where
   told_by h bytes blob state is filled told =
       filled ∙ ap (λ (b : Option (List ℕ)). Settled b) (told ∙ ap (λ (o : Option Held). bytes_where_told o (Some blob)) is)
 
-  blobs_of : (dealt : List (List TreesData)) (cs ds : List (Cluster ClusterMeta)) → AllZip (IsWritten (IsChunkBlob begun t page)) dealt cs
+  blobs_of : (dealt : List (List TreesData)) (cs ds : List (Cluster ClusterMeta))
+    → AllZip (IsSettledWith (IsChunkBlob begun t page)) dealt cs
       → map untold cs ≡ map untold ds → Blobs dealt cs ds
   blobs_of [] [] [] h is = record { ranges = []; are = none_left; states = λ held e. tt }
   blobs_of [] [] (d ∷ ds) h is = cc

@@ -23,7 +23,7 @@ use Rattle.nt_pagelists.specs.declared.group.Group.{Group}
 use Rattle.nt_pagelists.specs.FooterWriting.{group_text, group_texts, extension_text, footer_text}
 use Rattle.nt_pagelists.specs.Blobs.{blob_len}
 use Rattle.nt_layout.specs.Headers.{header_sum, clusters_place}
-use Rattle.nt_pagelists.specs.Objects.{ClusterSpan, cluster_span, spans_of, list_len}
+use Rattle.nt_pagelists.specs.Objects.{ClusterSpan, cluster_span, group_spans, list_len}
 use Rattle.nt_layout.specs.Groups.{PlacedList, places_beside, places_behind, list_group}
 use Rattle.nt_layout.specs.Finished.{spans, list_places, groups, footer_object, footer_place, anchor_start, file_len}
 use Rattle.nt_layout.specs.Laid.{IsBookOf}
@@ -55,7 +55,7 @@ length-group_texts : (gs : List Group) → length (group_texts gs) ≡ record_le
 length-group_texts gs = length-flat_map group_text gs
     ∙ (sum_by-each (λ (g : Group). length (group_text g)) (λ (g : Group). record_len 40) gs length-group ∙ sum_by-same (record_len 40) gs)
 
-length-spans_of : (most n : ℕ) → length (spans_of most n) ≡ div_ceil n most
+length-spans_of : (most n : ℕ) → length (group_spans most n) ≡ div_ceil n most
 length-spans_of most n = length-map-range_with_len (cluster_span most n) 0 (div_ceil n most)
 
 -- the footer

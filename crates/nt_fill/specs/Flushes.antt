@@ -5,7 +5,7 @@ use Rattle.nt_grammar.specs.Table.{Table}
 use Rattle.nt_outside.specs.Held.{Held}
 use Rattle.nt_outside.specs.Disk.{DiskState}
 use Rattle.nt_machine.specs.declared.entry.Entry.{Entry}
-use Rattle.nt_machine.specs.History.{WrittenChunk, entries_of}
+use Rattle.nt_machine.specs.History.{WrittenChunk, entries_of_chunk}
 use Rattle.nt_book.specs.declared.meta.ClusterMeta.{ClusterMeta}
 use Rattle.nt_column.specs.Column.{Column}
 use Rattle.nt_pages.specs.Image.{image}
@@ -57,7 +57,7 @@ module _ {D P : Type 0} where
       pub context : written.meta.context ≡ old.pass.number
       pub blob : IsWrittenAs (state old.committer.birth.begun).held old.table old.page (gathered old) written.start
           written.bytes written.meta
-      pub gains : Gains (entries_of old.pass.number written) old.pass new.pass
+      pub gains : Gains (entries_of_chunk old.pass.number written) old.pass new.pass
       pub alive : IsSome new.pen
       pub now : new ≡ record old { pass = new.pass; pen = new.pen; columns = new.columns; entries = 0 }
 

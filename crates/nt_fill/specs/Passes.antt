@@ -8,7 +8,7 @@ use Rattle.nt_outside.specs.Range.{ExtState, PenState}
 use Rattle.nt_outside.specs.Disk.{DiskState}
 use Rattle.nt_container.specs.Spelling.{blob_key}
 use Rattle.nt_machine.specs.declared.entry.Entry.{Entry}
-use Rattle.nt_machine.specs.History.{WrittenChunk, entries_of, ranges_of}
+use Rattle.nt_machine.specs.History.{WrittenChunk, entries_of_chunk, ranges_of}
 use Rattle.nt_machine.specs.Legal.{end_after}
 use Rattle.nt_book.specs.declared.limits.LimitError.{LimitError}
 use Rattle.nt_book.specs.declared.meta.ClusterMeta.{ClusterMeta}
@@ -97,4 +97,4 @@ module _ {D : Type 0} where
       pub len : written.len ≡ image.meta.len
       pub bytes : written.bytes ≡ bytes_where_told (state committer.birth.begun).held
           (Some (blob_key (length image.bytes - key_room) written.start ++ drop key_room image.bytes))
-      pub gains : Gains (entries_of old.number written) old new
+      pub gains : Gains (entries_of_chunk old.number written) old new

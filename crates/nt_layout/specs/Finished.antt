@@ -18,13 +18,13 @@ use Rattle.nt_pagelists.specs.FooterWriting.{footer_text}
 use Rattle.nt_pagelists.specs.Blobs.{blob, blob_len, object_place}
 use Rattle.nt_lists.specs.Parts.{Part, part_bytes}
 use Rattle.nt_layout.specs.Headers.{header_object, header_sum, header_blob}
-use Rattle.nt_pagelists.specs.Objects.{ClusterSpan, spans_of, list_len}
+use Rattle.nt_pagelists.specs.Objects.{ClusterSpan, group_spans, list_len}
 use Rattle.nt_layout.specs.Groups.{PlacedList, places_beside, places_behind, list_part, list_parts}
 use Rattle.nt_layout.specs.Groups.{list_groups}
 
 -- the groups of a book's clusters, at most so many clusters each
 abbrev pub spans : BookData → ℕ → List ClusterSpan
-spans book most = spans_of most (length (book_clusters book))
+spans book most = group_spans most (length (book_clusters book))
 
 -- where the page lists of a book stand: behind all ranges where its clusters are staged, else each behind its last cluster
 abbrev pub list_places : Bool → Table → BookData → ℕ → List PlacedList

@@ -8,7 +8,7 @@ use Rattle.nt_machine.specs.History.{Fate, Cluster}
 use Rattle.nt_machine.specs.History as history
 use Rattle.nt_machine.specs.Legal.{ranges_end}
 use Rattle.nt_machine.specs.Machine.{Mark, Out, Settled, Spoiled, ChunkRange, MachineState, ContextStep, Reserve, Write, WriteFail, Settle}
-use Rattle.nt_machine.specs.Machine.{mark_of, chunks_of}
+use Rattle.nt_machine.specs.Machine.{mark_of, chunk_count}
 
 -- how the machine marks what became of a range
 abbrev pub mark_of_fate : Fate → Mark
@@ -52,7 +52,7 @@ module _ {M : Type 0} where
   -- who commits has not ended, and commits the blob of the next chunk, if one is left; who settles has written, who spoils failed to
   abbrev pub IsNextOf : {C : Type 0} → List (List C) → (ℕ → ℕ → ℕ → List ℕ) → MachineState → ℕ → EntryKind M → Type 0
   IsNextOf chunks blob s i (entry.Committed n start len meta) =
-      ((s.contexts i).ended ≡ false) × ((s.contexts i).published ≡ false) × ((s.contexts i).reserved < chunks_of false chunks i)
+      ((s.contexts i).ended ≡ false) × ((s.contexts i).published ≡ false) × ((s.contexts i).reserved < chunk_count false chunks i)
       × (length (blob i (s.contexts i).reserved start) ≡ len)
   IsNextOf chunks blob s i (entry.Settled n bytes) = IsHandedBackAs s n Settled
   IsNextOf chunks blob s i (entry.Spoiled n faults) = IsHandedBackAs s n Spoiled

@@ -8,7 +8,7 @@ ghost use Rattle.nt_machine.specs.Deal.{Uses, IsGrouped};
 ghost use Rattle.nt_machine.specs.Example.{example_blob, example_chunks, example_steps, example_history, example_ranges};
 ghost use Rattle.nt_machine.specs.Entering.{HasRanges, IsNextOf, IsHandedBackAs, IsWriteInto, steps_of_entry};
 ghost use Rattle.nt_machine.specs.Faults.{HasRisen, HasFaults, FaultsRise};
-ghost use Rattle.nt_machine.specs.History.{Settled, Spoiled, Cluster, WrittenChunk, entries_of, mine_of, ranges_of, clusters_of, order_of, after_entry, IsIdle, Wrote, AreDealt};
+ghost use Rattle.nt_machine.specs.History.{Settled, Spoiled, Cluster, WrittenChunk, entries_of_chunk, mine_of, ranges_of, clusters_of, order_of, after_entry, IsIdle, Wrote, AreDealt};
 ghost use Rattle.nt_machine.specs.Legal.{IsLegal, IsAllowed, IsOut, spans_of, ranges_end, end_after};
 ghost use Rattle.nt_machine.specs.Machine.{ContextStep, MachineState, Out, IsRun, IsRunFrom, IsInOrder, IsNamedDeal, AreTrue, state_after, after_context_step, contexts_of, range_spans, chunk_names};
 ghost use Rattle.nt_machine.specs.Spans.{IsDisjoint};
@@ -79,7 +79,7 @@ pub fn chunks_are_dealt<C, M, B: Blobs<C, M>>()
 pub fn contexts_write_on<C, M, B: Blobs<C, M>>()
     ensures { (i : ℕ) (chunks : List C) (entries : List (Entry M)) (chunk : C) (w : WrittenChunk M)
         → Wrote B.is_blob i chunks entries → B.is_blob chunk w.start w.bytes w.meta
-        → Wrote B.is_blob i (chunks ++ chunk ∷ []) (entries ++ entries_of i w) }
+        → Wrote B.is_blob i (chunks ++ chunk ∷ []) (entries ++ entries_of_chunk i w) }
 {}
 
 /// The ranges of a legal history lie apart, from its beginning to its end.

@@ -22,8 +22,8 @@ abbrev pub cluster_span : ℕ → ℕ → ℕ → ClusterSpan
 cluster_span most clusters i = record { from = i * most; count = min most (clusters - i * most) }
 
 -- the groups of so many clusters, of which each has at most so many
-abbrev pub spans_of : ℕ → ℕ → List ClusterSpan
-spans_of most clusters = map (cluster_span most clusters) (range_with_len 0 (div_ceil clusters most))
+abbrev pub group_spans : ℕ → ℕ → List ClusterSpan
+group_spans most clusters = map (cluster_span most clusters) (range_with_len 0 (div_ceil clusters most))
 
 -- the page list of these clusters of a book, under the header of this checksum
 unfoldable pub list_object : ℕ → BookData → ClusterSpan → List ℕ

@@ -52,9 +52,9 @@ disk_state end out faults = record {
 }
 
 -- it tells nothing of what it holds
-pub untold : (end : ℕ) (out : List Range) (faults : ℕ) (h : Held) → (disk_state end out faults).held ≡ Some h
+pub tells_nothing : (end : ℕ) (out : List Range) (faults : ℕ) (h : Held) → (disk_state end out faults).held ≡ Some h
     → (end ≡ length h.image) × Reads h.log h.image
-untold end out faults h is = cc
+tells_nothing end out faults h is = cc
 
 -- a host knows what it was asked for, and counts what is out and its faults, those of prints on err apart
 abbrev pub state_of : RealHost → HostState

@@ -1,6 +1,6 @@
 //! A file of the system that is written.
 
-ghost use Rattle.nt_tool.specs.Real.{disk_state, untold};
+ghost use Rattle.nt_tool.specs.Real.{disk_state, tells_nothing};
 
 use crate::faults::Faults;
 use crate::named::Named;
@@ -31,7 +31,7 @@ impl<F: FileExt + OpenFile> Disk for RealDisk<F> {
 
     ghost state = { λ d. disk_state d.end d.out.items d.faults.count };
 
-    ghost told = { λ d h is. untold d.end d.out.items d.faults.count h is };
+    ghost told = { λ d h is. tells_nothing d.end d.out.items d.faults.count h is };
 
     fn end(&self) -> u64 {
         self.end

@@ -15,7 +15,7 @@ use Rattle.nt_turn.specs.declared.view.View.{View}
 use Rattle.nt_turn.specs.Tickets.{IsHome, Ordered}
 use Rattle.nt_turn.specs.History.{entries_of, HasNone}
 use Rattle.nt_turn.specs.View.{IsAt, stages}
-use Rattle.nt_turn.specs.Steps.{IsIdle}
+use Rattle.nt_turn.specs.Steps.{HoldsNothing}
 use Rattle.nt_turn.specs.Pass.{AllJoined, Closes, pass_state}
 use Rattle.atomic_table.specs.Seated.{TableId}
 use Rattle.nt_turn.specs.Rule.{Histories}
@@ -83,7 +83,7 @@ module _ {V E B : Type 0} (history : V → List E) (born : V → B) (context : E
 
 module _ {V E B : Type 0} (history : V → List E) (born : V → B) (context : E → ℕ) (birth : B) (seats : ℕ) where
   -- the value that lies in the closed table
-  pub found : (id : ℕ) (turn : TableId) (me : Me (Option V) (View E B)) (words : List ℕ) (slots : List (Option V)) → IsIdle me
+  pub found : (id : ℕ) (turn : TableId) (me : Me (Option V) (View E B)) (words : List ℕ) (slots : List (Option V)) → HoldsNothing me
       → me.0.number ≡ seats → AllJoined (pass_state turn me.0)
       → Final (Seen (Rule history born context birth seats) id me.0) words slots → (y : Option V) → get_elem? slots 0
       ≡ some y → (x : V) × (y ≡ Some x) × Closes history born context (pass_state turn me.0) x

@@ -19,7 +19,7 @@ use Rattle.nt_turn.specs.declared.view.View.{View}
 use Rattle.nt_turn.specs.Tickets.{ticket_of, IsHome, Ordered}
 use Rattle.nt_turn.specs.History.{entries_of, longer}
 use Rattle.nt_turn.specs.View.{spent, split_off, after_split, joined, IsAt, stages}
-use Rattle.nt_turn.specs.Steps.{Drew, Looked, Holds, Gave, Learned, IsIdle, IsWaiting, IsHolding}
+use Rattle.nt_turn.specs.Steps.{Drew, Looked, Holds, Gave, Learned, HoldsNothing, IsWaiting, IsHolding}
 use Rattle.nt_turn.specs.Pass.{Adds, pass_state}
 use Rattle.atomic_table.specs.Seated.{TableId}
 use Rattle.nt_turn.specs.Rule.{Knows, Histories, InTurn}
@@ -260,7 +260,7 @@ module _ {V E B : Type 0} (history : V → List E) (born : V → B) (context : E
             off (there, hers),
       )
 
-  pub me_draws : (slots id old : ℕ) (me : Me (Option V) (View E B)) → IsIdle me → old + 1 < 2 ^ 64
+  pub me_draws : (slots id old : ℕ) (me : Me (Option V) (View E B)) → HoldsNothing me → old + 1 < 2 ^ 64
       → Allows Rule slots id me 0 (λ n. either (n == old) (old + 1) n) (Drew (step slots 0 old (old + 1) none) me)
   me_draws slots id old me idle room =
       subst (λ (m : Me (Option V) (View E B)). Allows Rule slots id m 0 (λ n. either (n == old) (old + 1) n)
@@ -273,7 +273,7 @@ module _ {V E B : Type 0} (history : V → List E) (born : V → B) (context : E
       subst (λ (m : Me (Option V) (View E B)). Allows Rule slots id m 1 (λ n. n) (Looked history born context (step slots 1 0 0 none) m))
       (ap (λ (l : List (ℕ × Option V)). (me.0, l)) (sym waits.none)) (looks slots id t me.0 waits.live waits.stage)
 
-  pub me_learns : (slots id : ℕ) (me : Me (Option V) (View E B)) → IsIdle me
+  pub me_learns : (slots id : ℕ) (me : Me (Option V) (View E B)) → HoldsNothing me
       → Allows Rule slots id me 1 (λ n. n) (Learned (step slots 1 0 0 none) me)
   me_learns slots id me idle =
       subst (λ (m : Me (Option V) (View E B)). Allows Rule slots id m 1 (λ n. n) (Learned (step slots 1 0 0 none) m))
@@ -291,19 +291,19 @@ module _ {V E B : Type 0} (history : V → List E) (born : V → B) (context : E
       (Gave history context (step slots 1 1 0 none) m)) (sym at)
       (gives_back slots id holding.ticket old.0 x adds.more holding.live holding.stage adds.whole adds.ours birth_is)
 
-  pub me_splits : (id : ℕ) (me : Me (Option V) (View E B)) → IsIdle me → me.0.number ≡ seats → me.0.splits < seats
+  pub me_splits : (id : ℕ) (me : Me (Option V) (View E B)) → HoldsNothing me → me.0.number ≡ seats → me.0.splits < seats
       → Splits Rule id me.0 (after_split me.0) (split_off me.0)
   me_splits id me idle one room = splits id me.0 idle.live one room
 
-  pub me_joins : (id other : ℕ) (me her : Me (Option V) (View E B)) → IsIdle me → IsIdle her → me.0.number ≡ seats
+  pub me_joins : (id other : ℕ) (me her : Me (Option V) (View E B)) → HoldsNothing me → HoldsNothing her → me.0.number ≡ seats
       → Joins Rule id me.0 other her.0 (joined me.0 her.0) spent
   me_joins id other me her idle hers one = joins id other me.0 her.0 idle.live hers.live one hers.stage
 
-  pub me_learns_joined : (slots id : ℕ) (old : Me (Option V) (View E B)) (w : View E B) (me : Me (Option V) (View E B)) → IsIdle old
+  pub me_learns_joined : (slots id : ℕ) (old : Me (Option V) (View E B)) (w : View E B) (me : Me (Option V) (View E B)) → HoldsNothing old
       → me ≡ (joined old.0 w, old.1)
       → Allows Rule slots id me 1 (λ n. n) (Learned (step slots 1 0 0 none) me)
   me_learns_joined slots id old w me idle is =
-      me_learns slots id me (subst (λ (m : Me (Option V) (View E B)). IsIdle m) (sym is) (record {
+      me_learns slots id me (subst (λ (m : Me (Option V) (View E B)). HoldsNothing m) (sym is) (record {
         live = idle.live;
         stage = idle.stage;
         none = idle.none;

@@ -8,7 +8,7 @@ use Rattle.atomic_table.specs.Seated.{TableId}
 use Rattle.nt_turn.specs.declared.view.Stage.{Stage}
 use Rattle.nt_turn.specs.declared.view.Stage.TheVariants.{Idle, Waiting, Holding}
 use Rattle.nt_turn.specs.declared.view.View.{View}
-use Rattle.nt_turn.specs.Steps.{IsIdle, IsHolding}
+use Rattle.nt_turn.specs.Steps.{HoldsNothing, IsHolding}
 use Rattle.nt_turn.specs.Pass.{TurnState, PassState, IsPass, IsSettled, IsFree, IsFirst, IsHolder, Adds, holds_turn, pass_state}
 
 idle_by : {V : Type 0} (s : Stage) (out : List (ℕ × Option V)) → IsSettled s out → holds_turn s ≡ false → (s ≡ Idle) × (out ≡ [])
@@ -32,17 +32,17 @@ module _ {V E B : Type 0} (id : TableId) (seats : ℕ) (birth : B) (turn : TurnS
   of_turn : pass.turn ≡ turn.id → table ≡ id
   of_turn same = ap (λ (p : PassState E B). p.turn) pass_is ∙ (same ∙ sym (ap (λ (t : TurnState B). t.id) turn_is))
 
-  idle : pass.holds ≡ false → IsIdle me
+  idle : pass.holds ≡ false → HoldsNothing me
   idle free =
       let at = idle_by me.0.stage me.1 is.settled (ap (λ (p : PassState E B). p.holds) pass_is ∙ free) in
       record { live = is.live; stage = at.0; none = at.1 }
 
   -- a pass that doesn't hold the turn is idle
-  pub free_of : IsFree turn pass → (table ≡ id) × IsIdle me
+  pub free_of : IsFree turn pass → (table ≡ id) × HoldsNothing me
   free_of p = (of_turn p.turn_is, idle p.free)
 
   -- the first pass is idle, and its number is that of the seats
-  pub first_of : IsFirst turn pass → (table ≡ id) × IsIdle me × (me.0.number ≡ seats)
+  pub first_of : IsFirst turn pass → (table ≡ id) × HoldsNothing me × (me.0.number ≡ seats)
   first_of p =
       let number_is = ap (λ (q : PassState E B). q.number) pass_is in
       let seats_are = ap (λ (t : TurnState B). t.seats) turn_is in

@@ -10,7 +10,7 @@ use Rattle.nt_turn.specs.History.{entries_of, longer}
 use Rattle.nt_turn.specs.Tickets.{ticket_of}
 
 -- the pass does nothing
-pub record IsIdle {V E B : Type 0} (me : Me (Option V) (View E B)) : Type 0 where
+pub record HoldsNothing {V E B : Type 0} (me : Me (Option V) (View E B)) : Type 0 where
   pub live : me.0.live ≡ true
   pub stage : me.0.stage ≡ Idle
   pub none : me.1 ≡ []

@@ -22,8 +22,8 @@ abbrev pub IsHome : {A : Type 0} → List (Maybe A) → Type 0
 IsHome {A} homes = (x : A) × (homes ≡ some x ∷ [])
 
 -- the value is out with a pass
-abbrev pub IsOut : {A : Type 0} → List (Maybe A) → Type 0
-IsOut homes = homes ≡ none ∷ []
+abbrev pub IsWithPass : {A : Type 0} → List (Maybe A) → Type 0
+IsWithPass homes = homes ≡ none ∷ []
 
 -- one pass holds the value under the ticket that is served
 abbrev pub SomeHolds : List Stage → ℕ → Type 0
@@ -36,5 +36,5 @@ pub record Ordered {A : Type 0} (next serving : ℕ) (homes : List (Maybe A)) (v
   pub order : serving ≤ next
   pub range : (by t : ℕ) (v : Stage) → get_elem? views by ≡ some v → HasTicket t v → (serving ≤ t) × (t < next)
   pub apart : (i j t : ℕ) (v w : Stage) → get_elem? views i ≡ some v → get_elem? views j ≡ some w → HasTicket t v → HasTicket t w → i ≡ j
-  pub holding : (by t : ℕ) → get_elem? views by ≡ some (Holding t) → (t ≡ serving) × IsOut homes
-  pub home : IsHome homes ⊎ (IsOut homes × SomeHolds views serving)
+  pub holding : (by t : ℕ) → get_elem? views by ≡ some (Holding t) → (t ≡ serving) × IsWithPass homes
+  pub home : IsHome homes ⊎ (IsWithPass homes × SomeHolds views serving)

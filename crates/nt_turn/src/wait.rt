@@ -5,7 +5,7 @@
 //! then yields the processor, and then sleeps, longer each time.
 
 ghost use Rattle.std.specs.Prelude.{◌≡◌, MatchOption};
-ghost use Rattle.nt_turn.specs.Steps.{IsIdle, IsWaiting, IsDrawn, Holds};
+ghost use Rattle.nt_turn.specs.Steps.{HoldsNothing, IsWaiting, IsDrawn, Holds};
 
 use crate::logged::Logged;
 use crate::rule::{Cells, Draws, Looks, Place};
@@ -48,7 +48,7 @@ fn pause<V: Logged>(rt: &impl Wait, cells: &Cells<V>, moments: u32, served: u64)
 fn try_draw<V: Logged>(cells: &Cells<V>, seat: &mut Place<V>) -> Option<u64>
     requires words { cells.now.table_id.words ≡ 2 }
     requires same { seat.old.table_id ≡ cells.now.table_id }
-    requires idle { IsIdle seat.old.me }
+    requires idle { HoldsNothing seat.old.me }
     ensures same { seat.new.table_id ≡ seat.old.table_id }
     ensures drawn { MatchOption result (seat.new.me ≡ seat.old.me) (λ t. IsDrawn t seat.old.me seat.new.me) }
 {
@@ -64,7 +64,7 @@ fn try_draw<V: Logged>(cells: &Cells<V>, seat: &mut Place<V>) -> Option<u64>
 pub fn draw<V: Logged>(rt: &impl Wait, cells: &Cells<V>, seat: &mut Place<V>) -> u64
     requires words { cells.now.table_id.words ≡ 2 }
     requires same { seat.old.table_id ≡ cells.now.table_id }
-    requires idle { IsIdle seat.old.me }
+    requires idle { HoldsNothing seat.old.me }
     ensures same { seat.new.table_id ≡ seat.old.table_id }
     ensures drawn { IsDrawn result seat.old.me seat.new.me }
 {

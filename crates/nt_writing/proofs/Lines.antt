@@ -9,7 +9,7 @@ use Rattle.nt_grammar.specs.Table.{Table}
 use Rattle.nt_outside.specs.Disk.{DiskState}
 use Rattle.nt_lists.specs.Chunks.{chunks}
 use Rattle.nt_machine.specs.declared.entry.Entry.{Entry}
-use Rattle.nt_machine.specs.History.{entries_of}
+use Rattle.nt_machine.specs.History.{entries_of_chunk}
 use Rattle.nt_machine.proofs.Dealing.{Wrote-snoc}
 use Rattle.nt_book.specs.declared.meta.ClusterMeta.{ClusterMeta}
 use Rattle.nt_event.specs.declared.lines.Line.{Line}
@@ -181,7 +181,7 @@ module _ {D P : Type 0} (state : D → DiskState) where
       let i = old.pass.number in
       let g : List TreesData = gathered old in
       let held = held_before state old in
-      let own : List (Entry ClusterMeta) = old.pass.own ++ entries_of i writes.written in
+      let own : List (Entry ClusterMeta) = old.pass.own ++ entries_of_chunk i writes.written in
       let after : DiskContext D P = written_by state old new writes.written in
       let blob : IsChunkBlob held old.table old.page g writes.written.start writes.written.bytes writes.written.meta =
       record { blob = writes.blob.bytes; is_blob = writes.blob.blob; told = writes.blob.told_are } in

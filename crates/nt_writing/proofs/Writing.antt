@@ -7,7 +7,7 @@ use Rattle.nt_types.specs.TreeData.{TreesData}
 use Rattle.nt_outside.specs.Disk.{DiskState}
 use Rattle.nt_lists.specs.Chunks.{chunks}
 use Rattle.nt_machine.specs.declared.entry.Entry.{Entry}
-use Rattle.nt_machine.specs.History.{WrittenChunk, entries_of}
+use Rattle.nt_machine.specs.History.{WrittenChunk, entries_of_chunk}
 use Rattle.nt_machine.proofs.Dealing.{Wrote-snoc}
 use Rattle.nt_machine.proofs.Histories.{AllByRecursion-append}
 use Rattle.nt_book.specs.declared.meta.ClusterMeta.{ClusterMeta}
@@ -179,7 +179,7 @@ module _ {D P : Type 0} (state : D → DiskState) where
   abbrev pub written_by : DiskContext D P → DiskContext D P → WrittenChunk ClusterMeta → DiskContext D P
   written_by old new w = record old {
     pass = gained old.pass new.pass.seen
-        (entries_of old.pass.number w);
+        (entries_of_chunk old.pass.number w);
     pen = new.pen;
     columns = new.columns;
     entries = 0;
@@ -193,7 +193,7 @@ module _ {D P : Type 0} (state : D → DiskState) where
   -- a chunk more was committed
   pub committed_written : (old new : DiskContext D P) (writes : WritesCluster state old new) (full : List (List TreesData))
       → HasCommitted old.table old.page full old.pass.own
-      → HasCommitted old.table old.page (full ++ gathered old ∷ []) (old.pass.own ++ entries_of old.pass.number writes.written)
+      → HasCommitted old.table old.page (full ++ gathered old ∷ []) (old.pass.own ++ entries_of_chunk old.pass.number writes.written)
   committed_written old new writes full have =
       let w = writes.written in
       committed-settled old.table old.page full old.pass.own (gathered old) old.pass.number w.number w.start w.len w.meta w.bytes have

@@ -48,7 +48,7 @@ pub record IsReadyToWrite {D : Type 0} (committer : TurnState (Birth D)) (pass :
   pub image_is : IsImageFor committer.birth.columns pass.number image
 
 -- a context that is done: its number is the same, and no range of its pass is out
-pub record IsDone {D : Type 0} (committer : TurnState (Birth D)) (number : ℕ) (pass : Seat D) : Type 0 where
+pub record HasNoRange {D : Type 0} (committer : TurnState (Birth D)) (number : ℕ) (pass : Seat D) : Type 0 where
   pub of : IsPassOf committer pass
   pub number_is : pass.number ≡ number
   pub back : HasNoneOut pass.own

@@ -5,7 +5,7 @@ ghost use Rattle.nt_commit.specs.Holds.{IsPassOf, IsFirstOf, HasNoneOut};
 ghost use Rattle.nt_commit.specs.Images.{IsImageFor};
 ghost use Rattle.nt_pages.specs.Image.{key_room};
 ghost use Rattle.test_commit.specs.Sole.{IsSoleClaim, LeavesAtMostOne};
-ghost use Rattle.test_commit.specs.Joined.{IsReadyToWrite, IsDone, IsEntered, HasAllBack, HasLeft};
+ghost use Rattle.test_commit.specs.Joined.{IsReadyToWrite, HasNoRange, IsEntered, HasAllBack, HasLeft};
 
 use nt_book::{ClusterMeta, PageLists};
 use nt_commit::{Claim, CommitError, Committer, Locked};
@@ -130,7 +130,7 @@ fn finish_one<D: Disk>(
     requires pass { IsPassOf committer.now context.pass }
     requires left { LeavesAtMostOne D.Ext.state context.pass.own context.pass.number
         (length context.image.bytes) answer }
-    ensures { IsDone committer.now context.pass.number result.pass }
+    ensures { HasNoRange committer.now context.pass.number result.pass }
 {
     let Context {
         mut pass,
@@ -145,7 +145,7 @@ fn finish_one<D: Disk>(
 /// Commits a context's cluster, fills its range and hands it back.
 pub fn write_one<D: Disk>(rt: &impl Wait, committer: &Committer<D>, context: Context<D>) -> Done<D>
     requires { IsReadyToWrite committer.now context.pass context.image }
-    ensures { IsDone committer.now context.pass.number result.pass }
+    ensures { HasNoRange committer.now context.pass.number result.pass }
 {
     let mut context = context;
     let answer = commit_one(rt, committer, &mut context.pass, &mut context.image);
@@ -163,8 +163,8 @@ pub fn write_beside<D: Disk>(
 ) -> (Done<D>, Done<D>)
     requires one { IsReadyToWrite committer.now one.pass one.image }
     requires other { IsReadyToWrite committer.now other.pass other.image }
-    ensures one { IsDone committer.now one.pass.number result.0.pass }
-    ensures other { IsDone committer.now other.pass.number result.1.pass }
+    ensures one { HasNoRange committer.now one.pass.number result.0.pass }
+    ensures other { HasNoRange committer.now other.pass.number result.1.pass }
 {
     let (mut one, mut other) = (one, other);
     let answer = commit_one(rt, committer, &mut one.pass, &mut one.image);

@@ -2,7 +2,7 @@
 
 ghost use Rattle.std.specs.Prelude.{◌≡◌, []};
 ghost use Rattle.nt_outside.specs.Disk.{DiskState};
-ghost use Rattle.test_commit.specs.Joined.{IsReadyToWrite, IsDone, HasAllBack, MayLetIn};
+ghost use Rattle.test_commit.specs.Joined.{IsReadyToWrite, HasNoRange, HasAllBack, MayLetIn};
 
 use crate::contexts::{Context, Done, enter_one, image_of, leave_one, write_beside, write_one};
 use nt_book::{Book, Limits};
@@ -33,8 +33,8 @@ fn write_both<D: Disk>(
 ) -> (Done<D>, Done<D>)
     requires one { IsReadyToWrite committer.now one.pass one.image }
     requires other { IsReadyToWrite committer.now other.pass other.image }
-    ensures one { IsDone committer.now one.pass.number result.0.pass }
-    ensures other { IsDone committer.now other.pass.number result.1.pass }
+    ensures one { HasNoRange committer.now one.pass.number result.0.pass }
+    ensures other { HasNoRange committer.now other.pass.number result.1.pass }
 {
     match way {
         Way::InTurn => {
@@ -57,8 +57,8 @@ fn write_led<D: Disk>(
 ) -> (Done<D>, Done<D>)
     requires a { IsReadyToWrite committer.now a.pass a.image }
     requires b { IsReadyToWrite committer.now b.pass b.image }
-    ensures a { IsDone committer.now a.pass.number result.0.pass }
-    ensures b { IsDone committer.now b.pass.number result.1.pass }
+    ensures a { HasNoRange committer.now a.pass.number result.0.pass }
+    ensures b { HasNoRange committer.now b.pass.number result.1.pass }
 {
     if b_leads {
         let (b, a) = write_both(rt, committer, b, a, way);
@@ -87,7 +87,7 @@ fn write_with_another<D: Disk>(
 ) -> (Done<D>, Option<CommitError>)
     requires letting { MayLetIn committer.now 1 first.old }
     requires ready { IsReadyToWrite committer.now a.pass a.image }
-    ensures done { IsDone committer.now a.pass.number result.0.pass }
+    ensures done { HasNoRange committer.now a.pass.number result.0.pass }
     ensures all { HasAllBack committer.now first.old first.new }
 {
     let Ok((pass, pen)) = enter_one(rt, committer, first) else {

@@ -4,7 +4,7 @@ ghost use Rattle.std.specs.Prelude.{◌≡◌, ◌+◌, ◌≤◌, []};
 ghost use Rattle.std.specs.Thread.{IsSync};
 ghost use Rattle.nt_memory.specs.Disk.{state_of};
 ghost use Rattle.nt_commit.specs.Holds.{IsPassOf, HasNoneOut};
-ghost use Rattle.test_commit.specs.Joined.{IsDone, HasAllBack, MayLetIn};
+ghost use Rattle.test_commit.specs.Joined.{HasNoRange, HasAllBack, MayLetIn};
 
 use crate::contexts::{commit_one, enter_one, hand_back_any, image_of, leave_one};
 use nt_book::{Book, Limits, RangeState};
@@ -30,7 +30,7 @@ fn write_many(
     requires back { HasNoneOut pass.old.own }
     requires columns { committer.now.birth.columns ≡ 0 }
     requires few { clusters ≤ 100 }
-    ensures { IsDone committer.now pass.old.number pass.new }
+    ensures { HasNoRange committer.now pass.old.number pass.new }
 {
     for more in 0..clusters {
         let Ok(mut image) = image_of(alloc, pass.number(), (pass.number() % 256) as u8, more) else {
@@ -71,7 +71,7 @@ fn write_beside_each_other<R: Threads + Wait + Sync>(
         rt,
         &mut ||
             requires { IsSync R.row × IsPassOf committer.now pass × HasNoneOut pass.own × (committer.now.birth.columns ≡ 0) × (clusters ≤ 100) }
-            ensures { IsDone committer.entry.now pass.entry.number pass.exit }
+            ensures { HasNoRange committer.entry.now pass.entry.number pass.exit }
         { write_many(rt, alloc, committer, &mut pass, &mut pen, clusters) },
         &mut ||
             requires { IsSync R.row × MayLetIn committer.now rest first.now × (clusters ≤ 100) }

@@ -1,5 +1,5 @@
 use Rattle.std.proofs.Common.{rules, ◌≡◌}
-use Rattle.test_commit.specs.Joined.{IsDone, HasAllBack}
+use Rattle.test_commit.specs.Joined.{HasNoRange, HasAllBack}
 use Rattle.test_commit.proofs.Joined.{back-around}
 use Rattle.test_commit.proofs.tests.threads.+fn-write_beside_each_other-join_mut+arg3+write_beside_each_other.Goals as goal
 
