@@ -4,7 +4,7 @@ use Rattle.std.proofs.Common.{Option, Some, arith, subst, append_assoc, append-n
 use Rattle.std.specs.Prelude.{◌⊎◌}
 use Rattle.std.specs.List.{AllByRecursion}
 use Rattle.nt_outside.specs.Log.{Step, Reserve, Settle}
-use Rattle.nt_outside.specs.Held.{Held, BecomesSome, IsReserved}
+use Rattle.nt_outside.specs.Held.{Held, BecomesSome, WhereHeld, IsReserved}
 use Rattle.nt_outside.specs.Range.{without}
 use Rattle.nt_outside.specs.Disk.{DiskState}
 use Rattle.nt_outside.specs.Faults.{Rose}
@@ -16,10 +16,10 @@ use Rattle.nt_machine.specs.History.{Cluster, Fate, Out, is_out, handed_back, af
 use Rattle.nt_machine.specs.Legal.{IsKindAllowed, IsAllowed, IsOut, ranges_end, end_after}
 use Rattle.nt_machine.proofs.Histories.{AllByRecursion-append}
 use Rattle.nt_machine.proofs.Legality.{IsLegalAfter-snoc, ranges_of-snoc, ranges_of-back, end_after-snoc, IsApart-fold}
-use Rattle.nt_commit.specs.Locked.{place_of, ranges_out, Follows}
+use Rattle.nt_commit.specs.Locked.{HasToldBytes, place_of, ranges_out, Follows}
 use Rattle.nt_logged.specs.Logs.{IsLogOf}
 use Rattle.nt_logged.proofs.Growing.{log-commit, log-fault}
-use Rattle.nt_commit.proofs.Handed.{IsRoomy, ranges_out-snoc, ranges_out-set, end_after-handed_back, roomy-handed_back}
+use Rattle.nt_commit.proofs.Handed.{IsRoomy, ranges_out-snoc, ranges_out-set, end_after-handed_back, roomy-handed_back, bytes-handed_back}
 
 -- a count that rose has risen
 pub risen : (before now : ℕ) → before ≤ now → Rose before now → now < 2 ^ 64 → HasRisen before now
@@ -37,6 +37,10 @@ later_risen a b c first h = at h.0 h.1
     at second (inr top) = (omega arith, inr top)
 
 module _ {M : Type 0} where
+  -- where a disk told what it held, these ranges have bytes where they are settled
+  abbrev HaveBytes : DiskState → List (Cluster M) → Type 0
+  HaveBytes begun cs = WhereHeld begun.held (λ h. AllByRecursion (λ (c : Cluster M). HasToldBytes c.state) cs)
+
   rise_first : (least count : ℕ) (k : EntryKind M) → least ≤ count → (HasFaults k → HasRisen count (faults_after count k))
       → (HasFaults k → HasRisen least (faults_after least k)) × (faults_after least k ≤ faults_after count k)
   rise_first least count (entry.Committed n start len meta) le rises = (λ h. absurd h, le)
@@ -58,14 +62,14 @@ module _ {M : Type 0} where
   module _ (begun d d' : DiskState) (contexts : ℕ) (history : List (Entry M)) (follows : Follows begun d contexts history) where
     -- one entry more, and what it does to the disk
     pub Follows-snoc : (e : Entry M) (new : List Step) → IsAllowed begun.end (ranges_of history) e → e.context ≤ contexts
-        → AllByRecursion IsRoomy (after_entry (ranges_of history) e)
+        → AllByRecursion IsRoomy (after_entry (ranges_of history) e) → HaveBytes begun (after_entry (ranges_of history) e)
         → d'.end ≡ end_after begun.end (after_entry (ranges_of history) e) → d'.out ≡ ranges_out (after_entry (ranges_of history) e)
         → ((h : Held) → begun.held ≡ Some h → BecomesSome d.held d'.held (λ h h'. h'.log ≡ h.log ++ new))
         → ((steps : List Step) → IsLogOf begun.end d.end history [] [] steps
         → IsLogOf begun.end d'.end (history ++ e ∷ []) [] [] (steps ++ new))
         → (HasFaults e.kind → HasRisen d.faults (faults_after d.faults e.kind)) → faults_after d.faults e.kind ≤ d'.faults
         → Follows begun d' contexts (history ++ e ∷ [])
-    Follows-snoc e new allowed context roomy end out log grown rises later =
+    Follows-snoc e new allowed context roomy have end out log grown rises later =
         let ranges = sym (ranges_of-snoc history e) in
         record {
           legal = IsLegalAfter-snoc begun.end [] history e follows.legal allowed;
@@ -84,6 +88,7 @@ module _ {M : Type 0} where
                   is_log = grown first.2.steps first.2.is_log;
                 },
               );
+          told = λ h is. subst (λ (l : List (Cluster M)). AllByRecursion (λ (c : Cluster M). HasToldBytes c.state) l) ranges (have h is);
           rise = FaultsRise-later begun.faults (history ++ e ∷ []) (faults_after d.faults e.kind) d'.faults
               (FaultsRise-snoc begun.faults history d.faults e follows.rise rises) later;
         }
@@ -107,6 +112,7 @@ module _ {M : Type 0} where
                   is_log = subst (λ (e : ℕ). IsLogOf begun.end e history [] [] first.2.steps) (sym end) first.2.is_log;
                 },
               );
+          told = follows.told;
           rise = FaultsRise-later begun.faults history d.faults d'.faults follows.rise later;
         }
 
@@ -125,6 +131,7 @@ module _ {M : Type 0} where
         let e : ℕ → Entry M = λ (m : ℕ). record { context = i; kind = entry.Committed n m len meta } in
         Follows-snoc (e start) (Reserve start len ∷ []) (number, behind) context
         (AllByRecursion-append IsRoomy old (c ∷ []) follows.roomy (roomy, tt))
+        (λ h is. AllByRecursion-append (λ (c : Cluster M). HasToldBytes c.state) old (c ∷ []) (follows.told h is) (tt, tt))
         (end ∙ (ap (λ (m : ℕ). m + len) follows.end ∙ sym (end_after-snoc begun.end old c)))
         (out ∙ (ap (λ (l : List _). l ++ record { start = d.end; len = len } ∷ []) follows.out
         ∙ (ap (λ (m : ℕ). ranges_out old ++ record { start = m; len = len } ∷ []) from ∙ sym (ranges_out-snoc old c refl))))
@@ -137,7 +144,7 @@ module _ {M : Type 0} where
 
     -- a range was handed back
     pub Follows-back : (i n : ℕ) (fate : Fate) (k : EntryKind M) (bytes : Option (List ℕ)) → (is : IsOut (ranges_of history) i n)
-        → is_out fate ≡ false
+        → is_out fate ≡ false → WhereHeld begun.held (λ h. HasToldBytes fate)
         → after_kind (ranges_of history) i k ≡ map (handed_back i n fate) (ranges_of history)
         → ((steps : List Step) → IsLogOf begun.end d.end history [] [] steps
         → IsLogOf begun.end d.end (history ++ record { context = i; kind = k } ∷ []) [] []
@@ -148,7 +155,7 @@ module _ {M : Type 0} where
         → d'.end ≡ d.end → d'.out ≡ without (place_of is.cluster) d.out
         → (HasFaults k → HasRisen d.faults (faults_after d.faults k)) → faults_after d.faults k ≤ d'.faults
         → Follows begun d' contexts (history ++ record { context = i; kind = k } ∷ [])
-    Follows-back i n fate k bytes is back after grown allowed context log end out rises later =
+    Follows-back i n fate k bytes is back has after grown allowed context log end out rises later =
         let old = ranges_of history in
         let apart = IsApart-fold begun.end [] history follows.legal (omega arith) in
         let put = ranges_of-back begun.end i n fate history follows.legal is in
@@ -156,6 +163,8 @@ module _ {M : Type 0} where
         let step = Settle is.cluster.start is.cluster.len bytes in
         Follows-snoc e (step ∷ []) allowed context
         (subst (λ (l : List (Cluster M)). AllByRecursion IsRoomy l) (sym after) (roomy-handed_back i n fate old follows.roomy))
+        (λ h told. subst (λ (l : List (Cluster M)). AllByRecursion (λ (c : Cluster M). HasToldBytes c.state) l) (sym after)
+        (bytes-handed_back i n fate old (has h told) (follows.told h told)))
         (end ∙ (follows.end ∙ (sym (end_after-handed_back begun.end i n fate old)
         ∙ ap (λ (l : List (Cluster M)). end_after begun.end l) (sym after))))
         (out ∙ (ap (λ (l : List _). without (place_of is.cluster) l) follows.out
@@ -172,7 +181,7 @@ module _ {M : Type 0} where
         → Follows begun d' contexts (history ++ record { context = i; kind = entry.Faulted faults } ∷ [])
     Follows-fault i faults context held end out rises later =
         let e : Entry M = record { context = i; kind = entry.Faulted faults } in
-        Follows-snoc e [] tt context follows.roomy (end ∙ follows.end) (out ∙ follows.out)
+        Follows-snoc e [] tt context follows.roomy follows.told (end ∙ follows.end) (out ∙ follows.out)
         (λ begins told h is. (h, held ∙ is, sym (append-nil h.log)))
         (λ steps was.
         subst (λ (to : ℕ). IsLogOf begun.end to (history ++ e ∷ []) [] [] (steps ++ [])) (sym end)

@@ -14,7 +14,7 @@ use Rattle.nt_machine.specs.History.{Cluster, Fate, Out, is_out, handed_back}
 use Rattle.nt_machine.specs.Legal.{spans_of, end_after}
 use Rattle.nt_machine.specs.Spans.{IsDisjoint}
 use Rattle.nt_machine.proofs.Histories.{AllByRecursion-map}
-use Rattle.nt_commit.specs.Locked.{place_of, ranges_out}
+use Rattle.nt_commit.specs.Locked.{HasToldBytes, place_of, ranges_out}
 
 same_range-start : (one two : Range) → (one.start == two.start) ≡ false → is_same_range one two ≡ false
 same_range-start one two differ = ap (λ (b : Bool). b && (one.len == two.len)) differ
@@ -137,6 +137,18 @@ module _ {M : Type 0} where
   pub end_after-handed_back : (place i n : ℕ) (fate : Fate) (cs : List (Cluster M))
       → end_after place (map (handed_back i n fate) cs) ≡ end_after place cs
   end_after-handed_back place i n fate cs = ap (λ (s : ℕ). place + s) (sum-handed_back i n fate cs)
+
+  -- ranges that have bytes where they are settled, one of them handed back so
+  pub bytes-handed_back : (i n : ℕ) (fate : Fate) (cs : List (Cluster M)) → HasToldBytes fate
+      → AllByRecursion (λ (c : Cluster M). HasToldBytes c.state) cs
+      → AllByRecursion (λ (c : Cluster M). HasToldBytes c.state) (map (handed_back i n fate) cs)
+  bytes-handed_back i n fate cs has all =
+      AllByRecursion-map (λ (c : Cluster M). HasToldBytes c.state) (λ (c : Cluster M). HasToldBytes c.state) (handed_back i n fate)
+      (λ c h. at c (c.context == i && c.number == n && is_out c.state) h) cs all
+    where
+      at : (c : Cluster M) (b : Bool) → HasToldBytes c.state → HasToldBytes (cond b (record c { state = fate }) c).state
+      at c true h = has
+      at c false h = h
 
   pub roomy-handed_back : (i n : ℕ) (fate : Fate) (cs : List (Cluster M)) → AllByRecursion IsRoomy cs
       → AllByRecursion IsRoomy (map (handed_back i n fate) cs)

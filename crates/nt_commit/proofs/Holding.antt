@@ -76,9 +76,13 @@ module _ {D : Type 0} (state : D → DiskState) (committer : TurnState (Birth D)
   committable meta is = subst (λ (b : Birth D). IsCommittable b.columns b.contexts meta) (sym birth_is) is
 
   -- an own claim is one of what was taken
-  pub claim_taken : {X : Type 0} (tell : X → ExtState) (claim : Claim X) → IsClaimOf tell (ranges_of old.own) old.number claim
-      → IsClaimOf tell (ranges_of (history_of_locked state taken)) old.number claim
-  claim_taken tell claim own = claim_in tell old.own (history_of_locked state taken) old.number claim took.own own
+  pub claim_taken : {X : Type 0} (tell : X → ExtState) (claim : Claim X)
+      → IsClaimOf tell (state committer.birth.begun).held (ranges_of old.own) old.number claim
+      → IsClaimOf tell (state taken.birth.begun).held (ranges_of (history_of_locked state taken)) old.number claim
+  claim_taken tell claim own =
+      let held = (state taken.birth.begun).held in
+      claim_in tell held old.own (history_of_locked state taken) old.number claim took.own
+      (subst (λ (b : Birth D). IsClaimOf tell (state b.begun).held (ranges_of old.own) old.number claim) (sym birth_is) own)
 
   -- the entry of a settled range, by the pass and the committer
   pub settles_by : (given : LockedState D) (context n : ℕ) (ext : ExtState) → context ≡ old.number

@@ -1,8 +1,8 @@
 -- A disk and its book with a range handed back.
 use Rattle.std.proofs.Common.{◌≡◌, ◌∙◌, ap, sym, refl, ℕ, ◌^◌, ◌<◌, ◌≤◌, List, [], ◌∷◌, ◌++◌, Option, Some, None, arith, subst}
-use Rattle.std.specs.Prelude.{false}
+use Rattle.std.specs.Prelude.{false, true, IsSome}
 use Rattle.nt_outside.specs.Log.{Step, Settle}
-use Rattle.nt_outside.specs.Held.{Held, BecomesSome, IsRangeSettled}
+use Rattle.nt_outside.specs.Held.{Held, BecomesSome, WhereHeld, IsRangeSettled}
 use Rattle.nt_outside.specs.declared.range.Range.{Range}
 use Rattle.nt_outside.specs.Range.{ExtState, IsSized, without}
 use Rattle.nt_outside.specs.Disk.{DiskState, Settles, TakesPen}
@@ -66,12 +66,13 @@ module _ {D : Type 0} (state : D → DiskState) (begun d : D) (contexts : ℕ) (
     -- a range was settled
     pub settled : (i n spare : ℕ) (ext : ExtState) → HasHistory (b.history ++ settled_entry i n ∷ []) spare
         → (is : IsOut (ranges_of history) i n) → place_of is.cluster ≡ ext.range
-        → i ≤ contexts → AreAsLong ext.content ext.range.len → BecomesSome (state d).held (state d').held (IsRangeSettled ext)
+        → i ≤ contexts → AreAsLong ext.content ext.range.len → WhereHeld (state begun).held (λ h. IsSome ext.content)
+        → BecomesSome (state d).held (state d').held (IsRangeSettled ext)
         → (state d').end ≡ (state d).end
         → (state d').out ≡ without ext.range (state d).out → (state d').faults ≡ (state d).faults
         → IsStep state old new × (history_of_locked state new ≡ history
         ++ settled_with i n (bytes_where_told (state begun).held ext.content) ∷ [])
-    settled i n spare ext is out range context long log end gone faults =
+    settled i n spare ext is out range context long has log end gone faults =
         let bytes = bytes_where_told (state begun).held ext.content in
         let start : ext.range.start ≡ out.cluster.start = ap (λ (r : Range). r.start) (sym range) in
         let len : ext.range.len ≡ out.cluster.len = ap (λ (r : Range). r.len) (sym range) in
@@ -81,7 +82,7 @@ module _ {D : Type 0} (state : D → DiskState) (begun d : D) (contexts : ℕ) (
         (λ h was. let next = log h was in (next.0, next.1, next.2.log))
         (told-settled (state begun).held i n ext.range.start ext.range.len ext.content)
         (Follows-back (state begun) (state d) (state d') contexts history was.follows i n (Settled bytes) (entry.Settled n bytes)
-        bytes out refl refl
+        bytes out refl (λ h told. subst (λ (o : Option Held). IsSome (bytes_where_told o ext.content)) (sym told) (has h told)) refl
         (λ steps w. log-settle (state begun).end (state d).end history [] [] steps w i n bytes out whole)
         (out, whole) context
         (λ begins told h was.
@@ -115,7 +116,7 @@ module _ {D : Type 0} (state : D → DiskState) (begun d : D) (contexts : ℕ) (
         (Settle ext.range.start ext.range.len ext.content ∷ []) is
         log (told-spoiled (state begun).held i n faults (Settle ext.range.start ext.range.len ext.content ∷ []))
         (Follows-back (state begun) (state d) (state d') contexts history was.follows i n (Spoiled faults) (entry.Spoiled n faults)
-        None out refl refl
+        None out refl (λ h told. tt) refl
         (λ steps w. log-spoil (state begun).end (state d).end history [] [] steps w i n faults out) out context
         (λ begins told h was.
         let next = log h was in (
@@ -130,17 +131,19 @@ module _ {D : Type 0} (state : D → DiskState) (begun d : D) (contexts : ℕ) (
         (subst (λ (n : ℕ). Rose (state d).faults n) (sym count) rose) fits) (omega (arith, count))) tt in
         (done.0, done.1 ∙ ap (λ (m : ℕ). history ++ spoiled_entry i n m ∷ []) count)
 
-    module _ {X : Type 0} (tell : X → ExtState) (i : ℕ) (claim : Claim X) (own : IsClaimOf tell (ranges_of history) i claim)
+    module _ {X : Type 0} (tell : X → ExtState) (i : ℕ) (claim : Claim X)
+        (own : IsClaimOf tell (state begun).held (ranges_of history) i claim)
         (context : i ≤ contexts)
         (sized : (bytes : List ℕ) → (tell claim.ext).content ≡ Some bytes → IsSized (tell claim.ext) bytes) where
       -- the range of a claim was settled
       pub claim_settled : HasHistory (b.history ++ settled_entry i claim.cluster ∷ []) b.spare
-          → Settles (tell claim.ext) (state d) (state d')
+          → ((tell claim.ext).tells ≡ true → IsSome (tell claim.ext).content) → Settles (tell claim.ext) (state d) (state d')
           → IsStep state old new × SettlesRange state i claim.cluster (tell claim.ext) old new
-      claim_settled is done =
+      claim_settled is told done =
           let out = claimed state begun d contexts b was tell i claim own in
           let r = settled i claim.cluster b.spare (tell claim.ext) is out.0 out.1 context
-          (long_content (tell claim.ext) (tell claim.ext).content refl sized) done.held done.end done.out done.faults in
+          (long_content (tell claim.ext) (tell claim.ext).content refl sized) (λ h held. told (own.tells h held)) done.held done.end
+          done.out done.faults in
           (r.0, record { grows = r.1 })
 
       -- the range of a claim was spoiled, and then a pen came back

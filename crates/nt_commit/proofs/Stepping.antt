@@ -114,9 +114,10 @@ module _ {D : Type 0} (state : D → DiskState) (begun d : D) (contexts : ℕ) (
       }
 
   -- the range of a claim is out, in the book and on the disk
-  module _ {X : Type 0} (tell : X → ExtState) (i : ℕ) (claim : Claim X) (own : IsClaimOf tell (ranges_of history) i claim) where
+  module _ {X : Type 0} (tell : X → ExtState) (i : ℕ) (claim : Claim X)
+      (own : IsClaimOf tell (state begun).held (ranges_of history) i claim) where
     pub claimed : (is : IsOut (ranges_of history) i claim.cluster) × (place_of is.cluster ≡ (tell claim.ext).range)
-    claimed = claim_out tell (state begun).end history i claim was.follows.legal own
+    claimed = claim_out tell (state begun).held (state begun).end history i claim was.follows.legal own
 
     pub out_in_book : IsOut (ranges_of b.history) i claim.cluster
     out_in_book = told_out (state begun).held (state d).held b.history i claim.cluster claimed.0

@@ -59,8 +59,9 @@ PenAdds was is context (Ok pen) added = added ≡ []
 PenAdds was is context (Err refused.Memory) added = added ≡ []
 PenAdds was is context (Err refused.Failed) added = Rose was is × (added ≡ faulted_entry context is ∷ [])
 
--- the claim is of a cluster among these, which is out with this context
-pub record IsClaimOf {M X : Type 0} (tell : X → ExtState) (clusters : List (Cluster M)) (context : ℕ) (claim : Claim X) : Type 0 where
+-- the claim is of a cluster among these, which is out with this context, and tells its bytes where the disk told what it held
+pub record IsClaimOf {M X : Type 0} (tell : X → ExtState) (held : Option Held) (clusters : List (Cluster M)) (context : ℕ)
+    (claim : Claim X) : Type 0 where
   pub place : ℕ
   pub cluster : Cluster M
   pub at : slice_get clusters place ≡ Some cluster
@@ -68,6 +69,7 @@ pub record IsClaimOf {M X : Type 0} (tell : X → ExtState) (clusters : List (Cl
   pub number : cluster.number ≡ claim.cluster
   pub out : cluster.state ≡ Out
   pub range : place_of cluster ≡ (tell claim.ext).range
+  pub tells : WhereHeld held (λ h. (tell claim.ext).tells ≡ true)
 
 -- a range was settled with these bytes
 abbrev pub settled_with : ℕ → ℕ → Option (List ℕ) → Entry ClusterMeta

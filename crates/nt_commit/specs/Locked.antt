@@ -1,13 +1,13 @@
 -- A disk and its book under the turn, and what is true of them while the turn is free.
-use Rattle.std.specs.Prelude.{◌≡◌, ℕ, ◌≤◌, List, [], ◌++◌, map, filter, length}
+use Rattle.std.specs.Prelude.{◌≡◌, ℕ, ◌≤◌, List, [], ◌++◌, map, filter, length, IsSome}
 use Rattle.std.specs.List.{AllByRecursion}
 use Rattle.nt_outside.specs.declared.range.Range.{Range}
 use Rattle.nt_outside.specs.Log.{Step}
-use Rattle.nt_outside.specs.Held.{Held, BecomesSome}
+use Rattle.nt_outside.specs.Held.{Held, BecomesSome, WhereHeld}
 use Rattle.nt_outside.specs.Disk.{DiskState}
 use Rattle.nt_machine.specs.declared.entry.Entry.{Entry}
 use Rattle.nt_machine.specs.Faults.{FaultsRise}
-use Rattle.nt_machine.specs.History.{Cluster, is_out, ranges_of}
+use Rattle.nt_machine.specs.History.{Fate, Out, Settled, Spoiled, Cluster, is_out, ranges_of}
 use Rattle.nt_machine.specs.Legal.{IsLegal, end_after}
 use Rattle.nt_book.specs.declared.meta.ClusterMeta.{ClusterMeta}
 use Rattle.nt_book.specs.Books.{BookData, IsUngrouped}
@@ -46,6 +46,12 @@ birth_of locked = locked.birth
 abbrev pub context_of : Entry ClusterMeta → ℕ
 context_of e = e.context
 
+-- a range that is settled has bytes
+abbrev pub HasToldBytes : Fate → Type 0
+HasToldBytes Out = Unit {0}
+HasToldBytes (Settled bytes) = IsSome bytes
+HasToldBytes (Spoiled faults) = Unit {0}
+
 module _ {M : Type 0} where
   -- the range of a cluster
   abbrev pub place_of : Cluster M → Range
@@ -72,6 +78,8 @@ module _ {M : Type 0} where
     pub out : disk.out ≡ ranges_out (ranges_of history)
     -- its log is that from before, and then the steps of the history, each range reserved at the end of its time
     pub log : BecomesSome begun.held disk.held (GainsSteps begun.end disk.end history)
+    -- where the disk told what it held when it was begun, each settled range has its bytes
+    pub told : WhereHeld begun.held (λ h. AllByRecursion (λ (c : Cluster M). HasToldBytes c.state) (ranges_of history))
     -- each fault of the history was counted above those before it
     pub rise : FaultsRise begun.faults history disk.faults
 

@@ -62,7 +62,8 @@ impl<D: Disk> CommitterOf<Locked<D>> {
     /// Hands the range of a claim back filled. It takes no memory.
     pub fn settle(&self, rt: &impl Wait, pass: &mut Pass<Locked<D>>, claim: Claim<D::Ext>)
         requires pass { IsPassOf self.now pass.old }
-        requires own { IsClaimOf D.Ext.state (ranges_of pass.old.own) pass.old.number claim }
+        requires own { IsClaimOf D.Ext.state (D.state self.now.birth.begun).held (ranges_of pass.old.own)
+            pass.old.number claim }
         requires filled { (D.Ext.state claim.ext).filled ≡ true }
         ensures settles { SettlesInHold D.state self.now claim.cluster (D.Ext.state claim.ext).content
             pass.old pass.new }
@@ -83,7 +84,8 @@ impl<D: Disk> CommitterOf<Locked<D>> {
         pen: D::Pen,
     )
         requires pass { IsPassOf self.now pass.old }
-        requires own { IsClaimOf D.Ext.state (ranges_of pass.old.own) pass.old.number claim }
+        requires own { IsClaimOf D.Ext.state (D.state self.now.birth.begun).held (ranges_of pass.old.own)
+            pass.old.number claim }
         requires failed { ((D.Ext.state claim.ext).filled ≡ false) × (1 ≤ (D.Pen.state pen).faults) }
         ensures spoils { SpoilsInHold D.state self.now claim.cluster pass.old pass.new }
     {

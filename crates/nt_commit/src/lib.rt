@@ -10,11 +10,12 @@
 //! `specs/Holds.antt`.
 //!
 //! Proved: `commit` adds just the one cluster to the pass's own list, and hands out an extent of the book's start and length that
-//! isn't filled; its limits are those of the history that the pass has then seen, and of no earlier one (`limit`); a fault only where the disk's count rose in this
-//! hold, with that count in the own list; the key of the place stands in the image (`commits`, `image`). `settle` adds the bytes of
-//! the extent (`settles`), `spoil` the disk's count, which rose (`spoils`). `finish` gives one history with each pass's own entries
-//! (`closes`), of which disk and book are made, and none of its ranges is longer than the limits let it be (`in_step`). No step covers
-//! what stood before: so a crash at any step leaves a file that isn't finished, if the disk came with one that is shut (`disk`).
+//! isn't filled; its limits are those of the history that the pass has then seen, and of no earlier one (`limit`); a fault only
+//! where the disk's count rose in this hold, with that count in the own list; the key of the place stands in the image (`commits`,
+//! `image`). `settle` adds the bytes of the extent (`settles`), `spoil` the disk's count, which rose (`spoils`). `finish` gives one
+//! history with each pass's own entries (`closes`), of which disk and book are made, none of its ranges is longer than the limits
+//! let it be, and where the disk told what it held, each that is settled has its bytes (`in_step`). No step covers what stood
+//! before: so a crash at any step leaves a file that isn't finished, if the disk came with one that is shut (`disk`).
 //!
 //! Neither proved nor promised: that a pass ever gets the turn, or that two contexts run beside each other.
 #![tactic(auto)]

@@ -42,7 +42,8 @@ impl<D: Disk> Locked<D> {
     /// Hands the range of a cluster back filled. It takes no memory.
     pub(crate) fn settle(&mut self, context: u32, claim: Claim<D::Ext>)
         requires context { context ≤ self.old.birth.contexts }
-        requires own { IsClaimOf D.Ext.state (ranges_of (history_of_locked D.state self.old)) context claim }
+        requires own { IsClaimOf D.Ext.state (D.state self.old.birth.begun).held
+            (ranges_of (history_of_locked D.state self.old)) context claim }
         requires filled { (D.Ext.state claim.ext).filled ≡ true }
         ensures step { IsStep D.state self.old self.new }
         ensures settles { SettlesRange D.state context claim.cluster (D.Ext.state claim.ext) self.old self.new }
@@ -55,7 +56,8 @@ impl<D: Disk> Locked<D> {
     /// Hands the range of a cluster back after faults, and the pen that met them. It takes no memory.
     pub(crate) fn spoil(&mut self, context: u32, claim: Claim<D::Ext>, pen: D::Pen)
         requires context { context ≤ self.old.birth.contexts }
-        requires own { IsClaimOf D.Ext.state (ranges_of (history_of_locked D.state self.old)) context claim }
+        requires own { IsClaimOf D.Ext.state (D.state self.old.birth.begun).held
+            (ranges_of (history_of_locked D.state self.old)) context claim }
         requires failed { ((D.Ext.state claim.ext).filled ≡ false) × (1 ≤ (D.Pen.state pen).faults) }
         ensures step { IsStep D.state self.old self.new }
         ensures spoils { Spoils D.state context claim.cluster self.old self.new }

@@ -188,7 +188,7 @@ module _ {D : Type 0} (state : D → DiskState) (committer : TurnState (Birth D)
           ∙ ap (λ (i : ℕ). committed_by i claim.cluster start meta ∷ []) is))
           (gains_by c.taken c.given c.commits.added old mid c.hold)
 
-      pub claim_is : IsClaimOf tell (ranges_of mid.own) mid.number claim
+      pub claim_is : IsClaimOf tell (state committer.birth.begun).held (ranges_of mid.own) mid.number claim
       claim_is =
           let range = new_range old.number claim.cluster start meta.len meta in
           let ranges : ranges_of mid.own ≡ ranges_of old.own ++ range ∷ [] =
@@ -203,6 +203,8 @@ module _ {D : Type 0} (state : D → DiskState) (committer : TurnState (Birth D)
             number = refl;
             out = refl;
             range = sym c.commits.adds.0.range;
+            tells = subst (λ (b : Birth D). WhereHeld (state b.begun).held (λ h. (tell claim.ext).tells ≡ true)) c.hold.birth
+                c.commits.adds.0.tells;
           }
 
       -- it was filled and settled

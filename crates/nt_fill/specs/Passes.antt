@@ -72,13 +72,12 @@ module _ {D : Type 0} where
     pub image_is : IsImageFor committer.birth.columns pass.number image
 
   module _ (state : D → DiskState) (committer : TurnState (Birth D)) where
-    -- the claim of a range of this pass, as long as these bytes, not filled yet, and told where the disk told what it held
+    -- the claim of a range of this pass, as long as these bytes, not filled yet
     pub record IsClaimFor {X : Type 0} (tell : X → ExtState) (pass : PassState (Entry ClusterMeta) (Birth D)) (bytes : List ℕ)
         (claim : Claim X) : Type 0 where
-      pub own : IsClaimOf tell (ranges_of pass.own) pass.number claim
+      pub own : IsClaimOf tell (state committer.birth.begun).held (ranges_of pass.own) pass.number claim
       pub unfilled : (tell claim.ext).filled ≡ false
       pub long : length bytes ≡ (tell claim.ext).range.len
-      pub tells : WhereHeld (state committer.birth.begun).held (λ h. (tell claim.ext).tells ≡ true)
 
     -- the answer names the limit that a range of this length passes behind a history that the pass has now seen, or none; behind a limit
     -- that is named the pass has seen no more than that history

@@ -6,6 +6,7 @@ use Rattle.std.specs.List.{AllByRecursion, fold}
 use Rattle.std.proofs.lemmas.List.Sums.{fold-append}
 use Rattle.std.proofs.lemmas.Bool.{eq-eqb}
 use Rattle.nt_turn.specs.Pass.{TurnState, PassState}
+use Rattle.nt_outside.specs.Held.{Held, WhereHeld}
 use Rattle.nt_outside.specs.Range.{ExtState}
 use Rattle.nt_outside.specs.declared.range.Range.{Range}
 use Rattle.nt_outside.specs.Disk.{DiskState}
@@ -73,9 +74,9 @@ at_end : (before : List (Cluster ClusterMeta)) (c : Cluster ClusterMeta) → sli
 at_end [] c = refl
 at_end (b ∷ bs) c = at_end bs c
 
-module _ {X : Type 0} (tell : X → ExtState) where
+module _ {X : Type 0} (tell : X → ExtState) (held : Option Held) where
   -- none is out once it is given up
-  pub none_spoiled : (entries : Entries) (context len n faults : ℕ) (claim : Claim X) → IsSoleClaim tell entries context len claim
+  pub none_spoiled : (entries : Entries) (context len n faults : ℕ) (claim : Claim X) → IsSoleClaim tell held entries context len claim
       → n ≡ claim.cluster
       → HasNoneOut (entries ++ spoiled_entry context n faults ∷ [])
   none_spoiled entries context len n faults claim s number =
@@ -84,8 +85,8 @@ module _ {X : Type 0} (tell : X → ExtState) where
       (all-handed context n (Spoiled faults) s.before s.last refl s.back s.own (s.number ∙ sym number) s.out)
 
   -- the one range is a claim's
-  pub is_claim : (entries : Entries) (context len : ℕ) (claim : Claim X) → IsSoleClaim tell entries context len claim
-      → IsClaimOf tell (ranges_of entries) context claim
+  pub is_claim : (entries : Entries) (context len : ℕ) (claim : Claim X) → IsSoleClaim tell held entries context len claim
+      → IsClaimOf tell held (ranges_of entries) context claim
   is_claim entries context len claim s = record {
     place = length s.before;
     cluster = s.last;
@@ -94,13 +95,14 @@ module _ {X : Type 0} (tell : X → ExtState) where
     number = s.number;
     out = s.out;
     range = s.range;
+    tells = s.tells;
   }
 
   -- a claim whose extent was filled, or couldn't be, is of the same range
-  pub is_claim_after : (entries : Entries) (context len : ℕ) (claim now : Claim X) → IsSoleClaim tell entries context len claim
-      → now.cluster ≡ claim.cluster
-      → (tell now.ext).range ≡ (tell claim.ext).range → IsClaimOf tell (ranges_of entries) context now
-  is_claim_after entries context len claim now s number range =
+  pub is_claim_after : (entries : Entries) (context len : ℕ) (claim now : Claim X) → IsSoleClaim tell held entries context len claim
+      → now.cluster ≡ claim.cluster → (tell now.ext).range ≡ (tell claim.ext).range → (tell now.ext).tells ≡ (tell claim.ext).tells
+      → IsClaimOf tell held (ranges_of entries) context now
+  is_claim_after entries context len claim now s number range tells =
       let c = is_claim entries context len claim s in
       record {
         place = c.place;
@@ -110,11 +112,12 @@ module _ {X : Type 0} (tell : X → ExtState) where
         number = c.number ∙ sym number;
         out = c.out;
         range = c.range ∙ sym range;
+        tells = λ h is. tells ∙ c.tells h is;
       }
 
   -- none is out once it is handed back
   pub none_settled : (entries : Entries) (context len n : ℕ) (claim : Claim X) (bytes : Option (List ℕ))
-      → IsSoleClaim tell entries context len claim → n ≡ claim.cluster
+      → IsSoleClaim tell held entries context len claim → n ≡ claim.cluster
       → HasNoneOut (entries ++ settled_with context n bytes ∷ [])
   none_settled entries context len n claim bytes s number =
       subst (AllByRecursion Back) (sym (ranges-snoc entries (settled_with context n bytes)
@@ -133,7 +136,7 @@ module _ {D X : Type 0} (state : D → DiskState) (tell : X → ExtState) (commi
   -- the claim of a cluster that was committed while no range was out
   pub sole-commit : (meta : ClusterMeta) (old new : PassState (Entry ClusterMeta) (Birth D)) (claim : Claim X) → HasNoneOut old.own
       → meta.context ≡ old.number
-      → Hold meta old new (Ok claim) → IsSoleClaim tell new.own old.number meta.len claim
+      → Hold meta old new (Ok claim) → IsSoleClaim tell (state committer.birth.begun).held new.own old.number meta.len claim
   sole-commit meta old new claim back context h =
       let adds = h.commits.adds in
       let last : Cluster ClusterMeta = record {
@@ -156,6 +159,7 @@ module _ {D X : Type 0} (state : D → DiskState) (tell : X → ExtState) (commi
         range = sym adds.0.range;
         unfilled = adds.0.unfilled;
         len_is = ap (λ (r : Range). r.len) adds.0.range;
+        tells = subst (λ (b : Birth D). WhereHeld (state b.begun).held (λ k. (tell claim.ext).tells ≡ true)) h.hold.birth adds.0.tells;
       }
 
   pub stays : (old new added : Entries) → HasNoneOut old → new ≡ old ++ added → added ≡ [] → HasNoneOut new
@@ -179,9 +183,11 @@ module _ {D X : Type 0} (state : D → DiskState) (tell : X → ExtState) (commi
   -- what an answer leaves: the claim of the one range that is out, or none
   pub left-by-answer : (meta : ClusterMeta) (old new : PassState (Entry ClusterMeta) (Birth D)) (len : ℕ)
       (result : Result (Claim X) CommitError) → HasNoneOut old.own
-      → meta.context ≡ old.number → meta.len ≡ len → Hold meta old new result → LeavesAtMostOne tell new.own old.number len result
+      → meta.context ≡ old.number → meta.len ≡ len → Hold meta old new result
+      → LeavesAtMostOne tell (state committer.birth.begun).held new.own old.number len result
   left-by-answer meta old new len (Ok claim) back context is h =
-      subst (λ (n : ℕ). IsSoleClaim tell new.own old.number n claim) is (sole-commit meta old new claim back context h)
+      subst (λ (n : ℕ). IsSoleClaim tell (state committer.birth.begun).held new.own old.number n claim) is
+      (sole-commit meta old new claim back context h)
   left-by-answer meta old new len (Err e) back context is h = none-refused meta old new e back h
 
 module _ {X : Type 0} (tell : X → ExtState) where

@@ -50,7 +50,7 @@ pub fn commit_one<D: Disk>(
     ensures pass { IsPassOf committer.now pass.new }
     ensures number { pass.new.number ≡ pass.old.number }
     ensures len { length image.new.bytes ≡ length image.old.bytes }
-    ensures left { LeavesAtMostOne D.Ext.state pass.new.own pass.old.number
+    ensures left { LeavesAtMostOne D.Ext.state (D.state committer.now.birth.begun).held pass.new.own pass.old.number
         (length image.old.bytes) result }
 {
     committer.commit(rt, pass, image)
@@ -66,7 +66,8 @@ pub fn hand_back<D: Disk>(
     bytes: &[u8],
 ) -> Option<D::Pen>
     requires pass { IsPassOf committer.now pass.old }
-    requires claim { IsSoleClaim D.Ext.state pass.old.own pass.old.number (length bytes.now) claim }
+    requires claim { IsSoleClaim D.Ext.state (D.state committer.now.birth.begun).held
+        pass.old.own pass.old.number (length bytes.now) claim }
     ensures pass { IsPassOf committer.now pass.new }
     ensures number { pass.new.number ≡ pass.old.number }
     ensures back { HasNoneOut pass.new.own }
@@ -95,7 +96,8 @@ pub fn hand_back_any<D: Disk>(
     bytes: &[u8],
 ) -> (Option<D::Pen>, Option<CommitError>)
     requires pass { IsPassOf committer.now pass.old }
-    requires left { LeavesAtMostOne D.Ext.state pass.old.own pass.old.number (length bytes.now) answer }
+    requires left { LeavesAtMostOne D.Ext.state (D.state committer.now.birth.begun).held
+        pass.old.own pass.old.number (length bytes.now) answer }
     ensures pass { IsPassOf committer.now pass.new }
     ensures number { pass.new.number ≡ pass.old.number }
     ensures back { HasNoneOut pass.new.own }

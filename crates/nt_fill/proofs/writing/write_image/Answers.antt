@@ -48,8 +48,6 @@ fill_range-requires-clause-claim g c =
       unfilled = new.unfilled;
       long = ap length c.as_slice.ensures ∙ (ap (λ (i : ClusterImage). length i.bytes) c.in_ok-claim.ensures.image
           ∙ (keyed_length c.args.image.now.bytes _ room ∙ (sym c.requires.image_is.whole ∙ sym (ap (λ r. r.len) new.range))));
-      tells = subst (λ (b : Birth _). WhereHeld (g.D.Disk.state b.begun).held (λ h. (g.D.Ext.Ext.state c.in_ok-claim.claim.ext).tells
-          ≡ true)) commits.hold.birth new.tells;
     }
 
 pub returns-in_err-fill_range-clause-pass : goal.returns-in_err-fill_range-clause-pass

@@ -7,7 +7,8 @@ use Rattle.nt_commit.proofs.committing.CommitterOf+Locked+D.spoil.Goals as goal
 
 pub spoil-requires-clause-own : goal.spoil-requires-clause-own
 spoil-requires-clause-own g c =
-    subst (λ n. IsClaimOf g.D.Ext.Ext.state (ranges_of (history_of_locked g.D.Disk.state c.take-locked.result)) n c.args.claim)
+    subst (λ n. IsClaimOf g.D.Ext.Ext.state (g.D.Disk.state c.take-locked.result.birth.begun).held
+    (ranges_of (history_of_locked g.D.Disk.state c.take-locked.result)) n c.args.claim)
     (sym c.number-context.ensures)
     (claim_taken g.D.Disk.state _ _ _ _ c.requires.pass c.take-locked.ensures.pass c.take-locked.ensures.took g.D.Ext.Ext.state
     c.args.claim c.requires.own)

@@ -9,19 +9,22 @@ use Rattle.nt_commit.proofs.locked.Locked.spoil.Goals as goal
 
 pub spoil-requires : goal.spoil-requires
 spoil-requires g c =
-    let own = subst (λ v. IsClaimOf g.D.Ext.Ext.state (ranges_of (history_of_locked g.D.Disk.state v)) c.args.context c.args.claim)
+    let own = subst (λ v. IsClaimOf g.D.Ext.Ext.state (g.D.Disk.state v.birth.begun).held (ranges_of (history_of_locked g.D.Disk.state v))
+    c.args.context c.args.claim)
     (sym c.self.view_is) c.requires.own in
     out_in_book g.D.Disk.state _ _ _ _ c.self.invariant g.D.Ext.Ext.state c.args.context c.args.claim own
 
 pub settle-requires : goal.settle-requires
 settle-requires g c =
-    let own = subst (λ v. IsClaimOf g.D.Ext.Ext.state (ranges_of (history_of_locked g.D.Disk.state v)) c.args.context c.args.claim)
+    let own = subst (λ v. IsClaimOf g.D.Ext.Ext.state (g.D.Disk.state v.birth.begun).held (ranges_of (history_of_locked g.D.Disk.state v))
+    c.args.context c.args.claim)
     (sym c.self.view_is) c.requires.own in
     out_of_disk g.D.Disk.state _ _ _ _ c.self.invariant g.D.Ext.Ext.state c.args.context c.args.claim own
 
 pub invariant_of-self : goal.invariant_of-self
 invariant_of-self g c =
-    let own = subst (λ v. IsClaimOf g.D.Ext.Ext.state (ranges_of (history_of_locked g.D.Disk.state v)) c.args.context c.args.claim)
+    let own = subst (λ v. IsClaimOf g.D.Ext.Ext.state (g.D.Disk.state v.birth.begun).held (ranges_of (history_of_locked g.D.Disk.state v))
+    c.args.context c.args.claim)
     (sym c.self.view_is) c.requires.own in
     let context : c.args.context ≤ c.self.inside.contexts = omega (arith, ap (λ v. v.birth.contexts) c.self.view_is, c.requires.context) in
     (claim_spoiled g.D.Disk.state _ _ _ _ c.self.invariant _ _ g.D.Ext.Ext.state c.args.context c.args.claim own context
@@ -31,7 +34,8 @@ invariant_of-self g c =
 
 pub returns-clause-step : goal.returns-clause-step
 returns-clause-step g c =
-    let own = subst (λ v. IsClaimOf g.D.Ext.Ext.state (ranges_of (history_of_locked g.D.Disk.state v)) c.args.context c.args.claim)
+    let own = subst (λ v. IsClaimOf g.D.Ext.Ext.state (g.D.Disk.state v.birth.begun).held (ranges_of (history_of_locked g.D.Disk.state v))
+    c.args.context c.args.claim)
     (sym c.self.view_is) c.requires.own in
     let context : c.args.context ≤ c.self.inside.contexts = omega (arith, ap (λ v. v.birth.contexts) c.self.view_is, c.requires.context) in
     step_from g.D.Disk.state _ _ _ c.self.view_is
@@ -42,7 +46,8 @@ returns-clause-step g c =
 
 pub returns-clause-spoils : goal.returns-clause-spoils
 returns-clause-spoils g c =
-    let own = subst (λ v. IsClaimOf g.D.Ext.Ext.state (ranges_of (history_of_locked g.D.Disk.state v)) c.args.context c.args.claim)
+    let own = subst (λ v. IsClaimOf g.D.Ext.Ext.state (g.D.Disk.state v.birth.begun).held (ranges_of (history_of_locked g.D.Disk.state v))
+    c.args.context c.args.claim)
     (sym c.self.view_is) c.requires.own in
     let context : c.args.context ≤ c.self.inside.contexts = omega (arith, ap (λ v. v.birth.contexts) c.self.view_is, c.requires.context) in
     spoils_from g.D.Disk.state _ _ _ c.self.view_is c.args.context c.args.claim.cluster
