@@ -2,10 +2,12 @@
 //!
 //! A case is a line, its words apart by one blank. Stdout has each line again, but for what `let` gives, and behind it the answer.
 //! `trials.rt` has the lines; `running.rt` calls `nt_app::run` over a host in memory; `direct.rt` calls the writers below it, for
-//! limits and lengths that no word of the program sets. Nothing is proved here of what a run answers: that is said by the contract
-//! of `run`, and tried here on rows that were made by hand. What is expected was worked out outside the program.
+//! limits and lengths that no word of the program sets, and `built.rt` those that write on a disk itself. Nothing is proved here of
+//! what a run answers: that is said by the contract of `run`, and tried here on rows that were made by hand. What is expected was
+//! worked out outside the program.
 #![tactic(auto)]
 
+mod built;
 mod direct;
 mod named;
 mod points;

@@ -32,6 +32,7 @@ impl Trials {
             "each" => return self.fail_numbered(rt, rest, told),
             "stop" => return self.stop(rt, rest, told),
             "crash" => return self.crash(rt, rest, told),
+            "built" => return self.crash_built(rt, rest, told),
             _ => told.push(b' ')?,
         }
         match command {

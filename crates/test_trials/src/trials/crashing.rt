@@ -1,10 +1,11 @@
 //! Lines of runs of which calls fail by their number over all objects, and of crashes.
 
 use super::Trials;
+use crate::built::{build, groups_of};
 use crate::points::Points;
 use crate::rows::Rows;
 use crate::running::{Fails, run_on};
-use crate::spelling::number_of;
+use crate::spelling::{number_of, short_of};
 use crate::whole::add_judged;
 use nt_memory::MemHost;
 use std::alloc::AllocError;
@@ -98,6 +99,35 @@ impl Trials {
                 if let Some(left) = ran.host.crash("o", count as usize, pick)? {
                     self.add_read(rt, left.as_slice(), &mut answer)?;
                 }
+                answer.push(b';')?;
+            }
+            rows.add(count, answer, told)?;
+        }
+        rows.end(told)
+    }
+
+    /// `built CLUSTER GROUP MOST`: the same of a disk itself, on which the text `a` is written by the calls below the program.
+    pub fn crash_built<R: Threads + Wait + Sync>(
+        &self,
+        rt: &R,
+        rest: &[&str],
+        told: &mut Vec<u8>,
+    ) -> Result<(), AllocError> {
+        let [cluster, group, most] = rest else {
+            return Ok(());
+        };
+        let Some(params) = groups_of(short_of(cluster), short_of(group)) else {
+            return Ok(());
+        };
+        let Some(disk) = build(rt, self.alloc, &self.files, &params)? else {
+            return Ok(());
+        };
+        let mut rows = Rows::new(self.alloc);
+        for count in 0..number_of(most) {
+            let mut answer = Vec::new(self.alloc);
+            for pick in 0..3 {
+                let left = disk.crash(count as usize, pick)?;
+                self.add_read(rt, left.as_slice(), &mut answer)?;
                 answer.push(b';')?;
             }
             rows.add(count, answer, told)?;
