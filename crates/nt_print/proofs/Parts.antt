@@ -1,13 +1,16 @@
 -- Lists of integers that are printed a part at a time.
+use Rattle.std.proofs.Common.{inl, inr}
 use Rattle.std.proofs.Common.{◌≡◌, ℕ, ℤ, pos, suc, ◌+◌, ◌-◌, ◌*◌, ◌/◌, ◌<◌, ◌≤◌, Bool, true, List, [], ◌∷◌, ◌++◌, ltb, length}
 use Rattle.std.proofs.Common.{map, take, drop, sym, ap, ◌∙◌, refl, subst, arith, append_assoc, append-nil}
 use Rattle.std.specs.List.{slice_range}
-use Rattle.std.proofs.lemmas.List.{map-append, take-append-drop, take-append-le, drop-drop, take-take}
+use Rattle.std.proofs.lemmas.List.{map-append, take-append-drop, take-append-le, drop-drop, take-take, drop-take}
 use Rattle.std.proofs.lemmas.List.{length-map, length-append, length-drop, length-take-le}
-use Rattle.std.proofs.lemmas.Bool.{lt-ltb}
+use Rattle.std.proofs.lemmas.Bool.{lt-ltb, le-ltb, cases_lt}
+use Rattle.nt_column.proofs.Numbers.{length-numbers, numbers-range}
 use Rattle.serde_json.specs.Written.{compact_text, items_text}
 use Rattle.nt_types.specs.TreeData.{num}
 use Rattle.nt_event.specs.Json.{data_of, datas_of, line_of}
+use Rattle.nt_column.specs.Elements.{Element, numbers}
 use Rattle.nt_trees.specs.Integers.{integer_of}
 use Rattle.nt_print.specs.Integers.{integer_trees, integers_text, AreBelow}
 use Rattle.nt_print.specs.Marks.{end_of}
@@ -68,13 +71,22 @@ pub IsPut-all : (old new : List ℕ) (mark : ℕ) (left : List ℤ) (whole : Lis
 IsPut-all old new mark left whole none b =
     sym (append-nil new) ∙ ap (λ zs. new ++ integers_text mark zs) (sym none) ∙ b.text
 
--- after the last part and an end
-pub IsPut-end : (old new mid next : List ℕ) (mark : ℕ) (left last : List ℤ) (whole end line : List ℕ) → IsPut old new mark left whole
-    → last ≡ left → mid ≡ new ++ integers_text mark last → next ≡ mid ++ end → whole ++ end ≡ line → next ≡ old ++ line
-IsPut-end old new mid next mark left last whole end line b same rest is all =
-    is
-    ∙ (ap (λ l. l ++ end) (rest ∙ (ap (λ zs. new ++ integers_text mark zs) same ∙ b.text))
-    ∙ (append_assoc old whole end ∙ ap (λ l. old ++ l) all))
+-- numbers from a place on are those of a part and of the others
+range-split : (ns : List ℕ) (a b c : ℕ) → a ≤ b → b ≤ c → slice_range ns a c ≡ slice_range ns a b ++ slice_range ns b c
+range-split ns a b c first second =
+    let all : (b - a) + (c - b) ≡ c - a = omega arith in
+    let next : a + (b - a) ≡ b = omega arith in
+    let rest : drop (b - a) (drop a ns) ≡ drop b ns = drop-drop (b - a) a ns ∙ ap (λ n. drop n ns) next in
+    sym (ap (λ n. take n (drop a ns)) all)
+    ∙ (sym (take-append-drop (b - a) (take ((b - a) + (c - b)) (drop a ns)))
+    ∙ (ap (λ l. l ++ drop (b - a) (take ((b - a) + (c - b)) (drop a ns))) (take-take (b - a) ((b - a) + (c - b)) (drop a ns) (omega arith))
+    ∙ ap (λ l. slice_range ns a b ++ l) (drop-take (b - a) (c - b) (drop a ns) ∙ ap (take (c - b)) rest)))
+
+-- and so are their integers
+pub read-more : (f : ℕ → ℤ) (ns : List ℕ) (a b c : ℕ) → a ≤ b → b ≤ c
+    → map f (slice_range ns a c) ≡ map f (slice_range ns a b) ++ map f (slice_range ns b c)
+read-more f ns a b c first second =
+    ap (map f) (range-split ns a b c first second) ∙ map-append f (slice_range ns a b) (slice_range ns b c)
 
 -- eight words have an integer
 pub eight-some : {A : Type 0} (n : A → ℕ) (f : ℕ → ℤ) (ws : List A) (i : ℕ) → i < length ws / 8
@@ -132,6 +144,57 @@ line-ended bits signed (n ∷ ns) later is =
     let some : later ≡ true = is ∙ lt-ltb 0 (length (n ∷ ns)) (omega arith) in
     ap (λ b. integers_text 91 (map (integer_of bits signed) (n ∷ ns)) ++ end_of b) some
     ∙ (append_assoc t (integers_text 44 (map (integer_of bits signed) ns)) (93 ∷ []) ∙ ap (λ l. t ++ l) (sym (items-put bits signed ns)))
+
+-- ---- numbers that are read
+
+map-self : (xs : List ℕ) → map (λ (m : ℕ). m) xs ≡ xs
+map-self [] = refl
+map-self (x ∷ xs) = ap (λ (l : List ℕ). x ∷ l) (map-self xs)
+
+-- after a part that was read
+pub IsPut-read : (old new next : List ℕ) (mark : ℕ) (f : ℕ → ℤ) (ns words read : List ℕ) (at n to : ℕ) (whole : List ℕ)
+    → IsPut old new mark (map f (slice_range ns at to)) whole → 0 < n → at + n ≤ to → to ≤ length ns
+    → take n read ≡ slice_range ns at (at + n) → words ≡ take n read
+    → next ≡ new ++ integers_text mark (map f (map (λ (m : ℕ). m) words))
+    → IsPut old next 44 (map f (slice_range ns (at + n) to)) whole
+IsPut-read old new next mark f ns words read at n to whole b some within room is front value =
+    let part : List ℕ = slice_range ns at (at + n) in
+    let same : map f (map (λ (m : ℕ). m) words) ≡ map f part = ap (map f) (map-self words ∙ (front ∙ is)) in
+    let len : length part ≡ at + n - at = length-take-le (at + n - at) (drop at ns) (omega (arith, length-drop at ns, within, room)) in
+    IsPut-part old new next mark (map f part) (map f (slice_range ns at to)) (map f (slice_range ns (at + n) to)) whole
+    (read-more f ns at (at + n) to (omega arith) within) (omega (arith, length-map part f, len, some)) b
+    (value ∙ ap (λ zs. new ++ integers_text mark zs) same)
+
+-- whether there are numbers of a part
+some-later : (from to n : ℕ) → from ≤ to → n ≡ to - from → ltb from to ≡ ltb 0 n
+some-later from to n order is = elim (cases_lt from to) [
+  | inl l ↦ lt-ltb from to l ∙ sym (lt-ltb 0 n (omega arith))
+  | inr r ↦ le-ltb from to r ∙ sym (le-ltb 0 n (omega arith))
+]
+
+-- after all numbers of a part, and an end
+pub IsPut-line : (old : List ℕ) (first : ℕ) (new next : List ℕ) (mark bits : ℕ) (signed : Bool) (es : List Element) (from to at : ℕ)
+    → from ≤ to → to ≤ length es → to ≤ at
+    → IsPut (old ++ first ∷ []) new mark (map (integer_of bits signed) (slice_range (numbers es) at to))
+    (integers_text 91 (map (integer_of bits signed) (slice_range (numbers es) from to)))
+    → next ≡ new ++ end_of (ltb from to)
+    → next ≡ old ++ first ∷ line_of (integer_trees bits signed (numbers (slice_range es from to)))
+IsPut-line old first new next mark bits signed es from to at order within all b is =
+    let integer : ℕ → ℤ = integer_of bits signed in
+    let ns : List ℕ = slice_range (numbers es) from to in
+    let text : List ℕ = integers_text 91 (map integer ns) in
+    let later : Bool = ltb from to in
+    let none : to - at ≡ 0 = omega arith in
+    let nothing : map integer (slice_range (numbers es) at to) ≡ [] = ap (λ n. map integer (take n (drop at (numbers es)))) none in
+    let len : length ns ≡ to - from = length-take-le (to - from) (drop from (numbers es))
+    (omega (arith, length-drop from (numbers es), length-numbers es, within)) in
+    is
+    ∙ (ap (λ l. l ++ end_of later)
+    (IsPut-all (old ++ first ∷ []) new mark (map integer (slice_range (numbers es) at to)) text nothing b)
+    ∙ (append_assoc (old ++ first ∷ []) text (end_of later)
+    ∙ (append_assoc old (first ∷ []) (text ++ end_of later)
+    ∙ ap (λ l. old ++ first ∷ l) (line-ended bits signed ns later (some-later from to (length ns) order len)
+    ∙ ap (λ l. line_of (integer_trees bits signed l)) (sym (numbers-range es from to))))))
 
 -- ---- room that is written to
 

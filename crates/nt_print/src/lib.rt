@@ -23,7 +23,7 @@
 //! - A text of up to 29 bytes is written to such room, eight bytes at a time; the last eight may be there
 //!   already in part. A longer one is looked at first, and then appended.
 //! - Where the part of an element stands is one look at the column of its ends, where they lie together.
-//! - A list of numbers whose column isn't lent, as one of zeros, is printed an element at a time.
+//! - A list of numbers that don't lie together, as those of a column of zeros, is read 32 numbers at a time.
 //! - It goes as deep as the plans do, which is at most 64 levels.
 #![tactic(auto)]
 
@@ -34,6 +34,7 @@ mod few;
 mod leaves;
 mod lists;
 mod marked;
+mod reading;
 mod room;
 mod short;
 mod simple;

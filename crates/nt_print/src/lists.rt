@@ -115,6 +115,29 @@ fn put_eight<W: Word>(
     }
 }
 
+/// Appends the integers that words stand for, a mark in front of the first, and commas.
+#[inline(always)]
+pub fn put_integers<W: Word>(
+    first: u8,
+    words: &[W],
+    bits: u8,
+    signed: bool,
+    out: &mut Vec<u8>,
+) -> Result<(), AllocError>
+    ensures ok { OnOk result (out.new.items ≡ out.old.items
+        ++ integers_text first (map (integer_of bits signed) (map W.number words.now))) }
+    ensures kept { take (length out.old.items) out.new.items ≡ out.old.items }
+{
+    let mut mark = first;
+    let blocks = words.len() / 8;
+    for i in 0..blocks {
+        put_eight(mark, &words[8 * i..8 * i + 8], bits, signed, out)?;
+        mark = b',';
+    }
+    put_rest(blocks == 0, mark, &words[8 * blocks..], bits, signed, out)?;
+    Ok(())
+}
+
 /// Appends the array of the integers that words stand for.
 fn put_array<W: Word>(
     words: &[W],
@@ -126,13 +149,7 @@ fn put_array<W: Word>(
         ++ line_of (integer_trees bits signed (map W.number words.now))) }
     ensures kept { take (length out.old.items) out.new.items ≡ out.old.items }
 {
-    let mut mark = b'[';
-    let blocks = words.len() / 8;
-    for i in 0..blocks {
-        put_eight(mark, &words[8 * i..8 * i + 8], bits, signed, out)?;
-        mark = b',';
-    }
-    put_rest(blocks == 0, mark, &words[8 * blocks..], bits, signed, out)?;
+    put_integers(b'[', words, bits, signed, out)?;
     put_end(words.len() > 0, out)?;
     Ok(())
 }

@@ -10,6 +10,7 @@ ghost use Rattle.nt_join.specs.Readable.{Readable, ReadableTo, ReadableEach};
 
 use crate::leaves::{mark_before, put_end, put_flag, put_integer, put_part, put_tag};
 use crate::lists::put_lent;
+use crate::reading::put_read;
 use crate::spans::span;
 use nt_column::Columns;
 use nt_join::reading::{number, tag};
@@ -98,6 +99,7 @@ fn put_range<C: Columns>(
         if let Some(words) = columns.words(*column, from, to) {
             return put_lent(mark, words, *bits, *signed, out);
         }
+        return put_read(columns, *column, (*bits, *signed), (from, to), mark, out);
     }
     put_items(alloc, columns, of, from, to, mark, out)
 }

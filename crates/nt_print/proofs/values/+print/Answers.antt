@@ -2,6 +2,7 @@ use Rattle.std.proofs.Common.{rules, ◌==◌, ◌≡◌, ◌<◌, ◌≤◌, �
 use Rattle.std.proofs.Common.{arith, Box, Global, List, [], false, refl, append_assoc}
 use Rattle.std.proofs.lemmas.List.{drop_more, drop_all, length-map}
 use Rattle.std.specs.Prelude.{OnOk}
+use Rattle.std.specs.List.{slice_range}
 use Rattle.nt_column.specs.Words.{lent_elements}
 use Rattle.serde_json.specs.Written.{compact_text}
 use Rattle.nt_types.specs.TreeData.{TreeData, TreesData, flag, text as text_tree, items, parts, pick}
@@ -41,6 +42,18 @@ put_range-returns-in-Some-clause-ok g t c =
     subst (λ (ts : TreesData). OnOk c.put_lent.result (c.put_lent.new.out.items ≡ c.args.out.now.items ++ c.args.mark ∷ line_of ts))
     (lent-trees (plan_view c.args.of.now) cols n.column n.bits n.signed es c.args.from c.args.to is c.in-Some.ensures.words
     c.requires.order within) c.put_lent.ensures.ok
+
+pub put_range-returns-in-Number-clause-ok : goal.put_range-returns-in-Number-clause-ok
+put_range-returns-in-Number-clause-ok g t c =
+    let cols = g.C.Columns.elements c.args.columns.now in
+    let n = c.in-Number in
+    let from = c.args.from in
+    let to = c.args.to in
+    let is = ap plan_view n.is ∙ view-Number n.column n.bits n.signed in
+    let within = number-within (plan_view c.args.of.now) cols n.column n.bits n.signed to is c.requires.readable in
+    subst (λ (ts : TreesData). OnOk c.put_read.result (c.put_read.new.out.items ≡ c.args.out.now.items ++ c.args.mark ∷ line_of ts))
+    (lent-trees (plan_view c.args.of.now) cols n.column n.bits n.signed (slice_range (cols n.column) from to) from to is refl
+    c.requires.order within) c.put_read.ensures.ok
 
 pub put_items-loop-i-init : goal.put_items-loop-i-init
 put_items-loop-i-init g t c =
