@@ -153,8 +153,9 @@ map-self (x ∷ xs) = ap (λ (l : List ℕ). x ∷ l) (map-self xs)
 
 -- after a part that was read
 pub IsPut-read : (old new next : List ℕ) (mark : ℕ) (f : ℕ → ℤ) (ns words read : List ℕ) (at n to : ℕ) (whole : List ℕ)
-    → IsPut old new mark (map f (slice_range ns at to)) whole → 0 < n → at + n ≤ to → to ≤ length ns → take n read ≡ slice_range ns at (at + n)
-    → words ≡ take n read → next ≡ new ++ integers_text mark (map f (map (λ (m : ℕ). m) words))
+    → IsPut old new mark (map f (slice_range ns at to)) whole → 0 < n → at + n ≤ to → to ≤ length ns
+    → take n read ≡ slice_range ns at (at + n) → words ≡ take n read
+    → next ≡ new ++ integers_text mark (map f (map (λ (m : ℕ). m) words))
     → IsPut old next 44 (map f (slice_range ns (at + n) to)) whole
 IsPut-read old new next mark f ns words read at n to whole b some within room is front value =
     let part : List ℕ = slice_range ns at (at + n) in

@@ -1,4 +1,4 @@
-use Rattle.std.proofs.Common.{ℕ, ℤ, ◌+◌, ◌≤◌, ◌∷◌, ◌++◌, [], List, length, map, sym, refl, subst, arith}
+use Rattle.std.proofs.Common.{drop, ℕ, ℤ, ◌+◌, ◌≤◌, ◌∷◌, ◌++◌, [], List, length, map, sym, refl, subst, arith}
 use Rattle.std.proofs.lemmas.List.{length-take, take-append-le}
 use Rattle.std.specs.List.{slice_range}
 use Rattle.nt_column.specs.Elements.{numbers}
@@ -31,10 +31,11 @@ loop-at-preserved g c =
     omega (arith, most, room, c.read-count.ensures.some.2, c.min-most.ensures, c.loop-at-test.true) in
     let within : c.args.part.1 ≤ length ns =
     omega (arith, c.requires.within, length-numbers (g.C.Columns.elements c.args.columns.now c.args.column)) in
+    let front = take-append-le n c.read-count.new.out (drop c.min-most.result c.loop-at.block) most in
     record {
       reached = reached;
       put = IsPut-read _ c.loop-at.out.items c.put_integers.new.out.items c.loop-at.next integer ns _ c.read-count.new.out c.loop-at.at n
-          c.args.part.1 _ c.loop-at.invariant.put c.read-count.ensures.some.0 reached within c.read-count.ensures.read (take-append-le n c.read-count.new.out _ most)
+          c.args.part.1 _ c.loop-at.invariant.put c.read-count.ensures.some.0 reached within c.read-count.ensures.read front
           c.in_ok-put_integers.ensures.ok;
     }
 
