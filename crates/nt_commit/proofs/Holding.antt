@@ -21,7 +21,8 @@ use Rattle.nt_commit.specs.declared.error.CommitError.{CommitError}
 use Rattle.nt_commit.specs.declared.error.CommitError.TheVariants.{RangeTooLarge, FileTooLarge, TooManyClusters, Memory, Fault}
 use Rattle.nt_commit.specs.declared.locked.Birth.{Birth}
 use Rattle.nt_commit.specs.Claims.{IsClaimOf, CommitAdds, PenAdds, settled_with}
-use Rattle.nt_commit.specs.Holds.{IsPassOf, IsCommittable, IsStep, GrowsBy, OpensPen, SettlesRange, Spoils, IsHold, AddsInHold, OpensInHold}
+use Rattle.nt_commit.specs.Holds.{IsPassOf, IsCommittable, IsLater, HistoryGrows, OpensPen, SettlesRange, Spoils, IsHold}
+use Rattle.nt_commit.specs.Holds.{AddsInHold, OpensInHold}
 use Rattle.nt_commit.specs.Holds.{RefusesPen, LeavesAfter}
 use Rattle.nt_commit.specs.Locked.{LockedState, birth_of, context_of, history_of_locked}
 use Rattle.nt_logged.specs.Steps.{bytes_where_told}
@@ -87,7 +88,7 @@ module _ {D : Type 0} (state : D → DiskState) (committer : TurnState (Birth D)
   -- the entry of a settled range, by the pass and the committer
   pub settles_by : (given : LockedState D) (context n : ℕ) (ext : ExtState) → context ≡ old.number
       → SettlesRange state context n ext taken given
-      → GrowsBy state taken given (settled_with old.number n (bytes_where_told (state committer.birth.begun).held ext.content) ∷ [])
+      → HistoryGrows state taken given (settled_with old.number n (bytes_where_told (state committer.birth.begun).held ext.content) ∷ [])
   settles_by given context n ext is settles =
       settles.grows ∙ (ap (λ (i : ℕ). history_of_locked state taken
       ++ settled_with i n (bytes_where_told (state taken.birth.begun).held ext.content) ∷ []) is
@@ -96,7 +97,7 @@ module _ {D : Type 0} (state : D → DiskState) (committer : TurnState (Birth D)
 
   -- the entry of a spoiled range
   pub spoils_by : (given : LockedState D) (context n : ℕ) → context ≡ old.number → Spoils state context n taken given
-      → GrowsBy state taken given (spoiled_entry old.number n (state given.disk).faults ∷ [])
+      → HistoryGrows state taken given (spoiled_entry old.number n (state given.disk).faults ∷ [])
   spoils_by given context n is spoils = spoils.grows
       ∙ ap (λ (i : ℕ). history_of_locked state taken ++ spoiled_entry i n (state given.disk).faults ∷ []) is
 
@@ -106,8 +107,8 @@ module _ {D : Type 0} (state : D → DiskState) (committer : TurnState (Birth D)
       → OpensPen state old.number taken given result
   opens_by given context result is opens = subst (λ (i : ℕ). OpensPen state i taken given result) is opens
 
-  module _ (given : LockedState D) (added : List (Entry ClusterMeta)) (step : IsStep state taken given)
-      (grows : GrowsBy state taken given added)
+  module _ (given : LockedState D) (added : List (Entry ClusterMeta)) (step : IsLater state taken given)
+      (grows : HistoryGrows state taken given added)
       (ours : AllByRecursion (λ (e : Entry ClusterMeta). e.context ≡ old.number) added) where
     -- what is given may be given
     pub adds : Adds context_of held (history_of_locked state given)

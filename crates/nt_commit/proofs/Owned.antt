@@ -19,14 +19,14 @@ use Rattle.nt_commit.specs.declared.error.CommitError.TheVariants.{RangeTooLarge
 use Rattle.nt_commit.specs.Claims.{CommitAdds, limit_in, limit_answered}
 use Rattle.nt_commit.specs.declared.error.CommitError.{CommitError}
 use Rattle.nt_outside.specs.declared.fault.Refused.{Refused}
-use Rattle.nt_commit.specs.Holds.{IsStep, Commits, CommitsInHold, RefusesBehindSeen, OpensPen, SettlesRange}
+use Rattle.nt_commit.specs.Holds.{IsLater, Commits, CommitsInHold, RefusesBehindSeen, OpensPen, SettlesRange}
 use Rattle.nt_commit.specs.Holds.{KeepsHistory, Spoils, locked_end, locked_count}
 use Rattle.nt_commit.specs.Locked.{LockedState, history_of_locked}
 
 module _ {D : Type 0} (state : D → DiskState) (v v' w : LockedState D) (same : v ≡ v') where
   -- the same of a state as its owner sees it
-  pub step_from : IsStep state v w → IsStep state v' w
-  step_from step = subst (λ (x : LockedState D). IsStep state x w) same step
+  pub step_from : IsLater state v w → IsLater state v' w
+  step_from step = subst (λ (x : LockedState D). IsLater state x w) same step
 
   pub commits_from : {X : Type 0} (tell : X → ExtState) (meta : ClusterMeta) (result : Result (Claim X) CommitError)
       → Commits state tell meta v w result → Commits state tell meta v' w result

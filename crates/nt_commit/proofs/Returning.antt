@@ -16,7 +16,7 @@ use Rattle.nt_book.specs.Books.{BookData}
 use Rattle.nt_book.specs.Entries.{settled_entry, spoiled_entry}
 use Rattle.nt_commit.specs.declared.claim.Claim.{Claim}
 use Rattle.nt_commit.specs.Claims.{IsClaimOf, settled_with}
-use Rattle.nt_commit.specs.Holds.{IsStep, SettlesRange, Spoils}
+use Rattle.nt_commit.specs.Holds.{IsLater, SettlesRange, Spoils}
 use Rattle.nt_commit.specs.Locked.{LockedState, place_of, IsInStep, history_of_locked}
 use Rattle.nt_logged.specs.Steps.{bytes_where_told}
 use Rattle.nt_logged.proofs.Growing.{log-settle, log-spoil}
@@ -70,7 +70,7 @@ module _ {D : Type 0} (state : D → DiskState) (begun d : D) (contexts : ℕ) (
         → BecomesSome (state d).held (state d').held (IsRangeSettled ext)
         → (state d').end ≡ (state d).end
         → (state d').out ≡ without ext.range (state d).out → (state d').faults ≡ (state d).faults
-        → IsStep state old new × (history_of_locked state new ≡ history
+        → IsLater state old new × (history_of_locked state new ≡ history
         ++ settled_with i n (bytes_where_told (state begun).held ext.content) ∷ [])
     settled i n spare ext is out range context long has log end gone faults =
         let bytes = bytes_where_told (state begun).held ext.content in
@@ -108,7 +108,7 @@ module _ {D : Type 0} (state : D → DiskState) (begun d : D) (contexts : ℕ) (
         ++ Settle ext.range.start ext.range.len ext.content ∷ [])
         → (state d').end ≡ (state d).end → (state d').out ≡ without ext.range (state d).out
         → (state d).faults ≤ (state d').faults → Rose (state d).faults (state d').faults → faults ≡ (state d').faults → faults < 2 ^ 64
-        → IsStep state old new × (history_of_locked state new ≡ history ++ spoiled_entry i n (state d').faults ∷ [])
+        → IsLater state old new × (history_of_locked state new ≡ history ++ spoiled_entry i n (state d').faults ∷ [])
     spoiled i n faults spare ext is out range context empty log end gone later rose count fits =
         let start : ext.range.start ≡ out.cluster.start = ap (λ (r : Range). r.start) (sym range) in
         let len : ext.range.len ≡ out.cluster.len = ap (λ (r : Range). r.len) (sym range) in
@@ -138,7 +138,7 @@ module _ {D : Type 0} (state : D → DiskState) (begun d : D) (contexts : ℕ) (
       -- the range of a claim was settled
       pub claim_settled : HasHistory (b.history ++ settled_entry i claim.cluster ∷ []) b.spare
           → ((tell claim.ext).tells ≡ true → IsSome (tell claim.ext).content) → Settles (tell claim.ext) (state d) (state d')
-          → IsStep state old new × SettlesRange state i claim.cluster (tell claim.ext) old new
+          → IsLater state old new × SettlesRange state i claim.cluster (tell claim.ext) old new
       claim_settled is told done =
           let out = claimed state begun d contexts b was tell i claim own in
           let r = settled i claim.cluster b.spare (tell claim.ext) is out.0 out.1 context
@@ -151,7 +151,7 @@ module _ {D : Type 0} (state : D → DiskState) (begun d : D) (contexts : ℕ) (
           → HasHistory (b.history ++ spoiled_entry i claim.cluster faults ∷ []) b.spare
           → (tell claim.ext).filled ≡ false → 1 ≤ pen → Settles (tell claim.ext) (state d) s → TakesPen pen s (state d') → faults
           ≡ (state d').faults → faults < 2 ^ 64
-          → IsStep state old new × Spoils state i claim.cluster old new
+          → IsLater state old new × Spoils state i claim.cluster old new
       claim_spoiled faults s pen is unfilled failed done back count fits =
           let out = claimed state begun d contexts b was tell i claim own in
           let x = tell claim.ext in

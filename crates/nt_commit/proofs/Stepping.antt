@@ -23,7 +23,7 @@ use Rattle.nt_book.proofs.Fitting.{limit_error-none}
 use Rattle.nt_book.proofs.Ungrouped.{end-ungrouped, due-ungrouped}
 use Rattle.nt_commit.specs.declared.claim.Claim.{Claim}
 use Rattle.nt_commit.specs.Claims.{IsNewClaim, IsClaimOf}
-use Rattle.nt_commit.specs.Holds.{IsStep, locked_end, locked_count}
+use Rattle.nt_commit.specs.Holds.{IsLater, locked_end, locked_count}
 use Rattle.nt_commit.specs.Locked.{LockedState, place_of, Follows, IsInStep, birth_with, history_of_locked, locked_by}
 use Rattle.nt_logged.specs.Tails.{range_steps}
 use Rattle.nt_logged.specs.Steps.{told_history}
@@ -139,7 +139,7 @@ module _ {D : Type 0} (state : D → DiskState) (begun d : D) (contexts : ℕ) (
 
     new_step : (entries : List (Entry ClusterMeta)) (spare : ℕ) → HasHistory entries spare
         → Follows (state begun) (state d') contexts (history_of_locked state new) → AreShort (history_of_locked state new)
-        → IsStep state old new
+        → IsLater state old new
     new_step entries spare is follows short =
         record {
           birth = ap (λ (x : BookData). (locked_of begun d' contexts x).birth) is;
@@ -182,7 +182,7 @@ module _ {D : Type 0} (state : D → DiskState) (begun d : D) (contexts : ℕ) (
         → BecomesSome (state d).held (state d').held (λ h h'. h'.log ≡ h.log ++ steps)
         → told_entry (state begun).held e (range_steps steps) ≡ e'
         → Follows (state begun) (state d') contexts (history ++ e' ∷ []) → ReservesShort b.limits.range e'.kind
-        → IsStep state old new × (history_of_locked state new ≡ history ++ e' ∷ [])
+        → IsLater state old new × (history_of_locked state new ≡ history ++ e' ∷ [])
     grows_to e e' spare steps is log told follows low =
         let all = grown e spare steps is log ∙ ap (λ (x : Entry ClusterMeta). history ++ x ∷ []) told in (
           new_step (b.history ++ e ∷ []) spare is
@@ -193,7 +193,7 @@ module _ {D : Type 0} (state : D → DiskState) (begun d : D) (contexts : ℕ) (
 
     -- nothing was entered
     pub same_history : (spare : ℕ) → HasHistory b.history spare → KeepsPlace (state d) (state d') → (state d).faults ≤ (state d').faults
-        → IsStep state old new × (history_of_locked state new ≡ history ++ [])
+        → IsLater state old new × (history_of_locked state new ≡ history ++ [])
     same_history spare is place later =
         let all : history_of_locked state new ≡ history =
         ap (λ (x : BookData). told_history (state begun).held (state d').held x.history) is
@@ -208,7 +208,7 @@ module _ {D : Type 0} (state : D → DiskState) (begun d : D) (contexts : ℕ) (
     pub faulted : (i faults spare : ℕ) → HasHistory (b.history ++ faulted_entry i faults ∷ []) spare → i ≤ contexts
         → KeepsPlace (state d) (state d')
         → (state d).faults ≤ (state d').faults → Rose (state d).faults (state d').faults → faults ≡ (state d').faults → faults < 2 ^ 64
-        → IsStep state old new × (history_of_locked state new ≡ history ++ faulted_entry i (state d').faults ∷ [])
+        → IsLater state old new × (history_of_locked state new ≡ history ++ faulted_entry i (state d').faults ∷ [])
     faulted i faults spare is context place later rose count fits =
         let done = grows_to (faulted_entry i faults) (faulted_entry i faults) spare [] is
         (λ h was. (h, place.held ∙ was, sym (append-nil h.log))) (told-faulted (state begun).held i faults [])
@@ -223,7 +223,7 @@ module _ {D : Type 0} (state : D → DiskState) (begun d : D) (contexts : ℕ) (
         → None ≡ limit_error b.limits (book_end b) (length (book_clusters b)) meta.len → meta.context ≤ contexts → 42 ≤ meta.len
         → BecomesSome (state d).held (state d').held (IsReserved (state d).end meta.len) → (state d').end ≡ (state d).end + meta.len
         → (state d').out ≡ (state d).out ++ record { start = (state d).end; len = meta.len } ∷ [] → (state d).faults ≤ (state d').faults
-        → IsStep state old new × (history_of_locked state new ≡ history ++ committed_entry (locked_count state old)
+        → IsLater state old new × (history_of_locked state new ≡ history ++ committed_entry (locked_count state old)
         (locked_end state old) meta ∷ [])
     committed n spare meta is number behind limits context room log end out later =
         let done = grows_to (committed_entry n (book_end b) meta) (committed_entry n (book_end b) meta) spare

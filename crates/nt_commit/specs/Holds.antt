@@ -65,7 +65,7 @@ pub record IsCommittable (columns contexts : ℕ) (meta : ClusterMeta) : Type 0 
 
 module _ {D : Type 0} (state : D → DiskState) where
   -- what was true before is true after, and what never changes did not
-  pub record IsStep (old new : LockedState D) : Type 0 where
+  pub record IsLater (old new : LockedState D) : Type 0 where
     pub birth : new.birth ≡ old.birth
     pub before : IsInStep state old
     pub after : IsInStep state new
@@ -79,43 +79,43 @@ module _ {D : Type 0} (state : D → DiskState) where
   locked_count locked = length (ranges_of (history_of_locked state locked))
 
   -- the history grew by these entries
-  abbrev pub GrowsBy : LockedState D → LockedState D → List (Entry ClusterMeta) → Type 0
-  GrowsBy old new added = history_of_locked state new ≡ history_of_locked state old ++ added
+  abbrev pub HistoryGrows : LockedState D → LockedState D → List (Entry ClusterMeta) → Type 0
+  HistoryGrows old new added = history_of_locked state new ≡ history_of_locked state old ++ added
 
   -- a cluster was committed behind all others, or refused: for a limit exactly where the cluster passes it
   pub record Commits {X : Type 0} (tell : X → ExtState) (meta : ClusterMeta) (old new : LockedState D)
       (result : Result (Claim X) CommitError) : Type 0 where
     pub limits : limit_error old.birth.limits (locked_end old) (locked_count old) meta.len ≡ limit_answered result
     pub added : List (Entry ClusterMeta)
-    pub grows : GrowsBy old new added
+    pub grows : HistoryGrows old new added
     pub adds : CommitAdds tell (state old.birth.begun).held (state old.disk).faults (state new.disk).faults (locked_count old)
         (locked_end old) meta result added
 
   -- a pen was made, or refused
   pub record OpensPen {P : Type 0} (context : ℕ) (old new : LockedState D) (result : Result P Refused) : Type 0 where
     pub added : List (Entry ClusterMeta)
-    pub grows : GrowsBy old new added
+    pub grows : HistoryGrows old new added
     pub adds : PenAdds (state old.disk).faults (state new.disk).faults context result added
 
   -- a range was spoiled, with the disk's count of faults, which rose
   pub record Spoils (context n : ℕ) (old new : LockedState D) : Type 0 where
     pub rose : Rose (state old.disk).faults (state new.disk).faults
-    pub grows : GrowsBy old new (spoiled_entry context n (state new.disk).faults ∷ [])
+    pub grows : HistoryGrows old new (spoiled_entry context n (state new.disk).faults ∷ [])
 
   -- a range was settled, with the bytes of its extent where the disk tells them
   pub record SettlesRange (context n : ℕ) (ext : ExtState) (old new : LockedState D) : Type 0 where
-    pub grows : GrowsBy old new (settled_with context n (bytes_where_told (state old.birth.begun).held ext.content) ∷ [])
+    pub grows : HistoryGrows old new (settled_with context n (bytes_where_told (state old.birth.begun).held ext.content) ∷ [])
 
   -- nothing was added
   pub record KeepsHistory (old new : LockedState D) : Type 0 where
-    pub same : GrowsBy old new []
+    pub same : HistoryGrows old new []
 
   -- one hold of the turn: the pass had seen a beginning of the history, which then grew by these entries of its number
   pub record IsHold (committer : TurnState (Birth D)) (taken given : LockedState D) (added : List (Entry ClusterMeta))
       (old new : PassState (Entry ClusterMeta) (Birth D)) : Type 0 where
     pub birth : taken.birth ≡ committer.birth
-    pub step : IsStep taken given
-    pub grows : GrowsBy taken given added
+    pub step : IsLater taken given
+    pub grows : HistoryGrows taken given added
     pub begins : IsPrefix old.seen (history_of_locked state taken)
     pub now : new ≡ record old { seen = history_of_locked state given; own = old.own ++ added }
 

@@ -1,7 +1,7 @@
 //! Pens that come and go while the turn is held.
 
 ghost use Rattle.std.specs.Prelude.{◌≡◌, ◌≤◌, IfOk};
-ghost use Rattle.nt_commit.specs.Holds.{IsStep, OpensPen, KeepsHistory};
+ghost use Rattle.nt_commit.specs.Holds.{IsLater, OpensPen, KeepsHistory};
 
 use crate::locked::Locked;
 use nt_outside::{Disk, Refused};
@@ -10,7 +10,7 @@ impl<D: Disk> Locked<D> {
     /// A new pen for a context. A fault of the disk is entered in the book as this context's.
     pub(crate) fn open_pen(&mut self, context: u32) -> Result<D::Pen, Refused>
         requires { context ≤ self.old.birth.contexts }
-        ensures step { IsStep D.state self.old self.new }
+        ensures step { IsLater D.state self.old self.new }
         ensures opens { OpensPen D.state context self.old self.new result }
         ensures new { IfOk result (λ p. (D.Pen.state p).faults ≡ 0) }
     {
@@ -28,7 +28,7 @@ impl<D: Disk> Locked<D> {
 
     /// Takes a pen back.
     pub(crate) fn take_pen(&mut self, pen: D::Pen)
-        ensures step { IsStep D.state self.old self.new }
+        ensures step { IsLater D.state self.old self.new }
         ensures keeps { KeepsHistory D.state self.old self.new }
     {
         self.disk.put_back(pen);

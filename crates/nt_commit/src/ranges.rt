@@ -3,7 +3,7 @@
 ghost use Rattle.std.specs.Prelude.{◌≡◌, ◌≤◌, [], true, false, if◌then◌else◌, is_ok};
 ghost use Rattle.nt_machine.specs.History.{ranges_of};
 ghost use Rattle.nt_commit.specs.Claims.{IsClaimOf};
-ghost use Rattle.nt_commit.specs.Holds.{IsCommittable, IsStep, Commits, SettlesRange, Spoils};
+ghost use Rattle.nt_commit.specs.Holds.{IsCommittable, IsLater, Commits, SettlesRange, Spoils};
 ghost use Rattle.nt_commit.specs.Locked.{history_of_locked};
 
 use crate::claim::Claim;
@@ -17,7 +17,7 @@ impl<D: Disk> Locked<D> {
     /// the disk is entered too.
     pub(crate) fn commit(&mut self, meta: &mut ClusterMeta) -> Result<Claim<D::Ext>, CommitError>
         requires { IsCommittable self.old.birth.columns self.old.birth.contexts meta.old }
-        ensures step { IsStep D.state self.old self.new }
+        ensures step { IsLater D.state self.old self.new }
         ensures commits { Commits D.state D.Ext.state meta.old self.old self.new result }
         ensures meta { meta.new ≡ (if is_ok result then record meta.old { pages = [] } else meta.old) }
     {
@@ -45,7 +45,7 @@ impl<D: Disk> Locked<D> {
         requires own { IsClaimOf D.Ext.state (D.state self.old.birth.begun).held
             (ranges_of (history_of_locked D.state self.old)) context claim }
         requires filled { (D.Ext.state claim.ext).filled ≡ true }
-        ensures step { IsStep D.state self.old self.new }
+        ensures step { IsLater D.state self.old self.new }
         ensures settles { SettlesRange D.state context claim.cluster (D.Ext.state claim.ext) self.old self.new }
     {
         let Claim { cluster, ext } = claim;
@@ -59,7 +59,7 @@ impl<D: Disk> Locked<D> {
         requires own { IsClaimOf D.Ext.state (D.state self.old.birth.begun).held
             (ranges_of (history_of_locked D.state self.old)) context claim }
         requires failed { ((D.Ext.state claim.ext).filled ≡ false) × (1 ≤ (D.Pen.state pen).faults) }
-        ensures step { IsStep D.state self.old self.new }
+        ensures step { IsLater D.state self.old self.new }
         ensures spoils { Spoils D.state context claim.cluster self.old self.new }
     {
         let Claim { cluster, ext } = claim;

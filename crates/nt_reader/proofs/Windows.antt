@@ -16,11 +16,11 @@ use Rattle.nt_tfile.specs.declared.failure.ReadFailure.{ReadFailure}
 use Rattle.nt_tfile.specs.declared.failure.ReadFailure.TheVariants.{Defect, Fault, Memory}
 use Rattle.nt_tfile.specs.Calls.{IsReadOrFails}
 use Rattle.nt_reader.specs.declared.window.Window.{Window}
-use Rattle.nt_reader.specs.Windows.{LiesIn, IsRun, window_bytes, found_page}
+use Rattle.nt_reader.specs.Windows.{LiesIn, IsReadAtOnce, window_bytes, found_page}
 
 -- a longer run lies in the file, or it has no byte
-pub run-more : (p : PageItem) (size len more most : ℕ) → IsRun p size len → most ≤ size - p.place → len + more ≤ most
-    → IsRun p size (len + more)
+pub run-more : (p : PageItem) (size len more most : ℕ) → IsReadAtOnce p size len → most ≤ size - p.place → len + more ≤ most
+    → IsReadAtOnce p size (len + more)
 run-more p size len more most r few fits = record {
   first = omega (arith, r.first);
   inside = one (leb p.place size) refl;
@@ -80,7 +80,7 @@ window-there told bytes outside at len n count is h =
 
 -- where a run isn't found, its page isn't
 pub run-lost : {W : Type 0} (all : W → List ℕ) (told : List ℕ) (outside : ReadError) (p : PageItem) (size len : ℕ) (e : ReadFailure)
-    → size ≡ length told → IsRun p size len
+    → size ≡ length told → IsReadAtOnce p size len
     → IsReadOrFails {V = At} (λ l. l) (Err e) (piece_or outside told p.place len) → IsReadOrFails all (Err e) (found_page outside p told)
 unfolding piece
 run-lost all told outside p size len (Defect d) sized run h = one run.inside

@@ -32,6 +32,6 @@ abbrev pub found_page : ReadError → PageItem → List ℕ → Result (List ℕ
 found_page outside p file = found_or outside (piece file p.place (stored_len p))
 
 -- so many bytes are read for the page: its own alone, or more that all lie in a file of this size
-pub record IsRun (p : PageItem) (size len : ℕ) : Type 0 where
+pub record IsReadAtOnce (p : PageItem) (size len : ℕ) : Type 0 where
   pub first : stored_len p ≤ len
   pub inside : (len ≡ stored_len p) ⊎ (p.place + len ≤ size)

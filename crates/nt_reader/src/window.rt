@@ -4,7 +4,7 @@ ghost use Rattle.std.specs.Prelude.{◌≡◌, ◌<◌, ◌^◌, IsTrue, IfOk, O
 ghost use Rattle.nt_outside.specs.File.{FileState};
 ghost use Rattle.nt_file_meaning.specs.Clusters.{stored_len};
 ghost use Rattle.nt_tfile.specs.Calls.{Serves, HasSize, ReadsFile};
-ghost use Rattle.nt_reader.specs.Windows.{IsWindowOf, IsSeenBy, LiesIn, IsRun, window_bytes, found_page};
+ghost use Rattle.nt_reader.specs.Windows.{IsWindowOf, IsSeenBy, LiesIn, IsReadAtOnce, window_bytes, found_page};
 
 use nt_num::ReadError;
 use nt_outside::ReadAt;
@@ -40,7 +40,7 @@ pub fn stored_len(page: &PageItem) -> u64
 /// How many bytes are read for a page: its own, and those of the pages behind it that follow it
 /// closely in a file of this size.
 fn run_len(page: &PageItem, behind: &[PageItem], size: u64) -> u64
-    ensures { IsRun page.now size result }
+    ensures { IsReadAtOnce page.now size result }
 {
     let most = size.saturating_sub(page.place).min(MOST_AT_ONCE);
     let mut len = stored_len(page);

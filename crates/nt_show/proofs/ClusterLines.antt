@@ -10,7 +10,7 @@ use Rattle.nt_outside.specs.World.{World}
 use Rattle.nt_reader.specs.Columns.{ClusterData, given_entries}
 use Rattle.nt_show.specs.declared.entry_range.EntryRange.{EntryRange}
 use Rattle.nt_show.specs.Ranges.{entry_lines, in_range}
-use Rattle.nt_show.specs.Gathering.{Gathers, GathersPart}
+use Rattle.nt_show.specs.Gathering.{PrintsSome, GathersPart}
 use Rattle.nt_show.proofs.Ranges.{more_lines, first_lines}
 use Rattle.nt_show.proofs.Gathering.{gathers_nothing, gathers_then, part_more, part_then}
 
@@ -24,25 +24,25 @@ given_there c i lt = slice_get-get_or (given_entries c) i no_trees (omega (arith
 
 -- no line yet
 pub none_gathered : (entries : List TreesData) (from : ℕ) (world : Option World) (waiting : List ℕ)
-    → Gathers (entry_lines (take (from - from) (drop from entries))) world waiting world waiting
+    → PrintsSome (entry_lines (take (from - from) (drop from entries))) world waiting world waiting
 none_gathered entries from world waiting =
     let none : from - from ≡ 0 = omega arith in
-    subst (λ (n : ℕ). Gathers (entry_lines (take n (drop from entries))) world waiting world waiting) (sym none)
+    subst (λ (n : ℕ). PrintsSome (entry_lines (take n (drop from entries))) world waiting world waiting) (sym none)
     (gathers_nothing world waiting)
 
 -- one more line
 pub one_gathered : (entries : List TreesData) (from i : ℕ) (x : TreesData) (old mid new : Option World) (waiting one two : List ℕ)
     → from ≤ i → slice_get entries i ≡ Some x
-    → Gathers (entry_lines (take (i - from) (drop from entries))) old waiting mid one → Gathers (entry_lines (x ∷ [])) mid one new two
-    → Gathers (entry_lines (take (i + 1 - from) (drop from entries))) old waiting new two
+    → PrintsSome (entry_lines (take (i - from) (drop from entries))) old waiting mid one → PrintsSome (entry_lines (x ∷ [])) mid one new two
+    → PrintsSome (entry_lines (take (i + 1 - from) (drop from entries))) old waiting new two
 one_gathered entries from i x old mid new waiting one two low is first second =
-    subst (λ (l : List ℕ). Gathers l old waiting new two) (sym (more_lines entries from i x low is))
+    subst (λ (l : List ℕ). PrintsSome l old waiting new two) (sym (more_lines entries from i x low is))
     (gathers_then (entry_lines (take (i - from) (drop from entries))) (entry_lines (x ∷ [])) old mid new waiting one two first second)
 
 -- one more line in part
 pub one_in_part : (entries : List TreesData) (from i : ℕ) (x : TreesData) (old mid new : Option World) (waiting one : List ℕ) → from ≤ i
     → slice_get entries i ≡ Some x
-    → Gathers (entry_lines (take (i - from) (drop from entries))) old waiting mid one → GathersPart (entry_lines (x ∷ [])) mid one new
+    → PrintsSome (entry_lines (take (i - from) (drop from entries))) old waiting mid one → GathersPart (entry_lines (x ∷ [])) mid one new
     → GathersPart (entry_lines (take (i + 1 - from) (drop from entries))) old waiting new
 one_in_part entries from i x old mid new waiting one low is first second =
     subst (λ (l : List ℕ). GathersPart l old waiting new) (sym (more_lines entries from i x low is))
@@ -62,8 +62,8 @@ part_of_range range entries from to i old new waiting is low high part =
 -- all lines are those of the range
 pub whole_range : (range : EntryRange) (entries : List TreesData) (from to i : ℕ) (old new : Option World) (waiting left : List ℕ)
     → in_range range entries ≡ take (to - from) (drop from entries) → i ≡ to
-    → Gathers (entry_lines (take (i - from) (drop from entries))) old waiting new left
-    → Gathers (entry_lines (in_range range entries)) old waiting new left
+    → PrintsSome (entry_lines (take (i - from) (drop from entries))) old waiting new left
+    → PrintsSome (entry_lines (in_range range entries)) old waiting new left
 whole_range range entries from to i old new waiting left is end lines =
-    subst (λ (l : List ℕ). Gathers l old waiting new left)
+    subst (λ (l : List ℕ). PrintsSome l old waiting new left)
     (ap (λ (n : ℕ). entry_lines (take (n - from) (drop from entries))) end ∙ sym (ap entry_lines is)) lines

@@ -16,7 +16,7 @@ use Rattle.nt_plans.specs.Place.{column_ids}
 use Rattle.nt_show.specs.Ranges.{entry_lines}
 use Rattle.nt_show.specs.Fields.{code_tree, is_open_field, field_told, fields_from, fields_told}
 use Rattle.nt_outside.specs.World.{World}
-use Rattle.nt_show.specs.Gathering.{Gathers, GathersPart}
+use Rattle.nt_show.specs.Gathering.{PrintsSome, GathersPart}
 use Rattle.nt_show.proofs.Gathering.{gathers_then, part_then, part_more}
 
 -- no column
@@ -139,14 +139,14 @@ part_shown t shown others old new waiting is part =
 
 -- one more line, and part of one
 pub line_more : (shown : List TreesData) (told : TreesData) (old mid new : Option World) (waiting one two : List ℕ)
-    → Gathers (entry_lines shown) old waiting mid one → Gathers (entry_lines (told ∷ [])) mid one new two
-    → Gathers (entry_lines (shown ++ told ∷ [])) old waiting new two
+    → PrintsSome (entry_lines shown) old waiting mid one → PrintsSome (entry_lines (told ∷ [])) mid one new two
+    → PrintsSome (entry_lines (shown ++ told ∷ [])) old waiting new two
 line_more shown told old mid new waiting one two first second =
-    subst (λ (l : List ℕ). Gathers l old waiting new two) (sym (pushed_lines shown told))
+    subst (λ (l : List ℕ). PrintsSome l old waiting new two) (sym (pushed_lines shown told))
     (gathers_then (entry_lines shown) (entry_lines (told ∷ [])) old mid new waiting one two first second)
 
 pub line_part : (shown : List TreesData) (told : TreesData) (old mid new : Option World) (waiting one : List ℕ)
-    → Gathers (entry_lines shown) old waiting mid one → GathersPart (entry_lines (told ∷ [])) mid one new
+    → PrintsSome (entry_lines shown) old waiting mid one → GathersPart (entry_lines (told ∷ [])) mid one new
     → GathersPart (entry_lines (shown ++ told ∷ [])) old waiting new
 line_part shown told old mid new waiting one first second =
     subst (λ (l : List ℕ). GathersPart l old waiting new) (sym (pushed_lines shown told))

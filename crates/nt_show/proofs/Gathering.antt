@@ -3,7 +3,7 @@ use Rattle.std.proofs.Common.{◌≡◌, ◌∙◌, ap, sym, refl, ℕ, List, []
 use Rattle.std.proofs.lemmas.List.{append-nil, take-append-drop}
 use Rattle.nt_outside.specs.declared.stream.Stream.TheVariants.{ToOut}
 use Rattle.nt_outside.specs.World.{World, Turns, PrintsFront, prints}
-use Rattle.nt_show.specs.Gathering.{Gathers, GathersPart}
+use Rattle.nt_show.specs.Gathering.{PrintsSome, GathersPart}
 use Rattle.nt_show.specs.Shown.{PrintsFrontOf}
 
 pub prints-nothing : (w : World) → prints ToOut [] w ≡ w
@@ -13,17 +13,18 @@ pub prints-prints : (a b : List ℕ) (w : World) → prints ToOut b (prints ToOu
 prints-prints a b w = ap (λ (l : List ℕ). record w { out = l }) (append_assoc w.out a b)
 
 -- where nothing happened, nothing is gathered
-pub gathers_nothing : (world : Option World) (waiting : List ℕ) → Gathers [] world waiting world waiting
+pub gathers_nothing : (world : Option World) (waiting : List ℕ) → PrintsSome [] world waiting world waiting
 gathers_nothing world waiting w is = ([], is ∙ ap (λ (v : World). Some v) (sym (prints-nothing w)), append-nil waiting)
 
 -- a text that was put behind what waits
 pub gathers_pushed : (text : List ℕ) (world new : Option World) (waiting left : List ℕ) → new ≡ world → left ≡ waiting ++ text
-    → Gathers text world waiting new left
+    → PrintsSome text world waiting new left
 gathers_pushed text world new waiting left same is w told = ([], same ∙ told ∙ ap (λ (v : World). Some v) (sym (prints-nothing w)), sym is)
 
 -- and then all that waited was printed, or nothing of it
-pub pushed_then : (text : List ℕ) (old new : Option World) (waiting one left : List ℕ) → one ≡ waiting ++ text → Gathers [] old one new left
-    → Gathers text old waiting new left
+pub pushed_then : (text : List ℕ) (old new : Option World) (waiting one left : List ℕ) → one ≡ waiting ++ text
+    → PrintsSome [] old one new left
+    → PrintsSome text old waiting new left
 pushed_then text old new waiting one left is then_printed w told =
     let two = then_printed w told in
     (two.0, two.1, sym is ∙ sym (append-nil one) ∙ two.2)
@@ -36,8 +37,8 @@ pushed_in_part text old new waiting one is then_printed w told =
     (two.0, two.1, two.2, sym is ∙ sym (append-nil one) ∙ two.3)
 
 -- one after the other
-pub gathers_then : (a b : List ℕ) (old mid new : Option World) (l m n : List ℕ) → Gathers a old l mid m → Gathers b mid m new n
-    → Gathers (a ++ b) old l new n
+pub gathers_then : (a b : List ℕ) (old mid new : Option World) (l m n : List ℕ) → PrintsSome a old l mid m → PrintsSome b mid m new n
+    → PrintsSome (a ++ b) old l new n
 gathers_then a b old mid new l m n first second w is =
     let one = first w is in
     let two = second (prints ToOut one.0 w) one.1 in (
@@ -48,7 +49,7 @@ gathers_then a b old mid new l m n first second w is =
     )
 
 -- what was gathered is in part what was
-pub gathers_part : (a : List ℕ) (old new : Option World) (l m : List ℕ) → Gathers a old l new m → GathersPart a old l new
+pub gathers_part : (a : List ℕ) (old new : Option World) (l m : List ℕ) → PrintsSome a old l new m → GathersPart a old l new
 gathers_part a old new l m all w is =
     let one = all w is in
     (one.0, m, one.1, one.2)
@@ -60,7 +61,7 @@ part_more a b old new l part w is =
     (one.0, one.1 ++ b, one.2, sym (append_assoc l a b) ∙ ap (λ (x : List ℕ). x ++ b) one.3 ∙ append_assoc one.0 one.1 b)
 
 -- part of a text behind another
-pub part_then : (a b : List ℕ) (old mid new : Option World) (l m : List ℕ) → Gathers a old l mid m → GathersPart b mid m new
+pub part_then : (a b : List ℕ) (old mid new : Option World) (l m : List ℕ) → PrintsSome a old l mid m → GathersPart b mid m new
     → GathersPart (a ++ b) old l new
 part_then a b old mid new l m first second w is =
     let one = first w is in
@@ -73,7 +74,7 @@ part_then a b old mid new l m first second w is =
     )
 
 -- what waits was printed
-pub waiting_printed : (text : List ℕ) (old mid new : Option World) (l left : List ℕ) → Gathers text old l mid left
+pub waiting_printed : (text : List ℕ) (old mid new : Option World) (l left : List ℕ) → PrintsSome text old l mid left
     → Turns mid new (prints ToOut left) → Turns old new (prints ToOut (l ++ text))
 waiting_printed text old mid new l left first turns w is =
     let one = first w is in
@@ -81,13 +82,13 @@ waiting_printed text old mid new l left first turns w is =
     ∙ ap (λ (v : World). Some v) (prints-prints one.0 left w ∙ ap (λ (x : List ℕ). prints ToOut x w) (sym one.2))
 
 -- so nothing is left
-pub gathers_printed : (text : List ℕ) (old mid new : Option World) (l left : List ℕ) → Gathers text old l mid left
-    → Turns mid new (prints ToOut left) → Gathers text old l new []
+pub gathers_printed : (text : List ℕ) (old mid new : Option World) (l left : List ℕ) → PrintsSome text old l mid left
+    → Turns mid new (prints ToOut left) → PrintsSome text old l new []
 gathers_printed text old mid new l left first turns w is =
     (l ++ text, waiting_printed text old mid new l left first turns w is, sym (append-nil (l ++ text)))
 
 -- or a front of it was
-pub part_printed : (text : List ℕ) (old mid new : Option World) (l left : List ℕ) → Gathers text old l mid left
+pub part_printed : (text : List ℕ) (old mid new : Option World) (l left : List ℕ) → PrintsSome text old l mid left
     → PrintsFront ToOut left mid new → GathersPart text old l new
 part_printed text old mid new l left first front w is =
     let one = first w is in

@@ -14,7 +14,7 @@ use Rattle.nt_reader.specs.Outlines.{unlisted_cluster, numbered_cluster, entries
 use Rattle.nt_outside.specs.World.{World}
 use Rattle.nt_show.specs.declared.entry_range.EntryRange.{EntryRange}
 use Rattle.nt_show.specs.Ranges.{entry_lines, in_range, all_entries, range_lines, past_entries}
-use Rattle.nt_show.specs.Gathering.{Gathers, GathersPart}
+use Rattle.nt_show.specs.Gathering.{PrintsSome, GathersPart}
 use Rattle.nt_show.specs.Listing.{before_others, sound_from, cluster_lines, ClusterTold, ClustersTold}
 use Rattle.nt_show.proofs.Ranges.{range_lines-append, range_lines-one, range_lines-cons, range_lines-nil, past_entries-past_entries}
 use Rattle.nt_show.proofs.Ranges.{past_entries-nothing}
@@ -54,7 +54,7 @@ pub record IsListing (file : List ℕ) (o : Outline) (range : EntryRange) (k : �
   pub reads : entries_from file o.table 0 o.clusters ≡ behind before (entries_from file o.table k (drop k o.clusters))
   pub sound : sound_from file o.table 0 o.clusters ≡ before ++ sound_from file o.table k (drop k o.clusters)
   pub left_is : left ≡ past_entries (length (all_entries before)) range
-  pub gathers : Gathers (range_lines range before) old waiting new behind-it
+  pub gathers : PrintsSome (range_lines range before) old waiting new behind-it
 
 -- before the first
 pub begins : (file : List ℕ) (o : Outline) (range : EntryRange) (world : Option World) (waiting : List ℕ)
@@ -64,7 +64,7 @@ begins file o range world waiting = record {
   reads = sym (behind-nothing (entries_from file o.table 0 o.clusters));
   sound = refl;
   left_is = sym (past_entries-nothing range);
-  gathers = subst (λ (l : List ℕ). Gathers l world waiting world waiting) (sym (range_lines-nil range)) (gathers_nothing world waiting);
+  gathers = subst (λ (l : List ℕ). PrintsSome l world waiting world waiting) (sym (range_lines-nil range)) (gathers_nothing world waiting);
 }
 
 reads_more : (file : List ℕ) (o : Outline) (k : ℕ) (before : List (List TreesData)) (entries : List TreesData) → k < length o.clusters
@@ -100,7 +100,7 @@ pub goes_on : (file : List ℕ) (o : Outline) (range left left' : EntryRange) (k
     (waiting one two : List ℕ) (entries : List TreesData)
     → k < length o.clusters
     → IsListing file o range k left old waiting mid one → entries_in o k file ≡ Ok entries → left' ≡ past_entries (length entries) left
-    → Gathers (entry_lines (in_range left entries)) mid one new two
+    → PrintsSome (entry_lines (in_range left entries)) mid one new two
     → IsListing file o range (k + 1) left' old waiting new two
 goes_on file o range left left' k old mid new waiting one two entries low so-far is past-is more = record {
   before = so-far.before ++ entries ∷ [];
@@ -117,7 +117,7 @@ goes_on file o range left left' k old mid new waiting one two entries low so-far
       ∙ ap (λ (l : List ℕ). range_lines range so-far.before ++ l)
       (sym (range_lines-one (past_entries (length (all_entries so-far.before)) range) entries))
       ∙ sym (range_lines-append range so-far.before (entries ∷ [])) in
-      subst (λ (l : List ℕ). Gathers l old waiting new two) lines
+      subst (λ (l : List ℕ). PrintsSome l old waiting new two) lines
       (gathers_then (range_lines range so-far.before) (entry_lines (in_range left entries)) old mid new waiting one two so-far.gathers
       more);
 }
@@ -127,7 +127,7 @@ pub ends_at_fault : (file : List ℕ) (o : Outline) (range left : EntryRange) (k
     (e : ReadError)
     → k < length o.clusters
     → IsListing file o range k left old waiting new one → entries_in o k file ≡ Err e
-    → (entries_from file o.table 0 o.clusters ≡ Err e) × Gathers (range_lines range (sound_from file o.table 0 o.clusters)) old waiting
+    → (entries_from file o.table 0 o.clusters ≡ Err e) × PrintsSome (range_lines range (sound_from file o.table 0 o.clusters)) old waiting
     new one
 ends_at_fault file o range left k old new waiting one e low so-far is =
     let none : sound_from file o.table 0 o.clusters ≡ so-far.before =
@@ -140,7 +140,7 @@ ends_at_fault file o range left k old new waiting one e low so-far is =
           ∙ ap (λ (l : List ClusterList). behind so-far.before (entries_from file o.table k l)) (next_cluster o k low)
           ∙ ap (behind so-far.before) (first_faulty (entries_in o k file) (entries_from file o.table (k + 1) (drop (k + 1) o.clusters)) e
           is),
-      subst (λ (l : List (List TreesData)). Gathers (range_lines range l) old waiting new one) (sym none) so-far.gathers,
+      subst (λ (l : List (List TreesData)). PrintsSome (range_lines range l) old waiting new one) (sym none) so-far.gathers,
     )
 
 -- the lines of a cluster are the first of those of it and of others
@@ -173,7 +173,7 @@ ends_early file o range left k old mid new waiting one low so-far part =
 pub ends_whole : (file : List ℕ) (o : Outline) (range left : EntryRange) (k : ℕ) (old new : Option World) (waiting one : List ℕ)
     → length o.clusters ≤ k
     → IsListing file o range k left old waiting new one
-    → (clusters : List (List TreesData)) × (entries_from file o.table 0 o.clusters ≡ Ok clusters) × Gathers (range_lines range clusters)
+    → (clusters : List (List TreesData)) × (entries_from file o.table 0 o.clusters ≡ Ok clusters) × PrintsSome (range_lines range clusters)
     old waiting new one
 ends_whole file o range left k old new waiting one past-all so-far = (
   so-far.before,
@@ -194,8 +194,8 @@ fault_told file o range left left' k old mid new waiting one two (Some e) low so
     let ends = ends_at_fault file o range left k old mid waiting one e low so-far is in
     let lines = range_lines range (sound_from file o.table 0 o.clusters) in (
       ends.0,
-      subst (λ (v : Option World). Gathers lines old waiting v two) (sym same)
-          (subst (λ (l : List ℕ). Gathers lines old waiting mid l) (sym kept) ends.1),
+      subst (λ (v : Option World). PrintsSome lines old waiting v two) (sym same)
+          (subst (λ (l : List ℕ). PrintsSome lines old waiting mid l) (sym kept) ends.1),
     )
 
 -- a cluster had none

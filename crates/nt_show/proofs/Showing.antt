@@ -17,7 +17,7 @@ use Rattle.nt_outside.specs.World.{World, Turns, PrintsFront, prints}
 use Rattle.nt_tfile.specs.Failures.{failure_of}
 use Rattle.nt_show.specs.declared.entry_range.EntryRange.{EntryRange}
 use Rattle.nt_show.specs.Ranges.{entry_lines, range_lines}
-use Rattle.nt_show.specs.Gathering.{Gathers, GathersPart}
+use Rattle.nt_show.specs.Gathering.{PrintsSome, GathersPart}
 use Rattle.nt_outside.specs.Faults.{Rose}
 use Rattle.nt_show.specs.Listing.{sound_from, sound_clusters, ClustersTold}
 use Rattle.nt_show.specs.Fields.{fields_told}
@@ -64,7 +64,7 @@ fields_unattached file w new Memory is same = no_front (shown_text fields_shown 
 pub entries_whole : (range : EntryRange) (file left : List ℕ) (o : Outline) (clusters : List (List TreesData))
     (old mid new : Option World) (w : World)
     → old ≡ Some w → outline_of file ≡ Ok o
-    → entries_from file o.table 0 o.clusters ≡ Ok clusters → Gathers (range_lines range clusters) old [] mid left
+    → entries_from file o.table 0 o.clusters ≡ Ok clusters → PrintsSome (range_lines range clusters) old [] mid left
     → Turns mid new (prints ToOut left) → Printed (entries_shown range) file w new (Ok tt)
 entries_whole range file left o clusters old mid new w told outlined is lines turns = (
   (o.table, clusters),
@@ -75,7 +75,7 @@ entries_whole range file left o clusters old mid new w told outlined is lines tu
 -- a cluster has a fault, and the lines of those before it were printed
 pub entries_faulty : (range : EntryRange) (file left : List ℕ) (o : Outline) (e : ReadError) (old mid new : Option World) (w : World)
     → old ≡ Some w → outline_of file ≡ Ok o
-    → entries_from file o.table 0 o.clusters ≡ Err e → Gathers (range_lines range (sound_from file o.table 0 o.clusters)) old [] mid left
+    → entries_from file o.table 0 o.clusters ≡ Err e → PrintsSome (range_lines range (sound_from file o.table 0 o.clusters)) old [] mid left
     → Turns mid new (prints ToOut left) → Printed (entries_shown range) file w new (Err (Defect e))
 entries_faulty range file left o e old mid new w told outlined is lines turns = (
   read_of file o outlined ∙ ap (λ (r : Result (List (List TreesData)) ReadError). r >>= λ ks. Ok (o.table, ks)) is,
@@ -113,14 +113,14 @@ fields_refused file o refused.Failed old new w told outlined part = fields_part 
 fields_refused file o refused.Memory old new w told outlined part = fields_part file o old new w told outlined part
 
 pub fields_whole : (file left : List ℕ) (o : Outline) (old mid new : Option World) (w : World) → old ≡ Some w → outline_of file ≡ Ok o
-    → Gathers (entry_lines (fields_told o.table)) old [] mid left → Turns mid new (prints ToOut left)
+    → PrintsSome (entry_lines (fields_told o.table)) old [] mid left → Turns mid new (prints ToOut left)
     → Printed fields_shown file w new (Ok tt)
 fields_whole file left o old mid new w told outlined lines turns =
     (o, outlined, waiting_printed (entry_lines (fields_told o.table)) old mid new [] left lines turns w told)
 
 -- a print failed on the way
 pub fields_unprinted : (file left : List ℕ) (o : Outline) (old mid new : Option World) (w : World) → old ≡ Some w → outline_of file ≡ Ok o
-    → Gathers (entry_lines (fields_told o.table)) old [] mid left → PrintsFront ToOut left mid new
+    → PrintsSome (entry_lines (fields_told o.table)) old [] mid left → PrintsFront ToOut left mid new
     → PrintsFrontOf (shown_text fields_shown file) w new
 fields_unprinted file left o old mid new w told outlined lines front =
     fields_part file o old new w told outlined (part_printed (entry_lines (fields_told o.table)) old mid new [] left lines front)
@@ -128,7 +128,7 @@ fields_unprinted file left o old mid new w told outlined lines front =
 pub entries_unprinted : (range : EntryRange) (file left : List ℕ) (o : Outline) (clusters : List (List TreesData))
     (old mid new : Option World) (w : World)
     → old ≡ Some w → outline_of file ≡ Ok o
-    → sound_from file o.table 0 o.clusters ≡ clusters → Gathers (range_lines range clusters) old [] mid left
+    → sound_from file o.table 0 o.clusters ≡ clusters → PrintsSome (range_lines range clusters) old [] mid left
     → PrintsFront ToOut left mid new → PrintsFrontOf (shown_text (entries_shown range) file) w new
 entries_unprinted range file left o clusters old mid new w told outlined is lines front =
     entries_part range file o old new w told outlined

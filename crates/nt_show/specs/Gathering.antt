@@ -8,8 +8,8 @@ use Rattle.nt_outside.specs.File.{FileState}
 use Rattle.nt_outside.specs.World.{World, HostState, prints}
 
 -- of what waited and a text behind it some was printed, and this is left
-abbrev pub Gathers : List ℕ → Option World → List ℕ → Option World → List ℕ → Type 0
-Gathers text old waiting new left =
+abbrev pub PrintsSome : List ℕ → Option World → List ℕ → Option World → List ℕ → Type 0
+PrintsSome text old waiting new left =
     (w : World) → old ≡ Some w → (printed : List ℕ) × (new ≡ Some (prints ToOut printed w)) × (waiting ++ text ≡ printed ++ left)
 
 -- the same, and nothing is said of what is left

@@ -13,7 +13,7 @@ use Rattle.nt_outside.specs.World.{World}
 use Rattle.nt_outside.specs.declared.fault.Refused.{Refused}
 use Rattle.nt_show.specs.declared.entry_range.EntryRange.{EntryRange}
 use Rattle.nt_show.specs.Ranges.{entry_lines, in_range, range_lines, past_entries}
-use Rattle.nt_show.specs.Gathering.{Gathers, GathersPart}
+use Rattle.nt_show.specs.Gathering.{PrintsSome, GathersPart}
 
 -- the entries of a cluster, and those of others behind it; where it has a fault there are none
 abbrev pub before_others : Result (List TreesData) ReadError → List (List TreesData) → List (List TreesData)
@@ -52,7 +52,7 @@ abbrev pub ClusterTold : List ℕ → Outline → ℕ → EntryRange → EntryRa
     → Result (Option ReadError) Refused → Type 0
 ClusterTold file o k range range' old waiting new left (Ok None) =
     (entries : List TreesData) × (entries_in o k file ≡ Ok entries) × (range' ≡ past_entries (length entries) range)
-    × Gathers (entry_lines (in_range range entries)) old waiting new left
+    × PrintsSome (entry_lines (in_range range entries)) old waiting new left
 ClusterTold file o k range range' old waiting new left (Ok (Some e)) = (entries_in o k file ≡ Err e) × (new ≡ old) × (left ≡ waiting)
 ClusterTold file o k range range' old waiting new left (Err r) = GathersPart (cluster_lines range (entries_in o k file)) old waiting new
 
@@ -61,9 +61,9 @@ abbrev pub ClustersTold : List ℕ → Outline → EntryRange → Option World �
     → Result (Option ReadError) Refused → Type 0
 ClustersTold file o range old waiting new left (Ok None) =
     (clusters : List (List TreesData)) × (entries_from file o.table 0 o.clusters ≡ Ok clusters)
-    × Gathers (range_lines range clusters) old waiting new left
+    × PrintsSome (range_lines range clusters) old waiting new left
 ClustersTold file o range old waiting new left (Ok (Some e)) =
     (entries_from file o.table 0 o.clusters ≡ Err e)
-    × Gathers (range_lines range (sound_from file o.table 0 o.clusters)) old waiting new left
+    × PrintsSome (range_lines range (sound_from file o.table 0 o.clusters)) old waiting new left
 ClustersTold file o range old waiting new left (Err r) =
     GathersPart (range_lines range (sound_from file o.table 0 o.clusters)) old waiting new

@@ -4,7 +4,7 @@ ghost use Rattle.std.specs.Prelude.{◌≡◌, ◌<◌, ℕ, List, Some, length,
 ghost use Rattle.nt_outside.specs.Faults.{RoseOnFailed};
 ghost use Rattle.nt_reader.specs.Columns.{given_entries};
 ghost use Rattle.nt_show.specs.Ranges.{entry_lines, in_range};
-ghost use Rattle.nt_show.specs.Gathering.{Gathers, GathersPart, OnlyPrints, HasCauses};
+ghost use Rattle.nt_show.specs.Gathering.{PrintsSome, GathersPart, OnlyPrints, HasCauses};
 ghost use Rattle.nt_show.specs.Listing.{ClusterTold, ClustersTold};
 ghost use Rattle.nt_show.specs.Shown.{entries_shown, ShowsFile};
 
@@ -17,7 +17,7 @@ use nt_reader::{ClusterRead, Reader};
 use nt_tfile::ReadFailure;
 use std::alloc::Global;
 
-/// Gathers the lines of those entries of a cluster that lie in the range.
+/// PrintsSome the lines of those entries of a cluster that lie in the range.
 fn put_entries<H: Host>(
     alloc: Global,
     host: &mut H,
@@ -25,7 +25,7 @@ fn put_entries<H: Host>(
     cluster: &ClusterRead<'_>,
     range: &EntryRange,
 ) -> Result<(), Refused>
-    ensures ok { OnOk result (Gathers (entry_lines (in_range range.now (given_entries cluster.now)))
+    ensures ok { OnOk result (PrintsSome (entry_lines (in_range range.now (given_entries cluster.now)))
         (H.state host.old).world waiting.old.items (H.state host.new).world waiting.new.items) }
     ensures part { GathersPart (entry_lines (in_range range.now (given_entries cluster.now)))
         (H.state host.old).world waiting.old.items (H.state host.new).world }

@@ -7,7 +7,7 @@ ghost use Rattle.nt_grammar.specs.Open.{columns_of_field};
 ghost use Rattle.nt_outside.specs.Faults.{RoseOnFailed};
 ghost use Rattle.nt_show.specs.Ranges.{entry_lines};
 ghost use Rattle.nt_show.specs.Fields.{code_tree, is_open_field, field_told, fields_told};
-ghost use Rattle.nt_show.specs.Gathering.{Gathers, GathersPart, OnlyPrints};
+ghost use Rattle.nt_show.specs.Gathering.{PrintsSome, GathersPart, OnlyPrints};
 ghost use Rattle.nt_show.specs.Shown.{fields_shown, ShowsFile};
 
 use crate::lines::put_line;
@@ -85,14 +85,14 @@ fn field_told(
     Ok(Trees::from_vec(list))
 }
 
-/// Gathers the lines of all fields.
+/// PrintsSome the lines of all fields.
 fn put_fields<H: Host>(
     alloc: Global,
     host: &mut H,
     waiting: &mut Vec<u8>,
     schema: &Schema,
 ) -> Result<(), Refused>
-    ensures ok { OnOk result (Gathers (entry_lines (fields_told schema.now))
+    ensures ok { OnOk result (PrintsSome (entry_lines (fields_told schema.now))
         (H.state host.old).world waiting.old.items (H.state host.new).world waiting.new.items) }
     ensures part { GathersPart (entry_lines (fields_told schema.now))
         (H.state host.old).world waiting.old.items (H.state host.new).world }

@@ -6,7 +6,7 @@ ghost use Rattle.nt_types.specs.TreeViews.{trees_view};
 ghost use Rattle.nt_outside.specs.Faults.{RoseOnFailed};
 ghost use Rattle.nt_reader.specs.Columns.{given_entries};
 ghost use Rattle.nt_show.specs.Ranges.{entry_lines};
-ghost use Rattle.nt_show.specs.Gathering.{Gathers, GathersPart, OnlyPrints};
+ghost use Rattle.nt_show.specs.Gathering.{PrintsSome, GathersPart, OnlyPrints};
 
 use nt_event::write_line;
 use nt_outside::{Host, Refused, Stream, print_all};
@@ -19,7 +19,7 @@ const MANY: usize = 1 << 16;
 
 /// Prints all that waits, once it is much.
 fn print_many<H: Host>(host: &mut H, waiting: &mut Vec<u8>) -> Result<(), Refused>
-    ensures ok { OnOk result (Gathers []
+    ensures ok { OnOk result (PrintsSome []
         (H.state host.old).world waiting.old.items (H.state host.new).world waiting.new.items) }
     ensures part { GathersPart []
         (H.state host.old).world waiting.old.items (H.state host.new).world }
@@ -40,7 +40,7 @@ pub fn put_line<H: Host>(
     waiting: &mut Vec<u8>,
     entry: &Trees,
 ) -> Result<(), Refused>
-    ensures ok { OnOk result (Gathers (entry_lines (trees_of (trees_view entry.now) ∷ []))
+    ensures ok { OnOk result (PrintsSome (entry_lines (trees_of (trees_view entry.now) ∷ []))
         (H.state host.old).world waiting.old.items (H.state host.new).world waiting.new.items) }
     ensures part { GathersPart (entry_lines (trees_of (trees_view entry.now) ∷ []))
         (H.state host.old).world waiting.old.items (H.state host.new).world }
@@ -62,7 +62,7 @@ pub fn put_entry<H: Host>(
     i: u64,
 ) -> Result<(), Refused>
     requires { i < cluster.now.entries }
-    ensures ok { OnOk result (Gathers (entry_lines (slice_index_or (given_entries cluster.now) i no_trees ∷ []))
+    ensures ok { OnOk result (PrintsSome (entry_lines (slice_index_or (given_entries cluster.now) i no_trees ∷ []))
         (H.state host.old).world waiting.old.items (H.state host.new).world waiting.new.items) }
     ensures part { GathersPart (entry_lines (slice_index_or (given_entries cluster.now) i no_trees ∷ []))
         (H.state host.old).world waiting.old.items (H.state host.new).world }

@@ -2,12 +2,12 @@ use Rattle.std.proofs.Common.{◌≤◌, ◌-◌, ℕ, List, take, drop}
 use Rattle.nt_outside.specs.World.{HostState}
 use Rattle.nt_reader.specs.Columns.{given_entries}
 use Rattle.nt_show.specs.Ranges.{entry_lines}
-use Rattle.nt_show.specs.Gathering.{Gathers, OnlyPrints}
+use Rattle.nt_show.specs.Gathering.{PrintsSome, OnlyPrints}
 use Rattle.nt_show.proofs.entries.put_entries.Given as goal
 
 -- a text was gathered
 pub record HasGathered (text : List ℕ) (old : HostState) (waiting : List ℕ) (new : HostState) (left : List ℕ) : Type 0 where
-  pub gathers : Gathers text old.world waiting new.world left
+  pub gathers : PrintsSome text old.world waiting new.world left
   pub later : old.faults ≤ new.faults
   pub rest : OnlyPrints old new
 

@@ -4,7 +4,7 @@ use Rattle.nt_grammar.specs.Table.{Table}
 use Rattle.nt_outside.specs.World.{HostState}
 use Rattle.nt_show.specs.Ranges.{entry_lines}
 use Rattle.nt_show.specs.Fields.{fields_from, fields_told}
-use Rattle.nt_show.specs.Gathering.{Gathers, OnlyPrints}
+use Rattle.nt_show.specs.Gathering.{PrintsSome, OnlyPrints}
 use Rattle.nt_show.proofs.fields.put_fields.Given as goal
 
 -- the fields before this one were shown
@@ -13,7 +13,7 @@ pub record HasShown (t : Table) (known : List Bool) (k : ℕ) (old : HostState) 
   pub shown : List TreesData
   pub all : fields_told t ≡ shown ++ fields_from t known (drop k t.fields)
   pub count : length known ≡ k
-  pub gathers : Gathers (entry_lines shown) old.world waiting new.world left
+  pub gathers : PrintsSome (entry_lines shown) old.world waiting new.world left
   pub later : old.faults ≤ new.faults
   pub rest : OnlyPrints old new
 

@@ -6,7 +6,7 @@ use Rattle.nt_outside.specs.World.{Turns, PrintsFront, prints}
 use Rattle.nt_tfile.specs.declared.failure.ReadFailure.{ReadFailure}
 use Rattle.nt_show.specs.Ranges.{entry_lines}
 use Rattle.nt_show.specs.Fields.{fields_told}
-use Rattle.nt_show.specs.Gathering.{Gathers}
+use Rattle.nt_show.specs.Gathering.{PrintsSome}
 use Rattle.nt_show.specs.Shown.{fields_shown, ShowsFile}
 use Rattle.nt_show.proofs.Showing.{fields_whole, fields_unprinted, no_fault, rose_later}
 use Rattle.nt_show.proofs.fields.show_fields.Goals as goal
@@ -20,8 +20,9 @@ returns-in_err-print_all g c =
     let old = (g.H.Host.state c.args.host.now).world in
     let mid = (g.H.Host.state c.put_fields.new.host).world in
     let left = c.put_fields.new.waiting.items in
-    let lines = subst (λ (t : Table). Gathers (entry_lines (fields_told t)) old [] mid left) c.schema.ensures
-    (subst (λ (l : List ℕ). Gathers (entry_lines (fields_told c.schema.result.now)) old l mid left) c.new-waiting.ensures.items put.ok) in
+    let lines = subst (λ (t : Table). PrintsSome (entry_lines (fields_told t)) old [] mid left) c.schema.ensures
+    (subst (λ (l : List ℕ). PrintsSome (entry_lines (fields_told c.schema.result.now)) old l mid left)
+    c.new-waiting.ensures.items put.ok) in
     let front = subst (λ (l : List ℕ). PrintsFront ToOut l mid (g.H.Host.state c.print_all.new.host).world) c.deref.ensures.value
     printed.front in
     subst (ShowsFile fields_shown _ _ _ _) (sym (p.1 ∙ ap (λ (e : ReadFailure). Err e) p.2))
@@ -45,8 +46,9 @@ returns g c =
     let old = (g.H.Host.state c.args.host.now).world in
     let mid = (g.H.Host.state c.put_fields.new.host).world in
     let left = c.put_fields.new.waiting.items in
-    let lines = subst (λ (t : Table). Gathers (entry_lines (fields_told t)) old [] mid left) c.schema.ensures
-    (subst (λ (l : List ℕ). Gathers (entry_lines (fields_told c.schema.result.now)) old l mid left) c.new-waiting.ensures.items put.ok) in
+    let lines = subst (λ (t : Table). PrintsSome (entry_lines (fields_told t)) old [] mid left) c.schema.ensures
+    (subst (λ (l : List ℕ). PrintsSome (entry_lines (fields_told c.schema.result.now)) old l mid left)
+    c.new-waiting.ensures.items put.ok) in
     let turns = subst (λ (l : List ℕ). Turns mid (g.H.Host.state c.print_all.new.host).world (prints ToOut l)) c.deref.ensures.value
     printed.ok in
     record {
