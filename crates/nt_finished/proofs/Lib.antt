@@ -26,3 +26,4 @@ pub mod AddedColumns
 pub mod AddedBegin
 pub mod AddedFields
 pub mod LaidBehind
+pub mod RunFiles

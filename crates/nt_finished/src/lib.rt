@@ -21,7 +21,9 @@
 //! writes the file: how long it is (`finished_files_are_as_long`), and of which parts, in order
 //! (`finished_files_are_parts`), both whatever stands in the ranges of the clusters; that it is laid
 //! out where all page lists stand behind the ranges (`files_are_laid_behind`); and which books are
-//! of the schema of fields (`books_of_fields_are_of_their_schema`).
+//! of the schema of fields (`books_of_fields_are_of_their_schema`). And of the machine of contexts
+//! (nt_machine): a run of it that closes, whatever its steps are, means the chunks of its contexts in
+//! the file that holds its ranges (`closed_runs_mean_their_chunks`, with `specs/RunFiles`).
 //!
 //! Proved of added fields: missing columns have no fault, and their trees are the zero of the field
 //! (`missing_fields_are_zero`), which is that of its shape (`plans_have_the_zeros_of_their_shapes`);
@@ -43,6 +45,7 @@ mod added;
 mod late;
 mod laws;
 mod missing;
+mod runs;
 
 pub use added::{added_fields_are_lacked, added_fields_are_left_out};
 pub use late::{
@@ -55,3 +58,4 @@ pub use laws::{
     finished_files_mean_their_entries, ranged_files_are_outlined,
 };
 pub use missing::{missing_fields_are_zero, plans_have_the_zeros_of_their_shapes};
+pub use runs::closed_runs_mean_their_chunks;
