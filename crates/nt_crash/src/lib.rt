@@ -17,6 +17,9 @@
 //! - so what is left is unfinished, or means its schema and the entries of all its clusters
 //!   (`crashes_leave_all_entries_or_none`).
 //!
+//! And where nothing crashes: what `close` promises after Ok makes a file that held the blobs of
+//! entries the one that is laid out for them, which means them (`closed_files_mean_their_entries`).
+//!
 //! Nothing is only tested. What a real disk leaves is not said: it is a premise that it keeps to
 //! nt_outside's definition.
 //!
@@ -24,8 +27,10 @@
 //! of the calls that take them, so that whoever knows what a disk's log is can cite them.
 #![tactic(auto)]
 
+mod closed;
 mod laws;
 
+pub use closed::closed_files_mean_their_entries;
 pub use laws::{
     closing_leaves_unfinished_or_finished, crashes_leave_all_entries_or_none,
     filling_leaves_unfinished,

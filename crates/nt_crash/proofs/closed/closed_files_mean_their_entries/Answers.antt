@@ -1,0 +1,26 @@
+use Rattle.std.proofs.Common.{refl, arith}
+use Rattle.nt_book.specs.declared.params.Params.{Params}
+use Rattle.nt_layout.specs.Laid.{AreMeasures}
+use Rattle.nt_close.specs.Passing.{measures_of}
+use Rattle.nt_crash.proofs.closed.closed_files_mean_their_entries.Goals as goal
+
+-- parameters keep the largest limits
+measures : (p : Params) → AreMeasures (measures_of p)
+measures p = record {
+  page = omega (arith, p.page_range.0);
+  group = omega (arith, p.group_range.0);
+  range = p.limits.range_bound;
+  file = p.limits.file_bound;
+}
+
+pub returns : goal.returns
+returns c = λ t p book clusters ranges old new h described of low blobs held image finished stays.
+    let long = c.finished_files_are_as_long.ensures.ranges t p.page clusters ranges book of.kept blobs in
+    let left = finished ranges long h held image in
+    let laid = c.files_are_laid_behind.ensures.laid left.0.image t clusters (measures_of p) ranges book refl of (stays low) blobs left.2 in
+    (
+      left.0,
+      left.1,
+      laid,
+      c.finished_files_mean_their_entries.ensures left.0.image t clusters (measures_of p) described (measures p) laid,
+    )
