@@ -13,22 +13,22 @@ ghost use Rattle.nt_layout.specs.Blobs.{blob_len};
 ghost use Rattle.nt_layout.specs.Headers.{header_object, file_begun};
 ghost use Rattle.nt_layout.specs.Laid.{AreBlobsOf, IsBookOf, IsLaid};
 ghost use Rattle.nt_close.specs.Passing.{measures_of};
-ghost use Rattle.nt_close.specs.Closing.{BecomesFinished, StaysWithin};
+ghost use Rattle.nt_close.specs.Closing.{EndsFinished};
 
 use nt_finished::{
     files_are_laid_behind, finished_files_are_as_long, finished_files_mean_their_entries,
 };
 
 /// Where a file was begun and the ranges behind its header are the blobs of entries, one for each
-/// cluster of a book of its schema, what `close` promises of it after Ok (its clauses `finished` and
-/// `within`) makes it the file that is laid out for these entries, which means them.
+/// cluster of a book of its schema, what `close` promises of it after Ok (its clause `finished`) makes it
+/// the file that is laid out for these entries, which means them.
 pub fn closed_files_mean_their_entries()
     ensures { (t : Table) (p : Params) (book : BookData) (clusters : List (List TreesData))
         (ranges : List (List ℕ)) (old new : Option Held) (h : Held)
         → IsDescribed t → IsBookOf t book → blob_len (length (header_object t)) ≤ p.limits.range
         → AreBlobsOf t p.page clusters ranges (book_clusters book)
         → old ≡ Some h → h.image ≡ file_begun t ++ concat ranges
-        → BecomesFinished t book p.group old new → StaysWithin t p book
+        → EndsFinished t p book old new
         → (left : Held) × (new ≡ Some left) × IsLaid left.image t clusters (measures_of p)
         × Means left.image t clusters }
 {
