@@ -1,9 +1,8 @@
 -- The log of a file that contexts fill.
-use Rattle.std.proofs.Common.{◌≡◌, sym, subst, ℕ, List, [], ◌++◌, arith}
+use Rattle.std.proofs.Common.{sym, subst, List, [], arith}
 use Rattle.std.specs.List.{AllByRecursion}
 use Rattle.nt_outside.specs.Log.{Step}
 use Rattle.nt_logged.specs.Stands.{IsBehind}
-use Rattle.nt_logged.specs.Tails.{range_steps}
 use Rattle.nt_grammar.specs.Table.{Table}
 use Rattle.nt_book.specs.declared.meta.ClusterMeta.{ClusterMeta}
 use Rattle.nt_layout.specs.Headers.{clusters_place}

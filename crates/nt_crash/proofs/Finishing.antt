@@ -1,6 +1,6 @@
 -- What a crash leaves of a file that is closed: the finished file, as it is read.
-use Rattle.std.proofs.Common.{◌≡◌, ◌∙◌, ap, sym, subst, ℕ, List, [], ◌∷◌, ◌++◌, length, take, drop, map, arith}
-use Rattle.std.proofs.Common.{append_assoc, Bool, true, Some, inl, inr}
+use Rattle.std.proofs.Common.{◌≡◌, ◌∙◌, ap, sym, subst, ℕ, List, [], ◌++◌, length, take, map, arith}
+use Rattle.std.proofs.Common.{Bool, true, Some, inl, inr}
 use Rattle.std.specs.Prelude.{◌⊎◌}
 use Rattle.std.specs.List.{AllZip, concat, flat_map}
 use Rattle.std.proofs.lemmas.List.{length-append, map-append}

@@ -7,9 +7,9 @@ ghost use Rattle.nt_outside.specs.Held.{Held};
 ghost use Rattle.nt_grammar.specs.Table.{Table};
 ghost use Rattle.nt_grammar.specs.ReadingBack.{IsDescribed};
 ghost use Rattle.nt_book.specs.declared.params.Params.{Params};
-ghost use Rattle.nt_book.specs.Books.{BookData, book_clusters};
+ghost use Rattle.nt_book.specs.Books.{BookData, IsUngrouped, book_clusters};
 ghost use Rattle.nt_file_meaning.specs.Files.{Means};
-ghost use Rattle.nt_layout.specs.Blobs.{blob_len};
+ghost use Rattle.nt_pagelists.specs.Blobs.{blob_len};
 ghost use Rattle.nt_layout.specs.Headers.{header_object, file_begun};
 ghost use Rattle.nt_layout.specs.Laid.{AreBlobsOf, IsBookOf, IsLaid};
 ghost use Rattle.nt_close.specs.Passing.{measures_of};
@@ -20,12 +20,13 @@ use nt_finished::{
 };
 
 /// Where a file was begun and the ranges behind its header are the blobs of entries, one for each
-/// cluster of a book of its schema, what `close` promises of it after Ok (its clause `finished`) makes it
-/// the file that is laid out for these entries, which means them.
+/// cluster of a book of its schema without groups, what `close` promises of it after Ok (its clause
+/// `finished`) makes it the file that is laid out for these entries, which means them.
 pub fn closed_files_mean_their_entries()
     ensures { (t : Table) (p : Params) (book : BookData) (clusters : List (List TreesData))
         (ranges : List (List ℕ)) (old new : Option Held) (h : Held)
-        → IsDescribed t → IsBookOf t book → blob_len (length (header_object t)) ≤ p.limits.range
+        → IsDescribed t → IsBookOf t book → IsUngrouped book
+        → blob_len (length (header_object t)) ≤ p.limits.range
         → AreBlobsOf t p.page clusters ranges (book_clusters book)
         → old ≡ Some h → h.image ≡ file_begun t ++ concat ranges
         → EndsFinished t p book old new

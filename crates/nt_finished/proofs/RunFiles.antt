@@ -1,12 +1,12 @@
 -- The file that holds the ranges of a closed run is laid out for the chunks of its contexts.
-use Rattle.std.proofs.Common.{◌≡◌, ◌∙◌, ap, sym, subst, refl, ℕ, zero, suc, true, List, [], ◌∷◌, map, Some, cc}
+use Rattle.std.proofs.Common.{◌≡◌, ◌∙◌, ap, sym, subst, ℕ, zero, suc, true, List, [], ◌∷◌, map, Some}
 use Rattle.std.specs.Prelude.{slice_get, slice_index_or}
 use Rattle.std.specs.List.{AllByRecursion, AllZip}
 use Rattle.nt_types.specs.TreeData.{TreesData}
 use Rattle.nt_grammar.specs.Table.{Table}
 use Rattle.nt_machine.specs.Deal.{Uses, IsDeal}
 use Rattle.nt_machine.specs.History.{Cluster}
-use Rattle.nt_machine.specs.Machine.{Settled, ChunkRange, MachineState, ContextStep, AreTrue, IsRun, chunk_name, contexts_of, state_after}
+use Rattle.nt_machine.specs.Machine.{Settled, ChunkRange, MachineState, ContextStep, AreTrue, IsRun, contexts_of, state_after}
 use Rattle.nt_machine.proofs.Counts.{counted}
 use Rattle.nt_machine.proofs.RunOrders.{run_uses, run_deals}
 use Rattle.nt_machine.proofs.Runs.{run_true}
