@@ -16,7 +16,7 @@ use crate::write::write;
 use nt_command_line::{Alone, Parallel, alone_of, needs_threads, parallel_of};
 use nt_outside::{Disk, Gate, Host, Stream, print_all};
 use nt_show::EntryRange;
-use std::alloc::{AllocError, Global};
+use std::alloc::Global;
 use std::sync::Wait;
 use std::thread::Threads;
 
@@ -33,15 +33,17 @@ fn do_alone<H: Host>(alloc: Global, words: &[String], host: &mut H) -> Status
     requires { NeedsThreads (texts words.now) → ⊥ }
     ensures { Obeys (texts words.entry.now) (H.state host.old) (H.state host.new) result }
 {
-    match alone_of(alloc, words) {
-        Ok(Some(Alone::Seq(said))) => seq(alloc, host, &said),
-        Ok(Some(Alone::Entries { from, count, file })) => {
+    let Ok(command) = alone_of(alloc, words) else {
+        return Status::Memory;
+    };
+    match command {
+        Some(Alone::Seq(said)) => seq(alloc, host, &said),
+        Some(Alone::Entries { from, count, file }) => {
             let from = from.unwrap_or(0);
             entries(alloc, host, EntryRange { from, count }, file)
         }
-        Ok(Some(Alone::Schema { file })) => schema(alloc, host, file),
-        Ok(None) => Status::Usage,
-        Err(AllocError) => Status::Memory,
+        Some(Alone::Schema { file }) => schema(alloc, host, file),
+        None => Status::Usage,
     }
 }
 
@@ -64,11 +66,13 @@ where
     requires { NeedsThreads (texts words.now) }
     ensures { Obeys (texts words.entry.now) (H.state host.old) (H.state host.new) result }
 {
-    match parallel_of(alloc, words) {
-        Ok(Some(Parallel::Write(said))) => write(rt, alloc, host, &said, gate),
-        Ok(Some(Parallel::Gen(said))) => make(rt, alloc, host, &said, gate),
-        Ok(None) => Status::Usage,
-        Err(AllocError) => Status::Memory,
+    let Ok(command) = parallel_of(alloc, words) else {
+        return Status::Memory;
+    };
+    match command {
+        Some(Parallel::Write(said)) => write(rt, alloc, host, &said, gate),
+        Some(Parallel::Gen(said)) => make(rt, alloc, host, &said, gate),
+        None => Status::Usage,
     }
 }
 
