@@ -2,8 +2,8 @@ pub mod Returning
 pub mod Sums
 pub mod Counting
 pub mod Adding
-pub mod Entries
-pub mod Reading
+pub mod AddedEntries
+pub mod AddedClusters
 pub mod Texts
 pub mod Sources
 pub mod Stored

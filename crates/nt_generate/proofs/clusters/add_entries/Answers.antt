@@ -1,6 +1,6 @@
 use Rattle.std.proofs.Common.{arith}
 use Rattle.nt_reader.specs.Columns.{given_entries}
-use Rattle.nt_generate.proofs.Entries.{length-given, sum-next, sum-whole}
+use Rattle.nt_generate.proofs.AddedEntries.{length-given, sum-next, sum-whole}
 use Rattle.nt_generate.proofs.clusters.add_entries.Goals as goal
 
 pub loop-i-preserved : goal.loop-i-preserved

@@ -1,6 +1,6 @@
 use Rattle.std.proofs.Common.{arith}
 use Rattle.nt_generate.proofs.Sums.{same_total}
-use Rattle.nt_generate.proofs.Entries.{length-given}
+use Rattle.nt_generate.proofs.AddedEntries.{length-given}
 use Rattle.nt_generate.proofs.clusters.with_cluster.Goals as goal
 
 pub returns : goal.returns

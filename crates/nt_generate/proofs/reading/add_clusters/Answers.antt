@@ -2,7 +2,7 @@ use Rattle.std.proofs.Common.{◌∙◌, ap, refl, length, Err, arith}
 use Rattle.std.proofs.lemmas.Result.{err_from_is_err_and}
 use Rattle.nt_reader.specs.Columns.{ClusterData, given_entries}
 use Rattle.nt_tfile.specs.declared.failure.ReadFailure.{ReadFailure}
-use Rattle.nt_generate.proofs.Reading.{begins, goes_on, ends_refused, ends_whole}
+use Rattle.nt_generate.proofs.AddedClusters.{begins, goes_on, ends_refused, ends_whole}
 use Rattle.nt_generate.proofs.reading.add_clusters.Goals as goal
 
 pub loop-k-init : goal.loop-k-init

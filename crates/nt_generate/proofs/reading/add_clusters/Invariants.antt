@@ -2,7 +2,7 @@ use Rattle.std.proofs.Common.{◌≡◌, ◌≤◌, ℕ, List, length, Some}
 use Rattle.nt_outside.specs.File.{FileState}
 use Rattle.nt_file_meaning.specs.Outlines.{Outline}
 use Rattle.nt_generate.specs.declared.total.Total.{Total}
-use Rattle.nt_generate.proofs.Reading.{IsAdding}
+use Rattle.nt_generate.proofs.AddedClusters.{IsAdding}
 use Rattle.nt_generate.proofs.reading.add_clusters.Given as goal
 
 -- the clusters before this one were added

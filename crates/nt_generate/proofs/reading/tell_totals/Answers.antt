@@ -2,7 +2,7 @@ use Rattle.std.proofs.Common.{◌∙◌, ap, length, Err, arith}
 use Rattle.std.proofs.lemmas.Grind.{common_steps}
 use Rattle.std.proofs.lemmas.Result.{err_from_is_err_and}
 use Rattle.nt_tfile.specs.declared.failure.ReadFailure.{ReadFailure}
-use Rattle.nt_generate.proofs.Reading.{unattached, unread, all_back, counted_empty}
+use Rattle.nt_generate.proofs.AddedClusters.{unattached, unread, all_back, counted_empty}
 use Rattle.nt_generate.proofs.reading.tell_totals.Goals as goal
 
 pub returns-in_err-reader-clause-read : goal.returns-in_err-reader-clause-read
