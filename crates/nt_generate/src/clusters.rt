@@ -42,7 +42,7 @@ fn with_cluster(
 }
 
 /// Adds a cluster to the total of the context of this number; a context without a total stays without one.
-#[tactic(auto, using(crate::proofs::Entries::no_total))]
+#[tactic(auto, using(crate::proofs::AddedEntries::no_total))]
 pub(crate) fn add_cluster(
     alloc: Global,
     cluster: &ClusterRead<'_>,
