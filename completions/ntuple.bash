@@ -4,7 +4,8 @@
 # The options of a command.
 _ntuple_options() {
     case $1 in
-        write | seq) echo --cluster --page --group --plain --max-range --max-file ;;
+        write) echo --cluster --page --group --plain --max-range --max-file --contexts ;;
+        seq) echo --cluster --page --group --plain --max-range --max-file ;;
         entries) echo --from --count ;;
     esac
 }
@@ -26,7 +27,7 @@ _ntuple() {
     fi
     if [[ " ${COMP_WORDS[*]:2:COMP_CWORD-2} " != *' -- '* ]]; then
         case $before in
-            --cluster | --page | --group | --max-range | --max-file | --from | --count) return ;; # a number follows
+            --cluster | --page | --group | --max-range | --max-file | --contexts | --from | --count) return ;; # a number follows
         esac
         case $word in
             -*)

@@ -26,6 +26,7 @@ complete -c ntuple -n '__ntuple_is write seq' -l group -x -d 'The most clusters 
 complete -c ntuple -n '__ntuple_is write seq' -l plain -d 'Columns lie element by element'
 complete -c ntuple -n '__ntuple_is write seq' -l max-range -x -d 'The most bytes of a cluster or an envelope, 1024 to 1073741824'
 complete -c ntuple -n '__ntuple_is write seq' -l max-file -x -d 'The most bytes of the file, 1024 to 72057594037927936'
+complete -c ntuple -n '__ntuple_is write' -l contexts -x -d 'How many contexts run beside each other, 1 to 64'
 
 complete -c ntuple -n '__ntuple_is entries' -l from -x -d 'The first entry, 0 to 18446744073709551615'
 complete -c ntuple -n '__ntuple_is entries' -l count -x -d 'The most entries, 0 to 18446744073709551615'

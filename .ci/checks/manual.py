@@ -43,7 +43,7 @@ class Manual:
         for heading, body in re.findall(r"^\.SS Options of ([\w ]+)\n(.*?)(?=^\.S)", text, re.M | re.S):
             rows = re.findall(r"^\.TP\n\.BI? (--[\w-]+)[^\n]*\n(.*?)(?=^\.TP|\Z)", body, re.M | re.S)
             for command in heading.split(" and "):
-                self.options[command] = {name: range_in(row) for name, row in rows}
+                self.options[command].update({name: range_in(row) for name, row in rows})
         numbers = re.search(r"^\.SS Numbers of gen\n(.*?)(?=^\.S)", text, re.M | re.S)[1]
         self.numbers = [range_in(row) for row in numbers.split(".TP\n")[1:]]
         self.inputs = range_in(re.search(r"\(from (.*) of them\)", text)[1])
@@ -61,10 +61,11 @@ def against_readme(manual):
         for name in re.findall(r"--[\w-]+", words):
             if name not in manual.options.get(command, {}):
                 yield f"the manual has no {name} of {command}"
-    for name, low, high in re.findall(r"^\| `(--[\w-]+)[^`]*` \|[^|]*\| ([^|]*) \| ([^|]*) \|", text, re.M):
+    for name, low, high, sets in re.findall(r"^\| `(--[\w-]+)[^`]*` \|[^|]*\| ([^|]*) \| ([^|]*) \| ([^|]*) \|", text, re.M):
         found = (number(low), number(high)) if low.strip() else None
-        if manual.options["write"].get(name, ()) != found or manual.options["seq"].get(name, ()) != found:
-            yield f"the manual has another range of {name} than the README: {found}"
+        for command in ["write"] if sets.startswith("of `write` alone") else ["write", "seq"]:
+            if manual.options[command].get(name, ()) != found:
+                yield f"the manual has another range of {name} of {command} than the README: {found}"
     codes = re.findall(r"^\| (\d+) \|", re.search(r"^## Exit codes\n(.*?)^## ", text, re.M | re.S)[1], re.M)
     if sorted(set(codes)) != sorted(manual.codes):
         yield f"the README has other exit codes than the manual: {codes}"

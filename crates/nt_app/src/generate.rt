@@ -8,6 +8,7 @@ use nt_book::{Limits, Params};
 use nt_command_line::GenWords;
 use nt_generate::{GenerateError, generate};
 use nt_outside::{Disk, Gate, Host};
+use nt_store::Settings;
 use std::alloc::Global;
 use std::sync::Wait;
 use std::thread::Threads;
@@ -56,6 +57,12 @@ where
     ensures { GenNamed words.now.out.now words.now.making (H.state host.old) (H.state host.new) result }
 {
     let params = default_params();
-    let made = generate(rt, alloc, host, words.out, &words.making, &params, gate);
+    let settings = Settings {
+        alloc,
+        params: &params,
+        gate,
+        workers: words.making.contexts,
+    };
+    let made = generate(rt, host, words.out, &words.making, &settings);
     status_of_generate(made)
 }

@@ -1,6 +1,6 @@
 //! The command `write`: a schema text and event texts in, one file out.
 
-ghost use Rattle.std.specs.Prelude.{◌≡◌, ◌≤◌, length};
+ghost use Rattle.std.specs.Prelude.{◌≡◌, ◌<◌, ◌≤◌, length};
 ghost use Rattle.nt_book.specs.Ranges.{IsFromTo};
 ghost use Rattle.nt_command_line.specs.Commands.{names_of};
 ghost use Rattle.nt_app.specs.Writes.{status_of_store, WritesNamed};
@@ -8,7 +8,7 @@ ghost use Rattle.nt_app.specs.Writes.{status_of_store, WritesNamed};
 use crate::status::{Status, TextFault};
 use nt_command_line::WriteWords;
 use nt_outside::{Disk, Gate, Host};
-use nt_store::{Names, StoreError, store};
+use nt_store::{Names, Settings, StoreError, store};
 use std::alloc::Global;
 use std::sync::Wait;
 use std::thread::Threads;
@@ -51,7 +51,8 @@ where
     <H::Out as Disk>::Pen: Send,
     <H::Out as Disk>::Ext: Send,
     G: Gate + Sync,
-    requires { IsFromTo 1 64 (length (names_of words.now.inputs.items)) }
+    requires inputs { IsFromTo 1 64 (length (names_of words.now.inputs.items)) }
+    requires contexts { (0 < words.now.contexts) × (words.now.contexts ≤ 64) }
     ensures { WritesNamed words.now.out.now words.now.schema.now (names_of words.now.inputs.items) words.now.params
         (H.state host.old) (H.state host.new) result }
 {
@@ -60,6 +61,12 @@ where
         schema: words.schema,
         inputs: words.inputs.as_slice(),
     };
-    let stored = store(rt, alloc, host, names, &words.params, gate);
+    let settings = Settings {
+        alloc,
+        params: &words.params,
+        gate,
+        workers: words.contexts,
+    };
+    let stored = store(rt, host, names, &settings);
     status_of_store(stored)
 }

@@ -1,5 +1,5 @@
 -- What words say as a command.
-use Rattle.std.specs.Prelude.{◌⊎◌, ℕ, List, map, codes, Option, Some, None}
+use Rattle.std.specs.Prelude.{◌⊎◌, ℕ, List, map, length, codes, Option, Some, None}
 use Rattle.std.specs.Borrow.{Bor}
 use Rattle.nt_book.specs.declared.params.Params.{Params}
 use Rattle.nt_draws.specs.declared.making.Making.{Making}
@@ -8,7 +8,7 @@ use Rattle.nt_command_line.specs.declared.command.Parallel.TheVariants.{Write, G
 use Rattle.nt_command_line.specs.declared.command.Alone.{Alone}
 use Rattle.nt_command_line.specs.declared.command.Alone.TheVariants.{Seq, Entries, Schema}
 use Rattle.nt_command_line.specs.CommandLine.{entries_app, schema_app, Begins, IsTaken, IsEntries, IsSchemaCommand}
-use Rattle.nt_command_line.specs.WriteWords.{IsWrite, IsWrongWrite}
+use Rattle.nt_command_line.specs.WriteWords.{IsWrite, IsWrongWrite, AreContextsSaid}
 use Rattle.nt_command_line.specs.SeqWords.{IsSeq, IsWrongSeq}
 use Rattle.nt_command_line.specs.GenWords.{gen_app, IsGen}
 
@@ -39,7 +39,8 @@ NeedsThreads words = Begins words (codes "write") ⊎ Begins words (codes "gen")
 
 -- the words say this command, which starts threads, or are wrong
 abbrev pub SaysParallel : List (List ℕ) → Option Parallel → Type 0
-SaysParallel words (Some (Write w)) = IsWrite words w.out.now w.schema.now (names_of w.inputs.items) w.params
+SaysParallel words (Some (Write w)) =
+    IsWrite words w.out.now w.schema.now (names_of w.inputs.items) w.params × AreContextsSaid words (length w.inputs.items) w.contexts
 SaysParallel words (Some (Gen g)) = IsGen words g.making g.out.now
 SaysParallel words None = IsWrong words
 

@@ -2,12 +2,13 @@
 use Rattle.std.specs.Prelude.{◌≡◌, ◌⊎◌, ℕ, ◌≤◌, false, List, [], ◌∷◌, ◌++◌, codes, length, Some, unwrap_or}
 use Rattle.clap.specs.Words.{App, Rule}
 use Rattle.nt_book.specs.declared.params.Params.{Params}
-use Rattle.nt_command_line.specs.CommandLine.{operand, operands, app, Begins, IsTaken, word_found, words_found, is_among}
-use Rattle.nt_command_line.specs.Options.{options, AreParamsSaid}
+use Rattle.nt_command_line.specs.CommandLine.{operand, operands, number_option, app, Begins, IsTaken, word_found, words_found, is_among}
+use Rattle.nt_command_line.specs.Options.{options, number_or, AreParamsSaid}
 
--- `OUT SCHEMA IN...` behind them
+-- `[--contexts K] OUT SCHEMA IN...` behind them
 abbrev pub write_rules : List Rule
-write_rules = options ++ operand (codes "OUT") ∷ operand (codes "SCHEMA") ∷ operands (codes "IN") ∷ []
+write_rules =
+    options ++ number_option (codes "contexts") 1 64 ∷ operand (codes "OUT") ∷ operand (codes "SCHEMA") ∷ operands (codes "IN") ∷ []
 
 -- `write`
 unfoldable pub write_app : App
@@ -32,6 +33,12 @@ pub record IsWrite (words : List (List ℕ)) (out schema : List ℕ) (inputs : L
   pub names : NamesOfWrite words out schema inputs
   pub params : AreParamsSaid write_app words p
   pub apart : AreApart out schema inputs
+
+-- so many contexts run beside each other at most: as many as there are inputs, where the words don't say it
+pub record AreContextsSaid (words : List (List ℕ)) (inputs contexts : ℕ) : Type 0 where
+  pub number : contexts ≡ number_or write_app words (codes "contexts") inputs
+  pub some : 1 ≤ contexts
+  pub few : contexts ≤ 64
 
 -- there are no inputs or more than 64, or OUT has the name of a text that is read
 pub record Clashes (words : List (List ℕ)) : Type 0 where

@@ -9,7 +9,7 @@
 //! Proved: words are the command that is answered exactly as clap's definition of simple commands reads them, and None
 //! only where the first word is no command, clap refuses the others for another cause than memory, `write` has no or too many
 //! inputs, or the OUT of `write` or `seq` has the name of a text that is read. The numbers of `gen` lie in their ranges (`Making` of
-//! nt_draws).
+//! nt_draws), and so does the number of contexts that run beside each other (`AreContextsSaid` in `specs/WriteWords.antt`).
 //!
 //! A choice that binds nobody else: that there are no inputs is looked at once more, though clap refuses that by itself.
 #![tactic(auto)]

@@ -1,14 +1,18 @@
 //! The words of `write`.
 
-ghost use Rattle.std.specs.Prelude.{List, ℕ, codes, IfOk, MatchBool};
+ghost use Rattle.std.specs.Prelude.{◌≡◌, ◌≤◌, List, ℕ, codes, IfOk, MatchBool};
+ghost use Rattle.clap.specs.Words.{found_of, rows_of, matches_of as matches_found};
 ghost use Rattle.nt_command_line.specs.CommandLine.{texts, Begins};
-ghost use Rattle.nt_command_line.specs.WriteWords.{write_rules, AreApart};
+ghost use Rattle.nt_command_line.specs.WriteWords.{write_app, write_rules, AreApart, AreContextsSaid};
 ghost use Rattle.nt_command_line.specs.Commands.{names_of, SaysParallel};
-ghost use Rattle.nt_command_line.specs.Arguments.{IsCommandOf};
+ghost use Rattle.nt_command_line.specs.Arguments.{IsCommandOf, HasNumber};
 
-use crate::arguments::{is_among, matches_of, name_in, names_in, operand, operands};
+use crate::arguments::{
+    is_among, matches_of, name_in, names_in, number_in, number_option, operand, operands,
+};
 use crate::command::Parallel;
 use crate::options::{params_in, with_options};
+use clap::ArgMatches;
 use nt_book::Params;
 use std::alloc::{AllocError, Global};
 
@@ -23,13 +27,16 @@ pub struct WriteWords<'a> {
     pub schema: &'a str,
     pub inputs: Vec<&'a str>,
     pub params: Params,
+    /// How many contexts run beside each other at most, from 1 to 64.
+    pub contexts: u32,
 }
 
-/// `write`, its options, and `OUT SCHEMA IN...`.
+/// `write`, its options, and `[--contexts K] OUT SCHEMA IN...`.
 fn write_command<'a>(alloc: Global) -> Result<clap::Command<'a>, AllocError>
     ensures { IfOk result (IsCommandOf (codes "write") write_rules) }
 {
-    let command = with_options(alloc, "write")?.arg(operand(alloc, "OUT"))?;
+    let command = with_options(alloc, "write")?.arg(number_option(alloc, "contexts", 1, 64))?;
+    let command = command.arg(operand(alloc, "OUT"))?;
     let command = command.arg(operand(alloc, "SCHEMA"))?;
     command.arg(operands(alloc, "IN"))
 }
@@ -46,6 +53,16 @@ fn are_apart(out: &str, schema: &str, inputs: &[&str]) -> bool
         return false;
     }
     !is_among(out, inputs)
+}
+
+/// How many contexts run beside each other at most: the number that was found, or that of the inputs where none was.
+fn contexts_in(matches: &ArgMatches<'_>, inputs: usize) -> u32
+    requires number { HasNumber 1 64 matches.now (codes "contexts") }
+    requires inputs { (1 ≤ inputs) × (inputs ≤ 64) }
+    ensures { (words : List (List ℕ)) → rows_of (found_of matches.now) ≡ matches_found write_app words
+        → AreContextsSaid words inputs result }
+{
+    number_in(matches, "contexts").unwrap_or(inputs as u64) as u32
 }
 
 /// The command of words that begin with `write`.
@@ -65,10 +82,12 @@ pub(crate) fn write_of<'a>(
     if !are_apart(out, schema, &inputs) {
         return Ok(None);
     }
+    let contexts = contexts_in(&matches, inputs.len());
     Ok(Some(Parallel::Write(WriteWords {
         out,
         schema,
         inputs,
         params: params_in(&matches),
+        contexts,
     })))
 }

@@ -28,8 +28,8 @@ use Rattle.nt_commit.specs.Locked.{IsInStep, birth_of, context_of, history_of_lo
 use Rattle.nt_close.specs.Spoiled.{IsUnspoiled, NoneSpoiled}
 use Rattle.nt_dealing.specs.Written.{IsChunkBlob, HaveWritten}
 use Rattle.nt_dealing.proofs.Written.{each_wrote, others_idle}
-use Rattle.nt_writing.specs.Filling.{HaveFaults}
-use Rattle.nt_writing.specs.Seats.{DiskPass}
+use Rattle.nt_contexts.specs.Filling.{HaveFaults}
+use Rattle.nt_contexts.specs.Seats.{DiskPass}
 use Rattle.nt_contexts.specs.Working.{KeepsFaults}
 use Rattle.nt_contexts.specs.Working.KeepsFaults.{of_first, of_kept}
 use Rattle.nt_contexts.proofs.Lists.{All-at}

@@ -8,9 +8,9 @@ use Rattle.nt_machine.specs.declared.entry.Entry.{Entry}
 use Rattle.nt_book.specs.declared.meta.ClusterMeta.{ClusterMeta}
 use Rattle.nt_commit.specs.declared.locked.Birth.{Birth}
 use Rattle.nt_commit.specs.Holds.{IsFirstOf, LeavesAfter}
-use Rattle.nt_writing.specs.declared.error.ContextError.{ContextError}
-use Rattle.nt_writing.specs.declared.seats.Seat.{Seat}
-use Rattle.nt_writing.specs.Seats.{DiskPass}
+use Rattle.nt_contexts.specs.declared.error.ContextError.{ContextError}
+use Rattle.nt_contexts.specs.declared.seats.Seat.{Seat}
+use Rattle.nt_contexts.specs.Seats.{DiskPass}
 use Rattle.nt_contexts.specs.declared.error.RunError.{RunError}
 use Rattle.nt_contexts.specs.Answers.{answer_of, with_rest, answer_from}
 use Rattle.nt_contexts.specs.Seating.{all_kept, kept_by, seat_sources, HasBeenSeen, CanLeave, JoinsSeat, LeaveAll, TurnsBack}

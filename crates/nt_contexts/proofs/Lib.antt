@@ -1,4 +1,12 @@
+pub mod Chunking
+mod Committing
+mod Writing
+pub mod Reading
+mod TakenLines
+mod Lines
+mod Ends
 mod Lists
+mod Jobs
 mod Opens
 mod Leaves
 mod Ran

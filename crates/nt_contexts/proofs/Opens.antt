@@ -21,10 +21,10 @@ use Rattle.nt_commit.specs.declared.locked.Birth.{Birth}
 use Rattle.nt_commit.specs.Claims.{PenAdds}
 use Rattle.nt_commit.specs.Holds.{IsPassOf, HasNoneOut, RefusesPen, EntersAfter}
 use Rattle.nt_event.specs.Lines.{before_first_line}
-use Rattle.nt_writing.specs.declared.seats.Seat.{Seat}
-use Rattle.nt_writing.specs.Reading.{left_of}
-use Rattle.nt_writing.specs.Filling.{HaveFaults}
-use Rattle.nt_writing.specs.Seats.{DiskPass, IsFresh}
+use Rattle.nt_contexts.specs.declared.seats.Seat.{Seat}
+use Rattle.nt_contexts.specs.Reading.{left_of}
+use Rattle.nt_contexts.specs.Filling.{HaveFaults}
+use Rattle.nt_contexts.specs.Seats.{DiskPass, IsFresh}
 use Rattle.nt_contexts.specs.Contexts.{AreLater}
 use Rattle.nt_contexts.specs.Seating.{IsLettingIn, HasLetIn, RefusesSeat, IsNewSeat, AreNewSeats, HasOpened, MayWork, CanRun}
 

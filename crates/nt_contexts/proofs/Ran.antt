@@ -1,7 +1,7 @@
 -- What contexts leave once they ran: seat by seat, and all together.
 use Rattle.std.proofs.Common.{◌≡◌, ◌⊎◌, inl, inr, ℕ, zero, suc, ◌+◌, ◌<◌, ◌≤◌, List, [], ◌∷◌, ◌++◌, length, map, Option, Some, None, refl}
 use Rattle.std.proofs.Common.{sym, ap, ◌∙◌, subst, arith, Result, Ok, Err}
-use Rattle.std.specs.Prelude.{slice_get, slice_index_or}
+use Rattle.std.specs.Prelude.{slice_get, slice_index_or, All}
 use Rattle.std.specs.List.{AllByRecursion}
 use mathlib.Core.List.{IsPrefix}
 use Rattle.nt_types.specs.ShapeData.{MemberData}
@@ -24,12 +24,12 @@ use Rattle.nt_event.specs.declared.fault.TextKind.{TextKind}
 use Rattle.nt_dealing.specs.Texts.{events_of, text_chunks, chunks_of, AreSound, IsFirstBad}
 use Rattle.nt_dealing.specs.Written.{WroteChunks, CommittedFirst, AllWroteFrom, AllCommittedFrom}
 use Rattle.nt_dealing.specs.Limits.{NextPasses}
-use Rattle.nt_writing.specs.declared.error.ContextError.{ContextError}
-use Rattle.nt_writing.specs.declared.error.ContextError.TheVariants as context
-use Rattle.nt_writing.specs.declared.seats.Seat.{Seat}
-use Rattle.nt_writing.specs.Reading.{left_of}
-use Rattle.nt_writing.specs.Filling.{HaveFaults}
-use Rattle.nt_writing.specs.Seats.{DiskPass, IsFresh, Ran, EndsTold}
+use Rattle.nt_contexts.specs.declared.error.ContextError.{ContextError}
+use Rattle.nt_contexts.specs.declared.error.ContextError.TheVariants as context
+use Rattle.nt_contexts.specs.declared.seats.Seat.{Seat}
+use Rattle.nt_contexts.specs.Reading.{left_of}
+use Rattle.nt_contexts.specs.Filling.{HaveFaults}
+use Rattle.nt_contexts.specs.Seats.{DiskPass, IsFresh, Ran, EndsTold}
 use Rattle.nt_contexts.specs.declared.error.RunError.TheVariants.{Outside, Line, Limit}
 use Rattle.nt_contexts.specs.Contexts.{TellTexts, SomeRose, AreLater}
 use Rattle.nt_contexts.specs.Answers.{limit_told, answer_of, answer_from}
@@ -411,6 +411,20 @@ module _ {D S P : Type 0} (committer : TurnState (Birth D)) (source : S → Sour
               f.unused) tt;
         },
         new-can-leave (i + 1) states xs new.1,
+      )
+
+  pub fresh-can-leave : (seats : List (Seat S (DiskPass D) P)) → All (IsFresh source committer) seats
+      → AllByRecursion (CanLeave committer) seats
+  fresh-can-leave [] fresh = tt
+  fresh-can-leave (x ∷ xs) fresh =
+      let f : IsFresh source committer x = fresh 0 x (omega arith) in (
+        record {
+          pass = f.pass;
+          there = f.there;
+          of = f.of;
+          none_out = subst (λ (l : List (Entry ClusterMeta)). HasNoneOut l) (sym f.unused) tt;
+        },
+        fresh-can-leave xs (λ k d less. fresh (suc k) d (omega (arith, less))),
       )
 
   fresh-kept : (i : ℕ) (s : SourceState) (seat : Seat S (DiskPass D) P) → IsNewSeat committer source i s seat → kept_by seat.pass ≡ (i, [])

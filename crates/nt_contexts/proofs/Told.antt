@@ -33,7 +33,7 @@ use Rattle.nt_close.specs.Beginning.{new_book}
 use Rattle.nt_dealing.specs.Dealt.{FillsBehind}
 use Rattle.nt_dealing.specs.Texts.{all_chunks}
 use Rattle.nt_dealing.specs.Limits.{IsOver, IsOverBy}
-use Rattle.nt_writing.specs.Seats.{DiskPass}
+use Rattle.nt_contexts.specs.Seats.{DiskPass}
 use Rattle.nt_contexts.specs.declared.error.RunError.{RunError}
 use Rattle.nt_contexts.specs.declared.error.RunError.TheVariants.{Outside, Memory, Line, Limit}
 use Rattle.nt_contexts.specs.Answers.{limit_told}

@@ -20,9 +20,9 @@ use Rattle.nt_commit.specs.declared.locked.Birth.{Birth}
 use Rattle.nt_commit.specs.Holds.{HasNoneOut, AreAllIn}
 use Rattle.nt_dealing.specs.Texts.{text_chunks, chunks_of, IsFirstBad}
 use Rattle.nt_dealing.specs.Written.{AllWroteFrom, AllCommittedFrom, HaveWritten, HaveCommitted}
-use Rattle.nt_writing.specs.declared.seats.Seat.{Seat}
-use Rattle.nt_writing.specs.Filling.{HaveFaults}
-use Rattle.nt_writing.specs.Seats.{DiskPass}
+use Rattle.nt_contexts.specs.declared.seats.Seat.{Seat}
+use Rattle.nt_contexts.specs.Filling.{HaveFaults}
+use Rattle.nt_contexts.specs.Seats.{DiskPass}
 use Rattle.nt_contexts.specs.declared.error.RunError.{RunError}
 use Rattle.nt_contexts.specs.declared.error.RunError.TheVariants.{Outside, Memory, Line, Limit}
 use Rattle.nt_contexts.specs.Contexts.{TellTexts, SomeRose, AreLater}

@@ -4,9 +4,9 @@ use Rattle.nt_outside.specs.declared.fault.Refused.{Refused}
 use Rattle.nt_outside.specs.declared.fault.Refused.TheVariants as refused
 use Rattle.nt_book.specs.declared.limits.LimitError.{LimitError}
 use Rattle.nt_book.specs.declared.limits.LimitError.TheVariants as limit
-use Rattle.nt_writing.specs.declared.error.ContextError.{ContextError}
-use Rattle.nt_writing.specs.declared.error.ContextError.TheVariants as context
-use Rattle.nt_writing.specs.declared.seats.Seat.{Seat}
+use Rattle.nt_contexts.specs.declared.error.ContextError.{ContextError}
+use Rattle.nt_contexts.specs.declared.error.ContextError.TheVariants as context
+use Rattle.nt_contexts.specs.declared.seats.Seat.{Seat}
 use Rattle.nt_contexts.specs.declared.error.RunError.{RunError}
 use Rattle.nt_contexts.specs.declared.error.RunError.TheVariants.{Outside, Memory, Line, Limit}
 

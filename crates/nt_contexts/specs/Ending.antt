@@ -23,7 +23,7 @@ use Rattle.nt_dealing.specs.Texts.{chunks_of, all_chunks}
 use Rattle.nt_dealing.specs.Written.{HaveWritten, HaveCommitted}
 use Rattle.nt_dealing.specs.Dealt.{IsDealtOut, FillsBehind}
 use Rattle.nt_dealing.specs.Limits.{NextPasses, IsOverBy}
-use Rattle.nt_writing.specs.Seats.{DiskPass}
+use Rattle.nt_contexts.specs.Seats.{DiskPass}
 use Rattle.nt_contexts.specs.Working.{KeepsFaults}
 
 module _ {D : Type 0} (state : D → DiskState) (birth : Birth D) where

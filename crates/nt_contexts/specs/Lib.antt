@@ -1,5 +1,11 @@
+pub mod Reading
+pub mod Filling
+pub mod Running
+pub mod Taking
+pub mod Seats
 pub mod Answers
 pub mod Contexts
 pub mod Seating
 pub mod Working
 pub mod Ending
+pub mod Jobs

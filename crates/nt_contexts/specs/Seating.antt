@@ -15,10 +15,10 @@ use Rattle.nt_book.specs.declared.params.Params.{Params}
 use Rattle.nt_commit.specs.declared.locked.Birth.{Birth}
 use Rattle.nt_commit.specs.Holds.{IsPassOf, IsFirstOf, HasNoneOut}
 use Rattle.nt_event.specs.Lines.{before_first_line}
-use Rattle.nt_writing.specs.declared.seats.Seat.{Seat}
-use Rattle.nt_writing.specs.Reading.{left_of}
-use Rattle.nt_writing.specs.Filling.{HaveFaults}
-use Rattle.nt_writing.specs.Seats.{DiskPass, IsFresh, IsSchemaFor}
+use Rattle.nt_contexts.specs.declared.seats.Seat.{Seat}
+use Rattle.nt_contexts.specs.Reading.{left_of}
+use Rattle.nt_contexts.specs.Filling.{HaveFaults}
+use Rattle.nt_contexts.specs.Seats.{DiskPass, IsFresh, IsSchemaFor}
 use Rattle.nt_contexts.specs.declared.error.RunError.{RunError}
 use Rattle.nt_contexts.specs.Contexts.{AreLater}
 use Rattle.nt_contexts.specs.Answers.{answer_from}

@@ -17,10 +17,10 @@ use Rattle.nt_commit.specs.Holds.{IsPassOf, IsFirstOf, HasNoneOut, HaveAllLeft}
 use Rattle.nt_dealing.specs.Texts.{text_chunks, chunks_of, AreSound, IsFirstBad}
 use Rattle.nt_dealing.specs.Written.{WroteChunks, CommittedFirst, HaveWritten, HaveCommitted}
 use Rattle.nt_dealing.specs.Limits.{NextPasses}
-use Rattle.nt_writing.specs.declared.error.ContextError.TheVariants as context
-use Rattle.nt_writing.specs.declared.seats.Seat.{Seat}
-use Rattle.nt_writing.specs.Filling.{HaveFaults}
-use Rattle.nt_writing.specs.Seats.{DiskPass, EndsTold}
+use Rattle.nt_contexts.specs.declared.error.ContextError.TheVariants as context
+use Rattle.nt_contexts.specs.declared.seats.Seat.{Seat}
+use Rattle.nt_contexts.specs.Filling.{HaveFaults}
+use Rattle.nt_contexts.specs.Seats.{DiskPass, EndsTold}
 use Rattle.nt_contexts.specs.declared.error.RunError.{RunError}
 use Rattle.nt_contexts.specs.declared.error.RunError.TheVariants.{Outside, Memory, Line, Limit}
 use Rattle.nt_contexts.specs.Answers.{limit_told}

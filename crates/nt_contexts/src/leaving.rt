@@ -5,11 +5,11 @@ ghost use Rattle.std.specs.List.{AllByRecursion};
 ghost use Rattle.nt_commit.specs.Holds.{IsFirstOf};
 ghost use Rattle.nt_contexts.specs.Seating.{CanLeave, JoinsSeat, LeaveAll};
 
-use crate::error::{RunError, and_then};
+use crate::error::{ContextError, RunError, and_then};
+use crate::seats::{Seat, SeatOf};
 use nt_commit::{Committer, Locked};
 use nt_outside::{Disk, Source};
 use nt_turn::Pass;
-use nt_writing::{ContextError, Seat, SeatOf};
 use std::sync::Wait;
 
 /// Lets a context go: its pass is joined, its pen goes back where it is still there, and its source comes back.

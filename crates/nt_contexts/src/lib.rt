@@ -1,11 +1,17 @@
 //! The contexts of a writer, one for each source: they come in, run beside each other, and leave one disk and one book.
 //!
 //! Start at `run_contexts` in `run.rt`. It makes a committer over the disk and the book, lets a context in for each source
-//! (`opening.rt`), runs them (`run_all` of nt_writing), lets them go (`leaving.rt`), and ends the committer (`ending.rt`).
+//! (`opening.rt`), runs them (`run_all` in `seats.rt`), lets them go (`leaving.rt`), and ends the committer (`ending.rt`).
+//! Each seat has the lines of one input, a pass and a pen, and is the job of a worker (nt_pool), which makes a fill context of the last
+//! two, runs it to its end and takes it apart again, so that no fill context goes to another thread. A context takes line by line (`running.rt`, `taking.rt`): a line's entry
+//! is gathered, and written as a cluster with those before it once they are enough; the rest is written at the end. It goes on to its
+//! own end, whatever the others do.
 //!
 //! Words: a context is *let in* when it gets its seat, with the lines of its source, a pass and a pen; it *leaves* when its pass is
 //! joined, its pen goes back and its source is taken out; the *first pass* is that of the committer, to which all others are joined.
-//! Contexts have the numbers of their sources, from 0.
+//! Contexts have the numbers of their sources, from 0. A seat is *fresh* before its context ran; a context is *open* while it is alive
+//! and has gathered no whole cluster; an entry is *taken* once it is gathered or written; a context *halts* where a cluster of its
+//! chunks isn't written.
 //!
 //! Proved of `run_contexts`, by `RunsContexts` in `specs/Contexts.antt`: after `Ok` each text is sound, and the clusters of the book
 //! are the chunks of all texts, dealt out in the order of the commits, with their blobs on the disk (`told`), none of them spoiled
@@ -14,6 +20,12 @@
 //! (`failed`). Whatever the answer: the disk tells the steps of one legal history behind what it held (`held`), no range is out, no
 //! cluster is longer than a range may get (`short`), the book begins where it did, and the sources come back in their order.
 //!
+//! Proved of each seat (`Ran` in `specs/Seats.antt`): a context that ended well has written just the entries of its text, in clusters
+//! of so many, the last maybe shorter. However it ended, it has committed just the first of the chunks of the entries before the first
+//! bad line of its text, one after the other, whole, even where their ranges were spoiled. Each other end has its cause: the first bad
+//! line of the text, by its number from 1; a limit that the next chunk passes behind a history that its pass has seen; a fault that its
+//! source counted or that stands among its own entries; or want of memory. Its pass comes back with no range out.
+//!
 //! Neither proved nor promised: that contexts run at the same time, or that one ever gets its turn.
 #![tactic(auto)]
 
@@ -21,8 +33,14 @@ mod ending;
 mod error;
 mod leaving;
 mod opening;
+mod room;
 mod run;
+mod running;
+mod seats;
+mod shared;
+mod taking;
 mod working;
 
 pub use error::RunError;
 pub use run::{Ended, run_contexts};
+pub use shared::Shared;

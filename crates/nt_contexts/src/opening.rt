@@ -2,14 +2,14 @@
 
 ghost use Rattle.std.specs.Prelude.{◌≡◌, ◌+◌, ◌<◌, ◌≤◌, [], vec_len, vec_capacity, IfOk, IfErr, OnOk, IsErrOf};
 ghost use Rattle.nt_outside.specs.declared.fault.Refused.TheVariants as refused;
-ghost use Rattle.nt_writing.specs.Filling.{HaveFaults};
+ghost use Rattle.nt_contexts.specs.Filling.{HaveFaults};
 ghost use Rattle.nt_contexts.specs.Seating.{IsLettingIn, RefusesSeat, IsNewSeat, HasOpened};
 
+use crate::seats::{Seat, SeatOf};
 use nt_commit::{Committer, Locked};
 use nt_event::LineReader;
 use nt_outside::{Disk, Refused, Source};
 use nt_turn::Pass;
-use nt_writing::{Seat, SeatOf};
 use std::alloc::Global;
 use std::sync::Wait;
 

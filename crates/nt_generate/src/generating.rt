@@ -1,5 +1,6 @@
 //! A file of events that are made, from its name to the lines of its totals.
 
+ghost use Rattle.std.specs.Prelude.{◌<◌, ◌≤◌};
 ghost use Rattle.nt_generate.specs.Leaving.{MakesFile};
 ghost use Rattle.nt_generate.specs.Generated.{Generates};
 
@@ -7,22 +8,19 @@ use crate::error::GenerateError;
 use crate::made::{event_fields, event_sources};
 use crate::telling::print_totals;
 use crate::writing::write_made;
-use nt_book::Params;
 use nt_draws::Making;
 use nt_outside::{Disk, Gate, Host};
-use std::alloc::Global;
+use nt_store::Settings;
 use std::sync::Wait;
 use std::thread::Threads;
 
 /// Makes the disk of this name, writes the file of events that are made on it, and gives it back.
 fn make_file<R, H, G>(
     rt: &R,
-    alloc: Global,
     host: &mut H,
     name: &str,
     making: &Making,
-    params: &Params,
-    gate: &G,
+    settings: &Settings<'_, G>,
 ) -> Result<Vec<u32>, GenerateError>
 where
     R: Threads + Wait + Sync,
@@ -31,15 +29,15 @@ where
     <H::Out as Disk>::Pen: Send,
     <H::Out as Disk>::Ext: Send,
     G: Gate + Sync,
-    ensures { MakesFile (λ order. order.items) name.now params.now making.now (H.state host.old) (H.state host.new) result }
+    requires workers { (0 < settings.now.workers) × (settings.now.workers ≤ 64) }
+    ensures { MakesFile (λ order. order.items) name.now settings.now.params.now making.now (H.state host.old) (H.state host.new) result }
 {
+    let alloc = settings.alloc;
     let fields = event_fields(alloc)?;
     let sources = event_sources(alloc, making)?;
     match host.create(name) {
         Ok(disk) => {
-            let (disk, written) = write_made(
-                rt, alloc, disk, &fields, params, making, sources, gate,
-            );
+            let (disk, written) = write_made(rt, disk, &fields, making, sources, settings);
             host.put_disk(disk);
             written
         }
@@ -56,12 +54,10 @@ where
 /// rose. `Defect` never comes of a host that tells its bytes.
 pub fn generate<R, H, G>(
     rt: &R,
-    alloc: Global,
     host: &mut H,
     name: &str,
     making: &Making,
-    params: &Params,
-    gate: &G,
+    settings: &Settings<'_, G>,
 ) -> Result<(), GenerateError>
 where
     R: Threads + Wait + Sync,
@@ -70,8 +66,9 @@ where
     <H::Out as Disk>::Pen: Send,
     <H::Out as Disk>::Ext: Send,
     G: Gate + Sync,
-    ensures { Generates name.now params.now making.now (H.state host.old) (H.state host.new) result }
+    requires workers { (0 < settings.now.workers) × (settings.now.workers ≤ 64) }
+    ensures { Generates name.now settings.now.params.now making.now (H.state host.old) (H.state host.new) result }
 {
-    let order = make_file(rt, alloc, host, name, making, params, gate)?;
-    print_totals(alloc, host, name, &order, making.contexts)
+    let order = make_file(rt, host, name, making, settings)?;
+    print_totals(settings.alloc, host, name, &order, making.contexts)
 }

@@ -1,6 +1,6 @@
 //! The file of events that are made, on a disk.
 
-ghost use Rattle.std.specs.Prelude.{map};
+ghost use Rattle.std.specs.Prelude.{◌<◌, ◌≤◌, map};
 ghost use Rattle.nt_types.specs.Views.{members_view};
 ghost use Rattle.nt_draws.specs.declared.making.Making.{Making as MakingData};
 ghost use Rattle.nt_draws.specs.Source.{state_of};
@@ -13,7 +13,7 @@ use nt_book::{Book, Params};
 use nt_draws::{EventSource, Making};
 use nt_outside::{Disk, Gate};
 use nt_schema::Schema;
-use nt_store::{close_file, fill_file};
+use nt_store::{Settings, close_file, fill_file};
 use nt_types::Fields;
 use std::alloc::Global;
 use std::sync::Wait;
@@ -43,13 +43,11 @@ fn close_made<D: Disk>(
 /// clusters were committed.
 pub(crate) fn write_made<R, D, G>(
     rt: &R,
-    alloc: Global,
     disk: D,
     fields: &Fields,
-    params: &Params,
     making: &Making,
     sources: Vec<EventSource>,
-    gate: &G,
+    settings: &Settings<'_, G>,
 ) -> (D, Result<Vec<u32>, GenerateError>)
 where
     R: Threads + Wait + Sync,
@@ -58,13 +56,15 @@ where
     D::Ext: Send,
     G: Gate + Sync,
     requires may { MayWriteMade (members_view fields.now) making.now (map state_of sources.items) (D.state disk) }
-    ensures { WritesMade (λ order. order.items) params.now making.now (D.state disk) (D.state result.0) result.1 }
+    requires workers { (0 < settings.now.workers) × (settings.now.workers ≤ 64) }
+    ensures { WritesMade (λ order. order.items) settings.now.params.now making.now (D.state disk) (D.state result.0) result.1 }
 {
     made_texts_are_read();
-    let (disk, _sources, filled) = fill_file(rt, alloc, disk, fields, params, sources, gate);
+    let (disk, _sources, filled) = fill_file(rt, disk, fields, sources, settings);
     match filled {
         Ok((book, schema)) => {
             let mut disk = disk;
+            let (alloc, params) = (settings.alloc, settings.params);
             let closed = close_made(alloc, &mut disk, &book, &schema, params);
             (disk, closed)
         }

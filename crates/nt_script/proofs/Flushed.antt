@@ -16,7 +16,7 @@ use Rattle.nt_commit.specs.Claims.{limit_in}
 use Rattle.nt_seq.specs.Writer.{SeqState, gathered_by}
 use Rattle.nt_seq.specs.Written.{HasWritten}
 use Rattle.nt_seq.specs.Changing.{WritesNext, FailsToAppend, RefusesNext, NamesPassed}
-use Rattle.nt_writing.proofs.Chunking.{chunks-full, chunks-none, chunks-last}
+use Rattle.nt_contexts.proofs.Chunking.{chunks-full, chunks-none, chunks-last}
 use Rattle.nt_script.specs.Reading.{Segment}
 use Rattle.nt_script.specs.Taking.{clusters_of_segments, HasTakenLines, HasWrittenLines, NamesOver, HasSameSchema, HaltsAt}
 use Rattle.nt_script.specs.Taking.{IsFlushed}

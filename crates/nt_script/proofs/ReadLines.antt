@@ -15,7 +15,7 @@ use Rattle.nt_event.specs.Limits.{max_number}
 use Rattle.nt_event.specs.Entry.{entry_of}
 use Rattle.nt_event.specs.Lines.{LinesState, IsNextLine, BeginsTooLong, HasMore}
 use Rattle.nt_dealing.specs.EventText.{text_lines}
-use Rattle.nt_writing.proofs.Reading.{LineOff, within, next_line, beyond, bad_next}
+use Rattle.nt_contexts.proofs.Reading.{LineOff, within, next_line, beyond, bad_next}
 use Rattle.nt_script.specs.declared.error.LineFault.{LineFault}
 use Rattle.nt_script.specs.declared.error.LineFault.TheVariants.{Event, Field}
 use Rattle.nt_script.specs.Script.{Script, last_entries, and_field, with_entries, breaks_off, adds_field, then_field, field_added}

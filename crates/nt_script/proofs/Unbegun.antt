@@ -23,7 +23,7 @@ use Rattle.nt_close.proofs.FirstByte.{begins_shut}
 use Rattle.nt_cuts.specs.Cuts.{HasSync, LeavesUnfinished}
 use Rattle.nt_seq.specs.Changing.{BeginsFile}
 use Rattle.nt_seq.specs.Writer.{SeqState}
-use Rattle.nt_writing.proofs.Chunking.{chunks-none}
+use Rattle.nt_contexts.proofs.Chunking.{chunks-none}
 use Rattle.nt_store.proofs.Begun.{shut_open}
 use Rattle.nt_store.proofs.Filled.{begin_order}
 use Rattle.nt_store.proofs.Passing.{Names}

@@ -6,7 +6,7 @@ ghost use Rattle.nt_types.specs.Views.{members_view};
 ghost use Rattle.nt_grammar.specs.Rows.{Rows};
 ghost use Rattle.nt_grammar.specs.Table.{Table};
 ghost use Rattle.nt_book.specs.declared.params.Params.{Params};
-ghost use Rattle.nt_writing.specs.Reading.{left_of};
+ghost use Rattle.nt_contexts.specs.Reading.{left_of};
 ghost use Rattle.nt_script.specs.Taking.{HasJustFields, IsOpenWriter};
 ghost use Rattle.nt_script.specs.Running.{IsFirstWriter, GoesOnScript, ReadsScriptLine, EndedScript};
 

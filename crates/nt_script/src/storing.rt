@@ -3,7 +3,7 @@
 ghost use Rattle.std.specs.Prelude.{◌≡◌, [], true};
 ghost use Rattle.nt_types.specs.Rules.{AreFields};
 ghost use Rattle.nt_types.specs.Views.{members_view};
-ghost use Rattle.nt_writing.specs.Reading.{left_of};
+ghost use Rattle.nt_contexts.specs.Reading.{left_of};
 ghost use Rattle.nt_seq.specs.Writer.{gathered_by};
 ghost use Rattle.nt_store.specs.Writing.{IsEmptyDisk};
 ghost use Rattle.nt_script.specs.StoreErrors.{error_of_script};

@@ -1,6 +1,6 @@
 //! A file that is begun, and filled by contexts.
 
-ghost use Rattle.std.specs.Prelude.{◌≡◌, None, length, map};
+ghost use Rattle.std.specs.Prelude.{◌≡◌, ◌<◌, ◌≤◌, None, length, map};
 ghost use Rattle.nt_types.specs.Views.{members_view};
 ghost use Rattle.nt_outside.specs.Held.{nothing_held};
 ghost use Rattle.nt_close.specs.Passing.{passed_by_begin};
@@ -11,27 +11,24 @@ ghost use Rattle.nt_store.specs.Filling.{FillsFile};
 
 use crate::error::StoreError;
 use crate::laws::crashes_leave_chunks_or_none;
-use nt_book::{Book, Params};
+use crate::settings::Settings;
+use nt_book::Book;
 use nt_close::begin;
-use nt_contexts::{Ended, run_contexts};
+use nt_contexts::{Ended, Shared, run_contexts};
 use nt_outside::{Disk, Gate, Source};
 use nt_schema::Schema;
 use nt_types::Fields;
-use std::alloc::Global;
 use std::sync::Wait;
 use std::thread::Threads;
 
-/// Runs a context for each source on the disk of a file that was begun.
+/// Runs a context for each source on the disk of a file that was begun, which has this book and schema.
 fn fill_begun<R, D, S, G>(
     rt: &R,
-    alloc: Global,
     disk: D,
-    book: Book,
-    schema: Schema,
+    begun: (Book, Schema),
     fields: &Fields,
-    params: &Params,
     sources: Vec<S>,
-    gate: &G,
+    settings: &Settings<'_, G>,
 ) -> (D, Vec<S>, Result<(Book, Schema), StoreError>)
 where
     R: Threads + Wait + Sync,
@@ -40,19 +37,27 @@ where
     D::Ext: Send,
     S: Source + Send,
     G: Gate + Sync,
-    requires ready { IsReady (members_view fields.now) params.now schema book (D.state disk) (length sources.items) }
-    requires within { passed_by_begin params.now.limits schema ≡ None }
-    ensures { FillsFile (members_view fields.now) params.now (as_begun schema) (map S.state sources.items) (map S.state result.1.items)
-        (D.state disk) (D.state result.0) result.2 }
+    requires ready { IsReady (members_view fields.now) settings.now.params.now begun.1 begun.0 (D.state disk) (length sources.items) }
+    requires within { passed_by_begin settings.now.params.now.limits begun.1 ≡ None }
+    requires workers { (0 < settings.now.workers) × (settings.now.workers ≤ 64) }
+    ensures { FillsFile (members_view fields.now) settings.now.params.now (as_begun begun.1) (map S.state sources.items)
+        (map S.state result.1.items) (D.state disk) (D.state result.0) result.2 }
 {
+    let (book, schema) = begun;
+    let shared = Shared {
+        alloc: settings.alloc,
+        schema: &schema,
+        fields,
+        params: settings.params,
+        gate: settings.gate,
+        workers: settings.workers,
+    };
     let Ended {
         disk,
         book,
         sources,
         ended,
-    } = run_contexts(
-        rt, alloc, disk, book, &schema, fields, params, sources, gate,
-    );
+    } = run_contexts(rt, disk, book, sources, &shared);
     book.keeps();
     crashes_leave_chunks_or_none();
     match ended {
@@ -70,12 +75,10 @@ where
 /// failed. `Schema` never comes.
 pub fn fill_file<R, D, S, G>(
     rt: &R,
-    alloc: Global,
     disk: D,
     fields: &Fields,
-    params: &Params,
     sources: Vec<S>,
-    gate: &G,
+    settings: &Settings<'_, G>,
 ) -> (D, Vec<S>, Result<(Book, Schema), StoreError>)
 where
     R: Threads + Wait + Sync,
@@ -85,15 +88,14 @@ where
     S: Source + Send,
     G: Gate + Sync,
     requires may { MayWriteFile (members_view fields.now) (length sources.items) (D.state disk) }
-    ensures { FillsFile (members_view fields.now) params.now nothing_held (map S.state sources.items) (map S.state result.1.items)
-        (D.state disk) (D.state result.0) result.2 }
+    requires workers { (0 < settings.now.workers) × (settings.now.workers ≤ 64) }
+    ensures { FillsFile (members_view fields.now) settings.now.params.now nothing_held (map S.state sources.items)
+        (map S.state result.1.items) (D.state disk) (D.state result.0) result.2 }
 {
     let mut disk = disk;
     crashes_leave_chunks_or_none();
-    match begin(alloc, &mut disk, fields, params) {
-        Ok((book, schema)) => fill_begun(
-            rt, alloc, disk, book, schema, fields, params, sources, gate,
-        ),
+    match begin(settings.alloc, &mut disk, fields, settings.params) {
+        Ok(begun) => fill_begun(rt, disk, begun, fields, sources, settings),
         Err(error) => (disk, sources, Err(StoreError::from(error))),
     }
 }

@@ -2,7 +2,8 @@
 //!
 //! Start at `storing.rt` (`store`). `texts.rt` reads the schema text, opens the inputs and gives them back; `filling.rt` begins a file
 //! and fills it by contexts, `closing.rt` closes it, both also for other commands that write; `orders.rt` makes the line of the commit
-//! order; `laws.rt` joins what the crates below say of finished files; `error.rt` is why a file isn't written.
+//! order; `settings.rt` is what goes down from `store` to each context; `laws.rt` joins what the crates below say of finished files;
+//! `error.rt` is why a file isn't written.
 //!
 //! Words: a file is *filled* whose clusters are the chunks of its texts, and which can't pass for finished yet (`specs/Filling.antt`);
 //! it is *stored* that is whole, laid out within the limits for the chunks of its texts and means them (`specs/Whole.antt`);
@@ -23,11 +24,13 @@ mod error;
 mod filling;
 mod laws;
 mod orders;
+mod settings;
 mod storing;
 mod texts;
 
 pub use closing::close_file;
 pub use error::StoreError;
 pub use filling::fill_file;
+pub use settings::Settings;
 pub use storing::{Names, store};
 pub use texts::read_schema;

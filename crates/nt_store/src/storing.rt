@@ -1,6 +1,6 @@
 //! A file that is written from texts.
 
-ghost use Rattle.std.specs.Prelude.{length, map};
+ghost use Rattle.std.specs.Prelude.{◌<◌, ◌≤◌, length, map};
 ghost use Rattle.nt_types.specs.Views.{members_view};
 ghost use Rattle.nt_outside.specs.Held.{nothing_held};
 ghost use Rattle.nt_book.specs.Ranges.{IsFromTo};
@@ -13,6 +13,7 @@ use crate::closing::close_file;
 use crate::error::StoreError;
 use crate::filling::fill_file;
 use crate::orders::order_line;
+use crate::settings::Settings;
 use crate::texts::{open_texts, put_texts, read_schema};
 use nt_book::{Book, Params};
 use nt_outside::{Gate, Host, Stream, print_all};
@@ -54,13 +55,11 @@ fn finish<H: Host>(
 /// Writes the file of these fields and texts on an empty disk. The texts go back to the host, and the disk to the caller.
 fn write_file<R, H, G>(
     rt: &R,
-    alloc: Global,
     host: &mut H,
     disk: H::Out,
     fields: &Fields,
     texts: Vec<H::Text>,
-    params: &Params,
-    gate: &G,
+    settings: &Settings<'_, G>,
 ) -> (H::Out, Result<(), StoreError>)
 where
     R: Threads + Wait + Sync,
@@ -71,16 +70,18 @@ where
     <H::Out as nt_outside::Disk>::Ext: Send,
     G: Gate + Sync,
     requires may { MayWriteFile (members_view fields.now) (length texts.items) (H.Out.state disk) }
-    ensures file { WritesFile (members_view fields.now) params.now (map H.Text.state texts.items) nothing_held
+    requires workers { (0 < settings.now.workers) × (settings.now.workers ≤ 64) }
+    ensures file { WritesFile (members_view fields.now) settings.now.params.now (map H.Text.state texts.items) nothing_held
         (H.state host.old) (H.state host.new) (H.Out.state disk) (H.Out.state result.0) result.1 }
     ensures cause { FailsOnEither (H.Out.state result.0) (H.state host.old) (H.state host.new) result.1 }
     ensures rest { TakesTextsBack (length texts.items) (H.state host.old) (H.state host.new) }
 {
-    let (disk, texts, filled) = fill_file(rt, alloc, disk, fields, params, texts, gate);
+    let (disk, texts, filled) = fill_file(rt, disk, fields, texts, settings);
     put_texts(host, texts);
     match filled {
         Ok((book, schema)) => {
             let mut disk = disk;
+            let (alloc, params) = (settings.alloc, settings.params);
             let finished = finish(alloc, host, &mut disk, &book, &schema, params);
             (disk, finished)
         }
@@ -89,7 +90,7 @@ where
 }
 
 /// Writes a file from texts of a host: reads the schema text, opens the inputs in order, makes the disk, begins the file, runs a
-/// context for each input beside the others, tells the order of their clusters on out, and closes the file.
+/// context for each input, as many beside each other as there are workers, tells the order of their clusters on out, and closes the file.
 ///
 /// # Errors
 ///
@@ -97,11 +98,9 @@ where
 /// file can't pass for finished. `Outside` comes only where the host's count rose.
 pub fn store<R, H, G>(
     rt: &R,
-    alloc: Global,
     host: &mut H,
     names: Names<'_>,
-    params: &Params,
-    gate: &G,
+    settings: &Settings<'_, G>,
 ) -> Result<(), StoreError>
 where
     R: Threads + Wait + Sync,
@@ -111,15 +110,17 @@ where
     <H::Out as nt_outside::Disk>::Pen: Send,
     <H::Out as nt_outside::Disk>::Ext: Send,
     G: Gate + Sync,
-    requires { IsFromTo 1 64 (length names.inputs.now) }
-    ensures { Stores names.entry.out.now names.entry.schema.now (map (λ name. name.now) names.entry.inputs.now) params.now
+    requires inputs { IsFromTo 1 64 (length names.inputs.now) }
+    requires workers { (0 < settings.now.workers) × (settings.now.workers ≤ 64) }
+    ensures { Stores names.entry.out.now names.entry.schema.now (map (λ name. name.now) names.entry.inputs.now) settings.now.params.now
         (H.state host.old) (H.state host.new) result }
 {
+    let alloc = settings.alloc;
     let fields = read_schema(alloc, host, names.schema)?;
     let texts = open_texts(alloc, host, names.inputs)?;
     match host.create(names.out) {
         Ok(disk) => {
-            let (disk, written) = write_file(rt, alloc, host, disk, &fields, texts, params, gate);
+            let (disk, written) = write_file(rt, host, disk, &fields, texts, settings);
             host.put_disk(disk);
             written
         }

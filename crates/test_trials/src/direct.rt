@@ -10,6 +10,7 @@ use nt_memory::MemHost;
 use nt_outside::Host;
 use nt_reader::Reader;
 use nt_script::{ScriptNames, store_script};
+use nt_store::Settings;
 use std::alloc::{AllocError, Global};
 use std::sync::Wait;
 use std::thread::Threads;
@@ -53,7 +54,13 @@ pub fn make<R: Threads + Wait + Sync>(
 ) -> Result<Ran, AllocError> {
     let mut host = MemHost::new(alloc);
     let gate = Points::new(&[], 0);
-    let made = generate(rt, alloc, &mut host, "o", making, params, &gate);
+    let settings = Settings {
+        alloc,
+        params,
+        gate: &gate,
+        workers: making.contexts,
+    };
+    let made = generate(rt, &mut host, "o", making, &settings);
     let text = format!(in alloc; " {made:?}")?;
     told.extend_from_slice(text.as_str().as_bytes())?;
     Ok(Ran {

@@ -1,10 +1,12 @@
-use Rattle.std.proofs.Common.{◌≡◌, ◌∙◌, ap, subst, codes, refl, inl, inr, rules, ℕ, List, [], ◌∷◌}
+use Rattle.std.proofs.Common.{◌≡◌, ◌∙◌, ap, subst, codes, refl, inl, inr, rules, ℕ, List, [], ◌∷◌, length, arith}
+use Rattle.std.proofs.lemmas.List.{length-map}
 use Rattle.std.specs.Borrow.{Bor}
 use Rattle.clap.specs.Words.{app_of, IsParsedFrom}
-use Rattle.nt_command_line.specs.CommandLine.{texts, operand, operands}
-use Rattle.nt_command_line.specs.WriteWords.{write_app, write_rules, AreApart}
+use Rattle.nt_command_line.specs.CommandLine.{texts, operand, operands, number_option}
+use Rattle.nt_command_line.specs.WriteWords.{write_app, write_rules, AreApart, IsWrite, AreContextsSaid}
 use Rattle.nt_command_line.specs.Commands.{names_of}
 use Rattle.nt_command_line.proofs.Found.{own_by, operand_there}
+use Rattle.nt_command_line.proofs.Numbers.{number_there}
 use Rattle.nt_command_line.proofs.Settings.{numbers_there}
 use Rattle.nt_command_line.proofs.Spoken.{held, reads_of, refused_of, write_is, names_by}
 use Rattle.nt_command_line.proofs.Wrong.{wrong_write}
@@ -17,22 +19,39 @@ returns-in_default c =
 
 pub name_in-out-requires : goal.name_in-out-requires
 name_in-out-requires c =
-    operand_there (codes "write") write_rules c.in_ok-write_command.field-0 c.in-Some.matches 6 (codes "OUT")
+    operand_there (codes "write") write_rules c.in_ok-write_command.field-0 c.in-Some.matches 7 (codes "OUT")
     (own_by (codes "OUT") refl refl refl) c.in_ok-write_command.ensures refl refl
     (held (IsParsedFrom c.in_ok-write_command.field-0) _ c.in-Some.matches c.in-Some.is c.in_ok-matches.ensures.parsed)
 
 pub name_in-schema-requires : goal.name_in-schema-requires
 name_in-schema-requires c =
-    operand_there (codes "write") write_rules c.in_ok-write_command.field-0 c.in-Some.matches 7 (codes "SCHEMA")
+    operand_there (codes "write") write_rules c.in_ok-write_command.field-0 c.in-Some.matches 8 (codes "SCHEMA")
     (own_by (codes "SCHEMA") refl refl refl) c.in_ok-write_command.ensures refl refl
     (held (IsParsedFrom c.in_ok-write_command.field-0) _ c.in-Some.matches c.in-Some.is c.in_ok-matches.ensures.parsed)
 
 pub params_in-requires : goal.params_in-requires
 params_in-requires c =
-    numbers_there (codes "write") (operand (codes "OUT") ∷ operand (codes "SCHEMA") ∷ operands (codes "IN") ∷ [])
+    numbers_there (codes "write")
+    (number_option (codes "contexts") 1 64 ∷ operand (codes "OUT") ∷ operand (codes "SCHEMA") ∷ operands (codes "IN") ∷ [])
     c.in_ok-write_command.field-0 c.in-Some.matches c.in_ok-write_command.ensures
     (record { cluster = refl; page = refl; group = refl; range = refl; file = refl })
     (held (IsParsedFrom c.in_ok-write_command.field-0) _ c.in-Some.matches c.in-Some.is c.in_ok-matches.ensures.parsed)
+
+pub contexts_in-contexts-requires : goal.contexts_in-contexts-requires
+contexts_in-contexts-requires c =
+    let items : c.deref.result.now ≡ c.in_ok-inputs.inputs.items = search rules in
+    let apart = c.if-not-are_apart.ensures in
+    let count = ap (λ (l : List (Bor (List ℕ))). length (names_of l)) items in
+    let same = length-map c.in_ok-inputs.inputs.items (λ (name : Bor (List ℕ)). name.now) in
+    record {
+      number = number_there (codes "write") write_rules c.in_ok-write_command.field-0 c.in-Some.matches 6 1 64 (codes "contexts")
+          (own_by (codes "contexts") refl refl refl) c.in_ok-write_command.ensures refl refl
+          (held (IsParsedFrom c.in_ok-write_command.field-0) _ c.in-Some.matches c.in-Some.is c.in_ok-matches.ensures.parsed);
+      inputs = (
+        omega (arith, apart.some, count, same, c.len.ensures, c.in_ok-inputs.inputs.ok.0),
+        omega (arith, apart.few, count, same, c.len.ensures, c.in_ok-inputs.inputs.ok.0),
+      );
+    }
 
 pub returns-then-not-are_apart : goal.returns-then-not-are_apart
 returns-then-not-are_apart c =
@@ -55,7 +74,8 @@ returns c =
     let read = reads_of (app_of c.in_ok-write_command.field-0) write_app words _ c.in-Some.matches
     (c.in_ok-write_command.ensures.app_is ∙ write_is) c.in-Some.is c.in_ok-matches.ensures.reads in
     let items : c.deref.result.now ≡ c.in_ok-inputs.inputs.items = search rules in
-    record {
+    let said : IsWrite words c.name_in-out.result.now c.name_in-schema.result.now (names_of c.in_ok-inputs.inputs.items)
+    c.params_in.result = record {
       begins = c.requires;
       taken = read.0;
       names = names_by words c.in-Some.matches c.name_in-out.result.now c.name_in-schema.result.now
@@ -63,4 +83,6 @@ returns c =
       params = c.params_in.ensures write_app words read.1;
       apart = subst (λ (l : List (Bor (List ℕ))). AreApart c.name_in-out.result.now c.name_in-schema.result.now (names_of l)) items
           c.if-not-are_apart.ensures;
-    }
+    } in
+    let count : c.len.result ≡ length c.in_ok-inputs.inputs.items = c.len.ensures ∙ c.in_ok-inputs.inputs.ok.0 in
+    (said, subst (λ (n : ℕ). AreContextsSaid words n c.contexts_in-contexts.result) count (c.contexts_in-contexts.ensures words read.1))

@@ -1,6 +1,6 @@
 use Rattle.std.proofs.Common.{◌≡◌, sym, subst}
 use Rattle.nt_commit.specs.Holds.{IsPassOf, HasNoneOut}
-use Rattle.nt_writing.specs.Seats.{DiskPass}
+use Rattle.nt_contexts.specs.Seats.{DiskPass}
 use Rattle.nt_contexts.proofs.Leaves.{joins-seat}
 use Rattle.nt_contexts.proofs.leaving.leave_seat.Goals as goal
 

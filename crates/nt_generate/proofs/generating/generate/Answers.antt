@@ -6,9 +6,10 @@ use Rattle.nt_generate.proofs.generating.generate.Goals as goal
 pub returns-in_err-order : goal.returns-in_err-order
 returns-in_err-order g c =
     let p = err_from_is_err_and c.from_residual.result c.from_residual.ensures.1 in
-    rw (p.1, p.2) (ends_unmade _ c.args.name.now c.args.params.now c.args.making.now _ _ c.in_err-order.field-0.0 c.in_err-order.ensures)
+    rw (p.1, p.2) (ends_unmade _ c.args.name.now c.args.settings.now.params.now c.args.making.now _ _ c.in_err-order.field-0.0
+    c.in_err-order.ensures)
 
 pub returns : goal.returns
 returns g c =
-    ends_told _ c.args.name.now c.args.params.now c.args.making.now _ _ _ c.in_ok-order.order _ c.in_ok-order.ensures
+    ends_told _ c.args.name.now c.args.settings.now.params.now c.args.making.now _ _ _ c.in_ok-order.order _ c.in_ok-order.ensures
     (tells_as _ _ _ _ _ _ _ c.deref.ensures.value c.print_totals.ensures)

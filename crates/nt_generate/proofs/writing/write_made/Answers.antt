@@ -28,8 +28,8 @@ pub unwritten-requires : goal.unwritten-requires
 unwritten-requires g c =
     let m = c.args.making.now in
     let fills = fills_made _ _ _ _ _ _ _ _ c.requires.may.fields_are c.fill_file-disk.ensures in
-    of_no_text (Unit {0}) c.args.params.now m c.in-Err.error (c.made_texts_are_read.ensures.read m)
-    (err_why event_fields c.args.params.now (made_texts m) _ _ c.in-Err.is (fills.why (made_texts m) c.requires.may.texts))
+    of_no_text (Unit {0}) c.args.settings.now.params.now m c.in-Err.error (c.made_texts_are_read.ensures.read m)
+    (err_why event_fields c.args.settings.now.params.now (made_texts m) _ _ c.in-Err.is (fills.why (made_texts m) c.requires.may.texts))
 
 pub returns-in-Ok : goal.returns-in-Ok
 returns-in-Ok g c =
@@ -38,7 +38,7 @@ returns-in-Ok g c =
     let closes = c.close_made-closed.ensures m in
     record {
       left = λ held.
-          let left = ok_filled event_fields c.args.params.now (made_texts m) _ _ _ c.in-Ok.is
+          let left = ok_filled event_fields c.args.settings.now.params.now (made_texts m) _ _ _ c.in-Ok.is
           (fills.left (made_texts m) c.requires.may.texts held) in
           (closes.left left.0 left.1 left.2).0;
       order_kept = λ held.
@@ -46,7 +46,7 @@ returns-in-Ok g c =
           let ordered = closes.order_kept left.0 left.1 in
           (ordered.0, ordered.1, ordered.2 left.2.0 left.2.1);
       crash = λ held.
-          let left = ok_filled event_fields c.args.params.now (made_texts m) _ _ _ c.in-Ok.is
+          let left = ok_filled event_fields c.args.settings.now.params.now (made_texts m) _ _ _ c.in-Ok.is
           (fills.left (made_texts m) c.requires.may.texts held) in
           (closes.left left.0 left.1 left.2).1;
       failed = closes.failed;
@@ -56,5 +56,6 @@ pub returns : goal.returns
 returns g c =
     let m = c.args.making.now in
     let fills = fills_made _ _ _ _ _ _ _ _ c.requires.may.fields_are c.fill_file-disk.ensures in
-    rw c.unwritten.ensures (unfilled_made _ c.args.params.now m c.in-Err.error _ _ _ _ _ (c.made_texts_are_read.ensures.read m) c.in-Err.is
+    rw c.unwritten.ensures (unfilled_made _ c.args.settings.now.params.now m c.in-Err.error _ _ _ _ _
+    (c.made_texts_are_read.ensures.read m) c.in-Err.is
     fills c.requires.may.texts (none_failed c.fill_file-disk.result.1.items))

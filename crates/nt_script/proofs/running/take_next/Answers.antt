@@ -2,7 +2,7 @@ use Rattle.std.proofs.Common.{◌≡◌, ◌∙◌, true, false, ap, sym, subst,
 use Rattle.nt_types.specs.Views.{members_view}
 use Rattle.nt_event.specs.declared.lines.Line.{Line}
 use Rattle.nt_event.specs.Lines.{LinesState, IsNextLine, GivesLine}
-use Rattle.nt_writing.specs.Reading.{left_of}
+use Rattle.nt_contexts.specs.Reading.{left_of}
 use Rattle.nt_script.specs.declared.error.ScriptError.{ScriptError}
 use Rattle.nt_script.specs.Script.{adds_field}
 use Rattle.nt_script.specs.Running.{EndsEarlyFor, ReadsScriptLine}

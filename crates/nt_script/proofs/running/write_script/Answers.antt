@@ -1,7 +1,7 @@
 use Rattle.std.proofs.Common.{◌≡◌, ◌∙◌, ◌+◌, ◌≤◌, refl, subst, arith, Bool, Ok}
 use Rattle.nt_types.specs.Views.{members_view}
 use Rattle.nt_event.specs.Limits.{max_number}
-use Rattle.nt_writing.specs.Reading.{left_of}
+use Rattle.nt_contexts.specs.Reading.{left_of}
 use Rattle.nt_script.specs.Running.{GoesOnScript, HasAllLines, ReadsScriptLine}
 use Rattle.nt_script.proofs.Ends.{script_ended, early}
 use Rattle.nt_script.proofs.Goes.{script_begun}

@@ -1,7 +1,7 @@
 use Rattle.std.proofs.Common.{◌≡◌, ◌≤◌}
 use Rattle.nt_types.specs.Views.{members_view}
 use Rattle.nt_event.specs.Limits.{max_number}
-use Rattle.nt_writing.specs.Reading.{left_of}
+use Rattle.nt_contexts.specs.Reading.{left_of}
 use Rattle.nt_script.specs.Running.{GoesOnScript}
 use Rattle.nt_script.proofs.running.write_script.Given as goal
 

@@ -1,6 +1,6 @@
 use Rattle.std.proofs.Common.{ap}
 use Rattle.nt_types.specs.Views.{members_view}
-use Rattle.nt_writing.specs.Reading.{left_of}
+use Rattle.nt_contexts.specs.Reading.{left_of}
 use Rattle.nt_script.proofs.Unbegun.{writes_unread, writes_text}
 use Rattle.nt_script.proofs.storing.write_file.Goals as goal
 

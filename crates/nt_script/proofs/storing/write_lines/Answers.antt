@@ -1,6 +1,6 @@
 use Rattle.std.proofs.Common.{ap}
 use Rattle.nt_types.specs.Views.{members_view}
-use Rattle.nt_writing.specs.Reading.{left_of}
+use Rattle.nt_contexts.specs.Reading.{left_of}
 use Rattle.nt_script.proofs.Early.{files_done, files_early}
 use Rattle.nt_script.proofs.storing.write_lines.Goals as goal
 

@@ -1,5 +1,5 @@
 use Rattle.nt_types.specs.Views.{members_view}
-use Rattle.nt_writing.specs.Reading.{left_of}
+use Rattle.nt_contexts.specs.Reading.{left_of}
 use Rattle.nt_script.proofs.Unbegun.{lines_unbegun, lines_filed, first_writer}
 use Rattle.nt_script.proofs.storing.write_text.Goals as goal
 

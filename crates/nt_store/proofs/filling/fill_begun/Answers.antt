@@ -10,18 +10,18 @@ use Rattle.nt_store.proofs.filling.fill_begun.Goals as goal
 pub returns-in-Ok : goal.returns-in-Ok
 returns-in-Ok g c =
     let run = c.run_contexts-disk.ensures in
-    let some : 0 < clusters_place c.args.schema = omega arith in
-    let from = filled_from c.crashes_leave_chunks_or_none.ensures c.args.schema _ _ (g.D.Disk.state c.run_contexts-disk.result.disk).held
+    let some : 0 < clusters_place c.args.begun.1 = omega arith in
+    let from = filled_from c.crashes_leave_chunks_or_none.ensures c.args.begun.1 _ _ (g.D.Disk.state c.run_contexts-disk.result.disk).held
     c.requires.ready.end (omega (arith, some, c.requires.ready.end)) in
     record {
       why = λ ts tell. tt;
       left = λ ts tell held.
           let filled = from held run.held in
-          let told = run_ok _ c.args.schema _ c.args.params.now ts (g.D.Disk.state c.args.disk) (g.D.Disk.state
+          let told = run_ok _ c.args.begun.1 _ c.args.settings.now.params.now ts (g.D.Disk.state c.args.disk) (g.D.Disk.state
           c.run_contexts-disk.result.disk) _ c.in-Ok.is (run.told ts tell) in (
             filled.h,
             filled.is,
-            dealt_from (members_view c.args.fields.now) c.args.params.now ts c.args.schema c.args.book
+            dealt_from (members_view c.args.fields.now) c.args.settings.now.params.now ts c.args.begun.1 c.args.begun.0
                 c.run_contexts-disk.result.book (g.D.Disk.state c.args.disk).held (g.D.Disk.state c.run_contexts-disk.result.disk).held
                 filled.h c.requires.ready.rules c.requires.ready.rows c.requires.within c.requires.ready.book_is c.keeps.ensures
                 run.ungrouped run.book_on run.short told.0 told.1 held filled.is filled.shut filled.unfinished,
@@ -46,15 +46,17 @@ returns-in-Ok g c =
 pub returns-in-Err : goal.returns-in-Err
 returns-in-Err g c =
     let run = c.run_contexts-disk.ensures in
-    let some : 0 < clusters_place c.args.schema = omega arith in
-    let from = filled_from c.crashes_leave_chunks_or_none.ensures c.args.schema _ _ (g.D.Disk.state c.run_contexts-disk.result.disk).held
+    let some : 0 < clusters_place c.args.begun.1 = omega arith in
+    let from = filled_from c.crashes_leave_chunks_or_none.ensures c.args.begun.1 _ _ (g.D.Disk.state c.run_contexts-disk.result.disk).held
     c.requires.ready.end (omega (arith, some, c.requires.ready.end)) in
     rw c.from.ensures (record {
       why = λ ts tell.
-          run_why (BookData × Table) _ c.in-Err.error c.args.schema _ c.args.params.now ts (g.D.Disk.state c.args.disk) (g.D.Disk.state
+          run_why (BookData × Table) _ c.in-Err.error c.args.begun.1 _ c.args.settings.now.params.now ts (g.D.Disk.state c.args.disk)
+          (g.D.Disk.state
           c.run_contexts-disk.result.disk) _ c.in-Err.is c.requires.ready.rows (run.told ts tell);
       left = λ ts tell held.
-          run_leaves c.in-Err.error c.args.schema (members_view c.args.fields.now) c.args.params.now ts _ (from held run.held);
+          run_leaves c.in-Err.error c.args.begun.1 (members_view c.args.fields.now) c.args.settings.now.params.now ts _
+          (from held run.held);
       may_close = tt;
       order = λ held. let filled = from held run.held in (filled.h, filled.is, filled.order);
       shut = tt;

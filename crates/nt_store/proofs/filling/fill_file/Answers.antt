@@ -38,12 +38,12 @@ returns-in-Err g c =
     let disk = g.D.Disk.state c.args.disk in
     let left = c.in-Err.ensures.refused in
     rw c.from.ensures (record {
-      why = λ ts tell. begin_why (BookData × Table) c.in-Err.error _ c.args.params.now ts disk _ left;
-      left = λ ts tell held. begin_leaves c.in-Err.error _ c.args.params.now ts disk _ left held;
+      why = λ ts tell. begin_why (BookData × Table) c.in-Err.error _ c.args.settings.now.params.now ts disk _ left;
+      left = λ ts tell held. begin_leaves c.in-Err.error _ c.args.settings.now.params.now ts disk _ left held;
       may_close = tt;
-      order = λ held. begin_order c.in-Err.error _ c.args.params.now disk _ left held;
+      order = λ held. begin_order c.in-Err.error _ c.args.settings.now.params.now disk _ left held;
       shut = tt;
-      crash = λ held. begin_crash c.crashes_leave_chunks_or_none.ensures _ c.args.params.now c.in-Err.error disk _ left held;
-      failed = λ is. inl (begin_fails c.in-Err.error _ c.args.params.now disk _ left (cc is));
+      crash = λ held. begin_crash c.crashes_leave_chunks_or_none.ensures _ c.args.settings.now.params.now c.in-Err.error disk _ left held;
+      failed = λ is. inl (begin_fails c.in-Err.error _ c.args.settings.now.params.now disk _ left (cc is));
       number = refl;
     })

@@ -18,7 +18,7 @@ write_file-disk-requires-clause-may g c κs within =
     let made = c.in-Ok.ensures.disk in
     record {
       rules = c.in_ok-fields.ensures.rules;
-      number = (omega (arith, count, texts, asked, c.requires.0), omega (arith, count, texts, asked, c.requires.1));
+      number = (omega (arith, count, texts, asked, c.requires.inputs.0), omega (arith, count, texts, asked, c.requires.inputs.1));
       empty = record { held = made.empty; end = made.end; out = made.out };
     }
 
@@ -65,7 +65,7 @@ returns-in-Ok g c =
           let at_texts = c.open_texts.ensures.asks.world ∙ c.read_schema.ensures.asks.world ∙ is in
           let open_at = c.read_schema.ensures.asks.world ∙ is in
           let tell = texts_told w _ names (map st c.in_ok-texts.texts.items) open_at c.in_ok-texts.ensures.texts in
-          out_told c.args.names.out.now c.args.names.schema.now names c.args.params.now _ tell.texts w
+          out_told c.args.names.out.now c.args.names.schema.now names c.args.settings.now.params.now _ tell.texts w
           (record { schema_is = c.in_ok-fields.ensures.told w is; inputs_are = tell.are }) _ _ _ c.put_disk.ensures.world
           c.write_file-disk.result.1
           (wrote.file.told (creates c.args.names.out.now w) tell.texts (made.ok w at_texts) tell.tell
@@ -75,7 +75,7 @@ returns-in-Ok g c =
           let open_at = c.read_schema.ensures.asks.world ∙ is in
           let tell = texts_told w _ names (map st c.in_ok-texts.texts.items) open_at c.in_ok-texts.ensures.texts in
           let empty = c.in-Ok.ensures.disk.held w at_texts in
-          back_in_order c.args.names.out.now c.args.names.schema.now names c.args.params.now _ tell.texts w
+          back_in_order c.args.names.out.now c.args.names.schema.now names c.args.settings.now.params.now _ tell.texts w
           (record { schema_is = c.in_ok-fields.ensures.told w is; inputs_are = tell.are }) _ _ _ c.put_disk.ensures.world _ _
           c.write_file-disk.result.1 empty wrote.file.order
           (wrote.file.told (creates c.args.names.out.now w) tell.texts (made.ok w at_texts) tell.tell empty) w w' is is';
@@ -84,7 +84,7 @@ returns-in-Ok g c =
           let open_at = c.read_schema.ensures.asks.world ∙ is in
           let tell = texts_told w _ names (map st c.in_ok-texts.texts.items) open_at c.in_ok-texts.ensures.texts in
           let empty = c.in-Ok.ensures.disk.held w at_texts in
-          back_safe c.args.names.out.now c.args.names.schema.now names c.args.params.now _ tell.texts w
+          back_safe c.args.names.out.now c.args.names.schema.now names c.args.settings.now.params.now _ tell.texts w
           (record { schema_is = c.in_ok-fields.ensures.told w is; inputs_are = tell.are }) _ _ _ c.put_disk.ensures.world
           c.write_file-disk.result.1 (wrote.file.told (creates c.args.names.out.now w) tell.texts (made.ok w at_texts) tell.tell empty)
           (wrote.file.crash (creates c.args.names.out.now w) tell.texts (made.ok w at_texts) tell.tell empty) w' is';

@@ -13,14 +13,14 @@ returns-in-Ok-clause-file g c =
     let finishes = c.finish-finished.ensures.file in
     record {
       told = λ w ts is tell held.
-          let left = ok_filled _ c.args.params.now ts _ _ _ c.in-Ok.is (fills.left ts tell held) in
+          let left = ok_filled _ c.args.settings.now.params.now ts _ _ _ c.in-Ok.is (fills.left ts tell held) in
           finishes.told _ ts w left.0 (c.put_texts.ensures.world ∙ is) left.1 left.2;
       order = λ held.
           let left = ok_holds _ _ _ c.in-Ok.is fills.shut held in
           let ordered = finishes.order left.0 left.1 in
           (ordered.0, ordered.1, ordered.2 left.2.0 left.2.1);
       crash = λ w ts is tell held.
-          let left = ok_filled _ c.args.params.now ts _ _ _ c.in-Ok.is (fills.left ts tell held) in
+          let left = ok_filled _ c.args.settings.now.params.now ts _ _ _ c.in-Ok.is (fills.left ts tell held) in
           finishes.crash _ ts w left.0 (c.put_texts.ensures.world ∙ is) left.1 left.2;
     }
 
@@ -29,9 +29,9 @@ returns-in-Err-clause-file g c =
     let fills = c.fill_file-disk.ensures in
     record {
       told = λ w ts is tell held.
-          unfilled_told _ c.args.params.now ts w _ _ c.in-Err.error (c.put_texts.ensures.world ∙ is)
-          (err_why _ c.args.params.now ts _ _ c.in-Err.is (fills.why ts tell))
-          (err_left _ c.args.params.now ts _ _ _ c.in-Err.is (fills.left ts tell held));
+          unfilled_told _ c.args.settings.now.params.now ts w _ _ c.in-Err.error (c.put_texts.ensures.world ∙ is)
+          (err_why _ c.args.settings.now.params.now ts _ _ c.in-Err.is (fills.why ts tell))
+          (err_left _ c.args.settings.now.params.now ts _ _ _ c.in-Err.is (fills.left ts tell held));
       order = fills.order;
       crash = λ w ts is tell held.
           let left = fills.crash held in

@@ -1,0 +1,18 @@
+use Rattle.std.proofs.Common.{◌<◌, ◌≤◌, ◌∙◌, sym, refl, length, arith}
+use Rattle.nt_fill.specs.Context.{gathered}
+use Rattle.nt_contexts.proofs.Lines.{rest_none, rest_written}
+use Rattle.nt_contexts.proofs.running.write_rest.Goals as goal
+
+pub returns-then-gathered-eq0 : goal.returns-then-gathered-eq0
+returns-then-gathered-eq0 g c entries taken =
+    let some : 0 < c.args.fill.now.cluster = omega (arith, c.requires.is_open.room) in (
+      rest_none g.D.Disk.state entries c.args.fill.now some (sym c.gathered.ensures ∙ c.if-gathered-eq0.true) taken,
+      record { committer = refl; table = refl; cluster = refl; page = refl; number = refl },
+    )
+
+pub returns : goal.returns
+returns g c entries taken =
+    let some : 0 < length (gathered c.args.fill.now) = omega (arith, c.gathered.ensures, c.if-gathered-eq0.false) in
+    let few : length (gathered c.args.fill.now) ≤ c.args.fill.now.cluster = omega (arith, c.requires.is_open.room) in
+    rest_written g.D.Disk.state entries c.args.fill.now c.write_gathered.new.fill c.write_gathered.result some few taken
+    c.write_gathered.ensures

@@ -1,5 +1,0 @@
-pub mod Reading
-pub mod Filling
-pub mod Running
-pub mod Taking
-pub mod Seats
