@@ -49,6 +49,44 @@ impl Gate for HoldsFirst {
     }
 }
 
+/// Holds context 0 as the gate above, and counts the contexts between their commit and the settling of their range.
+#[derive(Drop)]
+pub struct Counting {
+    pub holds: HoldsFirst,
+    pub most: u64,
+    pub between: AtomicU64,
+    /// How often more of them were there than the most.
+    pub over: AtomicU64,
+}
+
+impl Counting {
+    pub fn new(most: u64) -> Self {
+        Counting {
+            holds: HoldsFirst::new(),
+            most,
+            between: AtomicU64::new(0),
+            over: AtomicU64::new(0),
+        }
+    }
+}
+
+impl Gate for Counting {
+    fn at(&self, context: u32, point: Point) {
+        match point {
+            Point::BeforeCommit => {
+                if self.between.fetch_add(1, Ordering::SeqCst) >= self.most {
+                    self.over.fetch_add(1, Ordering::SeqCst);
+                }
+            }
+            Point::Filling => {}
+            Point::Settled => {
+                self.between.fetch_sub(1, Ordering::SeqCst);
+            }
+        }
+        self.holds.at(context, point);
+    }
+}
+
 /// Holds each context before its commit until all are there, and so again at the filling of its range.
 #[derive(Drop)]
 pub struct Meeting {
