@@ -1,6 +1,7 @@
 -- Contexts get their numbers, and keep their seats: what was done of them was done of their seats.
 use Rattle.std.proofs.Common.{◌≡◌, ℕ, zero, suc, ◌+◌, ◌<◌, List, [], ◌∷◌, ◌++◌, length, sym, refl, ap, ◌∙◌, subst, arith, append_assoc}
 use Rattle.std.proofs.Common.{⊎_elim, inl, inr, ◌⊎◌, map}
+use Rattle.std.proofs.lemmas.List.{length-map}
 use Rattle.std.specs.Prelude.{slice_index_or}
 use Rattle.std.specs.List.{AllByRecursion}
 use mathlib.Core.Option.{some, some-ne-none, some-injective}
@@ -36,19 +37,19 @@ module _ {J X : Type 0} where
       ap (λ (l : List X). l ++ rest) (map-snoc f js j) ∙ (append_assoc (map f js) (f j ∷ []) rest ∙ is)
 
 module _ {C T G : Type 0} (committer : C) (shared : Shared G) where
-  abbrev Contexts : Type 0
-  Contexts = List (Context C T G)
-
   -- what holds of each seat holds of each context
-  ready-here : (P : C → Shared G → T → Type 0) (contexts : Contexts) → AllByRecursion (IsContextOf committer shared) contexts
+  ready-here : (P : C → Shared G → T → Type 0) (contexts : List (Context C T G)) → AllByRecursion (IsContextOf committer shared) contexts
       → ((k : ℕ) (d : T) → k < length (seats_in contexts) → P committer shared (slice_index_or (seats_in contexts) k d))
       → AllByRecursion (λ (c : Context C T G). P c.committer.now c.shared.now c.seat) contexts
   ready-here P [] of each = tt
-  ready-here P (c ∷ contexts) of each = (
-    subst (λ (m : C). P m c.shared.now c.seat) (sym of.0.committer_is)
-        (subst (λ (s : Shared G). P committer s c.seat) (sym of.0.shared_is) (each 0 c.seat (omega arith))),
-    ready-here P contexts of.1 (λ k d less. each (suc k) d (omega (arith, less))),
-  )
+  ready-here P (c ∷ contexts) of each =
+      let some : 0 < length (c.seat ∷ seats_in contexts) = omega arith in (
+        subst (λ (m : C). P m c.shared.now c.seat) (sym of.0.committer_is)
+            (subst (λ (s : Shared G). P committer s c.seat) (sym of.0.shared_is) (each 0 c.seat some)),
+        ready-here P contexts of.1 (λ k d less.
+            let more : suc k < length (c.seat ∷ seats_in contexts) = omega (arith, less) in
+            each (suc k) d more),
+      )
 
   pub all-ready : (P : C → Shared G → T → Type 0) (contexts : List (Context C T G)) (seats : List T)
       → seats_in contexts ≡ seats → AllByRecursion (IsContextOf committer shared) contexts
@@ -59,23 +60,20 @@ module _ {C T G : Type 0} (committer : C) (shared : Shared G) where
       (sym is) each)
 
   -- what holds of each context and its answer holds of its seat and the answer
-  done-here : {D : Type 0} (P : C → Shared G → T → D → Type 0) (contexts : Contexts) (done : List D)
+  done-here : {D : Type 0} (P : C → Shared G → T → D → Type 0) (contexts : List (Context C T G)) (done : List D)
       → AllByRecursion (IsContextOf committer shared) contexts
       → AreDone (λ (c : Context C T G) (d : D). P c.committer.now c.shared.now c.seat d) contexts done
       → (i : ℕ) (s : T) (d : D) → i < length (seats_in contexts)
       → P committer shared (slice_index_or (seats_in contexts) i s) (slice_index_or done i d)
-  done-here P [] done of are i s d less = absurd (omega (arith, less))
+  done-here P [] done of are i s d less = absurd (let none : i < 0 = less in omega (arith, none))
   done-here P (c ∷ contexts) [] of are i s d less = absurd (let long = are.0 in omega (arith, long))
   done-here P (c ∷ contexts) (x ∷ done) of are zero s d less =
       subst (λ m. P m shared c.seat x) of.0.committer_is
       (subst (λ m. P c.committer.now m c.seat x) of.0.shared_is (are.1 0 c x refl refl))
   done-here P (c ∷ contexts) (x ∷ done) of are (suc i) s d less =
-      done-here P contexts done of.1 ((let long = are.0 in omega (arith, long)), λ j k y here there. are.1 (suc j) k y here there)
-      i s d (omega (arith, less))
-
-  length-in : (contexts : Contexts) → length (seats_in contexts) ≡ length contexts
-  length-in [] = refl
-  length-in (c ∷ contexts) = let e = length-in contexts in omega (arith, e)
+      let here : suc i < length (c.seat ∷ seats_in contexts) = less in
+      done-here P contexts done of.1 ((let long = are.0 in omega (arith, long)), λ j k y at there. are.1 (suc j) k y at there)
+      i s d (omega (arith, here))
 
   pub all-done : {D : Type 0} (P : C → Shared G → T → D → Type 0) (contexts : List (Context C T G)) (seats : List T) (done : List D)
       → seats_in contexts ≡ seats → AllByRecursion (IsContextOf committer shared) contexts
@@ -83,7 +81,7 @@ module _ {C T G : Type 0} (committer : C) (shared : Shared G) where
       → (length done ≡ length seats) × ((i : ℕ) (s : T) (d : D) → i < length seats
       → P committer shared (slice_index_or seats i s) (slice_index_or done i d))
   all-done P contexts seats done is of are = (
-    (let long = are.0 in let same = length-in contexts in let e = ap length is in omega (arith, long, same, e)),
+    (let long = are.0 in let same = length-map contexts (λ (c : Context C T G). c.seat) in let e = ap length is in omega (arith, long, same, e)),
     subst (λ (l : List T). (i : ℕ) (s : T) (d : _) → i < length l → P committer shared (slice_index_or l i s) (slice_index_or done i d))
         is (done-here P contexts done of are),
   )

@@ -9,7 +9,7 @@ abbrev pub invariant-loop-seats : goal.invariant-loop-seats
 invariant-loop-seats g l = record {
   numbered : AreNumbered (λ (j : Context _ _ _). j.number) l.contexts.items;
   seats : seats_in l.contexts.items ++ l.seats.items ≡ l.fn.seats.items;
-  all : AllByRecursion (IsContextOf l.committer.now l.shared.now) l.contexts.items;
+  all : AllByRecursion (IsContextOf l.committer l.shared) l.contexts.items;
   count : l.number ≡ vec_len l.contexts;
   few : vec_len l.contexts + vec_len l.seats ≤ 64;
   room : vec_len l.contexts + vec_len l.seats ≤ vec_capacity l.contexts;

@@ -2,7 +2,7 @@ use Rattle.std.proofs.Common.{◌≡◌, ◌++◌, ◌∙◌, [], sym, refl, ap,
 use Rattle.nt_types.specs.Views.{members_view}
 use Rattle.nt_outside.specs.Source.{SourceState}
 use Rattle.nt_outside.specs.declared.fault.Refused.TheVariants as refused
-use Rattle.nt_contexts.specs.Seating.{HasLetIn, CanLeave, AreNewSeats}
+use Rattle.nt_contexts.specs.Seating.{HasLetIn, CanLeave, AreNewSeats, TurnsBack}
 use Rattle.std.specs.List.{AllByRecursion}
 use Rattle.nt_contexts.specs.declared.error.RunError.TheVariants.{Memory}
 use Rattle.nt_contexts.specs.Working.{HasWorked}
@@ -54,7 +54,7 @@ turn_back-back-requires g c =
       );
       room = (
         c.requires.room.0,
-        omega (arith, long, c.requires.room.1, c.in-Err.seats.ok.0, c.args.seats.ok.0),
+        omega (arith, long, c.requires.room.1, c.in-Err.seats.ok.0, c.args.seats.ok.0, c.new-none.ensures.len),
       );
     }
 
@@ -70,4 +70,6 @@ returns-in-Err g c states fresh =
     c.turn_back-back.new.first (Err Memory)) (append-nil states)
     (turned-back g.D.Disk.state fields t p committer g.S.Source.state (length c.args.seats.items) states [] c.in-Err.seats.items []
     c.turn_back-back.result.items c.args.first.now c.turn_back-back.new.first refused.Memory run.let_in (sym (ap length back))
-    (subst (λ l. AreNewSeats committer g.S.Source.state 0 states l) (sym back) fresh) tt c.turn_back-back.ensures (λ e. cc))
+    (subst (λ l. AreNewSeats committer g.S.Source.state 0 states l) (sym back) fresh) tt
+    (subst (λ l. TurnsBack committer c.in-Err.seats.items c.args.first.now c.turn_back-back.new.first l c.turn_back-back.result.items)
+    c.new-none.ensures.items c.turn_back-back.ensures) (λ e. cc))

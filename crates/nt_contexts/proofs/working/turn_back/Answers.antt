@@ -11,6 +11,6 @@ leave_all-requires g c = record {
 
 pub returns : goal.returns
 returns g c =
-    turned c.args.committer.now c.args.params.now.limits.clusters c.args.seats.items c.args.first.now c.leave_all.new.first
+    turned c.args.committer.now 0 c.args.seats.items c.args.first.now c.leave_all.new.first
     c.args.back.items c.leave_all.new.back.items
     c.args.sources.items c.append-put.new.self.items c.leave_all.result c.leave_all.ensures.leave c.requires.room.0 c.in-Ok.ensures.items
