@@ -81,7 +81,8 @@ module _ {C T G : Type 0} (committer : C) (shared : Shared G) where
       → (length done ≡ length seats) × ((i : ℕ) (s : T) (d : D) → i < length seats
       → P committer shared (slice_index_or seats i s) (slice_index_or done i d))
   all-done P contexts seats done is of are = (
-    (let long = are.0 in let same = length-map contexts (λ (c : Context C T G). c.seat) in let e = ap length is in omega (arith, long, same, e)),
+    (let long = are.0 in let same = length-map contexts (λ (c : Context C T G). c.seat) in let e = ap length is in omega
+        (arith, long, same, e)),
     subst (λ (l : List T). (i : ℕ) (s : T) (d : _) → i < length l → P committer shared (slice_index_or l i s) (slice_index_or done i d))
         is (done-here P contexts done of are),
   )
