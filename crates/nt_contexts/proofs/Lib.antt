@@ -7,6 +7,7 @@ mod Lines
 mod Ends
 mod Lists
 mod Jobs
+mod Sending
 mod Opens
 mod Leaves
 mod Ran

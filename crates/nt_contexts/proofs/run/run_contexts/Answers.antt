@@ -15,7 +15,7 @@ new-requires g c =
       contexts = (omega (arith, ready.some), omega (arith, ready.few));
       book = record {
         history = ap (λ b. b.history) ready.book_is;
-        ungrouped = new-ungrouped c.args.schema.now c.args.params.now.limits c.args.book ready.book_is;
+        ungrouped = new-ungrouped c.args.shared.now.schema.now c.args.shared.now.params.now.limits c.args.book ready.book_is;
         end = ap (λ b. b.begin) ready.book_is ∙ sym ready.end;
         out = ready.out;
       };

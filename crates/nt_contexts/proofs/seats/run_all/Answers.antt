@@ -1,11 +1,14 @@
-use denote.Param.Send.{sendable}
-use Rattle.std.proofs.Crossing.{crosses}
+use mir.Syntax.{named}
+use denote.Exit.{no}
+use denote.Param.{param}
+use denote.Param.Send.{param_send, arg_send}
 use Rattle.std.proofs.lemmas.List.{length-map}
-use Rattle.nt_contexts.specs.declared.seats.Context.{Context}
 use Rattle.std.proofs.Common.{◌≡◌, ◌<◌, ◌≤◌, ◌∙◌, sym, ap, length, vec_len, arith, rules}
 use Rattle.nt_types.specs.Views.{members_view}
+use Rattle.nt_contexts.specs.declared.seats.Context.{Context}
 use Rattle.nt_contexts.specs.Seats.{IsSchemaFor, IsFresh, Ran}
 use Rattle.nt_contexts.proofs.Jobs.{all-ready, all-done}
+use Rattle.nt_contexts.proofs.Sending.{disk-context-send}
 use Rattle.nt_contexts.proofs.seats.run_all.Goals as goal
 
 pub run_pool-requires-clause-ready : goal.run_pool-requires-clause-ready
@@ -27,7 +30,10 @@ returns-in-Ok-run_pool-clause-ok g c =
     )
 
 pub run_pool-requires-send-J : goal.run_pool-requires-send-J
-run_pool-requires-send-J g c κs within = search (sendable, crosses, rules) depth 20
+run_pool-requires-send-J g c κs within =
+    param_send 1 _ (arg_send _ no _ (disk-context-send (param 1 g.row.D) (param 4 g.row.D-Ext) (param 5 g.row.D-Pen) g.D.Disk g.D.Ext.Ext
+    g.D.Pen.Pen (record { mir = named 4; lft = κs.1.1.1.1.0 }) (param 2 g.row.S) (param 3 g.row.G)
+    (search rules) (search rules) (search rules) (search rules) (search rules)))
 
 pub seats_back-requires : goal.seats_back-requires
 seats_back-requires g c =
