@@ -96,8 +96,8 @@ pub fn run_alone<H: Host>(alloc: Global, words: &[String], host: &mut H) -> Opti
 /// Commands are `write` and `seq` with `[--cluster N] [--page P] [--group G] [--plain] [--max-range B] [--max-file B] OUT SCHEMA IN`,
 /// for `write` of 1 to 64 inputs and with `[--contexts K]`, where OUT is another name than those that are read, `gen C E SEED OUT`,
 /// `entries [--from A] [--count C] FILE` and `schema FILE`; clap reads the words after the first.
-/// `rt` is the runtime of `write`, which has a context for each input and K workers that run them, and of `gen`; `gate` is told the steps of each context's
-/// clusters.
+/// `rt` is the runtime of `write`, which has a context for each input and K workers that run them, and of `gen`; `gate` is told the
+/// steps of each context's clusters.
 pub fn run<R, H, G>(rt: &R, alloc: Global, words: Vec<String>, host: &mut H, gate: &G) -> Status
 where
     R: Threads + Wait + Sync,

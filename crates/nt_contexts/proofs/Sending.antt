@@ -33,12 +33,15 @@ shared-sync a G gate =
     recorded_sync (shared.the_field a G).row _ _ (shared.the_type a G).to_one (struct_sync (shape (shared.the_type a G)) each)
 
 -- a context may go to another thread if its seat may, and if threads may share its committer and what contexts share
-context-send : (a : NamedLft) (C T G : RattleType) → IsSync C → IsSend T → IsSync (shared.the_row a G) → IsSend (context.the_row a C T G)
+context-send : (a : NamedLft) (C T G : RattleType) → IsSync C → IsSend T → IsSync (shared.the_row a G)
+    → IsSend (context.the_row a C T G)
 context-send a C T G one sent all =
     let each : AllSend (fields (context.the_type a C T G)) = (search sendable, (sent, (search sendable, (search sendable, tt)))) in
-    recorded_send (context.the_field a C T G).row _ _ (context.the_type a C T G).to_one (struct_send (shape (context.the_type a C T G)) each)
+    recorded_send (context.the_field a C T G).row _ _ (context.the_type a C T G).to_one
+    (struct_send (shape (context.the_type a C T G)) each)
 
-module _ (D E P : RattleType) (disk : Disk.Ghosts D.Denot E.Denot P.Denot) (ext : Ext.Ghosts E.Denot) (pen : Pen.Ghosts P.Denot E.Denot) where
+module _ (D E P : RattleType) (disk : Disk.Ghosts D.Denot E.Denot P.Denot) (ext : Ext.Ghosts E.Denot)
+    (pen : Pen.Ghosts P.Denot E.Denot) where
   -- a locked disk may go to another thread if the disk, its extents and its pens may
   locked-send : IsSend D → IsSend E → IsSend P → IsSend (locked.the_row D E P disk ext pen)
   locked-send d e p = search (crosses, shapes.crosses, plans.crosses, sendable) depth 60 fits 20000
