@@ -29,7 +29,7 @@ SHARED = set("state_of".split())
 # Names that two crates define and that are still to be changed: each that is mended goes from this list.
 KNOWN_TWICE = set(
     """
-    Follows Gains IsFresh Takes TakesLine Writes
+    Follows Gains
     """.split()
 )
 

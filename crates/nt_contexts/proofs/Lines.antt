@@ -26,7 +26,7 @@ use Rattle.nt_contexts.specs.declared.error.ContextError.{ContextError}
 use Rattle.nt_contexts.specs.declared.error.ContextError.TheVariants.{Text, Limit, Outside, Memory}
 use Rattle.nt_contexts.specs.Reading.{GivesJust}
 use Rattle.nt_contexts.specs.Filling.{IsFor, IsSameContext, IsOpen, HasCommitted, HasTaken, HasWrittenAll, held_before, IsHalt, Halts}
-use Rattle.nt_contexts.specs.Taking.{TakesNone, TakesEntry, TakesLine, Writes, WritesRest}
+use Rattle.nt_contexts.specs.Taking.{TakesNone, TakesEntry, TakesTextLine, WritesChunk, WritesRest}
 use Rattle.nt_contexts.specs.Running.{GoesOn, HasAll, IsCause, EndsEarly, error_of_line, ReadsLine, Ended}
 use Rattle.nt_contexts.proofs.Reading.{read-blank, read-entry, read-bad, read-ahead, read-nothing, read-end, read-too_long}
 use Rattle.nt_contexts.proofs.Chunking.{chunks-full, chunks-none, chunks-last}
@@ -131,7 +131,7 @@ module _ {D P : Type 0} (state : D → DiskState) (F : MembersData) (text : Opti
   -- a line was not taken
   pub not_taken : (old new : DiskContext D P) (was is : LinesState) (line : Line) (error : ContextError)
       → (on : GoesOn state F text start old was) → IsNextLine was is line
-      → TakesLine state F on.entries line old new (Err error) → ReadsLine state F text start was is new (Err error)
+      → TakesTextLine state F on.entries line old new (Err error) → ReadsLine state F text start was is new (Err error)
   not_taken old new was is line error on next (inl none) =
       let here : TakesNone F line old old error = record { full = none.full; why = none.why; now = refl } in
       subst (λ (c : DiskContext D P). EndsEarly state F text start was is c error) (sym none.now)
@@ -175,7 +175,7 @@ module _ {D P : Type 0} (state : D → DiskState) where
       ∙ ap (λ (l : List (List TreesData)). taken.full ++ l) (chunks-last old.cluster (omega arith) (gathered old) some few))
 
   pub rest_written : (entries : List TreesData) (old new : DiskContext D P) (result : Result Unit ContextError) → 0 < length (gathered old)
-      → length (gathered old) ≤ old.cluster → HasTaken state entries old → Writes state old new result
+      → length (gathered old) ≤ old.cluster → HasTaken state entries old → WritesChunk state old new result
       → WritesRest state entries old new result
   rest_written entries old new (Ok done) some few taken writes =
       let i = old.pass.number in

@@ -24,7 +24,7 @@ use Rattle.nt_event.specs.Lines.{before_first_line}
 use Rattle.nt_contexts.specs.declared.seats.Seat.{Seat}
 use Rattle.nt_contexts.specs.Reading.{left_of}
 use Rattle.nt_contexts.specs.Filling.{HaveFaults}
-use Rattle.nt_contexts.specs.Seats.{DiskPass, IsFresh}
+use Rattle.nt_contexts.specs.Seats.{DiskPass, IsFreshSeat}
 use Rattle.nt_contexts.specs.Contexts.{AreLater}
 use Rattle.nt_contexts.specs.Seating.{IsLettingIn, HasLetIn, RefusesSeat, IsNewSeat, AreNewSeats, HasOpened, MayWork, CanRun}
 
@@ -264,7 +264,7 @@ module _ {D : Type 0} (committer : TurnState (Birth D)) where
     pub may-run : (fields : List MemberData) (t : Table) (p : Params) (all left : List S) (seats : List (Seat S (DiskPass D) P)) (first
         next : DiskPass D)
         → MayWork committer fields t p (length all) first → HasOpened committer source all left seats next → left ≡ []
-        → All (IsFresh source committer) seats
+        → All (IsFreshSeat source committer) seats
         → CanRun committer source fields t p seats next
     may-run fields t p all left seats first next may opened none fresh =
         let count = opened-count all left seats next opened in

@@ -29,7 +29,7 @@ use Rattle.nt_contexts.specs.declared.error.ContextError.TheVariants as context
 use Rattle.nt_contexts.specs.declared.seats.Seat.{Seat}
 use Rattle.nt_contexts.specs.Reading.{left_of}
 use Rattle.nt_contexts.specs.Filling.{HaveFaults}
-use Rattle.nt_contexts.specs.Seats.{DiskPass, IsFresh, Ran, EndsTold}
+use Rattle.nt_contexts.specs.Seats.{DiskPass, IsFreshSeat, Ran, EndsTold}
 use Rattle.nt_contexts.specs.declared.error.RunError.TheVariants.{Outside, Line, Limit}
 use Rattle.nt_contexts.specs.Contexts.{TellTexts, SomeRose, AreLater}
 use Rattle.nt_contexts.specs.Answers.{limit_told, answer_of, answer_from}
@@ -413,11 +413,11 @@ module _ {D S P : Type 0} (committer : TurnState (Birth D)) (source : S → Sour
         new-can-leave (i + 1) states xs new.1,
       )
 
-  pub fresh-can-leave : (seats : List (Seat S (DiskPass D) P)) → All (IsFresh source committer) seats
+  pub fresh-can-leave : (seats : List (Seat S (DiskPass D) P)) → All (IsFreshSeat source committer) seats
       → AllByRecursion (CanLeave committer) seats
   fresh-can-leave [] fresh = tt
   fresh-can-leave (x ∷ xs) fresh =
-      let f : IsFresh source committer x = fresh 0 x (omega arith) in (
+      let f : IsFreshSeat source committer x = fresh 0 x (omega arith) in (
         record {
           pass = f.pass;
           there = f.there;
@@ -464,7 +464,7 @@ module _ {D S P : Type 0} (committer : TurnState (Birth D)) (source : S → Sour
 
   -- seats by their places
   pub new-fresh : (i : ℕ) (states : List SourceState) (seats : List (Seat S (DiskPass D) P)) → AreNewSeats committer source i states seats
-      → (k : ℕ) (d : Seat S (DiskPass D) P) → k < length seats → IsFresh source committer (slice_index_or seats k d)
+      → (k : ℕ) (d : Seat S (DiskPass D) P) → k < length seats → IsFreshSeat source committer (slice_index_or seats k d)
   new-fresh i [] [] new k d less = absurd (omega arith)
   new-fresh i [] (x ∷ xs) new k d less = absurd new
   new-fresh i (s ∷ states) [] new k d less = absurd new

@@ -26,10 +26,19 @@ use Rattle.nt_contexts.specs.contracts.shared.Shared as shared
 -- threads may share what contexts share if they may share its gate
 shared-sync : (a : NamedLft) (G : RattleType) → IsSync G → IsSync (shared.the_row a G)
 shared-sync a G gate =
-    let each : AllSync (fields (shared.the_type a G)) =
-    (search (crosses, sendable) depth 20, (search (crosses, shapes.crosses, plans.crosses, sendable) depth 60 fits 20000,
-    (search (crosses, shapes.crosses, plans.crosses, sendable) depth 60 fits 20000, (search (crosses, sendable) depth 60 fits 20000,
-    (search (crosses, sendable) depth 20, (search sendable depth 20, tt)))))) in
+    let each : AllSync (fields (shared.the_type a G)) = (
+      search (crosses, sendable) depth 20,
+      (
+        search (crosses, shapes.crosses, plans.crosses, sendable) depth 60 fits 20000,
+        (
+          search (crosses, shapes.crosses, plans.crosses, sendable) depth 60 fits 20000,
+          (
+            search (crosses, sendable) depth 60 fits 20000,
+            (search (crosses, sendable) depth 20, (search sendable depth 20, tt)),
+          ),
+        ),
+      ),
+    ) in
     recorded_sync (shared.the_field a G).row _ _ (shared.the_type a G).to_one (struct_sync (shape (shared.the_type a G)) each)
 
 -- a context may go to another thread if its seat may, and if threads may share its committer and what contexts share

@@ -12,7 +12,7 @@ use Rattle.nt_fill.specs.Flushes.{DiskContext}
 use Rattle.nt_contexts.specs.declared.error.ContextError.{ContextError}
 use Rattle.nt_contexts.specs.Filling.{IsSameContext, HasTaken, Halts}
 use Rattle.nt_lists.specs.Chunks.{chunks}
-use Rattle.nt_contexts.specs.Taking.{WritesFull, TakesLine}
+use Rattle.nt_contexts.specs.Taking.{WritesFull, TakesTextLine}
 
 module _ {D P : Type 0} where
   pub same-trans : (a b c : DiskContext D P) → IsSameContext a b → IsSameContext b c → IsSameContext a c
@@ -57,7 +57,7 @@ module _ {D P : Type 0} where
     pub took_line : (F : MembersData) (entries : List TreesData) (line : Line) (entry : TreesData) (old mid new : DiskContext D P)
         (result : Result Unit ContextError)
         → is_blank_line line.bytes ≡ false → entry_of F line.bytes ≡ Ok entry → Gathers entry old mid
-        → WritesFull state (entries ++ entry ∷ []) mid new result → TakesLine state F entries line old new result
+        → WritesFull state (entries ++ entry ∷ []) mid new result → TakesTextLine state F entries line old new result
     took_line F entries line entry old mid new (Ok done) full is h w =
         inr (
           entry,

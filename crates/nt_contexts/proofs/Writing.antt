@@ -29,7 +29,7 @@ use Rattle.nt_contexts.specs.declared.error.ContextError.{ContextError}
 use Rattle.nt_contexts.specs.declared.error.ContextError.TheVariants.{Limit, Outside, Memory}
 use Rattle.nt_contexts.specs.Running.{context_error}
 use Rattle.nt_contexts.specs.Filling.{HaveFaults, HasCommitted, IsSameContext, IsOpen, HasTaken, Halts}
-use Rattle.nt_contexts.specs.Taking.{Writes, WritesFull}
+use Rattle.nt_contexts.specs.Taking.{WritesChunk, WritesFull}
 use Rattle.nt_contexts.proofs.Chunking.{chunks-full, chunks-next, slice_get-seam}
 use Rattle.nt_contexts.proofs.Committing.{committed-faulted, committed-settled, committed-spoiled, committed-first, committed-next}
 
@@ -158,7 +158,7 @@ module _ {D P : Type 0} (state : D → DiskState) where
   pub write_refused : (old new : DiskContext D P) (e : CommitError)
       → (refusal e ≢ refusal commit.Memory → KeepsLimits state old new (Err e))
       → ((f : CommitError) → refusal e ≡ refusal f → f ≢ commit.Fault → KeepsEntries old new)
-      → (refusal e ≡ refusal commit.Fault → FailsToFlush old new) → Writes state old new (Err (context_error e))
+      → (refusal e ≡ refusal commit.Fault → FailsToFlush old new) → WritesChunk state old new (Err (context_error e))
   write_refused old new (commit.RangeTooLarge len most) limits kept fault = λ full others have.
       refused old new full others have (commit.RangeTooLarge len most) (limit.RangeTooLarge len most) refl (limits (λ is. cc)) (kept
       (commit.RangeTooLarge len most) refl (λ is. cc))
@@ -251,7 +251,7 @@ module _ {D P : Type 0} (state : D → DiskState) where
 
   -- what is gathered is a whole chunk, and was written, or why not
   pub full_written : (entries : List TreesData) (old new : DiskContext D P) (result : Result Unit ContextError) → 0 < length (gathered old)
-      → length (gathered old) ≡ old.cluster → HasTaken state entries old → Writes state old new result
+      → length (gathered old) ≡ old.cluster → HasTaken state entries old → WritesChunk state old new result
       → WritesFull state entries old new result
   full_written entries old new (Ok done) some whole taken writes = record {
     taken = took_chunk entries old new whole taken writes;

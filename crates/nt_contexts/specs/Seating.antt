@@ -18,7 +18,7 @@ use Rattle.nt_event.specs.Lines.{before_first_line}
 use Rattle.nt_contexts.specs.declared.seats.Seat.{Seat}
 use Rattle.nt_contexts.specs.Reading.{left_of}
 use Rattle.nt_contexts.specs.Filling.{HaveFaults}
-use Rattle.nt_contexts.specs.Seats.{DiskPass, IsFresh, IsSchemaFor}
+use Rattle.nt_contexts.specs.Seats.{DiskPass, IsFreshSeat, IsSchemaFor}
 use Rattle.nt_contexts.specs.declared.error.RunError.{RunError}
 use Rattle.nt_contexts.specs.Contexts.{AreLater}
 use Rattle.nt_contexts.specs.Answers.{answer_from}
@@ -102,7 +102,7 @@ module _ {D : Type 0} (committer : TurnState (Birth D)) where
     module _ (source : S → SourceState) where
       -- the seat of the context of this number, which is fresh, over a source in this state
       pub record IsNewSeat (number : ℕ) (s : SourceState) (seat : Seat S (DiskPass D) P) : Type 0 where
-        pub fresh : IsFresh source committer seat
+        pub fresh : IsFreshSeat source committer seat
         pub number_is : fresh.pass.number ≡ number
         pub begun : left_of source seat.lines ≡ before_first_line s
 
@@ -129,5 +129,5 @@ module _ {D : Type 0} (committer : TurnState (Birth D)) where
         pub some : 0 < length seats
         pub few : length seats ≤ 64
         pub seated : length seats ≤ committer.birth.contexts
-        pub fresh : All (IsFresh source committer) seats
+        pub fresh : All (IsFreshSeat source committer) seats
         pub let_in : HasLetIn (length seats) first

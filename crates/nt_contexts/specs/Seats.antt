@@ -35,7 +35,7 @@ pub record IsSchemaFor {D : Type 0} (committer : TurnState (Birth D)) (fields : 
 
 module _ {D S P : Type 0} where
   -- a context that has read and written nothing, with a pass of the committer and a pen
-  pub record IsFresh (source : S → SourceState) (committer : TurnState (Birth D)) (seat : Seat S (DiskPass D) P) : Type 0 where
+  pub record IsFreshSeat (source : S → SourceState) (committer : TurnState (Birth D)) (seat : Seat S (DiskPass D) P) : Type 0 where
     pub pass : DiskPass D
     pub there : seat.pass ≡ Some pass
     pub of : IsPassOf committer pass

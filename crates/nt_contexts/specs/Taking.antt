@@ -34,13 +34,13 @@ module _ {D P : Type 0} where
 
   module _ (state : D → DiskState) where
     -- the gathered entries were written as a cluster; or why not, whatever chunks were committed before them and come behind
-    abbrev pub Writes : DiskContext D P → DiskContext D P → Result Unit ContextError → Type 0
-    Writes old new (Ok done) = WritesCluster state old new
-    Writes old new (Err error) = (full others : List (List TreesData)) → HasCommitted old.table old.page full old.pass.own
+    abbrev pub WritesChunk : DiskContext D P → DiskContext D P → Result Unit ContextError → Type 0
+    WritesChunk old new (Ok done) = WritesCluster state old new
+    WritesChunk old new (Err error) = (full others : List (List TreesData)) → HasCommitted old.table old.page full old.pass.own
         → Halts state (full ++ gathered old ∷ others) old new error
 
     -- these entries are taken, and the context goes on
-    pub record Takes (entries : List TreesData) (old new : DiskContext D P) : Type 0 where
+    pub record GoesOnWith (entries : List TreesData) (old new : DiskContext D P) : Type 0 where
       pub taken : HasTaken state entries new
       pub is_open : IsOpen new
       pub same : IsSameContext old new
@@ -51,19 +51,19 @@ module _ {D P : Type 0} where
 
     -- of a context that has taken these entries: the gathered ones were written if they are a whole cluster, or why not
     abbrev pub WritesFull : List TreesData → DiskContext D P → DiskContext D P → Result Unit ContextError → Type 0
-    WritesFull entries old new (Ok done) = Takes entries old new
+    WritesFull entries old new (Ok done) = GoesOnWith entries old new
     WritesFull entries old new (Err error) = HaltsWith entries old new error
 
     -- a line was blank, or its entry was taken behind these
     abbrev pub TakesEntry : MembersData → List TreesData → Line → DiskContext D P → DiskContext D P → Type 0
     TakesEntry F entries line old new =
         ((is_blank_line line.bytes ≡ true) × (new ≡ old)) ⊎ ((entry : TreesData) × HasEntry F line entry
-        × Takes (entries ++ entry ∷ []) old new)
+        × GoesOnWith (entries ++ entry ∷ []) old new)
 
     -- of a context that has taken these entries: it took a line, or why not
-    abbrev pub TakesLine : MembersData → List TreesData → Line → DiskContext D P → DiskContext D P → Result Unit ContextError → Type 0
-    TakesLine F entries line old new (Ok done) = TakesEntry F entries line old new
-    TakesLine F entries line old new (Err error) =
+    abbrev pub TakesTextLine : MembersData → List TreesData → Line → DiskContext D P → DiskContext D P → Result Unit ContextError → Type 0
+    TakesTextLine F entries line old new (Ok done) = TakesEntry F entries line old new
+    TakesTextLine F entries line old new (Err error) =
         TakesNone F line old new error ⊎ ((entry : TreesData) × HasEntry F line entry × HaltsWith (entries ++ entry ∷ []) old new error)
 
     -- of a context that has taken these entries, and no more come: what is gathered was written too, or why not

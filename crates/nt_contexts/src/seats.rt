@@ -6,7 +6,7 @@ ghost use Rattle.nt_types.specs.Views.{members_view};
 ghost use Rattle.nt_commit.specs.Holds.{IsPassOf};
 ghost use Rattle.nt_pool.specs.Pool.{AreNumbered};
 ghost use Rattle.nt_contexts.specs.Reading.{left_of};
-ghost use Rattle.nt_contexts.specs.Seats.{IsSchemaFor, IsFresh, Ran};
+ghost use Rattle.nt_contexts.specs.Seats.{IsSchemaFor, IsFreshSeat, Ran};
 ghost use Rattle.nt_contexts.specs.Jobs.{seats_in, IsContextOf};
 
 use crate::error::ContextError;
@@ -104,7 +104,7 @@ fn run_one<D: Disk, S: Source, G: Gate>(
     seat: &mut SeatOf<D, S>,
 )
     requires schema { IsSchemaFor committer.now (members_view shared.now.fields.now) shared.now.params.now.plain shared.now.schema.now }
-    requires fresh { IsFresh S.state committer.now seat.old }
+    requires fresh { IsFreshSeat S.state committer.now seat.old }
     ensures { Ran D.state S.state (members_view shared.now.fields.now) shared.now.schema.now shared.now.params.now committer.now
         seat.old seat.new }
 {
@@ -121,14 +121,14 @@ fn run_one<D: Disk, S: Source, G: Gate>(
 
 impl<'a, D: Disk, S: Source, G: Gate> Job for Context<'a, Committer<D>, SeatOf<D, S>, G> {
     ghost use Rattle.nt_types.specs.Views.{members_view};
-    ghost use Rattle.nt_contexts.specs.Seats.{IsSchemaFor, IsFresh, Ran};
+    ghost use Rattle.nt_contexts.specs.Seats.{IsSchemaFor, IsFreshSeat, Ran};
 
     type Done = SeatOf<D, S>;
 
     ghost number = { λ j. j.number };
 
     ghost ready = { λ j. IsSchemaFor j.committer.now (members_view j.shared.now.fields.now) j.shared.now.params.now.plain
-        j.shared.now.schema.now × IsFresh S.state j.committer.now j.seat };
+        j.shared.now.schema.now × IsFreshSeat S.state j.committer.now j.seat };
 
     ghost does = { λ j d. Ran D.state S.state (members_view j.shared.now.fields.now) j.shared.now.schema.now j.shared.now.params.now
         j.committer.now j.seat d };
@@ -212,7 +212,7 @@ where
     D::Pen: Send,
     requires numbers { (vec_len seats ≤ 64) × (0 < shared.now.workers) × (shared.now.workers ≤ 64) }
     requires schema { IsSchemaFor committer.now (members_view shared.now.fields.now) shared.now.params.now.plain shared.now.schema.now }
-    requires fresh { All (IsFresh S.state committer.now) seats.items }
+    requires fresh { All (IsFreshSeat S.state committer.now) seats.items }
     ensures ok { IfOk result (λ new. (vec_len new ≡ vec_len seats) × ((i : ℕ) (d : _) → i < vec_len seats
         → Ran D.state S.state (members_view shared.now.fields.now) shared.now.schema.now shared.now.params.now committer.now
         (slice_index_or seats.items i d) (slice_index_or new.items i d))) }

@@ -8,7 +8,7 @@ ghost use Rattle.nt_types.specs.TreeViews.{trees_view};
 ghost use Rattle.nt_event.specs.Entry.{entry_of};
 ghost use Rattle.nt_fill.specs.Context.{gathered};
 ghost use Rattle.nt_contexts.specs.Filling.{IsFor, IsOpen, HasTaken};
-ghost use Rattle.nt_contexts.specs.Taking.{IsEntryError, Writes, WritesFull, TakesLine};
+ghost use Rattle.nt_contexts.specs.Taking.{IsEntryError, WritesChunk, WritesFull, TakesTextLine};
 
 use crate::error::ContextError;
 use nt_event::{Line, TextError, blank, read_line, spelled_trees_are_read};
@@ -34,7 +34,7 @@ fn entry_of(alloc: Global, fields: &Fields, line: &Line) -> Result<Trees, Contex
     }
 }
 
-/// Writes what is gathered as a cluster.
+/// WritesChunk what is gathered as a cluster.
 pub(crate) fn write_gathered<D: Disk, G: Gate>(
     rt: &impl Wait,
     gate: &G,
@@ -42,7 +42,7 @@ pub(crate) fn write_gathered<D: Disk, G: Gate>(
 ) -> Result<(), ContextError>
     requires alive { IsSome fill.old.pen }
     requires some { 0 < length (gathered fill.old) }
-    ensures { Writes D.state fill.old fill.new result }
+    ensures { WritesChunk D.state fill.old fill.new result }
 {
     match fill.flush(rt, gate) {
         Ok(()) => Ok(()),
@@ -50,7 +50,7 @@ pub(crate) fn write_gathered<D: Disk, G: Gate>(
     }
 }
 
-/// Writes what is gathered, if that is a whole cluster.
+/// WritesChunk what is gathered, if that is a whole cluster.
 fn write_full<D: Disk, G: Gate>(
     rt: &impl Wait,
     gate: &G,
@@ -68,7 +68,7 @@ fn write_full<D: Disk, G: Gate>(
     Ok(())
 }
 
-/// Takes a line: gathers its entry, by way of its trees where that can't be done without, and writes what is
+/// GoesOnWith a line: gathers its entry, by way of its trees where that can't be done without, and writes what is
 /// gathered once that is a whole cluster.
 pub(crate) fn take_line<D: Disk, G: Gate>(
     rt: &impl Wait,
@@ -81,7 +81,7 @@ pub(crate) fn take_line<D: Disk, G: Gate>(
     requires fields { IsFor (members_view fields.now) fill.old }
     requires is_open { IsOpen fill.old }
     ensures { (entries : List TreesData) → HasTaken D.state entries fill.old
-        → TakesLine D.state (parts_of (members_view fields.now)) entries line.now fill.old fill.new result }
+        → TakesTextLine D.state (parts_of (members_view fields.now)) entries line.now fill.old fill.new result }
 {
     if blank(line.bytes.as_slice()) {
         return Ok(());

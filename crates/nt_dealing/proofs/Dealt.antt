@@ -43,7 +43,7 @@ module _ (begun : Option Held) (t : Table) (page : ℕ) where
       filled ∙ ap (λ (b : Option (List ℕ)). Settled b) (told ∙ ap (λ (o : Option Held). bytes_where_told o (Some blob)) is)
 
   blobs_of : (dealt : List (List TreesData)) (cs ds : List (Cluster ClusterMeta))
-    → AllZip (IsSettledWith (IsChunkBlob begun t page)) dealt cs
+      → AllZip (IsSettledWith (IsChunkBlob begun t page)) dealt cs
       → map untold cs ≡ map untold ds → Blobs dealt cs ds
   blobs_of [] [] [] h is = record { ranges = []; are = none_left; states = λ held e. tt }
   blobs_of [] [] (d ∷ ds) h is = cc
