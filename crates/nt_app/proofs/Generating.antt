@@ -46,6 +46,7 @@ memory_makes out m state = record {
   made = Err generate.Memory;
   answer_is = refl;
   generates = record {
+    commits = [];
     told = λ w at. (w, at, refl, λ other differs. refl, (inl (refl, refl), nothing_gained default_params m w));
     order = nothing_made out state.world state.world refl;
     crash = λ w w' is is' made. absurd (none_made out state.world state.world refl w w' is is' made);
@@ -63,21 +64,21 @@ gained_after : (p : Params) (m : Making) (w v : World) (err : List ℕ) → Gain
     → GainsMadeFront p m w (record v { err = err })
 gained_after p m w v err told = record { printed = told.printed; left = told.left; out = told.out; lines = told.lines }
 
-left_after : (p : Params) (m : Making) (o : List ℕ) (w v : World) (err : List ℕ) → IsMadeByFailure p m o w v
-    → IsMadeByFailure p m o w (record v { err = err })
-left_after p m o w v err (inl kept) = inl kept
-left_after p m o w v err (inr (made, inl unfinished)) = inr (made, inl unfinished)
-left_after p m o w v err (inr (made, inr (inl never))) =
+left_after : (p : Params) (m : Making) (commits o : List ℕ) (w v : World) (err : List ℕ) → IsMadeByFailure p m commits o w v
+    → IsMadeByFailure p m commits o w (record v { err = err })
+left_after p m commits o w v err (inl kept) = inl kept
+left_after p m commits o w v err (inr (made, inl unfinished)) = inr (made, inl unfinished)
+left_after p m commits o w v err (inr (made, inr (inl never))) =
     inr (made, inr (inl (record { at = never.at; len = never.len; there = never.there; log = never.log })))
-left_after p m o w v err (inr (made, inr (inr whole))) = inr (made, inr (inr whole))
+left_after p m commits o w v err (inr (made, inr (inr whole))) = inr (made, inr (inr whole))
 
-told_after : (o : List ℕ) (p : Params) (m : Making) (w v : World) (err : List ℕ) (made : Result Unit GenerateError)
-    → GenerateTold o p m w v made → GenerateTold o p m w (record v { err = err }) made
-told_after o p m w v err (Ok done) told = told
-told_after o p m w v err (Err generate.Outside) told = (left_after p m o w v err told.0, gained_after p m w v err told.1)
-told_after o p m w v err (Err generate.Memory) told = (told.0, gained_after p m w v err told.1)
-told_after o p m w v err (Err (generate.Limit reached limit)) told = told
-told_after o p m w v err (Err (generate.Defect fault)) told = told
+told_after : (o : List ℕ) (p : Params) (m : Making) (commits : List ℕ) (w v : World) (err : List ℕ) (made : Result Unit GenerateError)
+    → GenerateTold o p m commits w v made → GenerateTold o p m commits w (record v { err = err }) made
+told_after o p m commits w v err (Ok done) told = told
+told_after o p m commits w v err (Err generate.Outside) told = (left_after p m commits o w v err told.0, gained_after p m w v err told.1)
+told_after o p m commits w v err (Err generate.Memory) told = (told.0, gained_after p m w v err told.1)
+told_after o p m commits w v err (Err (generate.Limit reached limit)) told = told
+told_after o p m commits w v err (Err (generate.Defect fault)) told = told
 
 -- the outside failed only where the file isn't made for that
 outside_of : (made : Result Unit GenerateError) (answer : Status) → answer ≡ status_of_generate made → answer ≡ status.Outside
@@ -89,11 +90,12 @@ outside_of (Err (generate.Limit reached limit)) answer is outside = let bad = sy
 outside_of (Err (generate.Defect fault)) answer is outside = let bad = sym is ∙ outside in absurd (cc)
 
 -- a crash leaves of the file what it left
-crash_after : (o : List ℕ) (p : Params) (m : Making) (old mid : Option World) (w w' : World) (made : Result Unit GenerateError)
-    → MadeCrashTold o p m old mid made → old ≡ Some w → IsBefore o mid w w' → LeavesMade o p m w' made
-crash_after o p m old mid w w' made crash at before =
+crash_after : (o : List ℕ) (p : Params) (m : Making) (commits : List ℕ) (old mid : Option World) (w w' : World)
+    (made : Result Unit GenerateError) → MadeCrashTold o p m commits old mid made → old ≡ Some w → IsBefore o mid w w'
+    → LeavesMade o p m commits w' made
+crash_after o p m commits old mid w w' made crash at before =
     let told = crash w before.v at before.is before.made in
-    subst (λ (v : World). LeavesMade o p m v made) before.same (record {
+    subst (λ (v : World). LeavesMade o p m commits v made) before.same (record {
       at = told.at;
       log = told.log;
       there = told.there;
@@ -101,14 +103,14 @@ crash_after o p m old mid w w' made crash at before =
       leaves = told.leaves;
     })
 
-completes : (o : List ℕ) (p : Params) (m : Making) (w v : World) (made : Result Unit GenerateError) → GenerateTold o p m w v made
-    → (IsErrOf made generate.Outside → ⊥) → FitsMade p m
+completes : (o : List ℕ) (p : Params) (m : Making) (commits : List ℕ) (w v : World) (made : Result Unit GenerateError)
+    → GenerateTold o p m commits w v made → (IsErrOf made generate.Outside → ⊥) → FitsMade p m
     → (status_of_generate made ≡ status.Done) ⊎ (status_of_generate made ≡ status.Memory)
-completes o p m w v (Ok done) told served fits = inl refl
-completes o p m w v (Err generate.Outside) told served fits = absurd (served refl)
-completes o p m w v (Err generate.Memory) told served fits = inr refl
-completes o p m w v (Err (generate.Limit reached limit)) told served fits = absurd (fits reached limit told.0)
-completes o p m w v (Err (generate.Defect fault)) told served fits = absurd told
+completes o p m commits w v (Ok done) told served fits = inl refl
+completes o p m commits w v (Err generate.Outside) told served fits = absurd (served refl)
+completes o p m commits w v (Err generate.Memory) told served fits = inr refl
+completes o p m commits w v (Err (generate.Limit reached limit)) told served fits = absurd (fits reached limit told.0)
+completes o p m commits w v (Err (generate.Defect fault)) told served fits = absurd told
 
 -- `gen`, and then its message
 pub run_gen : (o : List ℕ) (m : Making) (old mid new : HostState) (answer : Status) → GenNamed o m old mid answer
@@ -123,6 +125,7 @@ run_gen o m old mid new answer makes reports =
       defaults = makes.defaults;
       made = makes.made;
       answer_is = makes.answer_is;
+      commits = gens.commits;
       told = λ w at.
           let done = gens.told w at in
           let said = reports.told done.0 done.1 in (
@@ -134,10 +137,11 @@ run_gen o m old mid new answer makes reports =
               either_after old mid new said.0 (message_of answer) gens.served.back.err_faults said.2,
             ),
             done.3,
-            told_after o p m w done.0 (done.0.err ++ take said.0 (message_of answer)) makes.made done.4,
+            told_after o p m gens.commits w done.0 (done.0.err ++ take said.0 (message_of answer)) makes.made done.4,
           );
       order = λ w w' at at' made. ordered_after o old.world mid.world w w' gens.order at (before w w' at at' made);
-      crash = λ w w' at at' made. crash_after o p m old.world mid.world w w' makes.made gens.crash at (before w w' at at' made);
+      crash = λ w w' at at' made.
+          crash_after o p m gens.commits old.world mid.world w w' makes.made gens.crash at (before w w' at at' made);
       asked = subst (λ (l : List Asked). AsksFor (Out o ∷ File o ∷ []) old.asked l makes.made) (sym reports.asked) gens.asked;
       failed = λ outside. subst (λ (n : ℕ). Rose old.faults n) (sym reports.faults)
           (gens.served.failed (outside_of makes.made answer makes.answer_is outside));
@@ -145,6 +149,6 @@ run_gen o m old mid new answer makes reports =
       complete = λ w at serves fits.
           let done = gens.told w at in
           subst (λ (s : Status). (s ≡ status.Done) ⊎ (s ≡ status.Memory)) (sym makes.answer_is)
-          (completes o p m w done.0 makes.made done.4
+          (completes o p m gens.commits w done.0 makes.made done.4
           (λ outside. serves (subst (λ (n : ℕ). Rose old.faults n) (sym reports.faults) (gens.served.failed outside))) fits);
     }

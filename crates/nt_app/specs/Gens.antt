@@ -54,13 +54,15 @@ pub record RunsGen (out : List ℕ) (m : Making) (old new : HostState) (answer :
   -- how it ended, which the answer tells
   pub made : Result Unit GenerateError
   pub answer_is : answer ≡ status_of_generate made
+  -- the order in which the chunks were committed: one, for what is told and for what a crash leaves
+  pub commits : List ℕ
   -- where the host tells what it holds
   pub told : (w : World) → old.world ≡ Some w → (w' : World) × (new.world ≡ Some w') × SaysOnErr (message_of answer) old new w w'
-      × OthersStay out w w' × GenerateTold out p m w w' made
+      × OthersStay out w w' × GenerateTold out p m commits w w' made
   -- where the file was begun, its first byte came only when all the rest stayed
   pub order : WritesInOrder out old.world new.world
   -- and wherever a crash comes behind the first sync, it leaves a file that is refused as unfinished, or the whole one
-  pub crash : MadeCrashTold out p m old.world new.world made
+  pub crash : MadeCrashTold out p m commits old.world new.world made
   -- what was asked for: the name to write and then to read where all is done, and else the first of that
   pub asked : AsksFor (Out out ∷ File out ∷ []) old.asked new.asked made
   -- the outside is blamed only where it failed

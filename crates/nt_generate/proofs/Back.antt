@@ -18,7 +18,7 @@ use Rattle.nt_store.proofs.Ends.{stored_kept, there, file_kept, kept_open, kept_
 use Rattle.nt_generate.specs.declared.error.GenerateError.{GenerateError}
 use Rattle.nt_generate.specs.declared.error.GenerateError.TheVariants.{Outside, Memory, Limit, Defect}
 use Rattle.nt_generate.specs.Errors.{generate_refusal}
-use Rattle.nt_generate.specs.Made.{IsMade, IsMadeFile}
+use Rattle.nt_generate.specs.Made.{IsMade}
 use Rattle.nt_generate.specs.Writing.{WriteLeaves, MadeCrash, WritesMade}
 use Rattle.nt_generate.specs.Leaving.{IsServed, MakeTold, LeavesMade, MadeCrashTold, MakesFile}
 
@@ -30,34 +30,36 @@ abbrev pub ComesBack : List ℕ → World → Option World → Option Held → T
 ComesBack name w world held = (h : Held) → held ≡ Some h → world ≡ Some (keeps_disk name h (creates name w))
 
 -- what is left then
-abbrev pub IsBack : {V : Type 0} → (V → List ℕ) → Params → Making → List ℕ → World → Option World → Result V GenerateError → Type 0
-IsBack order p m name w world result =
-    (w' : World) × (world ≡ Some w') × (w'.err ≡ w.err) × (w'.out ≡ w.out) × OthersStay name w w' × MakeTold order p m name w w' result
+abbrev pub IsBack : {V : Type 0} → (V → List ℕ) → Params → Making → List ℕ → List ℕ → World → Option World → Result V GenerateError → Type 0
+IsBack order p m commits name w world result =
+    (w' : World) × (world ≡ Some w') × (w'.err ≡ w.err) × (w'.out ≡ w.out) × OthersStay name w w'
+    × MakeTold order p m commits name w w' result
 
-module _ {V : Type 0} (order : V → List ℕ) (p : Params) (m : Making) (name : List ℕ) (w : World) (world : Option World) (held : Option Held)
-    (keeps : ComesBack name w world held) where
+module _ {V : Type 0} (order : V → List ℕ) (p : Params) (m : Making) (commits name : List ℕ) (w : World) (world : Option World)
+    (held : Option Held) (keeps : ComesBack name w world held) where
   abbrev after : Held → World
   after h = keeps_disk name h (creates name w)
 
-  with_told : (result : Result V GenerateError) (h : Held) → held ≡ Some h → MakeTold order p m name w (after h) result
-      → IsBack order p m name w world result
+  with_told : (result : Result V GenerateError) (h : Held) → held ≡ Some h → MakeTold order p m commits name w (after h) result
+      → IsBack order p m commits name w world result
   with_told result h is told = (after h, keeps h is, refl, refl, others_kept name h (creates name w), told)
 
-  pub back_told : (result : Result V GenerateError) → WriteLeaves order p m held result → IsBack order p m name w world result
-  back_told (Ok made) (h, is, whole) =
-      with_told (Ok made) h is (refl, there (IsMade p m (order made)) _ h.image (file_kept name h (creates name w)) whole)
+  pub back_told : (result : Result V GenerateError) → WriteLeaves order p m commits held result
+      → IsBack order p m commits name w world result
+  back_told (Ok made) (named, (h, is, whole)) =
+      with_told (Ok made) h is (named, refl, there (IsMade p m commits) _ h.image (file_kept name h (creates name w)) whole)
   back_told (Err Outside) (h, is, inl begins) =
       with_told (Err Outside) h is (inr (refl, inl (kept_open name h (creates name w) begins)))
   back_told (Err Outside) (h, is, inr (inl never)) =
       with_told (Err Outside) h is (inr (refl, inr (inl (kept_never_begun name h (creates name w) never))))
   back_told (Err Outside) (h, is, inr (inr whole)) =
-      with_told (Err Outside) h is (inr (refl, inr (inr (there (IsMadeFile p m) _ h.image (file_kept name h (creates name w)) whole))))
+      with_told (Err Outside) h is (inr (refl, inr (inr (there (IsMade p m commits) _ h.image (file_kept name h (creates name w)) whole))))
   back_told (Err Memory) (h, is, begins) = with_told (Err Memory) h is (inr (refl, kept_open name h (creates name w) begins))
   back_told (Err (Limit reached most)) (passes, (h, is, begins)) =
       with_told (Err (Limit reached most)) h is (passes, (refl, kept_open name h (creates name w) begins))
   back_told (Err (Defect e)) left = absurd left
 
-module _ (p : Params) (m : Making) (name : List ℕ) (w : World) (world : Option World) (held : Option Held)
+module _ (p : Params) (m : Making) (commits name : List ℕ) (w : World) (world : Option World) (held : Option Held)
     (keeps : ComesBack name w world held) where
   abbrev later : Held → World
   later h = keeps_disk name h (creates name w)
@@ -77,11 +79,11 @@ module _ (p : Params) (m : Making) (name : List ℕ) (w : World) (world : Option
       })
 
   -- and this is what a crash leaves
-  pub back_crash : {V : Type 0} (result : Result V GenerateError) → HoldsNow held (λ h. MadeCrash (IsMadeFile p m) h.log result)
-      → (v' : World) → world ≡ Some v' → LeavesMade name p m v' result
+  pub back_crash : {V : Type 0} (result : Result V GenerateError) → HoldsNow held (λ h. MadeCrash (IsMade p m commits) h.log result)
+      → (v' : World) → world ≡ Some v' → LeavesMade name p m commits v' result
   back_crash result crash v' is' =
       let same : later crash.0 ≡ v' = some_is _ _ (sym (keeps crash.0 crash.1) ∙ is') in
-      subst (λ (v : World). LeavesMade name p m v result) same (record {
+      subst (λ (v : World). LeavesMade name p m commits v result) same (record {
         at = record { bytes = crash.0.image; log = Some crash.0.log };
         log = crash.0.log;
         there = stored_kept (creates name w).files name (record { bytes = crash.0.image; log = Some crash.0.log });
@@ -90,22 +92,23 @@ module _ (p : Params) (m : Making) (name : List ℕ) (w : World) (world : Option
       })
 
 -- no disk was made, and all stays
-pub unmade_told : {V : Type 0} (order : V → List ℕ) (p : Params) (m : Making) (name : List ℕ) (w : World) (world : Option World)
-    (r : Refused) → world ≡ Some w → IsBack order p m name w world (Err (generate_refusal r))
-unmade_told order p m name w world refused.Failed is = (w, is, refl, refl, λ other differs. refl, inl (refl, refl))
-unmade_told order p m name w world refused.Memory is = (w, is, refl, refl, λ other differs. refl, inl (refl, refl))
+pub unmade_told : {V : Type 0} (order : V → List ℕ) (p : Params) (m : Making) (commits name : List ℕ) (w : World) (world : Option World)
+    (r : Refused) → world ≡ Some w → IsBack order p m commits name w world (Err (generate_refusal r))
+unmade_told order p m commits name w world refused.Failed is = (w, is, refl, refl, λ other differs. refl, inl (refl, refl))
+unmade_told order p m commits name w world refused.Memory is = (w, is, refl, refl, λ other differs. refl, inl (refl, refl))
 
-pub unmade_crash : {V : Type 0} (name : List ℕ) (p : Params) (m : Making) (old new : Option World) (result : Result V GenerateError)
-    → new ≡ old → MadeCrashTold name p m old new result
-unmade_crash name p m old new result stays w w' is is' made = absurd (none_made name old new stays w w' is is' made)
+pub unmade_crash : {V : Type 0} (name : List ℕ) (p : Params) (m : Making) (commits : List ℕ) (old new : Option World)
+    (result : Result V GenerateError) → new ≡ old → MadeCrashTold name p m commits old new result
+unmade_crash name p m commits old new result stays w w' is is' made = absurd (none_made name old new stays w w' is is' made)
 
 -- memory was wanting before anything was asked for
 pub nothing_done : {V : Type 0} (order : V → List ℕ) (p : Params) (m : Making) (name : List ℕ) (host : HostState)
     → MakesFile order name p m host host (Err Memory)
 nothing_done {V} order p m name host = record {
-  told = λ w is. unmade_told order p m name w host.world refused.Memory is;
+  commits = [];
+  told = λ w is. unmade_told order p m [] name w host.world refused.Memory is;
   order_kept = nothing_made name host.world host.world refl;
-  crash = unmade_crash name p m host.world host.world (Err Memory) refl;
+  crash = unmade_crash name p m [] host.world host.world (Err Memory) refl;
   asked = (0, sym (append-nil host.asked));
   served = record {
     later = omega arith;
@@ -148,12 +151,13 @@ made_back order p m name old mid new made disk disk' result begun fresh wrote ke
     let keeps : (w : World) → old.world ≡ Some w → ComesBack name w new.world disk'.held =
     λ w is h held. kept.world name h (creates name w) (begun.ok w is) refl held in
     record {
-      told = λ w is. back_told order p m name w new.world disk'.held (keeps w is) result (wrote.left (fresh.held w is));
+      commits = wrote.commits;
+      told = λ w is. back_told order p m wrote.commits name w new.world disk'.held (keeps w is) result (wrote.left (fresh.held w is));
       order_kept = λ w w' is is' made-disk.
-          back_in_order p m name w new.world disk'.held (keeps w is) old.world disk.held (fresh.held w is) wrote.order_kept w w' is is'
-          made-disk;
+          back_in_order p m wrote.commits name w new.world disk'.held (keeps w is) old.world disk.held (fresh.held w is) wrote.order_kept w
+          w' is is' made-disk;
       crash = λ w w' is is' made-disk.
-          back_crash p m name w new.world disk'.held (keeps w is) result (wrote.crash (fresh.held w is)) w' is';
+          back_crash p m wrote.commits name w new.world disk'.held (keeps w is) result (wrote.crash (fresh.held w is)) w' is';
       asked = asks_all result old.asked new.asked (Out name ∷ []) (kept.back.asked ∙ begun.asks.ok);
       served = served_back old mid new disk'.faults result begun.asks.cause.later begun.asks.err_faults begun.asks.opened kept.back
           wrote.failed;
@@ -163,9 +167,10 @@ made_back order p m name old mid new made disk disk' result begun fresh wrote ke
 pub made_none : {V T : Type 0} (order : V → List ℕ) (p : Params) (m : Making) (name : List ℕ) (old new : HostState) (r : Refused)
     → Creates {T = T} name old new (Err r) → MakesFile order name p m old new (Err (generate_refusal r))
 made_none order p m name old new r begun = record {
-  told = λ w is. unmade_told order p m name w new.world r (begun.err ∙ is);
+  commits = [];
+  told = λ w is. unmade_told order p m [] name w new.world r (begun.err ∙ is);
   order_kept = nothing_made name old.world new.world begun.err;
-  crash = unmade_crash name p m old.world new.world (Err (generate_refusal r)) begun.err;
+  crash = unmade_crash name p m [] old.world new.world (Err (generate_refusal r)) begun.err;
   asked = asks_refused r old.asked new.asked (Out name) begun.asks.failed begun.asks.memory;
   served = record {
     later = begun.asks.cause.later;

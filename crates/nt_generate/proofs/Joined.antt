@@ -21,11 +21,12 @@ use Rattle.nt_store.specs.Worlds.{IsThereWith, AsksFor, MakesDisk, IsWrittenInOr
 use Rattle.nt_store.proofs.Asking.{asks_front}
 use Rattle.nt_generate.specs.declared.error.GenerateError.{GenerateError}
 use Rattle.nt_generate.specs.declared.error.GenerateError.TheVariants.{Outside, Memory, Limit, Defect}
-use Rattle.nt_generate.specs.Made.{made_lines, IsMade, IsMadeFile}
+use Rattle.nt_generate.specs.Made.{made_lines, IsMade}
 use Rattle.nt_generate.specs.Writing.{MadeCrash}
 use Rattle.nt_generate.specs.Leaving.{IsServed, LeavesMade, MakeTold, TellTold, PrintsTotalsFront}
 use Rattle.nt_generate.specs.Leaving.{MakesFile, TellsTotals}
 use Rattle.nt_generate.specs.Generated.{GainsMadeFront, GenerateTold, Generates}
+use Rattle.nt_generate.proofs.Told.{tells_as}
 
 some_is : (a b : World) → ◌≡◌ {A = Option World} (Some a) (Some b) → a ≡ b
 some_is a b e = cc
@@ -64,27 +65,23 @@ gains_none p m w w' same =
     record { printed = []; left = made_lines p m; out = same ∙ sym (append-nil w.out); lines = refl }
 
 -- so much was printed then
-pub record HasPrinted (p : Params) (m : Making) (name : List ℕ) (w w1 : World) (new : Option World) (result : Result Unit GenerateError) :
-    Type 0 where
+pub record HasPrinted (p : Params) (m : Making) (commits name : List ℕ) (w w1 : World) (new : Option World)
+    (result : Result Unit GenerateError) : Type 0 where
   pub printed : List ℕ
   pub is : new ≡ Some (prints ToOut printed w1)
-  pub told : GenerateTold name p m w (prints ToOut printed w1) result
+  pub told : GenerateTold name p m commits w (prints ToOut printed w1) result
 
 module _ (p : Params) (m : Making) (name : List ℕ) (w w1 : World) (out_is : w1.out ≡ w.out) where
   -- a file that isn't made
-  unmade : {V : Type 0} (order : V → List ℕ) (e : GenerateError) → MakeTold order p m name w w1 (Err e)
-      → GenerateTold name p m w w1 (Err e)
-  unmade order Outside told = (told, gains_none p m w w1 out_is)
-  unmade order Memory (inl kept) = (inl kept, gains_none p m w w1 out_is)
-  unmade order Memory (inr opens) = (inr (opens.0, inl opens.1), gains_none p m w w1 out_is)
-  unmade order (Limit reached most) told = (told.0, told.1, out_is)
-  unmade order (Defect e) told = absurd told
+  unmade : {V : Type 0} (order : V → List ℕ) (commits : List ℕ) (e : GenerateError) → MakeTold order p m commits name w w1 (Err e)
+      → GenerateTold name p m commits w w1 (Err e)
+  unmade order commits Outside told = (told, gains_none p m w w1 out_is)
+  unmade order commits Memory (inl kept) = (inl kept, gains_none p m w w1 out_is)
+  unmade order commits Memory (inr opens) = (inr (opens.0, inl opens.1), gains_none p m w w1 out_is)
+  unmade order commits (Limit reached most) told = (told.0, told.1, out_is)
+  unmade order commits (Defect e) told = absurd told
 
   module _ (order : List ℕ) (made : MakesDisk name w w1) (whole : IsThereWith (IsMade p m order) (file w1 name)) where
-    is_whole : IsThereWith (IsMadeFile p m) (file w1 name)
-    is_whole =
-        both_there (IsMade p m order) (IsMade p m order) (IsMadeFile p m) (file w1 name) (λ bytes one other. (order, one)) whole whole
-
     gains : (printed left : List ℕ) → made_lines p m ≡ printed ++ left → GainsMadeFront p m w (prints ToOut printed w1)
     gains printed left lines =
         record { printed = printed; left = left; out = ap (λ (l : List ℕ). l ++ printed) out_is; lines = lines }
@@ -101,7 +98,7 @@ module _ (p : Params) (m : Making) (name : List ℕ) (w w1 : World) (out_is : w1
 
     -- the totals were told, or why not
     pub printed_told : (new : Option World) (result : Result Unit GenerateError)
-        → TellTold m.contexts order (file w1 name) w1 new result → HasPrinted p m name w w1 new result
+        → TellTold m.contexts order (file w1 name) w1 new result → HasPrinted p m order name w w1 new result
     printed_told new (Ok done) told =
         let is = there_then _ _ (file w1 name) (λ bytes fact. fact) (both_there _ _
         (λ bytes. new ≡ Some (prints ToOut (made_lines p m) w1)) (file w1 name)
@@ -109,18 +106,18 @@ module _ (p : Params) (m : Making) (name : List ℕ) (w w1 : World) (out_is : w1
         record {
           printed = made_lines p m;
           is = is;
-          told = (made, is_whole, ap (λ (l : List ℕ). l ++ made_lines p m) out_is);
+          told = (made, whole, ap (λ (l : List ℕ). l ++ made_lines p m) out_is);
         }
     printed_told new (Err Outside) told =
         let front = front_at new told in
         record {
           printed = front.0;
           is = front.2;
-          told = (inr (made, inr (inr is_whole)), gains front.0 front.1 front.3);
+          told = (inr (made, inr (inr whole)), gains front.0 front.1 front.3);
         }
     printed_told new (Err Memory) told =
         let front = front_at new told in
-        record { printed = front.0; is = front.2; told = (inr (made, inr is_whole), gains front.0 front.1 front.3) }
+        record { printed = front.0; is = front.2; told = (inr (made, inr whole), gains front.0 front.1 front.3) }
     printed_told new (Err (Limit reached most)) told = absurd told
     printed_told new (Err (Defect e)) told =
         absurd (there_then _ _ (file w1 name) (λ bytes fact. fact) (both_there _ _ (λ bytes. ⊥) (file w1 name)
@@ -175,9 +172,10 @@ crash_as V W P log (Defect e) leaves = leaves
 pub ends_unmade : {V : Type 0} (order : V → List ℕ) (name : List ℕ) (p : Params) (m : Making) (old new : HostState) (e : GenerateError)
     → MakesFile order name p m old new (Err e) → Generates name p m old new (Err e)
 ends_unmade {V} order name p m old new e makes = record {
+  commits = makes.commits;
   told = λ w is.
       let back = makes.told w is in
-      (back.0, back.1, back.2, back.4, unmade p m name w back.0 back.3 order e back.5);
+      (back.0, back.1, back.2, back.4, unmade p m name w back.0 back.3 order makes.commits e back.5);
   order = makes.order_kept;
   crash = λ w w' is is' made.
       let left = makes.crash w w' is is' made in
@@ -186,7 +184,7 @@ ends_unmade {V} order name p m old new e makes = record {
         log = left.log;
         there = left.there;
         steps = left.steps;
-        leaves = crash_as V (Unit {0}) (IsMadeFile p m) left.log e left.leaves;
+        leaves = crash_as V (Unit {0}) (IsMade p m makes.commits) left.log e left.leaves;
       };
   asked =
       asks_front old.asked new.asked (Out name ∷ File name ∷ []) (take makes.asked.0 (Out name ∷ []))
@@ -210,15 +208,18 @@ pub ends_told : {V : Type 0} (order : V → List ℕ) (name : List ℕ) (p : Par
     (result : Result Unit GenerateError) → MakesFile order name p m old mid (Ok made)
     → TellsTotals name m.contexts (order made) mid new result → Generates name p m old new result
 ends_told order name p m old mid new made result makes tells = record {
+  commits = makes.commits;
   told = λ w is.
       let back = makes.told w is in
-      let done = printed_told p m name w back.0 back.3 (order made) back.5.0 back.5.1 new.world result (tells.told back.0 back.1) in
+      let tells' = tells_as name m.contexts (order made) makes.commits mid new result back.5.0 tells in
+      let done = printed_told p m name w back.0 back.3 makes.commits back.5.1 back.5.2 new.world result (tells'.told back.0 back.1) in
       (prints ToOut done.printed back.0, done.is, back.2, back.4, done.told);
   order = λ w w' is is' made-disk.
       let back = makes.told w is in
-      let done = printed_told p m name w back.0 back.3 (order made) back.5.0 back.5.1 new.world result (tells.told back.0 back.1) in
+      let tells' = tells_as name m.contexts (order made) makes.commits mid new result back.5.0 tells in
+      let done = printed_told p m name w back.0 back.3 makes.commits back.5.1 back.5.2 new.world result (tells'.told back.0 back.1) in
       let same : prints ToOut done.printed back.0 ≡ w' = some_is _ _ (sym done.is ∙ is') in
-      let left = makes.order_kept w back.0 is back.1 back.5.0 in
+      let left = makes.order_kept w back.0 is back.1 back.5.1 in
       subst (IsWrittenInOrder name) same (record {
         at = left.at;
         log = left.log;
@@ -228,17 +229,18 @@ ends_told order name p m old mid new made result makes tells = record {
       });
   crash = λ w w' is is' made-disk.
       let back = makes.told w is in
-      let done = printed_told p m name w back.0 back.3 (order made) back.5.0 back.5.1 new.world result (tells.told back.0 back.1) in
+      let tells' = tells_as name m.contexts (order made) makes.commits mid new result back.5.0 tells in
+      let done = printed_told p m name w back.0 back.3 makes.commits back.5.1 back.5.2 new.world result (tells'.told back.0 back.1) in
       let same : prints ToOut done.printed back.0 ≡ w' = some_is _ _ (sym done.is ∙ is') in
-      let left = makes.crash w back.0 is back.1 back.5.0 in
-      subst (λ (v : World). LeavesMade name p m v result) same (record {
+      let left = makes.crash w back.0 is back.1 back.5.1 in
+      subst (λ (v : World). LeavesMade name p m makes.commits v result) same (record {
         at = left.at;
         log = left.log;
         there = left.there;
         steps = left.steps;
-        leaves = crash_later (IsMadeFile p m) left.log made result
-            (λ reached most. no_limit m.contexts (order made) (file back.0 name) back.0 new.world result reached most
-            (tells.told back.0 back.1)) left.leaves;
+        leaves = crash_later (IsMade p m makes.commits) left.log made result
+            (λ reached most. no_limit m.contexts makes.commits (file back.0 name) back.0 new.world result reached most
+            (tells'.told back.0 back.1)) left.leaves;
       });
   asked = asks_both old.asked mid.asked new.asked (Out name) (File name) result makes.asked tells.asked;
   served = served_on old mid new (Ok made) result makes.served tells.served;

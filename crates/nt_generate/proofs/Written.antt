@@ -1,5 +1,5 @@
 -- What the writing of events that are made leaves on a disk.
-use Rattle.std.proofs.Common.{◌≡◌, ◌⊎◌, inl, inr, sym, subst, refl, ℕ, ◌<◌, List, Option, Some, Result, Ok, Err}
+use Rattle.std.proofs.Common.{◌≡◌, ◌⊎◌, inl, inr, sym, subst, refl, ℕ, ◌<◌, List, [], Option, Some, Result, Ok, Err}
 use Rattle.std.specs.Prelude.{IsErrOf}
 use Rattle.nt_types.specs.ShapeData.{MemberData}
 use Rattle.nt_outside.specs.Source.{SourceState}
@@ -27,7 +27,7 @@ use Rattle.nt_store.specs.Worlds.{SomeFailed}
 use Rattle.nt_generate.specs.declared.error.GenerateError.{GenerateError}
 use Rattle.nt_generate.specs.declared.error.GenerateError.TheVariants.{Outside, Memory, Limit, Defect}
 use Rattle.nt_generate.specs.Errors.{generate_unwritten}
-use Rattle.nt_generate.specs.Made.{made_texts, IsMade, IsMadeFile, MadeAreRead}
+use Rattle.nt_generate.specs.Made.{made_texts, IsMade, MadeAreRead}
 use Rattle.nt_generate.specs.Writing.{WriteLeaves, MadeCrash, WritesMade, ClosesMade}
 use Rattle.nt_generate.proofs.Stored.{made_stored, made_passes}
 
@@ -62,19 +62,21 @@ of_no_text T p m (store.Line input line kind) read why = not_sound event_fields 
 
 module _ {V : Type 0} (order : V → List ℕ) (p : Params) (m : Making) (read : MadeAreRead m) where
   -- why it isn't filled, and what is left then
-  pub unfilled_leaves : (T : Type 0) (e : StoreError) (held : Option Held) → WhyUnfilled {T = T} event_fields p (made_texts m) (Err e)
-      → FillLeaves event_fields p (made_texts m) held (Err e) → WriteLeaves order p m held (Err (generate_unwritten e))
-  unfilled_leaves T store.Outside held why (h, is, inl begins) = (h, is, inl begins)
-  unfilled_leaves T store.Outside held why (h, is, inr never) = (h, is, inr (inl never))
-  unfilled_leaves T store.Memory held why left = left
-  unfilled_leaves T (store.Limit reached most) held why left = (made_passes p m read reached most why, left)
-  unfilled_leaves T (store.Schema line kind) held why left = absurd why
-  unfilled_leaves T (store.Line input line kind) held why left =
+  pub unfilled_leaves : (T : Type 0) (commits : List ℕ) (e : StoreError) (held : Option Held)
+      → WhyUnfilled {T = T} event_fields p (made_texts m) (Err e) → FillLeaves event_fields p (made_texts m) held (Err e)
+      → WriteLeaves order p m commits held (Err (generate_unwritten e))
+  unfilled_leaves T commits store.Outside held why (h, is, inl begins) = (h, is, inl begins)
+  unfilled_leaves T commits store.Outside held why (h, is, inr never) = (h, is, inr (inl never))
+  unfilled_leaves T commits store.Memory held why left = left
+  unfilled_leaves T commits (store.Limit reached most) held why left = (made_passes p m read reached most why, left)
+  unfilled_leaves T commits (store.Schema line kind) held why left = absurd why
+  unfilled_leaves T commits (store.Line input line kind) held why left =
       absurd (not_sound event_fields (made_texts m) input line kind read.sound why)
 
   module _ (t : Table) (book : BookData) (old new : DiskState) where
-    turn : (bytes : List ℕ) → IsStored p event_fields (made_texts m) (commit_order book) bytes → IsMadeFile p m bytes
-    turn bytes stored = (commit_order book, made_stored p m read (commit_order book) bytes stored)
+    turn : (bytes : List ℕ) → IsStored p event_fields (made_texts m) (commit_order book) bytes
+        → IsMade p m (commit_order book) bytes
+    turn bytes stored = made_stored p m read (commit_order book) bytes stored
 
     -- it is closed
     pub closed_made : (made : V) → order made ≡ commit_order book → ClosesFile t p book old new (Ok tt)
@@ -83,12 +85,7 @@ module _ {V : Type 0} (order : V → List ℕ) (p : Params) (m : Making) (read :
       left = λ h is filled.
           let left = closes.left event_fields (made_texts m) h is filled in
           let crash = closes.crash event_fields (made_texts m) h is filled in (
-            (
-              left.0,
-              left.1,
-              subst (λ (l : List ℕ). IsMade p m l left.0.image) (sym order-is)
-                  (made_stored p m read (commit_order book) left.0.image left.2),
-            ),
+            (order-is, (left.0, left.1, turn left.0.image left.2)),
             (crash.0, crash.1, (or_as _ _ crash.0.log turn crash.2.0, λ bytes may. turn bytes (crash.2.1 bytes may))),
           );
       order_kept = closes.order;
@@ -96,7 +93,7 @@ module _ {V : Type 0} (order : V → List ℕ) (p : Params) (m : Making) (read :
     }
 
     unclosed_leaves : (e : StoreError) → CloseLeaves event_fields p (made_texts m) (commit_order book) new.held (Err e)
-        → WriteLeaves order p m new.held (Err (generate_unwritten e))
+        → WriteLeaves order p m (commit_order book) new.held (Err (generate_unwritten e))
     unclosed_leaves store.Outside (h, is, inl begins) = (h, is, inl begins)
     unclosed_leaves store.Outside (h, is, inr stored) = (h, is, inr (inr (turn h.image stored)))
     unclosed_leaves store.Memory left = left
@@ -106,9 +103,9 @@ module _ {V : Type 0} (order : V → List ℕ) (p : Params) (m : Making) (read :
 
     unclosed_crash : (e : StoreError) (log : List Step)
         → CrashLeaves (IsStored p event_fields (made_texts m) (commit_order book)) log (Err e) → IsOfNoText e
-        → MadeCrash {V = V} (IsMadeFile p m) log (Err (generate_unwritten e))
+        → MadeCrash {V = V} (IsMade p m (commit_order book)) log (Err (generate_unwritten e))
     unclosed_crash store.Outside log leaves none = or_as _ _ log turn leaves
-    unclosed_crash store.Memory log leaves none = or_unfinished (IsMadeFile p m) log leaves
+    unclosed_crash store.Memory log leaves none = or_unfinished (IsMade p m (commit_order book)) log leaves
     unclosed_crash (store.Limit reached most) log leaves none = leaves
     unclosed_crash (store.Schema line kind) log leaves none = absurd none
     unclosed_crash (store.Line input line kind) log leaves none = absurd none
@@ -132,7 +129,7 @@ pub unordered_made : {V : Type 0} (order : V → List ℕ) (p : Params) (m : Mak
 unordered_made order p m t book old new same = record {
   left = λ h is filled. (
     (h, held_same h is, shut_open h.image filled.shut),
-    (h, held_same h is, or_unfinished (IsMadeFile p m) h.log filled.unfinished),
+    (h, held_same h is, or_unfinished (IsMade p m (commit_order book)) h.log filled.unfinished),
   );
   order_kept = λ h is. (h, held_same h is, λ shut kept. kept);
   failed = λ is. absurd (cc is);
@@ -171,13 +168,14 @@ pub unfilled_made : {V : Type 0} (order : V → List ℕ) (p : Params) (m : Maki
 unfilled_made {V} order p m e r sources sources' old new read is fills texts none =
     let why = err_why event_fields p (made_texts m) r e is (fills.why (made_texts m) texts) in
     record {
+      commits = [];
       left = λ held.
-          unfilled_leaves order p m read (Unit {0}) e new.held why
+          unfilled_leaves order p m read (Unit {0}) [] e new.held why
           (err_left event_fields p (made_texts m) new.held r e is (fills.left (made_texts m) texts held));
       order_kept = fills.order;
       crash = λ held.
           let left = fills.crash held in
-          (left.0, left.1, crash_open V (IsMadeFile p m) left.0.log (generate_unwritten e) left.2);
+          (left.0, left.1, crash_open V (IsMade p m []) left.0.log (generate_unwritten e) left.2);
       failed =
           unfilled_failed e new.faults (SomeFailed sources') none (of_no_text (Unit {0}) p m e read why)
           (err_fails ((0 < new.faults) ⊎ SomeFailed sources') r e is fills.failed);

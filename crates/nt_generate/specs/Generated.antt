@@ -17,26 +17,28 @@ pub record GainsMadeFront (p : Params) (m : Making) (w w' : World) : Type 0 wher
   pub lines : made_lines p m ≡ printed ++ left
 
 -- where want of memory leaves the files: as before, or, once a disk was made, with one that is open or whole
-abbrev pub IsMadeByMemory : Params → Making → List ℕ → World → World → Type 0
-IsMadeByMemory p m name w w' = KeepsFiles w w' ⊎ (MakesDisk name w w' × (IsLeftOpen name w' ⊎ IsWhole p m name w'))
+abbrev pub IsMadeByMemory : Params → Making → List ℕ → List ℕ → World → World → Type 0
+IsMadeByMemory p m commits name w w' = KeepsFiles w w' ⊎ (MakesDisk name w w' × (IsLeftOpen name w' ⊎ IsWhole p m commits name w'))
 
--- what is left, by the answer: that the file read back has a fault never comes
-abbrev pub GenerateTold : List ℕ → Params → Making → World → World → Result Unit GenerateError → Type 0
-GenerateTold name p m w w' (Ok done) = MakesDisk name w w' × IsWhole p m name w' × (w'.out ≡ w.out ++ made_lines p m)
-GenerateTold name p m w w' (Err Outside) = IsMadeByFailure p m name w w' × GainsMadeFront p m w w'
-GenerateTold name p m w w' (Err Memory) = IsMadeByMemory p m name w w' × GainsMadeFront p m w w'
-GenerateTold name p m w w' (Err (Limit reached most)) = PassesMade p m reached most × LeavesOpen name w w' × (w'.out ≡ w.out)
-GenerateTold name p m w w' (Err (Defect e)) = ⊥
+-- what is left of what was committed in this order, by the answer: that the file read back has a fault never comes
+abbrev pub GenerateTold : List ℕ → Params → Making → List ℕ → World → World → Result Unit GenerateError → Type 0
+GenerateTold name p m commits w w' (Ok done) = MakesDisk name w w' × IsWhole p m commits name w' × (w'.out ≡ w.out ++ made_lines p m)
+GenerateTold name p m commits w w' (Err Outside) = IsMadeByFailure p m commits name w w' × GainsMadeFront p m w w'
+GenerateTold name p m commits w w' (Err Memory) = IsMadeByMemory p m commits name w w' × GainsMadeFront p m w w'
+GenerateTold name p m commits w w' (Err (Limit reached most)) = PassesMade p m reached most × LeavesOpen name w w' × (w'.out ≡ w.out)
+GenerateTold name p m commits w w' (Err (Defect e)) = ⊥
 
 -- a file is made and read back, or why not
 pub record Generates (name : List ℕ) (p : Params) (m : Making) (old new : HostState) (result : Result Unit GenerateError) : Type 0 where
+  -- the order of the commits, one for what is told and for a crash
+  pub commits : List ℕ
   -- where the host tells what it holds
   pub told : (w : World) → old.world ≡ Some w
-      → (w' : World) × (new.world ≡ Some w') × (w'.err ≡ w.err) × OthersStay name w w' × GenerateTold name p m w w' result
+      → (w' : World) × (new.world ≡ Some w') × (w'.err ≡ w.err) × OthersStay name w w' × GenerateTold name p m commits w w' result
   -- where the file was begun, its first byte came only when all the rest stayed
   pub order : WritesInOrder name old.world new.world
   -- and a crash leaves it unfinished or whole
-  pub crash : MadeCrashTold name p m old.world new.world result
+  pub crash : MadeCrashTold name p m commits old.world new.world result
   pub asked : AsksFor (Out name ∷ File name ∷ []) old.asked new.asked result
   -- the outside is blamed only where it failed, and each object that was opened came back
   pub served : IsServed old new result

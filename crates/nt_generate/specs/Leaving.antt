@@ -13,7 +13,7 @@ use Rattle.nt_generate.specs.Lines.{total_lines}
 use Rattle.nt_generate.specs.ReadTotals.{totals_in}
 use Rattle.nt_generate.specs.declared.error.GenerateError.{GenerateError}
 use Rattle.nt_generate.specs.declared.error.GenerateError.TheVariants.{Outside, Memory, Limit, Defect}
-use Rattle.nt_generate.specs.Made.{IsMade, IsMadeFile, PassesMade}
+use Rattle.nt_generate.specs.Made.{IsMade, PassesMade}
 use Rattle.nt_generate.specs.Writing.{MadeCrash}
 
 -- the count of a host never falls, and it rose where the outside failed; as many objects are out, and no print on err failed
@@ -22,42 +22,47 @@ pub record IsServed {V : Type 0} (old new : HostState) (result : Result V Genera
   pub failed : IsErrOf result Outside → Rose old.faults new.faults
   pub back : LeavesOut 0 old new
 
--- the file of this name is whole
-abbrev pub IsWhole : Params → Making → List ℕ → World → Type 0
-IsWhole p m name w = IsThereWith (IsMadeFile p m) (file w name)
+-- the file of this name is whole, in this order of the commits
+abbrev pub IsWhole : Params → Making → List ℕ → List ℕ → World → Type 0
+IsWhole p m commits name w = IsThereWith (IsMade p m commits) (file w name)
 
 -- where a failure leaves the files: as before, or, once a disk was made, with one that is open, never begun or whole
-abbrev pub IsMadeByFailure : Params → Making → List ℕ → World → World → Type 0
-IsMadeByFailure p m name w w' = KeepsFiles w w' ⊎ (MakesDisk name w w' × (IsLeftOpen name w' ⊎ IsNeverBegun name w' ⊎ IsWhole p m name w'))
+abbrev pub IsMadeByFailure : Params → Making → List ℕ → List ℕ → World → World → Type 0
+IsMadeByFailure p m commits name w w' =
+    KeepsFiles w w' ⊎ (MakesDisk name w w' × (IsLeftOpen name w' ⊎ IsNeverBegun name w' ⊎ IsWhole p m commits name w'))
 
 -- what is left once the disk is back, by the answer
-abbrev pub MakeTold : {V : Type 0} → (V → List ℕ) → Params → Making → List ℕ → World → World → Result V GenerateError → Type 0
-MakeTold order p m name w w' (Ok made) = MakesDisk name w w' × IsThereWith (IsMade p m (order made)) (file w' name)
-MakeTold order p m name w w' (Err Outside) = IsMadeByFailure p m name w w'
-MakeTold order p m name w w' (Err Memory) = IsLeftByMemory name w w'
-MakeTold order p m name w w' (Err (Limit reached most)) = PassesMade p m reached most × LeavesOpen name w w'
-MakeTold order p m name w w' (Err (Defect e)) = ⊥
+abbrev pub MakeTold : {V : Type 0} → (V → List ℕ) → Params → Making → List ℕ → List ℕ → World → World → Result V GenerateError → Type 0
+MakeTold order p m commits name w w' (Ok made) = (order made ≡ commits) × MakesDisk name w w' × IsWhole p m commits name w'
+MakeTold order p m commits name w w' (Err Outside) = IsMadeByFailure p m commits name w w'
+MakeTold order p m commits name w w' (Err Memory) = IsLeftByMemory name w w'
+MakeTold order p m commits name w w' (Err (Limit reached most)) = PassesMade p m reached most × LeavesOpen name w w'
+MakeTold order p m commits name w w' (Err (Defect e)) = ⊥
 
 -- the file of this name was written by a disk that told its steps, and this is what a crash at any of them leaves
-pub record LeavesMade {V : Type 0} (name : List ℕ) (p : Params) (m : Making) (w' : World) (result : Result V GenerateError) : Type 0 where
+pub record LeavesMade {V : Type 0} (name : List ℕ) (p : Params) (m : Making) (commits : List ℕ) (w' : World)
+    (result : Result V GenerateError) : Type 0 where
   pub at : Stored
   pub log : List Step
   pub there : stored w' name ≡ Some at
   pub steps : at.log ≡ Some log
-  pub leaves : MadeCrash (IsMadeFile p m) log result
+  pub leaves : MadeCrash (IsMade p m commits) log result
 
 -- the same, where a disk of this name was made
-abbrev pub MadeCrashTold : {V : Type 0} → List ℕ → Params → Making → Option World → Option World → Result V GenerateError → Type 0
-MadeCrashTold name p m old new result =
-    (w w' : World) → old ≡ Some w → new ≡ Some w' → MakesDisk name w w' → LeavesMade name p m w' result
+abbrev pub MadeCrashTold : {V : Type 0} → List ℕ → Params → Making → List ℕ → Option World → Option World → Result V GenerateError
+    → Type 0
+MadeCrashTold name p m commits old new result =
+    (w w' : World) → old ≡ Some w → new ≡ Some w' → MakesDisk name w w' → LeavesMade name p m commits w' result
 
 -- a file is made, or why not
 pub record MakesFile {V : Type 0} (order : V → List ℕ) (name : List ℕ) (p : Params) (m : Making) (old new : HostState)
     (result : Result V GenerateError) : Type 0 where
+  -- the order of the commits, one for what is told and for a crash
+  pub commits : List ℕ
   pub told : (w : World) → old.world ≡ Some w → (w' : World) × (new.world ≡ Some w') × (w'.err ≡ w.err) × (w'.out ≡ w.out)
-      × OthersStay name w w' × MakeTold order p m name w w' result
+      × OthersStay name w w' × MakeTold order p m commits name w w' result
   pub order_kept : WritesInOrder name old.world new.world
-  pub crash : MadeCrashTold name p m old.world new.world result
+  pub crash : MadeCrashTold name p m commits old.world new.world result
   pub asked : AsksFor (Out name ∷ []) old.asked new.asked result
   pub served : IsServed old new result
 

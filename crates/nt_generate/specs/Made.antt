@@ -44,10 +44,6 @@ pub record IsMade (p : Params) (m : Making) (order bytes : List ℕ) : Type 0 wh
   pub short : AllByRecursion (λ (c : Cluster ClusterMeta). c.len ≤ p.limits.range) (book_clusters laid.book)
   pub means : Means bytes table dealt
 
--- the same, in some order of commits
-abbrev pub IsMadeFile : Params → Making → List ℕ → Type 0
-IsMadeFile p m bytes = (order : List ℕ) × IsMade p m order bytes
-
 -- the chunks of what is made pass this limit
 pub record PassesMade (p : Params) (m : Making) (reached most : ℕ) : Type 0 where
   pub table : Table

@@ -37,6 +37,7 @@ returns-in-Ok g c =
     let fills = fills_made _ _ _ _ _ _ _ _ c.requires.may.fields_are c.fill_file-disk.ensures in
     let closes = c.close_made-closed.ensures m in
     record {
+      commits = _;
       left = λ held.
           let left = ok_filled event_fields c.args.settings.now.params.now (made_texts m) _ _ _ c.in-Ok.is
           (fills.left (made_texts m) c.requires.may.texts held) in
