@@ -60,6 +60,8 @@ runs words old mid new answer obeys reports bytes = record {
       (obeys.entries from count name said) reports;
   schema = λ name said. run_shows fields_shown name old mid new answer (obeys.schema name said) reports;
   usage = λ none. let refused = obeys.usage none in run_usage old mid new answer refused.0 refused.1 reports;
+  wrong = λ wrong.
+      let refused = obeys.usage (wrong_is_none words wrong) in run_usage old mid new answer refused.0 refused.1 reports;
   answers = obeys.answers;
   grammar = tells_files new bytes;
 }

@@ -93,6 +93,8 @@ pub record Runs (words : List (List ℕ)) (old new : HostState) (answer : Status
   pub entries : (from count : Option ℕ) (name : List ℕ) → IsEntries words from count name → RunsEntries from count name old new answer
   pub schema : (name : List ℕ) → IsSchemaCommand words name → RunsSchema name old new answer
   pub usage : IsNoCommand words → RefusesWords old new answer
+  -- which words that are wrong are
+  pub wrong : IsWrong words → RefusesWords old new answer
   pub answers : IsAnswerTo words answer
   -- the OUT that was written, the FILE that was shown, and any other file mean what they are by the grammar
   pub grammar : TellsFiles new
