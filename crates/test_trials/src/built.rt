@@ -11,7 +11,7 @@ use crate::running::{Fails, host_of};
 use nt_book::{Limits, Params};
 use nt_memory::{MemDisk, MemSource};
 use nt_outside::Host;
-use nt_store::{close_file, fill_file, read_schema};
+use nt_store::{Settings, close_file, fill_file, read_schema};
 use nt_types::Fields;
 use std::alloc::{AllocError, Global};
 use std::sync::Wait;
@@ -38,7 +38,13 @@ fn write_on<R: Threads + Wait + Sync>(
 {
     let gate = Points::new(&[], 0);
     let texts = vec![in alloc; text]?;
-    let (disk, _texts, filled) = fill_file(rt, alloc, disk, fields, params, texts, &gate);
+    let settings = Settings {
+        alloc,
+        params,
+        gate: &gate,
+        workers: 1,
+    };
+    let (disk, _texts, filled) = fill_file(rt, disk, fields, texts, &settings);
     let Ok((book, schema)) = filled else {
         return Ok(None);
     };
