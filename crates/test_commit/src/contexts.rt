@@ -130,7 +130,7 @@ fn finish_one<D: Disk>(
     answer: Result<Claim<D::Ext>, CommitError>,
 ) -> Done<D>
     requires pass { IsPassOf committer.now context.pass }
-    requires left { LeavesAtMostOne D.Ext.state context.pass.own context.pass.number
+    requires left { LeavesAtMostOne D.Ext.state (D.state committer.now.birth.begun).held context.pass.own context.pass.number
         (length context.image.bytes) answer }
     ensures { HasNoRange committer.now context.pass.number result.pass }
 {
