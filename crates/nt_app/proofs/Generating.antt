@@ -13,7 +13,7 @@ use Rattle.nt_generate.specs.declared.error.GenerateError.{GenerateError}
 use Rattle.nt_generate.specs.declared.error.GenerateError.TheVariants as generate
 use Rattle.nt_generate.specs.Made.{made_lines}
 use Rattle.nt_generate.specs.Leaving.{IsMadeByFailure, LeavesMade, MadeCrashTold}
-use Rattle.nt_generate.specs.Generated.{GainsMadeFront, GenerateTold, Generates}
+use Rattle.nt_generate.specs.Generated.{GainsMadeFront, GenerateTold}
 use Rattle.nt_app.specs.declared.status.Status.{Status}
 use Rattle.nt_app.specs.declared.status.Status.TheVariants as status
 use Rattle.nt_app.specs.Statuses.{message_of}

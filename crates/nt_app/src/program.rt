@@ -36,14 +36,16 @@ fn do_alone<H: Host>(alloc: Global, words: &[String], host: &mut H) -> Status
     let Ok(command) = alone_of(alloc, words) else {
         return Status::Memory;
     };
+    let Some(command) = command else {
+        return Status::Usage;
+    };
     match command {
-        Some(Alone::Seq(said)) => seq(alloc, host, &said),
-        Some(Alone::Entries { from, count, file }) => {
+        Alone::Seq(said) => seq(alloc, host, &said),
+        Alone::Entries { from, count, file } => {
             let from = from.unwrap_or(0);
             entries(alloc, host, EntryRange { from, count }, file)
         }
-        Some(Alone::Schema { file }) => schema(alloc, host, file),
-        None => Status::Usage,
+        Alone::Schema { file } => schema(alloc, host, file),
     }
 }
 
@@ -69,10 +71,12 @@ where
     let Ok(command) = parallel_of(alloc, words) else {
         return Status::Memory;
     };
+    let Some(command) = command else {
+        return Status::Usage;
+    };
     match command {
-        Some(Parallel::Write(said)) => write(rt, alloc, host, &said, gate),
-        Some(Parallel::Gen(said)) => make(rt, alloc, host, &said, gate),
-        None => Status::Usage,
+        Parallel::Write(said) => write(rt, alloc, host, &said, gate),
+        Parallel::Gen(said) => make(rt, alloc, host, &said, gate),
     }
 }
 

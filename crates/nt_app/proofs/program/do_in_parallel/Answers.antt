@@ -1,4 +1,4 @@
-use Rattle.std.proofs.Common.{◌≡◌, ◌∙◌, ap, subst, arith, Option, Some}
+use Rattle.std.proofs.Common.{◌∙◌, ap, subst, arith, Some}
 use Rattle.nt_command_line.specs.declared.command.Parallel.{Parallel}
 use Rattle.nt_command_line.specs.declared.command.Parallel.TheVariants.{Write}
 use Rattle.nt_command_line.specs.CommandLine.{texts}
@@ -10,27 +10,34 @@ use Rattle.nt_app.proofs.program.do_in_parallel.Goals as goal
 pub returns-in_default : goal.returns-in_default
 returns-in_default g c = no_memory _ _
 
-pub returns-in-None : goal.returns-in-None
-returns-in-None g c = wrong_words _ _ (subst (SaysParallel (texts c.args.words.now)) c.in-None.is c.in-Ok.ensures)
+pub returns-in_default-command : goal.returns-in_default-command
+returns-in_default-command g c = wrong_words _ _ (subst (SaysParallel (texts c.args.words.now)) c.in_default-command.is c.in-Ok.ensures)
 
-pub write-requires : goal.write-requires
-write-requires g c =
-    let is = c.in-Some-Write.is ∙ ap (λ (a : Parallel). Some a) c.in-Some-Write.field-0-is in
-    let says : SaysParallel (texts c.args.words.now) (Some (Write c.in-Some-Write.said)) =
+pub write-requires-clause-inputs : goal.write-requires-clause-inputs
+write-requires-clause-inputs g c κs within =
+    let is = c.in-Some.is ∙ ap (λ (a : Parallel). Some a) c.in-Write.is in
+    let says : SaysParallel (texts c.args.words.now) (Some (Write c.in-Write.said)) =
+    subst (SaysParallel (texts c.args.words.now)) is c.in-Ok.ensures in
+    (says.0.apart.some, says.0.apart.few)
+
+pub write-requires-clause-contexts : goal.write-requires-clause-contexts
+write-requires-clause-contexts g c κs within =
+    let is = c.in-Some.is ∙ ap (λ (a : Parallel). Some a) c.in-Write.is in
+    let says : SaysParallel (texts c.args.words.now) (Some (Write c.in-Write.said)) =
     subst (SaysParallel (texts c.args.words.now)) is c.in-Ok.ensures in
     let some = says.1.some in
-    record { inputs = (says.0.apart.some, says.0.apart.few); contexts = (omega (arith, some), says.1.few) }
+    (omega (arith, some), says.1.few)
 
-pub returns-in-Some-Write : goal.returns-in-Some-Write
-returns-in-Some-Write g c =
-    let said = c.in-Some-Write.said in
-    let is = c.in-Some-Write.is ∙ ap (λ (a : Parallel). Some a) c.in-Some-Write.field-0-is in
+pub returns-in-Write : goal.returns-in-Write
+returns-in-Write g c =
+    let said = c.in-Write.said in
+    let is = c.in-Some.is ∙ ap (λ (a : Parallel). Some a) c.in-Write.is in
     written_words _ said.out.now said.schema.now (names_of said.inputs.items) said.params _ _ _
     (subst (SaysParallel (texts c.args.words.now)) is c.in-Ok.ensures).0 c.write.ensures
 
-pub returns-in-Some-Gen : goal.returns-in-Some-Gen
-returns-in-Some-Gen g c =
-    let said = c.in-Some-Gen.said in
-    let is = c.in-Some-Gen.is ∙ ap (λ (a : Parallel). Some a) c.in-Some-Gen.field-0-is in
+pub returns-in-Gen : goal.returns-in-Gen
+returns-in-Gen g c =
+    let said = c.in-Gen.said in
+    let is = c.in-Some.is ∙ ap (λ (a : Parallel). Some a) c.in-Gen.is in
     made_words _ said.out.now said.making _ _ _
     (subst (SaysParallel (texts c.args.words.now)) is c.in-Ok.ensures) c.make.ensures
