@@ -23,7 +23,7 @@ use std::sync::Wait;
 /// The largest number of a line.
 const MAX_NUMBER: u64 = 1 << 48;
 
-/// GoesOnWith the next line, and says whether there was one.
+/// Takes the next line, and says whether there was one.
 fn take_next<D: Disk, S: Source, G: Gate>(
     rt: &impl Wait,
     alloc: Global,
@@ -56,7 +56,7 @@ fn take_next<D: Disk, S: Source, G: Gate>(
     }
 }
 
-/// WritesChunk what is gathered behind the last line.
+/// Writes what is gathered behind the last line.
 fn write_rest<D: Disk, G: Gate>(
     rt: &impl Wait,
     gate: &G,

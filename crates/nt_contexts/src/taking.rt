@@ -34,7 +34,7 @@ fn entry_of(alloc: Global, fields: &Fields, line: &Line) -> Result<Trees, Contex
     }
 }
 
-/// WritesChunk what is gathered as a cluster.
+/// Writes what is gathered as a cluster.
 pub(crate) fn write_gathered<D: Disk, G: Gate>(
     rt: &impl Wait,
     gate: &G,
@@ -50,7 +50,7 @@ pub(crate) fn write_gathered<D: Disk, G: Gate>(
     }
 }
 
-/// WritesChunk what is gathered, if that is a whole cluster.
+/// Writes what is gathered, if that is a whole cluster.
 fn write_full<D: Disk, G: Gate>(
     rt: &impl Wait,
     gate: &G,
@@ -68,7 +68,7 @@ fn write_full<D: Disk, G: Gate>(
     Ok(())
 }
 
-/// GoesOnWith a line: gathers its entry, by way of its trees where that can't be done without, and writes what is
+/// Takes a line: gathers its entry, by way of its trees where that can't be done without, and writes what is
 /// gathered once that is a whole cluster.
 pub(crate) fn take_line<D: Disk, G: Gate>(
     rt: &impl Wait,

@@ -17,7 +17,7 @@ use nt_reader::{ClusterRead, Reader};
 use nt_tfile::ReadFailure;
 use std::alloc::Global;
 
-/// PrintsSome the lines of those entries of a cluster that lie in the range.
+/// Gathers the lines of those entries of a cluster that lie in the range.
 fn put_entries<H: Host>(
     alloc: Global,
     host: &mut H,

@@ -85,7 +85,7 @@ fn field_told(
     Ok(Trees::from_vec(list))
 }
 
-/// PrintsSome the lines of all fields.
+/// Gathers the lines of all fields.
 fn put_fields<H: Host>(
     alloc: Global,
     host: &mut H,
