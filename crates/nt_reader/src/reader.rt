@@ -80,6 +80,14 @@ impl Reader {
         self.clusters[k as usize].entries
     }
 
+    /// What the page lists tell of a cluster: its entries, and where its pages lie.
+    pub fn listed(&self, k: u32) -> &ClusterList
+        requires { k < length self.now.clusters }
+        ensures { result.now ≡ numbered_cluster self.now k }
+    {
+        &self.clusters[k as usize]
+    }
+
     /// Reads a cluster: the pages of its open columns, and whether their values are those of entries.
     ///
     /// It takes memory for what the pages of the cluster hold, a column at a time.
