@@ -1,6 +1,6 @@
 //! A file that was attached to: its schema, and where its clusters lie.
 
-ghost use Rattle.std.specs.Prelude.{◌≡◌, ◌<◌, length};
+ghost use Rattle.std.specs.Prelude.{◌≡◌, ◌<◌, length, IfOk};
 ghost use Rattle.nt_file_meaning.specs.Outlines.{outline_of};
 ghost use Rattle.nt_tfile.specs.Calls.{Serves, ReadsFile};
 ghost use Rattle.nt_reader.specs.Outlines.{numbered_cluster, entries_in};
@@ -98,6 +98,7 @@ impl Reader {
         ensures file { Serves (F.state file.old) (F.state file.new) result }
         ensures read { ReadsFile (λ c. given_entries c)
             (entries_in self.now k) (F.state file.old) result }
+        ensures table { IfOk result (λ c. c.table ≡ self.now.table) }
     {
         self.cluster_in(alloc, file, k, None)
     }
@@ -115,6 +116,7 @@ impl Reader {
         ensures file { Serves (F.state file.old) (F.state file.new) result }
         ensures read { ReadsFile (λ c. given_entries c)
             (entries_in self.now k) (F.state file.old) result }
+        ensures table { IfOk result (λ c. c.table ≡ self.now.table) }
     {
         read_cluster(
             alloc,
