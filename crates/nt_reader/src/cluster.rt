@@ -15,7 +15,7 @@ ghost use Rattle.nt_reader.specs.Columns.{held_elements, given_entries};
 
 use crate::columns::read_columns;
 use crate::faults::{BAD_VALUE, fault_with, in_column};
-use nt_column::ColumnSet;
+use nt_column::{ColumnSet, Columns};
 use nt_join::{ValueFault, check_values};
 use nt_num::ReadError;
 use nt_outside::ReadAt;
@@ -30,22 +30,20 @@ use std::marker::Model;
 /// each column, and the number of entries; `given_entries` says what entries these give.
 #[derive(Drop)]
 pub struct ClusterRead<'a> {
-    schema: &'a Schema,
-    columns: ColumnSet,
-    entries: u64,
+    pub(crate) schema: &'a Schema,
+    pub(crate) columns: ColumnSet,
+    pub(crate) entries: u64,
 }
 
 impl<'a> Model for ClusterRead<'a> {
-    ghost use Rattle.nt_plans.specs.Place.{open_plans};
-    ghost use Rattle.nt_trees.specs.Sound.{AllSound};
     ghost use Rattle.nt_file_meaning.specs.Clusters.{columns_by_id};
-    ghost use Rattle.nt_reader.specs.Columns.{ClusterData, held_elements};
+    ghost use Rattle.nt_reader.specs.Columns.{ClusterData, held_elements, AreClusterColumns};
 
     ghost Value = { ClusterData };
 
     ghost view = { λ c. record { table = c.schema.now; columns = held_elements c.columns; entries = c.entries } };
 
-    ghost invariant = { λ c. AllSound (open_plans c.schema.now) (columns_by_id (held_elements c.columns)) c.entries };
+    ghost invariant = { λ c. AreClusterColumns c.schema.now (columns_by_id (held_elements c.columns)) c.entries };
 }
 
 impl<'a> ClusterRead<'a> {
@@ -155,9 +153,11 @@ pub fn read_cluster<'a, F: ReadAt>(
         (λ told. cluster_of told schema.now number cluster.now) (F.state file.old) result }
     ensures columns { ReadsFile (λ c. c.columns)
         (λ told. columns_in_cluster told schema.now number cluster.now) (F.state file.old) result }
+    ensures table { IfOk result (λ c. c.table ≡ schema.now) }
 {
     let size = file.size()?;
     let columns = read_columns(alloc, file, size, number, cluster, schema, kept)?;
+    columns.in_range();
     check(&columns, schema, number, cluster)?;
     Ok(ClusterRead {
         schema,

@@ -1,6 +1,6 @@
 //! A file that was attached to: its schema, and where its clusters lie.
 
-ghost use Rattle.std.specs.Prelude.{◌≡◌, ◌<◌, length, slice_get, Some};
+ghost use Rattle.std.specs.Prelude.{◌≡◌, ◌<◌, length, slice_get, Some, IfOk};
 ghost use Rattle.nt_grammar.specs.declared.rows.ColumnRow.{ColumnRow};
 ghost use Rattle.nt_plans.specs.Needs.{need_of};
 ghost use Rattle.nt_file_meaning.specs.Outlines.{outline_of, known_column};
@@ -140,6 +140,7 @@ impl Reader {
             (entries_in self.now k) (F.state file.old) result }
         ensures columns { ReadsFile (λ c. c.columns)
             (columns_read self.now k) (F.state file.old) result }
+        ensures table { IfOk result (λ c. c.table ≡ self.now.table) }
     {
         self.cluster_in(alloc, file, k, None)
     }
@@ -159,6 +160,7 @@ impl Reader {
             (entries_in self.now k) (F.state file.old) result }
         ensures columns { ReadsFile (λ c. c.columns)
             (columns_read self.now k) (F.state file.old) result }
+        ensures table { IfOk result (λ c. c.table ≡ self.now.table) }
     {
         read_cluster(
             alloc,

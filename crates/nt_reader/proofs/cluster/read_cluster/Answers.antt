@@ -4,6 +4,7 @@ use Rattle.nt_types.specs.TreeData.{TreesData}
 use Rattle.nt_encode.specs.Elements.{Element}
 use Rattle.nt_reader.proofs.ClusterSteps.{columns-fail, values-fail, cluster-done}
 use Rattle.nt_reader.proofs.ClusterSteps.{only-columns-fail, only-values-fail, only-columns-done}
+use Rattle.nt_reader.proofs.KeptTypes.{rows-typed}
 use Rattle.nt_reader.proofs.cluster.read_cluster.Goals as goal
 
 pub returns-in_err-columns-clause-read : goal.returns-in_err-columns-clause-read
@@ -41,3 +42,9 @@ pub returns-clause-columns : goal.returns-clause-columns
 returns-clause-columns g c told is =
     only-columns-done told c.args.schema.now c.args.number c.args.cluster.now _ _ (c.in_ok-columns.ensures.read told (c.size.ensures.same
     ∙ is)) c.in_ok-check.ensures.fault
+
+pub invariant_of-result : goal.invariant_of-result
+invariant_of-result g c = record {
+  sound = c.in_ok-check.ensures.sound;
+  typed = rows-typed c.args.schema.now.columns c.in_ok-columns.columns c.in_ok-columns.ensures.types c.in_range.ensures;
+}
