@@ -13,7 +13,7 @@ use Rattle.nt_layout.specs.Headers.{clusters_place}
 use Rattle.nt_layout.specs.Finished.{lists_behind, tail, front}
 use Rattle.nt_close.specs.declared.error.CloseError.{CloseError}
 use Rattle.nt_close.specs.declared.error.CloseError.TheVariants as close
-use Rattle.nt_close.specs.Steps.{closed_on, closed_whole}
+use Rattle.nt_close.specs.Steps.{closed_on, closed_partly, closed_whole}
 use Rattle.nt_close.specs.Passing.{passed_by_close}
 use Rattle.nt_close.specs.Spoiled.{NoneSpoiled, IsUnspoiled, IsFirstSpoiled}
 use Rattle.nt_close.specs.Closing.{HasCloseCause, LeavesClosed, IsCloseCut, BecomesFinished, StaysWithin}
@@ -71,7 +71,7 @@ module _ (long : RangesAreAsLong) (stored : FinishedAreStored) (over : PassedAre
       let left = cut.held h is in (
         left.0,
         left.1,
-        elim (closes_shut ends begins h left.0 filled.shut left.2) [
+        elim (closes_shut ends begins h left.0 filled.shut (closed_partly left.2)) [
           | inl still ↦ inl (shut_open left.0.image still)
           | inr whole ↦ inr (stands left.0 (within t p book none) whole)
         ],
@@ -142,7 +142,8 @@ module _ (leave : CrashesLeave) (t : Table) (p : Params) (book : BookData) (fiel
       let some = left.held h is in (
         some.0,
         some.1,
-        leave.closing fields p texts t book filled.ranges h some.0 filled.holds (within t p book cause.1) filled.filled some.2,
+        leave.closing fields p texts t book filled.ranges h some.0 filled.holds (within t p book cause.1) filled.filled
+            (closed_partly some.2),
       )
 
 -- the steps stay in order
@@ -157,7 +158,7 @@ close_order tail front old new (Err (close.RangeTooLarge len most)) reads left h
 close_order tail front old new (Err (close.FileTooLarge end most)) reads left h is = (h, left.place.held ∙ is, λ shut order. order)
 close_order tail front old new (Err close.Fault) reads left h is =
     let some = left.held h is in
-    (some.0, some.1, λ shut order. closes_in_order tail front h (some_shut h.image shut) (reads h is) order some.0 some.2)
+    (some.0, some.1, λ shut order. closes_in_order tail front h (some_shut h.image shut) (reads h is) order some.0 (closed_partly some.2))
 
 -- the disk has failed where the closing did
 pub close_fails : (book : BookData) (passed : Option LimitError) (tail front : List ℕ) (old new : DiskState) (e : CloseError)

@@ -26,7 +26,7 @@ use Rattle.nt_close.specs.declared.error.BeginError.{BeginError}
 use Rattle.nt_close.specs.declared.error.BeginError.TheVariants as begin
 use Rattle.nt_close.specs.Beginning.{new_book, IsNotBegun}
 use Rattle.nt_close.specs.Passing.{passed_by_begin}
-use Rattle.nt_close.specs.Steps.{begun_whole}
+use Rattle.nt_close.specs.Steps.{begun_partly, begun_whole}
 use Rattle.nt_close.specs.Laws.{IsShut}
 use Rattle.nt_close.proofs.FirstByte.{begins_shut, begins_in_order}
 use Rattle.nt_dealing.specs.Dealt.{IsDealtOut, FillsBehind}
@@ -186,7 +186,7 @@ begin_leaves begin.Fault fields p texts old new left is =
     let some = left.held nothing_held is in (
       some.0,
       some.1,
-      elim (begins_shut (header_blob left.table) some.0 some.2) [
+      elim (begins_shut (header_blob left.table) some.0 (begun_partly some.2)) [
         | inl shut ↦ inl (shut_open some.0.image shut)
         | inr torn ↦ inr torn
       ],
@@ -199,7 +199,7 @@ begin_order (begin.RangeTooLarge len most) fields p old new left is = (nothing_h
 begin_order (begin.FileTooLarge end most) fields p old new left is = (nothing_held, left.untouched.place.held ∙ is, tt)
 begin_order begin.Fault fields p old new left is =
     let some = left.held nothing_held is in
-    (some.0, some.1, begins_in_order (header_blob left.table) some.0 some.2)
+    (some.0, some.1, begins_in_order (header_blob left.table) some.0 (begun_partly some.2))
 
 pub begin_fails : (e : BeginError) (fields : List MemberData) (p : Params) (old new : DiskState) → IsNotBegun fields p old new e
     → error_of_begin e ≡ Outside → 0 < new.faults
