@@ -1,6 +1,7 @@
 mod Arrays
 mod Decimals
 mod Numbers
+mod Optionals
 mod Parts
 mod Places
 mod ShortTexts
