@@ -1,5 +1,6 @@
 mod Arrays
 mod Decimals
+mod LentEnds
 mod Numbers
 mod Optionals
 mod Parts

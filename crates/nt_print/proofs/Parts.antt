@@ -177,12 +177,12 @@ pub IsPut-read_all : (old new : List ℕ) (first mark bits : ℕ) (signed : Bool
     → IsPut old new mark (map (integer_of bits signed) (slice_range (numbers es) at to))
     (integers_text first (map (integer_of bits signed) (slice_range (numbers es) from to)))
     → new ≡ old ++ integers_text first (map (integer_of bits signed) (numbers (slice_range es from to)))
-IsPut-read_all old new first mark bits signed es from to at all b =
+IsPut-read_all old new first mark bits signed es from to at behind b =
     let integer : ℕ → ℤ = integer_of bits signed in
     let none : to - at ≡ 0 = omega arith in
     let nothing : map integer (slice_range (numbers es) at to) ≡ [] = ap (λ n. map integer (take n (drop at (numbers es)))) none in
-    IsPut-all old new mark (map integer (slice_range (numbers es) at to)) (integers_text first (map integer (slice_range (numbers es) from to)))
-    nothing b
+    let all : List ℕ = integers_text first (map integer (slice_range (numbers es) from to)) in
+    IsPut-all old new mark (map integer (slice_range (numbers es) at to)) all nothing b
     ∙ ap (λ (l : List ℕ). old ++ integers_text first (map integer l)) (sym (numbers-range es from to))
 
 -- a mark, all numbers of a part, and an end

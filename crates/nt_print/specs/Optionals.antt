@@ -28,7 +28,8 @@ abbrev pub last_behind : ℕ → List ℕ → ℕ
 last_behind begin [] = begin
 last_behind begin (end ∷ ends) = last_behind end ends
 
--- these are the optionals of a plan from one place to before another: their begin and their ends, and the column, width and sign of their integers
+-- these are the optionals of a plan from one place to before another: where the first begins, their ends as they lie, and the column,
+-- width and sign of their integers
 pub record AreOptionals (p : PlanData) (cols : Cols) (from to begin : ℕ) (ends : List ℕ) (column bits : ℕ) (signed : Bool) : Type 0 where
   pub ends_column : ℕ
   pub plan : p ≡ maybe ends_column (number column bits signed)

@@ -7,7 +7,7 @@ use Rattle.nt_plans.specs.Plan.{PlanData, maybe, number}
 use Rattle.nt_plans.specs.PlanViews.{plan_view}
 use Rattle.nt_plans.proofs.PlanViews.{view-Maybe}
 use Rattle.nt_join.specs.Readable.{ReadableTo}
-use Rattle.nt_print.proofs.Optionals.{first-lent, others-lent}
+use Rattle.nt_print.proofs.LentEnds.{first-lent, others-lent}
 use Rattle.nt_print.proofs.optional.optionals_of.Goals as goal
 
 pub returns : goal.returns

@@ -22,7 +22,7 @@ use Rattle.nt_join.proofs.Reach.{of_tag-at, readable-is, text-within, items-read
 use Rattle.nt_join.proofs.Reach.{tag-among, picked-readable, tree_at-picked}
 use Rattle.nt_print.proofs.Arrays.{IsBegun, pick-put, IsBegun-none, IsBegun-next, IsBegun-end, kept-kept, mark-put, trees_from-first}
 use Rattle.nt_print.proofs.Arrays.{trees_from-none}
-use Rattle.nt_print.proofs.Optionals.{known-optionals}
+use Rattle.nt_print.proofs.LentEnds.{known-optionals}
 use Rattle.nt_print.proofs.Places.{number-within, lent-trees}
 use Rattle.nt_print.proofs.values.+print.Goals as goal
 
@@ -46,20 +46,24 @@ put_range-returns-in-Some-clause-ok g t c =
 
 pub put_range-put_optionals-requires-clause-steps : goal.put_range-put_optionals-requires-clause-steps
 put_range-put_optionals-requires-clause-steps g t c κs within =
-    (known-optionals (plan_view c.args.of.now) (g.C.Columns.elements c.args.columns.now) _ _ _ _ _ _ _ c.in-Some-optionals_of.ensures c.requires.order
-    c.requires.readable).steps
+    let cols = g.C.Columns.elements c.args.columns.now in
+    let is = c.in-Some-optionals_of.ensures in
+    (known-optionals (plan_view c.args.of.now) cols _ _ _ _ _ _ _ is c.requires.order c.requires.readable).steps
 
 pub put_range-put_optionals-requires-clause-within : goal.put_range-put_optionals-requires-clause-within
 put_range-put_optionals-requires-clause-within g t c κs within =
-    (known-optionals (plan_view c.args.of.now) (g.C.Columns.elements c.args.columns.now) _ _ _ _ _ _ _ c.in-Some-optionals_of.ensures c.requires.order
-    c.requires.readable).within
+    let cols = g.C.Columns.elements c.args.columns.now in
+    let is = c.in-Some-optionals_of.ensures in
+    (known-optionals (plan_view c.args.of.now) cols _ _ _ _ _ _ _ is c.requires.order c.requires.readable).within
 
 pub put_range-returns-in-Some-optionals_of-clause-ok : goal.put_range-returns-in-Some-optionals_of-clause-ok
 put_range-returns-in-Some-optionals_of-clause-ok g t c =
-    let known = known-optionals (plan_view c.args.of.now) (g.C.Columns.elements c.args.columns.now) _ _ _ _ _ _ _
-    c.in-Some-optionals_of.ensures c.requires.order c.requires.readable in
-    subst (λ (ts : TreesData). OnOk c.put_optionals.result (c.put_optionals.new.out.items ≡ c.args.out.now.items ++ c.args.mark ∷ line_of ts))
-    known.trees c.put_optionals.ensures.ok
+    let cols = g.C.Columns.elements c.args.columns.now in
+    let is = c.in-Some-optionals_of.ensures in
+    let known = known-optionals (plan_view c.args.of.now) cols _ _ _ _ _ _ _ is c.requires.order c.requires.readable in
+    let put = c.put_optionals in
+    subst (λ (ts : TreesData). OnOk put.result (put.new.out.items ≡ c.args.out.now.items ++ c.args.mark ∷ line_of ts))
+    known.trees put.ensures.ok
 
 pub put_items-loop-i-init : goal.put_items-loop-i-init
 put_items-loop-i-init g t c =
