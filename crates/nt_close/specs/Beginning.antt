@@ -63,7 +63,7 @@ pub record IsBegun (ps : List MemberData) (p : Params) (old new : DiskState) (bo
 -- a step failed, and those before it were taken; a crash leaves what isn't finished
 pub record IsBeginCutFor (t : Table) (p : Params) (old new : DiskState) : Type 0 where
   pub within : passed_by_begin p.limits t ≡ None
-  pub held : BecomesSome old.held new.held (IsBegunSoFar (begun 0 0 0) (header_blob t))
+  pub held : BecomesSome old.held new.held (IsBegunPartly (begun 0 0 0) (header_blob t))
   pub crash : BecomesSome old.held new.held (λ h h'. LeavesUnfinished h'.log)
   pub out : new.out ≡ old.out
   pub rose : Rose old.faults new.faults
