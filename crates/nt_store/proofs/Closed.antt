@@ -1,5 +1,5 @@
 -- What the closing of a filled file leaves on its disk.
-use Rattle.std.proofs.Common.{◌≡◌, ◌⊎◌, ◌∙◌, inl, inr, subst, refl, ℕ, ◌<◌, List, ◌++◌, Option, Some, None, Result, Ok, Err, arith}
+use Rattle.std.proofs.Common.{◌≡◌, ◌⊎◌, ◌∙◌, inl, inr, subst, refl, ℕ, ◌<◌, List, Option, Some, None, Result, Ok, Err, arith}
 use Rattle.nt_types.specs.ShapeData.{MemberData}
 use Rattle.nt_outside.specs.Held.{Held}
 use Rattle.nt_outside.specs.Disk.{DiskState}
@@ -10,7 +10,7 @@ use Rattle.nt_book.specs.declared.params.Params.{Params}
 use Rattle.nt_book.specs.declared.limits.LimitError.{LimitError}
 use Rattle.nt_book.specs.Books.{BookData}
 use Rattle.nt_layout.specs.Headers.{clusters_place}
-use Rattle.nt_layout.specs.Finished.{lists_behind, tail, front, finished}
+use Rattle.nt_layout.specs.Finished.{lists_behind, tail, front}
 use Rattle.nt_close.specs.declared.error.CloseError.{CloseError}
 use Rattle.nt_close.specs.declared.error.CloseError.TheVariants as close
 use Rattle.nt_close.specs.Steps.{closed_on, closed_partly, closed_whole}
@@ -21,11 +21,11 @@ use Rattle.nt_close.proofs.FirstByte.{closes_shut, closes_in_order}
 use Rattle.nt_close.proofs.Finishing.{closed-is}
 use Rattle.nt_close.proofs.Within.{within}
 use Rattle.nt_dealing.specs.Dealt.{commit_order}
-use Rattle.nt_store.specs.declared.error.StoreError.TheVariants.{Outside, Memory, Limit}
+use Rattle.nt_store.specs.declared.error.StoreError.TheVariants.{Outside}
 use Rattle.nt_store.specs.Errors.{error_of_close}
 use Rattle.nt_store.specs.Whole.{IsStored}
 use Rattle.nt_store.specs.Laws.{RangesAreAsLong, FinishedAreStored, PassedAreOver, CrashesLeave}
-use Rattle.nt_store.specs.Writing.{HoldsNow, PassesLimitOf, KeepsOrder}
+use Rattle.nt_store.specs.Writing.{HoldsNow, by_end, KeepsOrder}
 use Rattle.nt_store.specs.Crashes.{CrashLeaves}
 use Rattle.nt_store.specs.Filling.{IsFilledFile, IsOfNoText, CloseLeaves}
 use Rattle.nt_store.proofs.Begun.{shut_open, some_shut}
@@ -91,6 +91,7 @@ module _ (long : RangesAreAsLong) (stored : FinishedAreStored) (over : PassedAre
       table = t;
       rows = filled.holds.rows;
       over = over fields p texts t book filled.ranges len most filled.holds (inl cause.1);
+      by = by_end filled.holds.sound filled.holds.fit;
     },
     still new.held (left.place.held ∙ is),
   )
@@ -99,6 +100,7 @@ module _ (long : RangesAreAsLong) (stored : FinishedAreStored) (over : PassedAre
       table = t;
       rows = filled.holds.rows;
       over = over fields p texts t book filled.ranges end most filled.holds (inr cause.1);
+      by = by_end filled.holds.sound filled.holds.fit;
     },
     still new.held (left.place.held ∙ is),
   )

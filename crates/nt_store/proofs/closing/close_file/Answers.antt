@@ -1,4 +1,3 @@
-use Rattle.std.proofs.Common.{inl}
 use Rattle.std.proofs.lemmas.Result.{err_from_is_err_and}
 use Rattle.nt_store.proofs.Closed.{closed_leaves, unclosed_leaves, closed_crash, unclosed_crash, close_order, close_fails, of_no_text}
 use Rattle.nt_store.proofs.closing.close_file.Goals as goal
