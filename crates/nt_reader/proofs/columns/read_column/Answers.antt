@@ -1,8 +1,9 @@
-use Rattle.std.proofs.Common.{List, Ok, ◌∙◌, sym, ap}
+use Rattle.std.proofs.Common.{List, Ok, ◌∙◌, sym, ap, refl}
 use Rattle.nt_encode.specs.Elements.{Element}
 use Rattle.nt_column.specs.Column.{Column, zeroed, columns_of}
 use Rattle.nt_reader.proofs.Chains.{reads-as}
 use Rattle.nt_reader.proofs.Changes.{next-elements, next-empty, next-kind, zeroed-elements, changed-changes, row-there, inside}
+use Rattle.nt_reader.proofs.KeptTypes.{changed-keeps}
 use Rattle.nt_reader.proofs.ColumnSteps.{closed-read, zeros-read, paged-read, untyped-read}
 use Rattle.nt_reader.proofs.columns.read_column.Goals as goal
 
@@ -30,6 +31,10 @@ returns-then-begins_behind-clause-read g c row there told is =
 pub returns-then-begins_behind-clause-others : goal.returns-then-begins_behind-clause-others
 returns-then-begins_behind-clause-others g c = changed-changes (λ (x : Column). zeroed x.kind c.args.cluster.now.entries) c.args.id
     (columns_of c.args.columns.now) _ c.zeros.ensures
+
+pub returns-then-begins_behind-clause-types : goal.returns-then-begins_behind-clause-types
+returns-then-begins_behind-clause-types g c = changed-keeps (λ (x : Column). zeroed x.kind c.args.cluster.now.entries) c.args.id
+    (columns_of c.args.columns.now) _ (λ x. refl) c.zeros.ensures
 
 pub fill-requires-clause-empty : goal.fill-requires-clause-empty
 fill-requires-clause-empty g c = record {
