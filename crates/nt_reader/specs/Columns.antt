@@ -1,5 +1,5 @@
 -- The columns of a cluster, read one after the other.
-use Rattle.std.specs.Prelude.{ℕ, ◌≡◌, ◌+◌, ◌<◌, List, map, take, drop, length, slice_index_or, Option, Some, None, Result}
+use Rattle.std.specs.Prelude.{ℕ, ◌≡◌, ◌+◌, ◌<◌, List, map, take, drop, length, slice_index_or, Option, Some, None, Result, OnOk}
 use Rattle.nt_num.specs.declared.fault.ReadError.{ReadError}
 use Rattle.nt_types.specs.declared.column_type.ColumnType.{ColumnType}
 use Rattle.nt_types.specs.declared.column_type.ColumnType.TheVariants.{Bit}
@@ -66,6 +66,11 @@ pub record ChangesOne (id : ℕ) (cs ds : List Column) : Type 0 where
 -- columns are of the types that others are of
 abbrev pub KeepTypes : List Column → List Column → Type 0
 KeepTypes cs ds = map (λ (c : Column). empty c.kind) ds ≡ map (λ (c : Column). empty c.kind) cs
+
+-- this column alone may have changed, and where the answer isn't a failure none is of another type
+pub record FillsOne {E : Type 0} (id : ℕ) (cs ds : List Column) (result : Result Unit E) : Type 0 where
+  pub one : ChangesOne id cs ds
+  pub types : OnOk result (KeepTypes cs ds)
 
 -- the columns of so many entries of a schema: they are sound, and their elements of the types of their rows
 pub record AreClusterColumns (t : Table) (cols : Cols) (entries : ℕ) : Type 0 where

@@ -1,11 +1,11 @@
 //! The columns of a cluster.
 
-ghost use Rattle.std.specs.Prelude.{◌≡◌, ◌<◌, length, map, slice_get, Some, IfOk, OnOk};
+ghost use Rattle.std.specs.Prelude.{◌≡◌, ◌<◌, length, map, slice_get, Some, IfOk};
 ghost use Rattle.nt_grammar.specs.declared.rows.ColumnRow.{ColumnRow};
 ghost use Rattle.nt_column.specs.Column.{columns_of, elements_at};
 ghost use Rattle.nt_file_meaning.specs.Clusters.{kind_of_code, pages_of_column, pages_listed, begins_behind, columns_from};
 ghost use Rattle.nt_tfile.specs.Calls.{Serves, HasSize, ReadsFile};
-ghost use Rattle.nt_reader.specs.Columns.{kind_or_bit, kept_empty, elements_in, held_elements, held_column, IsNextColumn, IsEmptyAt, ChangesOne, KeepTypes, AreOfTypes};
+ghost use Rattle.nt_reader.specs.Columns.{kind_or_bit, kept_empty, elements_in, held_elements, held_column, IsNextColumn, IsEmptyAt, FillsOne, AreOfTypes};
 
 use crate::known::known_column;
 use crate::pages::push_pages;
@@ -82,8 +82,7 @@ fn fill<F: ReadAt>(
     ensures read { let kind = (held_column (columns_of columns.old) id).kind in
         ReadsFile (λ _. elements_at (columns_of columns.new) id)
         (λ told. pages_of_column told number id kind pages.now) (F.state file.old) result }
-    ensures others { ChangesOne id (columns_of columns.old) (columns_of columns.new) }
-    ensures types { OnOk result (KeepTypes (columns_of columns.old) (columns_of columns.new)) }
+    ensures others { FillsOne id (columns_of columns.old) (columns_of columns.new) result }
 {
     push_pages(alloc, file, size, number, id, pages, columns.buffer(id))
 }
@@ -105,8 +104,7 @@ fn read_column<F: ReadAt>(
     ensures read { (row : ColumnRow) → slice_get schema.now.columns id ≡ Some row
         → ReadsFile (λ _. elements_at (columns_of columns.new) id)
         (elements_in number cluster.now schema.now id row) (F.state file.old) result }
-    ensures others { ChangesOne id (columns_of columns.old) (columns_of columns.new) }
-    ensures types { OnOk result (KeepTypes (columns_of columns.old) (columns_of columns.new)) }
+    ensures others { FillsOne id (columns_of columns.old) (columns_of columns.new) result }
 {
     let known = known_column(schema, id);
     if !known.is_open {

@@ -17,11 +17,10 @@ returns-clause-read g c told is =
     (omega (arith, c.requires.empty.there, length-map c.args.columns.now (λ (b : Buffer). b.column)))) (c.push_pages.ensures.read told is)
 
 pub returns-clause-others : goal.returns-clause-others
-returns-clause-others g c = set-changes c.args.columns.now c.args.id c.push_pages.new.column
-
-pub returns-clause-types : goal.returns-clause-types
-returns-clause-types g c =
-    on_ok_weaker c.push_pages.result
-    (λ (k : KeepsKind c.buffer.result.now.column c.push_pages.new.column.column).
-    set-types c.args.columns.now c.args.id c.push_pages.new.column c.buffer.result.now c.buffer.ensures.value k.kind)
-    c.push_pages.ensures.grown
+returns-clause-others g c = record {
+  one = set-changes c.args.columns.now c.args.id c.push_pages.new.column;
+  types = on_ok_weaker c.push_pages.result
+      (λ (k : KeepsKind c.buffer.result.now.column c.push_pages.new.column.column).
+      set-types c.args.columns.now c.args.id c.push_pages.new.column c.buffer.result.now c.buffer.ensures.value k.kind)
+      c.push_pages.ensures.grown;
+}

@@ -39,8 +39,8 @@ pub loop-id-preserved : goal.loop-id-preserved
 loop-id-preserved g c = record {
   same = c.in_ok-read_column.ensures.file.same ∙ c.loop-id.invariant.same;
   later = omega (arith, c.in_ok-read_column.ensures.file.later, c.loop-id.invariant.later);
-  types = c.in_ok-read_column.ensures.types ∙ c.loop-id.invariant.types;
-  done = read-more c.args.schema.now.columns _ _ c.loop-id.id c.loop-id.invariant.done c.in_ok-read_column.ensures.others;
+  types = c.in_ok-read_column.ensures.others.types ∙ c.loop-id.invariant.types;
+  done = read-more c.args.schema.now.columns _ _ c.loop-id.id c.loop-id.invariant.done c.in_ok-read_column.ensures.others.one;
   read = λ told is.
       c.loop-id.invariant.read told is
       ∙ columns-more told c.args.number c.args.cluster.now c.args.schema.now c.loop-id.id _ _ _ _ (omega arith)
@@ -48,6 +48,6 @@ loop-id-preserved g c = record {
       (c.in_ok-read_column.ensures.read _ (row-there c.args.schema.now.columns c.loop-id.id (omega arith)) told (c.loop-id.invariant.same
       ∙ is))
       (held-more c.loop-id.columns c.read_column.new.columns c.loop-id.id
-      (inside-more c.args.schema.now.columns _ _ c.loop-id.id c.loop-id.invariant.done c.in_ok-read_column.ensures.others (omega arith))
-      c.in_ok-read_column.ensures.others);
+      (inside-more c.args.schema.now.columns _ _ c.loop-id.id c.loop-id.invariant.done c.in_ok-read_column.ensures.others.one (omega arith))
+      c.in_ok-read_column.ensures.others.one);
 }
