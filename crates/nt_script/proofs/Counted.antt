@@ -109,7 +109,8 @@ counts-from p t before (s ∷ segments) now new es cs ms behind has grown grows 
 
 -- and of one that is written
 pub counts-written : (p : Params) (t : Table) (before : ℕ) (segments : List Segment) (now : Table) (es : List TreesData)
-    (ms : List ClusterMeta) (bad : Option BadScriptLine) → GrowsBySegments p t before segments now → AreKeptOf now p.page (chunks p.cluster es) ms
+    (ms : List ClusterMeta) (bad : Option BadScriptLine) → GrowsBySegments p t before segments now
+    → AreKeptOf now p.page (chunks p.cluster es) ms
     → CountsScript p t before (behind_segments segments [] (last_entries es bad)) (segment_metas segments ++ ms)
 counts-written p t before [] now es ms bad grown kept =
     kept-counts t p.page (chunks p.cluster es) ms (subst (λ (u : Table). AreKeptOf u p.page (chunks p.cluster es) ms) grown kept)

@@ -1,6 +1,6 @@
 -- A limit that a script passes where it is written line by line is passed by its whole file.
-use Rattle.std.proofs.Common.{◌≡◌, ◌∙◌, ap, sym, refl, subst, inl, inr, ℕ, zero, suc, ◌+◌, ◌<◌, ◌≤◌, ◌==◌, Bool, true, false, List, [], ◌∷◌, ◌++◌}
-use Rattle.std.proofs.Common.{length, get_or, Some, None, if◌then◌else◌, append_assoc, append-nil, sum_by, arith}
+use Rattle.std.proofs.Common.{◌≡◌, ◌∙◌, ap, sym, refl, subst, inl, inr, ℕ, zero, suc, ◌+◌, ◌<◌, ◌≤◌, ◌==◌, Bool, true, false, List, []}
+use Rattle.std.proofs.Common.{◌∷◌, ◌++◌, length, get_or, Some, None, if◌then◌else◌, append_assoc, append-nil, sum_by, arith}
 use Rattle.std.specs.Prelude.{nat_lt}
 use Rattle.std.specs.List.{AllByRecursion, AllZip, Contains, flat_map}
 use Rattle.std.proofs.lemmas.Bool.Decides.{nat_tests}
@@ -79,7 +79,8 @@ module _ (t : Table) (p : Params) (segments : List Segment) (es next : List Tree
       → chunks p.cluster (es ++ first_entries behind) ≡ all_full ++ chunks p.cluster (first_entries behind)
   split behind (inl whole) = split-whole whole (first_entries behind)
   split behind (inr ends) =
-      subst (λ (fs : List TreesData). chunks p.cluster (es ++ fs) ≡ all_full ++ chunks p.cluster fs) (sym (none_first behind ends)) split-last
+      subst (λ (fs : List TreesData). chunks p.cluster (es ++ fs) ≡ all_full ++ chunks p.cluster fs) (sym (none_first behind ends))
+      split-last
 
   -- with the cluster that passes the limit
   counted : AllZip (IsCountedOf t p.page) all_full (passes.own ++ passes.meta ∷ [])
@@ -128,7 +129,8 @@ module _ (fields : List MemberData) (p : Params) (s : Script) (reached most : �
 
     places : clusters_place w.table ≡ clusters_place table
     places =
-        place-grown p.plain first 0 (behind_segments w.segments [] (last_entries [] None)) w.table (header-described fields p.plain first rows)
+        place-grown p.plain first 0 (behind_segments w.segments [] (last_entries [] None)) w.table
+        (header-described fields p.plain first rows)
         (grows-script p first 0 w.segments w.table [] None grown)
         ∙ sym (place-grown p.plain first 0 s table (header-described fields p.plain first rows) grows)
 
@@ -180,7 +182,8 @@ module _ (fields : List MemberData) (p : Params) (s : Script) (reached most : �
   closing_passed : PassesClosing fields p s reached most → WholePasses first table p s reached most
   closing_passed c =
       let w = c.written in
-      let grown = subst (λ (t : Table). GrowsBySegments p t 0 c.segments w.table) (Rows-one fields p.plain w.first first w.rows rows) w.grows in
+      let grown = subst (λ (t : Table). GrowsBySegments p t 0 c.segments w.table) (Rows-one fields p.plain w.first first w.rows rows)
+      w.grows in
       let same = grows-one p.plain first 0 s w.table table
       (subst (λ (x : Script). GrowsByScript p.plain first 0 x w.table) (sym c.script_is)
       (grows-script p first 0 c.segments w.table c.entries None grown)) grows in
