@@ -20,7 +20,9 @@ use Rattle.nt_script.specs.declared.store_error.ScriptStoreError.{ScriptStoreErr
 use Rattle.nt_script.specs.declared.store_error.ScriptStoreError.TheVariants as script
 use Rattle.nt_script.specs.Script.{BadScriptLine, read_script}
 use Rattle.nt_script.specs.Clusters.{bad_line}
-use Rattle.nt_script.specs.Passing.{FitsWhole, PassesLimit}
+use Rattle.nt_script.specs.Passing.{PassesLimit}
+use Rattle.nt_script.specs.Fitting.{FitsWhole}
+use Rattle.nt_script.proofs.WholePassed.{fits_none}
 use Rattle.nt_script.specs.Crashes.{LeavesScript, ScriptCrashTold}
 use Rattle.nt_script.specs.Storing.{AreScriptTexts, MakesScriptFile, StoresWholeScript, IsWholeScript, IsTooLargeScript, ScriptTold}
 use Rattle.nt_app.specs.declared.status.Status.{Status}
@@ -131,7 +133,7 @@ not_sound b x none some = let bad = sym none ∙ some in cc
 not_over : (s i : List ℕ) (p : Params) (w : World) (reached limit : ℕ) (fields : List MemberData) (text : List ℕ)
     → IsTooLargeScript s i p w reached limit → AreScriptTexts w s i fields text → FitsWhole fields p (read_script fields text) → ⊥
 not_over s i p w reached limit fields text over are fits =
-    fits reached limit (same_script w s i over.fields fields over.text text
+    fits_none fields p (read_script fields text) reached limit fits (same_script w s i over.fields fields over.text text
     (λ f t. PassesLimit f p (read_script f t) reached limit) over.are are over.over)
 
 completes : (o s i : List ℕ) (p : Params) (w v : World) (stored : Result Unit ScriptStoreError) (fields : List MemberData)

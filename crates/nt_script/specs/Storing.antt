@@ -96,7 +96,8 @@ pub record IsTooLargeScript (schema input : List ℕ) (p : Params) (w : World) (
   pub over : PassesLimit fields p (read_script fields text) reached limit
 
 -- what is left, by the answer. Where the outside failed and the file is whole nevertheless, either the last step was that of its first
--- byte, or of a sync behind it that failed, and nothing was printed; or the file was closed, and the line of its numbers wasn't printed whole
+-- byte, which failed or was followed by a failed sync, and nothing was printed; or the file was closed, and the line of its numbers
+-- wasn't printed whole
 abbrev pub ScriptTold : List ℕ → List ℕ → List ℕ → Params → World → World → Result Unit ScriptStoreError → Type 0
 ScriptTold out schema input p w w' (Ok done) = (line : List ℕ) × StoresWholeScript out schema input p w w' line []
 ScriptTold out schema input p w w' (Err Outside) =
