@@ -12,7 +12,7 @@ use Rattle.nt_outside.specs.Order.{EndsInSync}
 use Rattle.nt_outside.specs.World.{World, Asked, HostState, file}
 use Rattle.nt_book.specs.declared.params.Params.{Params}
 use Rattle.nt_close.specs.Laws.{EndsOverFirst}
-use Rattle.nt_store.specs.Worlds.{IsThereWith, AsksFor}
+use Rattle.nt_store.specs.Worlds.{IsThereWith, AsksFor, IsLeftAfter}
 use Rattle.nt_store.specs.Stored.{asked_for}
 use Rattle.nt_store.proofs.Ends.{none_made, nothing_made}
 use Rattle.nt_script.specs.declared.error.LineFault.{LineFault}
@@ -24,8 +24,7 @@ use Rattle.nt_script.specs.Passing.{PassesLimit}
 use Rattle.nt_script.specs.Fitting.{FitsWhole}
 use Rattle.nt_script.proofs.WholePassed.{fits_none}
 use Rattle.nt_script.specs.Crashes.{LeavesScript, ScriptCrashTold}
-use Rattle.nt_script.specs.Storing.{AreScriptTexts, MakesScriptFile, IsLeftAfter, StoresWholeScript, IsWholeScript, IsTooLargeScript}
-use Rattle.nt_script.specs.Storing.{ScriptTold}
+use Rattle.nt_script.specs.Storing.{AreScriptTexts, MakesScriptFile, StoresWholeScript, IsWholeScript, IsTooLargeScript, ScriptTold}
 use Rattle.nt_app.specs.declared.status.Status.{Status}
 use Rattle.nt_app.specs.declared.status.Status.TheVariants as status
 use Rattle.nt_app.specs.declared.status.TextFault.TheVariants as fault
@@ -34,7 +33,7 @@ use Rattle.nt_app.specs.Reports.{Reports}
 use Rattle.nt_app.specs.Seqs.{fault_of_line, status_of_script, SeqNamed, AnswersScript, RunsSeq}
 use Rattle.nt_app.proofs.Joined.{either_after}
 use Rattle.nt_app.proofs.Reported.{IsBefore, reported, ordered_after}
-use Rattle.nt_app.proofs.Writing.{left_after, same_fields, not_both, same_fault}
+use Rattle.nt_app.proofs.Writing.{left_after, steps_after, same_fields, not_both, same_fault}
 
 -- want of memory for the words leaves all as it was
 pub memory_scripts : (o s i : List ℕ) (p : Params) (state : HostState) → SeqNamed o s i p state state status.Memory
@@ -67,10 +66,6 @@ whole_after o s i p w v err printed behind told = record {
   line = told.line;
   gained = told.gained;
 }
-
-steps_after : (o : List ℕ) (Ends : List Step → Type 0) (v : World) (err : List ℕ) → IsLeftAfter Ends o v
-    → IsLeftAfter Ends o (record v { err = err })
-steps_after o Ends v err left = record { at = left.at; log = left.log; there = left.there; steps = left.steps; ends = left.ends }
 
 told_after : (o s i : List ℕ) (p : Params) (w v : World) (err : List ℕ) (stored : Result Unit ScriptStoreError)
     → ScriptTold o s i p w v stored → ScriptTold o s i p w (record v { err = err }) stored
