@@ -1,5 +1,6 @@
 -- Fields that are chosen one after the other.
-use Rattle.std.proofs.Common.{◌≡◌, ◌∙◌, ap, sym, refl, subst, ℕ, ◌+◌, ◌<◌, ◌≤◌, ◌&&◌, min, Bool, true, false, List, [], ◌∷◌, ◌++◌, map, drop, length}
+use Rattle.std.proofs.Common.{◌≡◌, ◌∙◌, ap, sym, refl, subst, ℕ, ◌+◌, ◌<◌, ◌≤◌, ◌&&◌, min, Bool, true, false, List, [], ◌∷◌, ◌++◌, map}
+use Rattle.std.proofs.Common.{drop, length}
 use Rattle.std.proofs.Common.{Option, Some, None, Result, Ok, Err, get_or, append_assoc, arith, Bor}
 use Rattle.std.specs.Prelude.{nat_le, not, if◌then◌else◌}
 use Rattle.std.specs.BTreeSet.{BTreeSet}
@@ -19,7 +20,8 @@ use Rattle.nt_writable.specs.Written.{as_written}
 use Rattle.nt_writable.specs.Fields.{is_field}
 use Rattle.nt_skim.specs.declared.error.PlanError.{PlanError}
 use Rattle.nt_skim.specs.declared.error.PlanError.TheVariants.{UnknownField, Twice, NotWritable, NotANumber, Memory}
-use Rattle.nt_skim.specs.Planning.{ChosenField, field_written, writable_field, found_field, fields_chosen, chosen_parts, parts_chosen, place_of}
+use Rattle.nt_skim.specs.Planning.{ChosenField, field_written, writable_field, found_field, fields_chosen, chosen_parts, parts_chosen}
+use Rattle.nt_skim.specs.Planning.{open_place}
 use Rattle.nt_skim.specs.Planning.{IsPlannedAs}
 
 -- ---- there are few enough fields
@@ -72,7 +74,7 @@ pub record HasChosen (t : Table) (names : List (List ℕ)) (i count : ℕ) (plac
   pub done : List ChosenField
   pub before : List (List ℕ)
   pub reads : fields_chosen t [] 0 names ≡ prefixed done (fields_chosen t before count (drop i names))
-  pub places_are : places ≡ map (λ (f : ChosenField). place_of t f.id) done
+  pub places_are : places ≡ map (λ (f : ChosenField). open_place t f.id) done
   pub fields_are : fields ≡ map (λ (f : ChosenField). f.field) done
   pub knows : KnowsNames seen before
   pub few : count ≤ max_fields
@@ -113,7 +115,7 @@ module _ (t : Table) (names : List (List ℕ)) (i count : ℕ) (places : List �
     behind = so-far.reads ∙ ap (λ (l : List (List ℕ)). prefixed so-far.done (fields_chosen t so-far.before count l)) next-name
 
     pub chosen-more : (f : ChosenField) (more : ℕ) (places' : List ℕ) (fields' : List MemberData) (seen' : BTreeSet (Bor (List ℕ)))
-        → found ≡ Ok f → more ≡ min 4097 (count + field_count f.field.of) → places' ≡ places ++ place_of t f.id ∷ []
+        → found ≡ Ok f → more ≡ min 4097 (count + field_count f.field.of) → places' ≡ places ++ open_place t f.id ∷ []
         → fields' ≡ fields ++ f.field ∷ [] → KnowsNames seen' (name ∷ so-far.before)
         → HasChosen t names (i + 1) more places' fields' seen'
     chosen-more f more places' fields' seen' is counted put_place put_field knows =
@@ -128,8 +130,8 @@ module _ (t : Table) (names : List (List ℕ)) (i count : ℕ) (places : List �
               (count + field_count g.field.of) (drop (i + 1) names) >>= λ fs. Ok (g ∷ fs))) is
               ∙ prefixed-more so-far.done f (fields_chosen t (name ∷ so-far.before) (count + field_count f.field.of) (drop (i + 1) names))
               ∙ ap (λ (n : ℕ). prefixed (so-far.done ++ f ∷ []) (fields_chosen t (name ∷ so-far.before) n (drop (i + 1) names))) same;
-          places_are = put_place ∙ ap (λ (l : List ℕ). l ++ place_of t f.id ∷ []) so-far.places_are
-              ∙ sym (map-append (λ (g : ChosenField). place_of t g.id) so-far.done (f ∷ []));
+          places_are = put_place ∙ ap (λ (l : List ℕ). l ++ open_place t f.id ∷ []) so-far.places_are
+              ∙ sym (map-append (λ (g : ChosenField). open_place t g.id) so-far.done (f ∷ []));
           fields_are = put_field ∙ ap (λ (l : List MemberData). l ++ f.field ∷ []) so-far.fields_are
               ∙ sym (map-append (λ (g : ChosenField). g.field) so-far.done (f ∷ []));
           knows = knows;

@@ -1,4 +1,5 @@
 pub mod Selecting
+pub mod SkimmedClusters
 pub mod Readings
 pub mod PlanFits
 pub mod Places

@@ -21,8 +21,9 @@ use Rattle.nt_writable.specs.Written.{as_written}
 use Rattle.nt_writable.specs.Fields.{is_field}
 use Rattle.nt_skim.specs.declared.error.PlanError.{PlanError}
 use Rattle.nt_skim.specs.declared.error.PlanError.TheVariants.{Twice, NotWritable}
-use Rattle.nt_skim.specs.Planning.{ChosenField, NameTest, field_written, writable_field, found_field, fields_chosen, chosen_parts, parts_chosen}
-use Rattle.nt_skim.specs.Planning.{IsPlannedAs, test_chosen, planned, shapes_before, place_of}
+use Rattle.nt_skim.specs.Planning.{ChosenField, NameTest, field_written, writable_field, found_field, fields_chosen, chosen_parts}
+use Rattle.nt_skim.specs.Planning.{parts_chosen}
+use Rattle.nt_skim.specs.Planning.{IsPlannedAs, test_chosen, planned, shapes_before, open_place}
 use Rattle.nt_skim.specs.Select.{Selection, FitsFields, selection_of}
 use Rattle.nt_skim.specs.declared.selection.SkimPlan.{SkimPlan}
 
@@ -90,9 +91,9 @@ module _ (t : Table) where
 
   -- the trees at the places of chosen fields fit these
   module _ (same : (k : ShapeData) (u : TreeData) → fits (as_written k) u ≡ fits k u) (e : TreesData) (fit : fits_entry t e ≡ true) where
-    one-fits : (f : ChosenField) → IsChosen f → fits f.field.of (tree_in e (place_of t f.id)) ≡ true
+    one-fits : (f : ChosenField) → IsChosen f → fits f.field.of (tree_in e (open_place t f.id)) ≡ true
     one-fits f is =
-        let u = tree_in e (place_of t f.id) in
+        let u = tree_in e (open_place t f.id) in
         ap (λ (k : ShapeData). fits k u) is.2 ∙ same is.0 u
         ∙ fits-at (open_shapes t.fields t.columns 0 t.fields) e f.id is.0 fit
         (listed-from 0 f.id f.id t.fields is.0 (omega arith) is.1)
@@ -100,7 +101,8 @@ module _ (t : Table) where
     all-fit : (fs : List ChosenField) → AreChosen fs → fit_parts (parts_of (chosen_parts t fs).1) (chosen (chosen_parts t fs).0 e) ≡ true
     all-fit [] are = refl
     all-fit (f ∷ fs) are =
-        and_from (fits f.field.of (tree_in e (place_of t f.id))) (fit_parts (parts_of (chosen_parts t fs).1) (chosen (chosen_parts t fs).0 e))
+        and_from (fits f.field.of (tree_in e (open_place t f.id)))
+        (fit_parts (parts_of (chosen_parts t fs).1) (chosen (chosen_parts t fs).0 e))
         (one-fits f are.0) (all-fit fs are.1)
 
   pub planned-fits : ((k : ShapeData) (u : TreeData) → fits (as_written k) u ≡ fits k u) → (names : List (List ℕ)) (test : Option NameTest)

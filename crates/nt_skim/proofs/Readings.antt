@@ -10,7 +10,7 @@ use Rattle.nt_file_meaning.specs.Outlines.{Outline}
 use Rattle.nt_reader.specs.Columns.{ClusterData, given_entries}
 use Rattle.nt_reader.specs.Outlines.{entries_in, unlisted_cluster}
 use Rattle.nt_skim.specs.Select.{readings_from, cluster_readings}
-use Rattle.nt_skim.proofs.Selecting.{read_at}
+use Rattle.nt_skim.proofs.SkimmedClusters.{read_at}
 
 -- a cluster gives as many entries as it has
 pub length-given : (c : ClusterData) → length (given_entries c) ≡ c.entries

@@ -1,5 +1,6 @@
 -- The plan of a selection: the fields that are chosen by their names, and the test.
-use Rattle.std.specs.Prelude.{ℕ, zero, suc, ℤ, ◌+◌, ◌≡◌, Bool, true, false, ◌&&◌, nat_le, List, [], ◌∷◌, map, Option, Some, None, Result, Ok, Err}
+use Rattle.std.specs.Prelude.{ℕ, zero, suc, ℤ, ◌+◌, ◌≡◌, Bool, true, false, ◌&&◌, nat_le, List, [], ◌∷◌, map, Option, Some, None}
+use Rattle.std.specs.Prelude.{Result, Ok, Err}
 use Rattle.std.specs.Prelude.{if◌then◌else◌}
 use Rattle.nt_lists.specs.Chaining.{◌>>=◌}
 use Rattle.nt_types.specs.ShapeData.{ShapeData, MemberData, char, byte, int}
@@ -30,8 +31,8 @@ shapes_before (None ∷ shapes) (suc n) = shapes_before shapes n
 shapes_before (Some k ∷ shapes) (suc n) = suc (shapes_before shapes n)
 
 -- the place of an open field among the open fields at the top level
-abbrev pub place_of : Table → ℕ → ℕ
-place_of t id = shapes_before (open_shapes t.fields t.columns 0 t.fields) id
+abbrev pub open_place : Table → ℕ → ℕ
+open_place t id = shapes_before (open_shapes t.fields t.columns 0 t.fields) id
 
 -- a field that is chosen: its id, and as what field it is written
 pub record ChosenField : Type 0 where
@@ -78,7 +79,7 @@ number_test test place (Some k) =
 -- the test of the field of this id, if one has the name
 abbrev pub found_test : Table → NameTest → Option ℕ → Result PlaceTest PlanError
 found_test t test None = Err (UnknownField test.name)
-found_test t test (Some id) = number_test test (place_of t id) (open_shape t id)
+found_test t test (Some id) = number_test test (open_place t id) (open_shape t id)
 
 -- the test of a plan, if there is one
 abbrev pub test_chosen : Table → Option NameTest → Result (Option PlaceTest) PlanError
@@ -87,7 +88,7 @@ test_chosen t (Some test) = found_test t test (find_from 0 t.fields test.name) >
 
 -- the places of chosen fields, and the fields that they are written as
 abbrev pub chosen_parts : Table → List ChosenField → List ℕ × List MemberData
-chosen_parts t fs = (map (λ (f : ChosenField). place_of t f.id) fs, map (λ (f : ChosenField). f.field) fs)
+chosen_parts t fs = (map (λ (f : ChosenField). open_place t f.id) fs, map (λ (f : ChosenField). f.field) fs)
 
 -- those of the fields of these names
 abbrev pub parts_chosen : Table → List (List ℕ) → Result (List ℕ × List MemberData) PlanError

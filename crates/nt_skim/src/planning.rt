@@ -9,7 +9,7 @@ ghost use Rattle.nt_types.specs.Views.{shape_view, member_view};
 ghost use Rattle.nt_schema.specs.ByName.{find_from};
 ghost use Rattle.nt_writable.specs.Written.{as_written};
 ghost use Rattle.nt_writable.specs.Fields.{is_field};
-ghost use Rattle.nt_skim.specs.Planning.{place_of, field_written, is_number, found_field, found_test, test_chosen, parts_chosen, planned, IsPlannedAs};
+ghost use Rattle.nt_skim.specs.Planning.{open_place, field_written, is_number, found_field, found_test, test_chosen, parts_chosen, planned, IsPlannedAs};
 ghost use Rattle.nt_skim.specs.Tests.{test_view, chosen_view};
 ghost use Rattle.nt_skim.specs.Select.{FitsFields, selection_of};
 
@@ -23,7 +23,7 @@ use std::collections::BTreeSet;
 
 /// The place of a field among the open ones at the top level.
 fn place_of(schema: &Schema, id: u32) -> u32
-    ensures { result ≡ place_of schema.now id }
+    ensures { result ≡ open_place schema.now id }
 {
     let mut place: u32 = 0;
     for k in 0..id {

@@ -11,8 +11,8 @@ loop-k-preserved c =
     elim c.if-is_some.branch [
       | then-is_some w ↦ record {
         few = omega (arith, w.place-is, c.loop-k.invariant.few);
-        counted = place-counts c.args.schema.now c.loop-k.k c.loop-k.place c.if-is_some.place c.is_some.result c.loop-k.invariant.counted same
-            w.if-is_some.true w.place-is;
+        counted = place-counts c.args.schema.now c.loop-k.k c.loop-k.place c.if-is_some.place c.is_some.result c.loop-k.invariant.counted
+            same w.if-is_some.true w.place-is;
       }
       | else-is_some w ↦ record {
         few = omega (arith, w.place-is, c.loop-k.invariant.few);
