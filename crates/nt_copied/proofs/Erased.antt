@@ -6,7 +6,8 @@ use Rattle.std.specs.Str.{bytes_eq}
 use Rattle.std.specs.List.{list_any}
 use Rattle.std.proofs.lemmas.Option.{none-some, slice_get-map}
 use Rattle.nt_lists.proofs.Bools.{and_true, both_true}
-use Rattle.nt_types.specs.ShapeData.{ShapeData, ShapesData, MembersData, MemberData, bool, char, byte, int, text, list, maybe, fields, tuple, choice}
+use Rattle.nt_types.specs.ShapeData.{ShapeData, ShapesData, MembersData, MemberData, bool, char, byte, int, text, list, maybe, fields}
+use Rattle.nt_types.specs.ShapeData.{tuple, choice}
 use Rattle.nt_types.specs.ShapeData.{no_kinds, kind, no_parts, part}
 use Rattle.nt_types.specs.Schema.{part_under}
 use Rattle.nt_types.specs.ColumnTable.{code_of, bits_of}
@@ -18,7 +19,8 @@ use Rattle.nt_grammar.specs.Codes.{leaf_role, collection_role, record_role, vari
 use Rattle.nt_grammar.specs.Table.{Table, in_header}
 use Rattle.nt_grammar.specs.Types.{cpp_name}
 use Rattle.nt_grammar.specs.Open.{ids_inside, columns_of_field, column_fits, one_column, no_column, index_types, text_columns, leaves}
-use Rattle.nt_grammar.specs.Open.{leaf_types, leaf_with, named_leaf, leaf_shape, collection_shape, record_shape, choice_shape, flags_fit, is_leaf}
+use Rattle.nt_grammar.specs.Open.{leaf_types, leaf_with, named_leaf, leaf_shape, collection_shape, record_shape, choice_shape, flags_fit}
+use Rattle.nt_grammar.specs.Open.{is_leaf}
 use Rattle.nt_grammar.specs.Open.{shape_by_role, all_some, field_of_row, open_field, top_shape, open_shapes}
 use Rattle.nt_plans.specs.Plan.{PlanData, PlansData}
 use Rattle.nt_plans.specs.Plan as plans

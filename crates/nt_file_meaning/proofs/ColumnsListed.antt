@@ -1,5 +1,6 @@
 -- The columns of a cluster, as their pages are listed.
-use Rattle.std.proofs.Common.{◌≡◌, ◌≢◌, ℕ, zero, suc, ◌+◌, Bool, true, false, cond, List, [], ◌∷◌, length, take, drop, get_or, slice_get, Some, None, Result, Ok, Err, refl, sym, ap, ◌∙◌, arith}
+use Rattle.std.proofs.Common.{◌≡◌, ◌≢◌, ℕ, zero, suc, ◌+◌, Bool, true, false, cond, List, [], ◌∷◌, length, take, drop, get_or, slice_get}
+use Rattle.std.proofs.Common.{Some, None, Result, Ok, Err, refl, sym, ap, ◌∙◌, arith}
 use Rattle.std.specs.Prelude.{nat_le}
 use Rattle.std.proofs.lemmas.List.{length-map, length-append, length-replicate}
 use Rattle.std.proofs.lemmas.List.Sums.{sum_by-append}
@@ -30,24 +31,26 @@ use Rattle.nt_pagelists.specs.declared.cluster.ClusterList.{ClusterList}
 use Rattle.nt_file_meaning.specs.Outlines.{known_column}
 use Rattle.nt_file_meaning.specs.Clusters.{stored_len, kind_of_code, page_of_column, pages_of_column, pages_of_kind}
 use Rattle.nt_file_meaning.specs.Clusters.{pages_listed, begins_behind, zero_elements, column_elements, columns_from, columns_by_id}
-use Rattle.nt_file_meaning.specs.Clusters.{no_value_fault, entries_of_columns, columns_in_cluster, entries_given, cluster_of}
+use Rattle.nt_file_meaning.specs.Clusters.{no_value_fault, entries_of_columns, columns_in_cluster, entries_if_read, cluster_of}
 use Rattle.nt_file_meaning.proofs.ClustersBack.{page}
 use Rattle.nt_file_meaning.specs.Counts.{page_counts, listed_count}
 
 -- what comes behind columns that were read
 behind : (t : Table) (n : ℕ) (columns : List (List Element)) (r : Result (Unit {0}) ReadError)
-    → (r >>= λ u. Ok (entries_of_columns t columns n)) ≡ entries_given t n (r >>= λ u. Ok columns)
+    → (r >>= λ u. Ok (entries_of_columns t columns n)) ≡ entries_if_read t n (r >>= λ u. Ok columns)
 behind t n columns (Ok u) = refl
 behind t n columns (Err e) = refl
 
 chained : (t : Table) (number : ℕ) (k : ClusterList) (r : Result (List (List Element)) ReadError)
-    → (r >>= λ cs. no_value_fault number k (fault_in_any (open_plans t) (columns_by_id cs) k.entries) >>= λ u. Ok (entries_of_columns t cs k.entries))
-    ≡ entries_given t k.entries (r >>= λ cs. no_value_fault number k (fault_in_any (open_plans t) (columns_by_id cs) k.entries) >>= λ u. Ok cs)
+    → (r >>= λ cs. no_value_fault number k (fault_in_any (open_plans t) (columns_by_id cs) k.entries) >>= λ u. Ok
+    (entries_of_columns t cs k.entries))
+    ≡ entries_if_read t k.entries (r >>= λ cs. no_value_fault number k (fault_in_any (open_plans t) (columns_by_id cs) k.entries) >>= λ u.
+    Ok cs)
 chained t number k (Ok cs) = behind t k.entries cs (no_value_fault number k (fault_in_any (open_plans t) (columns_by_id cs) k.entries))
 chained t number k (Err e) = refl
 
 pub cluster-of_columns : (file : List ℕ) (t : Table) (number : ℕ) (k : ClusterList)
-    → cluster_of file t number k ≡ entries_given t k.entries (columns_in_cluster file t number k)
+    → cluster_of file t number k ≡ entries_if_read t k.entries (columns_in_cluster file t number k)
 unfolding cluster_of columns_in_cluster
 cluster-of_columns file t number k = chained t number k (columns_from file number k t 0 t.columns)
 
@@ -76,7 +79,8 @@ column-at file number k t id (c ∷ cs) columns (suc j) row h is =
     let first = bind_ok (column_elements file number k id (known_column (need_of t id) c) c.code) _ columns h in
     let rest = bind_ok (columns_from file number k t (id + 1) cs) _ columns first.2 in
     let at : id + suc j ≡ id + 1 + j = omega arith in
-    let read : get_or columns (suc j) [] ≡ get_or rest.0 j [] = ap (λ (l : List (List Element)). get_or l (suc j) []) (sym (ok_is _ _ rest.2)) in
+    let read : get_or columns (suc j) [] ≡ get_or rest.0 j [] = ap (λ (l : List (List Element)). get_or l (suc j) [])
+    (sym (ok_is _ _ rest.2)) in
     rw (at, read) (column-at file number k t (id + 1) cs rest.0 j row rest.1 is)
 
 pub column-of : (file : List ℕ) (t : Table) (number : ℕ) (k : ClusterList) (columns : List (List Element)) (id : ℕ) (row : ColumnRow)
@@ -112,7 +116,8 @@ pages-count file number id kind (p ∷ ps) es h =
 
 column-count : (file : List ℕ) (number : ℕ) (k : ClusterList) (id : ℕ) (c : KnownColumn) (code : ℕ) (kind : ColumnType) (es : List Element)
     (is_open behind : Bool) → c.is_open ≡ is_open → begins_behind k c ≡ behind → kind_of_code code ≡ Some kind
-    → cond is_open (cond behind (Ok (zero_elements k.entries)) (pages_of_kind file number id (Some kind) (pages_listed k id))) (Ok []) ≡ Ok es
+    → cond is_open (cond behind (Ok (zero_elements k.entries)) (pages_of_kind file number id (Some kind) (pages_listed k id))) (Ok [])
+    ≡ Ok es
     → length es ≡ cond is_open (cond behind k.entries (page_counts (pages_listed k id))) 0
 column-count file number k id c code kind es false behind o b n h = ap length (sym (ok_is _ _ h))
 column-count file number k id c code kind es true true o b n h = ap length (sym (ok_is _ _ h)) ∙ length-replicate k.entries (0, 0)
@@ -156,7 +161,8 @@ pages-types file number id kind (p ∷ ps) es bytes h =
 
 column-types : (file : List ℕ) (number : ℕ) (k : ClusterList) (id : ℕ) (kind : ColumnType) (es : List Element)
     (is_open behind : Bool) → IsBytes file
-    → cond is_open (cond behind (Ok (zero_elements k.entries)) (pages_of_kind file number id (Some kind) (pages_listed k id))) (Ok []) ≡ Ok es
+    → cond is_open (cond behind (Ok (zero_elements k.entries)) (pages_of_kind file number id (Some kind) (pages_listed k id))) (Ok [])
+    ≡ Ok es
     → AreElementsOf kind es
 column-types file number k id kind es false behind bytes h = rw (sym (ok_is _ _ h)) (zeros-are_elements kind 0)
 column-types file number k id kind es true true bytes h = rw (sym (ok_is _ _ h)) (zeros-are_elements kind k.entries)

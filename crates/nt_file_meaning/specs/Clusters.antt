@@ -147,6 +147,6 @@ columns_in_cluster file t number k = do
   Ok columns
 
 -- the entries that columns give, where these were read
-abbrev pub entries_given : Table → ℕ → Result (List (List Element)) ReadError → Result (List TreesData) ReadError
-entries_given t n (Ok columns) = Ok (entries_of_columns t columns n)
-entries_given t n (Err e) = Err e
+abbrev pub entries_if_read : Table → ℕ → Result (List (List Element)) ReadError → Result (List TreesData) ReadError
+entries_if_read t n (Ok columns) = Ok (entries_of_columns t columns n)
+entries_if_read t n (Err e) = Err e

@@ -9,13 +9,13 @@ ghost use Rattle.nt_grammar.specs.declared.rows.ColumnRow.{ColumnRow};
 ghost use Rattle.nt_plans.specs.Needs.{need_of};
 ghost use Rattle.nt_pagelists.specs.declared.cluster.ClusterList.{ClusterList};
 ghost use Rattle.nt_file_meaning.specs.Outlines.{known_column};
-ghost use Rattle.nt_file_meaning.specs.Clusters.{kind_of_code, columns_by_id, columns_in_cluster, entries_given, cluster_of};
+ghost use Rattle.nt_file_meaning.specs.Clusters.{kind_of_code, columns_by_id, columns_in_cluster, entries_if_read, cluster_of};
 ghost use Rattle.nt_file_meaning.specs.Counts.{listed_count};
 
 /// The entries of a cluster are those that its columns give, and it has the fault that these have.
 pub fn clusters_are_of_their_columns()
     ensures { (file : List ℕ) (t : Table) (number : ℕ) (k : ClusterList) → cluster_of file t number k
-        ≡ entries_given t k.entries (columns_in_cluster file t number k) }
+        ≡ entries_if_read t k.entries (columns_in_cluster file t number k) }
 {}
 
 /// A column that was read has as many elements as the cluster lists, and each is of the column's type.

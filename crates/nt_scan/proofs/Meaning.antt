@@ -24,7 +24,7 @@ use Rattle.nt_pagelists.specs.declared.column.KnownColumn.{KnownColumn}
 use Rattle.nt_pagelists.specs.declared.page.PageItem.{PageItem}
 use Rattle.nt_pagelists.specs.declared.cluster.ClusterList.{ClusterList}
 use Rattle.nt_file_meaning.specs.Outlines.{Outline, outline_of, known_column}
-use Rattle.nt_file_meaning.specs.Clusters.{kind_of_code, columns_by_id, columns_in_cluster, cluster_of, entries_given}
+use Rattle.nt_file_meaning.specs.Clusters.{kind_of_code, columns_by_id, columns_in_cluster, cluster_of, entries_if_read}
 use Rattle.nt_file_meaning.specs.Clusters.{entries_of_columns, pages_listed, begins_behind}
 use Rattle.nt_file_meaning.specs.Counts.{page_counts, listed_count, zeros_due}
 use Rattle.nt_file_meaning.specs.Files.{entries_from, read_file, HasDefect}
@@ -50,7 +50,7 @@ others-fail x (Err d) e h = ap (λ (f : ReadError). Err f) (err_is d e h)
 cluster-fails : (file : List ℕ) (t : Table) (n entries : ℕ) (ks : List ClusterList) (e : ReadError) (r : Result (List
     (List Element)) ReadError)
     → (columns_over file t n ks ≡ Err e → entries_from file t n ks ≡ Err e) → joined-read file t n ks r ≡ Err e
-    → joined-entries file t n ks (entries_given t entries r) ≡ Err e
+    → joined-entries file t n ks (entries_if_read t entries r) ≡ Err e
 cluster-fails file t n entries ks e (Ok cs) rest h =
     ap (λ r. r >>= λ others. Ok (entries_of_columns t cs entries ∷ others)) (rest (others-fail cs (columns_over file t n ks) e h))
 cluster-fails file t n entries ks e (Err d) rest h = ap (λ (f : ReadError). Err f) (err-same d e h)
@@ -80,7 +80,7 @@ over-entries file t n (k ∷ ks) read e h bad =
     let first = bind_ok (columns_in_cluster file t n k) (λ f. columns_over file t (n + 1) ks >>= λ others. Ok (f ∷ others)) read h in
     let rest = bind_ok (columns_over file t (n + 1) ks) (λ others. Ok (first.0 ∷ others)) read first.2 in
     let given : cluster_of file t n k ≡ Ok (entries_of_columns t first.0 k.entries) =
-    cluster-of_columns file t n k ∙ ap (entries_given t k.entries) first.1 in
+    cluster-of_columns file t n k ∙ ap (entries_if_read t k.entries) first.1 in
     let others : entries_from file t (n + 1) ks ≡ Err e =
     others-fail (entries_of_columns t first.0 k.entries) (entries_from file t (n + 1) ks) e
     (sym (ap (joined-entries file t (n + 1) ks) given) ∙ bad) in
