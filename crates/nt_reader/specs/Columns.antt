@@ -1,63 +1,13 @@
--- The columns of a cluster, read one after the other.
-use Rattle.std.specs.Prelude.{ℕ, ◌≡◌, ◌+◌, ◌<◌, List, map, take, drop, length, slice_index_or, Option, Some, None, Result}
-use Rattle.nt_num.specs.declared.fault.ReadError.{ReadError}
-use Rattle.nt_types.specs.declared.column_type.ColumnType.{ColumnType}
-use Rattle.nt_types.specs.declared.column_type.ColumnType.TheVariants.{Bit}
-use Rattle.nt_encode.specs.Elements.{Element}
-use Rattle.nt_column.specs.Column.{Buffer, Column, empty, columns_of}
-use Rattle.nt_grammar.specs.Table.{Table}
-use Rattle.nt_grammar.specs.declared.rows.ColumnRow.{ColumnRow}
-use Rattle.nt_plans.specs.Needs.{need_of}
-use Rattle.nt_pagelists.specs.declared.cluster.ClusterList.{ClusterList}
-use Rattle.nt_file_meaning.specs.Outlines.{known_column}
+-- The columns of a cluster that was read, and the entries that they give.
+use Rattle.std.specs.Prelude.{ℕ, List, length}
 use Rattle.nt_types.specs.TreeData.{TreesData}
-use Rattle.nt_file_meaning.specs.Clusters.{kind_of_code, column_elements, entries_of_columns}
-
--- the type by which a column is kept; one without a type, which stays empty, by any
-abbrev pub kind_or_bit : Option ColumnType → ColumnType
-kind_or_bit (Some kind) = kind
-kind_or_bit None = Bit
-
--- a column without elements
-abbrev pub kept_empty : ColumnRow → Column
-kept_empty row = empty (kind_or_bit (kind_of_code row.code))
-
--- columns are of the types by which those of these rows are kept
-abbrev pub AreOfTypes : List ColumnRow → List Column → Type 0
-AreOfTypes rows cs = map (λ (c : Column). empty c.kind) cs ≡ map kept_empty rows
-
--- the column with this id
-abbrev pub held_column : List Column → ℕ → Column
-held_column cs id = slice_index_or cs id (empty Bit)
-
--- the elements of the column with this row and id in a cluster
-abbrev pub elements_in : ℕ → ClusterList → Table → ℕ → ColumnRow → List ℕ → Result (List Element) ReadError
-elements_in number k t id row file = column_elements file number k id (known_column (need_of t id) row) row.code
-
--- the elements that buffers hold, column by column
-abbrev pub held_elements : List Buffer → List (List Element)
-held_elements bs = map (λ (c : Column). c.elements) (columns_of bs)
-
--- so many columns were read, and the others are empty
-pub record AreReadTo (rows : List ColumnRow) (n : ℕ) (cs : List Column) : Type 0 where
-  pub all : length cs ≡ length rows
-  pub others : drop n cs ≡ map kept_empty (drop n rows)
-
--- the column with this id is the first that wasn't read
-pub record IsNextColumn (rows : List ColumnRow) (id : ℕ) (cs : List Column) : Type 0 where
-  pub there : id < length rows
-  pub before : AreReadTo rows id cs
-
--- the column with this id is there, and empty
-pub record IsEmptyAt (cs : List Column) (id : ℕ) : Type 0 where
-  pub there : id < length cs
-  pub none : held_column cs id ≡ empty (held_column cs id).kind
-
--- nothing but this column may have changed
-pub record ChangesOne (id : ℕ) (cs ds : List Column) : Type 0 where
-  pub all : length ds ≡ length cs
-  pub before : take id ds ≡ take id cs
-  pub behind : drop (id + 1) ds ≡ drop (id + 1) cs
+use Rattle.nt_encode.specs.Elements.{Element}
+use Rattle.nt_grammar.specs.Table.{Table}
+use Rattle.nt_plans.specs.Place.{open_plans}
+use Rattle.nt_trees.specs.Sound.{AllSound}
+use Rattle.nt_view.specs.Loaded.{Loaded, loaded_elements}
+use Rattle.nt_file_meaning.specs.Clusters.{entries_of_columns}
+use Rattle.nt_reader.specs.Listings.{AreColumnsOf}
 
 -- what was read of a cluster: the rows of its schema, the elements of its columns by id, and the number of its entries
 pub record ClusterData : Type 0 where
@@ -68,3 +18,8 @@ pub record ClusterData : Type 0 where
 -- the entries that it gives: of each the trees of the open fields at the top level, in order
 abbrev pub given_entries : ClusterData → List TreesData
 given_entries c = entries_of_columns c.table c.columns c.entries
+
+-- loaded columns are those of a table, and nothing is wrong with their values
+pub record IsSoundOver (t : Table) (l : Loaded) (n : ℕ) : Type 0 where
+  pub all : AreColumnsOf (length t.columns) l
+  pub sound : AllSound (open_plans t) (λ k. loaded_elements l k) n

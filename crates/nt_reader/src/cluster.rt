@@ -1,6 +1,6 @@
 //! A cluster that was read.
 
-ghost use Rattle.std.specs.Prelude.{◌≡◌, ◌<◌, ◌++◌, ◌∷◌, [], Some, slice_get, slice_index_or, IfOk, OnOk, OnErr};
+ghost use Rattle.std.specs.Prelude.{◌≡◌, ◌<◌, ◌++◌, ◌∷◌, [], length, Some, slice_get, slice_index_or, IfOk, OnOk, OnErr};
 ghost use Rattle.nt_types.specs.TreeData.{trees_of, no_trees};
 ghost use Rattle.nt_types.specs.TreeViews.{trees_view};
 ghost use Rattle.nt_plans.specs.Place.{open_plans};
@@ -8,13 +8,14 @@ ghost use Rattle.nt_trees.specs.Sound.{AllSound};
 ghost use Rattle.nt_trees.specs.Faults.{Spot, fault_in_any};
 ghost use Rattle.nt_join.specs.Spots.{spot_of};
 ghost use Rattle.nt_event.specs.Json.{line_of};
-ghost use Rattle.nt_file_meaning.specs.Clusters.{columns_by_id, frame_of, value_fault, no_value_fault, cluster_of};
+ghost use Rattle.nt_file_meaning.specs.Clusters.{frame_of, value_fault, no_value_fault, cluster_of};
 ghost use Rattle.nt_tfile.specs.Calls.{Serves, IsReadAs, ReadsFile};
-ghost use Rattle.nt_reader.specs.Columns.{held_elements, given_entries};
+ghost use Rattle.nt_view.specs.Loaded.{loaded_elements};
+ghost use Rattle.nt_reader.specs.Columns.{given_entries};
+ghost use Rattle.nt_reader.specs.Listings.{columns_of_loaded, AreColumnsOf};
 
 use crate::columns::read_columns;
 use crate::faults::{BAD_VALUE, fault_with, in_column};
-use nt_column::ColumnSet;
 use nt_join::{ValueFault, check_values};
 use nt_num::ReadError;
 use nt_outside::ReadAt;
@@ -22,6 +23,7 @@ use nt_pagelists::ClusterList;
 use nt_schema::Schema;
 use nt_tfile::ReadFailure;
 use nt_types::Trees;
+use nt_view::ClusterBytes;
 use std::alloc::{AllocError, Global};
 use std::marker::Model;
 
@@ -30,21 +32,20 @@ use std::marker::Model;
 #[derive(Drop)]
 pub struct ClusterRead<'a> {
     schema: &'a Schema,
-    columns: ColumnSet,
+    columns: ClusterBytes,
     entries: u64,
 }
 
 impl<'a> Model for ClusterRead<'a> {
-    ghost use Rattle.nt_plans.specs.Place.{open_plans};
-    ghost use Rattle.nt_trees.specs.Sound.{AllSound};
-    ghost use Rattle.nt_file_meaning.specs.Clusters.{columns_by_id};
-    ghost use Rattle.nt_reader.specs.Columns.{ClusterData, held_elements};
+    ghost use Rattle.std.specs.Prelude.{length};
+    ghost use Rattle.nt_reader.specs.Columns.{ClusterData, IsSoundOver};
+    ghost use Rattle.nt_reader.specs.Listings.{columns_of_loaded};
 
     ghost Value = { ClusterData };
 
-    ghost view = { λ c. record { table = c.schema.now; columns = held_elements c.columns; entries = c.entries } };
+    ghost view = { λ c. record { table = c.schema.now; columns = columns_of_loaded 0 (length c.schema.now.columns) c.columns; entries = c.entries } };
 
-    ghost invariant = { λ c. AllSound (open_plans c.schema.now) (columns_by_id (held_elements c.columns)) c.entries };
+    ghost invariant = { λ c. IsSoundOver c.schema.now c.columns c.entries };
 }
 
 impl<'a> ClusterRead<'a> {
@@ -74,9 +75,17 @@ impl<'a> ClusterRead<'a> {
         nt_print::write_entry(alloc, &self.columns, self.schema, i, out)
     }
 
+    /// The columns, as they are loaded.
+    pub fn columns(&self) -> &ClusterBytes
+        ensures columns { columns_of_loaded 0 (length self.now.table.columns) result.now ≡ self.now.columns }
+        ensures all { AreColumnsOf (length self.now.table.columns) result.now }
+    {
+        &self.columns
+    }
+
     /// The columns, whose memory another cluster can take.
-    pub fn into_columns(self) -> ColumnSet
-        ensures { held_elements result ≡ self.entry.columns }
+    pub fn into_columns(self) -> ClusterBytes
+        ensures { columns_of_loaded 0 (length self.entry.table.columns) result ≡ self.entry.columns }
     {
         self.columns
     }
@@ -115,15 +124,15 @@ fn value_fault(number: u32, cluster: &ClusterList, found: ValueFault) -> ReadErr
 
 /// Whether the values of columns are those of the entries of a cluster.
 fn check(
-    columns: &ColumnSet,
+    columns: &ClusterBytes,
     schema: &Schema,
     number: u32,
     cluster: &ClusterList,
 ) -> Result<(), ReadError>
-    ensures fault { let cols = columns_by_id (held_elements columns.now) in
+    ensures fault { let cols = loaded_elements columns.now in
         let found = fault_in_any (open_plans schema.now) cols cluster.now.entries in
         IsReadAs (λ _. tt) result (no_value_fault number cluster.now found) }
-    ensures sound { let cols = columns_by_id (held_elements columns.now) in
+    ensures sound { let cols = loaded_elements columns.now in
         IfOk result (λ _. AllSound (open_plans schema.now) cols cluster.now.entries) }
 {
     match check_values(columns, schema, cluster.entries) {
@@ -140,14 +149,17 @@ pub fn read_cluster<'a, F: ReadAt>(
     schema: &'a Schema,
     number: u32,
     cluster: &ClusterList,
-    kept: Option<ColumnSet>,
+    kept: Option<ClusterBytes>,
 ) -> Result<ClusterRead<'a>, ReadFailure>
     ensures file { Serves (F.state file.old) (F.state file.new) result }
     ensures read { ReadsFile (λ c. given_entries c)
         (λ told. cluster_of told schema.now number cluster.now) (F.state file.old) result }
 {
-    let size = file.size()?;
-    let columns = read_columns(alloc, file, size, number, cluster, schema, kept)?;
+    let kept = match kept {
+        Some(columns) => columns,
+        None => ClusterBytes::new(alloc),
+    };
+    let columns = read_columns(alloc, file, number, cluster, schema, kept)?;
     check(&columns, schema, number, cluster)?;
     Ok(ClusterRead {
         schema,

@@ -34,12 +34,10 @@ mod envelope;
 mod faults;
 mod groups;
 mod known;
+mod page_listing;
 mod moving;
-mod pages;
 mod reader;
-mod reuse;
 mod wanting;
-mod window;
 
 pub use cluster::ClusterRead;
 pub use envelope::{Block, Envelope, read_sealed};

@@ -9,11 +9,11 @@ ghost use Rattle.nt_reader.specs.Columns.{given_entries};
 use crate::cluster::{ClusterRead, read_cluster};
 use crate::describing::read_described;
 use crate::groups::read_clusters;
-use nt_column::ColumnSet;
 use nt_outside::ReadAt;
 use nt_pagelists::ClusterList;
 use nt_schema::Schema;
 use nt_tfile::{ReadFailure, read_tfile};
+use nt_view::ClusterBytes;
 use std::alloc::Global;
 use std::marker::Model;
 
@@ -103,13 +103,13 @@ impl Reader {
     }
 
     /// Reads a cluster as `cluster` does, in the memory of the columns of one that was read before.
-    /// Any columns do: those of other types than the file's are dropped.
+    /// Any columns do.
     pub fn cluster_in<F: ReadAt>(
         &self,
         alloc: Global,
         file: &mut F,
         k: u32,
-        kept: Option<ColumnSet>,
+        kept: Option<ClusterBytes>,
     ) -> Result<ClusterRead<'_>, ReadFailure>
         requires { k < length self.now.clusters }
         ensures file { Serves (F.state file.old) (F.state file.new) result }

@@ -1,34 +1,36 @@
-use Rattle.std.proofs.Common.{List, ◌∙◌, arith}
-use Rattle.std.proofs.lemmas.Result.{err_from_is_err_and}
-use Rattle.nt_encode.specs.Elements.{Element}
-use Rattle.nt_reader.proofs.Chains.{fails-as}
-use Rattle.nt_reader.proofs.Changes.{read-more, held-more, row-there, inside-more}
-use Rattle.nt_reader.proofs.ColumnSteps.{columns-more, columns-fail}
+use Rattle.std.proofs.Common.{length, ◌∙◌}
+use Rattle.nt_view.specs.Loaded.{Loaded}
+use Rattle.nt_reader.specs.Listings.{columns_of_loaded}
+use Rattle.nt_reader.specs.Listed.{listing_view}
+use Rattle.nt_reader.proofs.ColumnsRead.{listed-loadable, columns-failed, columns-wrong, columns-right, columns-all}
 use Rattle.nt_reader.proofs.columns.read_columns.Goals as goal
 
-pub returns-in_err-read_column-clause-read : goal.returns-in_err-read_column-clause-read
-returns-in_err-read_column-clause-read g c told is =
-    let p = err_from_is_err_and c.from_residual-in_err-read_column.result c.from_residual-in_err-read_column.ensures.1 in
-    rw (p.1, p.2)
-    (fails-as (λ (l : List (List Element)). l) (λ (l : List (List Element)). l) _ _ _ (c.loop-id.invariant.read told is)
-    (columns-fail (λ (l : List Element). l) (λ (l : List (List Element)). l) told c.args.number c.args.cluster.now c.args.schema.now
-    c.loop-id.id _ _ _ (omega arith)
-    (row-there c.args.schema.now.columns c.loop-id.id (omega arith))
-    (c.in_err-read_column.ensures.read _ (row-there c.args.schema.now.columns c.loop-id.id (omega arith)) told (c.loop-id.invariant.same
-    ∙ is))))
-
-pub loop-id-preserved : goal.loop-id-preserved
-loop-id-preserved g c = record {
-  same = c.in_ok-read_column.ensures.file.same ∙ c.loop-id.invariant.same;
-  later = omega (arith, c.in_ok-read_column.ensures.file.later, c.loop-id.invariant.later);
-  done = read-more c.args.schema.now.columns _ _ c.loop-id.id c.loop-id.invariant.done c.in_ok-read_column.ensures.others;
-  read = λ told is.
-      c.loop-id.invariant.read told is
-      ∙ columns-more told c.args.number c.args.cluster.now c.args.schema.now c.loop-id.id _ _ _ _ (omega arith)
-      (row-there c.args.schema.now.columns c.loop-id.id (omega arith))
-      (c.in_ok-read_column.ensures.read _ (row-there c.args.schema.now.columns c.loop-id.id (omega arith)) told (c.loop-id.invariant.same
-      ∙ is))
-      (held-more c.loop-id.columns c.read_column.new.columns c.loop-id.id
-      (inside-more c.args.schema.now.columns _ _ c.loop-id.id c.loop-id.invariant.done c.in_ok-read_column.ensures.others (omega arith))
-      c.in_ok-read_column.ensures.others);
+pub load_over-requires : goal.load_over-requires
+load_over-requires g c = record {
+  listed = listed-loadable c.args.number c.args.cluster.now c.args.schema.now (listing_view c.in_ok-listing.listing)
+      c.deref.result.now c.deref-2.result.now c.in_ok-listing.ensures c.deref.ensures.value c.deref-2.ensures.value;
 }
+
+pub returns-in-Err-clause-read : goal.returns-in-Err-clause-read
+returns-in-Err-clause-read g c told is =
+    columns-failed (λ (x : Loaded). columns_of_loaded 0 (length c.args.schema.now.columns) x) told c.args.number c.args.cluster.now c.args.schema.now (listing_view c.in_ok-listing.listing)
+    c.deref.result.now c.deref-in-Err.result.now c.deref-2.result.now c.in-Err.fault c.load_failure.result
+    c.in_ok-listing.ensures c.deref.ensures.value c.deref-2.ensures.value c.deref-in-Err.ensures.value
+    (c.in-Err.ensures.read told is) c.load_failure.ensures.told
+
+pub returns-in-Some-clause-read : goal.returns-in-Some-clause-read
+returns-in-Some-clause-read g c told is =
+    columns-wrong told c.args.number c.args.cluster.now c.args.schema.now (listing_view c.in_ok-listing.listing)
+    c.deref.result.now c.deref-2.result.now c.in-Ok.columns c.in-Some.error c.in_ok-listing.ensures c.deref.ensures.value
+    c.deref-2.ensures.value (c.in-Ok.ensures.read told is) c.in-Some.is
+
+pub returns-clause-read : goal.returns-clause-read
+returns-clause-read g c told is =
+    columns-right told c.args.number c.args.cluster.now c.args.schema.now (listing_view c.in_ok-listing.listing)
+    c.deref.result.now c.deref-2.result.now c.in-Ok.columns c.in_ok-listing.ensures c.deref.ensures.value
+    c.deref-2.ensures.value (c.in-Ok.ensures.read told is) c.in-None.is
+
+pub returns-clause-columns : goal.returns-clause-columns
+returns-clause-columns g c =
+    columns-all c.args.number c.args.cluster.now c.args.schema.now (listing_view c.in_ok-listing.listing) c.in-Ok.columns
+    c.in_ok-listing.ensures (c.in-Ok.ensures.listed.0 ∙ c.deref.ensures.value) (c.in-Ok.ensures.listed.1 ∙ c.deref-2.ensures.value)
