@@ -14,10 +14,12 @@ use Rattle.nt_book.specs.declared.params.Params.{Params}
 use Rattle.nt_layout.specs.Headers.{header_blob, clusters_place}
 use Rattle.nt_close.specs.Steps.{begun_on, IsBegunSoFar, IsBegunWith}
 use Rattle.nt_close.specs.Passing.{passed_by_begin}
-use Rattle.nt_close.specs.Beginning.{new_book, IsHeaderBlob, IsBegun, IsBeginCut}
+use Rattle.nt_close.specs.Beginning.{new_book, IsHeaderBlob, IsBegun, IsBegunFor, IsBeginCut, IsBeginCutFor, IsNotBegun, IsNotBegunFor}
+use Rattle.nt_close.specs.declared.error.BeginError.{BeginError}
+use Rattle.nt_close.specs.declared.error.BeginError.TheVariants.{Memory, RangeTooLarge, FileTooLarge, Fault}
 use Rattle.nt_close.proofs.Crashes.{begun-crash, cut-crash}
 
-module _ (ps : List MemberData) (p : Params) (t : Table) (rows : Rows ps p.plain t) (within : passed_by_begin p.limits t ≡ None) where
+module _ (p : Params) (t : Table) (within : passed_by_begin p.limits t ≡ None) where
   -- the new book
   book_is : (len columns : ℕ) (book : BookData)
       → book ≡ record (new_book t p.limits) { begin = 226 + len; firsts = replicate columns 0 }
@@ -34,12 +36,11 @@ module _ (ps : List MemberData) (p : Params) (t : Table) (rows : Rows ps p.plain
       → len ≡ length bytes → columns ≡ length t.columns → blob ≡ bytes → IsHeaderBlob t bytes
       → TakesRoom steps more old mid room → WhereHeld old.held (λ (h : Held). h ≡ nothing_held) → old.end ≡ 0
       → IsBegunWith (begun 0 0 0) blob mid new → new.out ≡ mid.out → mid.faults ≤ new.faults
-      → IsBegun ps p old new book t
+      → IsBegunFor t p old new book
   begun-is bytes blob len columns steps more book old mid new room is len-is long same header takes nothing empty ok out later =
       let becomes : Becomes old.held new.held (begun_on (begun 0 0 0) (header_blob t)) =
       λ h was. ok.held h (takes.held ∙ was) ∙ ap (λ (l : List ℕ). Some (begun_on (begun 0 0 0) l h)) (same ∙ header.bytes_are) in
       record {
-        rows = rows;
         book_is = book_is len columns book is (omega (arith, len-is, header.place)) long;
         within = within;
         held = becomes;
@@ -53,18 +54,48 @@ module _ (ps : List MemberData) (p : Params) (t : Table) (rows : Rows ps p.plain
   pub begin-cut : (bytes blob : List ℕ) (steps more : ℕ) (old mid new : DiskState) (room : Result (Unit {0}) AllocError)
       → blob ≡ bytes → IsHeaderBlob t bytes → TakesRoom steps more old mid room → WhereHeld old.held (λ (h : Held). h ≡ nothing_held)
       → BecomesSome mid.held new.held (IsBegunSoFar (begun 0 0 0) blob) → new.out ≡ mid.out → Rose mid.faults new.faults
-      → IsBeginCut ps p old new
+      → IsBeginCutFor t p old new
   begin-cut bytes blob steps more old mid new room same header takes nothing left out rose =
       let so_far : BecomesSome old.held new.held (IsBegunSoFar (begun 0 0 0) (header_blob t)) =
       λ h was.
       let stands = left h (takes.held ∙ was) in
       (stands.0, stands.1, subst (λ (l : List ℕ). IsBegunSoFar (begun 0 0 0) l h stands.0) (same ∙ header.bytes_are) stands.2) in
       record {
-        table = t;
-        rows = rows;
         within = within;
         held = so_far;
         crash = cut-crash t old.held new.held nothing so_far;
         out = out ∙ takes.out;
         rose = subst (λ (n : ℕ). Rose n new.faults) takes.faults rose;
       }
+
+-- ---- that of fields
+
+pub begun_rows : (ps : List MemberData) (p : Params) (old new : DiskState) (book : BookData) (t : Table) → Rows ps p.plain t
+    → IsBegunFor t p old new book → IsBegun ps p old new book t
+begun_rows ps p old new book t rows is = record {
+  rows = rows;
+  book_is = is.book_is;
+  within = is.within;
+  held = is.held;
+  crash = is.crash;
+  end = is.end;
+  out = is.out;
+  later = is.later;
+}
+
+pub not_begun_rows : (ps : List MemberData) (p : Params) (old new : DiskState) (t : Table) (e : BeginError) → Rows ps p.plain t
+    → IsNotBegunFor t p old new e → IsNotBegun ps p old new e
+not_begun_rows ps p old new t Memory rows is = is
+not_begun_rows ps p old new t (RangeTooLarge len most) rows is =
+    record { table = t; rows = rows; passed_is = is.0; untouched = is.1 }
+not_begun_rows ps p old new t (FileTooLarge end most) rows is =
+    record { table = t; rows = rows; passed_is = is.0; untouched = is.1 }
+not_begun_rows ps p old new t Fault rows is = record {
+  table = t;
+  rows = rows;
+  within = is.within;
+  held = is.held;
+  crash = is.crash;
+  out = is.out;
+  rose = is.rose;
+}

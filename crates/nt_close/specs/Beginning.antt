@@ -39,7 +39,17 @@ new_book t limits = record {
   torn = None;
 }
 
--- the file of these fields is begun with this schema and book, within the limits; it is shut, and so a crash leaves what isn't finished
+-- the file of this schema is begun with this book, within the limits; it is shut, and so a crash leaves what isn't finished
+pub record IsBegunFor (t : Table) (p : Params) (old new : DiskState) (book : BookData) : Type 0 where
+  pub book_is : book ≡ new_book t p.limits
+  pub within : passed_by_begin p.limits t ≡ None
+  pub held : Becomes old.held new.held (begun_on (begun 0 0 0) (header_blob t))
+  pub crash : BecomesSome old.held new.held (λ h h'. StaysShut h'.log × LeavesUnfinished h'.log)
+  pub end : new.end ≡ clusters_place t
+  pub out : new.out ≡ old.out
+  pub later : old.faults ≤ new.faults
+
+-- that of these fields is begun, with their schema
 pub record IsBegun (ps : List MemberData) (p : Params) (old new : DiskState) (book : BookData) (t : Table) : Type 0 where
   pub rows : Rows ps p.plain t
   pub book_is : book ≡ new_book t p.limits
@@ -50,6 +60,14 @@ pub record IsBegun (ps : List MemberData) (p : Params) (old new : DiskState) (bo
   pub out : new.out ≡ old.out
   pub later : old.faults ≤ new.faults
 
+-- a step failed, and those before it were taken; a crash leaves what isn't finished
+pub record IsBeginCutFor (t : Table) (p : Params) (old new : DiskState) : Type 0 where
+  pub within : passed_by_begin p.limits t ≡ None
+  pub held : BecomesSome old.held new.held (IsBegunSoFar (begun 0 0 0) (header_blob t))
+  pub crash : BecomesSome old.held new.held (λ h h'. LeavesUnfinished h'.log)
+  pub out : new.out ≡ old.out
+  pub rose : Rose old.faults new.faults
+
 -- a limit is passed, and nothing was written
 pub record IsTooLargeToBegin (ps : List MemberData) (p : Params) (passed : LimitError) (old new : DiskState) : Type 0 where
   pub table : Table
@@ -57,7 +75,7 @@ pub record IsTooLargeToBegin (ps : List MemberData) (p : Params) (passed : Limit
   pub passed_is : passed_by_begin p.limits table ≡ Some passed
   pub untouched : IsUntouched old new
 
--- a step failed, and those before it were taken; a crash leaves what isn't finished
+-- a step failed: the schema of these fields is begun so far
 pub record IsBeginCut (ps : List MemberData) (p : Params) (old new : DiskState) : Type 0 where
   pub table : Table
   pub rows : Rows ps p.plain table
@@ -78,6 +96,15 @@ IsNotBegun ps p old new Memory = IsUntouched old new
 IsNotBegun ps p old new (RangeTooLarge len most) = IsTooLargeToBegin ps p (limit.RangeTooLarge len most) old new
 IsNotBegun ps p old new (FileTooLarge end most) = IsTooLargeToBegin ps p (limit.FileTooLarge end most) old new
 IsNotBegun ps p old new Fault = IsBeginCut ps p old new
+
+-- why the file of this schema isn't begun, and what is left then
+abbrev pub IsNotBegunFor : Table → Params → DiskState → DiskState → BeginError → Type 0
+IsNotBegunFor t p old new Memory = IsUntouched old new
+IsNotBegunFor t p old new (RangeTooLarge len most) =
+    (passed_by_begin p.limits t ≡ Some (limit.RangeTooLarge len most)) × IsUntouched old new
+IsNotBegunFor t p old new (FileTooLarge end most) =
+    (passed_by_begin p.limits t ≡ Some (limit.FileTooLarge end most)) × IsUntouched old new
+IsNotBegunFor t p old new Fault = IsBeginCutFor t p old new
 
 -- memory is wanting, or this limit is passed
 abbrev pub IsBeginPassed : Option LimitError → BeginError → Type 0

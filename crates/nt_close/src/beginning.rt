@@ -12,7 +12,7 @@ ghost use Rattle.nt_layout.specs.Headers.{clusters_place};
 ghost use Rattle.nt_schema.specs.Whole.{AreWhole};
 ghost use Rattle.nt_close.specs.Steps.{HasRoomToBegin, IsBegunWith, IsBegunSoFar};
 ghost use Rattle.nt_close.specs.Passing.{first_passed, passed_by_begin};
-ghost use Rattle.nt_close.specs.Beginning.{IsHeaderBlob, IsBeginPassed, IsBegun, IsNotBegun};
+ghost use Rattle.nt_close.specs.Beginning.{IsHeaderBlob, IsBeginPassed, IsBegunFor, IsNotBegunFor, IsBegun, IsNotBegun};
 
 use crate::blobs::{KEY, put_blob};
 use crate::error::BeginError;
@@ -93,10 +93,35 @@ fn write_head<D: Disk>(disk: &mut D, blob: &[u8]) -> Result<(), Failed>
     write_begin(disk, &head, blob)
 }
 
-/// Begins the file of these fields on an empty disk: the room of file header and directory, with 0
-/// for the first byte, and the header, which stay. It gives the book of its clusters, of which
-/// there are none yet, and the schema. After `Fault` the first byte is 0, or nothing is known of
-/// the file but that its first append failed; after any other refusal the disk is still empty.
+/// Begins the file of a schema on an empty disk: the room of file header and directory, with 0 for
+/// the first byte, and the header, which stay. It gives the book of its clusters, of which there are
+/// none yet. After `Fault` the first byte is 0, or nothing is known of the file but that its first
+/// append failed; after any other refusal the disk is still empty.
+pub fn begin_with<D: Disk>(
+    alloc: Global,
+    disk: &mut D,
+    schema: &Schema,
+    params: &Params,
+) -> Result<Book, BeginError>
+    requires whole { AreWhole schema.now }
+    requires empty { WhereHeld (D.state disk.old).held (λ h. h ≡ nothing_held) }
+    requires end { (D.state disk.old).end ≡ 0 }
+    ensures begun { IfOk result (λ book. IsBegunFor schema.now params.now
+        (D.state disk.old) (D.state disk.new) book) }
+    ensures refused { IfErr result (IsNotBegunFor schema.now params.now
+        (D.state disk.old) (D.state disk.new)) }
+{
+    let blob = header_of(alloc, schema, &params.limits)?;
+    let end = HEAD + blob.len() as u64;
+    let book = Book::new(alloc, end, schema.columns(), params.limits)?;
+    disk.room(3, end)?;
+    write_head(disk, &blob)?;
+    Ok(book)
+}
+
+/// Begins the file of these fields on an empty disk as `begin_with` does, and gives the schema with
+/// the book.
+#[tactic(auto, using(crate::proofs::Begun::begun_rows, crate::proofs::Begun::not_begun_rows))]
 pub fn begin<D: Disk>(
     alloc: Global,
     disk: &mut D,
@@ -112,10 +137,8 @@ pub fn begin<D: Disk>(
         (D.state disk.old) (D.state disk.new)) }
 {
     let schema = describe(alloc, fields, params.plain)?;
-    let blob = header_of(alloc, &schema, &params.limits)?;
-    let end = HEAD + blob.len() as u64;
-    let book = Book::new(alloc, end, schema.columns(), params.limits)?;
-    disk.room(3, end)?;
-    write_head(disk, &blob)?;
-    Ok((book, schema))
+    match begin_with(alloc, disk, &schema, params) {
+        Ok(book) => Ok((book, schema)),
+        Err(error) => Err(error),
+    }
 }

@@ -38,7 +38,7 @@ mod lists;
 mod spoiled;
 mod steps;
 
-pub use beginning::begin;
+pub use beginning::{begin, begin_with};
 pub use closing::close;
 pub use error::{BeginError, CloseError};
 pub use laws::{closed_is_finished, first_byte_is_last, steps_stay_in_order};

@@ -1,6 +1,7 @@
 -- A disk and its book with one entry more.
 use Rattle.std.proofs.Common.{◌≡◌, ◌∙◌, ap, sym, refl, ℕ, ◌+◌, ◌^◌, ◌<◌, ◌≤◌, List, [], ◌∷◌, ◌++◌, length, Option, Some, None, arith, subst}
-use Rattle.std.proofs.Common.{append-nil, false}
+use Rattle.std.proofs.Common.{append-nil, false, inl, inr}
+use Rattle.std.proofs.lemmas.Bool.{cases_lt}
 use Rattle.std.specs.Prelude.{Contains}
 use Rattle.std.specs.List.{AllByRecursion}
 use Rattle.nt_outside.specs.Log.{Step, Reserve}
@@ -24,12 +25,12 @@ use Rattle.nt_book.proofs.Ungrouped.{end-ungrouped, due-ungrouped}
 use Rattle.nt_commit.specs.declared.claim.Claim.{Claim}
 use Rattle.nt_commit.specs.Claims.{IsNewClaim, IsClaimOf}
 use Rattle.nt_commit.specs.Holds.{IsLater, locked_end, locked_count}
-use Rattle.nt_commit.specs.Locked.{LockedState, place_of, Follows, IsInStep, birth_with, history_of_locked, locked_by}
+use Rattle.nt_commit.specs.Locked.{LockedState, place_of, Follows, EndWithin, IsInStep, birth_with, history_of_locked, locked_by}
 use Rattle.nt_logged.specs.Tails.{range_steps}
 use Rattle.nt_logged.specs.Steps.{told_history}
 use Rattle.nt_commit.proofs.Claimed.{claim_out}
 use Rattle.nt_commit.proofs.Handed.{contains_out}
-use Rattle.nt_commit.proofs.Short.{IsShort, ReservesShort, short-snoc}
+use Rattle.nt_commit.proofs.Short.{IsShort, ReservesWithin, reserves-short, short-snoc, within-snoc}
 use Rattle.nt_commit.proofs.Following.{risen, Follows-same, Follows-commit, Follows-fault}
 use Rattle.nt_commit.proofs.Telling.{told_entry, steps_count, GainsSo, told_history-snoc, steps_are_counted, told_out, told_end, told_last}
 use Rattle.nt_commit.proofs.Telling.{told_count}
@@ -100,6 +101,10 @@ module _ {D : Type 0} (state : D → DiskState) (begun d : D) (contexts : ℕ) (
   abbrev AreShort : List (Entry ClusterMeta) → Type 0
   AreShort entries = AllByRecursion (IsShort b.limits.range) (ranges_of entries)
 
+  -- they end where they may
+  abbrev AreWithin : List (Entry ClusterMeta) → Type 0
+  AreWithin entries = EndWithin b.limits (state begun).end (ranges_of entries)
+
   -- the claim that a commit hands out
   pub new_claim : {X : Type 0} (tell : X → ExtState) (n len : ℕ) (ext : X) → n ≡ length (book_clusters b)
       → IsNewExt len (state d) (tell ext)
@@ -139,8 +144,8 @@ module _ {D : Type 0} (state : D → DiskState) (begun d : D) (contexts : ℕ) (
 
     new_step : (entries : List (Entry ClusterMeta)) (spare : ℕ) → HasHistory entries spare
         → Follows (state begun) (state d') contexts (history_of_locked state new) → AreShort (history_of_locked state new)
-        → IsLater state old new
-    new_step entries spare is follows short =
+        → AreWithin (history_of_locked state new) → IsLater state old new
+    new_step entries spare is follows short within =
         record {
           birth = ap (λ (x : BookData). (locked_of begun d' contexts x).birth) is;
           before = was;
@@ -153,6 +158,8 @@ module _ {D : Type 0} (state : D → DiskState) (begun d : D) (contexts : ℕ) (
             follows = follows;
             short = subst (λ (l : Limits). AllByRecursion (IsShort l.range) (ranges_of (history_of_locked state new)))
                 (sym (ap (λ (x : BookData). x.limits) is)) short;
+            within = subst (λ (l : Limits). EndWithin l (state begun).end (ranges_of (history_of_locked state new)))
+                (sym (ap (λ (x : BookData). x.limits) is)) within;
           };
         }
 
@@ -181,13 +188,15 @@ module _ {D : Type 0} (state : D → DiskState) (begun d : D) (contexts : ℕ) (
     pub grows_to : (e e' : Entry ClusterMeta) (spare : ℕ) (steps : List Step) → HasHistory (b.history ++ e ∷ []) spare
         → BecomesSome (state d).held (state d').held (λ h h'. h'.log ≡ h.log ++ steps)
         → told_entry (state begun).held e (range_steps steps) ≡ e'
-        → Follows (state begun) (state d') contexts (history ++ e' ∷ []) → ReservesShort b.limits.range e'.kind
-        → IsLater state old new × (history_of_locked state new ≡ history ++ e' ∷ [])
+        → Follows (state begun) (state d') contexts (history ++ e' ∷ [])
+        → ReservesWithin b.limits (state begun).end (ranges_of history) e'.kind → IsLater state old new × (history_of_locked state new ≡ history ++ e' ∷ [])
     grows_to e e' spare steps is log told follows low =
         let all = grown e spare steps is log ∙ ap (λ (x : Entry ClusterMeta). history ++ x ∷ []) told in (
           new_step (b.history ++ e ∷ []) spare is
               (subst (λ (l : List (Entry ClusterMeta)). Follows (state begun) (state d') contexts l) (sym all) follows)
-              (subst AreShort (sym all) (short-snoc b.limits.range history e' low was.short)),
+              (subst AreShort (sym all) (short-snoc b.limits.range history e'
+              (reserves-short b.limits (state begun).end (ranges_of history) e'.kind low) was.short))
+              (subst AreWithin (sym all) (within-snoc b.limits (state begun).end history e' low was.within)),
           all,
         )
 
@@ -200,7 +209,7 @@ module _ {D : Type 0} (state : D → DiskState) (begun d : D) (contexts : ℕ) (
         ∙ ap (λ (o : Option Held). told_history (state begun).held o b.history) place.held in (
           new_step b.history spare is (subst (λ (l : List (Entry ClusterMeta)). Follows (state begun) (state d') contexts l) (sym all)
               (Follows-same (state begun) (state d) (state d') contexts history was.follows place.held place.end place.out later))
-              (subst AreShort (sym all) was.short),
+              (subst AreShort (sym all) was.short) (subst AreWithin (sym all) was.within),
           all ∙ sym (append-nil history),
         )
 
@@ -232,8 +241,17 @@ module _ {D : Type 0} (state : D → DiskState) (begun d : D) (contexts : ℕ) (
         (told-committed (state begun).held meta.context n (book_end b) meta.len meta (Reserve (state d).end meta.len ∷ []))
         (Follows-commit (state begun) (state d) (state d') contexts history was.follows meta.context n (book_end b) meta.len meta
         (number ∙ count_is) (begun_behind behind) end_is context room log end out later)
-        (limit_error-none b.limits (book_end b) (length (book_clusters b)) meta.len (sym limits)).0 in (
+        (let free = limit_error-none b.limits (book_end b) (length (book_clusters b)) meta.len (sym limits) in
+        (free.0, omega (arith, free.1, end_is), fewer free.2)) in (
           done.0,
           done.1 ∙ (ap (λ (m : ℕ). history ++ committed_entry m (book_end b) meta ∷ []) (number ∙ count_is)
               ∙ ap (λ (m : ℕ). history ++ committed_entry (locked_count state old) m meta ∷ []) end_is),
         )
+      where
+        fewer : (length (book_clusters b) ≡ b.limits.clusters → ⊥) → length (ranges_of history) < b.limits.clusters
+        fewer differ =
+            let few = was.within.few in
+            elim (cases_lt (length (ranges_of history)) b.limits.clusters) [
+              | inl less ↦ less
+              | inr more ↦ absurd (differ (omega (arith, more, few, count_is)))
+            ]

@@ -1,5 +1,5 @@
 -- A disk and its book under the turn, and what is true of them while the turn is free.
-use Rattle.std.specs.Prelude.{◌≡◌, ℕ, ◌≤◌, List, [], ◌++◌, map, filter, length, IsSome}
+use Rattle.std.specs.Prelude.{◌≡◌, ℕ, ◌<◌, ◌≤◌, List, [], ◌++◌, map, filter, length, IsSome}
 use Rattle.std.specs.List.{AllByRecursion}
 use Rattle.nt_outside.specs.declared.range.Range.{Range}
 use Rattle.nt_outside.specs.Log.{Step}
@@ -9,6 +9,7 @@ use Rattle.nt_machine.specs.declared.entry.Entry.{Entry}
 use Rattle.nt_machine.specs.Faults.{FaultsRise}
 use Rattle.nt_machine.specs.History.{Fate, Out, Settled, Spoiled, Cluster, is_out, ranges_of}
 use Rattle.nt_machine.specs.Legal.{IsLegal, end_after}
+use Rattle.nt_book.specs.declared.limits.Limits.{Limits}
 use Rattle.nt_book.specs.declared.meta.ClusterMeta.{ClusterMeta}
 use Rattle.nt_book.specs.Books.{BookData, IsUngrouped}
 use Rattle.nt_commit.specs.declared.locked.Birth.{Birth}
@@ -83,6 +84,11 @@ module _ {M : Type 0} where
     -- each fault of the history was counted above those before it
     pub rise : FaultsRise begun.faults history disk.faults
 
+-- ranges behind this place that the limits of a file let be: no more than its clusters may be, the last of which ends where the file may
+pub record EndWithin {M : Type 0} (limits : Limits) (begin : ℕ) (ranges : List (Cluster M)) : Type 0 where
+  pub file : 0 < length ranges → end_after begin ranges ≤ limits.file
+  pub few : length ranges ≤ limits.clusters
+
 module _ {D : Type 0} (state : D → DiskState) where
   -- the history, with the bytes that the disk tells
   abbrev pub history_of_locked : LockedState D → List (Entry ClusterMeta)
@@ -98,3 +104,5 @@ module _ {D : Type 0} (state : D → DiskState) where
     pub follows : Follows (state locked.birth.begun) (state locked.disk) locked.birth.contexts (history_of_locked locked)
     -- no range is longer than the limits let it be
     pub short : AllByRecursion (λ (c : Cluster ClusterMeta). c.len ≤ locked.birth.limits.range) (ranges_of (history_of_locked locked))
+    -- where there is one, they end where a file may, and they are no more than its clusters may be
+    pub within : EndWithin locked.birth.limits (state locked.birth.begun).end (ranges_of (history_of_locked locked))

@@ -23,6 +23,7 @@ use Rattle.nt_dealing.specs.Texts.{chunks_of, all_chunks}
 use Rattle.nt_dealing.specs.Written.{HaveWritten, HaveCommitted}
 use Rattle.nt_dealing.specs.Dealt.{IsDealtOut, FillsBehind}
 use Rattle.nt_dealing.specs.Limits.{NextPasses, IsOverBy}
+use Rattle.nt_dealing.specs.Failing.{CommitsFit, ChunkPassesBy, committed_chunks}
 use Rattle.nt_contexts.specs.Seats.{DiskPass}
 use Rattle.nt_contexts.specs.Working.{KeepsFaults}
 
@@ -44,8 +45,12 @@ module _ {D : Type 0} (state : D → DiskState) (birth : Birth D) where
         → AreFields fields → Rows fields p.plain t → IsBornFor t p → HaveCommitted t p.page (chunks_of p.cluster fields texts)
         first.number first.own first.kept
         → slice_get first.kept i ≡ Some (i, own) → IsPrefix seen first.seen
-        → NextPasses birth.limits (state birth.begun).end t p.page (slice_index_or (chunks_of p.cluster fields texts) i []) own seen error
-        → IsOverBy t p (all_chunks p.cluster fields texts) error
+        → (next : NextPasses birth.limits (state birth.begun).end t p.page (slice_index_or (chunks_of p.cluster fields texts) i []) own seen
+        error)
+        → IsOverBy t p (all_chunks p.cluster fields texts) error × ChunkPassesBy t p next.chunk error
+    -- what contexts committed passes no limit of a commit
+    pub fit : (t : Table) (p : Params) (chunks : List (List (List TreesData))) → IsBornFor t p
+        → HaveCommitted t p.page chunks first.number first.own first.kept → CommitsFit t p (committed_chunks chunks first.kept)
     pub held : BecomesSome (state birth.begun).held (state disk).held (FillsBehind (state birth.begun).end)
     pub begin : book.begin ≡ (state birth.begun).end
     pub limits : book.limits ≡ birth.limits

@@ -5,7 +5,9 @@ ghost use Rattle.nt_contexts.specs.Ending.{HasEnded};
 
 use nt_book::Book;
 use nt_commit::{Committer, Locked};
-use nt_dealing::{commits_are_dealt, histories_fill, next_chunks_pass_limits_of_all};
+use nt_dealing::{
+    commits_are_dealt, committed_chunks_fit, histories_fill, next_chunks_pass_limits_of_all,
+};
 use nt_outside::Disk;
 use nt_turn::Pass;
 
@@ -18,6 +20,7 @@ pub(crate) fn end<D: Disk>(committer: Committer<D>, first: Pass<Locked<D>>) -> (
     commits_are_dealt::<D>();
     histories_fill::<D>();
     next_chunks_pass_limits_of_all::<D>();
+    committed_chunks_fit::<D>();
     let (disk, book) = committer.finish(first);
     let _faults = disk.faults();
     (disk, book)

@@ -1,10 +1,8 @@
 -- The types of columns, by their codes.
-use Rattle.std.proofs.Common.{◌≡◌, ℕ, ◌+◌, ◌<◌, ◌≤◌, Bool, true, false, cond, eqb, List, [], ◌∷◌, ◌++◌, map, take, length, slice_get}
+use Rattle.std.proofs.Common.{◌≡◌, ℕ, Bool, true, false, cond, eqb, List, [], ◌∷◌}
 use Rattle.std.proofs.Common.{Option, Some, None, IfSome, refl, sym, ap, subst, ◌∙◌}
 use Rattle.std.specs.Prelude.{find}
 use Rattle.std.proofs.lemmas.Bool.{eqb-true}
-use Rattle.std.proofs.lemmas.Option.{get_or_from_slice_get}
-use Rattle.std.proofs.lemmas.List.{take_all, map_more}
 use Rattle.nt_lists.proofs.Variants.{some_is}
 use Rattle.nt_types.specs.ColumnTable.{code_of}
 use Rattle.nt_types.specs.declared.column_type.ColumnType.{ColumnType}
@@ -15,7 +13,7 @@ use Rattle.nt_types.specs.declared.column_type.ColumnType.TheVariants.{SplitInde
 use Rattle.nt_file_meaning.specs.Clusters.{column_kinds, kind_of_code}
 
 -- each type is found by its code
-kind-found : (t : ColumnType) → kind_of_code (code_of t) ≡ Some t
+pub kind-found : (t : ColumnType) → kind_of_code (code_of t) ≡ Some t
 kind-found Bit = refl
 kind-found Byte = refl
 kind-found Char = refl

@@ -13,7 +13,9 @@ use Rattle.nt_trees.specs.TreeAt.{each_at}
 use Rattle.nt_file_meaning.specs.Clusters.{columns_by_id, entries_of_columns}
 use Rattle.nt_trees.specs.Columns.{Cols}
 use Rattle.nt_view.specs.Loaded.{Loaded, loaded_elements}
-use Rattle.nt_reader.specs.Columns.{ClusterData, given_entries}
+use Rattle.nt_trees.specs.Sound.{AllSound}
+use Rattle.nt_fitting.specs.Fitting.{AreOfRows}
+use Rattle.nt_reader.specs.Columns.{ClusterData, given_entries, IsSoundOver, AreClusterColumns}
 use Rattle.nt_reader.specs.Listings.{columns_of_loaded, AreColumnsOf}
 
 given-at : (t : Table) (cs : List (List Element)) (n i : ℕ) → i < n
@@ -51,3 +53,13 @@ entry-is c seen i is lt =
 pub over-loaded : (t : Table) (l : Loaded) (i : ℕ) → AreColumnsOf (length t.columns) l
     → each_at (open_plans t) (loaded_elements l) i ≡ each_at (open_plans t) (columns_by_id (columns_of_loaded 0 (length t.columns) l)) i
 over-loaded t l i all = ap (λ (cols : Cols). each_at (open_plans t) cols i) (sym (fun_ext all))
+
+-- so are all of them
+pub over-cluster : (t : Table) (l : Loaded) (n : ℕ) → IsSoundOver t l n
+    → AreClusterColumns t (columns_by_id (columns_of_loaded 0 (length t.columns) l)) n
+over-cluster t l n is =
+    let same : loaded_elements l ≡ columns_by_id (columns_of_loaded 0 (length t.columns) l) = sym (fun_ext is.all) in
+    record {
+      sound = subst (λ (cols : Cols). AllSound (open_plans t) cols n) same is.sound;
+      typed = subst (λ (cols : Cols). AreOfRows t.columns cols) same is.typed;
+    }

@@ -1,6 +1,6 @@
 -- Pages that are loaded at once, and the faults of a cluster that they give.
-use Rattle.std.proofs.Common.{◌≡◌, ℕ, suc, ◌+◌, Bool, true, false, cond, List, [], ◌∷◌, length, take, slice_get, Option, Some, None, Result, Ok, Err}
-use Rattle.std.proofs.Common.{refl, sym, ap, subst, ◌∙◌, arith}
+use Rattle.std.proofs.Common.{◌≡◌, ℕ, suc, ◌+◌, Bool, true, false, List, [], ◌∷◌, take, slice_get, Option, Some, None, Result, Ok, Err}
+use Rattle.std.proofs.Common.{refl, sym, ap, subst, arith}
 use Rattle.nt_num.specs.Codes.{out_of_file, bad_page}
 use Rattle.nt_num.specs.Faults.{fault, with_values}
 use Rattle.nt_num.specs.declared.fault.ReadError.{ReadError}
@@ -18,7 +18,7 @@ use Rattle.nt_tfile.specs.Calls.{IsReadOrFails}
 use Rattle.nt_view.specs.declared.page_place.PagePlace.{PagePlace}
 use Rattle.nt_view.specs.declared.fault.ViewFault.{ViewFault}
 use Rattle.nt_view.specs.declared.fault.ViewFault.TheVariants as view
-use Rattle.nt_view.specs.Loads.{loaded_len, found_bytes, checked_bytes, page_found, pages_found, sum_differs, load_of, IsLoadedAs}
+use Rattle.nt_view.specs.Loads.{loaded_len, checked_bytes, page_found, pages_found, sum_differs, load_of, IsLoadedAs}
 use Rattle.nt_view.specs.Loaded.{Loaded, loaded_with}
 use Rattle.nt_view.specs.Stored.{sum_behind, has_its_sum}
 use Rattle.nt_view.specs.declared.page_place.ZeroColumn.{ZeroColumn}
@@ -41,10 +41,12 @@ page-matches file number i all p at = found (piece file p.place (loaded_len p))
   where
     f : List ℕ → ReadError
     f stored = in_column number p.column (with_values (sum_behind p.size stored) (xxh3 (take p.size stored)) (fault bad_page p.place))
+
     checked : (stored : List ℕ) (b : Bool)
         → Matches number all (demand b (sum_differs i p stored) >>= λ u. Ok stored) (demand b (f stored) >>= λ u. Ok stored)
     checked stored true = refl
     checked stored false = λ failure is. failed failure (f stored) (Err (f stored)) (is p at) refl
+
     found : (o : Option (List ℕ))
         → Matches number all (found_or (view.OutOfFile i) o >>= checked_bytes i p)
         (found_or (in_column number p.column (fault out_of_file p.place)) o >>= λ stored. demand (has_its_sum p.checked p.size stored) (f stored)
@@ -82,8 +84,7 @@ all-match file number ps = pages-match file number 0 ps ps (λ j p is. let here 
 pub loaded-stored : (file : List ℕ) (number : ℕ) (ps : List PagePlace) (zs : List ZeroColumn) (l : Loaded) → load_of file ps zs ≡ Ok l
     → (bs : List (List ℕ)) × (stored_pages file number ps ≡ Ok bs) × (loaded_with ps bs zs ≡ l)
 loaded-stored file number ps zs l h =
-    let found = bind_ok (pages_found file 0 ps) _ l h in
-    (
+    let found = bind_ok (pages_found file 0 ps) _ l h in (
       found.0,
       matched (pages_found file 0 ps) (stored_pages file number ps) found.0 found.1 (all-match file number ps),
       ok_is _ _ found.2,
@@ -104,6 +105,7 @@ load-fails file number ps zs v failure loaded is = by_fault v loaded is
         → IsReadOrFails {V = List (List ℕ)} {W = List (List ℕ)} (λ x. x) (Err failure) s
     matched v (Ok bs) s h m is = absurd cc
     matched v (Err w) s h m is = let same : w ≡ v = cc in m failure (rw same is)
+
     by_fault : (v : ViewFault) → IsLoadedAs {V = Loaded} (λ l. l) (Err v) (load_of file ps zs) → IsLoadFailure number ps v failure
         → IsReadOrFails {V = List (List ℕ)} {W = List (List ℕ)} (λ x. x) (Err failure) (stored_pages file number ps)
     by_fault (view.OutOfFile i) h is =

@@ -7,8 +7,10 @@ pub mod GroupSteps
 pub mod ClusterSteps
 pub mod KnownSteps
 pub mod Entries
-pub mod ListedColumns
+pub mod KeptTypes
+pub mod Fitting
 pub mod FoundPages
 pub mod ListingSteps
+pub mod ListedColumns
 pub mod ColumnKinds
 pub mod ColumnsRead

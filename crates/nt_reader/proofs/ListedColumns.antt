@@ -1,15 +1,13 @@
 -- The columns of a cluster are those of its pages, which are listed first and loaded then.
 use Rattle.std.proofs.Common.{◌≡◌, ℕ, suc, ◌+◌, ◌<◌, ◌≤◌, Bool, true, false, cond, eqb, eq-eqb, ne_eqb, List, [], ◌∷◌, ◌++◌, length, map, take, get_or}
 use Rattle.std.proofs.Common.{zero, inl, inr, ◌⊎◌, ⊎_elim, replicate, Option, Some, None, Result, Ok, Err, refl, sym, ap, ◌∙◌, arith, append_assoc}
-use Rattle.std.specs.Prelude.{All}
 use Rattle.std.specs.List.{range_with_len}
 use Rattle.std.proofs.lemmas.List.{get_or_past}
 use Rattle.std.proofs.lemmas.List.FromFn.{get_or-map-range_with_len, length-map-range_with_len}
 use Rattle.std.proofs.lemmas.Bool.{cases_lt, eqb-true}
-use Rattle.nt_num.specs.Codes.{out_of_file, bad_page}
-use Rattle.nt_num.specs.Faults.{fault, with_values}
+use Rattle.nt_num.specs.Codes.{out_of_file}
+use Rattle.nt_num.specs.Faults.{fault}
 use Rattle.nt_num.specs.declared.fault.ReadError.{ReadError}
-use Rattle.nt_xxh3.specs.Sum.{xxh3}
 use Rattle.nt_lists.specs.Chaining.{◌>>=◌}
 use Rattle.nt_format.specs.Demands.{demand, found_or}
 use Rattle.nt_format.specs.Pieces.{piece}
@@ -28,9 +26,9 @@ use Rattle.nt_pagelists.specs.declared.page.PageItem.{PageItem}
 use Rattle.nt_pagelists.specs.declared.cluster.ClusterList.{ClusterList}
 use Rattle.nt_file_meaning.specs.Outlines.{known_column}
 use Rattle.nt_file_meaning.specs.Clusters.{kind_of_code, pages_listed, begins_behind, zero_elements, stored_len, is_checked, sum_fault}
-use Rattle.nt_file_meaning.specs.Clusters.{page_of_column, pages_of_column, pages_of_kind, column_elements, columns_from, columns_by_id}
-use Rattle.nt_reader.specs.Listings.{Listed, nothing_listed, with_front, with_zeros, stopped, place_of_page, size_fault, pages_onto, typed_onto}
-use Rattle.nt_reader.specs.Listings.{column_onto, columns_listed, stored_page, stored_pages, none_wrong, listed_bytes, columns_of_loaded}
+use Rattle.nt_file_meaning.specs.Clusters.{page_of_column, pages_of_column, pages_of_kind, columns_from, columns_by_id}
+use Rattle.nt_reader.specs.Listings.{Listed, with_front, with_zeros, stopped, place_of_page, size_fault, pages_onto, typed_onto}
+use Rattle.nt_reader.specs.Listings.{columns_listed, stored_page, stored_pages, none_wrong, listed_bytes, columns_of_loaded}
 
 -- nothing is listed of columns before this one
 pub record IsFrom (id : ℕ) (l : Listed) : Type 0 where
@@ -93,9 +91,11 @@ front-columns : (id n : ℕ) (kind : ColumnType) (p : PageItem) (l : Listed) (b 
     → columns_of_loaded id (suc n) (loaded_as (with_front (place_of_page id kind p) l) (b ∷ bs))
     ≡ head_with (page_elements kind p.count (take p.size b)) (columns_of_loaded id (suc n) (loaded_as l bs))
 front-columns id n kind p l b bs =
-    rw (front-here id kind p l b bs,
-    same-from (λ k. loaded_elements (loaded_as (with_front (place_of_page id kind p) l) (b ∷ bs)) k)
-    (λ k. loaded_elements (loaded_as l bs) k) (id + 1) n (λ k le. front-else id k kind p l b bs le)) refl
+    rw (
+      front-here id kind p l b bs,
+      same-from (λ k. loaded_elements (loaded_as (with_front (place_of_page id kind p) l) (b ∷ bs)) k)
+          (λ k. loaded_elements (loaded_as l bs) k) (id + 1) n (λ k le. front-else id k kind p l b bs le),
+    ) refl
 
 -- a page in steps
 page-steps : (e : ReadError) (f : List ℕ → ReadError) (found : Option (List ℕ)) (t : List ℕ → Bool) (g : List ℕ → List Element)
@@ -136,12 +136,14 @@ page-behind id n kind p l (Ok b) s w pages behind h =
   where
     es : List Element
     es = page_elements kind p.count (take p.size b)
+
     left : (pages : Result (List Element) ReadError) (behind : Result (List (List Element)) ReadError)
         → ((pages >>= λ others. Ok (es ++ others)) >>= λ first. behind >>= λ others. Ok (first ∷ others))
         ≡ ((pages >>= λ first. behind >>= λ others. Ok (first ∷ others)) >>= λ cs. Ok (head_with es cs))
     left (Err e) behind = refl
     left (Ok x) (Err e) = refl
     left (Ok x) (Ok xs) = refl
+
     right : (s : Result (List (List ℕ)) ReadError) (w : Result (Unit {0}) ReadError)
         → (((s >>= λ bs. w >>= λ u. Ok bs) >>= λ bs. Ok (columns_of_loaded id (suc n) (loaded_as l bs))) >>= λ cs. Ok (head_with es cs))
         ≡ (((s >>= λ bs. Ok (b ∷ bs)) >>= λ bs. w >>= λ u. Ok bs)
@@ -183,9 +185,11 @@ zeros-first id n m l (Err e) w from = refl
 zeros-first id n m l (Ok bs) (Err e) from = refl
 zeros-first id n m l (Ok bs) (Ok u) from =
     let z : ZeroColumn = record { column = id; count = m } in
-    rw (zeros-here id m l bs from,
-    same-from (λ k. loaded_elements (loaded_as (with_zeros z l) bs) k) (λ k. loaded_elements (loaded_as l bs) k) (id + 1) n
-    (λ k le. zeros-else id k m l bs le)) refl
+    rw (
+      zeros-here id m l bs from,
+      same-from (λ k. loaded_elements (loaded_as (with_zeros z l) bs) k) (λ k. loaded_elements (loaded_as l bs) k) (id + 1) n
+          (λ k le. zeros-else id k m l bs le),
+    ) refl
 
 -- the pages of a column and what is read behind them
 pages-behind : (file : List ℕ) (number id n : ℕ) (kind : ColumnType) (ps : List PageItem) (l : Listed)
@@ -285,12 +289,14 @@ loadable-front id end kind p l size is = record { sized = sized; order = order; 
         ≡ page_size (get_or (place_of_page id kind p ∷ l.pages) m d).kind (get_or (place_of_page id kind p ∷ l.pages) m d).count
     sized zero d lt = size
     sized (suc m) d lt = is.loadable.sized m d (omega (arith, lt))
+
     order : (i : ℕ) (d : PagePlace) → i + 1 < length (place_of_page id kind p ∷ l.pages)
         → MayStandBehind (get_or (place_of_page id kind p ∷ l.pages) i d) (get_or (place_of_page id kind p ∷ l.pages) (i + 1) d)
     order zero d lt = ⊎_elim (λ here. inr (sym here.0, sym here.1)) (λ past. inl (omega (arith, past))) (is.pages 0 d (omega (arith, lt)))
     order (suc i) d lt =
         let next : suc i + 1 ≡ suc (i + 1) = omega arith in
         rw next (is.loadable.order i d (omega (arith, lt)))
+
     apart : (i : ℕ) (z : ZeroColumn) → i < length l.zeros → (m : ℕ) (d : PagePlace) → m < length (place_of_page id kind p ∷ l.pages)
         → (get_or (place_of_page id kind p ∷ l.pages) m d).column ≡ (get_or l.zeros i z).column → ⊥
     apart i z lt zero d h same = absurd (omega (arith, same, (is.zeros i z lt).0))
@@ -305,6 +311,7 @@ front-around id end kind p l lt size is = record { loadable = loadable-front id 
         ⊎ (id + 1 ≤ (get_or (place_of_page id kind p ∷ l.pages) m d).column)
     pages zero d h = inl (refl, refl)
     pages (suc m) d h = is.pages m d (omega (arith, h))
+
     few : (m : ℕ) (d : PagePlace) → m < length (place_of_page id kind p ∷ l.pages)
         → (get_or (place_of_page id kind p ∷ l.pages) m d).column < end
     few zero d h = lt
@@ -343,10 +350,12 @@ zeros-after id end n l lt is = record {
   where
     here : ZeroColumn
     here = record { column = id; count = n }
+
     apart : (i : ℕ) (z : ZeroColumn) → i < length (here ∷ l.zeros) → (m : ℕ) (d : PagePlace) → m < length l.pages
         → (get_or l.pages m d).column ≡ (get_or (here ∷ l.zeros) i z).column → ⊥
     apart zero z h m d g same = absurd (omega (arith, same, (is.pages m d g).0))
     apart (suc i) z h m d g same = is.loadable.apart i z (omega (arith, h)) m d g same
+
     zeros : (m : ℕ) (d : ZeroColumn) → m < length (here ∷ l.zeros)
         → (id ≤ (get_or (here ∷ l.zeros) m d).column) × ((get_or (here ∷ l.zeros) m d).column < end)
     zeros zero d h = (omega arith, lt)

@@ -1,5 +1,5 @@
 -- The steps in which pages are listed.
-use Rattle.std.proofs.Common.{◌≡◌, ℕ, zero, suc, ◌+◌, ◌<◌, ◌≤◌, Bool, true, false, cond, eqb, eq-eqb, ne_eqb, List, [], ◌∷◌, ◌++◌, length, drop, get_or}
+use Rattle.std.proofs.Common.{◌≡◌, ℕ, zero, suc, ◌+◌, ◌<◌, ◌≤◌, true, false, eqb, eq-eqb, ne_eqb, List, [], ◌∷◌, ◌++◌, length, drop, get_or}
 use Rattle.std.proofs.Common.{slice_get, Option, Some, None, refl, sym, ap, ◌∙◌, arith, append_assoc}
 use Rattle.std.proofs.lemmas.List.{append-nil, drop_more, drop_all}
 use Rattle.std.proofs.lemmas.Option.{slice_get-get_or}
@@ -16,7 +16,7 @@ use Rattle.nt_pagelists.specs.declared.page.PageItem.{PageItem}
 use Rattle.nt_pagelists.specs.declared.cluster.ClusterList.{ClusterList}
 use Rattle.nt_file_meaning.specs.Outlines.{known_column}
 use Rattle.nt_file_meaning.specs.Clusters.{kind_of_code, pages_listed, begins_behind}
-use Rattle.nt_reader.specs.Listings.{Listed, nothing_listed, with_front, with_zeros, stopped, place_of_page, size_fault, pages_onto, typed_onto}
+use Rattle.nt_reader.specs.Listings.{Listed, place_of_page, size_fault, pages_onto, typed_onto}
 use Rattle.nt_reader.specs.Listings.{column_onto, columns_listed, listed_behind}
 
 abbrev pub any_row : ColumnRow

@@ -13,7 +13,7 @@ use Rattle.nt_encode.specs.Pages.{page_size}
 use Rattle.nt_encode.specs.Elements.{Element}
 use Rattle.nt_view.specs.declared.page_place.PagePlace.{PagePlace}
 use Rattle.nt_view.specs.declared.page_place.ZeroColumn.{ZeroColumn}
-use Rattle.nt_view.specs.Loaded.{Loaded, loaded_elements, loaded_with}
+use Rattle.nt_view.specs.Loaded.{Loaded, loaded_elements}
 use Rattle.nt_view.specs.Loads.{loaded_len}
 use Rattle.nt_view.specs.Stored.{sum_behind, has_its_sum}
 use Rattle.nt_grammar.specs.Table.{Table}

@@ -8,6 +8,7 @@ ghost use Rattle.nt_file_meaning.specs.Clusters.{columns_from};
 ghost use Rattle.nt_tfile.specs.declared.failure.ReadFailure.TheVariants.{Defect, Fault};
 ghost use Rattle.nt_tfile.specs.Calls.{Serves, ReadsFile};
 ghost use Rattle.nt_view.specs.declared.fault.ViewFault.TheVariants as view;
+ghost use Rattle.nt_reader.specs.Columns.{AreOfRowTypes, IsLoadedFrom};
 ghost use Rattle.nt_reader.specs.Listings.{columns_of_loaded, AreColumnsOf};
 ghost use Rattle.nt_reader.specs.Listed.{IsLoadFailure};
 
@@ -71,6 +72,8 @@ pub fn read_columns<F: ReadAt>(
     ensures read { let rows = schema.now.columns in ReadsFile (λ c. columns_of_loaded 0 (length rows) c)
         (λ told. columns_from told number cluster.now schema.now 0 rows) (F.state file.old) result }
     ensures columns { IfOk result (λ c. AreColumnsOf (length schema.now.columns) c) }
+    ensures loaded { IfOk result (λ c. IsLoadedFrom (F.state file.old).bytes number cluster.now schema.now c) }
+    ensures types { IfOk result (λ c. AreOfRowTypes schema.now.columns c) }
 {
     let listing = list_columns(alloc, number, cluster, schema)?;
     let columns = match kept.load_over(alloc, file, &listing.pages, &listing.zeros) {

@@ -37,7 +37,7 @@ fn kind_of_row(row: &ColumnRow) -> Option<ColumnType>
 }
 
 /// The pages that a cluster lists of a column.
-fn pages_listed(cluster: &ClusterList, id: u32) -> &[PageItem]
+pub fn pages_listed(cluster: &ClusterList, id: u32) -> &[PageItem]
     ensures { result.now ≡ pages_listed cluster.now id }
 {
     match cluster.columns.as_slice().get(id as usize) {
@@ -47,7 +47,7 @@ fn pages_listed(cluster: &ClusterList, id: u32) -> &[PageItem]
 }
 
 /// Whether a column begins behind all entries of a cluster.
-fn begins_behind(cluster: &ClusterList, known: &KnownColumn) -> bool
+pub fn begins_behind(cluster: &ClusterList, known: &KnownColumn) -> bool
     ensures { result ≡ begins_behind cluster.now known.now }
 {
     known.is_principal

@@ -3,3 +3,4 @@ pub mod Appended
 pub mod ByName
 pub mod Extending
 pub mod WholeRows
+pub mod BareRows

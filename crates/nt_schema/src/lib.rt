@@ -5,7 +5,7 @@
 //! `describe` makes a `Schema` of fields, and `Schema::extend` adds a field behind entries that were
 //! written without it (folder `describing`); `write_description` and `read_description` carry one
 //! part of a schema to bytes and back (`writing`, `reading`), where a description holds its rows
-//! whole (`whole`);
+//! whole (`whole`); `Schema::bare` takes the flags of fields away (`bare`);
 //! `Schema::shape` says as what values of a field can be read, `Schema::plans` where they stand,
 //! `Schema::find` finds a field by name (`by_name`). What is asked for each entry, as plans, the
 //! field of a column or the fields inside one, is kept: no call walks over rows or takes memory.
@@ -13,8 +13,8 @@
 //! words hold here too; a *schema* is a table of rows together with what it keeps of them.
 //!
 //! Proved: `describe` gives the one table of its fields, and `extend` the one with a field more, or
-//! says exactly what stands against that; `write_description` appends exactly the spelling of the
-//! part, and is called of rows alone whose flags ask for no word that it leaves out (`AreWhole`), as
+//! says exactly what stands against that; `bare` gives the same rows without the flags of fields,
+//! all in the header; `write_description` appends exactly the spelling of the part, and is called of rows alone whose flags ask for no word that it leaves out (`AreWhole`), as
 //! those of described and added fields are; `read_description` answers exactly the reading of the bytes, its first
 //! fault included, reads back what was written whatever follows, and adds only rows in range;
 //! `find` and `shape` are the first field of a name and the shape of an open field; `plans` are those
@@ -35,6 +35,7 @@
 //!   of spellings, whose laws are contracts of other functions.
 #![tactic(auto)]
 
+mod bare;
 mod by_name;
 mod describing;
 mod description_error;

@@ -10,11 +10,11 @@ ghost use Rattle.nt_show.specs.Shown.{entries_shown, ShowsFile};
 
 use crate::entry_range::EntryRange;
 use crate::lines::put_entry;
-use nt_column::ColumnSet;
 use nt_num::ReadError;
 use nt_outside::{Host, ReadAt, Refused, Stream, print_all};
 use nt_reader::{ClusterRead, Reader};
 use nt_tfile::ReadFailure;
+use nt_view::ClusterBytes;
 use std::alloc::Global;
 
 /// Gathers the lines of those entries of a cluster that lie in the range.
@@ -48,7 +48,7 @@ fn put_cluster<H: Host, F: ReadAt>(
     file: &mut F,
     reader: &Reader,
     k: u32,
-    kept: &mut Option<ColumnSet>,
+    kept: &mut Option<ClusterBytes>,
     range: &mut EntryRange,
     waiting: &mut Vec<u8>,
 ) -> Result<Option<ReadError>, Refused>

@@ -23,6 +23,8 @@ returns g c =
       over = λ fields t p texts i own seen error rules rows born committed at before passes.
           c.next_chunks_pass_limits_of_all.ensures birth disk book first fields t p texts i own seen error rules rows closes step
           born.limits born.end committed at before passes;
+      fit = λ t p chunks born committed.
+          c.committed_chunks_fit.ensures.fit birth disk book first t p chunks closes step born.limits born.end committed;
       held = c.histories_fill.ensures birth disk book step;
       begin = step.begin;
       limits = step.limits;

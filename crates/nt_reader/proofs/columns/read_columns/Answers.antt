@@ -1,8 +1,12 @@
-use Rattle.std.proofs.Common.{length, ◌∙◌}
+use Rattle.std.proofs.Common.{List, length, sym, ap, ◌∙◌}
+use Rattle.nt_view.specs.declared.page_place.PagePlace.{PagePlace}
+use Rattle.nt_view.specs.declared.page_place.ZeroColumn.{ZeroColumn}
+use Rattle.nt_view.specs.Loads.{load_of}
 use Rattle.nt_view.specs.Loaded.{Loaded}
-use Rattle.nt_reader.specs.Listings.{columns_of_loaded}
+use Rattle.nt_reader.specs.Listings.{Listed, columns_of_loaded}
 use Rattle.nt_reader.specs.Listed.{listing_view}
 use Rattle.nt_reader.proofs.ColumnsRead.{listed-loadable, columns-failed, columns-wrong, columns-right, columns-all}
+use Rattle.nt_reader.proofs.KeptTypes.{listed-types}
 use Rattle.nt_reader.proofs.columns.read_columns.Goals as goal
 
 pub load_over-requires : goal.load_over-requires
@@ -34,3 +38,18 @@ pub returns-clause-columns : goal.returns-clause-columns
 returns-clause-columns g c =
     columns-all c.args.number c.args.cluster.now c.args.schema.now (listing_view c.in_ok-listing.listing) c.in-Ok.columns
     c.in_ok-listing.ensures (c.in-Ok.ensures.listed.0 ∙ c.deref.ensures.value) (c.in-Ok.ensures.listed.1 ∙ c.deref-2.ensures.value)
+
+pub returns-clause-types : goal.returns-clause-types
+returns-clause-types g c =
+    listed-types c.args.number c.args.cluster.now c.args.schema.now (listing_view c.in_ok-listing.listing) c.in-Ok.columns
+    c.in_ok-listing.ensures (c.in-Ok.ensures.listed.0 ∙ c.deref.ensures.value)
+
+pub returns-clause-loaded : goal.returns-clause-loaded
+returns-clause-loaded g c = record {
+  pages = c.in-Ok.ensures.listed.0 ∙ c.deref.ensures.value ∙ ap (λ (l : Listed). l.pages) c.in_ok-listing.ensures;
+  zeros = c.in-Ok.ensures.listed.1 ∙ c.deref-2.ensures.value ∙ ap (λ (l : Listed). l.zeros) c.in_ok-listing.ensures;
+  whole = ap (λ (l : Listed). l.wrong) (sym c.in_ok-listing.ensures) ∙ c.in-None.is;
+  bytes = λ told is.
+      ap (λ (ps : List PagePlace). load_of told ps c.in-Ok.columns.zeros) c.in-Ok.ensures.listed.0
+      ∙ ap (λ (zs : List ZeroColumn). load_of told c.deref.result.now zs) c.in-Ok.ensures.listed.1 ∙ c.in-Ok.ensures.read told is;
+}

@@ -1,4 +1,4 @@
-use Rattle.std.proofs.Common.{◌≡◌, ◌+◌, ◌<◌, drop, length, Option, None, sym, ap, ◌∙◌, arith}
+use Rattle.std.proofs.Common.{◌+◌, ◌<◌, drop, length, Option, None, sym, ap, ◌∙◌, arith}
 use Rattle.nt_num.specs.declared.fault.ReadError.{ReadError}
 use Rattle.nt_reader.specs.Listings.{Listed, listed_behind, columns_listed}
 use Rattle.nt_reader.proofs.ListingSteps.{column-listed, listed-stopped, row-there}
