@@ -11,7 +11,9 @@ use Rattle.nt_store.specs.Worlds.{AsksFor}
 use Rattle.nt_store.proofs.Ends.{none_made, nothing_made}
 use Rattle.nt_generate.specs.declared.error.GenerateError.{GenerateError}
 use Rattle.nt_generate.specs.declared.error.GenerateError.TheVariants as generate
-use Rattle.nt_generate.specs.Made.{made_lines}
+use Rattle.nt_dealing.specs.Texts.{joined_chunks}
+use Rattle.nt_dealing.proofs.Whole.{passes_none}
+use Rattle.nt_generate.specs.Made.{made_chunks, made_lines}
 use Rattle.nt_generate.specs.Leaving.{IsMadeByFailure, LeavesMade, MadeCrashTold}
 use Rattle.nt_generate.specs.Generated.{GainsMadeFront, GenerateTold}
 use Rattle.nt_app.specs.declared.status.Status.{Status}
@@ -109,7 +111,8 @@ completes : (o : List ℕ) (p : Params) (m : Making) (commits : List ℕ) (w v :
 completes o p m commits w v (Ok done) told served fits = inl refl
 completes o p m commits w v (Err generate.Outside) told served fits = absurd (served refl)
 completes o p m commits w v (Err generate.Memory) told served fits = inr refl
-completes o p m commits w v (Err (generate.Limit reached limit)) told served fits = absurd (fits reached limit told.0)
+completes o p m commits w v (Err (generate.Limit reached limit)) told served fits =
+    absurd (passes_none told.0.table p (joined_chunks (made_chunks p m)) reached limit (fits told.0.table told.0.rows) told.0.over)
 completes o p m commits w v (Err (generate.Defect fault)) told served fits = absurd told
 
 -- `gen`, and then its message

@@ -7,8 +7,11 @@ use Rattle.nt_types.specs.ShapeData.{MemberData}
 use Rattle.nt_types.specs.Schema.{schema_text, at_line}
 use Rattle.nt_types.specs.declared.fault.SchemaKind.{SchemaKind}
 use Rattle.nt_outside.specs.Faults.{Rose}
+use Rattle.nt_outside.specs.Log.{Step}
+use Rattle.nt_outside.specs.Order.{EndsInSync}
 use Rattle.nt_outside.specs.World.{World, Asked, HostState, file}
 use Rattle.nt_book.specs.declared.params.Params.{Params}
+use Rattle.nt_close.specs.Laws.{EndsOverFirst}
 use Rattle.nt_store.specs.Worlds.{IsThereWith, AsksFor}
 use Rattle.nt_store.specs.Stored.{asked_for}
 use Rattle.nt_store.proofs.Ends.{none_made, nothing_made}
@@ -17,9 +20,9 @@ use Rattle.nt_script.specs.declared.store_error.ScriptStoreError.{ScriptStoreErr
 use Rattle.nt_script.specs.declared.store_error.ScriptStoreError.TheVariants as script
 use Rattle.nt_script.specs.Script.{BadScriptLine, read_script}
 use Rattle.nt_script.specs.Clusters.{bad_line}
-use Rattle.nt_script.specs.Limits.{FitsWhole, PassesLimit}
+use Rattle.nt_script.specs.Passing.{FitsWhole, PassesLimit}
 use Rattle.nt_script.specs.Crashes.{LeavesScript, ScriptCrashTold}
-use Rattle.nt_script.specs.Storing.{AreScriptTexts, MakesScriptFile, StoresWholeScript, IsWholeScript, IsTooLargeScript, ScriptTold}
+use Rattle.nt_script.specs.Storing.{AreScriptTexts, MakesScriptFile, IsLeftAfter, StoresWholeScript, IsWholeScript, IsTooLargeScript, ScriptTold}
 use Rattle.nt_app.specs.declared.status.Status.{Status}
 use Rattle.nt_app.specs.declared.status.Status.TheVariants as status
 use Rattle.nt_app.specs.declared.status.TextFault.TheVariants as fault
@@ -62,12 +65,18 @@ whole_after o s i p w v err printed behind told = record {
   gained = told.gained;
 }
 
+steps_after : (o : List ℕ) (Ends : List Step → Type 0) (v : World) (err : List ℕ) → IsLeftAfter Ends o v
+    → IsLeftAfter Ends o (record v { err = err })
+steps_after o Ends v err left = record { at = left.at; log = left.log; there = left.there; steps = left.steps; ends = left.ends }
+
 told_after : (o s i : List ℕ) (p : Params) (w v : World) (err : List ℕ) (stored : Result Unit ScriptStoreError)
     → ScriptTold o s i p w v stored → ScriptTold o s i p w (record v { err = err }) stored
 told_after o s i p w v err (Ok done) told = (told.0, whole_after o s i p w v err told.0 [] told.1)
 told_after o s i p w v err (Err script.Outside) (inl told) = inl (left_after o w v err told.0, told.1)
-told_after o s i p w v err (Err script.Outside) (inr told) =
-    inr (told.0, told.1, whole_after o s i p w v err told.0 told.1 told.2)
+told_after o s i p w v err (Err script.Outside) (inr (inl told)) =
+    inr (inl (told.0, whole_after o s i p w v err [] told.0 told.1, steps_after o EndsOverFirst v err told.2))
+told_after o s i p w v err (Err script.Outside) (inr (inr told)) =
+    inr (inr (told.0, told.1, whole_after o s i p w v err told.0 told.1 told.2, steps_after o EndsInSync v err told.3))
 told_after o s i p w v err (Err script.Memory) told = told
 told_after o s i p w v err (Err (script.Schema line kind)) told = told
 told_after o s i p w v err (Err (script.Line line kind)) told = told
@@ -141,7 +150,7 @@ completes o s i p w v (Err (script.Schema line kind)) fields text told served ar
 completes o s i p w v (Err (script.Line line kind)) fields text told served are sound fits =
     absurd (not_sound (bad_line (read_script fields text)) (record { line = line; kind = kind }) sound
     (same_script w s i told.0.fields fields told.0.text text
-    (λ f t. bad_line (read_script f t) ≡ Some (record { line = line; kind = kind })) told.0.are are told.0.first))
+    (λ f t. bad_line (read_script f t) ≡ Some (record { line = line; kind = kind })) told.0.are are told.0.bad.first))
 completes o s i p w v (Err (script.Limit reached limit)) fields text told served are sound fits =
     absurd (not_over s i p w reached limit fields text told.0 are fits)
 
@@ -175,7 +184,7 @@ faults o s i p w v (Err (script.Schema line' kind')) fields text line kind told 
     absurd (not_both fields line' kind' (file w s) are.schema_is told.0)
 faults o s i p w v (Err (script.Line line' kind')) fields text line kind told served are first fits =
     inl (same_bad (bad_line (read_script fields text)) line' line kind' kind (same_script w s i told.0.fields fields told.0.text text
-    (λ f t. bad_line (read_script f t) ≡ Some (record { line = line'; kind = kind' })) told.0.are are told.0.first) first)
+    (λ f t. bad_line (read_script f t) ≡ Some (record { line = line'; kind = kind' })) told.0.are are told.0.bad.first) first)
 faults o s i p w v (Err (script.Limit reached limit)) fields text line kind told served are first fits =
     absurd (not_over s i p w reached limit fields text told.0 are fits)
 

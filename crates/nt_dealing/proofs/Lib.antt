@@ -12,6 +12,6 @@ mod Undealt
 mod Permuted
 mod Fronts
 mod Longest
-mod Whole
+pub mod Whole
 mod Committed
 pub mod Fitting

@@ -4,6 +4,8 @@ pub mod Spans
 pub mod Counts
 pub mod Arranged
 pub mod Staged
+pub mod RangeParts
+pub mod BesideLists
 pub mod Beside
 pub mod Parts
 pub mod PartsThere

@@ -58,7 +58,7 @@ of_no_text T p m store.Outside read why = tt
 of_no_text T p m store.Memory read why = tt
 of_no_text T p m (store.Limit reached most) read why = tt
 of_no_text T p m (store.Schema line kind) read why = why
-of_no_text T p m (store.Line input line kind) read why = not_sound event_fields (made_texts m) input line kind read.sound why
+of_no_text T p m (store.Line input line kind) read why = not_sound event_fields (made_texts m) input line kind read.sound why.fails.first
 
 module _ {V : Type 0} (order : V → List ℕ) (p : Params) (m : Making) (read : MadeAreRead m) where
   -- why it isn't filled, and what is left then
@@ -71,7 +71,7 @@ module _ {V : Type 0} (order : V → List ℕ) (p : Params) (m : Making) (read :
   unfilled_leaves T commits (store.Limit reached most) held why left = (made_passes p m read reached most why, left)
   unfilled_leaves T commits (store.Schema line kind) held why left = absurd why
   unfilled_leaves T commits (store.Line input line kind) held why left =
-      absurd (not_sound event_fields (made_texts m) input line kind read.sound why)
+      absurd (not_sound event_fields (made_texts m) input line kind read.sound why.fails.first)
 
   module _ (t : Table) (book : BookData) (old new : DiskState) where
     turn : (bytes : List ℕ) → IsStored p event_fields (made_texts m) (commit_order book) bytes

@@ -12,6 +12,7 @@ pub mod Fields
 pub mod Goes
 pub mod Ends
 pub mod Wholes
+pub mod WholeClusters
 pub mod Closed
 pub mod Early
 pub mod Unbegun

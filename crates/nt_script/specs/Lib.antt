@@ -3,6 +3,7 @@ pub mod Clusters
 pub mod Reading
 pub mod Limits
 pub mod Taking
+pub mod Passing
 pub mod Adding
 pub mod Events
 pub mod Running

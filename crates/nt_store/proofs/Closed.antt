@@ -1,5 +1,5 @@
 -- What the closing of a filled file leaves on its disk.
-use Rattle.std.proofs.Common.{◌≡◌, ◌⊎◌, ◌∙◌, inl, inr, subst, refl, ℕ, ◌<◌, List, ◌++◌, Option, Some, None, Result, Ok, Err, arith}
+use Rattle.std.proofs.Common.{◌≡◌, ◌⊎◌, ◌∙◌, inl, inr, subst, refl, ℕ, ◌<◌, List, Option, Some, None, Result, Ok, Err, arith}
 use Rattle.nt_types.specs.ShapeData.{MemberData}
 use Rattle.nt_outside.specs.Held.{Held}
 use Rattle.nt_outside.specs.Disk.{DiskState}
@@ -10,10 +10,10 @@ use Rattle.nt_book.specs.declared.params.Params.{Params}
 use Rattle.nt_book.specs.declared.limits.LimitError.{LimitError}
 use Rattle.nt_book.specs.Books.{BookData}
 use Rattle.nt_layout.specs.Headers.{clusters_place}
-use Rattle.nt_layout.specs.Finished.{lists_behind, tail, front, finished}
+use Rattle.nt_layout.specs.Finished.{lists_behind, tail, front}
 use Rattle.nt_close.specs.declared.error.CloseError.{CloseError}
 use Rattle.nt_close.specs.declared.error.CloseError.TheVariants as close
-use Rattle.nt_close.specs.Steps.{closed_on, closed_whole}
+use Rattle.nt_close.specs.Steps.{closed_on, closed_partly, closed_whole}
 use Rattle.nt_close.specs.Passing.{passed_by_close}
 use Rattle.nt_close.specs.Spoiled.{NoneSpoiled, IsUnspoiled, IsFirstSpoiled}
 use Rattle.nt_close.specs.Closing.{HasCloseCause, LeavesClosed, IsCloseCut, BecomesFinished, StaysWithin}
@@ -21,11 +21,11 @@ use Rattle.nt_close.proofs.FirstByte.{closes_shut, closes_in_order}
 use Rattle.nt_close.proofs.Finishing.{closed-is}
 use Rattle.nt_close.proofs.Within.{within}
 use Rattle.nt_dealing.specs.Dealt.{commit_order}
-use Rattle.nt_store.specs.declared.error.StoreError.TheVariants.{Outside, Memory, Limit}
+use Rattle.nt_store.specs.declared.error.StoreError.TheVariants.{Outside}
 use Rattle.nt_store.specs.Errors.{error_of_close}
 use Rattle.nt_store.specs.Whole.{IsStored}
 use Rattle.nt_store.specs.Laws.{RangesAreAsLong, FinishedAreStored, PassedAreOver, CrashesLeave}
-use Rattle.nt_store.specs.Writing.{HoldsNow, PassesLimitOf, KeepsOrder}
+use Rattle.nt_store.specs.Writing.{HoldsNow, by_end, KeepsOrder}
 use Rattle.nt_store.specs.Crashes.{CrashLeaves}
 use Rattle.nt_store.specs.Filling.{IsFilledFile, IsOfNoText, CloseLeaves}
 use Rattle.nt_store.proofs.Begun.{shut_open, some_shut}
@@ -71,7 +71,7 @@ module _ (long : RangesAreAsLong) (stored : FinishedAreStored) (over : PassedAre
       let left = cut.held h is in (
         left.0,
         left.1,
-        elim (closes_shut ends begins h left.0 filled.shut left.2) [
+        elim (closes_shut ends begins h left.0 filled.shut (closed_partly left.2)) [
           | inl still ↦ inl (shut_open left.0.image still)
           | inr whole ↦ inr (stands left.0 (within t p book none) whole)
         ],
@@ -91,6 +91,7 @@ module _ (long : RangesAreAsLong) (stored : FinishedAreStored) (over : PassedAre
       table = t;
       rows = filled.holds.rows;
       over = over fields p texts t book filled.ranges len most filled.holds (inl cause.1);
+      by = by_end filled.holds.sound filled.holds.fit;
     },
     still new.held (left.place.held ∙ is),
   )
@@ -99,6 +100,7 @@ module _ (long : RangesAreAsLong) (stored : FinishedAreStored) (over : PassedAre
       table = t;
       rows = filled.holds.rows;
       over = over fields p texts t book filled.ranges end most filled.holds (inr cause.1);
+      by = by_end filled.holds.sound filled.holds.fit;
     },
     still new.held (left.place.held ∙ is),
   )
@@ -140,7 +142,8 @@ module _ (leave : CrashesLeave) (t : Table) (p : Params) (book : BookData) (fiel
       let some = left.held h is in (
         some.0,
         some.1,
-        leave.closing fields p texts t book filled.ranges h some.0 filled.holds (within t p book cause.1) filled.filled some.2,
+        leave.closing fields p texts t book filled.ranges h some.0 filled.holds (within t p book cause.1) filled.filled
+            (closed_partly some.2),
       )
 
 -- the steps stay in order
@@ -155,7 +158,7 @@ close_order tail front old new (Err (close.RangeTooLarge len most)) reads left h
 close_order tail front old new (Err (close.FileTooLarge end most)) reads left h is = (h, left.place.held ∙ is, λ shut order. order)
 close_order tail front old new (Err close.Fault) reads left h is =
     let some = left.held h is in
-    (some.0, some.1, λ shut order. closes_in_order tail front h (some_shut h.image shut) (reads h is) order some.0 some.2)
+    (some.0, some.1, λ shut order. closes_in_order tail front h (some_shut h.image shut) (reads h is) order some.0 (closed_partly some.2))
 
 -- the disk has failed where the closing did
 pub close_fails : (book : BookData) (passed : Option LimitError) (tail front : List ℕ) (old new : DiskState) (e : CloseError)

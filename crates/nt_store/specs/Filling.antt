@@ -16,7 +16,6 @@ use Rattle.nt_close.specs.Spoiled.{NoneSpoiled}
 use Rattle.nt_cuts.specs.Cuts.{LeavesUnfinished}
 use Rattle.nt_crash.specs.Fillings.{IsFilled}
 use Rattle.nt_dealing.specs.Dealt.{commit_order}
-use Rattle.nt_dealing.specs.Texts.{IsFirstBad}
 use Rattle.nt_contexts.specs.Contexts.{TellTexts}
 use Rattle.nt_store.specs.declared.error.StoreError.{StoreError}
 use Rattle.nt_store.specs.declared.error.StoreError.TheVariants.{Outside, Memory, Schema, Line, Limit}
@@ -24,7 +23,7 @@ use Rattle.nt_store.specs.Whole.{IsStored}
 use Rattle.nt_store.specs.Laws.{HoldsChunks}
 use Rattle.nt_store.specs.Crashes.{CrashLeaves}
 use Rattle.nt_store.specs.Worlds.{SomeFailed}
-use Rattle.nt_store.specs.Writing.{HoldsNow, NeverBegan, PassesLimitOf, IsInOrderFrom, KeepsOrder}
+use Rattle.nt_store.specs.Writing.{HoldsNow, NeverBegan, PassesLimitOf, FailsAtLine, IsInOrderFrom, KeepsOrder}
 
 -- a file is filled: it was begun for these fields, its clusters are the chunks of the texts, dealt out, and it can't pass for finished
 pub record IsFilledFile (fields : List MemberData) (p : Params) (texts : List (List ℕ)) (t : Table) (book : BookData) (h : Held) : Type 0
@@ -42,7 +41,7 @@ WhyUnfilled fields p texts (Ok made) = ⊤
 WhyUnfilled fields p texts (Err Outside) = ⊤
 WhyUnfilled fields p texts (Err Memory) = ⊤
 WhyUnfilled fields p texts (Err (Limit reached most)) = PassesLimitOf fields p texts reached most
-WhyUnfilled fields p texts (Err (Line input line kind)) = IsFirstBad fields texts input line kind
+WhyUnfilled fields p texts (Err (Line input line kind)) = FailsAtLine fields p texts input line kind
 WhyUnfilled fields p texts (Err (Schema line kind)) = ⊥
 
 -- what is left of it: filled, by this book and schema; else it can't pass for finished, or its first append failed
