@@ -18,6 +18,7 @@ use Rattle.nt_machine.specs.History.{ranges_of}
 use Rattle.nt_book.specs.declared.meta.ClusterMeta.{ClusterMeta}
 use Rattle.nt_book.specs.declared.params.Params.{Params}
 use Rattle.nt_commit.specs.declared.locked.Birth.{Birth}
+use Rattle.nt_commit.specs.Locked.{book_of_birth}
 use Rattle.nt_commit.specs.Holds.{IsPassOf, HasNoneOut}
 use Rattle.nt_event.specs.Lines.{LinesState}
 use Rattle.nt_fill.specs.Context.{gathered}
@@ -113,16 +114,15 @@ module _ {D P : Type 0} (state : D → DiskState) (fields : List MemberData) (t 
       let of : c.committer ≡ committer = h.same.committer ∙ is_committer in
       let size : c.cluster ≡ p.cluster = h.same.cluster ∙ is_cluster in
       let bad : (read_events (parts_of fields) text).bad ≡ h.bad = ap (λ (e : EventText). e.bad) read in
-      subst (λ (b : TurnState (Birth D)). (next : NextPasses b.birth.limits (state b.birth.begun).end t p.page
+      subst (λ (b : TurnState (Birth D)). (next : NextPasses (book_of_birth state b.birth []) t p.page
       (text_chunks p.cluster fields text) c.pass.own c.pass.seen error) × ((length next.chunk ≡ p.cluster)
       ⊎ ((read_events (parts_of fields) text).bad ≡ None))) of
-      (subst (λ (n : ℕ). (next : NextPasses c.committer.birth.limits (state c.committer.birth.begun).end t p.page
+      (subst (λ (n : ℕ). (next : NextPasses (book_of_birth state c.committer.birth []) t p.page
       (text_chunks p.cluster fields text) c.pass.own c.pass.seen error) × ((length next.chunk ≡ n)
       ⊎ ((read_events (parts_of fields) text).bad ≡ None))) size
-      (subst (λ (b : Option BadLine). (next : NextPasses c.committer.birth.limits (state c.committer.birth.begun).end t p.page
+      (subst (λ (b : Option BadLine). (next : NextPasses (book_of_birth state c.committer.birth []) t p.page
       (text_chunks p.cluster fields text) c.pass.own c.pass.seen error) × ((length next.chunk ≡ c.cluster) ⊎ (b ≡ None))) (sym bad)
-      (renamed (λ (s : Table) (n : ℕ) (l : List (List TreesData)). (next : NextPasses c.committer.birth.limits
-      (state c.committer.birth.begun).end s n l c.pass.own c.pass.seen error) × ((length next.chunk ≡ c.cluster) ⊎ (h.bad ≡ None)))
+      (renamed (λ (s : Table) (n : ℕ) (l : List (List TreesData)). (next : NextPasses (book_of_birth state c.committer.birth []) s n l c.pass.own c.pass.seen error) × ((length next.chunk ≡ c.cluster) ⊎ (h.bad ≡ None)))
       c.table t c.page p.page (chunks c.cluster h.entries) (text_chunks p.cluster fields text) (h.same.table ∙ is_table) (h.same.page
       ∙ is_page) (chunks_are text h.entries h.bad h.same read) h.cause)))
   ended_told left was is (Err Outside) h text told = tt

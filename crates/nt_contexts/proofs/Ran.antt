@@ -19,6 +19,7 @@ use Rattle.nt_book.specs.declared.limits.LimitError.TheVariants as limit
 use Rattle.nt_book.specs.declared.meta.ClusterMeta.{ClusterMeta}
 use Rattle.nt_book.specs.declared.params.Params.{Params}
 use Rattle.nt_commit.specs.declared.locked.Birth.{Birth}
+use Rattle.nt_commit.specs.Locked.{book_of_birth}
 use Rattle.nt_commit.specs.Holds.{HasNoneOut}
 use Rattle.nt_event.specs.Lines.{LinesState}
 use Rattle.nt_event.specs.declared.fault.TextKind.{TextKind}
@@ -110,7 +111,7 @@ pub record PassesFrom {D : Type 0} (state : D → DiskState) (fields : List Memb
   pub mine : List (Entry ClusterMeta)
   pub at : slice_get kept place ≡ Some (i + place, own)
   pub begins : IsPrefix mine seen
-  pub passes : NextPasses committer.birth.limits (state committer.birth.begun).end t p.page (slice_index_or (chunks_of p.cluster fields
+  pub passes : NextPasses (book_of_birth state committer.birth []) t p.page (slice_index_or (chunks_of p.cluster fields
       texts) place []) own mine error
   pub is_written : (length passes.chunk ≡ p.cluster) ⊎ ((events_of fields text).bad ≡ None)
   pub before : Before (chunks_of p.cluster fields texts) kept place (take (length (ranges_of own)) (text_chunks p.cluster fields text))

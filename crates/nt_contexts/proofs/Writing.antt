@@ -1,5 +1,5 @@
 -- What a context that writes what it has gathered has taken.
-use Rattle.std.proofs.Common.{◌≡◌, ◌≢◌, inl, inr, ℕ, ◌<◌, List, [], ◌∷◌, ◌++◌, length, Some, Result, Ok, Err, refl, sym, ap, ◌∙◌, subst}
+use Rattle.std.proofs.Common.{◌≡◌, ◌≢◌, inl, inr, ℕ, ◌<◌, List, [], ◌∷◌, ◌++◌, length, Option, Some, None, Result, Ok, Err, refl, sym, ap, ◌∙◌, subst}
 use Rattle.std.proofs.Common.{append_assoc, append-nil, arith}
 use Rattle.std.specs.List.{flat_map}
 use Rattle.std.proofs.lemmas.Grind.{flat_map-append}
@@ -17,7 +17,7 @@ use Rattle.nt_book.specs.Entries.{committed_by, faulted_entry, spoiled_entry}
 use Rattle.nt_pages.specs.Metas.{cluster_meta}
 use Rattle.nt_commit.specs.declared.error.CommitError.{CommitError}
 use Rattle.nt_commit.specs.declared.error.CommitError.TheVariants as commit
-use Rattle.nt_commit.specs.Claims.{limit_in}
+use Rattle.nt_commit.specs.Claims.{limit_answered, limit_in}
 use Rattle.nt_commit.specs.declared.locked.Birth.{Birth}
 use Rattle.nt_turn.specs.Pass.{PassState}
 use Rattle.nt_fill.specs.Context.{gathered}
@@ -40,6 +40,13 @@ DiskPass D = PassState (Entry ClusterMeta) (Birth D)
 -- a flush that was refused
 abbrev pub refusal : CommitError → Result (Unit {0}) CommitError
 refusal e = Err e
+
+-- what names a limit isn't want of memory
+apart : (e : CommitError) (error : LimitError) → limit_in e ≡ Some error → refusal e ≢ refusal commit.Memory
+apart e error is = λ same.
+    let none : ◌≡◌ {A = Option LimitError} None (Some error) =
+    sym (ap (λ (r : Result (Unit {0}) CommitError). limit_answered r) same) ∙ is in
+    absurd (cc none)
 
 -- what a fault added ends with an entry that tells it
 told_last : (own : List (Entry ClusterMeta)) (i faults : ℕ) → HaveFaults (own ++ faulted_entry i faults ∷ [])
@@ -103,7 +110,8 @@ module _ {D P : Type 0} (state : D → DiskState) where
               gives = limits.gives;
               history = limits.names.history;
               before = limits.names.seen;
-              passed = limits.names.limits ∙ is;
+              place = limits.names.place;
+              passed = limits.names.limits (inr (apart e error is)) ∙ is;
             },
             refl,
           );

@@ -16,6 +16,7 @@ use Rattle.nt_book.specs.declared.meta.ClusterMeta.{ClusterMeta}
 use Rattle.nt_event.specs.Lines.{LinesState}
 use Rattle.nt_fill.specs.Context.{gathered}
 use Rattle.nt_fill.specs.Flushes.{DiskContext}
+use Rattle.nt_commit.specs.Locked.{book_of_birth}
 use Rattle.nt_dealing.specs.Limits.{AreKeptOf, NextPasses}
 use Rattle.nt_dealing.specs.Written.{WroteChunks, CommittedFirst}
 use Rattle.nt_contexts.specs.declared.error.ContextError.{ContextError}
@@ -83,7 +84,7 @@ module _ {D P : Type 0} where
     abbrev pub IsHalt : (List TreesData → Type 0) → List (List TreesData) → DiskContext D P → ContextError → Type 0
     IsHalt IsSuch all c (Text line kind) = ⊥
     IsHalt IsSuch all c (Limit error) =
-        (next : NextPasses c.committer.birth.limits (state c.committer.birth.begun).end c.table c.page all c.pass.own c.pass.seen error)
+        (next : NextPasses (book_of_birth state c.committer.birth []) c.table c.page all c.pass.own c.pass.seen error)
         × IsSuch next.chunk
     IsHalt IsSuch all c Outside = HaveFaults c.pass.own
     IsHalt IsSuch all c Memory = Unit {0}

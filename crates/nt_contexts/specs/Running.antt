@@ -1,5 +1,5 @@
 -- How a context ends.
-use Rattle.std.specs.Prelude.{◌≡◌, ◌⊎◌, ℕ, ◌+◌, ◌≤◌, Bool, true, false, List, length, take, Option, Some, None, Result, Ok, Err}
+use Rattle.std.specs.Prelude.{◌≡◌, ◌⊎◌, ℕ, ◌+◌, ◌≤◌, Bool, true, false, List, [], length, take, Option, Some, None, Result, Ok, Err}
 use Rattle.nt_types.specs.ShapeData.{MembersData}
 use Rattle.nt_types.specs.TreeData.{TreesData}
 use Rattle.nt_outside.specs.Disk.{DiskState}
@@ -7,6 +7,7 @@ use Rattle.nt_outside.specs.Faults.{Rose}
 use Rattle.nt_lists.specs.Chunks.{chunks}
 use Rattle.nt_machine.specs.History.{ranges_of}
 use Rattle.nt_book.specs.declared.limits.LimitError.TheVariants as limit
+use Rattle.nt_commit.specs.Locked.{book_of_birth}
 use Rattle.nt_commit.specs.declared.error.CommitError.{CommitError}
 use Rattle.nt_commit.specs.declared.error.CommitError.TheVariants as commit
 use Rattle.nt_event.specs.Lines.{LinesState}
@@ -46,7 +47,7 @@ module _ {D P : Type 0} (state : D → DiskState) where
   IsCause all bad old new c (Text line kind) =
       (bad ≡ Some (record { line = line; kind = kind })) × (take (length (ranges_of c.pass.own)) all ≡ whole_chunks c.cluster all)
   IsCause all bad old new c (Limit error) =
-      (next : NextPasses c.committer.birth.limits (state c.committer.birth.begun).end c.table c.page all c.pass.own c.pass.seen error)
+      (next : NextPasses (book_of_birth state c.committer.birth []) c.table c.page all c.pass.own c.pass.seen error)
       × ((length next.chunk ≡ c.cluster) ⊎ (bad ≡ None))
   IsCause all bad old new c Outside = Rose old.faults new.faults ⊎ HaveFaults c.pass.own
   IsCause all bad old new c Memory = Unit {0}

@@ -14,6 +14,7 @@ use Rattle.nt_machine.specs.History.{ranges_of}
 use Rattle.nt_book.specs.declared.meta.ClusterMeta.{ClusterMeta}
 use Rattle.nt_book.specs.declared.params.Params.{Params}
 use Rattle.nt_commit.specs.declared.locked.Birth.{Birth}
+use Rattle.nt_commit.specs.Locked.{book_of_birth}
 use Rattle.nt_commit.specs.Holds.{IsPassOf, HasNoneOut}
 use Rattle.nt_dealing.specs.Texts.{events_of, text_chunks}
 use Rattle.nt_dealing.specs.Written.{WroteChunks, CommittedFirst}
@@ -58,7 +59,7 @@ EndsTold state fields t p committer pass text (Err (Text line kind)) =
     ((events_of fields text).bad ≡ Some (record { line = line; kind = kind }))
     × (take (length (ranges_of pass.own)) (text_chunks p.cluster fields text) ≡ whole_chunks p.cluster (text_chunks p.cluster fields text))
 EndsTold state fields t p committer pass text (Err (Limit error)) =
-    (next : NextPasses committer.birth.limits (state committer.birth.begun).end t p.page
+    (next : NextPasses (book_of_birth state committer.birth []) t p.page
     (text_chunks p.cluster fields text) pass.own pass.seen error) × ((length next.chunk ≡ p.cluster) ⊎ ((events_of fields text).bad ≡ None))
 EndsTold state fields t p committer pass text (Err Outside) = ⊤
 EndsTold state fields t p committer pass text (Err Memory) = ⊤

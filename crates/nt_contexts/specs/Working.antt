@@ -15,6 +15,7 @@ use Rattle.nt_book.specs.declared.meta.ClusterMeta.{ClusterMeta}
 use Rattle.nt_book.specs.declared.params.Params.{Params}
 use Rattle.nt_book.specs.declared.limits.LimitError.{LimitError}
 use Rattle.nt_commit.specs.declared.locked.Birth.{Birth}
+use Rattle.nt_commit.specs.Locked.{book_of_birth}
 use Rattle.nt_commit.specs.Holds.{IsPassOf, IsFirstOf, HasNoneOut, HaveAllLeft}
 use Rattle.nt_dealing.specs.Texts.{events_of, text_chunks, chunks_of, AreSound, IsFirstBad}
 use Rattle.nt_dealing.specs.Failing.{whole_chunks, chunks_before, committed_chunks}
@@ -59,7 +60,7 @@ module _ {D : Type 0} (state : D → DiskState) (fields : List MemberData) (t : 
     pub seen : List (Entry ClusterMeta)
     pub at : slice_get first.kept place ≡ Some (place, own)
     pub begins : IsPrefix seen first.seen
-    pub passes : NextPasses committer.birth.limits (state committer.birth.begun).end t p.page (slice_index_or (chunks_of p.cluster
+    pub passes : NextPasses (book_of_birth state committer.birth []) t p.page (slice_index_or (chunks_of p.cluster
         fields texts) place []) own seen error
     pub is_written : (length passes.chunk ≡ p.cluster) ⊎ ((events_of fields text).bad ≡ None)
     pub before : CommittedBefore texts first place (take (length (ranges_of own)) (text_chunks p.cluster fields text))

@@ -1,5 +1,6 @@
 //! How a committer ends whose contexts were joined.
 
+ghost use Rattle.std.specs.Prelude.{◌≡◌, None};
 ghost use Rattle.nt_commit.specs.Holds.{IsFirstOf, HaveAllLeft};
 ghost use Rattle.nt_contexts.specs.Ending.{HasEnded};
 
@@ -15,6 +16,7 @@ use nt_turn::Pass;
 pub(crate) fn end<D: Disk>(committer: Committer<D>, first: Pass<Locked<D>>) -> (D, Book)
     requires first { IsFirstOf committer first }
     requires left { HaveAllLeft first }
+    requires ungrouped { committer.birth.group ≡ None }
     ensures { HasEnded D.state committer.birth first result.0 result.1 }
 {
     commits_are_dealt::<D>();

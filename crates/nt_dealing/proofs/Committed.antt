@@ -33,7 +33,8 @@ use Rattle.nt_book.specs.declared.limits.LimitError.TheVariants as limit
 use Rattle.nt_book.specs.Limiting.{limit_error}
 use Rattle.nt_book.specs.Books.{BookData}
 use Rattle.nt_commit.specs.declared.locked.Birth.{Birth}
-use Rattle.nt_commit.specs.Locked.{birth_of, context_of, history_of_locked, locked_by}
+use Rattle.nt_commit.proofs.Ungrouped.{limit-ungrouped}
+use Rattle.nt_commit.specs.Locked.{book_of_birth, birth_of, context_of, history_of_locked, locked_by}
 use Rattle.nt_pages.specs.Image.{image}
 use Rattle.nt_pages.specs.Metas.{cluster_meta}
 use Rattle.nt_layout.specs.Headers.{clusters_place}
@@ -197,16 +198,22 @@ begins_whole : (reached a b c d e : ℕ) → reached ≡ a + b → reached ≤ a
 begins_whole reached a b c d e is = omega (arith, is)
 
 module _ (fields : List MemberData) (t : Table) (p : Params) (rows : Rows fields p.plain t) (chunks : List (List (List TreesData)))
-    (history : List (Entry ClusterMeta)) (limits : Limits)
-    (same : limits ≡ p.limits) (begin : ℕ)
-    (begins : begin ≡ clusters_place t)
+    (history : List (Entry ClusterMeta)) (begun : BookData) (none : begun.group ≡ None)
+    (same : begun.limits ≡ p.limits) (begins : begun.begin ≡ clusters_place t)
     (each : (i : ℕ) → IsFront t p.page history chunks i) where
+  abbrev limits : Limits
+  limits = begun.limits
+
+  abbrev begin : ℕ
+  begin = begun.begin
+
   passes_all : (i : ℕ) (seen : List (Entry ClusterMeta)) (error : LimitError) → IsPrefix seen history
-      → (next : NextPasses limits begin t p.page (slice_index_or chunks i []) (mine_of history i) seen error)
+      → (next : NextPasses begun t p.page (slice_index_or chunks i []) (mine_of history i) seen error)
       → IsOverBy t p (joined_chunks chunks) error × ChunkPassesBy t p next.chunk error
   passes_all i seen error first n =
       by_limit (λ e. IsOverBy t p (joined_chunks chunks) e × ChunkPassesBy t p n.chunk e) limits (end_after begin cs) (length cs)
-      (length (image p.page n.columns)) error n.passed
+      (length (image p.page n.columns)) error
+      (sym (limit-ungrouped (record begun { history = n.history }) n.place (length (image p.page n.columns)) none) ∙ n.passed)
       (λ less. (range less, chunk_too_long meta kept refl (ap (λ (l : Limits). l.range) same)))
       (λ less. (file less, chunk_too_far meta kept (omega (arith, begins)) (ap (λ (l : Limits). l.file) same)))
       (λ full. (clusters full, chunk_too_many refl refl))
@@ -311,21 +318,21 @@ module _ {D : Type 0} (state : D → DiskState) where
   pub next_passes_all : (birth : Birth D) (disk : D) (book : BookData) (first : PassState (Entry ClusterMeta) (Birth D))
       (fields : List MemberData) (t : Table) (p : Params) (rows : Rows fields p.plain t) (chunks : List (List (List TreesData))) (i : ℕ)
       (own seen : List (Entry ClusterMeta)) (error : LimitError)
-      → Closes (history_of_locked state) birth_of context_of first (locked_by birth disk book) → birth.limits ≡ p.limits
+      → Closes (history_of_locked state) birth_of context_of first (locked_by birth disk book) → birth.group ≡ None → birth.limits ≡ p.limits
       → (state birth.begun).end ≡ clusters_place t → HaveCommitted t p.page chunks first.number first.own first.kept
       → slice_get first.kept i ≡ Some (i, own) → IsPrefix seen first.seen
-      → (next : NextPasses birth.limits (state birth.begun).end t p.page (slice_index_or chunks i []) own seen error)
+      → (next : NextPasses (book_of_birth state birth []) t p.page (slice_index_or chunks i []) own seen error)
       → IsOverBy t p (joined_chunks chunks) error × ChunkPassesBy t p next.chunk error
-  next_passes_all birth disk book first fields t p rows chunks i own seen error closes same begins have at before next =
+  next_passes_all birth disk book first fields t p rows chunks i own seen error closes none same begins have at before next =
       let history : List (Entry ClusterMeta) = history_of_locked state (locked_by birth disk book) in
       let mine : own ≡ mine_of history i = own_kept t p.page history first.kept i i own closes.kept at in
       let begun : IsPrefix seen history =
       subst (λ (l : List (Entry ClusterMeta)). IsPrefix seen l) closes.seen.1 (prefix_more seen first.seen closes.seen.0 before) in
       subst
-      (λ (l : List (Entry ClusterMeta)). (x : NextPasses birth.limits (state birth.begun).end t p.page (slice_index_or chunks i []) l seen
+      (λ (l : List (Entry ClusterMeta)). (x : NextPasses (book_of_birth state birth []) t p.page (slice_index_or chunks i []) l seen
       error)
       → IsOverBy t p (joined_chunks chunks) error × ChunkPassesBy t p x.chunk error)
       (sym mine)
-      (passes_all fields t p rows chunks history birth.limits same (state birth.begun).end begins
+      (passes_all fields t p rows chunks history (book_of_birth state birth []) none same begins
       (each_front t p.page history chunks first.number first.own first.kept have closes.kept closes.own closes.others) i seen error begun)
       next

@@ -6,13 +6,12 @@ use Rattle.nt_types.specs.TreeData.{TreesData}
 use Rattle.nt_grammar.specs.Table.{Table}
 use Rattle.nt_book.specs.declared.meta.ClusterMeta.{ClusterMeta}
 use Rattle.nt_book.specs.declared.params.Params.{Params}
-use Rattle.nt_book.specs.declared.limits.Limits.{Limits}
 use Rattle.nt_book.specs.declared.limits.LimitError.{LimitError}
 use Rattle.nt_book.specs.declared.limits.LimitError.TheVariants as limit
-use Rattle.nt_book.specs.Limiting.{limit_error}
+use Rattle.nt_book.specs.Books.{BookData}
+use Rattle.nt_commit.specs.Lists.{NextPlace, limit_at}
 use Rattle.nt_machine.specs.declared.entry.Entry.{Entry}
 use Rattle.nt_machine.specs.History.{ranges_of}
-use Rattle.nt_machine.specs.Legal.{end_after}
 use Rattle.nt_column.specs.Column.{Column, elements_at}
 use Rattle.nt_plans.specs.Plan.{PlansData}
 use Rattle.nt_plans.specs.Place.{open_plans}
@@ -91,8 +90,9 @@ IsOverBy t p chunks (limit.RangeTooLarge len most) = IsOver t p chunks len most
 IsOverBy t p chunks (limit.FileTooLarge end most) = IsOver t p chunks end most
 IsOverBy t p chunks limit.TooManyClusters = IsOver t p chunks (p.limits.clusters + 1) p.limits.clusters
 
--- the next chunk of a context that committed the first of its chunks passes a limit behind a history that its pass has seen
-pub record NextPasses (limits : Limits) (begin : ℕ) (t : Table) (page : ℕ) (chunks : List (List TreesData))
+-- the next chunk of a context that committed the first of its chunks passes a limit of a book that was begun so, behind a history that its
+-- pass has seen
+pub record NextPasses (begun : BookData) (t : Table) (page : ℕ) (chunks : List (List TreesData))
     (own seen : List (Entry ClusterMeta)) (error : LimitError) : Type 0 where
   pub chunk : List TreesData
   pub at : slice_get chunks (length (ranges_of own)) ≡ Some chunk
@@ -100,5 +100,5 @@ pub record NextPasses (limits : Limits) (begin : ℕ) (t : Table) (page : ℕ) (
   pub gives : Gives t columns chunk
   pub history : List (Entry ClusterMeta)
   pub before : IsPrefix history seen
-  pub passed : limit_error limits (end_after begin (ranges_of history)) (length (ranges_of history)) (length (image page columns))
-      ≡ Some error
+  pub place : NextPlace (record begun { history = history })
+  pub passed : limit_at (record begun { history = history }) place (length (image page columns)) ≡ Some error

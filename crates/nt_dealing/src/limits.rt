@@ -1,6 +1,6 @@
 //! Which limit the file of all chunks passes, and what it has of them.
 
-ghost use Rattle.std.specs.Prelude.{◌≡◌, ◌<◌, ◌≤◌, ℕ, Bool, List, [], ◌++◌, Some, map, slice_get, slice_index_or, IsPermutation};
+ghost use Rattle.std.specs.Prelude.{◌≡◌, ◌<◌, ◌≤◌, ℕ, Bool, List, [], ◌++◌, Some, None, map, slice_get, slice_index_or, IsPermutation};
 ghost use mathlib.Core.List.{IsPrefix};
 ghost use Rattle.nt_types.specs.ShapeData.{MemberData};
 ghost use Rattle.nt_types.specs.TreeData.{TreesData};
@@ -16,7 +16,7 @@ ghost use Rattle.nt_book.specs.declared.limits.LimitError.{LimitError};
 ghost use Rattle.nt_book.specs.Books.{BookData, book_clusters};
 ghost use Rattle.nt_book.specs.Kept.{IsBookKept};
 ghost use Rattle.nt_commit.specs.declared.locked.Birth.{Birth};
-ghost use Rattle.nt_commit.specs.Locked.{IsInStep, birth_of, context_of, history_of_locked, locked_by};
+ghost use Rattle.nt_commit.specs.Locked.{IsInStep, birth_of, book_of_birth, context_of, history_of_locked, locked_by};
 ghost use Rattle.nt_layout.specs.Headers.{clusters_place};
 ghost use Rattle.nt_dealing.specs.Lengths.{whole_len};
 ghost use Rattle.nt_dealing.specs.Texts.{joined_chunks, chunks_of, all_chunks};
@@ -65,11 +65,11 @@ pub fn next_chunks_pass_limits_of_all<D: Disk>()
         (p : Params) (texts : List (List ℕ)) (i : ℕ) (own seen : List (Entry ClusterMeta))
         (error : LimitError) → AreFields fields → Rows fields p.plain t
         → Closes (history_of_locked D.state) birth_of context_of first (locked_by birth disk book)
-        → IsInStep D.state (locked_by birth disk book) → birth.limits ≡ p.limits
+        → IsInStep D.state (locked_by birth disk book) → birth.group ≡ None → birth.limits ≡ p.limits
         → (D.state birth.begun).end ≡ clusters_place t
         → HaveCommitted t p.page (chunks_of p.cluster fields texts) first.number first.own first.kept
         → slice_get first.kept i ≡ Some (i, own) → IsPrefix seen first.seen
-        → (next : NextPasses birth.limits (D.state birth.begun).end t p.page
+        → (next : NextPasses (book_of_birth D.state birth []) t p.page
         (slice_index_or (chunks_of p.cluster fields texts) i []) own seen error)
         → IsOverBy t p (all_chunks p.cluster fields texts) error
         × ChunkPassesBy t p next.chunk error }
