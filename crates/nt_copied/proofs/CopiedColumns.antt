@@ -21,7 +21,8 @@ use Rattle.nt_pagelists.specs.declared.cluster.ClusterList.{ClusterList}
 use Rattle.nt_pagelists.specs.Books.{page_item}
 use Rattle.nt_file_meaning.specs.Outlines.{is_needed, known_column}
 use Rattle.nt_file_meaning.specs.Clusters.{kind_of_code, pages_listed, begins_behind, zero_elements, columns_by_id}
-use Rattle.nt_file_meaning.specs.Holds.{HoldsPages, no_page, HoldsColumn, closed, not_begun, untyped, in_pages, HoldsColumns, no_column, and_column}
+use Rattle.nt_file_meaning.specs.Holds.{HoldsPages, no_page, HoldsColumn, closed, not_begun, untyped, in_pages, HoldsColumns, no_column}
+use Rattle.nt_file_meaning.specs.Holds.{and_column}
 use Rattle.nt_finished.proofs.Standing.{StandsThere, front_stands, back_stands}
 use Rattle.nt_copied.specs.Stored.{StoredPage, stored_column, stored_payload, stored_page_metas, stored_metas}
 use Rattle.nt_copied.specs.Copies.{read_pages, filled_pages, page_there, column_there, columns_there, NoneDeferred}
@@ -169,7 +170,8 @@ module _ (from to : List ℕ) (k l : ClusterList) (s t : Table) (same : (j : ℕ
       (subst (λ (x : KnownColumn). HoldsColumn to l id x r.code es)
       (sym (known-is (need_of t id) (need_of s id) q r (same id) begin.0 none.0)) read))
       (columns_read (id + 1) (place + length (stored_column own)) rows others left more both.1 none.1 begin.1
-      (λ j less. let next : id + 1 + j ≡ id + suc j = omega arith in ap (λ (i : ℕ). pages_listed l i) next ∙ listed (suc j) (omega (arith, less)))
+      (λ j less. let next : id + 1 + j ≡ id + suc j = omega arith in
+      ap (λ (i : ℕ). pages_listed l i) next ∙ listed (suc j) (omega (arith, less)))
       (λ j p. let next : id + 1 + j ≡ id + suc j = omega arith in long (suc j) (ap (λ (i : ℕ). is_entries (need_of s i)) (sym next) ∙ p))
       (back_stands to (stored_column own) (stored_payload rest) (base + place) (base + (place + length (stored_column own)))
       (omega arith) there))

@@ -108,7 +108,8 @@ module _ (file : List ℕ) (t : Table) (sources : List Source) (clusters : List 
       → IsSoundList (cluster_at book k).meta.entries (first_entry book k) (slice_index_or (known_columns t) j unknown_column)
       (slice_index_or (cluster_at book k).meta.pages j [])
   sound-at k j inside less =
-      let some = copy-at t sources clusters (map (range_of copied.ranges) (book_clusters book)) (book_clusters book) copied.copies k inside in
+      let some = copy-at t sources clusters (map (range_of copied.ranges) (book_clusters book)) (book_clusters book) copied.copies k
+      inside in
       copy_sound t some.source some.entries (cluster_at book k) some.range some.is begin (first_entry book k) j less
 
   sound-copies : (from count : ℕ) → from + count ≤ length (book_clusters book) → HasSoundClusters (known_columns t) book from count
