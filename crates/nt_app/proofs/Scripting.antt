@@ -7,9 +7,11 @@ use Rattle.nt_types.specs.ShapeData.{MemberData}
 use Rattle.nt_types.specs.Schema.{schema_text, at_line}
 use Rattle.nt_types.specs.declared.fault.SchemaKind.{SchemaKind}
 use Rattle.nt_outside.specs.Faults.{Rose}
+use Rattle.nt_outside.specs.Order.{EndsInSync}
 use Rattle.nt_outside.specs.World.{World, Asked, HostState, file}
 use Rattle.nt_book.specs.declared.params.Params.{Params}
-use Rattle.nt_store.specs.Worlds.{IsThereWith, AsksFor}
+use Rattle.nt_close.specs.Laws.{EndsOverFirst}
+use Rattle.nt_store.specs.Worlds.{IsThereWith, AsksFor, IsLeftAfter}
 use Rattle.nt_store.specs.Stored.{asked_for}
 use Rattle.nt_store.proofs.Ends.{none_made, nothing_made}
 use Rattle.nt_script.specs.declared.error.LineFault.{LineFault}
@@ -17,7 +19,9 @@ use Rattle.nt_script.specs.declared.store_error.ScriptStoreError.{ScriptStoreErr
 use Rattle.nt_script.specs.declared.store_error.ScriptStoreError.TheVariants as script
 use Rattle.nt_script.specs.Script.{BadScriptLine, read_script}
 use Rattle.nt_script.specs.Clusters.{bad_line}
-use Rattle.nt_script.specs.Limits.{FitsWhole, PassesLimit}
+use Rattle.nt_script.specs.Passing.{PassesLimit}
+use Rattle.nt_script.specs.Fitting.{FitsWhole}
+use Rattle.nt_script.proofs.WholePassed.{fits_none}
 use Rattle.nt_script.specs.Crashes.{LeavesScript, ScriptCrashTold}
 use Rattle.nt_script.specs.Storing.{AreScriptTexts, MakesScriptFile, StoresWholeScript, IsWholeScript, IsTooLargeScript, ScriptTold}
 use Rattle.nt_app.specs.declared.status.Status.{Status}
@@ -28,7 +32,7 @@ use Rattle.nt_app.specs.Reports.{Reports}
 use Rattle.nt_app.specs.Seqs.{fault_of_line, status_of_script, SeqNamed, AnswersScript, RunsSeq}
 use Rattle.nt_app.proofs.Joined.{either_after}
 use Rattle.nt_app.proofs.Reported.{IsBefore, reported, ordered_after}
-use Rattle.nt_app.proofs.Writing.{left_after, same_fields, not_both, same_fault}
+use Rattle.nt_app.proofs.Writing.{left_after, steps_after, same_fields, not_both, same_fault}
 
 -- want of memory for the words leaves all as it was
 pub memory_scripts : (o s i : List ℕ) (p : Params) (state : HostState) → SeqNamed o s i p state state status.Memory
@@ -66,8 +70,10 @@ told_after : (o s i : List ℕ) (p : Params) (w v : World) (err : List ℕ) (sto
     → ScriptTold o s i p w v stored → ScriptTold o s i p w (record v { err = err }) stored
 told_after o s i p w v err (Ok done) told = (told.0, whole_after o s i p w v err told.0 [] told.1)
 told_after o s i p w v err (Err script.Outside) (inl told) = inl (left_after o w v err told.0, told.1)
-told_after o s i p w v err (Err script.Outside) (inr told) =
-    inr (told.0, told.1, whole_after o s i p w v err told.0 told.1 told.2)
+told_after o s i p w v err (Err script.Outside) (inr (inl told)) =
+    inr (inl (told.0, whole_after o s i p w v err [] told.0 told.1, steps_after o EndsOverFirst v err told.2))
+told_after o s i p w v err (Err script.Outside) (inr (inr told)) =
+    inr (inr (told.0, told.1, whole_after o s i p w v err told.0 told.1 told.2, steps_after o EndsInSync v err told.3))
 told_after o s i p w v err (Err script.Memory) told = told
 told_after o s i p w v err (Err (script.Schema line kind)) told = told
 told_after o s i p w v err (Err (script.Line line kind)) told = told
@@ -126,7 +132,7 @@ not_sound b x none some = let bad = sym none ∙ some in cc
 not_over : (s i : List ℕ) (p : Params) (w : World) (reached limit : ℕ) (fields : List MemberData) (text : List ℕ)
     → IsTooLargeScript s i p w reached limit → AreScriptTexts w s i fields text → FitsWhole fields p (read_script fields text) → ⊥
 not_over s i p w reached limit fields text over are fits =
-    fits reached limit (same_script w s i over.fields fields over.text text
+    fits_none fields p (read_script fields text) reached limit fits (same_script w s i over.fields fields over.text text
     (λ f t. PassesLimit f p (read_script f t) reached limit) over.are are over.over)
 
 completes : (o s i : List ℕ) (p : Params) (w v : World) (stored : Result Unit ScriptStoreError) (fields : List MemberData)
@@ -141,7 +147,7 @@ completes o s i p w v (Err (script.Schema line kind)) fields text told served ar
 completes o s i p w v (Err (script.Line line kind)) fields text told served are sound fits =
     absurd (not_sound (bad_line (read_script fields text)) (record { line = line; kind = kind }) sound
     (same_script w s i told.0.fields fields told.0.text text
-    (λ f t. bad_line (read_script f t) ≡ Some (record { line = line; kind = kind })) told.0.are are told.0.first))
+    (λ f t. bad_line (read_script f t) ≡ Some (record { line = line; kind = kind })) told.0.are are told.0.bad.first))
 completes o s i p w v (Err (script.Limit reached limit)) fields text told served are sound fits =
     absurd (not_over s i p w reached limit fields text told.0 are fits)
 
@@ -175,7 +181,7 @@ faults o s i p w v (Err (script.Schema line' kind')) fields text line kind told 
     absurd (not_both fields line' kind' (file w s) are.schema_is told.0)
 faults o s i p w v (Err (script.Line line' kind')) fields text line kind told served are first fits =
     inl (same_bad (bad_line (read_script fields text)) line' line kind' kind (same_script w s i told.0.fields fields told.0.text text
-    (λ f t. bad_line (read_script f t) ≡ Some (record { line = line'; kind = kind' })) told.0.are are told.0.first) first)
+    (λ f t. bad_line (read_script f t) ≡ Some (record { line = line'; kind = kind' })) told.0.are are told.0.bad.first) first)
 faults o s i p w v (Err (script.Limit reached limit)) fields text line kind told served are first fits =
     absurd (not_over s i p w reached limit fields text told.0 are fits)
 

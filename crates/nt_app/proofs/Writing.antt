@@ -10,15 +10,17 @@ use Rattle.nt_types.specs.declared.fault.SchemaKind.{SchemaKind}
 use Rattle.nt_event.specs.declared.fault.TextKind.{TextKind}
 use Rattle.nt_grammar.specs.Rows.{Rows}
 use Rattle.nt_outside.specs.Faults.{Rose}
+use Rattle.nt_outside.specs.Log.{Step}
 use Rattle.nt_outside.specs.World.{World, Asked, HostState, file}
 use Rattle.nt_book.specs.declared.params.Params.{Params}
+use Rattle.nt_close.specs.Laws.{EndsOverFirst}
 use Rattle.nt_dealing.specs.EventText.{BadLine}
 use Rattle.nt_dealing.specs.Texts.{events_of, AreSound, IsFirstBad, all_chunks}
 use Rattle.nt_dealing.specs.Limits.{IsOver}
 use Rattle.nt_store.specs.declared.error.StoreError.{StoreError}
 use Rattle.nt_store.specs.declared.error.StoreError.TheVariants as store
-use Rattle.nt_store.specs.Orders.{order_line, GainsOrderFront}
-use Rattle.nt_store.specs.Worlds.{IsThereWith, AsksFor, IsLeftByFailure}
+use Rattle.nt_store.specs.Orders.{GainsOrderFront, gains_nothing, gains_front}
+use Rattle.nt_store.specs.Worlds.{IsThereWith, AsksFor, IsLeftByFailure, IsLeftAfter}
 use Rattle.nt_store.specs.Texts.{AreTexts}
 use Rattle.nt_store.specs.Stored.{StoresWhole, IsTooLarge, StoreTold, asked_for}
 use Rattle.nt_app.specs.declared.status.Status.{Status}
@@ -27,13 +29,11 @@ use Rattle.nt_app.specs.declared.status.TextFault.TheVariants as fault
 use Rattle.nt_app.specs.Statuses.{message_of}
 use Rattle.nt_app.specs.Reports.{Reports}
 use Rattle.nt_app.specs.Writes.{status_of_store, WritesNamed, FitsLimits, AnswersTexts, RunsWrite}
+use Rattle.nt_dealing.proofs.Whole.{passes_none}
 use Rattle.nt_store.proofs.Ends.{nothing_made}
 use Rattle.nt_store.proofs.Crashed.{none_left}
 use Rattle.nt_app.proofs.Joined.{either_after, not_there_both}
 use Rattle.nt_app.proofs.Reported.{reported, ordered_after, safe_after}
-
-nothing_gained : (w : World) → GainsOrderFront w w
-nothing_gained w = record { order = []; printed = []; left = order_line []; out = sym (append-nil w.out); line = refl }
 
 -- want of memory for the words leaves all as it was
 pub memory_writes : (o s : List ℕ) (is : List (List ℕ)) (p : Params) (state : HostState) → WritesNamed o s is p state state status.Memory
@@ -41,7 +41,7 @@ memory_writes o s is p state = record {
   stored = Err store.Memory;
   answer_is = refl;
   stores = record {
-    told = λ w at. (w, at, refl, λ other differs. refl, (inl (refl, refl), nothing_gained w));
+    told = λ w at. (w, at, refl, λ other differs. refl, (inl (refl, refl), gains_nothing refl));
     order = nothing_made o state.world state.world refl;
     crash = none_left o s is p state.world state.world (Err store.Memory) refl;
     asked = (0, sym (append-nil state.asked));
@@ -51,8 +51,11 @@ memory_writes o s is p state = record {
 }
 
 -- a message on err changes nothing of what a command left
-gained_after : (w v : World) (err : List ℕ) → GainsOrderFront w v → GainsOrderFront w (record v { err = err })
-gained_after w v err told = record { order = told.order; printed = told.printed; left = told.left; out = told.out; line = told.line }
+gained_after : (s : List ℕ) (is : List (List ℕ)) (p : Params) (w v : World) (err : List ℕ) → GainsOrderFront s is p w v
+    → GainsOrderFront s is p w (record v { err = err })
+gained_after s is p w v err (gains_nothing same) = gains_nothing same
+gained_after s is p w v err (gains_front fields texts order printed left are of out line) =
+    gains_front fields texts order printed left are of out line
 
 whole_after : (o s : List ℕ) (is : List (List ℕ)) (p : Params) (w v : World) (err : List ℕ) → StoresWhole o s is p w v
     → StoresWhole o s is p w (record v { err = err })
@@ -81,15 +84,21 @@ left_after o w v err (inr (made, inr never)) = inr (
   }),
 )
 
+pub steps_after : (o : List ℕ) (Ends : List Step → Type 0) (v : World) (err : List ℕ) → IsLeftAfter Ends o v
+    → IsLeftAfter Ends o (record v { err = err })
+steps_after o Ends v err left = record { at = left.at; log = left.log; there = left.there; steps = left.steps; ends = left.ends }
+
 told_after : (o s : List ℕ) (is : List (List ℕ)) (p : Params) (w v : World) (err : List ℕ) (stored : Result Unit StoreError)
     → StoreTold o s is p w v stored → StoreTold o s is p w (record v { err = err }) stored
 told_after o s is p w v err (Ok done) told = whole_after o s is p w v err told
-told_after o s is p w v err (Err store.Outside) (inl told) = inl (left_after o w v err told.0, gained_after w v err told.1)
-told_after o s is p w v err (Err store.Outside) (inr told) = inr (whole_after o s is p w v err told)
-told_after o s is p w v err (Err store.Memory) told = (told.0, gained_after w v err told.1)
+told_after o s is p w v err (Err store.Outside) (inl told) =
+    inl (left_after o w v err told.0, gained_after s is p w v err told.1)
+told_after o s is p w v err (Err store.Outside) (inr told) =
+    inr (whole_after o s is p w v err told.0, steps_after o EndsOverFirst v err told.1)
+told_after o s is p w v err (Err store.Memory) told = (told.0, gained_after s is p w v err told.1)
 told_after o s is p w v err (Err (store.Schema line kind)) told = told
 told_after o s is p w v err (Err (store.Line input line kind)) told = told
-told_after o s is p w v err (Err (store.Limit reached limit)) told = (told.0, told.1, gained_after w v err told.2)
+told_after o s is p w v err (Err (store.Limit reached limit)) told = (told.0, told.1, gained_after s is p w v err told.2)
 
 -- the outside failed only where the file isn't written for that
 outside_of : (stored : Result Unit StoreError) (answer : Status) → answer ≡ status_of_store stored → answer ≡ status.Outside
@@ -216,8 +225,8 @@ same_bad fields texts i j line line' kind kind' one other =
 not_over : (s : List ℕ) (is : List (List ℕ)) (p : Params) (w : World) (reached limit : ℕ) (fields : List MemberData) (texts : List (List ℕ))
     → IsTooLarge s is p w reached limit → AreTexts w s is fields texts → FitsLimits fields texts p → ⊥
 not_over s is p w reached limit fields texts over are fits =
-    fits over.table
-    (same_texts w s is over.fields fields over.texts texts (λ f ts. Rows f p.plain over.table) over.are are over.rows) reached limit
+    passes_none over.table p (all_chunks p.cluster fields texts) reached limit
+    (fits over.table (same_texts w s is over.fields fields over.texts texts (λ f ts. Rows f p.plain over.table) over.are are over.rows))
     (same_texts w s is over.fields fields over.texts texts (λ f ts. IsOver over.table p (all_chunks p.cluster f ts) reached limit)
     over.are are over.over)
 
@@ -233,7 +242,8 @@ completes o s is p w v (Err (store.Schema line kind)) fields texts told served a
     absurd (not_both fields line kind (file w s) are.schema_is told.0)
 completes o s is p w v (Err (store.Line input line kind)) fields texts told served are sound fits =
     absurd (not_sound fields texts input line kind sound
-    (same_texts w s is told.0.fields fields told.0.texts texts (λ f ts. IsFirstBad f ts input line kind) told.0.are are told.0.first))
+    (same_texts w s is told.0.fields fields told.0.texts texts (λ f ts. IsFirstBad f ts input line kind) told.0.are are
+    told.0.fails.first))
 completes o s is p w v (Err (store.Limit reached limit)) fields texts told served are sound fits =
     absurd (not_over s is p w reached limit fields texts told.0 are fits)
 
@@ -266,7 +276,7 @@ faults o s is p w v (Err (store.Schema line' kind')) fields texts input line kin
 faults o s is p w v (Err (store.Line input' line' kind')) fields texts input line kind told served are first fits =
     inl (same_bad fields texts input' input line' line kind' kind
     (same_texts w s is told.0.fields fields told.0.texts texts (λ f ts. IsFirstBad f ts input' line' kind') told.0.are are
-    told.0.first) first)
+    told.0.fails.first) first)
 faults o s is p w v (Err (store.Limit reached limit)) fields texts input line kind told served are first fits =
     absurd (not_over s is p w reached limit fields texts told.0 are fits)
 

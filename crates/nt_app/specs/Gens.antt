@@ -3,11 +3,16 @@ use Rattle.std.specs.Prelude.{◌≡◌, ◌⊎◌, ℕ, ◌-◌, ◌^◌, false
 use Rattle.nt_outside.specs.Faults.{Rose}
 use Rattle.nt_outside.specs.World.{World, Out, File, HostState}
 use Rattle.nt_book.specs.declared.params.Params.{Params}
+use Rattle.nt_grammar.specs.Rows.{Rows}
+use Rattle.nt_grammar.specs.Table.{Table}
+use Rattle.nt_dealing.specs.Texts.{joined_chunks}
+use Rattle.nt_dealing.specs.Limits.{WholeFits}
+use Rattle.nt_draws.specs.Events.{event_fields}
 use Rattle.nt_draws.specs.declared.making.Making.{Making}
 use Rattle.nt_store.specs.Worlds.{AsksFor, OthersStay, WritesInOrder}
 use Rattle.nt_generate.specs.declared.error.GenerateError.{GenerateError}
 use Rattle.nt_generate.specs.declared.error.GenerateError.TheVariants as generate
-use Rattle.nt_generate.specs.Made.{PassesMade}
+use Rattle.nt_generate.specs.Made.{made_chunks}
 use Rattle.nt_generate.specs.Leaving.{MadeCrashTold}
 use Rattle.nt_generate.specs.Generated.{GenerateTold, Generates}
 use Rattle.nt_app.specs.declared.status.Status.{Status}
@@ -42,9 +47,9 @@ pub record GenNamed (out : List ℕ) (m : Making) (old new : HostState) (answer 
   pub answer_is : answer ≡ status_of_generate made
   pub generates : Generates out p m old new made
 
--- what is made passes no limit
+-- the whole file of what is made fits
 abbrev pub FitsMade : Params → Making → Type 0
-FitsMade p m = (reached limit : ℕ) → PassesMade p m reached limit → ⊥
+FitsMade p m = (t : Table) → Rows event_fields p.plain t → WholeFits t p (joined_chunks (made_chunks p m))
 
 -- the words were `gen C E SEED OUT`, and so much is made
 pub record RunsGen (out : List ℕ) (m : Making) (old new : HostState) (answer : Status) : Type 0 where

@@ -10,7 +10,7 @@ use Rattle.nt_outside.specs.Faults.{Rose}
 use Rattle.nt_outside.specs.World.{World, HostState, file}
 use Rattle.nt_book.specs.declared.params.Params.{Params}
 use Rattle.nt_dealing.specs.Texts.{AreSound, IsFirstBad, all_chunks}
-use Rattle.nt_dealing.specs.Limits.{Fits}
+use Rattle.nt_dealing.specs.Limits.{WholeFits}
 use Rattle.nt_store.specs.declared.error.StoreError.{StoreError}
 use Rattle.nt_store.specs.declared.error.StoreError.TheVariants as store
 use Rattle.nt_store.specs.Worlds.{IsThereWith, AsksFor, OthersStay, WritesInOrder}
@@ -38,9 +38,9 @@ pub record WritesNamed (out schema : List ℕ) (inputs : List (List ℕ)) (p : P
   pub answer_is : answer ≡ status_of_store stored
   pub stores : Stores out schema inputs p old new stored
 
--- the chunks of these texts pass no limit, by the rows of these fields
+-- the whole file of the chunks of these texts fits, by the rows of these fields
 abbrev pub FitsLimits : List MemberData → List (List ℕ) → Params → Type 0
-FitsLimits fields texts p = (t : Table) → Rows fields p.plain t → Fits t p (all_chunks p.cluster fields texts)
+FitsLimits fields texts p = (t : Table) → Rows fields p.plain t → WholeFits t p (all_chunks p.cluster fields texts)
 
 -- which answer it is, by what the texts are, where the outside serves: this one, unless memory runs out
 pub record AnswersTexts (schema : List ℕ) (inputs : List (List ℕ)) (p : Params) (w : World) (answer : Status) : Type 0 where

@@ -1,5 +1,5 @@
 -- What the steps of the beginning leave, with the header of the schema.
-use Rattle.std.proofs.Common.{◌≡◌, ◌∙◌, ◌+◌, ◌≤◌, ℕ, List, [], length, replicate, Some, None, Result, ap, subst, arith}
+use Rattle.std.proofs.Common.{◌≡◌, ◌∙◌, ◌+◌, ◌≤◌, ℕ, List, length, replicate, Some, None, Result, ap, subst, arith}
 use Rattle.std.specs.declared.alloc.AllocError.{AllocError}
 use Rattle.nt_types.specs.ShapeData.{MemberData}
 use Rattle.nt_outside.specs.Faults.{Rose}
@@ -12,7 +12,7 @@ use Rattle.nt_grammar.specs.Rows.{Rows}
 use Rattle.nt_book.specs.Books.{BookData}
 use Rattle.nt_book.specs.declared.params.Params.{Params}
 use Rattle.nt_layout.specs.Headers.{header_blob, clusters_place}
-use Rattle.nt_close.specs.Steps.{begun_on, IsBegunSoFar, IsBegunWith}
+use Rattle.nt_close.specs.Steps.{begun_on, IsBegunPartly, IsBegunWith}
 use Rattle.nt_close.specs.Passing.{passed_by_begin}
 use Rattle.nt_close.specs.Beginning.{new_book, IsHeaderBlob, IsBegun, IsBegunFor, IsBeginCut, IsBeginCutFor, IsNotBegun, IsNotBegunFor}
 use Rattle.nt_close.specs.declared.error.BeginError.{BeginError}
@@ -53,13 +53,13 @@ module _ (p : Params) (t : Table) (within : passed_by_begin p.limits t ≡ None)
   -- a step failed
   pub begin-cut : (bytes blob : List ℕ) (steps more : ℕ) (old mid new : DiskState) (room : Result (Unit {0}) AllocError)
       → blob ≡ bytes → IsHeaderBlob t bytes → TakesRoom steps more old mid room → WhereHeld old.held (λ (h : Held). h ≡ nothing_held)
-      → BecomesSome mid.held new.held (IsBegunSoFar (begun 0 0 0) blob) → new.out ≡ mid.out → Rose mid.faults new.faults
+      → BecomesSome mid.held new.held (IsBegunPartly (begun 0 0 0) blob) → new.out ≡ mid.out → Rose mid.faults new.faults
       → IsBeginCutFor t p old new
   begin-cut bytes blob steps more old mid new room same header takes nothing left out rose =
-      let so_far : BecomesSome old.held new.held (IsBegunSoFar (begun 0 0 0) (header_blob t)) =
+      let so_far : BecomesSome old.held new.held (IsBegunPartly (begun 0 0 0) (header_blob t)) =
       λ h was.
       let stands = left h (takes.held ∙ was) in
-      (stands.0, stands.1, subst (λ (l : List ℕ). IsBegunSoFar (begun 0 0 0) l h stands.0) (same ∙ header.bytes_are) stands.2) in
+      (stands.0, stands.1, subst (λ (l : List ℕ). IsBegunPartly (begun 0 0 0) l h stands.0) (same ∙ header.bytes_are) stands.2) in
       record {
         within = within;
         held = so_far;

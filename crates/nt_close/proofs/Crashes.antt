@@ -1,8 +1,8 @@
 -- What a crash leaves of a file that is begun, and of one that is closed: the finished file.
 use Rattle.std.proofs.Common.{◌≡◌, ◌∙◌, ap, sym, refl, subst, ℕ, true, List, [], ◌∷◌, ◌++◌, length, map, get_or, arith, append_assoc}
-use Rattle.std.proofs.Common.{append-nil, inl, Option, Some, Result, Ok, Err}
+use Rattle.std.proofs.Common.{append-nil, Option, Result, Ok, Err}
 use Rattle.std.specs.List.{concat}
-use Rattle.nt_outside.specs.Log.{Step, Append, Sync}
+use Rattle.nt_outside.specs.Log.{Append, Sync}
 use Rattle.nt_outside.specs.Held.{Held, Becomes, BecomesSome, WhereHeld, nothing_held}
 use Rattle.nt_outside.specs.Disk.{DiskState}
 use Rattle.nt_outside.specs.Reads.{exactly, IsKnown}
@@ -18,10 +18,10 @@ use Rattle.nt_cuts.specs.Shut.{StaysShut}
 use Rattle.nt_cuts.proofs.Reading.{read-cut, read-shut, unsynced-leaves}
 use Rattle.nt_close.specs.declared.error.CloseError.{CloseError}
 use Rattle.nt_close.specs.declared.error.CloseError.TheVariants.{Spoiled, Memory, RangeTooLarge, FileTooLarge, Fault}
-use Rattle.nt_close.specs.Steps.{begun_on, IsBegunSoFar, torn_head, torn_blob, not_kept, begun_whole}
-use Rattle.nt_close.specs.Steps.{closed_on, IsClosedSoFar, closed_whole}
+use Rattle.nt_close.specs.Steps.{begun_on, IsBegunPartly, IsBegunSoFar, begun_partly, torn_head, torn_blob, not_kept, begun_whole}
+use Rattle.nt_close.specs.Steps.{closed_on, IsClosedSoFar, closed_partly, closed_whole}
 use Rattle.nt_close.specs.Closing.{AreRangesOf, LeavesClosed}
-use Rattle.nt_close.specs.Crashes.{LeavesByAnswer, CrashesByAnswer}
+use Rattle.nt_close.specs.Crashes.{CrashesByAnswer}
 use Rattle.nt_close.proofs.Cutting.{closed-only, closed-cut}
 use Rattle.nt_close.proofs.Finishing.{front_len, finished-apart}
 
@@ -52,9 +52,9 @@ begun-shut t = record {
 
 -- and before it is, there is no sync
 pub begun-leaves : (t : Table) (left : Held) → IsBegunSoFar (begun 0 0 0) (header_blob t) nothing_held left → LeavesUnfinished left.log
-begun-leaves t left (torn_head torn) = unsynced-leaves left.log _ torn.log ((λ e. cc), tt)
-begun-leaves t left (torn_blob torn) = unsynced-leaves left.log _ torn.log ((λ e. cc), ((λ e. cc), tt))
-begun-leaves t left (not_kept e) = unsynced-leaves left.log _ (ap (λ (h : Held). h.log) e) ((λ e. cc), ((λ e. cc), tt))
+begun-leaves t left (begun_partly (torn_head torn)) = unsynced-leaves left.log _ torn.log ((λ e. cc), tt)
+begun-leaves t left (begun_partly (torn_blob torn)) = unsynced-leaves left.log _ torn.log ((λ e. cc), ((λ e. cc), tt))
+begun-leaves t left (begun_partly (not_kept e)) = unsynced-leaves left.log _ (ap (λ (h : Held). h.log) e) ((λ e. cc), ((λ e. cc), tt))
 begun-leaves t left (begun_whole e) =
     subst (λ (h : Held). LeavesUnfinished h.log) (sym e)
     (read-shut (begun_on (begun 0 0 0) (header_blob t) nothing_held).log (begun-shut t))
@@ -73,12 +73,13 @@ module _ (t : Table) (old new : Option Held) (empty : WhereHeld old (λ (h : Hel
   )
 
   -- or some
-  pub cut-crash : BecomesSome old new (IsBegunSoFar (begun 0 0 0) (header_blob t)) → BecomesSome old new (λ h h'. LeavesUnfinished h'.log)
+  pub cut-crash : BecomesSome old new (IsBegunPartly (begun 0 0 0) (header_blob t)) → BecomesSome old new (λ h h'. LeavesUnfinished h'.log)
   cut-crash becomes h was =
       let left = becomes h was in (
         left.0,
         left.1,
-        begun-leaves t left.0 (subst (λ (k : Held). IsBegunSoFar (begun 0 0 0) (header_blob t) k left.0) (empty h was) left.2),
+        begun-leaves t left.0 (begun_partly
+            (subst (λ (k : Held). IsBegunPartly (begun 0 0 0) (header_blob t) k left.0) (empty h was) left.2)),
       )
 
 -- ---- a file that is closed
@@ -138,4 +139,4 @@ module _ (t : Table) (book : BookData) (most : ℕ) (begins : book.begin ≡ clu
   answered old new (Err (RangeTooLarge len limit)) left h was = (h, left.place.held ∙ was, λ shut ranges are is. read-shut h.log shut)
   answered old new (Err (FileTooLarge end limit)) left h was = (h, left.place.held ∙ was, λ shut ranges are is. read-shut h.log shut)
   answered old new (Err Fault) left h was =
-      let cut = left.held h was in (cut.0, cut.1, λ shut ranges are is. closing-leaves ranges are h is shut cut.0 cut.2)
+      let cut = left.held h was in (cut.0, cut.1, λ shut ranges are is. closing-leaves ranges are h is shut cut.0 (closed_partly cut.2))

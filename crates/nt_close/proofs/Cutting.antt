@@ -7,8 +7,8 @@ use Rattle.nt_outside.specs.Log.{Step, Write, FailedWrite, Append, FailedAppend}
 use Rattle.nt_outside.specs.Held.{Held, written, synced}
 use Rattle.nt_outside.specs.Reads.{Known, exactly, IsKnown}
 use Rattle.nt_outside.specs.Crash.{crash_of, MayLeave}
-use Rattle.nt_close.specs.Steps.{first_byte, IsClosedSoFar, torn_tail, torn_front, not_kept_shut, torn_first, not_kept_open, closed_whole}
-use Rattle.nt_close.specs.Steps.{shut_on, closed_on}
+use Rattle.nt_close.specs.Steps.{first_byte, IsClosedSoFar, closed_partly, torn_tail, torn_front, not_kept_shut, torn_first, not_kept_open}
+use Rattle.nt_close.specs.Steps.{closed_whole, shut_on, closed_on}
 use Rattle.nt_cuts.proofs.Opening.{known_of-push, done, torn-cut, open-cut, done-cut}
 use Rattle.nt_cuts.specs.Shut.{StaysShut}
 use Rattle.nt_cuts.proofs.Orders.{shut-push, Cut, cut-shut}
@@ -68,16 +68,16 @@ module _ (room body tail front : List ℕ) (h : Held) (same : length room ≡ le
 
     -- wherever closing came
     pub closed-cut : (left : Held) → IsClosedSoFar tail front h left → Cut IsClosedFile left.log
-    closed-cut left (torn_tail torn) =
+    closed-cut left (closed_partly (torn_tail torn)) =
         let last = FailedAppend (length torn.junk) in
         shut-as (h.log ++ last ∷ []) left.log torn.log (shut-push h.log last shut tt)
-    closed-cut left (torn_front torn) =
+    closed-cut left (closed_partly (torn_front torn)) =
         let grown = h.log ++ Append tail ∷ [] in
         shut-as (grown ++ FailedWrite 1 front ∷ []) left.log torn.log
         (shut-push grown (FailedWrite 1 front) grown-shut (omega arith))
-    closed-cut left (not_kept_shut e) = cut-as (shut_on tail front h) left e (cut-shut IsClosedFile shut_log front-shut)
-    closed-cut left (torn_first torn) =
+    closed-cut left (closed_partly (not_kept_shut e)) = cut-as (shut_on tail front h) left e (cut-shut IsClosedFile shut_log front-shut)
+    closed-cut left (closed_partly (torn_first torn)) =
         subst (λ (l : List Step). Cut IsClosedFile l) (sym torn.log) (torn-cut shut_log rest known front-shut)
-    closed-cut left (not_kept_open e) =
+    closed-cut left (closed_partly (not_kept_open e)) =
         cut-as (written 0 first_byte (synced (shut_on tail front h))) left e (open-cut shut_log rest known front-shut)
     closed-cut left (closed_whole e) = cut-as (closed_on tail front h) left e (done-cut shut_log rest known front-shut)

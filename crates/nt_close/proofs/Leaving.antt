@@ -9,7 +9,7 @@ use Rattle.nt_book.specs.Books.{BookData}
 use Rattle.nt_layout.specs.Headers.{clusters_place}
 use Rattle.nt_layout.specs.Groups.{PlacedList}
 use Rattle.nt_layout.specs.Finished.{lists_behind, tail, front}
-use Rattle.nt_close.specs.Steps.{closed_on, IsClosedSoFar, IsEndedWith}
+use Rattle.nt_close.specs.Steps.{closed_on, IsClosedPartly, IsEndedWith}
 use Rattle.nt_close.specs.Making.{IsEnding, front_with}
 use Rattle.nt_close.specs.Closing.{IsClosed, IsCloseCut, BecomesFinished}
 use Rattle.nt_close.proofs.Finishing.{closed-is}
@@ -40,15 +40,15 @@ module _ (t : Table) (book : BookData) (most : ℕ) where
   -- a step failed
   pub cut : (bytes text lead : List ℕ) (f : FileFields) (old mid new : DiskState) → IsEnding t book most bytes f → text ≡ bytes
       → lead ≡ front_with f → mid.held ≡ old.held → mid.faults ≡ old.faults
-      → BecomesSome mid.held new.held (IsClosedSoFar text lead) → new.out ≡ [] → Rose mid.faults new.faults
+      → BecomesSome mid.held new.held (IsClosedPartly text lead) → new.out ≡ [] → Rose mid.faults new.faults
       → IsCloseCut (tail t book ls) (front t book ls) old new
   cut bytes text lead f old mid new is text-is lead-is held faults left out rose = record {
     held = λ h was.
         let stands = left h (held ∙ was) in (
           stands.0,
           stands.1,
-          subst (λ (l : List ℕ). IsClosedSoFar (tail t book ls) l h stands.0) (lead-is ∙ front_is bytes f is)
-              (subst (λ (l : List ℕ). IsClosedSoFar l lead h stands.0) (text-is ∙ is.bytes_are) stands.2),
+          subst (λ (l : List ℕ). IsClosedPartly (tail t book ls) l h stands.0) (lead-is ∙ front_is bytes f is)
+              (subst (λ (l : List ℕ). IsClosedPartly l lead h stands.0) (text-is ∙ is.bytes_are) stands.2),
         );
     out = out;
     rose = subst (λ (n : ℕ). Rose n new.faults) faults rose;

@@ -18,7 +18,7 @@ use Rattle.nt_cuts.specs.Cuts.{LeavesUnfinished}
 use Rattle.nt_cuts.specs.Shut.{StaysShut}
 use Rattle.nt_close.specs.declared.error.BeginError.{BeginError}
 use Rattle.nt_close.specs.declared.error.BeginError.TheVariants.{Memory, RangeTooLarge, FileTooLarge, Fault}
-use Rattle.nt_close.specs.Steps.{begun_on, IsBegunSoFar}
+use Rattle.nt_close.specs.Steps.{begun_on, IsBegunPartly}
 use Rattle.nt_close.specs.Passing.{passed_by_begin}
 
 -- what is held, its length, its ranges and the count of faults are as before
@@ -63,7 +63,7 @@ pub record IsBegun (ps : List MemberData) (p : Params) (old new : DiskState) (bo
 -- a step failed, and those before it were taken; a crash leaves what isn't finished
 pub record IsBeginCutFor (t : Table) (p : Params) (old new : DiskState) : Type 0 where
   pub within : passed_by_begin p.limits t ≡ None
-  pub held : BecomesSome old.held new.held (IsBegunSoFar (begun 0 0 0) (header_blob t))
+  pub held : BecomesSome old.held new.held (IsBegunPartly (begun 0 0 0) (header_blob t))
   pub crash : BecomesSome old.held new.held (λ h h'. LeavesUnfinished h'.log)
   pub out : new.out ≡ old.out
   pub rose : Rose old.faults new.faults
@@ -80,7 +80,7 @@ pub record IsBeginCut (ps : List MemberData) (p : Params) (old new : DiskState) 
   pub table : Table
   pub rows : Rows ps p.plain table
   pub within : passed_by_begin p.limits table ≡ None
-  pub held : BecomesSome old.held new.held (IsBegunSoFar (begun 0 0 0) (header_blob table))
+  pub held : BecomesSome old.held new.held (IsBegunPartly (begun 0 0 0) (header_blob table))
   pub crash : BecomesSome old.held new.held (λ h h'. LeavesUnfinished h'.log)
   pub out : new.out ≡ old.out
   pub rose : Rose old.faults new.faults

@@ -1,5 +1,5 @@
 -- What the closing of a file leaves.
-use Rattle.std.specs.Prelude.{◌≡◌, ℕ, ◌≤◌, true, List, [], ◌++◌, map, length, Option, Some, None, Result, Ok, Err}
+use Rattle.std.specs.Prelude.{◌≡◌, ℕ, ◌≤◌, true, List, [], ◌++◌, map, length, Option, Some, None, Result, Ok, Err, OnOk}
 use Rattle.std.specs.List.{concat}
 use Rattle.nt_outside.specs.Faults.{Rose}
 use Rattle.nt_outside.specs.Held.{Held, Becomes, BecomesSome}
@@ -14,12 +14,12 @@ use Rattle.nt_book.specs.declared.limits.LimitError.TheVariants as limit
 use Rattle.nt_book.specs.Books.{BookData, IsUngrouped, book_clusters, book_end}
 use Rattle.nt_pagelists.specs.Blobs.{blob_len}
 use Rattle.nt_layout.specs.Headers.{header_object, file_begun, clusters_place}
-use Rattle.nt_layout.specs.Finished.{finished, tail, front}
+use Rattle.nt_layout.specs.Finished.{lists_behind, finished, tail, front}
 use Rattle.nt_layout.specs.Laid.{IsWithin}
 use Rattle.nt_close.specs.declared.error.CloseError.{CloseError}
 use Rattle.nt_close.specs.declared.error.CloseError.TheVariants.{Spoiled, Memory, RangeTooLarge, FileTooLarge, Fault}
-use Rattle.nt_close.specs.Steps.{closed_on, IsClosedSoFar}
-use Rattle.nt_close.specs.Passing.{measures_of}
+use Rattle.nt_close.specs.Steps.{closed_on, IsClosedPartly}
+use Rattle.nt_close.specs.Passing.{passed_by_close, measures_of}
 use Rattle.nt_close.specs.Beginning.{IsUntouched}
 use Rattle.nt_close.specs.Spoiled.{NoneSpoiled, IsFirstSpoiled}
 
@@ -50,7 +50,7 @@ pub record IsClosed (tail front : List ℕ) (old new : DiskState) : Type 0 where
 
 -- a step failed, and those before it were taken
 pub record IsCloseCut (tail front : List ℕ) (old new : DiskState) : Type 0 where
-  pub held : BecomesSome old.held new.held (IsClosedSoFar tail front)
+  pub held : BecomesSome old.held new.held (IsClosedPartly tail front)
   pub out : new.out ≡ []
   pub rose : Rose old.faults new.faults
 
@@ -81,3 +81,9 @@ StaysWithin t p book = blob_len (length (header_object t)) ≤ p.limits.range �
 pub record EndsFinished (t : Table) (p : Params) (book : BookData) (old new : Option Held) : Type 0 where
   pub file : BecomesFinished t book p.group old new
   pub within : StaysWithin t p book
+
+-- what a close does with the file of a schema and a book: why it answers so, which steps it took, and that the file is finished after Ok
+pub record ClosesOnDisk (t : Table) (p : Params) (book : BookData) (old new : DiskState) (result : Result Unit CloseError) : Type 0 where
+  pub cause : HasCloseCause book (passed_by_close p t book) result
+  pub left : LeavesClosed (tail t book (lists_behind t book p.group)) (front t book (lists_behind t book p.group)) old new result
+  pub finished : OnOk result (EndsFinished t p book old.held new.held)

@@ -1,7 +1,7 @@
 -- What the steps by which a file is begun and closed leave of it.
 use Rattle.std.specs.Prelude.{◌≡◌, ◌⊎◌, ℕ, ◌<◌, true, List, [], ◌∷◌, ◌++◌, length}
 use Rattle.std.specs.List.{concat}
-use Rattle.nt_outside.specs.Log.{FailedAppend}
+use Rattle.nt_outside.specs.Log.{Step, FailedAppend}
 use Rattle.nt_outside.specs.Held.{Held, nothing_held}
 use Rattle.nt_outside.specs.Order.{FirstByteLast}
 use Rattle.nt_outside.specs.Reads.{Reads}
@@ -10,7 +10,8 @@ use Rattle.nt_grammar.specs.Table.{Table}
 use Rattle.nt_book.specs.Books.{BookData}
 use Rattle.nt_layout.specs.Headers.{file_begun, clusters_place}
 use Rattle.nt_layout.specs.Finished.{lists_behind, finished, tail, front}
-use Rattle.nt_close.specs.Steps.{closed_on, IsBegunSoFar, IsClosedSoFar}
+use Rattle.nt_cuts.specs.Cuts.{IsOverFirst}
+use Rattle.nt_close.specs.Steps.{closed_on, IsBegunSoFar, IsClosedPartly, IsClosedSoFar}
 use Rattle.nt_close.specs.Closing.{AreRangesOf}
 
 -- a file that was begun, and holds ranges of the clusters' lengths, is the finished file with these ranges once it is closed
@@ -25,6 +26,13 @@ ClosedIsFinished =
 abbrev pub IsShut : List ℕ → Type 0
 IsShut image = (rest : List ℕ) × (image ≡ 0 ∷ rest)
 
+-- the last of these steps writes over the first byte, whole or not: no sync stands behind it
+pub record EndsOverFirst (log : List Step) : Type 0 where
+  pub before : List Step
+  pub step : Step
+  pub is : log ≡ before ++ step ∷ []
+  pub over : IsOverFirst step
+
 -- until all steps are taken the first byte is 0: of a file that is begun, unless nothing is known of it but that its first append
 -- failed; of one that is closed, unless all of it stands there
 pub record FirstByteIsLast : Type 0 where
@@ -32,6 +40,9 @@ pub record FirstByteIsLast : Type 0 where
       → IsShut left.image ⊎ ((n : ℕ) × (left.log ≡ FailedAppend n ∷ []))
   pub closes : (tail front : List ℕ) (h left : Held) → IsShut h.image → IsClosedSoFar tail front h left
       → IsShut left.image ⊎ (left.image ≡ (closed_on tail front h).image)
+  -- and where a step failed and all of it stands there, it was that of this byte, or the sync behind it
+  pub fails : (tail front : List ℕ) (h left : Held) → IsShut h.image → IsClosedPartly tail front h left
+      → IsShut left.image ⊎ ((left.image ≡ (closed_on tail front h).image) × EndsOverFirst left.log)
 
 -- all that is written stays before the first byte is written over
 pub record StepsStayInOrder : Type 0 where

@@ -7,15 +7,18 @@ use Rattle.nt_outside.specs.Disk.{DiskState}
 abbrev pub begun_on : List ℕ → List ℕ → Held → Held
 begun_on head blob h = synced (appended blob (appended head h))
 
--- what stands after these steps, or where one of them failed
-pub data IsBegunSoFar (head blob : List ℕ) (h left : Held) : Type 0 where
+-- what stands where one of these steps failed
+pub data IsBegunPartly (head blob : List ℕ) (h left : Held) : Type 0 where
   -- the head: of a file that wasn't there nothing is known
-  torn_head : IsTornAppend (length head) h left → IsBegunSoFar head blob h left
+  torn_head : IsTornAppend (length head) h left → IsBegunPartly head blob h left
   -- the header blob
-  torn_blob : IsTornAppend (length blob) (appended head h) left → IsBegunSoFar head blob h left
+  torn_blob : IsTornAppend (length blob) (appended head h) left → IsBegunPartly head blob h left
   -- the sync
-  not_kept : left ≡ appended blob (appended head h) → IsBegunSoFar head blob h left
-  -- none
+  not_kept : left ≡ appended blob (appended head h) → IsBegunPartly head blob h left
+
+-- what stands where one of them failed, or after all of them
+pub data IsBegunSoFar (head blob : List ℕ) (h left : Held) : Type 0 where
+  begun_partly : IsBegunPartly head blob h left → IsBegunSoFar head blob h left
   begun_whole : left ≡ begun_on head blob h → IsBegunSoFar head blob h left
 
 -- an empty disk has room for these steps, with so many bytes in head and header blob
@@ -42,19 +45,22 @@ shut_on tail front h = written 1 front (appended tail h)
 abbrev pub closed_on : List ℕ → List ℕ → Held → Held
 closed_on tail front h = synced (written 0 first_byte (synced (shut_on tail front h)))
 
--- what stands after these steps, or where one of them failed
-pub data IsClosedSoFar (tail front : List ℕ) (h left : Held) : Type 0 where
+-- what stands where one of these steps failed
+pub data IsClosedPartly (tail front : List ℕ) (h left : Held) : Type 0 where
   -- what stands behind the clusters
-  torn_tail : IsTornAppend (length tail) h left → IsClosedSoFar tail front h left
+  torn_tail : IsTornAppend (length tail) h left → IsClosedPartly tail front h left
   -- what stands behind the first byte
-  torn_front : IsTornWrite 1 front (appended tail h) left → IsClosedSoFar tail front h left
+  torn_front : IsTornWrite 1 front (appended tail h) left → IsClosedPartly tail front h left
   -- the sync before the first byte
-  not_kept_shut : left ≡ shut_on tail front h → IsClosedSoFar tail front h left
+  not_kept_shut : left ≡ shut_on tail front h → IsClosedPartly tail front h left
   -- the first byte
-  torn_first : IsTornWrite 0 first_byte (synced (shut_on tail front h)) left → IsClosedSoFar tail front h left
+  torn_first : IsTornWrite 0 first_byte (synced (shut_on tail front h)) left → IsClosedPartly tail front h left
   -- the last sync
-  not_kept_open : left ≡ written 0 first_byte (synced (shut_on tail front h)) → IsClosedSoFar tail front h left
-  -- none
+  not_kept_open : left ≡ written 0 first_byte (synced (shut_on tail front h)) → IsClosedPartly tail front h left
+
+-- what stands where one of them failed, or after all of them
+pub data IsClosedSoFar (tail front : List ℕ) (h left : Held) : Type 0 where
+  closed_partly : IsClosedPartly tail front h left → IsClosedSoFar tail front h left
   closed_whole : left ≡ closed_on tail front h → IsClosedSoFar tail front h left
 
 -- a disk of which no range is out has room for these steps, with so many bytes behind the clusters and behind the first byte

@@ -1,6 +1,6 @@
 //! How a file is begun.
 
-ghost use Rattle.std.specs.Prelude.{◌≡◌, ◌+◌, ◌≤◌, ◌^◌, ◌∷◌, [], None, length, OnOk, IfOk, IfErr};
+ghost use Rattle.std.specs.Prelude.{◌≡◌, ◌+◌, ◌≤◌, ◌^◌, ◌∷◌, [], None, length, OnOk, OnErr, IfOk, IfErr};
 ghost use Rattle.nt_types.specs.Rules.{AreFields};
 ghost use Rattle.nt_types.specs.Views.{members_view};
 ghost use Rattle.nt_outside.specs.Faults.{HasCause};
@@ -10,7 +10,7 @@ ghost use Rattle.nt_container.specs.Spelling.{begun};
 ghost use Rattle.nt_pagelists.specs.Blobs.{blob_len};
 ghost use Rattle.nt_layout.specs.Headers.{clusters_place};
 ghost use Rattle.nt_schema.specs.Whole.{AreWhole};
-ghost use Rattle.nt_close.specs.Steps.{HasRoomToBegin, IsBegunWith, IsBegunSoFar};
+ghost use Rattle.nt_close.specs.Steps.{HasRoomToBegin, IsBegunWith, IsBegunPartly};
 ghost use Rattle.nt_close.specs.Passing.{first_passed, passed_by_begin};
 ghost use Rattle.nt_close.specs.Beginning.{IsHeaderBlob, IsBeginPassed, IsBegunFor, IsNotBegunFor, IsBegun, IsNotBegun};
 
@@ -83,8 +83,8 @@ fn write_head<D: Disk>(disk: &mut D, blob: &[u8]) -> Result<(), Failed>
     requires { HasRoomToBegin (D.state disk.old) (226 + length blob.now) }
     ensures ok { OnOk result (IsBegunWith (begun 0 0 0) blob.now (D.state disk.old)
         (D.state disk.new)) }
-    ensures left { BecomesSome (D.state disk.old).held (D.state disk.new).held
-        (IsBegunSoFar (begun 0 0 0) blob.now) }
+    ensures cut { OnErr result (BecomesSome (D.state disk.old).held (D.state disk.new).held
+        (IsBegunPartly (begun 0 0 0) blob.now)) }
     ensures out { (D.state disk.new).out ≡ (D.state disk.old).out }
     ensures cause { HasCause (D.state disk.old).faults (D.state disk.new).faults result }
 {

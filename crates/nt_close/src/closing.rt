@@ -1,9 +1,6 @@
 //! How a file is closed.
 
-ghost use Rattle.std.specs.Prelude.{◌≡◌, OnOk};
-ghost use Rattle.nt_layout.specs.Finished.{lists_behind, tail, front};
-ghost use Rattle.nt_close.specs.Passing.{passed_by_close};
-ghost use Rattle.nt_close.specs.Closing.{IsClosable, HasCloseCause, LeavesClosed, EndsFinished};
+ghost use Rattle.nt_close.specs.Closing.{IsClosable, ClosesOnDisk};
 ghost use Rattle.nt_close.specs.Crashes.{CrashesByAnswer};
 
 use crate::ending::ending_of;
@@ -16,8 +13,8 @@ use nt_outside::Disk;
 use nt_schema::Schema;
 use std::alloc::Global;
 
-/// Takes the steps of `close`.
-fn close_file<D: Disk>(
+/// Does what `close` does.
+fn take_steps<D: Disk>(
     alloc: Global,
     disk: &mut D,
     book: &Book,
@@ -25,13 +22,7 @@ fn close_file<D: Disk>(
     params: &Params,
 ) -> Result<(), CloseError>
     requires { IsClosable (D.state disk.old) book.now schema.now }
-    ensures cause { HasCloseCause book.now (passed_by_close params.now schema.now book.now) result }
-    ensures left { LeavesClosed
-        (tail schema.now book.now (lists_behind schema.now book.now params.now.group))
-        (front schema.now book.now (lists_behind schema.now book.now params.now.group))
-        (D.state disk.old) (D.state disk.new) result }
-    ensures finished { OnOk result (EndsFinished schema.now params.now book.now
-        (D.state disk.old).held (D.state disk.new).held) }
+    ensures { ClosesOnDisk schema.now params.now book.now (D.state disk.old) (D.state disk.new) result }
 {
     refuse_spoiled(book)?;
     let ending = ending_of(alloc, book, schema, params)?;
@@ -41,7 +32,7 @@ fn close_file<D: Disk>(
     Ok(())
 }
 
-/// Closes the file of a schema whose ranges are those of a book: page lists, footer, anchor and the
+/// ClosesOnDisk the file of a schema whose ranges are those of a book: page lists, footer, anchor and the
 /// lists of keys and of free pieces behind the ranges, file header and directory behind the first
 /// byte, and that byte once all the rest stays. All memory is taken, and all limits are tested,
 /// before the first of these steps. After a refusal the first byte is what it was, but for a fault
@@ -54,15 +45,9 @@ pub fn close<D: Disk>(
     params: &Params,
 ) -> Result<(), CloseError>
     requires { IsClosable (D.state disk.old) book.now schema.now }
-    ensures cause { HasCloseCause book.now (passed_by_close params.now schema.now book.now) result }
-    ensures left { LeavesClosed
-        (tail schema.now book.now (lists_behind schema.now book.now params.now.group))
-        (front schema.now book.now (lists_behind schema.now book.now params.now.group))
-        (D.state disk.old) (D.state disk.new) result }
-    ensures finished { OnOk result (EndsFinished schema.now params.now book.now
-        (D.state disk.old).held (D.state disk.new).held) }
+    ensures closes { ClosesOnDisk schema.now params.now book.now (D.state disk.old) (D.state disk.new) result }
     ensures crash { CrashesByAnswer schema.now book.now params.now.group
         (D.state disk.old).held (D.state disk.new).held result }
 {
-    close_file(alloc, disk, book, schema, params)
+    take_steps(alloc, disk, book, schema, params)
 }

@@ -8,7 +8,8 @@ pub fn closed_is_finished()
     ensures { ClosedIsFinished }
 {}
 
-/// Until all steps are taken the first byte is 0.
+/// Until all steps are taken the first byte is 0; where one failed and the file stands there whole
+/// nevertheless, it was the step of that byte or the sync behind it.
 pub fn first_byte_is_last()
     ensures { FirstByteIsLast }
 {}

@@ -11,10 +11,10 @@
 //! Proved of `begin`: after `Ok` the disk holds exactly that head and the header, with their steps
 //! in its log, and schema and book are those of the fields (`begun`); after a refusal what is left,
 //! and which limit is passed (`refused`). Of `close`: the cause of each answer, the lowest spoiled
-//! range and the first limit that is passed (`cause`); what is left after each answer, byte for byte
-//! and step for step, and nothing at all before all memory is there and all limits are tested
-//! (`left`); that a file with ranges of the clusters' lengths becomes the finished file with these
-//! ranges, within the limits (`finished`). Wherever a crash comes behind the first sync, it leaves
+//! range and the first limit that is passed (`cause` in `closes`); what is left after each answer, byte for byte
+//! and step for step, after a fault without the last step at least, and nothing at all before all memory is
+//! there and all limits are tested (`left`); that a file with ranges of the clusters' lengths becomes the finished
+//! file with these ranges, within the limits (`finished`). Wherever a crash comes behind the first sync, it leaves
 //! what isn't finished of a file that is begun (`crash` of `IsBegun` and `IsBeginCut`), and of one that
 //! is closed that, or the finished file once its first byte was written over; behind all steps only
 //! that file (`crash`, by `specs/Crashes.antt`). A fault comes only where the disk's count rose.

@@ -1,9 +1,9 @@
 //! The steps by which a file is begun and closed. Its first byte is 0 until all the rest stays.
 
-ghost use Rattle.std.specs.Prelude.{◌≡◌, ◌+◌, [], length, OnOk};
+ghost use Rattle.std.specs.Prelude.{◌≡◌, ◌+◌, [], length, OnOk, OnErr};
 ghost use Rattle.nt_outside.specs.Faults.{HasCause};
 ghost use Rattle.nt_outside.specs.Held.{BecomesSome};
-ghost use Rattle.nt_close.specs.Steps.{HasRoomToBegin, IsBegunWith, IsBegunSoFar, HasRoomToEnd, IsEndedWith, IsClosedSoFar};
+ghost use Rattle.nt_close.specs.Steps.{HasRoomToBegin, IsBegunWith, IsBegunPartly, HasRoomToEnd, IsEndedWith, IsClosedPartly};
 
 use nt_outside::{Disk, Failed};
 
@@ -15,8 +15,8 @@ const FIRST: &[u8] = b"r";
 pub fn write_begin<D: Disk>(disk: &mut D, head: &[u8], blob: &[u8]) -> Result<(), Failed>
     requires { HasRoomToBegin (D.state disk.old) (length head.now + length blob.now) }
     ensures ok { OnOk result (IsBegunWith head.now blob.now (D.state disk.old) (D.state disk.new)) }
-    ensures left { BecomesSome (D.state disk.old).held (D.state disk.new).held
-        (IsBegunSoFar head.now blob.now) }
+    ensures cut { OnErr result (BecomesSome (D.state disk.old).held (D.state disk.new).held
+        (IsBegunPartly head.now blob.now)) }
     ensures out { (D.state disk.new).out ≡ (D.state disk.old).out }
     ensures cause { HasCause (D.state disk.old).faults (D.state disk.new).faults result }
 {
@@ -33,8 +33,8 @@ pub fn write_end<D: Disk>(disk: &mut D, tail: &[u8], front: &[u8]) -> Result<(),
     requires { HasRoomToEnd (D.state disk.old) (length tail.now) (length front.now) }
     ensures ok { OnOk result (IsEndedWith tail.now front.now (D.state disk.old)
         (D.state disk.new)) }
-    ensures left { BecomesSome (D.state disk.old).held (D.state disk.new).held
-        (IsClosedSoFar tail.now front.now) }
+    ensures cut { OnErr result (BecomesSome (D.state disk.old).held (D.state disk.new).held
+        (IsClosedPartly tail.now front.now)) }
     ensures out { (D.state disk.new).out ≡ [] }
     ensures cause { HasCause (D.state disk.old).faults (D.state disk.new).faults result }
 {

@@ -3,8 +3,9 @@ use Rattle.std.proofs.Common.{◌≡◌, ◌∙◌, ap, sym, refl, ℕ, zero, su
 use Rattle.std.proofs.Common.{Option, Some, arith, subst, append_assoc, append-nil, inl, inr}
 use Rattle.std.specs.Prelude.{◌⊎◌}
 use Rattle.std.specs.List.{AllByRecursion}
-use Rattle.nt_outside.specs.Log.{Step, Reserve, Settle}
-use Rattle.nt_outside.specs.Held.{Held, BecomesSome, WhereHeld, IsReserved}
+use Rattle.nt_lists.specs.Parts.{Part}
+use Rattle.nt_outside.specs.Log.{Step, Append, FailedAppend, Reserve, Settle}
+use Rattle.nt_outside.specs.Held.{Held, appended, Becomes, BecomesSome, WhereHeld, IsReserved}
 use Rattle.nt_outside.specs.Range.{without}
 use Rattle.nt_outside.specs.Disk.{DiskState}
 use Rattle.nt_outside.specs.Faults.{Rose}
@@ -13,13 +14,13 @@ use Rattle.nt_machine.specs.declared.entry.EntryKind.{EntryKind}
 use Rattle.nt_machine.specs.declared.entry.EntryKind.TheVariants as entry
 use Rattle.nt_machine.specs.Faults.{HasRisen, HasFaults, faults_after, FaultsRise}
 use Rattle.nt_machine.specs.History.{Cluster, Fate, Out, is_out, handed_back, after_kind, after_entry, ranges_of}
-use Rattle.nt_machine.specs.Legal.{IsKindAllowed, IsAllowed, IsOut, ranges_end, end_after}
+use Rattle.nt_machine.specs.Legal.{IsKindAllowed, IsAllowed, IsOut, ranges_end}
 use Rattle.nt_machine.proofs.Histories.{AllByRecursion-append}
-use Rattle.nt_machine.proofs.Legality.{IsLegalAfter-snoc, ranges_of-snoc, ranges_of-back, end_after-snoc, IsApart-fold}
+use Rattle.nt_machine.proofs.Legality.{IsLegalAfter-snoc, ranges_of-snoc, ranges_of-back, IsApart-fold}
 use Rattle.nt_commit.specs.Locked.{HasToldBytes, place_of, ranges_out, Follows}
 use Rattle.nt_logged.specs.Logs.{IsLogOf}
-use Rattle.nt_logged.proofs.Growing.{log-commit, log-fault}
-use Rattle.nt_commit.proofs.Handed.{IsRoomy, ranges_out-snoc, ranges_out-set, end_after-handed_back, roomy-handed_back, bytes-handed_back}
+use Rattle.nt_logged.proofs.Growing.{log-commit, log-fault, log-list, log-tear}
+use Rattle.nt_commit.proofs.Handed.{IsRoomy, ranges_out-snoc, ranges_out-set, roomy-handed_back, bytes-handed_back}
 
 -- a count that rose has risen
 pub risen : (before now : ℕ) → before ≤ now → Rose before now → now < 2 ^ 64 → HasRisen before now
@@ -59,23 +60,23 @@ module _ {M : Type 0} where
   FaultsRise-later least [] count later rise le = omega (arith, rise, le)
   FaultsRise-later least (d ∷ ds) count later rise le = (rise.0, FaultsRise-later (faults_after least d.kind) ds count later rise.1 le)
 
-  module _ (begun d d' : DiskState) (contexts : ℕ) (history : List (Entry M)) (follows : Follows begun d contexts history) where
+  module _ (begun d d' : DiskState) (contexts : ℕ) (history : List (Entry M)) (lists : List Part) (torn : List ℕ)
+      (follows : Follows begun d contexts history lists torn) where
     -- one entry more, and what it does to the disk
     pub Follows-snoc : (e : Entry M) (new : List Step) → IsAllowed begun.end (ranges_of history) e → e.context ≤ contexts
         → AllByRecursion IsRoomy (after_entry (ranges_of history) e) → HaveBytes begun (after_entry (ranges_of history) e)
-        → d'.end ≡ end_after begun.end (after_entry (ranges_of history) e) → d'.out ≡ ranges_out (after_entry (ranges_of history) e)
+        → d'.out ≡ ranges_out (after_entry (ranges_of history) e)
         → ((h : Held) → begun.held ≡ Some h → BecomesSome d.held d'.held (λ h h'. h'.log ≡ h.log ++ new))
-        → ((steps : List Step) → IsLogOf begun.end d.end history [] [] steps
-        → IsLogOf begun.end d'.end (history ++ e ∷ []) [] [] (steps ++ new))
+        → ((steps : List Step) → IsLogOf begun.end d.end history lists torn steps
+        → IsLogOf begun.end d'.end (history ++ e ∷ []) lists torn (steps ++ new))
         → (HasFaults e.kind → HasRisen d.faults (faults_after d.faults e.kind)) → faults_after d.faults e.kind ≤ d'.faults
-        → Follows begun d' contexts (history ++ e ∷ [])
-    Follows-snoc e new allowed context roomy have end out log grown rises later =
+        → Follows begun d' contexts (history ++ e ∷ []) lists torn
+    Follows-snoc e new allowed context roomy have out log grown rises later =
         let ranges = sym (ranges_of-snoc history e) in
         record {
           legal = IsLegalAfter-snoc begun.end [] history e follows.legal allowed;
           contexts_are = AllByRecursion-append (λ (e : Entry M). e.context ≤ contexts) history (e ∷ []) follows.contexts_are (context, tt);
           roomy = subst (λ (l : List (Cluster M)). AllByRecursion IsRoomy l) ranges roomy;
-          end = end ∙ ap (λ (l : List (Cluster M)). end_after begun.end l) ranges;
           out = out ∙ ap (λ (l : List (Cluster M)). ranges_out l) ranges;
           log = λ h is.
               let first = follows.log h is in
@@ -94,13 +95,13 @@ module _ {M : Type 0} where
         }
 
     -- the same history over a disk that only counted faults
-    pub Follows-same : d'.held ≡ d.held → d'.end ≡ d.end → d'.out ≡ d.out → d.faults ≤ d'.faults → Follows begun d' contexts history
+    pub Follows-same : d'.held ≡ d.held → d'.end ≡ d.end → d'.out ≡ d.out → d.faults ≤ d'.faults
+        → Follows begun d' contexts history lists torn
     Follows-same held end out later =
         record {
           legal = follows.legal;
           contexts_are = follows.contexts_are;
           roomy = follows.roomy;
-          end = end ∙ follows.end;
           out = out ∙ follows.out;
           log = λ h is.
               let first = follows.log h is in (
@@ -109,52 +110,98 @@ module _ {M : Type 0} where
                 record {
                   steps = first.2.steps;
                   log = first.2.log;
-                  is_log = subst (λ (e : ℕ). IsLogOf begun.end e history [] [] first.2.steps) (sym end) first.2.is_log;
+                  is_log = subst (λ (e : ℕ). IsLogOf begun.end e history lists torn first.2.steps) (sym end) first.2.is_log;
                 },
               );
           told = follows.told;
           rise = FaultsRise-later begun.faults history d.faults d'.faults follows.rise later;
         }
 
+    -- the same history over a disk to which a page list was appended, or a part of one
+    Follows-more : (lists' : List Part) (torn' : List ℕ) (new : Step)
+        → BecomesSome d.held d'.held (λ h h'. h'.log ≡ h.log ++ new ∷ [])
+        → ((steps : List Step) → IsLogOf begun.end d.end history lists torn steps
+        → IsLogOf begun.end d'.end history lists' torn' (steps ++ new ∷ []))
+        → d'.out ≡ d.out → d.faults ≤ d'.faults
+        → Follows begun d' contexts history lists' torn'
+    Follows-more lists' torn' new log grown out later =
+        record {
+          legal = follows.legal;
+          contexts_are = follows.contexts_are;
+          roomy = follows.roomy;
+          out = out ∙ follows.out;
+          log = λ h is.
+              let first = follows.log h is in
+              let second = log first.0 first.1 in (
+                second.0,
+                second.1,
+                record {
+                  steps = first.2.steps ++ new ∷ [];
+                  log = second.2 ∙ (ap (λ (l : List Step). l ++ new ∷ []) first.2.log ∙ append_assoc h.log first.2.steps (new ∷ []));
+                  is_log = grown first.2.steps first.2.is_log;
+                },
+              );
+          told = follows.told;
+          rise = FaultsRise-later begun.faults history d.faults d'.faults follows.rise later;
+        }
+
+    -- a page list was appended
+    pub Follows-list : (bytes : List ℕ) → Becomes d.held d'.held (appended bytes) → d'.end ≡ d.end + length bytes → d'.out ≡ d.out
+        → d.faults ≤ d'.faults
+        → Follows begun d' contexts history (lists ++ record { place = d.end; bytes = bytes } ∷ []) torn
+    Follows-list bytes log end out later =
+        Follows-more (lists ++ record { place = d.end; bytes = bytes } ∷ []) torn (Append bytes) (λ h is. (appended bytes h, log h is, refl))
+        (λ steps was.
+        subst (λ (to : ℕ). IsLogOf begun.end to history (lists ++ record { place = d.end; bytes = bytes } ∷ []) torn
+        (steps ++ Append bytes ∷ [])) (sym end) (log-list begun.end d.end history lists torn steps was bytes)) out later
+
+    -- and one failed, of which so many bytes are left
+    pub Follows-tear : (len : ℕ) → BecomesSome d.held d'.held (λ h h'. h'.log ≡ h.log ++ FailedAppend len ∷ []) → d'.end ≡ d.end + len
+        → d'.out ≡ d.out → d.faults ≤ d'.faults
+        → Follows begun d' contexts history lists (torn ++ len ∷ [])
+    Follows-tear len log end out later =
+        Follows-more lists (torn ++ len ∷ []) (FailedAppend len) log
+        (λ steps was.
+        subst (λ (to : ℕ). IsLogOf begun.end to history lists (torn ++ len ∷ []) (steps ++ FailedAppend len ∷ [])) (sym end)
+        (log-tear begun.end d.end history lists torn steps was len)) out later
+
     -- a range was reserved for a cluster
     pub Follows-commit : (i n start len : ℕ) (meta : M) → n ≡ length (ranges_of history)
-        → ranges_end begun.end (ranges_of history) ≤ start → start ≡ end_after begun.end (ranges_of history) → i ≤ contexts → 42 ≤ len
+        → ranges_end begun.end (ranges_of history) ≤ start → d.end ≡ start → i ≤ contexts → 42 ≤ len
         → BecomesSome d.held d'.held (IsReserved d.end len) → d'.end ≡ d.end + len → d'.out ≡ d.out ++ record {
           start = d.end;
           len = len;
         } ∷ [] → d.faults ≤ d'.faults
-        → Follows begun d' contexts (history ++ record { context = i; kind = entry.Committed n start len meta } ∷ [])
-    Follows-commit i n start len meta number behind place context roomy log end out later =
+        → Follows begun d' contexts (history ++ record { context = i; kind = entry.Committed n start len meta } ∷ []) lists torn
+    Follows-commit i n start len meta number behind from context roomy log end out later =
         let c : Cluster M = record { context = i; number = n; start = start; len = len; meta = meta; state = Out } in
         let old = ranges_of history in
-        let from : d.end ≡ start = follows.end ∙ sym place in
         let e : ℕ → Entry M = λ (m : ℕ). record { context = i; kind = entry.Committed n m len meta } in
         Follows-snoc (e start) (Reserve start len ∷ []) (number, behind) context
         (AllByRecursion-append IsRoomy old (c ∷ []) follows.roomy (roomy, tt))
         (λ h is. AllByRecursion-append (λ (c : Cluster M). HasToldBytes c.state) old (c ∷ []) (follows.told h is) (tt, tt))
-        (end ∙ (ap (λ (m : ℕ). m + len) follows.end ∙ sym (end_after-snoc begun.end old c)))
         (out ∙ (ap (λ (l : List _). l ++ record { start = d.end; len = len } ∷ []) follows.out
         ∙ (ap (λ (m : ℕ). ranges_out old ++ record { start = m; len = len } ∷ []) from ∙ sym (ranges_out-snoc old c refl))))
         (λ begins told h is. let next = log h is in (next.0, next.1, next.2.log ∙ ap (λ (m : ℕ). h.log ++ Reserve m len ∷ []) from))
         (λ steps was.
-        subst (λ (to : ℕ). IsLogOf begun.end to (history ++ e start ∷ []) [] [] (steps ++ Reserve start len ∷ [])) (sym end)
-        (subst (λ (m : ℕ). IsLogOf begun.end (d.end + len) (history ++ e m ∷ []) [] [] (steps ++ Reserve m len ∷ [])) from
-        (log-commit begun.end d.end history [] [] steps was i n len meta)))
+        subst (λ (to : ℕ). IsLogOf begun.end to (history ++ e start ∷ []) lists torn (steps ++ Reserve start len ∷ [])) (sym end)
+        (subst (λ (m : ℕ). IsLogOf begun.end (d.end + len) (history ++ e m ∷ []) lists torn (steps ++ Reserve m len ∷ [])) from
+        (log-commit begun.end d.end history lists torn steps was i n len meta)))
         (λ h. absurd h) later
 
     -- a range was handed back
     pub Follows-back : (i n : ℕ) (fate : Fate) (k : EntryKind M) (bytes : Option (List ℕ)) → (is : IsOut (ranges_of history) i n)
         → is_out fate ≡ false → WhereHeld begun.held (λ h. HasToldBytes fate)
         → after_kind (ranges_of history) i k ≡ map (handed_back i n fate) (ranges_of history)
-        → ((steps : List Step) → IsLogOf begun.end d.end history [] [] steps
-        → IsLogOf begun.end d.end (history ++ record { context = i; kind = k } ∷ []) [] []
+        → ((steps : List Step) → IsLogOf begun.end d.end history lists torn steps
+        → IsLogOf begun.end d.end (history ++ record { context = i; kind = k } ∷ []) lists torn
         (steps ++ Settle is.cluster.start is.cluster.len bytes ∷ []))
         → IsKindAllowed begun.end (ranges_of history) i k → i ≤ contexts
         → ((h : Held) → begun.held ≡ Some h → BecomesSome d.held d'.held (λ h h'. h'.log ≡ h.log
         ++ Settle is.cluster.start is.cluster.len bytes ∷ []))
         → d'.end ≡ d.end → d'.out ≡ without (place_of is.cluster) d.out
         → (HasFaults k → HasRisen d.faults (faults_after d.faults k)) → faults_after d.faults k ≤ d'.faults
-        → Follows begun d' contexts (history ++ record { context = i; kind = k } ∷ [])
+        → Follows begun d' contexts (history ++ record { context = i; kind = k } ∷ []) lists torn
     Follows-back i n fate k bytes is back has after grown allowed context log end out rises later =
         let old = ranges_of history in
         let apart = IsApart-fold begun.end [] history follows.legal (omega arith) in
@@ -165,26 +212,24 @@ module _ {M : Type 0} where
         (subst (λ (l : List (Cluster M)). AllByRecursion IsRoomy l) (sym after) (roomy-handed_back i n fate old follows.roomy))
         (λ h told. subst (λ (l : List (Cluster M)). AllByRecursion (λ (c : Cluster M). HasToldBytes c.state) l) (sym after)
         (bytes-handed_back i n fate old (has h told) (follows.told h told)))
-        (end ∙ (follows.end ∙ (sym (end_after-handed_back begun.end i n fate old)
-        ∙ ap (λ (l : List (Cluster M)). end_after begun.end l) (sym after))))
         (out ∙ (ap (λ (l : List _). without (place_of is.cluster) l) follows.out
         ∙ (sym (ranges_out-set begun.end (ranges_end begun.end old) old n is.cluster fate apart follows.roomy is.at is.out back)
         ∙ (ap (λ (l : List (Cluster M)). ranges_out l) (sym put) ∙ ap (λ (l : List (Cluster M)). ranges_out l) (sym after)))))
         log
         (λ steps was.
-        subst (λ (to : ℕ). IsLogOf begun.end to (history ++ e ∷ []) [] [] (steps ++ step ∷ [])) (sym end) (grown steps was))
+        subst (λ (to : ℕ). IsLogOf begun.end to (history ++ e ∷ []) lists torn (steps ++ step ∷ [])) (sym end) (grown steps was))
         rises later
 
     -- the disk failed, and that was entered
     pub Follows-fault : (i faults : ℕ) → i ≤ contexts → d'.held ≡ d.held → d'.end ≡ d.end → d'.out ≡ d.out
         → HasRisen d.faults faults → faults ≤ d'.faults
-        → Follows begun d' contexts (history ++ record { context = i; kind = entry.Faulted faults } ∷ [])
+        → Follows begun d' contexts (history ++ record { context = i; kind = entry.Faulted faults } ∷ []) lists torn
     Follows-fault i faults context held end out rises later =
         let e : Entry M = record { context = i; kind = entry.Faulted faults } in
-        Follows-snoc e [] tt context follows.roomy follows.told (end ∙ follows.end) (out ∙ follows.out)
+        Follows-snoc e [] tt context follows.roomy follows.told (out ∙ follows.out)
         (λ begins told h is. (h, held ∙ is, sym (append-nil h.log)))
         (λ steps was.
-        subst (λ (to : ℕ). IsLogOf begun.end to (history ++ e ∷ []) [] [] (steps ++ [])) (sym end)
-        (subst (λ (l : List Step). IsLogOf begun.end d.end (history ++ e ∷ []) [] [] l) (sym (append-nil steps))
-        (log-fault begun.end d.end history [] [] steps was i faults)))
+        subst (λ (to : ℕ). IsLogOf begun.end to (history ++ e ∷ []) lists torn (steps ++ [])) (sym end)
+        (subst (λ (l : List Step). IsLogOf begun.end d.end (history ++ e ∷ []) lists torn l) (sym (append-nil steps))
+        (log-fault begun.end d.end history lists torn steps was i faults)))
         (λ h. rises) later

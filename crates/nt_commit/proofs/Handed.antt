@@ -10,10 +10,14 @@ use Rattle.std.proofs.lemmas.List.Elements.{filter-append}
 use Rattle.std.proofs.lemmas.List.Sums.{sum_by-cons}
 use Rattle.nt_outside.specs.declared.range.Range.{Range}
 use Rattle.nt_outside.specs.Range.{is_same_range, without}
-use Rattle.nt_machine.specs.History.{Cluster, Fate, Out, is_out, handed_back}
+use Rattle.nt_machine.specs.declared.entry.Entry.{Entry}
+use Rattle.nt_machine.specs.declared.entry.EntryKind.{EntryKind}
+use Rattle.nt_machine.specs.declared.entry.EntryKind.TheVariants as entry
+use Rattle.nt_machine.specs.History.{Cluster, Fate, Out, Settled, Spoiled, is_out, handed_back, after_kind, ranges_of}
 use Rattle.nt_machine.specs.Legal.{spans_of, end_after}
 use Rattle.nt_machine.specs.Spans.{IsDisjoint}
 use Rattle.nt_machine.proofs.Histories.{AllByRecursion-map}
+use Rattle.nt_machine.proofs.Legality.{ranges_of-snoc, end_after-snoc}
 use Rattle.nt_commit.specs.Locked.{HasToldBytes, place_of, ranges_out}
 
 same_range-start : (one two : Range) → (one.start == two.start) ≡ false → is_same_range one two ≡ false
@@ -137,6 +141,27 @@ module _ {M : Type 0} where
   pub end_after-handed_back : (place i n : ℕ) (fate : Fate) (cs : List (Cluster M))
       → end_after place (map (handed_back i n fate) cs) ≡ end_after place cs
   end_after-handed_back place i n fate cs = ap (λ (s : ℕ). place + s) (sum-handed_back i n fate cs)
+
+  -- how many bytes the range has that an entry reserves
+  abbrev pub reserved_len : EntryKind M → ℕ
+  reserved_len (entry.Committed n start len meta) = len
+  reserved_len (entry.Settled n bytes) = 0
+  reserved_len (entry.Spoiled n faults) = 0
+  reserved_len (entry.Faulted faults) = 0
+
+  end_after-kind : (place : ℕ) (cs : List (Cluster M)) (i : ℕ) (k : EntryKind M)
+      → end_after place (after_kind cs i k) ≡ end_after place cs + reserved_len k
+  end_after-kind place cs i (entry.Committed n start len meta) = end_after-snoc place cs _
+  end_after-kind place cs i (entry.Settled n bytes) = omega (arith, end_after-handed_back place i n (Settled bytes) cs)
+  end_after-kind place cs i (entry.Spoiled n faults) = omega (arith, end_after-handed_back place i n (Spoiled faults) cs)
+  end_after-kind place cs i (entry.Faulted faults) = omega arith
+
+  -- where ranges end with one entry more
+  pub end_after-entry : (place : ℕ) (history : List (Entry M)) (e : Entry M)
+      → end_after place (ranges_of (history ++ e ∷ [])) ≡ end_after place (ranges_of history) + reserved_len e.kind
+  end_after-entry place history e =
+      ap (λ (l : List (Cluster M)). end_after place l) (ranges_of-snoc history e)
+      ∙ end_after-kind place (ranges_of history) e.context e.kind
 
   -- ranges that have bytes where they are settled, one of them handed back so
   pub bytes-handed_back : (i n : ℕ) (fate : Fate) (cs : List (Cluster M)) → HasToldBytes fate

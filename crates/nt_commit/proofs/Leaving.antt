@@ -1,5 +1,5 @@
 -- What a crash leaves of the disk of a committer that ends.
-use Rattle.std.proofs.Common.{◌≡◌, sym, subst, ℕ, List, [], ◌++◌, length, Some}
+use Rattle.std.proofs.Common.{◌≡◌, sym, subst, ℕ, List, ◌++◌, length, Some}
 use Rattle.nt_lists.specs.Parts.{Part}
 use Rattle.nt_outside.specs.Log.{Step}
 use Rattle.nt_outside.specs.Reads.{Reads}
@@ -37,7 +37,7 @@ module _ {D : Type 0} (state : D → DiskState)
         λ shut.
             let stays : StaysShut left.0.log =
             subst StaysShut (sym left.2.log)
-            (keep (state locked.birth.begun).end (state locked.disk).end (history_of_locked state locked) [] [] h.log left.2.steps h.image
+            (keep (state locked.birth.begun).end (state locked.disk).end (history_of_locked state locked) step.lists step.torn h.log left.2.steps h.image
             shut facts.1 facts.0 step.follows.legal left.2.is_log) in
             (stays, leaves left.0.log stays),
       )

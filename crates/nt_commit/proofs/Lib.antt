@@ -1,11 +1,18 @@
+mod Appended
 mod Claimed
 mod Ending
 mod Following
+mod Fresh
 mod Handed
 mod Holding
 mod Leaving
+mod Listed
+mod Listing
+mod Noting
 mod Owned
+mod Placing
 mod Returning
 mod Short
 mod Stepping
 mod Telling
+pub mod Ungrouped

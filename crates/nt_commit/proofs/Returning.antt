@@ -13,6 +13,7 @@ use Rattle.nt_machine.specs.History.{Settled, Spoiled, ranges_of}
 use Rattle.nt_machine.specs.Legal.{AreAsLong, IsOut}
 use Rattle.nt_book.specs.declared.meta.ClusterMeta.{ClusterMeta}
 use Rattle.nt_book.specs.Books.{BookData}
+use Rattle.nt_book.specs.Kept.{IsBookKept}
 use Rattle.nt_book.specs.Entries.{settled_entry, spoiled_entry}
 use Rattle.nt_commit.specs.declared.claim.Claim.{Claim}
 use Rattle.nt_commit.specs.Claims.{IsClaimOf, settled_with}
@@ -48,7 +49,7 @@ no_content x None is sized unfilled = refl
 no_content x (Some bytes) is sized unfilled = let filled = (sized bytes is).filled in absurd (cc)
 
 module _ {D : Type 0} (state : D → DiskState) (begun d : D) (contexts : ℕ) (b : BookData)
-    (was : IsInStep state (locked_of begun d contexts b)) where
+    (was : IsInStep state (locked_of begun d contexts b)) (kept : IsBookKept b) where
   abbrev old : LockedState D
   old = locked_of begun d contexts b
 
@@ -78,12 +79,12 @@ module _ {D : Type 0} (state : D → DiskState) (begun d : D) (contexts : ℕ) (
         let len : ext.range.len ≡ out.cluster.len = ap (λ (r : Range). r.len) (sym range) in
         let step = Settle ext.range.start ext.range.len ext.content in
         let whole = subst (λ (m : ℕ). AreAsLong bytes m) len (long_where (state begun).held ext.content long) in
-        grows_to state begun d contexts b was d' b' (settled_entry i n) (settled_with i n bytes) spare (step ∷ []) is
+        grows_to state begun d contexts b was d' b' kept (settled_entry i n) (settled_with i n bytes) spare (step ∷ []) is
         (λ h was. let next = log h was in (next.0, next.1, next.2.log))
-        (told-settled (state begun).held i n ext.range.start ext.range.len ext.content)
-        (Follows-back (state begun) (state d) (state d') contexts history was.follows i n (Settled bytes) (entry.Settled n bytes)
+        (told-settled (state begun).held i n ext.range.start ext.range.len ext.content) (omega (arith, end))
+        (Follows-back (state begun) (state d) (state d') contexts history was.lists was.torn was.follows i n (Settled bytes) (entry.Settled n bytes)
         bytes out refl (λ h told. subst (λ (o : Option Held). IsSome (bytes_where_told o ext.content)) (sym told) (has h told)) refl
-        (λ steps w. log-settle (state begun).end (state d).end history [] [] steps w i n bytes out whole)
+        (λ steps w. log-settle (state begun).end (state d).end history was.lists was.torn steps w i n bytes out whole)
         (out, whole) context
         (λ begins told h was.
         let next = log h was in
@@ -112,12 +113,12 @@ module _ {D : Type 0} (state : D → DiskState) (begun d : D) (contexts : ℕ) (
     spoiled i n faults spare ext is out range context empty log end gone later rose count fits =
         let start : ext.range.start ≡ out.cluster.start = ap (λ (r : Range). r.start) (sym range) in
         let len : ext.range.len ≡ out.cluster.len = ap (λ (r : Range). r.len) (sym range) in
-        let done = grows_to state begun d contexts b was d' b' (spoiled_entry i n faults) (spoiled_entry i n faults) spare
+        let done = grows_to state begun d contexts b was d' b' kept (spoiled_entry i n faults) (spoiled_entry i n faults) spare
         (Settle ext.range.start ext.range.len ext.content ∷ []) is
-        log (told-spoiled (state begun).held i n faults (Settle ext.range.start ext.range.len ext.content ∷ []))
-        (Follows-back (state begun) (state d) (state d') contexts history was.follows i n (Spoiled faults) (entry.Spoiled n faults)
+        log (told-spoiled (state begun).held i n faults (Settle ext.range.start ext.range.len ext.content ∷ [])) (omega (arith, end))
+        (Follows-back (state begun) (state d) (state d') contexts history was.lists was.torn was.follows i n (Spoiled faults) (entry.Spoiled n faults)
         None out refl (λ h told. tt) refl
-        (λ steps w. log-spoil (state begun).end (state d).end history [] [] steps w i n faults out) out context
+        (λ steps w. log-spoil (state begun).end (state d).end history was.lists was.torn steps w i n faults out) out context
         (λ begins told h was.
         let next = log h was in (
           next.0,

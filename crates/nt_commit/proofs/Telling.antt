@@ -128,6 +128,33 @@ module _ {M : Type 0} where
       ∙ (told_more h first.0 second.0 history e steps first.2 second.2
       ∙ ap (λ (o : Option Held). told_history (Some h) o history ++ told_entry (Some h) e (range_steps steps) ∷ []) (sym first.1))
 
+  told_beside : (h now next : Held) (history : List (Entry M)) (steps : List Step) (was : GainsSo (steps_count history) h now)
+      → next.log ≡ now.log ++ steps → range_steps steps ≡ []
+      → told_history (Some h) (Some next) history ≡ told_history (Some h) (Some now) history
+  told_beside h now next history steps was log none =
+      let one : range_steps (drop (length h.log) now.log) ≡ range_steps was.steps =
+      ap (λ (l : List Step). range_steps l) (behind h.log now.log was.steps was.log) in
+      let two : range_steps (drop (length h.log) next.log) ≡ range_steps was.steps =
+      ap (λ (l : List Step). range_steps l)
+      (behind h.log next.log (was.steps ++ steps)
+      (log ∙ (ap (λ (l : List Step). l ++ steps) was.log ∙ append_assoc h.log was.steps steps)))
+      ∙ (filter-append is_of_range was.steps steps
+      ∙ (ap (λ (l : List Step). range_steps was.steps ++ l) none ∙ append-nil (range_steps was.steps))) in
+      ap (λ (l : List Step). with_bytes history (told_bytes history l)) (two ∙ sym one)
+
+  -- no entry more, and steps that are of no range
+  pub told_history-same : (begun now next : Option Held) (history : List (Entry M)) (steps : List Step)
+      → BecomesSome begun now (GainsSo (steps_count history))
+      → BecomesSome now next (λ h h'. h'.log ≡ h.log ++ steps) → range_steps steps ≡ []
+      → told_history begun next history ≡ told_history begun now history
+  told_history-same None now next history steps was log none = refl
+  told_history-same (Some h) now next history steps was log none =
+      let first = was h refl in
+      let second = log first.0 first.1 in
+      ap (λ (o : Option Held). told_history (Some h) o history) second.1
+      ∙ (told_beside h first.0 second.0 history steps first.2 second.2 none
+      ∙ ap (λ (o : Option Held). told_history (Some h) o history) (sym first.1))
+
   length-settle_at : (ranges : List (Cluster M)) (i n : ℕ) (bytes : Option (List ℕ)) → IsOut ranges i n
       → length (settle_at (slice_get ranges n) bytes) ≡ 1
   length-settle_at ranges i n bytes is = ap (λ (o : Option (Cluster M)). length (settle_at o bytes)) is.at

@@ -1,5 +1,5 @@
 -- What a commit answers, and what a claim is.
-use Rattle.std.specs.Prelude.{◌≡◌, ℕ, false, true, List, [], ◌∷◌, Option, Some, None, Result, Ok, Err, slice_get}
+use Rattle.std.specs.Prelude.{◌≡◌, ◌≢◌, ◌⊎◌, ℕ, false, true, List, [], ◌∷◌, Option, Some, None, Result, Ok, Err, slice_get}
 use Rattle.nt_outside.specs.Faults.{Rose}
 use Rattle.nt_outside.specs.Held.{Held, WhereHeld}
 use Rattle.nt_outside.specs.Range.{ExtState}
@@ -29,6 +29,10 @@ limit_in Fault = None
 abbrev pub limit_answered : {A : Type 0} → Result A CommitError → Option LimitError
 limit_answered (Ok x) = None
 limit_answered (Err e) = limit_in e
+
+-- the limits were looked at: there are no page lists to make first, or there was memory for one
+abbrev pub HasLooked : {A : Type 0} → Option (ℕ × ℕ) → Result A CommitError → Type 0
+HasLooked group result = (group ≡ None) ⊎ (result ≢ Err Memory)
 
 -- a claim of this cluster and range, which holds no bytes yet and will tell them where the disk does
 pub record IsNewClaim {X : Type 0} (tell : X → ExtState) (held : Option Held) (n start len : ℕ) (claim : Claim X) : Type 0 where

@@ -9,18 +9,17 @@ use Rattle.nt_outside.specs.Faults.{Rose}
 use Rattle.nt_outside.specs.declared.fault.Refused.{Refused}
 use Rattle.nt_machine.specs.declared.entry.Entry.{Entry}
 use Rattle.nt_machine.specs.History.{Cluster, is_out, ranges_of}
-use Rattle.nt_machine.specs.Legal.{end_after}
 use Rattle.nt_book.specs.declared.limits.LimitError.{LimitError}
 use Rattle.nt_book.specs.declared.meta.ClusterMeta.{ClusterMeta}
 use Rattle.nt_book.specs.Entries.{spoiled_entry}
-use Rattle.nt_book.specs.Limiting.{limit_error}
 use Rattle.nt_book.specs.Pages.{IsPaged}
 use Rattle.nt_pages.specs.Image.{key_room}
 use Rattle.nt_commit.specs.declared.claim.Claim.{Claim}
 use Rattle.nt_commit.specs.declared.error.CommitError.{CommitError}
 use Rattle.nt_commit.specs.declared.locked.Birth.{Birth}
-use Rattle.nt_commit.specs.Claims.{CommitAdds, PenAdds, limit_answered, settled_with}
-use Rattle.nt_commit.specs.Locked.{LockedState, IsInStep, history_of_locked}
+use Rattle.nt_commit.specs.Claims.{CommitAdds, HasLooked, PenAdds, limit_answered, settled_with}
+use Rattle.nt_commit.specs.Lists.{NextPlace, limit_at}
+use Rattle.nt_commit.specs.Locked.{LockedState, IsInStep, book_of_birth, history_of_locked}
 use Rattle.nt_logged.specs.Steps.{bytes_where_told}
 
 -- a pass of a committer, which doesn't hold the turn
@@ -70,10 +69,6 @@ module _ {D : Type 0} (state : D → DiskState) where
     pub before : IsInStep state old
     pub after : IsInStep state new
 
-  -- where the next range starts
-  abbrev pub locked_end : LockedState D → ℕ
-  locked_end locked = end_after (state locked.birth.begun).end (ranges_of (history_of_locked state locked))
-
   -- how many clusters there are
   abbrev pub locked_count : LockedState D → ℕ
   locked_count locked = length (ranges_of (history_of_locked state locked))
@@ -82,14 +77,17 @@ module _ {D : Type 0} (state : D → DiskState) where
   abbrev pub HistoryGrows : LockedState D → LockedState D → List (Entry ClusterMeta) → Type 0
   HistoryGrows old new added = history_of_locked state new ≡ history_of_locked state old ++ added
 
-  -- a cluster was committed behind all others, or refused: for a limit exactly where the cluster passes it
+  -- a cluster was committed behind all others and behind the page list that was due; or refused: for a limit exactly where the cluster
+  -- or that list passes it
   pub record Commits {X : Type 0} (tell : X → ExtState) (meta : ClusterMeta) (old new : LockedState D)
       (result : Result (Claim X) CommitError) : Type 0 where
-    pub limits : limit_error old.birth.limits (locked_end old) (locked_count old) meta.len ≡ limit_answered result
+    pub place : NextPlace (book_of_birth state old.birth (history_of_locked state old))
+    pub limits : HasLooked old.birth.group result
+        → limit_at (book_of_birth state old.birth (history_of_locked state old)) place meta.len ≡ limit_answered result
     pub added : List (Entry ClusterMeta)
     pub grows : HistoryGrows old new added
     pub adds : CommitAdds tell (state old.birth.begun).held (state old.disk).faults (state new.disk).faults (locked_count old)
-        (locked_end old) meta result added
+        (place.before + place.due) meta result added
 
   -- a pen was made, or refused
   pub record OpensPen {P : Type 0} (context : ℕ) (old new : LockedState D) (result : Result P Refused) : Type 0 where
@@ -135,13 +133,13 @@ module _ {D : Type 0} (state : D → DiskState) where
     pub commits : Commits tell meta taken given result
     pub hold : IsHold committer taken given commits.added old new
 
-  -- a limit that refuses a cluster of this length is passed behind just what the pass has then seen
+  -- a limit that refuses a cluster of this length is passed behind just what the pass has then seen, and behind the list that is due
   abbrev pub RefusesBehindSeen : {X : Type 0} → TurnState (Birth D) → ℕ → PassState (Entry ClusterMeta) (Birth D)
       → Result (Claim X) CommitError → Type 0
   RefusesBehindSeen committer len pass result =
       (l : LimitError) → limit_answered result ≡ Some l
-      → limit_error committer.birth.limits (end_after (state committer.birth.begun).end (ranges_of pass.seen))
-      (length (ranges_of pass.seen)) len ≡ Some l
+      → (place : NextPlace (book_of_birth state committer.birth pass.seen))
+      × (limit_at (book_of_birth state committer.birth pass.seen) place len ≡ Some l)
 
   -- a hold in which a range was settled, with these bytes where the disk told what it held
   abbrev pub SettlesInHold : TurnState (Birth D) → ℕ → Option (List ℕ) → PassState (Entry ClusterMeta) (Birth D)

@@ -45,7 +45,7 @@ impl<D: Disk> Committer<D> {
             × (t.0.birth ≡ birth_with disk book contexts) × (t.1 ≡ first_pass t.0)) }
         ensures err { IfErr result (λ e. (e.0 ≡ disk) × (e.1 ≡ book)) }
     {
-        let locked = Locked::new(disk, book, contexts);
+        let locked = Locked::new(alloc, disk, book, contexts);
         match Turn::new(alloc, locked, contexts) {
             Ok((turn, pass)) => Ok((CommitterOf { turn }, pass)),
             Err((locked, error)) => {

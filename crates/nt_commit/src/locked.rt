@@ -7,19 +7,21 @@ use nt_book::{Book, Limits};
 use nt_machine::Entry;
 use nt_outside::Disk;
 use nt_turn::Logged;
+use std::alloc::Global;
 use std::collections::LinkedList;
 use std::marker::Model;
 use std::snapshot::Snapshot;
 
 /// What never changes: the disk as it was begun, the limits of its book, the number of its columns
-/// and the first element index of each, and how many contexts there are at most. No value of it is
-/// made.
+/// and the first element index of each, how many contexts there are at most, and by how many clusters
+/// page lists stand beside them, under a header of which checksum. No value of it is made.
 pub struct Birth<D> {
     pub begun: D,
     pub limits: Limits,
     pub columns: u32,
     pub firsts: LinkedList<u64>,
     pub contexts: u32,
+    pub group: Option<(u32, u64)>,
 }
 
 /// A disk and its book, which are what one history makes of them.
@@ -27,6 +29,7 @@ pub struct Locked<D: Disk> {
     pub(crate) disk: D,
     pub(crate) book: Book,
     pub(crate) contexts: u32,
+    pub(crate) alloc: Global,
     pub(crate) begun: Snapshot<D>,
 }
 
@@ -45,6 +48,7 @@ impl<D: Disk> Model for Locked<D> {
         columns = length l.book.firsts;
         firsts = l.book.firsts;
         contexts = l.contexts;
+        group = l.book.group;
       };
     } };
 
@@ -57,6 +61,7 @@ impl<D: Disk> Model for Locked<D> {
         columns = length l.book.firsts;
         firsts = l.book.firsts;
         contexts = l.contexts;
+        group = l.book.group;
       };
     } };
 }
@@ -77,7 +82,7 @@ impl<D: Disk> Logged for Locked<D> {
 
 impl<D: Disk> Locked<D> {
     /// A disk as it stands, with its new book.
-    pub(crate) fn new(disk: D, book: Book, contexts: u32) -> Locked<D>
+    pub(crate) fn new(alloc: Global, disk: D, book: Book, contexts: u32) -> Locked<D>
         requires { IsNewBookOn (D.state disk) book }
         ensures { result ≡ locked_by (birth_with disk book contexts) disk book }
     {
@@ -86,6 +91,7 @@ impl<D: Disk> Locked<D> {
             disk,
             book,
             contexts,
+            alloc,
             begun,
         }
     }
@@ -99,6 +105,7 @@ impl<D: Disk> Locked<D> {
             disk,
             book,
             contexts: _,
+            alloc: _,
             begun,
         } = self;
         drop(begun);

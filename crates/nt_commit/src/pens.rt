@@ -14,6 +14,7 @@ impl<D: Disk> Locked<D> {
         ensures opens { OpensPen D.state context self.old self.new result }
         ensures new { IfOk result (λ p. (D.Pen.state p).faults ≡ 0) }
     {
+        self.book.keeps();
         self.book.room()?;
         match self.disk.pen() {
             Ok(pen) => Ok(pen),

@@ -119,7 +119,7 @@ module _ (t : Table) (page : ℕ) where
 
   module _ (full : List (List TreesData)) (own : List (Entry ClusterMeta)) (h : HasCommitted t page full own) where
     -- as many as the ranges
-    length-committed : length (ranges_of own) ≡ length full
+    pub length-committed : length (ranges_of own) ≡ length full
     length-committed = sym (length-map (ranges_of own) meta_in) ∙ AllZip-long (IsKeptOf t page) full (map meta_in (ranges_of own)) h.kept
 
     -- they are the first, whatever comes behind

@@ -1,6 +1,7 @@
 -- What a seat has once its context ran.
 use Rattle.std.proofs.Common.{◌≡◌, ◌⊎◌, ℕ, ◌<◌, ◌≤◌, Bool, List, [], Option, Some, None, Result, Ok, Err, refl, sym, ap, ◌∙◌, subst}
-use Rattle.std.proofs.Common.{append-nil, arith}
+use Rattle.std.proofs.Common.{append-nil, length, take, arith}
+use Rattle.std.proofs.lemmas.List.{take_all}
 use Rattle.nt_lists.specs.Chunks.{chunks}
 use Rattle.nt_types.specs.ShapeData.{MemberData, MembersData, parts_of}
 use Rattle.nt_types.specs.TreeData.{TreesData}
@@ -13,9 +14,11 @@ use Rattle.nt_outside.specs.Faults.{Rose}
 use Rattle.nt_outside.specs.Source.{SourceState}
 use Rattle.nt_turn.specs.Pass.{TurnState}
 use Rattle.nt_machine.specs.declared.entry.Entry.{Entry}
+use Rattle.nt_machine.specs.History.{ranges_of}
 use Rattle.nt_book.specs.declared.meta.ClusterMeta.{ClusterMeta}
 use Rattle.nt_book.specs.declared.params.Params.{Params}
 use Rattle.nt_commit.specs.declared.locked.Birth.{Birth}
+use Rattle.nt_commit.specs.Locked.{book_of_birth}
 use Rattle.nt_commit.specs.Holds.{IsPassOf, HasNoneOut}
 use Rattle.nt_event.specs.Lines.{LinesState}
 use Rattle.nt_fill.specs.Context.{gathered}
@@ -23,6 +26,7 @@ use Rattle.nt_fill.specs.Flushes.{DiskContext}
 use Rattle.nt_dealing.specs.EventText.{BadLine, EventText, read_events}
 use Rattle.nt_dealing.specs.Texts.{text_chunks}
 use Rattle.nt_dealing.specs.Limits.{NextPasses}
+use Rattle.nt_dealing.specs.Failing.{whole_chunks}
 use Rattle.nt_dealing.specs.Written.{WroteChunks, CommittedFirst}
 use Rattle.nt_contexts.specs.declared.error.ContextError.{ContextError}
 use Rattle.nt_contexts.specs.declared.error.ContextError.TheVariants.{Text, Limit, Outside, Memory}
@@ -31,7 +35,7 @@ use Rattle.nt_contexts.specs.Reading.{left_of, GivesJust}
 use Rattle.nt_contexts.specs.Filling.{HaveFaults, IsFor, IsOpen, IsAtStart, IsSameContext}
 use Rattle.nt_contexts.specs.Running.{Ended}
 use Rattle.nt_contexts.specs.Seats.{DiskPass, EndsTold, Ran}
-use Rattle.nt_contexts.proofs.Committing.{committed-first, committed-none}
+use Rattle.nt_contexts.proofs.Committing.{committed-first, committed-none, length-committed}
 
 -- a text that is told gives what was read
 read_as : (F : MembersData) (left : Option (List ℕ)) (text : List ℕ) (entries : List TreesData) (bad : Option BadLine) → left ≡ Some text
@@ -91,18 +95,36 @@ module _ {D P : Type 0} (state : D → DiskState) (fields : List MemberData) (t 
             (state c.committer.birth.begun).held s n c.pass.number l c.pass.own) c.table t c.page p.page
             (chunks c.cluster h.entries) (text_chunks p.cluster fields text) (h.same.table ∙ is_table) (h.same.page
             ∙ is_page) (chunks_are text h.entries None h.same read) h.written.wrote),
+        subst (λ (l : List (List TreesData)). take (length (ranges_of c.pass.own)) l ≡ l) (chunks_are text h.entries None h.same read)
+            (take_all (length (ranges_of c.pass.own)) (chunks c.cluster h.entries) (omega (
+              arith,
+              length-committed c.table c.page
+                  (chunks c.cluster h.entries) c.pass.own h.written.committed,
+            ))),
       )
   ended_told left was is (Err (Text line kind)) h text told =
-      ap (λ (e : EventText). e.bad) (read_as (parts_of fields) left text h.entries h.bad told h.read) ∙ h.cause
+      let read = read_as (parts_of fields) left text h.entries h.bad told h.read in (
+        ap (λ (e : EventText). e.bad) read ∙ h.cause.0,
+        renamed (λ (s : Table) (n : ℕ) (l : List (List TreesData)). take (length (ranges_of c.pass.own)) l ≡ whole_chunks n l)
+            c.table t c.cluster p.cluster (chunks c.cluster h.entries) (text_chunks p.cluster fields text) (h.same.table ∙ is_table)
+            (h.same.cluster ∙ is_cluster) (chunks_are text h.entries h.bad h.same read) h.cause.1,
+      )
   ended_told left was is (Err (Limit error)) h text told =
       let read = read_as (parts_of fields) left text h.entries h.bad told h.read in
       let of : c.committer ≡ committer = h.same.committer ∙ is_committer in
-      subst (λ (b : TurnState (Birth D)). NextPasses b.birth.limits (state b.birth.begun).end t p.page
-      (text_chunks p.cluster fields text) c.pass.own c.pass.seen error) of
-      (renamed (λ (s : Table) (n : ℕ) (l : List (List TreesData)). NextPasses c.committer.birth.limits
-      (state c.committer.birth.begun).end s n l c.pass.own c.pass.seen error)
+      let size : c.cluster ≡ p.cluster = h.same.cluster ∙ is_cluster in
+      let bad : (read_events (parts_of fields) text).bad ≡ h.bad = ap (λ (e : EventText). e.bad) read in
+      subst (λ (b : TurnState (Birth D)). (next : NextPasses (book_of_birth state b.birth []) t p.page
+      (text_chunks p.cluster fields text) c.pass.own c.pass.seen error) × ((length next.chunk ≡ p.cluster)
+      ⊎ ((read_events (parts_of fields) text).bad ≡ None))) of
+      (subst (λ (n : ℕ). (next : NextPasses (book_of_birth state c.committer.birth []) t p.page
+      (text_chunks p.cluster fields text) c.pass.own c.pass.seen error) × ((length next.chunk ≡ n)
+      ⊎ ((read_events (parts_of fields) text).bad ≡ None))) size
+      (subst (λ (b : Option BadLine). (next : NextPasses (book_of_birth state c.committer.birth []) t p.page
+      (text_chunks p.cluster fields text) c.pass.own c.pass.seen error) × ((length next.chunk ≡ c.cluster) ⊎ (b ≡ None))) (sym bad)
+      (renamed (λ (s : Table) (n : ℕ) (l : List (List TreesData)). (next : NextPasses (book_of_birth state c.committer.birth []) s n l c.pass.own c.pass.seen error) × ((length next.chunk ≡ c.cluster) ⊎ (h.bad ≡ None)))
       c.table t c.page p.page (chunks c.cluster h.entries) (text_chunks p.cluster fields text) (h.same.table ∙ is_table) (h.same.page
-      ∙ is_page) (chunks_are text h.entries h.bad h.same read) h.cause)
+      ∙ is_page) (chunks_are text h.entries h.bad h.same read) h.cause)))
   ended_told left was is (Err Outside) h text told = tt
   ended_told left was is (Err Memory) h text told = tt
 

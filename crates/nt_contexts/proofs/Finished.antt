@@ -21,7 +21,6 @@ use Rattle.nt_machine.proofs.Rising.{rose}
 use Rattle.nt_machine.proofs.Untelling.{same, same_end}
 use Rattle.nt_book.specs.declared.meta.ClusterMeta.{ClusterMeta}
 use Rattle.nt_book.specs.Books.{BookData, book_clusters, book_end, no_cluster}
-use Rattle.nt_book.proofs.Ungrouped.{end-ungrouped}
 use Rattle.nt_logged.specs.Steps.{told_history}
 use Rattle.nt_commit.specs.declared.locked.Birth.{Birth}
 use Rattle.nt_commit.specs.Locked.{IsInStep, birth_of, context_of, history_of_locked, locked_by}
@@ -93,12 +92,6 @@ same-ranges None now history = refl
 same-ranges (Some h) None history = refl
 same-ranges (Some h) (Some h') history = same history _
 
-same-end : (place : ℕ) (begun now : Option Held) (history : List (Entry ClusterMeta))
-    → end_after place (ranges_of (told_history begun now history)) ≡ end_after place (ranges_of history)
-same-end place None now history = refl
-same-end place (Some h) None history = refl
-same-end place (Some h) (Some h') history = same_end place history _
-
 module _ {D : Type 0} (state : D → DiskState) (birth : Birth D) (disk : D) (book : BookData) (first : DiskPass D)
     (closes : Closes (history_of_locked state) birth_of context_of first (locked_by birth disk book)) (step : IsInStep state (locked_by
     birth disk book)) where
@@ -121,9 +114,7 @@ module _ {D : Type 0} (state : D → DiskState) (birth : Birth D) (disk : D) (bo
       own-rose last k.0 k.1 (All-at (λ (k : ℕ × List (Entry ClusterMeta)). k.1 ≡ mine_of history k.0) first.kept place k closes.kept at) f
 
   pub end-is : (state disk).end ≡ book_end book
-  end-is =
-      step.follows.end ∙ (same-end (state birth.begun).end (state birth.begun).held (state disk).held book.history
-      ∙ (ap (λ (n : ℕ). end_after n (ranges_of book.history)) (sym step.begin) ∙ sym (end-ungrouped book step.ungrouped)))
+  end-is = step.end
 
   pub short-is : AllByRecursion (λ (c : Cluster ClusterMeta). c.len ≤ birth.limits.range) (book_clusters book)
   short-is =

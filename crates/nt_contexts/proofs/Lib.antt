@@ -1,5 +1,6 @@
 pub mod Chunking
 mod Committing
+mod Wholes
 mod Writing
 pub mod Reading
 mod TakenLines

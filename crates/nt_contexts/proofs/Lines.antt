@@ -1,5 +1,5 @@
 -- How a context goes on from line to line, and how it ends.
-use Rattle.std.proofs.Common.{◌≡◌, inl, inr, ℕ, ◌<◌, ◌≤◌, true, List, [], ◌∷◌, ◌++◌, length, Option, Some, None, Result, Ok, Err, refl, sym}
+use Rattle.std.proofs.Common.{◌≡◌, ◌⊎◌, inl, inr, ℕ, ◌<◌, ◌≤◌, true, List, [], ◌∷◌, ◌++◌, length, take, Option, Some, None, Result, Ok, Err, refl, sym}
 use Rattle.std.proofs.Common.{ap, ◌∙◌, subst, append-nil, arith}
 use Rattle.std.specs.Io.KnownBytes.{IsAtEnd}
 use Rattle.nt_types.specs.ShapeData.{MembersData, MemberData}
@@ -9,7 +9,7 @@ use Rattle.nt_grammar.specs.Table.{Table}
 use Rattle.nt_outside.specs.Disk.{DiskState}
 use Rattle.nt_lists.specs.Chunks.{chunks}
 use Rattle.nt_machine.specs.declared.entry.Entry.{Entry}
-use Rattle.nt_machine.specs.History.{entries_of_chunk}
+use Rattle.nt_machine.specs.History.{entries_of_chunk, ranges_of}
 use Rattle.nt_machine.proofs.Dealing.{Wrote-snoc}
 use Rattle.nt_book.specs.declared.meta.ClusterMeta.{ClusterMeta}
 use Rattle.nt_event.specs.declared.lines.Line.{Line}
@@ -22,6 +22,7 @@ use Rattle.nt_fill.specs.Context.{gathered}
 use Rattle.nt_fill.specs.Flushes.{DiskContext}
 use Rattle.nt_dealing.specs.EventText.{BadLine}
 use Rattle.nt_dealing.specs.Written.{IsChunkBlob, WroteChunks}
+use Rattle.nt_dealing.specs.Failing.{whole_chunks}
 use Rattle.nt_contexts.specs.declared.error.ContextError.{ContextError}
 use Rattle.nt_contexts.specs.declared.error.ContextError.TheVariants.{Text, Limit, Outside, Memory}
 use Rattle.nt_contexts.specs.Reading.{GivesJust}
@@ -31,7 +32,8 @@ use Rattle.nt_contexts.specs.Running.{GoesOn, HasAll, IsCause, EndsEarly, error_
 use Rattle.nt_contexts.proofs.Reading.{read-blank, read-entry, read-bad, read-ahead, read-nothing, read-end, read-too_long}
 use Rattle.nt_contexts.proofs.Chunking.{chunks-full, chunks-none, chunks-last}
 use Rattle.nt_contexts.proofs.Committing.{committed-none}
-use Rattle.nt_contexts.proofs.Writing.{written_by, is_written, same_context, committed_written, taken_first}
+use Rattle.nt_contexts.proofs.Writing.{written_by, is_written, same_context, committed_written, taken_first, halts-such}
+use Rattle.nt_contexts.proofs.Wholes.{taken-whole}
 use Rattle.nt_contexts.proofs.TakenLines.{same-trans}
 
 module _ {D P : Type 0} (state : D → DiskState) (F : MembersData) (text : Option (List ℕ)) (start : DiskContext D P) where
@@ -87,32 +89,40 @@ module _ {D P : Type 0} (state : D → DiskState) (F : MembersData) (text : Opti
   ends_bad c was is line kind on read =
       ends_here c was was is (Text line kind) [] (Some (record { line = line; kind = kind })) on
       (subst (λ (l : List TreesData). GivesJust F text l (Some (record { line = line; kind = kind }))) (sym
-      (append-nil on.entries)) read) refl
+      (append-nil on.entries)) read) (
+        refl,
+        subst (λ (l : List TreesData). take (length (ranges_of c.pass.own)) (chunks c.cluster l)
+            ≡ whole_chunks c.cluster (chunks c.cluster l)) (sym (append-nil on.entries)) (taken-whole state on.entries c on.is_open.room on.taken),
+      )
 
   -- why a context wrote no more is why it ended
-  cause_of : (all : List (List TreesData)) (bad : Option BadLine) (was is : LinesState) (c : DiskContext D P) (error : ContextError)
-      → IsHalt state all c error
+  cause_of : (IsSuch : List TreesData → Type 0) (all : List (List TreesData)) (bad : Option BadLine) (was is : LinesState)
+      (c : DiskContext D P) (error : ContextError)
+      → ((chunk : List TreesData) → IsSuch chunk → (length chunk ≡ c.cluster) ⊎ (bad ≡ None)) → IsHalt state IsSuch all c error
       → IsCause state all bad was is c error
-  cause_of all bad was is c (Text line kind) h = absurd h
-  cause_of all bad was is c (Limit error) h = h
-  cause_of all bad was is c Outside h = inr h
-  cause_of all bad was is c Memory h = tt
+  cause_of IsSuch all bad was is c (Text line kind) such h = absurd h
+  cause_of IsSuch all bad was is c (Limit error) such h = (h.0, such h.0.chunk h.1)
+  cause_of IsSuch all bad was is c Outside such h = inr h
+  cause_of IsSuch all bad was is c Memory such h = tt
 
   -- a context that wrote no more of the chunks of these entries ends
-  pub ends_halted : (old new : DiskContext D P) (was is : LinesState) (error : ContextError) (entries : List TreesData)
-      (bad : Option BadLine) → IsSameContext start old
-      → GivesJust F text entries bad → Halts state (chunks old.cluster entries) old new error → EndsEarly state F text
+  pub ends_halted : (IsSuch : List TreesData → Type 0) (old new : DiskContext D P) (was is : LinesState) (error : ContextError)
+      (entries : List TreesData) (bad : Option BadLine)
+      → ((chunk : List TreesData) → IsSuch chunk → (length chunk ≡ old.cluster) ⊎ (bad ≡ None)) → IsSameContext start old
+      → GivesJust F text entries bad → Halts state IsSuch (chunks old.cluster entries) old new error → EndsEarly state F text
       start was is new error
-  ends_halted old new was is error entries bad same read halts =
-      let here : Halts state (chunks new.cluster entries) old new error =
-      subst (λ (n : ℕ). Halts state (chunks n entries) old new error) (sym halts.same.cluster) halts in
+  ends_halted IsSuch old new was is error entries bad such same read halts =
+      let here : Halts state IsSuch (chunks new.cluster entries) old new error =
+      subst (λ (n : ℕ). Halts state IsSuch (chunks n entries) old new error) (sym halts.same.cluster) halts in
+      let still : (chunk : List TreesData) → IsSuch chunk → (length chunk ≡ new.cluster) ⊎ (bad ≡ None) =
+      subst (λ (n : ℕ). (chunk : List TreesData) → IsSuch chunk → (length chunk ≡ n) ⊎ (bad ≡ None)) (sym halts.same.cluster) such in
       record {
         entries = entries;
         bad = bad;
         read = read;
         same = same-trans start old new same halts.same;
         committed = here.committed;
-        cause = cause_of (chunks new.cluster entries) bad was is new error here.halt;
+        cause = cause_of IsSuch (chunks new.cluster entries) bad was is new error still here.halt;
       }
 
   -- a line gave no entry
@@ -139,7 +149,8 @@ module _ {D P : Type 0} (state : D → DiskState) (F : MembersData) (text : Opti
   not_taken old new was is line error on next (inr h) =
       let read = read-entry F text on.entries was is line h.0 on.read next h.1.full h.1.is in
       let ahead = read-ahead F text (on.entries ++ h.0 ∷ []) is read in
-      ends_halted old new was is error ((on.entries ++ h.0 ∷ []) ++ ahead.0) ahead.1 on.same ahead.2 (h.2 ahead.0)
+      ends_halted (λ chunk. length chunk ≡ old.cluster) old new was is error ((on.entries ++ h.0 ∷ []) ++ ahead.0) ahead.1
+      (λ chunk whole. inl whole) on.same ahead.2 (h.2 ahead.0)
 
   -- no line was given
   pub not_given : (c : DiskContext D P) (was is : LinesState) (error : LineError) → GoesOn state F text start c was
@@ -198,8 +209,9 @@ module _ {D P : Type 0} (state : D → DiskState) where
         same_context state old new writes,
       )
   rest_written entries old new (Err error) some few taken writes =
-      subst (λ (l : List (List TreesData)). Halts state l old new error) (sym (last_chunk entries old some few taken))
-      (writes taken.full [] taken.committed)
+      subst (λ (l : List (List TreesData)). Halts state (λ chunk. Unit {0}) l old new error) (sym (last_chunk entries old some few taken))
+      (halts-such state (λ chunk. chunk ≡ gathered old) (λ chunk. Unit {0}) (taken.full ++ gathered old ∷ []) old new error (λ chunk is. tt)
+      (writes taken.full [] taken.committed))
 
 module _ {D P : Type 0} (state : D → DiskState) (F : MembersData) (text : Option (List ℕ)) (start : DiskContext D P) where
   -- no line was taken yet
@@ -231,7 +243,8 @@ module _ {D P : Type 0} (state : D → DiskState) (F : MembersData) (text : Opti
     same = same-trans start old
         new all.same h.1;
   }
-  ended_rest old new was is (Err error) all h = ends_halted state F text start old new was is error all.entries None all.same all.read h
+  ended_rest old new was is (Err error) all h =
+      ends_halted state F text start (λ chunk. Unit {0}) old new was is error all.entries None (λ chunk any. inr refl) all.same all.read h
 
   earlier : (all : List (List TreesData)) (bad : Option BadLine) (c : DiskContext D P) (was mid is : LinesState) (error : ContextError)
       → was.faults ≤ mid.faults

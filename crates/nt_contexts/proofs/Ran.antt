@@ -1,5 +1,5 @@
 -- What contexts leave once they ran: seat by seat, and all together.
-use Rattle.std.proofs.Common.{◌≡◌, ◌⊎◌, inl, inr, ℕ, zero, suc, ◌+◌, ◌<◌, ◌≤◌, List, [], ◌∷◌, ◌++◌, length, map, Option, Some, None, refl}
+use Rattle.std.proofs.Common.{◌≡◌, ◌⊎◌, inl, inr, ℕ, zero, suc, ◌+◌, ◌<◌, ◌≤◌, List, [], ◌∷◌, ◌++◌, length, map, take, append_assoc, Option, Some, None, refl}
 use Rattle.std.proofs.Common.{sym, ap, ◌∙◌, subst, arith, Result, Ok, Err}
 use Rattle.std.specs.Prelude.{slice_get, slice_index_or, All}
 use Rattle.std.specs.List.{AllByRecursion}
@@ -13,15 +13,18 @@ use Rattle.nt_outside.specs.Source.{SourceState}
 use Rattle.nt_turn.specs.History.{HasNone}
 use Rattle.nt_turn.specs.Pass.{TurnState}
 use Rattle.nt_machine.specs.declared.entry.Entry.{Entry}
+use Rattle.nt_machine.specs.History.{ranges_of}
 use Rattle.nt_book.specs.declared.limits.LimitError.{LimitError}
 use Rattle.nt_book.specs.declared.limits.LimitError.TheVariants as limit
 use Rattle.nt_book.specs.declared.meta.ClusterMeta.{ClusterMeta}
 use Rattle.nt_book.specs.declared.params.Params.{Params}
 use Rattle.nt_commit.specs.declared.locked.Birth.{Birth}
+use Rattle.nt_commit.specs.Locked.{book_of_birth}
 use Rattle.nt_commit.specs.Holds.{HasNoneOut}
 use Rattle.nt_event.specs.Lines.{LinesState}
 use Rattle.nt_event.specs.declared.fault.TextKind.{TextKind}
-use Rattle.nt_dealing.specs.Texts.{events_of, text_chunks, chunks_of, AreSound, IsFirstBad}
+use Rattle.nt_dealing.specs.Texts.{events_of, text_chunks, chunks_of, joined_chunks, AreSound, IsFirstBad}
+use Rattle.nt_dealing.specs.Failing.{whole_chunks, chunks_before, committed_chunks}
 use Rattle.nt_dealing.specs.Written.{WroteChunks, CommittedFirst, AllWroteFrom, AllCommittedFrom}
 use Rattle.nt_dealing.specs.Limits.{NextPasses}
 use Rattle.nt_contexts.specs.declared.error.ContextError.{ContextError}
@@ -69,11 +72,31 @@ not-line clusters input line kind (limit.RangeTooLarge len most) e = cc
 not-line clusters input line kind (limit.FileTooLarge end most) e = cc
 not-line clusters input line kind limit.TooManyClusters e = cc
 
--- the first bad line of texts whose numbers go on from this one
-pub record BadFrom (fields : List MemberData) (i : ℕ) (texts : List (List ℕ)) (input line : ℕ) (kind : TextKind) : Type 0 where
+-- all chunks of contexts before a place were committed, and then these, whatever others were
+pub record Before (chunks : List (List (List TreesData))) (kept : Kept) (place : ℕ) (own : List (List TreesData)) : Type 0 where
+  pub others : List (List TreesData)
+  pub are : committed_chunks chunks kept ≡ chunks_before chunks place own ++ others
+
+-- one context more committed all its chunks
+before-more : (cs : List (List TreesData)) (css : List (List (List TreesData))) (k : ℕ × List (Entry ClusterMeta)) (kept : Kept) (place : ℕ)
+    (own : List (List TreesData)) → take (length (ranges_of k.1)) cs ≡ cs → Before css kept place own
+    → Before (cs ∷ css) (k ∷ kept) (suc place) own
+before-more cs css k kept place own all b =
+    let lower = joined_chunks (take place css) in
+    record {
+      others = b.others;
+      are = (λ i. all i ++ b.are i)
+          ∙ (sym (append_assoc cs (lower ++ own) b.others)
+          ∙ ap (λ (l : List (List TreesData)). l ++ b.others) (sym (append_assoc cs lower own)));
+    }
+
+-- the first bad line of texts whose numbers go on from this one, and what was committed before it
+pub record BadFrom (fields : List MemberData) (p : Params) (i : ℕ) (texts : List (List ℕ)) (kept : Kept) (input line : ℕ) (kind : TextKind)
+    : Type 0 where
   pub place : ℕ
   pub number : input ≡ i + place
   pub bad : IsFirstBad fields texts place line kind
+  pub before : Before (chunks_of p.cluster fields texts) kept place (whole_chunks p.cluster (text_chunks p.cluster fields bad.text))
 
 -- the next chunk of one of these contexts passes a limit, behind what was seen
 pub record PassesFrom {D : Type 0} (state : D → DiskState) (fields : List MemberData) (t : Table) (p : Params) (committer : TurnState
@@ -81,12 +104,26 @@ pub record PassesFrom {D : Type 0} (state : D → DiskState) (fields : List Memb
   pub error : LimitError
   pub names : Limit reached most ≡ limit_told clusters error
   pub place : ℕ
+  pub text : List ℕ
+  pub text_is : slice_get texts place ≡ Some text
+  pub lower : (j : ℕ) (other : List ℕ) → j < place → slice_get texts j ≡ Some other → (events_of fields other).bad ≡ None
   pub own : List (Entry ClusterMeta)
-  pub before : List (Entry ClusterMeta)
+  pub mine : List (Entry ClusterMeta)
   pub at : slice_get kept place ≡ Some (i + place, own)
-  pub begins : IsPrefix before seen
-  pub passes : NextPasses committer.birth.limits (state committer.birth.begun).end t p.page (slice_index_or (chunks_of p.cluster fields
-      texts) place []) own before error
+  pub begins : IsPrefix mine seen
+  pub passes : NextPasses (book_of_birth state committer.birth []) t p.page (slice_index_or (chunks_of p.cluster fields
+      texts) place []) own mine error
+  pub is_written : (length passes.chunk ≡ p.cluster) ⊎ ((events_of fields text).bad ≡ None)
+  pub before : Before (chunks_of p.cluster fields texts) kept place (take (length (ranges_of own)) (text_chunks p.cluster fields text))
+
+-- no text before this place has a bad line, and the first has none
+lower-more : (fields : List MemberData) (place : ℕ) (text : List ℕ) (texts : List (List ℕ)) → (events_of fields text).bad ≡ None
+    → ((j : ℕ) (other : List ℕ) → j < place → slice_get texts j ≡ Some other → (events_of fields other).bad ≡ None)
+    → (j : ℕ) (other : List ℕ) → j < suc place → slice_get (text ∷ texts) j ≡ Some other → (events_of fields other).bad ≡ None
+lower-more fields place text texts sound lower zero other less at =
+    let same : text ≡ other = cc in
+    subst (λ (l : List ℕ). (events_of fields l).bad ≡ None) same sound
+lower-more fields place text texts sound lower (suc j) other less at = lower j other (omega (arith, less)) at
 
 module _ {D S P : Type 0} (state : D → DiskState) (fields : List MemberData) (t : Table) (p : Params) (committer : TurnState (Birth D))
     (source : S → SourceState) where
@@ -261,13 +298,19 @@ module _ {D S P : Type 0} (state : D → DiskState) (fields : List MemberData) (
         run-committed (i + 1) states xs texts run.1 rest,
       )
 
-  -- where all ended well, each text is sound and its chunks were written
+  -- a context that ended well committed all its chunks
+  all-taken : (i : ℕ) (s : SourceState) (seat : Seat S (DiskPass D) P) (r : IsRun i s seat) (cs : List (List TreesData))
+      → take (length (ranges_of r.pass.own)) cs ≡ cs → take (length (ranges_of (kept_by seat.pass).1)) cs ≡ cs
+  all-taken i s seat r cs all =
+      subst (λ (k : ℕ × List (Entry ClusterMeta)). take (length (ranges_of k.1)) cs ≡ cs) (sym (kept-is i s seat r)) all
+
+  -- where all ended well, each text is sound and its chunks were written, and no others
   pub run-sound : (clusters i : ℕ) (states : List SourceState) (seats : List (Seat S (DiskPass D) P)) (texts : List (List ℕ))
       → AreRun i states seats → TellTexts states texts
       → answer_from clusters i seats ≡ Ok tt
       → AreSound fields texts × AllWroteFrom (state committer.birth.begun).held t p.page i (chunks_of p.cluster fields texts) (all_kept
-      seats)
-  run-sound clusters i [] [] [] run tell is = (tt, tt)
+      seats) × Before (chunks_of p.cluster fields texts) (all_kept seats) (length texts) []
+  run-sound clusters i [] [] [] run tell is = (tt, tt, record { others = []; are = refl })
   run-sound clusters i [] [] (text ∷ texts) run tell is = cc
   run-sound clusters i [] (x ∷ xs) texts run tell is = absurd run
   run-sound clusters i (s ∷ states) [] texts run tell is = absurd run
@@ -279,11 +322,11 @@ module _ {D S P : Type 0} (state : D → DiskState) (fields : List MemberData) (
     where
       by : (answer_from clusters (i + 1) xs ≡ Ok tt
           → AreSound fields texts × AllWroteFrom (state committer.birth.begun).held t p.page (i + 1) (chunks_of p.cluster fields texts)
-          (all_kept xs))
+          (all_kept xs) × Before (chunks_of p.cluster fields texts) (all_kept xs) (length texts) [])
           → (e : Result Unit ContextError) → EndsTold state fields t p committer run.0.pass text e
           → answer_of clusters i e (answer_from clusters (i + 1) xs) ≡ Ok tt
           → AreSound fields (text ∷ texts) × AllWroteFrom (state committer.birth.begun).held t p.page i (chunks_of p.cluster fields
-          (text ∷ texts)) (all_kept (x ∷ xs))
+          (text ∷ texts)) (all_kept (x ∷ xs)) × Before (chunks_of p.cluster fields (text ∷ texts)) (all_kept (x ∷ xs)) (suc (length texts)) []
       by later (Ok done) told is =
           let more = later is in
           let kept = kept-is i s x run.0 in
@@ -291,14 +334,18 @@ module _ {D S P : Type 0} (state : D → DiskState) (fields : List MemberData) (
           subst (λ (k : ℕ × List (Entry ClusterMeta)). WroteChunks (state committer.birth.begun).held t p.page i (text_chunks p.cluster
           fields text) k.1) (sym kept)
           (subst (λ (n : ℕ). WroteChunks (state committer.birth.begun).held t p.page n (text_chunks p.cluster fields text)
-          run.0.pass.own) run.0.number_is told.1) in
-          ((told.0, more.0), (ap (λ (k : ℕ × List (Entry ClusterMeta)). k.0) kept, wrote, more.1))
+          run.0.pass.own) run.0.number_is told.1) in (
+            (told.0, more.0),
+            (ap (λ (k : ℕ × List (Entry ClusterMeta)). k.0) kept, wrote, more.1),
+            before-more (text_chunks p.cluster fields text) (chunks_of p.cluster fields texts) (kept_by x.pass) (all_kept xs)
+                (length texts) [] (all-taken i s x run.0 (text_chunks p.cluster fields text) told.2) more.2,
+          )
       by later (Err e) told is = cc
 
   pub run-bad : (clusters i : ℕ) (states : List SourceState) (seats : List (Seat S (DiskPass D) P)) (texts : List (List ℕ)) (input line
       : ℕ) (kind : TextKind)
       → AreRun i states seats → TellTexts states texts → answer_from clusters i seats ≡ Err (Line input line kind)
-      → BadFrom fields i texts input line kind
+      → BadFrom fields p i texts (all_kept seats) input line kind
   run-bad clusters i [] [] texts input line kind run tell is = cc
   run-bad clusters i [] (x ∷ xs) texts input line kind run tell is = absurd run
   run-bad clusters i (s ∷ states) [] texts input line kind run tell is = absurd run
@@ -308,24 +355,24 @@ module _ {D S P : Type 0} (state : D → DiskState) (fields : List MemberData) (
       let here : s.left ≡ Some text = cc in
       by (run-bad clusters (i + 1) states xs texts input line kind run.1 rest) x.ended (run.0.told text here) is
     where
-      lower : (b : BadFrom fields (i + 1) texts input line kind) → (events_of fields text).bad ≡ None → (j : ℕ) (other : List ℕ)
-          → j < suc b.place
-          → slice_get (text ∷ texts) j ≡ Some other → (events_of fields other).bad ≡ None
-      lower b sound zero other less at =
-          let same : text ≡ other = cc in
-          subst (λ (l : List ℕ). (events_of fields l).bad ≡ None) same sound
-      lower b sound (suc j) other less at = b.bad.lower j other (omega arith) at
-
-      by : (answer_from clusters (i + 1) xs ≡ Err (Line input line kind) → BadFrom fields (i + 1) texts input line kind)
+      by : (answer_from clusters (i + 1) xs ≡ Err (Line input line kind) → BadFrom fields p (i + 1) texts (all_kept xs) input line kind)
           → (e : Result Unit ContextError) → EndsTold state fields t p committer run.0.pass text e
           → answer_of clusters i e (answer_from clusters (i + 1) xs) ≡ Err (Line input line kind)
-          → BadFrom fields i (text ∷ texts) input line kind
+          → BadFrom fields p i (text ∷ texts) (all_kept (x ∷ xs)) input line kind
       by later (Ok done) told is =
           let b = later is in
           record {
             place = suc b.place;
             number = omega (arith, b.number);
-            bad = record { text = b.bad.text; at = b.bad.at; bad = b.bad.bad; lower = lower b told.0 };
+            bad = record {
+              text = b.bad.text;
+              at = b.bad.at;
+              bad = b.bad.bad;
+              lower = lower-more fields b.place text texts told.0 b.bad.lower;
+            };
+            before = before-more (text_chunks p.cluster fields text) (chunks_of p.cluster fields texts) (kept_by x.pass) (all_kept xs) b.place
+                (whole_chunks p.cluster (text_chunks p.cluster fields b.bad.text))
+                (all-taken i s x run.0 (text_chunks p.cluster fields text) told.2) b.before;
           }
       by later (Err (context.Text at what)) told is =
           let number : i ≡ input = cc in
@@ -337,9 +384,15 @@ module _ {D S P : Type 0} (state : D → DiskState) (fields : List MemberData) (
             bad = record {
               text = text;
               at = refl;
-              bad = told ∙ (ap (λ (n : ℕ). Some (record { line = n; kind = what })) lines
+              bad = told.0 ∙ (ap (λ (n : ℕ). Some (record { line = n; kind = what })) lines
                   ∙ ap (λ (k : TextKind). Some (record { line = line; kind = k })) kinds);
               lower = λ j other less at. absurd (omega arith);
+            };
+            before = record {
+              others = committed_chunks (chunks_of p.cluster fields texts) (all_kept xs);
+              are = ap (λ (l : List (List TreesData)). l ++ committed_chunks (chunks_of p.cluster fields texts) (all_kept xs))
+                  (ap (λ (k : ℕ × List (Entry ClusterMeta)). take (length (ranges_of k.1)) (text_chunks p.cluster fields text))
+                  (kept-is i s x run.0) ∙ told.1);
             };
           }
       by later (Err (context.Limit error)) told is = absurd (not-line clusters input line kind error (cc (is)))
@@ -372,11 +425,18 @@ module _ {D S P : Type 0} (state : D → DiskState) (fields : List MemberData) (
             error = b.error;
             names = b.names;
             place = suc b.place;
+            text = b.text;
+            text_is = b.text_is;
+            lower = lower-more fields b.place text texts told.0 b.lower;
             own = b.own;
-            before = b.before;
+            mine = b.mine;
             at = b.at ∙ ap (λ (n : ℕ). Some (n, b.own)) number;
             begins = b.begins;
             passes = b.passes;
+            is_written = b.is_written;
+            before = before-more (text_chunks p.cluster fields text) (chunks_of p.cluster fields texts) (kept_by x.pass) (all_kept xs) b.place
+                (take (length (ranges_of b.own)) (text_chunks p.cluster fields b.text))
+                (all-taken i s x run.0 (text_chunks p.cluster fields text) told.2) b.before;
           }
       by later (Err (context.Text line kind)) told is = cc
       by later (Err (context.Limit error)) told is =
@@ -385,11 +445,21 @@ module _ {D S P : Type 0} (state : D → DiskState) (fields : List MemberData) (
             error = error;
             names = cc (is);
             place = 0;
+            text = text;
+            text_is = refl;
+            lower = λ j other less at. absurd (omega (arith, less));
             own = run.0.pass.own;
-            before = run.0.pass.seen;
+            mine = run.0.pass.seen;
             at = ap (λ (k : ℕ × List (Entry ClusterMeta)). Some k) (kept-is i s x run.0) ∙ ap (λ (n : ℕ). Some (n, run.0.pass.own)) number;
             begins = saw.0 run.0.pass run.0.there;
-            passes = told;
+            passes = told.0;
+            is_written = told.1;
+            before = record {
+              others = committed_chunks (chunks_of p.cluster fields texts) (all_kept xs);
+              are = ap (λ (l : List (List TreesData)). l ++ committed_chunks (chunks_of p.cluster fields texts) (all_kept xs))
+                  (ap (λ (k : ℕ × List (Entry ClusterMeta)). take (length (ranges_of k.1)) (text_chunks p.cluster fields text))
+                  (kept-is i s x run.0));
+            };
           }
       by later (Err context.Outside) told is = cc
       by later (Err context.Memory) told is = cc

@@ -1,5 +1,5 @@
 -- What a context has taken after a line.
-use Rattle.std.proofs.Common.{◌≡◌, inr, ℕ, ◌+◌, false, List, [], ◌∷◌, ◌++◌, Result, Ok, Err, sym, ap, ◌∙◌, subst, append_assoc}
+use Rattle.std.proofs.Common.{◌≡◌, inr, ℕ, ◌+◌, false, List, [], ◌∷◌, ◌++◌, length, Result, Ok, Err, sym, ap, ◌∙◌, subst, append_assoc}
 use Rattle.std.specs.List.{flat_map}
 use Rattle.nt_types.specs.ShapeData.{MembersData}
 use Rattle.nt_types.specs.TreeData.{TreesData}
@@ -74,7 +74,8 @@ module _ {D P : Type 0} where
       record { full = full; is = is },
       λ rest.
           let same = gathers-same entry old mid h in
-          let halts : Halts state (chunks old.cluster ((entries ++ entry ∷ []) ++ rest)) mid new error =
-          subst (λ (n : ℕ). Halts state (chunks n ((entries ++ entry ∷ []) ++ rest)) mid new error) same.cluster (w rest) in
+          let halts : Halts state (λ chunk. length chunk ≡ old.cluster) (chunks old.cluster ((entries ++ entry ∷ []) ++ rest)) mid new error =
+          subst (λ (n : ℕ). Halts state (λ chunk. length chunk ≡ n) (chunks n ((entries ++ entry ∷ []) ++ rest)) mid new error) same.cluster
+          (w rest) in
           record { same = same-trans old mid new same halts.same; committed = halts.committed; halt = halts.halt },
     )

@@ -1,8 +1,9 @@
 -- What contexts did to the disk, the book and their sources, by what the first pass keeps of them.
-use Rattle.std.proofs.Common.{◌≡◌, ◌⊎◌, inl, inr, ℕ, ◌+◌, ◌≤◌, List, [], ◌∷◌, length, take, refl, sym, ap, ◌∙◌, subst, append-nil, arith}
+use Rattle.std.proofs.Common.{◌≡◌, ◌⊎◌, inl, inr, ℕ, zero, suc, ◌+◌, ◌≤◌, Some, List, [], ◌∷◌, length, take, refl, sym, ap, ◌∙◌, subst, append-nil, arith}
 use Rattle.std.proofs.Common.{replicate, Result, Ok, Err}
 use Rattle.std.specs.List.{AllByRecursion}
-use Rattle.std.proofs.lemmas.List.{length-replicate}
+use Rattle.std.specs.Prelude.{slice_get, slice_index_or}
+use Rattle.std.proofs.lemmas.List.{length-map, length-replicate, take_all}
 use Rattle.std.proofs.lemmas.Slice.Zip.{AllZip-long}
 use Rattle.nt_types.specs.ShapeData.{MemberData}
 use Rattle.nt_types.specs.TreeData.{TreesData}
@@ -31,33 +32,58 @@ use Rattle.nt_commit.specs.Locked.{birth_with}
 use Rattle.nt_layout.specs.Headers.{clusters_place}
 use Rattle.nt_close.specs.Beginning.{new_book}
 use Rattle.nt_dealing.specs.Dealt.{FillsBehind}
-use Rattle.nt_dealing.specs.Texts.{all_chunks}
+use Rattle.nt_dealing.specs.Texts.{text_chunks, chunks_of, joined_chunks, all_chunks}
 use Rattle.nt_dealing.specs.Limits.{IsOver, IsOverBy}
+use Rattle.nt_dealing.specs.Failing.{whole_chunks, chunks_before, CommitsFit, ChunkPasses, ChunkPassesBy}
+use Rattle.nt_dealing.proofs.Fitting.{front-fits}
 use Rattle.nt_contexts.specs.Seats.{DiskPass}
 use Rattle.nt_contexts.specs.declared.error.RunError.{RunError}
 use Rattle.nt_contexts.specs.declared.error.RunError.TheVariants.{Outside, Memory, Line, Limit}
 use Rattle.nt_contexts.specs.Answers.{limit_told}
 use Rattle.nt_contexts.specs.Contexts.{SomeRose, ContextsTold, IsReady, RunsContexts}
-use Rattle.nt_contexts.specs.Working.{KeepsFaults, WorkTold, HasWorked}
+use Rattle.nt_contexts.specs.Working.{KeepsFaults, CommittedBefore, WorkTold, HasWorked}
 use Rattle.nt_contexts.specs.Seating.{IsLettingIn, MayWork}
 use Rattle.nt_contexts.proofs.Opens.{same-later}
 use Rattle.nt_contexts.specs.Ending.{IsBornFor, HasEnded}
 
+-- what holds of one pair of numbers holds of the same pair
+named : (t : Table) (p : Params) (chunks : List (List TreesData)) (chunk : List TreesData) (one two reached most : ℕ) → one ≡ reached
+    → two ≡ most → IsOver t p chunks one two × ChunkPasses t p chunk one two
+    → IsOver t p chunks reached most × ChunkPasses t p chunk reached most
+named t p chunks chunk one two reached most first second over =
+    subst (λ (n : ℕ). IsOver t p chunks n most × ChunkPasses t p chunk n most) first
+    (subst (λ (n : ℕ). IsOver t p chunks one n × ChunkPasses t p chunk one n) second over)
+
 -- the limit that an error names is the one that is told
-over-told : (t : Table) (p : Params) (chunks : List (List TreesData)) (reached most : ℕ) (error : LimitError)
-    → Limit reached most ≡ limit_told p.limits.clusters error → IsOverBy t p chunks error → IsOver t p chunks reached most
-over-told t p chunks reached most (limit.RangeTooLarge len range) is over =
+over-told : (t : Table) (p : Params) (chunks : List (List TreesData)) (chunk : List TreesData) (reached most : ℕ) (error : LimitError)
+    → Limit reached most ≡ limit_told p.limits.clusters error → IsOverBy t p chunks error × ChunkPassesBy t p chunk error
+    → IsOver t p chunks reached most × ChunkPasses t p chunk reached most
+over-told t p chunks chunk reached most (limit.RangeTooLarge len range) is over =
     let one : len ≡ reached = cc in
     let two : range ≡ most = cc in
-    subst (λ (n : ℕ). IsOver t p chunks n most) one (subst (λ (n : ℕ). IsOver t p chunks len n) two over)
-over-told t p chunks reached most (limit.FileTooLarge end file) is over =
+    named t p chunks chunk len range reached most one two over
+over-told t p chunks chunk reached most (limit.FileTooLarge end file) is over =
     let one : end ≡ reached = cc in
     let two : file ≡ most = cc in
-    subst (λ (n : ℕ). IsOver t p chunks n most) one (subst (λ (n : ℕ). IsOver t p chunks end n) two over)
-over-told t p chunks reached most limit.TooManyClusters is over =
+    named t p chunks chunk end file reached most one two over
+over-told t p chunks chunk reached most limit.TooManyClusters is over =
     let one : p.limits.clusters + 1 ≡ reached = cc in
     let two : p.limits.clusters ≡ most = cc in
-    subst (λ (n : ℕ). IsOver t p chunks n most) one (subst (λ (n : ℕ). IsOver t p chunks (p.limits.clusters + 1) n) two over)
+    named t p chunks chunk (p.limits.clusters + 1) p.limits.clusters reached most one two over
+
+-- the chunks of a text stand at its place
+chunks-at : (most place : ℕ) (fields : List MemberData) (texts : List (List ℕ)) (text : List ℕ) → slice_get texts place ≡ Some text
+    → slice_index_or (chunks_of most fields texts) place [] ≡ text_chunks most fields text
+chunks-at most place fields [] text is = cc
+chunks-at most zero fields (x ∷ texts) text is =
+    let same : x ≡ text = cc in
+    ap (λ (l : List ℕ). text_chunks most fields l) same
+chunks-at most (suc place) fields (x ∷ texts) text is = chunks-at most place fields texts text is
+
+-- all chunks are those of all texts
+all-before : (css : List (List (List TreesData))) (n : ℕ) → length css ≡ n → chunks_before css n [] ≡ joined_chunks css
+all-before css n long =
+    append-nil (joined_chunks (take n css)) ∙ ap (λ (l : List (List (List TreesData))). joined_chunks l) (take_all n css (omega (arith, long)))
 
 module _ {D : Type 0} (state : D → DiskState) (fields : List MemberData) (t : Table) (p : Params) (committer : TurnState (Birth D)) where
   abbrev begun : DiskState
@@ -89,13 +115,45 @@ module _ {D : Type 0} (state : D → DiskState) (fields : List MemberData) (t : 
       blame (inl rose) = inr rose
       blame (inr kept) = inl (ended.blamed kept)
 
+      fit-before : (texts : List (List ℕ)) (place : ℕ) (own : List (List TreesData))
+          → CommittedBefore state fields t p committer texts first place own
+          → CommitsFit t p (chunks_before (chunks_of p.cluster fields texts) place own)
+      fit-before texts place own b =
+          front-fits t p (chunks_before (chunks_of p.cluster fields texts) place own) b.others
+          (subst (λ (l : List (List TreesData)). CommitsFit t p l) b.are (ended.fit t p (chunks_of p.cluster fields texts) born b.have))
+
       tell-all : (texts : List (List ℕ)) (r : Result Unit RunError) → WorkTold state fields t p committer texts first r
           → ContextsTold t fields p texts begun (state disk) book r
-      tell-all texts (Ok done) w = (w.0, (ended.dealt t p.page _ w.1).0)
-      tell-all texts (Err (Line input line kind)) w = w
+      tell-all texts (Ok done) w =
+          let chunks = chunks_of p.cluster fields texts in (
+            w.0,
+            (ended.dealt t p.page _ w.1).0,
+            subst (λ (l : List (List TreesData)). CommitsFit t p l)
+                (all-before chunks (length texts) (length-map texts (text_chunks p.cluster fields)))
+                (fit-before texts (length texts) [] w.2),
+          )
+      tell-all texts (Err (Line input line kind)) w =
+          record {
+            first = w.bad;
+            fit = fit-before texts input (whole_chunks p.cluster (text_chunks p.cluster fields w.bad.text)) w.before;
+          }
       tell-all texts (Err (Limit reached most)) w =
-          over-told t p (all_chunks p.cluster fields texts) reached most w.error w.names
-          (ended.over fields t p texts w.place w.own w.seen w.error rules rows born w.committed w.at w.before w.passes)
+          let over = over-told t p (all_chunks p.cluster fields texts) w.passes.chunk reached most w.error w.names
+          (ended.over fields t p texts w.place w.own w.seen w.error rules rows born w.before.have w.at w.begins w.passes) in
+          record {
+            input = w.place;
+            text = w.text;
+            at = w.text_is;
+            lower = w.lower;
+            number = length (ranges_of w.own);
+            chunk = w.passes.chunk;
+            is_next = ap (λ (l : List (List TreesData)). slice_get l (length (ranges_of w.own)))
+                (sym (chunks-at p.cluster w.place fields texts w.text w.text_is)) ∙ w.passes.at;
+            is_written = w.is_written;
+            fit = fit-before texts w.place (take (length (ranges_of w.own)) (text_chunks p.cluster fields w.text)) w.before;
+            passes = over.1;
+            over = over.0;
+          }
       tell-all texts (Err Outside) w = tt
       tell-all texts (Err Memory) w = tt
 

@@ -1,5 +1,5 @@
 -- All contexts were joined: what the first pass keeps of them, and what is known by the answer.
-use Rattle.std.proofs.Common.{◌≡◌, ◌⊎◌, inl, inr, ℕ, ◌≤◌, List, [], ◌++◌, length, map, refl, sym, ap, ◌∙◌, subst, arith, Option, Some}
+use Rattle.std.proofs.Common.{◌≡◌, ◌⊎◌, inl, inr, ℕ, ◌≤◌, List, [], ◌++◌, length, take, map, refl, sym, ap, ◌∙◌, subst, arith, Option, Some}
 use Rattle.std.proofs.Common.{Result, Ok, Err}
 use Rattle.std.proofs.lemmas.List.{length-map}
 use Rattle.std.specs.Prelude.{slice_get}
@@ -13,12 +13,13 @@ use Rattle.nt_outside.specs.declared.fault.Refused.{Refused}
 use Rattle.nt_outside.specs.declared.fault.Refused.TheVariants as refused
 use Rattle.nt_turn.specs.Pass.{TurnState, AllJoined}
 use Rattle.nt_machine.specs.declared.entry.Entry.{Entry}
-use Rattle.nt_machine.specs.History.{IsIdle}
+use Rattle.nt_machine.specs.History.{IsIdle, ranges_of}
 use Rattle.nt_book.specs.declared.meta.ClusterMeta.{ClusterMeta}
 use Rattle.nt_book.specs.declared.params.Params.{Params}
 use Rattle.nt_commit.specs.declared.locked.Birth.{Birth}
 use Rattle.nt_commit.specs.Holds.{HasNoneOut, AreAllIn}
-use Rattle.nt_dealing.specs.Texts.{text_chunks, chunks_of, IsFirstBad}
+use Rattle.nt_dealing.specs.Texts.{text_chunks, chunks_of}
+use Rattle.nt_dealing.specs.Failing.{whole_chunks, committed_chunks}
 use Rattle.nt_dealing.specs.Written.{AllWroteFrom, AllCommittedFrom, HaveWritten, HaveCommitted}
 use Rattle.nt_contexts.specs.declared.seats.Seat.{Seat}
 use Rattle.nt_contexts.specs.Filling.{HaveFaults}
@@ -28,10 +29,10 @@ use Rattle.nt_contexts.specs.declared.error.RunError.TheVariants.{Outside, Memor
 use Rattle.nt_contexts.specs.Contexts.{TellTexts, SomeRose, AreLater}
 use Rattle.nt_contexts.specs.Answers.{refusal_told, answer_from}
 use Rattle.nt_contexts.specs.Seating.{kept_by, all_kept, seat_sources, HasBeenSeen, IsLettingIn, HasLetIn, LeaveAll, TurnsBack, AreNewSeats}
-use Rattle.nt_contexts.specs.Working.{KeepsFaults, WorkTold, HasWorked, HaveRun}
+use Rattle.nt_contexts.specs.Working.{KeepsFaults, CommittedBefore, StopsAtLine, WorkTold, HasWorked, HaveRun}
 use Rattle.nt_contexts.specs.Working.KeepsFaults.{of_first, of_kept}
 use Rattle.nt_contexts.proofs.Opens.{same-later}
-use Rattle.nt_contexts.proofs.Ran.{AreNumbered, numbered-joined, SomeFaulty, run-numbered, run-none_out, run-later, run-count, run-blamed}
+use Rattle.nt_contexts.proofs.Ran.{AreNumbered, Before, numbered-joined, SomeFaulty, run-numbered, run-none_out, run-later, run-count, run-blamed}
 use Rattle.nt_contexts.proofs.Ran.{run-wrote, run-committed, run-sound, run-bad, run-passes, new-numbered, new-none_out, new-later}
 
 abbrev Kept : Type 0
@@ -107,29 +108,47 @@ module _ {D S P : Type 0} (state : D → DiskState) (fields : List MemberData) (
     blames (inl rose) = inl rose
     blames (inr f) = inr (faults-kept f)
 
+    -- what contexts committed before a place
+    before : (texts : List (List ℕ)) → TellTexts states texts → (place : ℕ) (own : List (List TreesData))
+        → Before (chunks_of p.cluster fields texts) (all_kept seats) place own
+        → CommittedBefore state fields t p committer texts new place own
+    before texts tell place own b = record {
+      have = have-committed (chunks_of p.cluster fields texts) (texts-long texts tell)
+          (run-committed state fields t p committer source 0 states seats texts run tell);
+      others = b.others;
+      are = ap (λ (l : Kept). committed_chunks (chunks_of p.cluster fields texts) l) (ap (λ (f : DiskPass D). f.kept) now) ∙ b.are;
+    }
+
     work-told : (texts : List (List ℕ)) → TellTexts states texts → AllByRecursion (HasBeenSeen new.seen) seats
         → (answer : Result Unit RunError)
         → answer_from p.limits.clusters 0 seats ≡ answer → WorkTold state fields t p committer texts new answer
     work-told texts tell saw (Ok done) is =
         let sound = run-sound state fields t p committer source p.limits.clusters 0 states seats texts run tell is in
-        (sound.0, have-written (chunks_of p.cluster fields texts) (texts-long texts tell) sound.1)
+        (sound.0, have-written (chunks_of p.cluster fields texts) (texts-long texts tell) sound.1, before texts tell (length texts) [] sound.2)
     work-told texts tell saw (Err (Line input line kind)) is =
         let b = run-bad state fields t p committer source p.limits.clusters 0 states seats texts input line kind run tell is in
-        subst (λ (i : ℕ). IsFirstBad fields texts i line kind) (sym (b.number ∙ omega arith)) b.bad
+        subst (λ (i : ℕ). StopsAtLine state fields t p committer texts new i line kind) (sym (b.number ∙ omega arith))
+        (record {
+          bad = b.bad;
+          before = before texts tell b.place (whole_chunks p.cluster (text_chunks p.cluster fields b.bad.text)) b.before;
+        })
     work-told texts tell saw (Err (Limit reached most)) is =
         let b = run-passes state fields t p committer source p.limits.clusters 0 states seats texts new.seen reached most run tell saw is in
         record {
           error = b.error;
           names = b.names;
           place = b.place;
+          text = b.text;
+          text_is = b.text_is;
+          lower = b.lower;
           own = b.own;
-          seen = b.before;
+          seen = b.mine;
           at = ap (λ (l : Kept). slice_get l b.place) (ap (λ (f : DiskPass D). f.kept) now) ∙ (b.at
               ∙ ap (λ (i : ℕ). Some (i, b.own)) (omega arith));
-          before = b.begins;
+          begins = b.begins;
           passes = b.passes;
-          committed = have-committed (chunks_of p.cluster fields texts) (texts-long texts tell)
-              (run-committed state fields t p committer source 0 states seats texts run tell);
+          is_written = b.is_written;
+          before = before texts tell b.place (take (length (ranges_of b.own)) (text_chunks p.cluster fields b.text)) b.before;
         }
     work-told texts tell saw (Err Outside) is = tt
     work-told texts tell saw (Err Memory) is = tt

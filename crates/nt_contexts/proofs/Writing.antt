@@ -1,5 +1,5 @@
 -- What a context that writes what it has gathered has taken.
-use Rattle.std.proofs.Common.{◌≡◌, ◌≢◌, inl, inr, ℕ, ◌<◌, List, [], ◌∷◌, ◌++◌, length, Some, Result, Ok, Err, refl, sym, ap, ◌∙◌, subst}
+use Rattle.std.proofs.Common.{◌≡◌, ◌≢◌, inl, inr, ℕ, ◌<◌, List, [], ◌∷◌, ◌++◌, length, Option, Some, None, Result, Ok, Err, refl, sym, ap, ◌∙◌, subst}
 use Rattle.std.proofs.Common.{append_assoc, append-nil, arith}
 use Rattle.std.specs.List.{flat_map}
 use Rattle.std.proofs.lemmas.Grind.{flat_map-append}
@@ -17,7 +17,7 @@ use Rattle.nt_book.specs.Entries.{committed_by, faulted_entry, spoiled_entry}
 use Rattle.nt_pages.specs.Metas.{cluster_meta}
 use Rattle.nt_commit.specs.declared.error.CommitError.{CommitError}
 use Rattle.nt_commit.specs.declared.error.CommitError.TheVariants as commit
-use Rattle.nt_commit.specs.Claims.{limit_in}
+use Rattle.nt_commit.specs.Claims.{limit_answered, limit_in}
 use Rattle.nt_commit.specs.declared.locked.Birth.{Birth}
 use Rattle.nt_turn.specs.Pass.{PassState}
 use Rattle.nt_fill.specs.Context.{gathered}
@@ -26,9 +26,9 @@ use Rattle.nt_fill.specs.Flushes.{DiskContext, KeepsEntries, FailsToFlush, Write
 use Rattle.nt_dealing.specs.Limits.{IsKeptOf}
 use Rattle.nt_dealing.specs.Written.{IsChunkBlob, CommittedFirst}
 use Rattle.nt_contexts.specs.declared.error.ContextError.{ContextError}
-use Rattle.nt_contexts.specs.declared.error.ContextError.TheVariants.{Limit, Outside, Memory}
+use Rattle.nt_contexts.specs.declared.error.ContextError.TheVariants.{Text, Limit, Outside, Memory}
 use Rattle.nt_contexts.specs.Running.{context_error}
-use Rattle.nt_contexts.specs.Filling.{HaveFaults, HasCommitted, IsSameContext, IsOpen, HasTaken, Halts}
+use Rattle.nt_contexts.specs.Filling.{HaveFaults, HasCommitted, IsSameContext, IsOpen, HasTaken, IsHalt, Halts}
 use Rattle.nt_contexts.specs.Taking.{WritesChunk, WritesFull}
 use Rattle.nt_contexts.proofs.Chunking.{chunks-full, chunks-next, slice_get-seam}
 use Rattle.nt_contexts.proofs.Committing.{committed-faulted, committed-settled, committed-spoiled, committed-first, committed-next}
@@ -40,6 +40,13 @@ DiskPass D = PassState (Entry ClusterMeta) (Birth D)
 -- a flush that was refused
 abbrev pub refusal : CommitError → Result (Unit {0}) CommitError
 refusal e = Err e
+
+-- what names a limit isn't want of memory
+apart : (e : CommitError) (error : LimitError) → limit_in e ≡ Some error → refusal e ≢ refusal commit.Memory
+apart e error is = λ same.
+    let none : ◌≡◌ {A = Option LimitError} None (Some error) =
+    sym (ap (λ (r : Result (Unit {0}) CommitError). limit_answered r) same) ∙ is in
+    absurd (cc none)
 
 -- what a fault added ends with an entry that tells it
 told_last : (own : List (Entry ClusterMeta)) (i faults : ℕ) → HaveFaults (own ++ faulted_entry i faults ∷ [])
@@ -59,6 +66,20 @@ told_spoiled own first i n faults =
     (record { place = length (own ++ first ∷ []); entry = last; at = slice_get-seam (own ++ first ∷ []) [] last; faults = tt })
 
 module _ {D P : Type 0} (state : D → DiskState) where
+  -- what a chunk is that wasn't written, it is also otherwise
+  module _ (IsSuch IsOther : List TreesData → Type 0) (all : List (List TreesData)) where
+    halt-such : (c : DiskContext D P) (error : ContextError) → ((chunk : List TreesData) → IsSuch chunk → IsOther chunk)
+        → IsHalt state IsSuch all c error → IsHalt state IsOther all c error
+    halt-such c (Text line kind) other h = absurd h
+    halt-such c (Limit error) other h = (h.0, other h.0.chunk h.1)
+    halt-such c Outside other h = h
+    halt-such c Memory other h = tt
+
+    pub halts-such : (old new : DiskContext D P) (error : ContextError) → ((chunk : List TreesData) → IsSuch chunk → IsOther chunk)
+        → Halts state IsSuch all old new error → Halts state IsOther all old new error
+    halts-such old new error other h =
+        record { same = h.same; committed = h.committed; halt = halt-such new error other h.halt }
+
   -- nothing was committed
   kept_own : (old new : DiskContext D P) → KeepsEntries old new → new.pass.own ≡ old.pass.own
   kept_own old new kept = ap (λ (p : DiskPass D). p.own) kept.gains.now ∙ append-nil old.pass.own
@@ -67,12 +88,12 @@ module _ {D P : Type 0} (state : D → DiskState) where
       (have : HasCommitted old.table old.page full old.pass.own) where
     -- a limit was named
     refused : (e : CommitError) (error : LimitError) → limit_in e ≡ Some error → KeepsLimits state old new (Err e) → KeepsEntries old new
-        → Halts state (full ++ gathered old ∷ others) old new (Limit error)
+        → Halts state (λ chunk. chunk ≡ gathered old) (full ++ gathered old ∷ others) old new (Limit error)
     refused e error is limits kept =
         let after : DiskContext D P = record old { pass = new.pass } in
         let still : HasCommitted old.table old.page full new.pass.own =
         subst (λ (l : List (Entry ClusterMeta)). HasCommitted old.table old.page full l) (sym (kept_own old new kept)) have in
-        let there : Halts state (full ++ gathered old ∷ others) old after (Limit error) = record {
+        let there : Halts state (λ chunk. chunk ≡ gathered old) (full ++ gathered old ∷ others) old after (Limit error) = record {
           same = record {
             committer = refl;
             table = refl;
@@ -81,23 +102,27 @@ module _ {D P : Type 0} (state : D → DiskState) where
             number = ap (λ (p : DiskPass D). p.number) kept.gains.now;
           };
           committed = committed-first old.table old.page full new.pass.own still (gathered old ∷ others);
-          halt = record {
-            chunk = gathered old;
-            at = committed-next old.table old.page full new.pass.own still (gathered old) others;
-            columns = limits.columns;
-            gives = limits.gives;
-            history = limits.names.history;
-            before = limits.names.seen;
-            passed = limits.names.limits ∙ is;
-          };
+          halt = (
+            record {
+              chunk = gathered old;
+              at = committed-next old.table old.page full new.pass.own still (gathered old) others;
+              columns = limits.columns;
+              gives = limits.gives;
+              history = limits.names.history;
+              before = limits.names.seen;
+              place = limits.names.place;
+              passed = limits.names.limits (inr (apart e error is)) ∙ is;
+            },
+            refl,
+          );
         } in
-        subst (λ (c : DiskContext D P). Halts state (full ++ gathered old ∷ others) old c (Limit error)) (sym kept.now) there
+        subst (λ (c : DiskContext D P). Halts state (λ chunk. chunk ≡ gathered old) (full ++ gathered old ∷ others) old c (Limit error)) (sym kept.now) there
 
     -- memory was wanting
-    wanted : KeepsEntries old new → Halts state (full ++ gathered old ∷ others) old new Memory
+    wanted : KeepsEntries old new → Halts state (λ chunk. chunk ≡ gathered old) (full ++ gathered old ∷ others) old new Memory
     wanted kept =
         let after : DiskContext D P = record old { pass = new.pass } in
-        let there : Halts state (full ++ gathered old ∷ others) old after Memory = record {
+        let there : Halts state (λ chunk. chunk ≡ gathered old) (full ++ gathered old ∷ others) old after Memory = record {
           same = record {
             committer = refl;
             table = refl;
@@ -110,16 +135,16 @@ module _ {D P : Type 0} (state : D → DiskState) where
               (gathered old ∷ others);
           halt = tt;
         } in
-        subst (λ (c : DiskContext D P). Halts state (full ++ gathered old ∷ others) old c Memory) (sym kept.now) there
+        subst (λ (c : DiskContext D P). Halts state (λ chunk. chunk ≡ gathered old) (full ++ gathered old ∷ others) old c Memory) (sym kept.now) there
 
     -- the disk or the pen failed, and these entries were added
     failed : (all : List (List TreesData)) (added : List (Entry ClusterMeta)) → Gains added old.pass new.pass
         → new ≡ record old { pass = new.pass; pen = new.pen }
         → CommittedFirst old.table old.page all (old.pass.own ++ added) → HaveFaults (old.pass.own ++ added)
-        → Halts state all old new Outside
+        → Halts state (λ chunk. chunk ≡ gathered old) all old new Outside
     failed all added gains now committed faults =
         let own : new.pass.own ≡ old.pass.own ++ added = ap (λ (p : DiskPass D). p.own) gains.now in
-        let there : Halts state all old (record old { pass = new.pass; pen = new.pen }) Outside = record {
+        let there : Halts state (λ chunk. chunk ≡ gathered old) all old (record old { pass = new.pass; pen = new.pen }) Outside = record {
           same = record {
             committer = refl;
             table = refl;
@@ -130,10 +155,10 @@ module _ {D P : Type 0} (state : D → DiskState) where
           committed = subst (λ (l : List (Entry ClusterMeta)). CommittedFirst old.table old.page all l) (sym own) committed;
           halt = subst (λ (l : List (Entry ClusterMeta)). HaveFaults l) (sym own) faults;
         } in
-        subst (λ (c : DiskContext D P). Halts state all old c Outside) (sym now) there
+        subst (λ (c : DiskContext D P). Halts state (λ chunk. chunk ≡ gathered old) all old c Outside) (sym now) there
 
     faulted : (meta : ClusterMeta) → IsKeptOf old.table old.page (gathered old) meta → FailsToWrite meta old.pass new.pass old.pen new.pen
-        → new ≡ record old { pass = new.pass; pen = new.pen } → Halts state (full ++ gathered old ∷ others) old new Outside
+        → new ≡ record old { pass = new.pass; pen = new.pen } → Halts state (λ chunk. chunk ≡ gathered old) (full ++ gathered old ∷ others) old new Outside
     faulted meta kept (inl m) now =
         let i = old.pass.number in
         let added : List (Entry ClusterMeta) = faulted_entry i m.0.faults ∷ [] in
@@ -259,8 +284,11 @@ module _ {D P : Type 0} (state : D → DiskState) where
     same = same_context old new writes;
   }
   full_written entries old new (Err error) some whole taken writes = λ rest.
-      subst (λ (l : List (List TreesData)). Halts state l old new error) (sym (next_chunk entries rest old (omega arith) whole taken))
-      (writes taken.full (chunks old.cluster rest) taken.committed)
+      subst (λ (l : List (List TreesData)). Halts state (λ chunk. length chunk ≡ old.cluster) l old new error)
+      (sym (next_chunk entries rest old (omega arith) whole taken))
+      (halts-such (λ chunk. chunk ≡ gathered old) (λ chunk. length chunk ≡ old.cluster)
+      (taken.full ++ gathered old ∷ chunks old.cluster rest) old new error
+      (λ chunk is. ap (λ (l : List TreesData). length l) is ∙ whole) (writes taken.full (chunks old.cluster rest) taken.committed))
 
   -- a context that goes on committed the first chunks, whatever comes behind what it took
   pub taken_first : (entries rest : List TreesData) (c : DiskContext D P) → 0 < c.cluster → HasTaken state entries c

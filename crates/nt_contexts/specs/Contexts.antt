@@ -17,8 +17,8 @@ use Rattle.nt_layout.specs.Headers.{clusters_place}
 use Rattle.nt_close.specs.Beginning.{new_book}
 use Rattle.nt_close.specs.Spoiled.{NoneSpoiled}
 use Rattle.nt_dealing.specs.Dealt.{IsDealtOut, FillsBehind}
-use Rattle.nt_dealing.specs.Texts.{AreSound, IsFirstBad, chunks_of, all_chunks}
-use Rattle.nt_dealing.specs.Limits.{IsOver}
+use Rattle.nt_dealing.specs.Texts.{AreSound, chunks_of, all_chunks}
+use Rattle.nt_dealing.specs.Failing.{CommitsFit, FailsByLine, FailsByChunk}
 use Rattle.nt_contexts.specs.declared.error.RunError.{RunError}
 use Rattle.nt_contexts.specs.declared.error.RunError.TheVariants.{Outside, Memory, Line, Limit}
 
@@ -58,8 +58,9 @@ abbrev pub ContextsTold : Table → List MemberData → Params → List (List �
     → Type 0
 ContextsTold t fields p texts disk disk' book' (Ok done) =
     AreSound fields texts × IsDealtOut t p.page (chunks_of p.cluster fields texts) book' disk.held disk'.held
-ContextsTold t fields p texts disk disk' book' (Err (Line input line kind)) = IsFirstBad fields texts input line kind
-ContextsTold t fields p texts disk disk' book' (Err (Limit reached limit)) = IsOver t p (all_chunks p.cluster fields texts) reached limit
+    × CommitsFit t p (all_chunks p.cluster fields texts)
+ContextsTold t fields p texts disk disk' book' (Err (Line input line kind)) = FailsByLine t fields p texts input line kind
+ContextsTold t fields p texts disk disk' book' (Err (Limit reached limit)) = FailsByChunk t fields p texts reached limit
 ContextsTold t fields p texts disk disk' book' (Err Outside) = ⊤
 ContextsTold t fields p texts disk disk' book' (Err Memory) = ⊤
 

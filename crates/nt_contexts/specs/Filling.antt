@@ -16,6 +16,7 @@ use Rattle.nt_book.specs.declared.meta.ClusterMeta.{ClusterMeta}
 use Rattle.nt_event.specs.Lines.{LinesState}
 use Rattle.nt_fill.specs.Context.{gathered}
 use Rattle.nt_fill.specs.Flushes.{DiskContext}
+use Rattle.nt_commit.specs.Locked.{book_of_birth}
 use Rattle.nt_dealing.specs.Limits.{AreKeptOf, NextPasses}
 use Rattle.nt_dealing.specs.Written.{WroteChunks, CommittedFirst}
 use Rattle.nt_contexts.specs.declared.error.ContextError.{ContextError}
@@ -78,16 +79,19 @@ module _ {D P : Type 0} where
       pub wrote : WroteChunks (held_before c) c.table c.page c.pass.number (chunks c.cluster entries) c.pass.own
       pub committed : HasCommitted c.table c.page (chunks c.cluster entries) c.pass.own
 
-    -- why a context wrote no more of these chunks: the next passes a limit; faults, which stand among its entries; or want of memory
-    abbrev pub IsHalt : List (List TreesData) → DiskContext D P → ContextError → Type 0
-    IsHalt all c (Text line kind) = ⊥
-    IsHalt all c (Limit error) =
-        NextPasses c.committer.birth.limits (state c.committer.birth.begun).end c.table c.page all c.pass.own c.pass.seen error
-    IsHalt all c Outside = HaveFaults c.pass.own
-    IsHalt all c Memory = Unit {0}
+    -- why a context wrote no more of these chunks: the next, which is such, passes a limit; faults, which stand among its entries; or want
+    -- of memory
+    abbrev pub IsHalt : (List TreesData → Type 0) → List (List TreesData) → DiskContext D P → ContextError → Type 0
+    IsHalt IsSuch all c (Text line kind) = ⊥
+    IsHalt IsSuch all c (Limit error) =
+        (next : NextPasses (book_of_birth state c.committer.birth []) c.table c.page all c.pass.own c.pass.seen error)
+        × IsSuch next.chunk
+    IsHalt IsSuch all c Outside = HaveFaults c.pass.own
+    IsHalt IsSuch all c Memory = Unit {0}
 
     -- the context committed the first of these chunks, and no more of them, for this reason
-    pub record Halts (all : List (List TreesData)) (old new : DiskContext D P) (error : ContextError) : Type 0 where
+    pub record Halts (IsSuch : List TreesData → Type 0) (all : List (List TreesData)) (old new : DiskContext D P) (error : ContextError)
+        : Type 0 where
       pub same : IsSameContext old new
       pub committed : CommittedFirst new.table new.page all new.pass.own
-      pub halt : IsHalt all new error
+      pub halt : IsHalt IsSuch all new error

@@ -1,11 +1,13 @@
 -- How a context ends.
-use Rattle.std.specs.Prelude.{◌≡◌, ◌⊎◌, ℕ, ◌+◌, ◌≤◌, Bool, true, false, List, Option, Some, None, Result, Ok, Err}
+use Rattle.std.specs.Prelude.{◌≡◌, ◌⊎◌, ℕ, ◌+◌, ◌≤◌, Bool, true, false, List, [], length, take, Option, Some, None, Result, Ok, Err}
 use Rattle.nt_types.specs.ShapeData.{MembersData}
 use Rattle.nt_types.specs.TreeData.{TreesData}
 use Rattle.nt_outside.specs.Disk.{DiskState}
 use Rattle.nt_outside.specs.Faults.{Rose}
 use Rattle.nt_lists.specs.Chunks.{chunks}
+use Rattle.nt_machine.specs.History.{ranges_of}
 use Rattle.nt_book.specs.declared.limits.LimitError.TheVariants as limit
+use Rattle.nt_commit.specs.Locked.{book_of_birth}
 use Rattle.nt_commit.specs.declared.error.CommitError.{CommitError}
 use Rattle.nt_commit.specs.declared.error.CommitError.TheVariants as commit
 use Rattle.nt_event.specs.Lines.{LinesState}
@@ -16,6 +18,7 @@ use Rattle.nt_event.specs.declared.lines.LineError.TheVariants as lines
 use Rattle.nt_fill.specs.Flushes.{DiskContext}
 use Rattle.nt_dealing.specs.EventText.{BadLine}
 use Rattle.nt_dealing.specs.Limits.{NextPasses}
+use Rattle.nt_dealing.specs.Failing.{whole_chunks}
 use Rattle.nt_dealing.specs.Written.{CommittedFirst}
 use Rattle.nt_contexts.specs.declared.error.ContextError.{ContextError}
 use Rattle.nt_contexts.specs.declared.error.ContextError.TheVariants.{Text, Limit, Outside, Memory}
@@ -37,12 +40,15 @@ error_of_line (lines.TooLong line) = Text line TooLong
 error_of_line lines.Memory = Memory
 
 module _ {D P : Type 0} (state : D → DiskState) where
-  -- why a context ended before its input did: a bad line; a limit that the next of these chunks passes; a fault of its source, of the disk
-  -- or of its pen; or want of memory
+  -- why a context ended before its input did: a bad line, before which it committed just the whole chunks; a limit that the next of these
+  -- chunks passes, which is whole or the last of an input without a bad line; a fault of its source, of the disk or of its pen; or want of
+  -- memory
   abbrev pub IsCause : List (List TreesData) → Option BadLine → LinesState → LinesState → DiskContext D P → ContextError → Type 0
-  IsCause all bad old new c (Text line kind) = bad ≡ Some (record { line = line; kind = kind })
+  IsCause all bad old new c (Text line kind) =
+      (bad ≡ Some (record { line = line; kind = kind })) × (take (length (ranges_of c.pass.own)) all ≡ whole_chunks c.cluster all)
   IsCause all bad old new c (Limit error) =
-      NextPasses c.committer.birth.limits (state c.committer.birth.begun).end c.table c.page all c.pass.own c.pass.seen error
+      (next : NextPasses (book_of_birth state c.committer.birth []) c.table c.page all c.pass.own c.pass.seen error)
+      × ((length next.chunk ≡ c.cluster) ⊎ (bad ≡ None))
   IsCause all bad old new c Outside = Rose old.faults new.faults ⊎ HaveFaults c.pass.own
   IsCause all bad old new c Memory = Unit {0}
 

@@ -1,5 +1,5 @@
 -- The seat of a context, before and after it ran.
-use Rattle.std.specs.Prelude.{⊤, ◌≡◌, ◌⊎◌, ◌≤◌, ℕ, Bool, List, [], length, Some, None, IsSome, Result, Ok, Err}
+use Rattle.std.specs.Prelude.{⊤, ◌≡◌, ◌⊎◌, ◌≤◌, ℕ, Bool, List, [], length, take, Some, None, IsSome, Result, Ok, Err}
 use Rattle.nt_types.specs.ShapeData.{MemberData}
 use Rattle.nt_types.specs.TreeData.{TreesData}
 use Rattle.nt_types.specs.Rules.{AreFields}
@@ -10,13 +10,16 @@ use Rattle.nt_outside.specs.Faults.{Rose}
 use Rattle.nt_outside.specs.Source.{SourceState}
 use Rattle.nt_turn.specs.Pass.{TurnState, PassState}
 use Rattle.nt_machine.specs.declared.entry.Entry.{Entry}
+use Rattle.nt_machine.specs.History.{ranges_of}
 use Rattle.nt_book.specs.declared.meta.ClusterMeta.{ClusterMeta}
 use Rattle.nt_book.specs.declared.params.Params.{Params}
 use Rattle.nt_commit.specs.declared.locked.Birth.{Birth}
+use Rattle.nt_commit.specs.Locked.{book_of_birth}
 use Rattle.nt_commit.specs.Holds.{IsPassOf, HasNoneOut}
 use Rattle.nt_dealing.specs.Texts.{events_of, text_chunks}
 use Rattle.nt_dealing.specs.Written.{WroteChunks, CommittedFirst}
 use Rattle.nt_dealing.specs.Limits.{NextPasses}
+use Rattle.nt_dealing.specs.Failing.{whole_chunks}
 use Rattle.nt_contexts.specs.declared.error.ContextError.{ContextError}
 use Rattle.nt_contexts.specs.declared.error.ContextError.TheVariants.{Text, Limit, Outside, Memory}
 use Rattle.nt_contexts.specs.declared.seats.Seat.{Seat}
@@ -43,18 +46,21 @@ module _ {D S P : Type 0} where
     pub pen : IsSome seat.pen
     pub first : (left_of source seat.lines).number ≡ 0
 
--- what a text and a pass are to each other once its context ended so: all chunks were written; or the first bad line of the text; or the
--- limit that the next chunk passes
+-- what a text and a pass are to each other once its context ended so: all chunks were written, and no more; or the first bad line of the
+-- text, before which just the whole chunks were committed; or the limit that the next chunk passes, which is whole or the last of a text
+-- without a bad line
 abbrev pub EndsTold : {D : Type 0} → (D → DiskState) → List MemberData → Table → Params → TurnState (Birth D) → DiskPass D → List ℕ
     → Result Unit ContextError → Type 0
 EndsTold state fields t p committer pass text (Ok done) =
     ((events_of fields text).bad ≡ None)
     × WroteChunks (state committer.birth.begun).held t p.page pass.number (text_chunks p.cluster fields text) pass.own
-EndsTold state fields t p committer pass text (Err (Text line kind)) = (events_of fields text).bad ≡ Some
-    (record { line = line; kind = kind })
+    × (take (length (ranges_of pass.own)) (text_chunks p.cluster fields text) ≡ text_chunks p.cluster fields text)
+EndsTold state fields t p committer pass text (Err (Text line kind)) =
+    ((events_of fields text).bad ≡ Some (record { line = line; kind = kind }))
+    × (take (length (ranges_of pass.own)) (text_chunks p.cluster fields text) ≡ whole_chunks p.cluster (text_chunks p.cluster fields text))
 EndsTold state fields t p committer pass text (Err (Limit error)) =
-    NextPasses committer.birth.limits (state committer.birth.begun).end t p.page
-    (text_chunks p.cluster fields text) pass.own pass.seen error
+    (next : NextPasses (book_of_birth state committer.birth []) t p.page
+    (text_chunks p.cluster fields text) pass.own pass.seen error) × ((length next.chunk ≡ p.cluster) ⊎ ((events_of fields text).bad ≡ None))
 EndsTold state fields t p committer pass text (Err Outside) = ⊤
 EndsTold state fields t p committer pass text (Err Memory) = ⊤
 

@@ -1,5 +1,5 @@
 -- What a context does with a line, and with what it has gathered.
-use Rattle.std.specs.Prelude.{◌≡◌, ◌⊎◌, true, false, List, [], ◌∷◌, ◌++◌, Result, Ok, Err}
+use Rattle.std.specs.Prelude.{◌≡◌, ◌⊎◌, true, false, List, [], ◌∷◌, ◌++◌, length, Result, Ok, Err}
 use Rattle.nt_types.specs.ShapeData.{MembersData}
 use Rattle.nt_types.specs.TreeData.{TreesData}
 use Rattle.nt_types.specs.Lines.{is_blank_line}
@@ -37,7 +37,7 @@ module _ {D P : Type 0} where
     abbrev pub WritesChunk : DiskContext D P → DiskContext D P → Result Unit ContextError → Type 0
     WritesChunk old new (Ok done) = WritesCluster state old new
     WritesChunk old new (Err error) = (full others : List (List TreesData)) → HasCommitted old.table old.page full old.pass.own
-        → Halts state (full ++ gathered old ∷ others) old new error
+        → Halts state (λ chunk. chunk ≡ gathered old) (full ++ gathered old ∷ others) old new error
 
     -- these entries are taken, and the context goes on
     pub record GoesOnWith (entries : List TreesData) (old new : DiskContext D P) : Type 0 where
@@ -45,9 +45,10 @@ module _ {D P : Type 0} where
       pub is_open : IsOpen new
       pub same : IsSameContext old new
 
-    -- whatever entries come behind these, the context wrote no more of their chunks than the first
+    -- whatever entries come behind these, the context wrote no more of their chunks than the first; a next that passes a limit is whole
     abbrev pub HaltsWith : List TreesData → DiskContext D P → DiskContext D P → ContextError → Type 0
-    HaltsWith entries old new error = (rest : List TreesData) → Halts state (chunks old.cluster (entries ++ rest)) old new error
+    HaltsWith entries old new error = (rest : List TreesData)
+        → Halts state (λ chunk. length chunk ≡ old.cluster) (chunks old.cluster (entries ++ rest)) old new error
 
     -- of a context that has taken these entries: the gathered ones were written if they are a whole cluster, or why not
     abbrev pub WritesFull : List TreesData → DiskContext D P → DiskContext D P → Result Unit ContextError → Type 0
@@ -69,4 +70,4 @@ module _ {D P : Type 0} where
     -- of a context that has taken these entries, and no more come: what is gathered was written too, or why not
     abbrev pub WritesRest : List TreesData → DiskContext D P → DiskContext D P → Result Unit ContextError → Type 0
     WritesRest entries old new (Ok done) = HasWrittenAll state entries new × IsSameContext old new
-    WritesRest entries old new (Err error) = Halts state (chunks old.cluster entries) old new error
+    WritesRest entries old new (Err error) = Halts state (λ chunk. Unit {0}) (chunks old.cluster entries) old new error

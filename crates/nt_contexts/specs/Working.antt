@@ -1,20 +1,24 @@
 -- What contexts leave with the first pass and their sources.
-use Rattle.std.specs.Prelude.{⊤, ◌≡◌, ◌⊎◌, ℕ, ◌+◌, ◌≤◌, List, [], ◌∷◌, Some, Result, Ok, Err, slice_get, slice_index_or}
+use Rattle.std.specs.Prelude.{⊤, ◌≡◌, ◌⊎◌, ℕ, ◌+◌, ◌<◌, ◌≤◌, List, [], ◌∷◌, ◌++◌, length, take, Some, None, Result, Ok, Err, slice_get, slice_index_or}
 use mathlib.Core.List.{IsPrefix}
 use Rattle.nt_types.specs.ShapeData.{MemberData}
 use Rattle.nt_types.specs.TreeData.{TreesData}
 use Rattle.nt_grammar.specs.Table.{Table}
+use Rattle.nt_event.specs.declared.fault.TextKind.{TextKind}
 use Rattle.nt_outside.specs.Disk.{DiskState}
 use Rattle.nt_outside.specs.Faults.{Rose}
 use Rattle.nt_outside.specs.Source.{SourceState}
 use Rattle.nt_turn.specs.Pass.{TurnState}
 use Rattle.nt_machine.specs.declared.entry.Entry.{Entry}
+use Rattle.nt_machine.specs.History.{ranges_of}
 use Rattle.nt_book.specs.declared.meta.ClusterMeta.{ClusterMeta}
 use Rattle.nt_book.specs.declared.params.Params.{Params}
 use Rattle.nt_book.specs.declared.limits.LimitError.{LimitError}
 use Rattle.nt_commit.specs.declared.locked.Birth.{Birth}
+use Rattle.nt_commit.specs.Locked.{book_of_birth}
 use Rattle.nt_commit.specs.Holds.{IsPassOf, IsFirstOf, HasNoneOut, HaveAllLeft}
-use Rattle.nt_dealing.specs.Texts.{text_chunks, chunks_of, AreSound, IsFirstBad}
+use Rattle.nt_dealing.specs.Texts.{events_of, text_chunks, chunks_of, AreSound, IsFirstBad}
+use Rattle.nt_dealing.specs.Failing.{whole_chunks, chunks_before, committed_chunks}
 use Rattle.nt_dealing.specs.Written.{WroteChunks, CommittedFirst, HaveWritten, HaveCommitted}
 use Rattle.nt_dealing.specs.Limits.{NextPasses}
 use Rattle.nt_contexts.specs.declared.error.ContextError.TheVariants as context
@@ -32,25 +36,41 @@ pub data KeepsFaults {D : Type 0} (first : DiskPass D) : Type 0 where
   of_kept : (place : ℕ) (k : ℕ × List (Entry ClusterMeta)) → slice_get first.kept place ≡ Some k → HaveFaults k.1 → KeepsFaults first
 
 module _ {D : Type 0} (state : D → DiskState) (fields : List MemberData) (t : Table) (p : Params) (committer : TurnState (Birth D)) where
-  -- the contexts of these texts were joined, and the next chunk of one of them passes a limit
+  -- the contexts of these texts were joined, and committed all chunks of those before this one, and then these, whatever others committed
+  pub record CommittedBefore (texts : List (List ℕ)) (first : DiskPass D) (input : ℕ) (own : List (List TreesData)) : Type 0 where
+    pub have : HaveCommitted t p.page (chunks_of p.cluster fields texts) first.number first.own first.kept
+    pub others : List (List TreesData)
+    pub are : committed_chunks (chunks_of p.cluster fields texts) first.kept ≡ chunks_before (chunks_of p.cluster fields texts) input own
+        ++ others
+
+  -- a text has this first bad line, and none before it fails
+  pub record StopsAtLine (texts : List (List ℕ)) (first : DiskPass D) (input line : ℕ) (kind : TextKind) : Type 0 where
+    pub bad : IsFirstBad fields texts input line kind
+    pub before : CommittedBefore texts first input (whole_chunks p.cluster (text_chunks p.cluster fields bad.text))
+
+  -- the next chunk of a context passes a limit, and none before it fails
   pub record PassesNext (texts : List (List ℕ)) (first : DiskPass D) (reached most : ℕ) : Type 0 where
     pub error : LimitError
     pub names : Limit reached most ≡ limit_told p.limits.clusters error
     pub place : ℕ
+    pub text : List ℕ
+    pub text_is : slice_get texts place ≡ Some text
+    pub lower : (j : ℕ) (other : List ℕ) → j < place → slice_get texts j ≡ Some other → (events_of fields other).bad ≡ None
     pub own : List (Entry ClusterMeta)
     pub seen : List (Entry ClusterMeta)
     pub at : slice_get first.kept place ≡ Some (place, own)
-    pub before : IsPrefix seen first.seen
-    pub passes : NextPasses committer.birth.limits (state committer.birth.begun).end t p.page (slice_index_or (chunks_of p.cluster
+    pub begins : IsPrefix seen first.seen
+    pub passes : NextPasses (book_of_birth state committer.birth []) t p.page (slice_index_or (chunks_of p.cluster
         fields texts) place []) own seen error
-    pub committed : HaveCommitted t p.page (chunks_of p.cluster fields texts) first.number first.own first.kept
+    pub is_written : (length passes.chunk ≡ p.cluster) ⊎ ((events_of fields text).bad ≡ None)
+    pub before : CommittedBefore texts first place (take (length (ranges_of own)) (text_chunks p.cluster fields text))
 
   -- what is known of the texts by the answer
   abbrev pub WorkTold : List (List ℕ) → DiskPass D → Result Unit RunError → Type 0
   WorkTold texts first (Ok done) =
       AreSound fields texts × HaveWritten (state committer.birth.begun).held t p.page (chunks_of p.cluster fields texts) first.number
-      first.own first.kept
-  WorkTold texts first (Err (Line input line kind)) = IsFirstBad fields texts input line kind
+      first.own first.kept × CommittedBefore texts first (length texts) []
+  WorkTold texts first (Err (Line input line kind)) = StopsAtLine texts first input line kind
   WorkTold texts first (Err (Limit reached most)) = PassesNext texts first reached most
   WorkTold texts first (Err Outside) = ⊤
   WorkTold texts first (Err Memory) = ⊤

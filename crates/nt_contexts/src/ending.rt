@@ -1,11 +1,14 @@
 //! How a committer ends whose contexts were joined.
 
+ghost use Rattle.std.specs.Prelude.{◌≡◌, None};
 ghost use Rattle.nt_commit.specs.Holds.{IsFirstOf, HaveAllLeft};
 ghost use Rattle.nt_contexts.specs.Ending.{HasEnded};
 
 use nt_book::Book;
 use nt_commit::{Committer, Locked};
-use nt_dealing::{commits_are_dealt, histories_fill, next_chunks_pass_limits_of_all};
+use nt_dealing::{
+    commits_are_dealt, committed_chunks_fit, histories_fill, next_chunks_pass_limits_of_all,
+};
 use nt_outside::Disk;
 use nt_turn::Pass;
 
@@ -13,11 +16,13 @@ use nt_turn::Pass;
 pub(crate) fn end<D: Disk>(committer: Committer<D>, first: Pass<Locked<D>>) -> (D, Book)
     requires first { IsFirstOf committer first }
     requires left { HaveAllLeft first }
+    requires ungrouped { committer.birth.group ≡ None }
     ensures { HasEnded D.state committer.birth first result.0 result.1 }
 {
     commits_are_dealt::<D>();
     histories_fill::<D>();
     next_chunks_pass_limits_of_all::<D>();
+    committed_chunks_fit::<D>();
     let (disk, book) = committer.finish(first);
     let _faults = disk.faults();
     (disk, book)

@@ -15,8 +15,10 @@ use mathlib.Core.List.{IsPrefix}
 use Rattle.nt_turn.specs.History.{HasNone}
 use Rattle.nt_turn.specs.Pass.{PassState, Closes}
 use Rattle.nt_turn.proofs.Prefixes.{prefix_more}
+use Rattle.nt_types.specs.ShapeData.{MemberData}
 use Rattle.nt_types.specs.TreeData.{TreesData}
 use Rattle.nt_grammar.specs.Table.{Table}
+use Rattle.nt_grammar.specs.Rows.{Rows}
 use Rattle.nt_container.specs.Lengths.{anchor_part_len, key_list_part_len, free_list_part_len}
 use Rattle.nt_outside.specs.Disk.{DiskState}
 use Rattle.nt_machine.specs.declared.entry.Entry.{Entry}
@@ -31,16 +33,19 @@ use Rattle.nt_book.specs.declared.limits.LimitError.TheVariants as limit
 use Rattle.nt_book.specs.Limiting.{limit_error}
 use Rattle.nt_book.specs.Books.{BookData}
 use Rattle.nt_commit.specs.declared.locked.Birth.{Birth}
-use Rattle.nt_commit.specs.Locked.{birth_of, context_of, history_of_locked, locked_by}
+use Rattle.nt_commit.proofs.Ungrouped.{limit-ungrouped}
+use Rattle.nt_commit.specs.Locked.{book_of_birth, birth_of, context_of, history_of_locked, locked_by}
 use Rattle.nt_pages.specs.Image.{image}
 use Rattle.nt_pages.specs.Metas.{cluster_meta}
 use Rattle.nt_layout.specs.Headers.{clusters_place}
 use Rattle.nt_dealing.specs.Lengths.{page_lists_len, footer_len, group_count, whole_len}
 use Rattle.nt_dealing.specs.Texts.{joined_chunks}
 use Rattle.nt_dealing.specs.Written.{CommittedFirst, AllCommittedFrom, HaveCommitted}
-use Rattle.nt_dealing.specs.Limits.{IsKeptOf, AreKeptOf, of_chunk, IsOver, range_passed, part_passed, too_many, IsOverBy}
+use Rattle.nt_dealing.specs.Limits.{IsKeptOf, AreKeptOf, of_chunk, IsOver, range_passed, file_passed, too_many, IsOverBy}
 use Rattle.nt_dealing.specs.Limits.{NextPasses}
+use Rattle.nt_dealing.specs.Failing.{chunk_too_long, chunk_too_far, chunk_too_many, ChunkPassesBy}
 use Rattle.nt_dealing.proofs.Takings.{Place, place_of_all, contained, get-drop}
+use Rattle.nt_dealing.proofs.Longest.{longest}
 use Rattle.nt_dealing.proofs.Fronts.{Taken, taken, fronts_before, fewer_before, idle_ranges}
 
 -- a range is that of a chunk
@@ -192,17 +197,26 @@ by_limit P limits end count len error is range file clusters =
 begins_whole : (reached a b c d e : ℕ) → reached ≡ a + b → reached ≤ a + b + c + d + e
 begins_whole reached a b c d e is = omega (arith, is)
 
-module _ (t : Table) (p : Params) (chunks : List (List (List TreesData))) (history : List (Entry ClusterMeta)) (limits : Limits)
-    (same : limits ≡ p.limits) (begin : ℕ)
-    (begins : begin ≡ clusters_place t)
+module _ (fields : List MemberData) (t : Table) (p : Params) (rows : Rows fields p.plain t) (chunks : List (List (List TreesData)))
+    (history : List (Entry ClusterMeta)) (begun : BookData) (none : begun.group ≡ None)
+    (same : begun.limits ≡ p.limits) (begins : begun.begin ≡ clusters_place t)
     (each : (i : ℕ) → IsFront t p.page history chunks i) where
+  abbrev limits : Limits
+  limits = begun.limits
+
+  abbrev begin : ℕ
+  begin = begun.begin
+
   passes_all : (i : ℕ) (seen : List (Entry ClusterMeta)) (error : LimitError) → IsPrefix seen history
-      → NextPasses limits begin t p.page (slice_index_or chunks i []) (mine_of history i) seen error
-      → IsOverBy t p (joined_chunks chunks) error
+      → (next : NextPasses begun t p.page (slice_index_or chunks i []) (mine_of history i) seen error)
+      → IsOverBy t p (joined_chunks chunks) error × ChunkPassesBy t p next.chunk error
   passes_all i seen error first n =
-      by_limit (IsOverBy t p (joined_chunks chunks)) limits (end_after begin cs) (length cs)
-      (length (image p.page n.columns)) error n.passed
-      range file clusters
+      by_limit (λ e. IsOverBy t p (joined_chunks chunks) e × ChunkPassesBy t p n.chunk e) limits (end_after begin cs) (length cs)
+      (length (image p.page n.columns)) error
+      (sym (limit-ungrouped (record begun { history = n.history }) n.place (length (image p.page n.columns)) none) ∙ n.passed)
+      (λ less. (range less, chunk_too_long meta kept refl (ap (λ (l : Limits). l.range) same)))
+      (λ less. (file less, chunk_too_far meta kept (omega (arith, begins)) (ap (λ (l : Limits). l.file) same)))
+      (λ full. (clusters full, chunk_too_many refl refl))
     where
       cs : List (Cluster ClusterMeta)
       cs = ranges_of n.history
@@ -280,8 +294,10 @@ module _ (t : Table) (p : Params) (chunks : List (List (List TreesData))) (histo
       file : limits.file < end_after begin cs + length (image p.page n.columns)
           → IsOver t p (joined_chunks chunks) (end_after begin cs + length (image p.page n.columns)) limits.file
       file less =
-          part_passed some others (metas ++ meta ∷ []) permuted
-          (kept_more t p.page taken_all.some metas n.chunk meta (kept_are t p.page taken_all.some cs taken_all.pairs) kept) within
+          let count = p.group_range.0 in
+          let all = longest fields p.plain t rows p.page p.group some others (metas ++ meta ∷ []) (omega (arith, count))
+          (kept_more t p.page taken_all.some metas n.chunk meta (kept_are t p.page taken_all.some cs taken_all.pairs) kept) in
+          file_passed all.0 (record { order = some ++ others; permuted = permuted; counted = all.1 }) (omega (arith, within, all.2))
           (ap (λ (l : Limits). l.file) same) less
 
       clusters : length cs ≡ limits.clusters → IsOver t p (joined_chunks chunks) (p.limits.clusters + 1) p.limits.clusters
@@ -299,20 +315,24 @@ module _ (t : Table) (p : Params) (chunks : List (List (List TreesData))) (histo
           ))
 
 module _ {D : Type 0} (state : D → DiskState) where
-  pub next_passes_all : (birth : Birth D) (disk : D) (book : BookData) (first : PassState (Entry ClusterMeta) (Birth D)) (t : Table)
-      (p : Params) (chunks : List (List (List TreesData))) (i : ℕ) (own seen : List (Entry ClusterMeta)) (error : LimitError)
-      → Closes (history_of_locked state) birth_of context_of first (locked_by birth disk book) → birth.limits ≡ p.limits
+  pub next_passes_all : (birth : Birth D) (disk : D) (book : BookData) (first : PassState (Entry ClusterMeta) (Birth D))
+      (fields : List MemberData) (t : Table) (p : Params) (rows : Rows fields p.plain t) (chunks : List (List (List TreesData))) (i : ℕ)
+      (own seen : List (Entry ClusterMeta)) (error : LimitError)
+      → Closes (history_of_locked state) birth_of context_of first (locked_by birth disk book) → birth.group ≡ None → birth.limits ≡ p.limits
       → (state birth.begun).end ≡ clusters_place t → HaveCommitted t p.page chunks first.number first.own first.kept
       → slice_get first.kept i ≡ Some (i, own) → IsPrefix seen first.seen
-      → NextPasses birth.limits (state birth.begun).end t p.page (slice_index_or chunks i []) own seen error
-      → IsOverBy t p (joined_chunks chunks) error
-  next_passes_all birth disk book first t p chunks i own seen error closes same begins have at before next =
+      → (next : NextPasses (book_of_birth state birth []) t p.page (slice_index_or chunks i []) own seen error)
+      → IsOverBy t p (joined_chunks chunks) error × ChunkPassesBy t p next.chunk error
+  next_passes_all birth disk book first fields t p rows chunks i own seen error closes none same begins have at before next =
       let history : List (Entry ClusterMeta) = history_of_locked state (locked_by birth disk book) in
       let mine : own ≡ mine_of history i = own_kept t p.page history first.kept i i own closes.kept at in
       let begun : IsPrefix seen history =
       subst (λ (l : List (Entry ClusterMeta)). IsPrefix seen l) closes.seen.1 (prefix_more seen first.seen closes.seen.0 before) in
-      passes_all t p chunks history birth.limits same (state birth.begun).end begins
-      (each_front t p.page history chunks first.number first.own first.kept have closes.kept closes.own closes.others) i seen error begun
-      (subst
-      (λ (l : List (Entry ClusterMeta)). NextPasses birth.limits (state birth.begun).end t p.page (slice_index_or chunks i []) l seen error)
-      mine next)
+      subst
+      (λ (l : List (Entry ClusterMeta)). (x : NextPasses (book_of_birth state birth []) t p.page (slice_index_or chunks i []) l seen
+      error)
+      → IsOverBy t p (joined_chunks chunks) error × ChunkPassesBy t p x.chunk error)
+      (sym mine)
+      (passes_all fields t p rows chunks history (book_of_birth state birth []) none same begins
+      (each_front t p.page history chunks first.number first.own first.kept have closes.kept closes.own closes.others) i seen error begun)
+      next

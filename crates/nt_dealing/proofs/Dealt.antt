@@ -1,6 +1,6 @@
 -- The clusters of a book are the chunks of its contexts, and the disk holds their blobs.
 use Rattle.std.proofs.Common.{◌≡◌, ℕ, List, [], ◌∷◌, ◌++◌, length, map, Option, Some, None, refl, sym, ap, ◌∙◌, subst}
-use Rattle.std.specs.List.{AllZip, concat, flat_map}
+use Rattle.std.specs.List.{AllZip, flat_map}
 use Rattle.std.proofs.lemmas.List.Concat.{concat_is}
 use Rattle.nt_types.specs.TreeData.{TreesData}
 use Rattle.nt_grammar.specs.Table.{Table}
@@ -22,6 +22,7 @@ use Rattle.nt_logged.specs.Logs.{IsLogOf}
 use Rattle.nt_logged.specs.Steps.{told_history, bytes_where_told}
 use Rattle.nt_outside.specs.Log.{Step}
 use Rattle.nt_commit.specs.declared.locked.Birth.{Birth}
+use Rattle.nt_commit.proofs.Ungrouped.{bare-end, bare-log}
 use Rattle.nt_commit.specs.Locked.{GainsSteps, IsInStep, birth_of, context_of, history_of_locked, locked_by}
 use Rattle.nt_layout.specs.Laid.{IsBlobOfEntries, AreBlobsOf}
 use Rattle.nt_layout.specs.Laid.AreBlobsOf.{none_left, and_blob}
@@ -90,10 +91,10 @@ module _ {D : Type 0} (state : D → DiskState)
   pub dealt_out : (birth : Birth D) (disk : D) (book : BookData) (first : PassState (Entry ClusterMeta) (Birth D)) (t : Table) (page : ℕ)
       (chunks : List (List (List TreesData)))
       → Closes (history_of_locked state) birth_of context_of first (locked_by birth disk book)
-      → IsInStep state (locked_by birth disk book)
+      → IsInStep state (locked_by birth disk book) → birth.group ≡ None
       → HaveWritten (state birth.begun).held t page chunks first.number first.own first.kept
       → IsDealtOut t page chunks book (state birth.begun).held (state disk).held
-  dealt_out birth disk book first t page chunks closes step have =
+  dealt_out birth disk book first t page chunks closes step none have =
       let begun = (state birth.begun).held in
       let now = (state disk).held in
       let history : List (Entry ClusterMeta) = told_history begun now book.history in
@@ -112,10 +113,10 @@ module _ {D : Type 0} (state : D → DiskState)
           blobs_are = blobs.are;
         };
         stand = λ h is.
-            let after = step.follows.log h is in
+            let after = bare-log state birth disk book step none h is in
             let begins = (told birth.begun h is).0 in
             let reads = (told disk after.0 after.1).1 in
-            let gains = gained (state birth.begun).end (state disk).end history h after.0 step.follows.end after.2 in
+            let gains = gained (state birth.begun).end (state disk).end history h after.0 (bare-end state birth disk book step none) after.2 in
             let steps = gains.steps in
             let bytes : List ℕ = flat_map (λ (part : List ℕ). part) blobs.ranges in (
               after.0,

@@ -1,5 +1,5 @@
 -- What stood on a disk before a history stays.
-use Rattle.std.proofs.Common.{◌≡◌, subst, ℕ, List, [], ◌++◌, length, take, Some}
+use Rattle.std.proofs.Common.{◌≡◌, subst, ℕ, List, [], ◌++◌, length, take, Some, None}
 use Rattle.nt_outside.specs.Held.{Held, BecomesSome}
 use Rattle.nt_outside.specs.Log.{Step}
 use Rattle.nt_outside.specs.Reads.{Reads, IsKnown}
@@ -12,6 +12,7 @@ use Rattle.nt_book.specs.Books.{BookData}
 use Rattle.nt_logged.specs.Tails.{IsTail}
 use Rattle.nt_commit.specs.declared.locked.Birth.{Birth}
 use Rattle.nt_commit.specs.Locked.{GainsSteps, IsInStep, history_of_locked, locked_by}
+use Rattle.nt_commit.proofs.Ungrouped.{bare-end, bare-log}
 use Rattle.nt_dealing.specs.Dealt.{FillsBehind}
 
 -- what was known before the steps of a writer stays
@@ -34,12 +35,12 @@ front_stays stand place end history h h' gains begins reads known =
 module _ {D : Type 0} (state : D → DiskState)
     (told : (d : D) (h : Held) → (state d).held ≡ Some h → ((state d).end ≡ length h.image) × Reads h.log h.image)
     (stand : FrontsStand) where
-  pub filled : (birth : Birth D) (disk : D) (book : BookData) → IsInStep state (locked_by birth disk book)
+  pub filled : (birth : Birth D) (disk : D) (book : BookData) → IsInStep state (locked_by birth disk book) → birth.group ≡ None
       → BecomesSome (state birth.begun).held (state disk).held (FillsBehind (state birth.begun).end)
-  filled birth disk book step h is =
+  filled birth disk book step none h is =
       let history : List (Entry ClusterMeta) = history_of_locked state (locked_by birth disk book) in
-      let after = step.follows.log h is in
-      let gains = gained (state birth.begun).end (state disk).end history h after.0 step.follows.end after.2 in (
+      let after = bare-log state birth disk book step none h is in
+      let gains = gained (state birth.begun).end (state disk).end history h after.0 (bare-end state birth disk book step none) after.2 in (
         after.0,
         after.1,
         record {

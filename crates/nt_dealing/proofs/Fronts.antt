@@ -18,10 +18,10 @@ use Rattle.nt_machine.specs.History.{IsFaulted, IsIdle}
 use Rattle.nt_machine.proofs.Histories.{not-eqb, own, own-fold}
 use Rattle.nt_dealing.proofs.Takings.{by_number, all_of, without, without-here, without-other, seam, seam_permuted, take-less}
 
-own-here : {M : Type 0} (c : Cluster M) (cs : List (Cluster M)) → own (c ∷ cs) c.context ≡ c ∷ own cs c.context
+pub own-here : {M : Type 0} (c : Cluster M) (cs : List (Cluster M)) → own (c ∷ cs) c.context ≡ c ∷ own cs c.context
 own-here c cs = ap (λ (b : Bool). cond b (c ∷ own cs c.context) (own cs c.context)) (eq-eqb c.context c.context refl)
 
-own-other : {M : Type 0} (c : Cluster M) (cs : List (Cluster M)) (k : ℕ) → (k ≡ c.context → ⊥) → own (c ∷ cs) k ≡ own cs k
+pub own-other : {M : Type 0} (c : Cluster M) (cs : List (Cluster M)) (k : ℕ) → (k ≡ c.context → ⊥) → own (c ∷ cs) k ≡ own cs k
 own-other c cs k differ = ap (λ (b : Bool). cond b (c ∷ own cs k) (own cs k)) (not-eqb c.context k (λ same. differ (sym same)))
 
 -- no entry takes a range away

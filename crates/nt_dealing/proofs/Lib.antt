@@ -11,4 +11,7 @@ mod Takings
 mod Undealt
 mod Permuted
 mod Fronts
+mod Longest
+pub mod Whole
 mod Committed
+pub mod Fitting

@@ -4,3 +4,4 @@ pub mod Lengths
 pub mod Limits
 pub mod Written
 pub mod Dealt
+pub mod Failing

@@ -1,6 +1,6 @@
 //! What a committer hands back is the steps of one history, and its contexts' chunks, dealt out.
 
-ghost use Rattle.std.specs.Prelude.{ℕ, List};
+ghost use Rattle.std.specs.Prelude.{◌≡◌, ℕ, List, None};
 ghost use Rattle.nt_types.specs.TreeData.{TreesData};
 ghost use Rattle.nt_grammar.specs.Table.{Table};
 ghost use Rattle.nt_machine.specs.declared.entry.Entry.{Entry};
@@ -25,7 +25,7 @@ pub fn commits_are_dealt<D: Disk>()
         (first : PassState (Entry ClusterMeta) (Birth D)) (t : Table) (page : ℕ)
         (chunks : List (List (List TreesData)))
         → Closes (history_of_locked D.state) birth_of context_of first (locked_by birth disk book)
-        → IsInStep D.state (locked_by birth disk book)
+        → IsInStep D.state (locked_by birth disk book) → birth.group ≡ None
         → HaveWritten (D.state birth.begun).held t page chunks first.number first.own first.kept
         → IsDealtOut t page chunks book (D.state birth.begun).held (D.state disk).held }
 {
@@ -37,7 +37,7 @@ pub fn commits_are_dealt<D: Disk>()
 /// it was begun, and what stood there then stays where it was told.
 pub fn histories_fill<D: Disk>()
     ensures { (birth : Birth D) (disk : D) (book : BookData)
-        → IsInStep D.state (locked_by birth disk book)
+        → IsInStep D.state (locked_by birth disk book) → birth.group ≡ None
         → BecomesSome (D.state birth.begun).held (D.state disk).held
         (FillsBehind (D.state birth.begun).end) }
 {

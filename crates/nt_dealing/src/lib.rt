@@ -13,7 +13,10 @@
 //! book that their committer hands back has these chunks, dealt out, each range was settled with its
 //! blob, and the disk holds the blobs behind what it held before (`commits_are_dealt`). Such chunks
 //! are all chunks in another order (`dealt_chunks_are_all_chunks`), and where the next chunk of a
-//! context passes a limit, the file of all chunks passes it (`next_chunks_pass_limits_of_all`). The
+//! context passes a limit, the file of all chunks passes it (`next_chunks_pass_limits_of_all`), since
+//! the file of some chunks is no longer than that of all (`whole_files_are_longest`). Chunks that fit
+//! pass none (`whole_files_pass_no_limit`), and those that were committed pass none of a commit
+//! (`committed_chunks_fit`). `specs/Failing.antt` says what is written where a text fails. The
 //! lines of a text come off one by one (`lines_come_in_order`), and what is read of a line fits its
 //! fields and the rows that describe them (`entries_fit`). Page lists, footer and file are as long as
 //! what is kept of each cluster says, in whatever order they stand
@@ -26,6 +29,9 @@ mod sizes;
 mod texts;
 
 pub use laws::{commits_are_dealt, histories_fill};
-pub use limits::{dealt_chunks_are_all_chunks, next_chunks_pass_limits_of_all};
+pub use limits::{
+    committed_chunks_fit, dealt_chunks_are_all_chunks, next_chunks_pass_limits_of_all,
+    whole_files_are_longest, whole_files_pass_no_limit,
+};
 pub use sizes::files_are_as_long_as_their_clusters_say;
 pub use texts::{entries_fit, lines_come_in_order};

@@ -40,7 +40,7 @@ page_steps : (file : List ℕ) (number id : ℕ) (kind : ColumnType) (p : PageIt
 unfolding page_of_column PageSteps
 page_steps file number id kind p = bind _ (test _ _) λ u t. bind _ (there _ _) λ stored s. bind _ (test _ _) λ v c. exactly _
 
-page : (file : List ℕ) (number id : ℕ) (kind : ColumnType) (p : PageItem)
+pub page : (file : List ℕ) (number id : ℕ) (kind : ColumnType) (p : PageItem)
     → Agrees (page_of_column file number id kind p) (HoldsPage file kind p)
 unfolding PageSteps
 page file number id kind p = in_words

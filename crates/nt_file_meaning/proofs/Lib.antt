@@ -4,3 +4,4 @@ pub mod SoundBack
 pub mod ClustersBack
 pub mod FilesBack
 pub mod HeadersBack
+pub mod ColumnsListed

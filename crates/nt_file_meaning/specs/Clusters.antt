@@ -138,3 +138,15 @@ cluster_of file t number k = do
   columns ← columns_from file number k t 0 t.columns
   sound ← no_value_fault number k (fault_in_any (open_plans t) (columns_by_id columns) k.entries)
   Ok (entries_of_columns t columns k.entries)
+
+-- the elements of all columns of a cluster, where nothing is wrong with their values; or the cluster's first fault
+unfoldable pub columns_in_cluster : List ℕ → Table → ℕ → ClusterList → Result (List (List Element)) ReadError
+columns_in_cluster file t number k = do
+  columns ← columns_from file number k t 0 t.columns
+  sound ← no_value_fault number k (fault_in_any (open_plans t) (columns_by_id columns) k.entries)
+  Ok columns
+
+-- the entries that columns give, where these were read
+abbrev pub entries_given : Table → ℕ → Result (List (List Element)) ReadError → Result (List TreesData) ReadError
+entries_given t n (Ok columns) = Ok (entries_of_columns t columns n)
+entries_given t n (Err e) = Err e

@@ -16,12 +16,16 @@
 //! as a schema and entries, exactly where it has and holds them (`outlines_are_described`,
 //! `files_hold_what_they_mean`); a file means one schema and the entries of its clusters, or has one
 //! first fault, and never both (`files_have_one_meaning`); a header that is written is read back
-//! (`headers_are_read_back`). That the definitions are the standard's
+//! (`headers_are_read_back`); the entries of a cluster are those that its columns give
+//! (`clusters_are_of_their_columns`), and each column has as many elements of its type as its pages
+//! list (`columns_are_as_listed`). That the definitions are the standard's
 //! rests on reading them.
 #![tactic(auto)]
 
+mod cluster_laws;
 mod laws;
 
+pub use cluster_laws::{clusters_are_of_their_columns, columns_are_as_listed};
 pub use laws::{
     files_have_one_meaning, files_hold_what_they_mean, headers_are_read_back,
     outlines_are_described,

@@ -1,6 +1,6 @@
 -- What a pass knows after its holds of the turn.
-use Rattle.std.proofs.Common.{◌≡◌, ◌∙◌, ap, sym, refl, ℕ, ◌-◌, ◌≤◌, true, List, [], ◌∷◌, ◌++◌, length, drop, Option, Some, None, subst}
-use Rattle.std.proofs.Common.{append_assoc, append-nil, arith}
+use Rattle.std.proofs.Common.{◌≡◌, ◌∙◌, ap, sym, refl, ℕ, ◌+◌, ◌-◌, ◌≤◌, true, List, [], ◌∷◌, ◌++◌, length, drop, Option, Some, None, subst}
+use Rattle.std.proofs.Common.{append_assoc, append-nil, arith, inl, inr}
 use Rattle.std.proofs.lemmas.Bool.{false≢true}
 use Rattle.std.proofs.lemmas.List.{length-append, length-drop}
 use Rattle.std.specs.Prelude.{◌≢◌, Result, Ok, Err, OnOk, is_ok, slice_get}
@@ -16,11 +16,9 @@ use Rattle.nt_container.specs.Spelling.{blob_key}
 use Rattle.nt_container.proofs.Lengths.{blob_key-len}
 use Rattle.nt_machine.specs.declared.entry.Entry.{Entry}
 use Rattle.nt_machine.specs.History.{Cluster, ranges_of}
-use Rattle.nt_machine.specs.Legal.{end_after}
 use Rattle.nt_book.specs.declared.meta.ClusterMeta.{ClusterMeta}
 use Rattle.nt_book.specs.Entries.{committed_entry, committed_by, spoiled_entry, faulted_entry}
 use Rattle.nt_book.specs.declared.limits.LimitError.{LimitError}
-use Rattle.nt_book.specs.Limiting.{limit_error}
 use Rattle.nt_pages.specs.declared.image.ClusterImage.{ClusterImage}
 use Rattle.nt_pages.specs.Image.{key_room}
 use Rattle.nt_logged.specs.Steps.{bytes_where_told}
@@ -28,9 +26,10 @@ use Rattle.nt_commit.specs.declared.locked.Birth.{Birth}
 use Rattle.nt_commit.specs.declared.claim.Claim.{Claim}
 use Rattle.nt_commit.specs.declared.error.CommitError.{CommitError}
 use Rattle.nt_commit.specs.declared.error.CommitError.TheVariants.{RangeTooLarge, FileTooLarge, TooManyClusters, Memory, Fault}
-use Rattle.nt_commit.specs.Claims.{IsClaimOf, RefusalAdds, CommitAdds, limit_answered, settled_with}
-use Rattle.nt_commit.specs.Holds.{IsPassOf, HasNoneOut, IsHold, AddsInHold, CommitsInHold, SpoilsInHold, locked_end}
-use Rattle.nt_commit.specs.Locked.{LockedState, history_of_locked}
+use Rattle.nt_commit.specs.Claims.{HasLooked, IsClaimOf, RefusalAdds, CommitAdds, limit_answered, settled_with}
+use Rattle.nt_commit.specs.Holds.{IsPassOf, HasNoneOut, IsHold, AddsInHold, CommitsInHold, SpoilsInHold}
+use Rattle.nt_commit.specs.Lists.{NextPlace, limit_at}
+use Rattle.nt_commit.specs.Locked.{LockedState, book_of_birth, history_of_locked}
 use Rattle.nt_fill.specs.Passes.{KeepsCount, gained, Gains, MeetsFault, SpoilsRange, NamesLimit, WritesImage}
 use Rattle.nt_fill.proofs.Ranges.{last_got, new_range, ranges-committed, settled_in, spoiled_in, faulted_in}
 
@@ -143,18 +142,25 @@ module _ {D : Type 0} (state : D → DiskState) (committer : TurnState (Birth D)
   module _ {X : Type 0} (tell : X → ExtState) (meta : ClusterMeta) (old mid : Pass D) where
     -- the limit of a commit, by what never changes
     pub names : (answer : Result (Claim X) CommitError) (c : CommitsInHold state tell committer meta old mid answer)
-        (result : Result Unit CommitError) → limit_answered answer ≡ limit_answered result
+        (result : Result Unit CommitError) → limit_answered answer ≡ limit_answered result → (answer ≡ Err Memory → result ≡ Err Memory)
         → (new : Pass D) → IsPrefix mid.seen new.seen → ((l : LimitError) → limit_answered result ≡ Some l → mid.seen ≡ new.seen)
         → NamesLimit state committer meta.len old new result
-    names answer c result same new on last =
+    names answer c result same without new on last =
         let history = history_of_locked state c.taken in
         let seen : mid.seen ≡ history ++ c.commits.added = ap (λ (p : Pass D). p.seen) c.hold.now ∙ c.hold.grows in
+        let limits : (place : NextPlace (book_of_birth state committer.birth history))
+        × (HasLooked committer.birth.group result → limit_at (book_of_birth state committer.birth history) place meta.len
+        ≡ limit_answered result) =
+        subst (λ (b : Birth D). (place : NextPlace (book_of_birth state b history))
+        × (HasLooked b.group result → limit_at (book_of_birth state b history) place meta.len ≡ limit_answered result)) c.hold.birth
+        (c.commits.place, λ looked. c.commits.limits (elim looked [ inl none ↦ inl none | inr apart ↦ inr (λ is. apart (without is)) ])
+        ∙ same) in
         record {
           history = history;
           later = c.hold.begins;
           seen = prefix_then history mid.seen new.seen (c.commits.added, sym seen) on;
-          limits = subst (λ (b : Birth D). limit_error b.limits (end_after (state b.begun).end (ranges_of history))
-              (length (ranges_of history)) meta.len ≡ limit_answered answer) c.hold.birth c.commits.limits ∙ same;
+          place = limits.0;
+          limits = limits.1;
           last = λ l named.
               sym (append-nil history)
               ∙ (ap (λ (a : List (Entry ClusterMeta)). history ++ a)
@@ -178,7 +184,7 @@ module _ {D : Type 0} (state : D → DiskState) (committer : TurnState (Birth D)
 
     module _ (claim : Claim X) (c : CommitsInHold state tell committer meta old mid (Ok claim)) (is : meta.context ≡ old.number) where
       abbrev start : ℕ
-      start = locked_end state c.taken
+      start = c.commits.place.before + c.commits.place.due
 
       -- the pass gained the claim's cluster
       commits_one : Gains (committed_by old.number claim.cluster start meta ∷ []) old mid

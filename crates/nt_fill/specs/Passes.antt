@@ -9,11 +9,9 @@ use Rattle.nt_outside.specs.Disk.{DiskState}
 use Rattle.nt_container.specs.Spelling.{blob_key}
 use Rattle.nt_machine.specs.declared.entry.Entry.{Entry}
 use Rattle.nt_machine.specs.History.{WrittenChunk, entries_of_chunk, ranges_of}
-use Rattle.nt_machine.specs.Legal.{end_after}
 use Rattle.nt_book.specs.declared.limits.LimitError.{LimitError}
 use Rattle.nt_book.specs.declared.meta.ClusterMeta.{ClusterMeta}
 use Rattle.nt_book.specs.Entries.{committed_by, spoiled_entry, faulted_entry}
-use Rattle.nt_book.specs.Limiting.{limit_error}
 use Rattle.nt_pages.specs.declared.image.ClusterImage.{ClusterImage}
 use Rattle.nt_pages.specs.Image.{key_room}
 use Rattle.nt_logged.specs.Steps.{bytes_where_told}
@@ -21,7 +19,9 @@ use Rattle.nt_commit.specs.declared.locked.Birth.{Birth}
 use Rattle.nt_commit.specs.declared.claim.Claim.{Claim}
 use Rattle.nt_commit.specs.declared.error.CommitError.{CommitError}
 use Rattle.nt_commit.specs.declared.error.CommitError.TheVariants.{Fault}
-use Rattle.nt_commit.specs.Claims.{IsClaimOf, limit_answered}
+use Rattle.nt_commit.specs.Claims.{HasLooked, IsClaimOf, limit_answered}
+use Rattle.nt_commit.specs.Lists.{NextPlace, limit_at}
+use Rattle.nt_commit.specs.Locked.{book_of_birth}
 use Rattle.nt_commit.specs.Holds.{IsPassOf, HasNoneOut}
 use Rattle.nt_commit.specs.Images.{IsImageFor}
 
@@ -79,14 +79,15 @@ module _ {D : Type 0} where
       pub unfilled : (tell claim.ext).filled ≡ false
       pub long : length bytes ≡ (tell claim.ext).range.len
 
-    -- the answer names the limit that a range of this length passes behind a history that the pass has now seen, or none; behind a limit
-    -- that is named the pass has seen no more than that history
+    -- the answer names the limit that a range of this length passes behind a history that the pass has now seen, and behind the page list
+    -- that is due then, or none; behind a limit that is named the pass has seen no more than that history
     pub record NamesLimit (len : ℕ) (old new : PassState (Entry ClusterMeta) (Birth D)) (result : Result Unit CommitError) : Type 0 where
       pub history : List (Entry ClusterMeta)
       pub later : IsPrefix old.seen history
       pub seen : IsPrefix history new.seen
-      pub limits : limit_error committer.birth.limits (end_after (state committer.birth.begun).end (ranges_of history))
-          (length (ranges_of history)) len ≡ limit_answered result
+      pub place : NextPlace (book_of_birth state committer.birth history)
+      pub limits : HasLooked committer.birth.group result
+          → limit_at (book_of_birth state committer.birth history) place len ≡ limit_answered result
       pub last : (l : LimitError) → limit_answered result ≡ Some l → history ≡ new.seen
 
     -- the image was written with the key of its place, and its bytes are told where the disk told what it held at the beginning

@@ -4,6 +4,9 @@ pub mod Spans
 pub mod Counts
 pub mod Arranged
 pub mod Staged
+pub mod RangeParts
+pub mod BesideLists
+pub mod Beside
 pub mod Parts
 pub mod PartsThere
 pub mod Headers
@@ -25,5 +28,5 @@ pub mod LaidLate
 pub mod AddedColumns
 pub mod AddedBegin
 pub mod AddedFields
-pub mod LaidBehind
+pub mod LateLists
 pub mod RunFiles

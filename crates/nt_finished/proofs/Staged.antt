@@ -32,7 +32,7 @@ use Rattle.nt_layout.proofs.Middles.{concat-range_parts}
 
 -- ---- all parts lie in order
 
-behind-append : (place : ℕ) (ps qs : List Part) → AreBehind place ps → AreBehind (place + parts_len ps) qs → AreBehind place (ps ++ qs)
+pub behind-append : (place : ℕ) (ps qs : List Part) → AreBehind place ps → AreBehind (place + parts_len ps) qs → AreBehind place (ps ++ qs)
 behind-append place [] qs h more = let same : place + 0 ≡ place = omega arith in subst (λ (n : ℕ). AreBehind n qs) same more
 behind-append place (p ∷ ps) qs h more =
     let same : place + parts_len (p ∷ ps) ≡ place + length p.bytes + parts_len ps =
@@ -48,7 +48,7 @@ behind-lists sum book place (s ∷ ss) = (
       (sym (length-blob place (list_object sum book s))) (behind-lists sum book (place + list_len sum book s) ss),
 )
 
-behind-ranges : (place : ℕ) (cs : List (Cluster ClusterMeta)) (ranges : List (List ℕ)) → AreBehindSpans place (spans_of cs)
+pub behind-ranges : (place : ℕ) (cs : List (Cluster ClusterMeta)) (ranges : List (List ℕ)) → AreBehindSpans place (spans_of cs)
     → map length ranges ≡ map (λ (c : Cluster ClusterMeta). c.len) cs → AreBehind place (range_parts cs ranges)
 behind-ranges place [] ranges h lens = tt
 behind-ranges place (c ∷ cs) [] h lens = tt

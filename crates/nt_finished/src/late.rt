@@ -1,6 +1,6 @@
 //! The laws of clusters that were written before fields were added.
 
-ghost use Rattle.std.specs.Prelude.{◌≡◌, ℕ, ◌+◌, ◌≤◌, true, List, map, length, Ok};
+ghost use Rattle.std.specs.Prelude.{◌≡◌, ℕ, ◌+◌, ◌≤◌, true, false, List, map, length, Ok};
 ghost use Rattle.nt_types.specs.TreeData.{TreesData, no_trees, tree};
 ghost use Rattle.nt_grammar.specs.declared.rows.ColumnRow.{ColumnRow};
 ghost use Rattle.nt_grammar.specs.Table.{Table};
@@ -14,6 +14,7 @@ ghost use Rattle.nt_file_meaning.specs.Holds.{HoldsCluster};
 ghost use Rattle.nt_grammar.specs.ReadingBack.{IsDescribed};
 ghost use Rattle.nt_layout.specs.Headers.{clusters_place};
 ghost use Rattle.nt_layout.specs.Finished.{finished};
+ghost use Rattle.nt_layout.specs.Beside.{HasListsBeside};
 ghost use Rattle.nt_layout.specs.Laid.{Measures, AreMeasures, IsWithin};
 ghost use Rattle.nt_finished.specs.LateFiles.{AreLateBlobs, IsLaidLate};
 ghost use Rattle.nt_finished.specs.LeftOut.{IsLeftOut, LacksFields, AreFilled, filled};
@@ -55,6 +56,16 @@ pub fn late_files_are_laid_behind()
     ensures { (file : List ℕ) (t : Table) (clusters : List (List TreesData)) (m : Measures)
         (ranges : List (List ℕ)) (book : BookData) → m.staged ≡ true → IsBookKept book
         → IsUngrouped book → book.begin ≡ clusters_place t → map (λ (c : ColumnRow). c.first) t.columns ≡ book.firsts
+        → IsWithin t m book → AreLateBlobs t m.page 0 clusters ranges (book_clusters book)
+        → file ≡ finished m.staged t book m.group ranges → IsLaidLate file t clusters m }
+{}
+
+/// And so is that of a kept book with page lists beside its clusters.
+pub fn late_files_are_laid_beside()
+    ensures { (file : List ℕ) (t : Table) (clusters : List (List TreesData)) (m : Measures)
+        (ranges : List (List ℕ)) (book : BookData) → m.staged ≡ false → IsBookKept book
+        → HasListsBeside t m.group book → book.begin ≡ clusters_place t
+        → map (λ (c : ColumnRow). c.first) t.columns ≡ book.firsts
         → IsWithin t m book → AreLateBlobs t m.page 0 clusters ranges (book_clusters book)
         → file ≡ finished m.staged t book m.group ranges → IsLaidLate file t clusters m }
 {}

@@ -1,6 +1,6 @@
 //! The laws of finished files.
 
-ghost use Rattle.std.specs.Prelude.{◌≡◌, ◌+◌, ◌≤◌, ℕ, Bool, true, List, ◌∷◌, ◌++◌, map, length, replicate, Ok};
+ghost use Rattle.std.specs.Prelude.{◌≡◌, ◌+◌, ◌≤◌, ℕ, Bool, true, false, List, ◌∷◌, ◌++◌, map, length, replicate, Ok};
 ghost use Rattle.std.specs.List.{concat};
 ghost use Rattle.nt_lists.specs.Parts.{part_bytes};
 ghost use Rattle.nt_types.specs.ShapeData.{MemberData};
@@ -19,7 +19,8 @@ ghost use Rattle.nt_pagelists.specs.SoundBooks.{HasSoundClusters};
 ghost use Rattle.nt_file_meaning.specs.Outlines.{known_columns, outline_of};
 ghost use Rattle.nt_file_meaning.specs.Files.{Means};
 ghost use Rattle.nt_layout.specs.Headers.{header_blob, clusters_place};
-ghost use Rattle.nt_layout.specs.Finished.{list_places, lists_behind, middle, finished, file_len, ending, tail, front};
+ghost use Rattle.nt_layout.specs.Finished.{list_places, lists_behind, list_blobs, middle, finished, file_len, ending, tail, front};
+ghost use Rattle.nt_layout.specs.Beside.{HasListsBeside, lists_left, parts_so_far};
 ghost use Rattle.nt_layout.specs.Laid.{AreBlobsOf, Measures, AreMeasures, IsWithin, IsBookOf, IsLaid};
 ghost use Rattle.nt_finished.specs.Listed.{AreListsOf};
 ghost use Rattle.nt_finished.specs.Ranged.{IsRangedBook};
@@ -73,6 +74,28 @@ pub fn files_are_laid_behind()
         → m.staged ≡ true → IsBookOf t book → IsUngrouped book → IsWithin t m book
         → AreBlobsOf t m.page clusters ranges (book_clusters book)
         → file ≡ finished m.staged t book m.group ranges → IsLaid file t clusters m }
+{}
+
+/// A finished file of a kept book with page lists beside its clusters is laid out; and what stands
+/// between header and ending is what stood there before the file was closed, the ranges with the
+/// lists that were noted, and then the lists that were left.
+pub fn files_are_laid_beside()
+    ensures ranged { (t : Table) (most : ℕ) (book : BookData) (ranges : List (List ℕ))
+        → IsBookKept book → HasListsBeside t most book → book.begin ≡ clusters_place t
+        → map (λ (c : ColumnRow). c.first) t.columns ≡ book.firsts
+        → map length ranges ≡ map (λ (c : Cluster ClusterMeta). c.len) (ranges_of book.history)
+        → IsRangedBook false t most book ranges }
+    ensures laid { (file : List ℕ) (t : Table) (clusters : List (List TreesData)) (m : Measures)
+        (ranges : List (List ℕ)) (book : BookData)
+        → m.staged ≡ false → IsBookOf t book → HasListsBeside t m.group book → IsWithin t m book
+        → AreBlobsOf t m.page clusters ranges (book_clusters book)
+        → file ≡ finished m.staged t book m.group ranges → IsLaid file t clusters m }
+    ensures parts { (t : Table) (most : ℕ) (book : BookData) (ranges : List (List ℕ))
+        → IsBookKept book → HasListsBeside t most book
+        → map length ranges ≡ map (λ (c : Cluster ClusterMeta). c.len) (ranges_of book.history)
+        → concat (part_bytes (middle false t book most ranges))
+        ≡ concat (part_bytes (parts_so_far t book most ranges))
+        ++ concat (list_blobs t book (lists_left t book most)) }
 {}
 
 /// A file that is laid out is read as the outline of its schema, with the clusters of its book.

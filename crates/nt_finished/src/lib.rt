@@ -20,8 +20,9 @@
 //! (`ranged_files_are_outlined`), page lists beside their clusters or behind all of them. For who
 //! writes the file: how long it is (`finished_files_are_as_long`), and of which parts, in order
 //! (`finished_files_are_parts`), both whatever stands in the ranges of the clusters; that it is laid
-//! out where all page lists stand behind the ranges (`files_are_laid_behind`); and which books are
-//! of the schema of fields (`books_of_fields_are_of_their_schema`). And of the machine of contexts
+//! out where all page lists stand behind the ranges (`files_are_laid_behind`), or beside their
+//! clusters, the last ones left to who closes it (`files_are_laid_beside`); and which books are of
+//! the schema of fields (`books_of_fields_are_of_their_schema`). And of the machine of contexts
 //! (nt_machine): a run of it that closes, whatever its steps are, means the chunks of its contexts in
 //! the file that holds its ranges (`closed_runs_mean_their_chunks`, with `specs/RunFiles`).
 //!
@@ -32,7 +33,7 @@
 //! holds its entries with these zeros behind them (`earlier_clusters_are_filled`), and a file of such
 //! clusters means these (`files_mean_filled_entries`), as does the one that is laid out for them
 //! (`late_files_mean_their_entries`, with `specs/LateFiles`); the finished file of a kept book is
-//! laid out so (`late_files_are_laid_behind`). Nothing is only tested.
+//! laid out so (`late_files_are_laid_behind`, `late_files_are_laid_beside`). Nothing is only tested.
 //!
 //! Choices that bind nobody else:
 //! - The readings are followed as equations and not by the grammar beside them, which asks that each number of the file is a byte:
@@ -50,12 +51,12 @@ mod runs;
 pub use added::{added_fields_are_lacked, added_fields_are_left_out};
 pub use late::{
     earlier_clusters_are_filled, files_mean_filled_entries, late_files_are_laid_behind,
-    late_files_mean_their_entries,
+    late_files_are_laid_beside, late_files_mean_their_entries,
 };
 pub use laws::{
-    books_of_fields_are_of_their_schema, files_are_laid_behind, files_of_fields_mean_their_entries,
-    finished_files_are_as_long, finished_files_are_outlined, finished_files_are_parts,
-    finished_files_mean_their_entries, ranged_files_are_outlined,
+    books_of_fields_are_of_their_schema, files_are_laid_behind, files_are_laid_beside,
+    files_of_fields_mean_their_entries, finished_files_are_as_long, finished_files_are_outlined,
+    finished_files_are_parts, finished_files_mean_their_entries, ranged_files_are_outlined,
 };
 pub use missing::{missing_fields_are_zero, plans_have_the_zeros_of_their_shapes};
 pub use runs::closed_runs_mean_their_chunks;

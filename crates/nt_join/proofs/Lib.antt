@@ -4,3 +4,4 @@ pub mod Blocks
 pub mod Joins
 pub mod Reach
 pub mod Plans
+pub mod Places

@@ -1,3 +1,4 @@
 pub mod Spots
 pub mod Sweeps
 pub mod Readable
+pub mod Chosen

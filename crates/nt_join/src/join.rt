@@ -17,7 +17,12 @@ use std::alloc::{AllocError, Global};
 
 /// The tree of an element.
 #[cycle(join)]
-fn tree<C: Columns>(alloc: Global, columns: &C, plan: &Plan, i: u64) -> Result<Tree, AllocError>
+pub(crate) fn tree<C: Columns>(
+    alloc: Global,
+    columns: &C,
+    plan: &Plan,
+    i: u64,
+) -> Result<Tree, AllocError>
     requires { Readable (plan_view plan.now) (C.Columns.elements columns.now) i }
     ensures { IfOk result (λ t. tree_view t
         ≡ tree_at (plan_view plan.now) (C.Columns.elements columns.now) i) }

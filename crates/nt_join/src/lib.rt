@@ -8,7 +8,8 @@
 //!
 //! Proved: `check_by` gives exactly the first fault by column and element, as `fault_in_any` of
 //! nt_trees defines it (`fault`); without one the columns are sound (`sound`), and each entry can be
-//! read (`readable`); the trees of an entry are those of the definition `each_at` (`entry_by`).
+//! read (`readable`); the trees of an entry are those of the definition `each_at` (`entry_by`); those at
+//! some of its places, and the number at one, are the same trees (`chosen_by`, `number_by`).
 //!
 //! Not proved: how many sweeps there are, and that nothing but trees takes memory.
 //!
@@ -21,6 +22,7 @@
 #![tactic(auto)]
 
 mod check;
+mod chosen;
 mod counting;
 mod ends;
 mod fault;
@@ -31,6 +33,7 @@ pub mod reading;
 mod steps;
 
 pub use check::check_by;
+pub use chosen::{chosen_by, number_by};
 pub use fault::ValueFault;
 pub use join::entry_by;
 pub use open::{check_values, entry};

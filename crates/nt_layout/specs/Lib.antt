@@ -1,4 +1,5 @@
 pub mod Headers
 pub mod Groups
 pub mod Finished
+pub mod Beside
 pub mod Laid

@@ -1,6 +1,6 @@
 -- A call that was refused.
 use Rattle.std.proofs.Common.{◌≡◌, ◌⊎◌, inl, inr, ap, subst, refl, false}
-use Rattle.std.specs.Prelude.{Result, Err, Some, IsSome}
+use Rattle.std.specs.Prelude.{Result, Err, Some, None, IsSome}
 use Rattle.nt_outside.specs.declared.fault.Refused.{Refused}
 use Rattle.nt_outside.specs.declared.fault.Refused.TheVariants as refused
 use Rattle.nt_memory.specs.declared.tally.Tally.{Tally}
@@ -15,7 +15,7 @@ or_missing Listed NoName Missing why (inr none) = inr (why none)
 
 -- a call that is refused was listed or lacks its name
 pub refused_where : {T : Type 0} (Missing NoName : Type 0) (old ready new : Tally) → ready ≡ old → new ≡ failed ready
-    → (ready.trip ≡ false → IsListed ready ⊎ NoName) → (NoName → Missing) → FailsWhereListedOr {T = T} Missing old new (Err refused.Failed)
+    → (ready.trip ≡ None → IsListed ready ⊎ NoName) → (NoName → Missing) → FailsWhereListedOr {T = T} Missing old new (Err refused.Failed)
 refused_where {T} Missing NoName old ready new same new-is only why =
     subst (λ (t : Tally). FailsWhereListedOr {T = T} Missing t new (Err refused.Failed)) same (record {
       listed = λ listed. refl;

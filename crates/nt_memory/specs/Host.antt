@@ -1,6 +1,6 @@
 -- A host in memory.
 use Rattle.std.specs.Prelude.{◌≡◌, ◌⊎◌, ℕ, ◌+◌, ◌-◌, ◌^◌, ◌<◌, min, List, [], ◌∷◌, ◌++◌, map}
-use Rattle.std.specs.Prelude.{cond, false, Some, None, Result, OnOk, OnErr, IfOk, IsErr}
+use Rattle.std.specs.Prelude.{cond, Some, None, Result, OnOk, OnErr, IfOk, IsErr}
 use Rattle.std.specs.Option.{option_map}
 use Rattle.std.specs.String.{string_bytes}
 use Rattle.std.specs.FinMap as fin
@@ -79,7 +79,7 @@ pub record IsFresh (h : MemHost) : Type 0 where
   pub asked : (state_of h).asked ≡ []
   pub err_faults : (state_of h).err_faults ≡ 0
   pub opened : (state_of h).opened ≡ 0
-  pub tally : tally_of h ≡ new_tally [] false
+  pub tally : tally_of h ≡ new_tally [] None
   pub untripped : IsUntripped (plan_of h)
   pub planned : (plan_of h).planned.items ≡ []
   pub texts : (plan_of h).texts ≡ 0
@@ -116,7 +116,7 @@ pub record Plans (object : Object) (call : ℕ) (old new : MemHost) (result : Re
 pub record PrintsWhereListed (stream : Stream) (len : ℕ) (old new : MemHost) (result : Result ℕ Failed) : Type 0 where
   pub whole : IfOk result (λ n. n ≡ len)
   pub listed : IsListed (tally_of old) → IsErr result
-  pub only : (tally_of old).trip ≡ false → OnErr result (IsListed (tally_of old) ⊎ (room_on stream (room_of_host old) < len))
+  pub only : (tally_of old).trip ≡ None → OnErr result (IsListed (tally_of old) ⊎ (room_on stream (room_of_host old) < len))
   pub made : (tally_of new).made ≡ one_more (tally_of old).made
   pub list : (tally_of new).listed ≡ (tally_of old).listed
   pub ok : OnOk result (world.counted stream (state_of new) ≡ world.counted stream (state_of old))

@@ -10,6 +10,7 @@ pub mod Planned
 pub mod Untripped
 pub mod Named
 pub mod Streams
+pub mod Hits
 pub mod Host
 pub mod Trips
 pub mod Opening

@@ -1,6 +1,6 @@
 -- What the calls of a host in memory that open something do, each and together.
-use Rattle.std.specs.Prelude.{◌≡◌, ◌⊎◌, ◌+◌, ◌^◌, ◌<◌, ◌≤◌, ◌++◌, ◌∷◌, [], false, List, ℕ, vec_len, vec_capacity, Option, Some, IfSome}
-use Rattle.std.specs.Prelude.{OnSome, IfNone, IsNone, Result, OnOk}
+use Rattle.std.specs.Prelude.{◌≡◌, ◌⊎◌, ◌+◌, ◌^◌, ◌<◌, ◌≤◌, ◌++◌, ◌∷◌, [], List, ℕ, vec_len, vec_capacity, Option, Some, IfSome}
+use Rattle.std.specs.Prelude.{None, OnSome, IfNone, IsNone, Result, OnOk}
 use Rattle.nt_outside.specs.declared.fault.Refused.{Refused}
 use Rattle.nt_outside.specs.Faults.{Rose}
 use Rattle.nt_outside.specs.World.{Asked, HostState}
@@ -34,7 +34,7 @@ pub record IsSameHost (old new : MemHost) : Type 0 where
 pub record Admits {T : Type 0} (found : Option T) (old new : Tally) (result : Option T) : Type 0 where
   pub some : IfSome result (λ x. found ≡ Some x)
   pub listed : IsListed old → IsNone result
-  pub only : old.trip ≡ false → IfNone result (IsListed old ⊎ IsNone found)
+  pub only : old.trip ≡ None → IfNone result (IsListed old ⊎ IsNone found)
   pub counted : OnSome result (new ≡ call_counted old)
   pub failed : IfNone result (new ≡ failed old)
 

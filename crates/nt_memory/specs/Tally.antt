@@ -1,12 +1,13 @@
 -- Calls that fail where their numbers are listed. A call's number counts from 1 over the object's calls that can fail.
-use Rattle.std.specs.Prelude.{◌≡◌, ◌⊎◌, ℕ, ◌+◌, ◌-◌, ◌^◌, min, Bool, false, List, Contains, Result, OnOk, OnErr, IsErr, IsErrOf}
+use Rattle.std.specs.Prelude.{◌≡◌, ◌⊎◌, ℕ, ◌+◌, ◌-◌, ◌^◌, min, Option, None, List, Contains, Result, OnOk, OnErr, IsErr, IsErrOf}
 use Rattle.nt_outside.specs.declared.fault.Failed.{Failed}
 use Rattle.nt_outside.specs.declared.fault.Refused.{Refused}
 use Rattle.nt_outside.specs.declared.fault.Refused.TheVariants as refused
 use Rattle.nt_memory.specs.declared.tally.Tally.{Tally}
+use Rattle.nt_memory.specs.Hits.{Hits}
 
 -- no call was made; some may fail by their number over several objects, or none
-abbrev pub new_tally : List ℕ → Bool → Tally
+abbrev pub new_tally : List ℕ → Option Hits → Tally
 new_tally listed trip = record { listed = listed; made = 0; faults = 0; trip = trip }
 
 -- one more, up to the last number of the type
@@ -36,7 +37,7 @@ takes_in faults t = record t { faults = min (t.faults + faults) (2 ^ 64 - 1) }
 -- the call failed where its number is listed, nowhere else unless it counts with other objects, and was counted
 pub record FailsWhereListed {T : Type 0} (old new : Tally) (result : Result T Failed) : Type 0 where
   pub listed : IsListed old → IsErr result
-  pub only : old.trip ≡ false → IsErr result → IsListed old
+  pub only : old.trip ≡ None → IsErr result → IsListed old
   pub ok : OnOk result (new ≡ call_counted old)
   pub err : OnErr result (new ≡ failed old)
 
@@ -45,7 +46,7 @@ pub record FailsWhereListed {T : Type 0} (old new : Tally) (result : Result T Fa
 pub record FailsWhereListedOr {T : Type 0} (Missing : Type 0) (old new : Tally) (result : Result T Refused) : Type 0 where
   pub listed : IsListed old → IsErr result
   pub missing : Missing → IsErr result
-  pub only : old.trip ≡ false → IsErrOf result refused.Failed → IsListed old ⊎ Missing
+  pub only : old.trip ≡ None → IsErrOf result refused.Failed → IsListed old ⊎ Missing
   pub ok : OnOk result (new ≡ call_counted old)
   pub outside : IsErrOf result refused.Failed → new ≡ failed old
   pub memory : IsErrOf result refused.Memory → new ≡ old

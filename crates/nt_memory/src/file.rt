@@ -1,6 +1,6 @@
 //! A file in memory.
 
-ghost use Rattle.std.specs.Prelude.{◌≡◌, ◌<◌, ◌^◌, ℕ, false, All, Some};
+ghost use Rattle.std.specs.Prelude.{◌≡◌, ◌<◌, ◌^◌, ℕ, All, Some, None};
 
 use crate::bytes::are_bytes;
 use crate::calls::Calls;
@@ -24,7 +24,7 @@ impl MemFile {
 
     pub fn new(bytes: Bytes, fails: Calls) -> Self
         ensures bytes { state_of result ≡ record { bytes = Some bytes; faults = 0 } }
-        ensures tally { tally_of result ≡ new_tally fails false }
+        ensures tally { tally_of result ≡ new_tally fails None }
     {
         MemFile::open(bytes, Tally::new(fails, Trip::none()))
     }

@@ -8,9 +8,9 @@
 //!
 //! Proved: the contracts of nt_outside's traits, with all contents told; a call fails exactly where its number is listed or its
 //! name isn't there, a print also where its stream has no room, and `create` also while a disk is out (`exact`), unless calls fail by
-//! their number over all objects, when nothing is said of which, but that a count of faults rises with each; a disk's bytes are ones
-//! that its steps allow (the type's `reads`, and `told`); there is memory to settle each range that is out; the file that `crash`
-//! gives is one that a crash may leave (`leaves`). A disk's log, and what a crash may leave of it, are nt_disk_log's.
+//! their number over all objects, when only these numbers are told (`number`, `count`), and that a count of faults rises with each; a
+//! disk's bytes are ones that its steps allow (the type's `reads`, and `told`); there is memory to settle each range that is out; the
+//! file that `crash` gives is one that a crash may leave (`leaves`). A disk's log, and what a crash may leave of it, are nt_disk_log's.
 //!
 //! Only tested, in test_memory: that the calls succeed with ample memory, which call is the n-th over all objects, and that the objects
 //! can be handed to another thread.

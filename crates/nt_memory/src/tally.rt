@@ -1,6 +1,6 @@
 //! Counts of an object's calls.
 
-ghost use Rattle.std.specs.Prelude.{◌≡◌, ◌+◌, ◌-◌, ◌^◌, ◌≤◌, false, if◌then◌else◌, min, IsTrue};
+ghost use Rattle.std.specs.Prelude.{◌≡◌, ◌+◌, ◌-◌, ◌^◌, ◌≤◌, None, if◌then◌else◌, min, IsTrue};
 ghost use Rattle.std.specs.Bool.{OnTrue};
 
 use crate::calls::Calls;
@@ -33,7 +33,7 @@ impl Tally {
     /// Counts a call, and says whether it is to fail.
     pub fn begin_call(&mut self) -> bool
         ensures listed { IsListed self.old → IsTrue result }
-        ensures only { self.old.trip ≡ false → IsTrue result → IsListed self.old }
+        ensures only { self.old.trip ≡ None → IsTrue result → IsListed self.old }
         ensures counted { self.new ≡ call_counted self.old }
         ensures faults { self.new.faults ≡ self.old.faults }
     {
@@ -53,7 +53,7 @@ impl Tally {
     /// Counts a call, and a fault where it is to fail.
     pub fn count_call(&mut self) -> bool
         ensures listed { IsListed self.old → IsTrue result }
-        ensures only { self.old.trip ≡ false → IsTrue result → IsListed self.old }
+        ensures only { self.old.trip ≡ None → IsTrue result → IsListed self.old }
         ensures tally { self.new ≡ (if result then failed self.old else call_counted self.old) }
         ensures later { self.old.faults ≤ self.new.faults }
         ensures rose { OnTrue result (Rose self.old.faults self.new.faults) }

@@ -1,6 +1,6 @@
 //! A text in memory.
 
-ghost use Rattle.std.specs.Prelude.{◌≡◌, ◌-◌, ◌^◌, ◌≤◌, ◌<◌, false, length, Some, IfOk};
+ghost use Rattle.std.specs.Prelude.{◌≡◌, ◌-◌, ◌^◌, ◌≤◌, ◌<◌, length, Some, None, IfOk};
 
 use crate::calls::Calls;
 use crate::front::copy_front;
@@ -27,7 +27,7 @@ impl MemSource {
     /// A text whose reads give as many bytes as there is room for.
     pub fn new(bytes: Bytes, fails: Calls) -> Self
         ensures left { state_of result ≡ record { left = Some bytes; faults = 0 } }
-        ensures tally { tally_of result ≡ new_tally fails false }
+        ensures tally { tally_of result ≡ new_tally fails None }
         ensures most { most_of result ≡ 2 ^ 64 - 1 }
     {
         MemSource::open(bytes, Tally::new(fails, Trip::none()), usize::MAX)

@@ -1,14 +1,15 @@
 //! A count of calls that several objects share.
 
-ghost use Rattle.std.specs.Prelude.{◌≡◌, Bool, true, false, is_some, IsTrue, IfOk};
+ghost use Rattle.std.specs.Prelude.{◌≡◌, Option, Some, None, IsTrue, IsSome, IfOk};
+ghost use Rattle.nt_memory.specs.Hits.{Hits, hits_of};
 
 use std::alloc::{AllocError, Global};
 use std::marker::Model;
 use std::sync::Arc;
 use std::sync::atomic::{AtomicU64, Ordering};
 
-/// Which calls are to fail by their number, from 1, over all objects that count in one word. Nothing is proved of that number: only
-/// that no call fails by it where nothing is counted.
+/// Which calls are to fail by their number, from 1, over all objects that count in one word. Of the word itself nothing is proved:
+/// only which numbers are to fail, and that no call fails by its number where nothing is counted.
 #[derive(Drop)]
 pub struct Trip {
     word: Option<Arc<AtomicU64, Global>>,
@@ -17,15 +18,15 @@ pub struct Trip {
 }
 
 impl Model for Trip {
-    ghost Value = { Bool };
+    ghost Value = { Option Hits };
 
-    ghost view = { λ t. is_some t.word };
+    ghost view = { λ t. hits_of t.word t.from t.to };
 }
 
 impl Trip {
     /// Nothing is counted.
     pub fn none() -> Self
-        ensures { result ≡ false }
+        ensures { result ≡ None }
     {
         Trip {
             word: None,
@@ -36,7 +37,7 @@ impl Trip {
 
     /// The calls from one number to another fail.
     pub fn new(alloc: Global, from: u64, to: u64) -> Result<Self, AllocError>
-        ensures { IfOk result (λ t. t ≡ true) }
+        ensures { IfOk result (λ t. t ≡ Some (record { from = from; to = to })) }
     {
         let word = Arc::new(alloc, AtomicU64::new(0))?;
         Ok(Trip {
@@ -63,7 +64,7 @@ impl Trip {
 
     /// Counts a call, and says whether it is to fail.
     pub fn hits(&self) -> bool
-        ensures { IsTrue result → self.now ≡ true }
+        ensures { IsTrue result → IsSome self.now }
     {
         match &self.word {
             Some(word) => {

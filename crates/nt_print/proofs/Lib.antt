@@ -1,6 +1,8 @@
 mod Arrays
 mod Decimals
+mod LentEnds
 mod Numbers
+mod Optionals
 mod Parts
 mod Places
 mod ShortTexts

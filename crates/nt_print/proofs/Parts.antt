@@ -172,29 +172,36 @@ some-later from to n order is = elim (cases_lt from to) [
   | inr r ↦ le-ltb from to r ∙ sym (le-ltb 0 n (omega arith))
 ]
 
--- after all numbers of a part, and an end
-pub IsPut-line : (old : List ℕ) (first : ℕ) (new next : List ℕ) (mark bits : ℕ) (signed : Bool) (es : List Element) (from to at : ℕ)
-    → from ≤ to → to ≤ length es → to ≤ at
-    → IsPut (old ++ first ∷ []) new mark (map (integer_of bits signed) (slice_range (numbers es) at to))
-    (integers_text 91 (map (integer_of bits signed) (slice_range (numbers es) from to)))
-    → next ≡ new ++ end_of (ltb from to)
-    → next ≡ old ++ first ∷ line_of (integer_trees bits signed (numbers (slice_range es from to)))
-IsPut-line old first new next mark bits signed es from to at order within all b is =
+-- after all numbers of a part
+pub IsPut-read_all : (old new : List ℕ) (first mark bits : ℕ) (signed : Bool) (es : List Element) (from to at : ℕ) → to ≤ at
+    → IsPut old new mark (map (integer_of bits signed) (slice_range (numbers es) at to))
+    (integers_text first (map (integer_of bits signed) (slice_range (numbers es) from to)))
+    → new ≡ old ++ integers_text first (map (integer_of bits signed) (numbers (slice_range es from to)))
+IsPut-read_all old new first mark bits signed es from to at behind b =
     let integer : ℕ → ℤ = integer_of bits signed in
-    let ns : List ℕ = slice_range (numbers es) from to in
-    let text : List ℕ = integers_text 91 (map integer ns) in
-    let later : Bool = ltb from to in
     let none : to - at ≡ 0 = omega arith in
     let nothing : map integer (slice_range (numbers es) at to) ≡ [] = ap (λ n. map integer (take n (drop at (numbers es)))) none in
-    let len : length ns ≡ to - from = length-take-le (to - from) (drop from (numbers es))
-    (omega (arith, length-drop from (numbers es), length-numbers es, within)) in
+    let all : List ℕ = integers_text first (map integer (slice_range (numbers es) from to)) in
+    IsPut-all old new mark (map integer (slice_range (numbers es) at to)) all nothing b
+    ∙ ap (λ (l : List ℕ). old ++ integers_text first (map integer l)) (sym (numbers-range es from to))
+
+-- a mark, all numbers of a part, and an end
+pub line-put : (old a b next : List ℕ) (mark bits : ℕ) (signed : Bool) (es : List Element) (from to : ℕ) → from ≤ to → to ≤ length es
+    → a ≡ old ++ mark ∷ [] → b ≡ a ++ integers_text 91 (map (integer_of bits signed) (numbers (slice_range es from to)))
+    → next ≡ b ++ end_of (ltb from to)
+    → next ≡ old ++ mark ∷ line_of (integer_trees bits signed (numbers (slice_range es from to)))
+line-put old a b next mark bits signed es from to order within begun items is =
+    let ns : List ℕ = numbers (slice_range es from to) in
+    let text : List ℕ = integers_text 91 (map (integer_of bits signed) ns) in
+    let later : Bool = ltb from to in
+    let len : length ns ≡ to - from =
+    length-numbers (slice_range es from to) ∙ length-take-le (to - from) (drop from es) (omega (arith, length-drop from es, within)) in
     is
-    ∙ (ap (λ l. l ++ end_of later)
-    (IsPut-all (old ++ first ∷ []) new mark (map integer (slice_range (numbers es) at to)) text nothing b)
-    ∙ (append_assoc (old ++ first ∷ []) text (end_of later)
-    ∙ (append_assoc old (first ∷ []) (text ++ end_of later)
-    ∙ ap (λ l. old ++ first ∷ l) (line-ended bits signed ns later (some-later from to (length ns) order len)
-    ∙ ap (λ l. line_of (integer_trees bits signed l)) (sym (numbers-range es from to))))))
+    ∙ (ap (λ (l : List ℕ). l ++ end_of later) items
+    ∙ (append_assoc a text (end_of later)
+    ∙ (ap (λ (l : List ℕ). l ++ (text ++ end_of later)) begun
+    ∙ (append_assoc old (mark ∷ []) (text ++ end_of later)
+    ∙ ap (λ (l : List ℕ). old ++ mark ∷ l) (line-ended bits signed ns later (some-later from to (length ns) order len))))))
 
 -- ---- room that is written to
 

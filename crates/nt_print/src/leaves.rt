@@ -3,7 +3,7 @@
 ghost use Rattle.std.specs.Prelude.{◌≡◌, ◌≤◌, ◌-◌, ◌++◌, ◌∷◌, length, take, true, decimal, OnOk};
 ghost use Rattle.serde_json.specs.Written.{compact_text};
 ghost use Rattle.nt_event.specs.Json.{data_of};
-ghost use Rattle.nt_types.specs.TreeData.{flag, num, text};
+ghost use Rattle.nt_types.specs.TreeData.{flag, nothing, num, text};
 ghost use Rattle.nt_trees.specs.Integers.{integer_of};
 ghost use Rattle.nt_trees.specs.TreeAt.{text_from};
 ghost use Rattle.nt_print.specs.Marks.{mark_before, end_of};
@@ -32,6 +32,17 @@ pub fn put_end(later: bool, out: &mut Vec<u8>) -> Result<(), AllocError>
     } else {
         out.extend_from_slice(b"[]")
     }
+}
+
+/// Appends a mark, and then what stands for no value.
+#[inline(never)]
+pub fn put_null(mark: u8, out: &mut Vec<u8>) -> Result<(), AllocError>
+    ensures ok { OnOk result (out.new.items ≡ out.old.items ++ mark ∷ compact_text (data_of nothing)) }
+    ensures kept { take (length out.old.items) out.new.items ≡ out.old.items }
+{
+    out.push(mark)?;
+    out.extend_from_slice(b"null")?;
+    Ok(())
 }
 
 /// Appends a truth value.
@@ -106,18 +117,17 @@ pub fn put_part<C: Columns>(
     alloc: Global,
     columns: &C,
     column: u32,
-    from: u64,
-    to: u64,
+    part: (u64, u64),
     mark: u8,
     out: &mut Vec<u8>,
 ) -> Result<(), AllocError>
-    requires order { from ≤ to }
-    requires within { to ≤ length (C.Columns.elements columns.now column) }
+    requires order { part.0 ≤ part.1 }
+    requires within { part.1 ≤ length (C.Columns.elements columns.now column) }
     ensures ok { OnOk result (out.new.items ≡ out.old.items ++ mark ∷ compact_text
-        (data_of (text (text_from (C.Columns.elements columns.now column) from (to - from))))) }
+        (data_of (text (text_from (C.Columns.elements columns.now column) part.0 (part.1 - part.0))))) }
     ensures kept { take (length out.old.items) out.new.items ≡ out.old.items }
 {
-    let bytes = columns.text(alloc, column, from, to)?;
+    let bytes = columns.text(alloc, column, part.0, part.1)?;
     put_text(alloc, mark, bytes.as_slice(), out)
 }
 

@@ -3,7 +3,8 @@
 //! Start at `write_entry`, which appends the line of one entry. It goes over any `Columns` by the plans
 //! of a schema's open fields, as nt_join does for trees; nothing here reads rows. Most values are the
 //! numbers of lists: `lists.rt` prints these from where their column lies, `few.rt` those of a short
-//! list, `blocks.rt` eight of a longer one at once, and `marked.rt` any number. Most texts are of
+//! list, `blocks.rt` eight of a longer one at once, and `marked.rt` any number; `optional.rt` prints lists of
+//! optional integers. Most texts are of
 //! characters that stand for themselves: `short.rt` sees it while it writes a short one.
 //!
 //! Words: those of nt_trees and nt_event; a *line* is the JSON array of an entry, and its LF; a *mark* is
@@ -23,6 +24,8 @@
 //! - A text of up to 29 bytes is written to such room, eight bytes at a time; the last eight may be there
 //!   already in part. A longer one is looked at first, and then appended.
 //! - Where the part of an element stands is one look at the column of its ends, where they lie together.
+//! - A list of optional integers is printed by runs, of integers up to the next that is missing, and of `null`. As
+//!   many ends as integers say that none is missing: then it is the list of the integers, and no end is looked at.
 //! - A list of numbers that don't lie together, as those of a column of zeros, is read 32 numbers at a time.
 //! - It goes as deep as the plans do, which is at most 64 levels.
 #![tactic(auto)]
@@ -31,9 +34,11 @@ mod blocks;
 mod digits;
 mod entry;
 mod few;
+mod integers;
 mod leaves;
 mod lists;
 mod marked;
+mod optional;
 mod reading;
 mod room;
 mod short;

@@ -8,9 +8,9 @@ ghost use Rattle.nt_plans.specs.PlanViews.{plan_view, plans_view};
 ghost use Rattle.nt_trees.specs.TreeAt.{tree_at, each_at, trees_from, only};
 ghost use Rattle.nt_join.specs.Readable.{Readable, ReadableTo, ReadableEach};
 
-use crate::leaves::{mark_before, put_end, put_flag, put_integer, put_part, put_tag};
-use crate::lists::put_lent;
-use crate::reading::put_read;
+use crate::integers::{integers_of, put_list};
+use crate::leaves::{mark_before, put_end, put_flag, put_integer, put_null, put_part, put_tag};
+use crate::optional::{optionals_of, put_optionals};
 use crate::spans::span;
 use nt_column::Columns;
 use nt_join::reading::{number, tag};
@@ -45,13 +45,13 @@ fn put_value<C: Columns>(
             Ok(())
         }
         Plan::Text { ends, bytes } => {
-            let (from, to) = span(columns, *ends, i);
-            put_part(alloc, columns, *bytes, from, to, mark, out)?;
+            let text = span(columns, *ends, i);
+            put_part(alloc, columns, *bytes, text, mark, out)?;
             Ok(())
         }
         Plan::List { ends, of } => {
-            let (from, to) = span(columns, *ends, i);
-            put_range(alloc, columns, of, from, to, mark, out)?;
+            let items = span(columns, *ends, i);
+            put_range(alloc, columns, of, items, mark, out)?;
             Ok(())
         }
         Plan::Maybe { ends, of } => {
@@ -79,29 +79,23 @@ fn put_range<C: Columns>(
     alloc: Global,
     columns: &C,
     of: &Plan,
-    from: u64,
-    to: u64,
+    part: (u64, u64),
     mark: u8,
     out: &mut Vec<u8>,
 ) -> Result<(), AllocError>
-    requires order { from ≤ to }
-    requires readable { ReadableTo (plan_view of.now) (C.Columns.elements columns.now) to }
+    requires order { part.0 ≤ part.1 }
+    requires readable { ReadableTo (plan_view of.now) (C.Columns.elements columns.now) part.1 }
     ensures ok { OnOk result (out.new.items ≡ out.old.items ++ mark ∷ line_of
-        (trees_from (tree_at (plan_view of.now) (C.Columns.elements columns.now)) from (to - from))) }
+        (trees_from (tree_at (plan_view of.now) (C.Columns.elements columns.now)) part.0 (part.1 - part.0))) }
     ensures kept { take (length out.old.items) out.new.items ≡ out.old.items }
 {
-    if let Plan::Number {
-        column,
-        bits,
-        signed,
-    } = of
-    {
-        if let Some(words) = columns.words(*column, from, to) {
-            return put_lent(mark, words, *bits, *signed, out);
-        }
-        return put_read(columns, *column, (*bits, *signed), (from, to), mark, out);
+    if let Some(integers) = integers_of(of) {
+        return put_list(columns, integers, part, mark, out);
     }
-    put_items(alloc, columns, of, from, to, mark, out)
+    if let Some(list) = optionals_of(columns, of, part) {
+        return put_optionals(columns, list, mark, out);
+    }
+    put_items(alloc, columns, of, part, mark, out)
 }
 
 /// The same, an element at a time.
@@ -111,17 +105,17 @@ fn put_items<C: Columns>(
     alloc: Global,
     columns: &C,
     of: &Plan,
-    from: u64,
-    to: u64,
+    part: (u64, u64),
     mark: u8,
     out: &mut Vec<u8>,
 ) -> Result<(), AllocError>
-    requires order { from ≤ to }
-    requires readable { ReadableTo (plan_view of.now) (C.Columns.elements columns.now) to }
+    requires order { part.0 ≤ part.1 }
+    requires readable { ReadableTo (plan_view of.now) (C.Columns.elements columns.now) part.1 }
     ensures ok { OnOk result (out.new.items ≡ out.old.items ++ mark ∷ line_of
-        (trees_from (tree_at (plan_view of.now) (C.Columns.elements columns.now)) from (to - from))) }
+        (trees_from (tree_at (plan_view of.now) (C.Columns.elements columns.now)) part.0 (part.1 - part.0))) }
     ensures kept { take (length out.old.items) out.new.items ≡ out.old.items }
 {
+    let (from, to) = part;
     out.push(mark)?;
     let mut later = false;
     for i in from..to {
@@ -152,9 +146,7 @@ fn put_optional<C: Columns>(
 {
     let (from, to) = part;
     if from == to {
-        out.push(mark)?;
-        out.extend_from_slice(b"null")?;
-        return Ok(());
+        return put_null(mark, out);
     }
     put_value(alloc, columns, of, from, mark, out)
 }

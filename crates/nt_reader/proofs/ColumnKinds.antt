@@ -18,7 +18,7 @@ use Rattle.nt_file_meaning.specs.Clusters.{column_kinds, kind_of_code}
 use Rattle.nt_reader.specs.Columns.{kind_or_bit, kept_empty, AreOfTypes}
 
 -- each type is found by its code
-kind-found : (t : ColumnType) → kind_of_code (code_of t) ≡ Some t
+pub kind-found : (t : ColumnType) → kind_of_code (code_of t) ≡ Some t
 kind-found Bit = refl
 kind-found Byte = refl
 kind-found Char = refl
@@ -64,7 +64,7 @@ kind-of_code code None is each = one (kind_of_code code) refl
     one None e = refl
     one (Some t) e = each t (eqb-true _ _ (found-passes (λ x. eqb (code_of x) code) column_kinds t e))
 
-abbrev kept_kind : ColumnRow → ColumnType
+abbrev pub kept_kind : ColumnRow → ColumnType
 kept_kind c = kind_or_bit (kind_of_code c.code)
 
 -- the type of one column more

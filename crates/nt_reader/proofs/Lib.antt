@@ -12,3 +12,5 @@ pub mod GroupSteps
 pub mod ClusterSteps
 pub mod KnownSteps
 pub mod Entries
+pub mod KeptTypes
+pub mod Fitting

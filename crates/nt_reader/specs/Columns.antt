@@ -1,11 +1,15 @@
 -- The columns of a cluster, read one after the other.
-use Rattle.std.specs.Prelude.{ℕ, ◌≡◌, ◌+◌, ◌<◌, List, map, take, drop, length, slice_index_or, Option, Some, None, Result}
+use Rattle.std.specs.Prelude.{ℕ, ◌≡◌, ◌+◌, ◌<◌, List, map, take, drop, length, slice_index_or, Option, Some, None, Result, OnOk}
 use Rattle.nt_num.specs.declared.fault.ReadError.{ReadError}
 use Rattle.nt_types.specs.declared.column_type.ColumnType.{ColumnType}
 use Rattle.nt_types.specs.declared.column_type.ColumnType.TheVariants.{Bit}
 use Rattle.nt_encode.specs.Elements.{Element}
 use Rattle.nt_column.specs.Column.{Buffer, Column, empty, columns_of}
 use Rattle.nt_grammar.specs.Table.{Table}
+use Rattle.nt_plans.specs.Place.{open_plans}
+use Rattle.nt_trees.specs.Columns.{Cols}
+use Rattle.nt_trees.specs.Sound.{AllSound}
+use Rattle.nt_fitting.specs.Fitting.{AreOfRows}
 use Rattle.nt_grammar.specs.declared.rows.ColumnRow.{ColumnRow}
 use Rattle.nt_plans.specs.Needs.{need_of}
 use Rattle.nt_pagelists.specs.declared.cluster.ClusterList.{ClusterList}
@@ -58,6 +62,20 @@ pub record ChangesOne (id : ℕ) (cs ds : List Column) : Type 0 where
   pub all : length ds ≡ length cs
   pub before : take id ds ≡ take id cs
   pub behind : drop (id + 1) ds ≡ drop (id + 1) cs
+
+-- columns are of the types that others are of
+abbrev pub KeepTypes : List Column → List Column → Type 0
+KeepTypes cs ds = map (λ (c : Column). empty c.kind) ds ≡ map (λ (c : Column). empty c.kind) cs
+
+-- this column alone may have changed, and where the answer isn't a failure none is of another type
+pub record FillsOne {E : Type 0} (id : ℕ) (cs ds : List Column) (result : Result Unit E) : Type 0 where
+  pub one : ChangesOne id cs ds
+  pub types : OnOk result (KeepTypes cs ds)
+
+-- the columns of so many entries of a schema: they are sound, and their elements of the types of their rows
+pub record AreClusterColumns (t : Table) (cols : Cols) (entries : ℕ) : Type 0 where
+  pub sound : AllSound (open_plans t) cols entries
+  pub typed : AreOfRows t.columns cols
 
 -- what was read of a cluster: the rows of its schema, the elements of its columns by id, and the number of its entries
 pub record ClusterData : Type 0 where

@@ -1,20 +1,21 @@
 //! A cluster that was read.
 
-ghost use Rattle.std.specs.Prelude.{◌≡◌, ◌<◌, ◌++◌, ◌∷◌, [], Some, slice_get, slice_index_or, IfOk, OnOk, OnErr};
+ghost use Rattle.std.specs.Prelude.{◌≡◌, ◌<◌, ◌++◌, ◌∷◌, [], ℕ, Some, slice_get, slice_index_or, IfOk, OnOk, OnErr};
 ghost use Rattle.nt_types.specs.TreeData.{trees_of, no_trees};
 ghost use Rattle.nt_types.specs.TreeViews.{trees_view};
+ghost use Rattle.nt_column.specs.Column.{columns_of, elements_at};
 ghost use Rattle.nt_plans.specs.Place.{open_plans};
 ghost use Rattle.nt_trees.specs.Sound.{AllSound};
 ghost use Rattle.nt_trees.specs.Faults.{Spot, fault_in_any};
 ghost use Rattle.nt_join.specs.Spots.{spot_of};
 ghost use Rattle.nt_event.specs.Json.{line_of};
-ghost use Rattle.nt_file_meaning.specs.Clusters.{columns_by_id, frame_of, value_fault, no_value_fault, cluster_of};
+ghost use Rattle.nt_file_meaning.specs.Clusters.{columns_by_id, frame_of, value_fault, no_value_fault, cluster_of, columns_in_cluster};
 ghost use Rattle.nt_tfile.specs.Calls.{Serves, IsReadAs, ReadsFile};
 ghost use Rattle.nt_reader.specs.Columns.{held_elements, given_entries};
 
 use crate::columns::read_columns;
 use crate::faults::{BAD_VALUE, fault_with, in_column};
-use nt_column::ColumnSet;
+use nt_column::{ColumnSet, Columns};
 use nt_join::{ValueFault, check_values};
 use nt_num::ReadError;
 use nt_outside::ReadAt;
@@ -29,22 +30,20 @@ use std::marker::Model;
 /// each column, and the number of entries; `given_entries` says what entries these give.
 #[derive(Drop)]
 pub struct ClusterRead<'a> {
-    schema: &'a Schema,
-    columns: ColumnSet,
-    entries: u64,
+    pub(crate) schema: &'a Schema,
+    pub(crate) columns: ColumnSet,
+    pub(crate) entries: u64,
 }
 
 impl<'a> Model for ClusterRead<'a> {
-    ghost use Rattle.nt_plans.specs.Place.{open_plans};
-    ghost use Rattle.nt_trees.specs.Sound.{AllSound};
     ghost use Rattle.nt_file_meaning.specs.Clusters.{columns_by_id};
-    ghost use Rattle.nt_reader.specs.Columns.{ClusterData, held_elements};
+    ghost use Rattle.nt_reader.specs.Columns.{ClusterData, held_elements, AreClusterColumns};
 
     ghost Value = { ClusterData };
 
     ghost view = { λ c. record { table = c.schema.now; columns = held_elements c.columns; entries = c.entries } };
 
-    ghost invariant = { λ c. AllSound (open_plans c.schema.now) (columns_by_id (held_elements c.columns)) c.entries };
+    ghost invariant = { λ c. AreClusterColumns c.schema.now (columns_by_id (held_elements c.columns)) c.entries };
 }
 
 impl<'a> ClusterRead<'a> {
@@ -72,6 +71,13 @@ impl<'a> ClusterRead<'a> {
         ensures err { OnErr result (out.new.items ≡ out.old.items) }
     {
         nt_print::write_entry(alloc, &self.columns, self.schema, i, out)
+    }
+
+    /// The elements of the columns, by id; of a closed column none.
+    pub fn columns(&self) -> &ColumnSet
+        ensures { (id : ℕ) → elements_at (columns_of result.now) id ≡ columns_by_id self.now.columns id }
+    {
+        &self.columns
     }
 
     /// The columns, whose memory another cluster can take.
@@ -145,9 +151,13 @@ pub fn read_cluster<'a, F: ReadAt>(
     ensures file { Serves (F.state file.old) (F.state file.new) result }
     ensures read { ReadsFile (λ c. given_entries c)
         (λ told. cluster_of told schema.now number cluster.now) (F.state file.old) result }
+    ensures columns { ReadsFile (λ c. c.columns)
+        (λ told. columns_in_cluster told schema.now number cluster.now) (F.state file.old) result }
+    ensures table { IfOk result (λ c. c.table ≡ schema.now) }
 {
     let size = file.size()?;
     let columns = read_columns(alloc, file, size, number, cluster, schema, kept)?;
+    columns.in_range();
     check(&columns, schema, number, cluster)?;
     Ok(ClusterRead {
         schema,

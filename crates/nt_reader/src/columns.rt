@@ -5,7 +5,7 @@ ghost use Rattle.nt_grammar.specs.declared.rows.ColumnRow.{ColumnRow};
 ghost use Rattle.nt_column.specs.Column.{columns_of, elements_at};
 ghost use Rattle.nt_file_meaning.specs.Clusters.{kind_of_code, pages_of_column, pages_listed, begins_behind, columns_from};
 ghost use Rattle.nt_tfile.specs.Calls.{Serves, HasSize, ReadsFile};
-ghost use Rattle.nt_reader.specs.Columns.{kind_or_bit, kept_empty, elements_in, held_elements, held_column, IsNextColumn, IsEmptyAt, ChangesOne};
+ghost use Rattle.nt_reader.specs.Columns.{kind_or_bit, kept_empty, elements_in, held_elements, held_column, IsNextColumn, IsEmptyAt, FillsOne, AreOfTypes};
 
 use crate::known::known_column;
 use crate::pages::push_pages;
@@ -49,7 +49,7 @@ pub fn empty_columns(alloc: Global, schema: &Schema) -> Result<ColumnSet, Wantin
 }
 
 /// The pages that a cluster lists of a column.
-fn pages_listed(cluster: &ClusterList, id: u32) -> &[PageItem]
+pub fn pages_listed(cluster: &ClusterList, id: u32) -> &[PageItem]
     ensures { result.now ≡ pages_listed cluster.now id }
 {
     match cluster.columns.as_slice().get(id as usize) {
@@ -59,7 +59,7 @@ fn pages_listed(cluster: &ClusterList, id: u32) -> &[PageItem]
 }
 
 /// Whether a column begins behind all entries of a cluster.
-fn begins_behind(cluster: &ClusterList, known: &KnownColumn) -> bool
+pub fn begins_behind(cluster: &ClusterList, known: &KnownColumn) -> bool
     ensures { result ≡ begins_behind cluster.now known.now }
 {
     known.is_principal
@@ -82,7 +82,7 @@ fn fill<F: ReadAt>(
     ensures read { let kind = (held_column (columns_of columns.old) id).kind in
         ReadsFile (λ _. elements_at (columns_of columns.new) id)
         (λ told. pages_of_column told number id kind pages.now) (F.state file.old) result }
-    ensures others { ChangesOne id (columns_of columns.old) (columns_of columns.new) }
+    ensures others { FillsOne id (columns_of columns.old) (columns_of columns.new) result }
 {
     push_pages(alloc, file, size, number, id, pages, columns.buffer(id))
 }
@@ -104,7 +104,7 @@ fn read_column<F: ReadAt>(
     ensures read { (row : ColumnRow) → slice_get schema.now.columns id ≡ Some row
         → ReadsFile (λ _. elements_at (columns_of columns.new) id)
         (elements_in number cluster.now schema.now id row) (F.state file.old) result }
-    ensures others { ChangesOne id (columns_of columns.old) (columns_of columns.new) }
+    ensures others { FillsOne id (columns_of columns.old) (columns_of columns.new) result }
 {
     let known = known_column(schema, id);
     if !known.is_open {
@@ -142,6 +142,7 @@ pub fn read_columns<F: ReadAt>(
     ensures file { Serves (F.state file.old) (F.state file.new) result }
     ensures read { let rows = schema.now.columns in ReadsFile (λ set. held_elements set)
         (λ told. columns_from told number cluster.now schema.now 0 rows) (F.state file.old) result }
+    ensures types { IfOk result (λ set. AreOfTypes schema.now.columns (columns_of set)) }
 {
     let mut columns = reused_columns(alloc, schema, kept)?;
     for id in 0..schema.columns() {

@@ -4,16 +4,20 @@
 //! of its groups (`describing`, `groups`), and then `Reader::cluster`, which reads the pages of a
 //! cluster's open columns and looks at their values (`columns`, `pages`, `cluster`), or
 //! `Reader::cluster_in`, which does that in the memory of columns of before (`reuse`);
-//! `ClusterRead::entry` gives the trees of an entry, and `ClusterRead::write_entry` its line. What they
-//! answer is said in nt_file_meaning.
+//! `ClusterRead::entry` gives the trees of an entry, `ClusterRead::write_entry` its line, and
+//! `ClusterRead::columns` all elements; `choosing` has some of the trees, and a number of an entry. Before
+//! any page is read, `Reader::pages_of`, `count_of` and `zeros_of` say how many elements a column has
+//! (`listed`). What they answer is said in nt_file_meaning.
 //!
 //! Words: those of nt_file_meaning; an `Envelope` here is one that was read, its payload and its checksum;
 //! a *window* is a run of bytes of a file that were read at once.
 //!
 //! Proved: wherever the file tells its bytes, `attach` answers exactly `outline_of`, and `cluster` and
-//! `cluster_in` exactly `cluster_of` of nt_file_meaning, the first fault and its place included (`read`); a
-//! fault of the outside comes only where the file's count rose (`file`); an entry is that of the cluster
-//! (`entry`), and its line is that of event text (`write_entry`).
+//! `cluster_in` exactly `cluster_of` of nt_file_meaning, the first fault and its place included (`read`), and
+//! the elements of a cluster's columns are those of its pages (`columns`); a fault of the outside comes
+//! only where the file's count rose (`file`); an entry is that of the cluster (`entry`), and its line is
+//! that of event text (`write_entry`); each entry fits the schema (`entries_fit`), also of a file that
+//! doesn't tell its bytes.
 //!
 //! Not proved: that pages which follow one another in the file are read by one call, at most 128 KiB at
 //! once (only tested); that memory is that of the page lists and of one cluster, the largest of those
@@ -27,6 +31,7 @@
 //! - A closed column whose type isn't known is kept as an empty column of bits.
 #![tactic(auto)]
 
+mod choosing;
 mod cluster;
 mod columns;
 mod describing;
@@ -34,6 +39,7 @@ mod envelope;
 mod faults;
 mod groups;
 mod known;
+mod listed;
 mod moving;
 mod pages;
 mod reader;

@@ -1,14 +1,18 @@
 //! A file that was attached to: its schema, and where its clusters lie.
 
-ghost use Rattle.std.specs.Prelude.{◌≡◌, ◌<◌, length};
-ghost use Rattle.nt_file_meaning.specs.Outlines.{outline_of};
+ghost use Rattle.std.specs.Prelude.{◌≡◌, ◌<◌, length, slice_get, Some, IfOk};
+ghost use Rattle.nt_grammar.specs.declared.rows.ColumnRow.{ColumnRow};
+ghost use Rattle.nt_plans.specs.Needs.{need_of};
+ghost use Rattle.nt_file_meaning.specs.Outlines.{outline_of, known_column};
+ghost use Rattle.nt_file_meaning.specs.Counts.{zeros_due};
 ghost use Rattle.nt_tfile.specs.Calls.{Serves, ReadsFile};
-ghost use Rattle.nt_reader.specs.Outlines.{numbered_cluster, entries_in};
+ghost use Rattle.nt_reader.specs.Outlines.{numbered_cluster, entries_in, columns_read, page_number, page_count};
 ghost use Rattle.nt_reader.specs.Columns.{given_entries};
 
 use crate::cluster::{ClusterRead, read_cluster};
 use crate::describing::read_described;
 use crate::groups::read_clusters;
+use crate::listed::{page_count, page_number, zeros_due};
 use nt_column::ColumnSet;
 use nt_outside::ReadAt;
 use nt_pagelists::ClusterList;
@@ -88,6 +92,34 @@ impl Reader {
         &self.clusters[k as usize]
     }
 
+    /// How many pages are listed of a column in a cluster.
+    pub fn pages_of(&self, k: u32, column: u32) -> u64
+        requires { k < length self.now.clusters }
+        ensures { result ≡ page_number self.now k column }
+    {
+        page_number(&self.clusters[k as usize], column)
+    }
+
+    /// How many elements one of these pages has.
+    pub fn count_of(&self, k: u32, column: u32, i: u64) -> u32
+        requires cluster { k < length self.now.clusters }
+        requires page { i < page_number self.now k column }
+        ensures { result ≡ page_count self.now k column i }
+    {
+        page_count(&self.clusters[k as usize], column, i)
+    }
+
+    /// How many zeros stand for a column of an open field in a cluster: as many as the cluster has
+    /// entries where the column begins behind them, else none. It has no page then.
+    pub fn zeros_of(&self, k: u32, column: u32) -> u64
+        requires cluster { k < length self.now.clusters }
+        requires column { column < length self.now.table.columns }
+        ensures { (row : ColumnRow) → slice_get self.now.table.columns column ≡ Some row
+            → result ≡ zeros_due (numbered_cluster self.now k) (known_column (need_of self.now.table column) row) }
+    {
+        zeros_due(&self.schema, &self.clusters[k as usize], column)
+    }
+
     /// Reads a cluster: the pages of its open columns, and whether their values are those of entries.
     ///
     /// It takes memory for what the pages of the cluster hold, a column at a time.
@@ -106,6 +138,9 @@ impl Reader {
         ensures file { Serves (F.state file.old) (F.state file.new) result }
         ensures read { ReadsFile (λ c. given_entries c)
             (entries_in self.now k) (F.state file.old) result }
+        ensures columns { ReadsFile (λ c. c.columns)
+            (columns_read self.now k) (F.state file.old) result }
+        ensures table { IfOk result (λ c. c.table ≡ self.now.table) }
     {
         self.cluster_in(alloc, file, k, None)
     }
@@ -123,6 +158,9 @@ impl Reader {
         ensures file { Serves (F.state file.old) (F.state file.new) result }
         ensures read { ReadsFile (λ c. given_entries c)
             (entries_in self.now k) (F.state file.old) result }
+        ensures columns { ReadsFile (λ c. c.columns)
+            (columns_read self.now k) (F.state file.old) result }
+        ensures table { IfOk result (λ c. c.table ≡ self.now.table) }
     {
         read_cluster(
             alloc,

@@ -1,5 +1,5 @@
 -- The file of a script that is written whole, once it is closed, or not.
-use Rattle.std.proofs.Common.{◌≡◌, ◌∙◌, inl, inr, sym, subst, refl, ℕ, ◌<◌, List, Option, Some}
+use Rattle.std.proofs.Common.{◌≡◌, ◌∙◌, inl, inr, ap, sym, subst, refl, ℕ, ◌<◌, List, Option, Some}
 use Rattle.std.proofs.Common.{Result, Ok, Err, arith}
 use Rattle.std.specs.Prelude.{IfOk}
 use Rattle.nt_types.specs.ShapeData.{MemberData}
@@ -19,7 +19,7 @@ use Rattle.nt_close.specs.declared.error.CloseError.TheVariants as close
 use Rattle.nt_close.specs.Closing.{HasCloseCause, LeavesClosed}
 use Rattle.nt_close.specs.Passing.{passed_by_close}
 use Rattle.nt_close.specs.Spoiled.{NoneSpoiled, IsUnspoiled, IsFirstSpoiled}
-use Rattle.nt_close.specs.Steps.{closed_on, closed_whole}
+use Rattle.nt_close.specs.Steps.{closed_on, closed_partly, closed_whole}
 use Rattle.nt_seq.specs.Standing.{IsWriting}
 use Rattle.nt_seq.specs.Writer.{SeqState}
 use Rattle.nt_seq.specs.Written.{IsUnclosed, file_so_far}
@@ -87,7 +87,14 @@ module _ {D : Type 0} (state : D → DiskState) (w : SeqState D) (F : List Membe
         let turn = whole_file file in
         record {
           told = (
-            (left.0, left.1, file_here state w F text first rows done law left.0.image left.2.whole),
+            (
+              left.0,
+              left.1,
+              (
+                file_here state w F text first rows done law left.0.image left.2.whole,
+                (_, ap (λ (k : Held). k.log) same),
+              ),
+            ),
             numbers_here state w F text first rows done (record { clusters = n.0; entries = n.1 }) are,
           );
           crash = (
@@ -110,7 +117,7 @@ module _ {D : Type 0} (state : D → DiskState) (w : SeqState D) (F : List Membe
     -- or why not
     pub unclosed_here : (e : CloseError) → NoneSpoiled w.book → HasCloseCause w.book (passed_by_close w.params w.table w.book) (Err e)
         → LeavesClosed behind before (state w.disk) (state disk) (Err e)
-        → HoldsNow (state disk).held (λ left. IsShutOrWhole state w left.image) → Ends e
+        → HoldsNow (state disk).held (λ left. IsShutOrWhole state w left) → Ends e
     unclosed_here (close.Spoiled cluster faults) none cause left ends = absurd (none_spoiled w.book cluster faults none cause)
     unclosed_here close.Memory none cause left ends = record {
       told = still left.place.held;
@@ -118,16 +125,14 @@ module _ {D : Type 0} (state : D → DiskState) (w : SeqState D) (F : List Membe
     }
     unclosed_here (close.RangeTooLarge len most) none cause left ends = record {
       told = (
-        over_here state w F text first rows done len most (limit.RangeTooLarge len most) kept is.closable.ungrouped is.closable.begin
-            cause.1 (inl refl),
+        over_here state w F text first rows done is kept len most (limit.RangeTooLarge len most) cause.1 (inl refl),
         still left.place.held,
       );
       crash = (h, left.place.held ∙ held, leave.unclosed h unclosed);
     }
     unclosed_here (close.FileTooLarge end most) none cause left ends = record {
       told = (
-        over_here state w F text first rows done end most (limit.FileTooLarge end most) kept is.closable.ungrouped is.closable.begin
-            cause.1 (inr refl),
+        over_here state w F text first rows done is kept end most (limit.FileTooLarge end most) cause.1 (inr refl),
         still left.place.held,
       );
       crash = (h, left.place.held ∙ held, leave.unclosed h unclosed);
@@ -137,14 +142,18 @@ module _ {D : Type 0} (state : D → DiskState) (w : SeqState D) (F : List Membe
         record {
           told = elim ends.2 as (λ _. ScriptFileTold F w.params text (state disk) (Err Outside)) [
             | inl shut ↦ inl (ends.0, ends.1, inl (shut_open ends.0.image shut))
-            | inr file ↦ inr (ends.0, ends.1, file_here state w F text first rows done law ends.0.image file)
+            | inr file ↦ inr (
+              ends.0,
+              ends.1,
+              (file_here state w F text first rows done law ends.0.image file.whole, file.last),
+            )
           ];
           crash = (
             cut.0,
             cut.1,
             or_as (IsClosedBy w.table is.ranges behind before) (IsScriptFile w.params F text) cut.0.log
                 (whole_file (whole state w is kept (reads w.disk) nothing_held empty cause.1))
-                (leave.closing w.table is.ranges behind before cut.0 cut.2),
+                (leave.closing w.table is.ranges behind before cut.0 (closed_partly cut.2)),
           );
         }
 

@@ -1,5 +1,5 @@
 -- What is left of the disk of a script that ended early.
-use Rattle.std.proofs.Common.{◌≡◌, ◌⊎◌, ◌∙◌, inl, inr, ap, sym, subst, ℕ, ◌<◌, List, Option}
+use Rattle.std.proofs.Common.{◌≡◌, ◌⊎◌, ◌∙◌, inl, inr, ap, sym, refl, subst, ℕ, ◌+◌, ◌<◌, List, Option}
 use Rattle.std.proofs.Common.{Some, Result, Err}
 use Rattle.nt_types.specs.ShapeData.{MemberData}
 use Rattle.nt_outside.specs.Disk.{DiskState}
@@ -25,7 +25,9 @@ use Rattle.nt_script.specs.StoreErrors.{error_of_script}
 use Rattle.nt_script.specs.Script.{Script, read_script}
 use Rattle.nt_script.specs.Clusters.{bad_line}
 use Rattle.nt_script.specs.Reading.{GivesScript}
-use Rattle.nt_script.specs.Running.{PassesNamed, IsDoneScript, EndsEarlyFor, IsFirstWriter}
+use Rattle.nt_script.specs.Limits.{TellsLimit}
+use Rattle.nt_script.specs.Passing.{PassesWriting, PassesNoneBefore, PassesLimit, passes_writing}
+use Rattle.nt_script.specs.Running.{IsDoneScript, EndsEarlyFor, IsFirstWriter}
 use Rattle.nt_seq.specs.Crashes.{AppendsLeave}
 use Rattle.nt_script.specs.Filing.{LeavesScriptFile, FinishesScript, FilesScript}
 
@@ -34,28 +36,39 @@ module _ {D : Type 0} (state : D → DiskState) (F : List MemberData) (first : T
   read_is : (s : Script) → GivesScript F old.left s → read_script F text ≡ s
   read_is s gives = subst (λ (o : Option (List ℕ)). GivesScript F o s) is gives
 
-  passes_named : (error : LimitError) (s : Script) → GivesScript F old.left s → PassesNamed F p s error
-      → PassesNamed F p (read_script F text) error
-  passes_named error s gives passes = subst (λ (o : Script). PassesNamed F p o error) (sym (read_is s gives)) passes
+  -- the script passes the limit that is told
+  passes_here : (error : LimitError) (s : Script) (reached most : ℕ) → GivesScript F old.left s → PassesWriting F p s error
+      → TellsLimit p error reached most → PassesLimit F p (read_script F text) reached most
+  passes_here error s reached most gives passes names =
+      passes_writing error (subst (λ (o : Script). PassesWriting F p o error) (sym (read_is s gives)) passes) names
 
   -- what is left, where the file isn't closed
   early_left : (h : Held) → disk.held ≡ Some h → IsShut h.image → LeavesUnfinished h.log → (e : ScriptError)
       → EndsEarlyFor state F old.left first p old new w e
       → LeavesScriptFile F p text disk (Err (error_of_script p.limits.clusters e))
-  early_left h held shut leaves (script.Line line kind) (s, gives, bad) = record {
-    told = (ap bad_line (read_is s gives) ∙ bad, (h, held, shut_open h.image shut));
+  early_left h held shut leaves (script.Line line kind) (s, gives, bad, before) = record {
+    told = (
+      record {
+        first = ap bad_line (read_is s gives) ∙ bad;
+        before = subst (λ (o : Script). PassesNoneBefore F p o (record { line = line; kind = kind })) (sym (read_is s gives)) before;
+      },
+      (h, held, shut_open h.image shut),
+    );
     crash = (h, held, leaves);
   }
   early_left h held shut leaves (script.Limit (limit.RangeTooLarge len most)) (s, gives, passes) = record {
-    told = (passes_named (limit.RangeTooLarge len most) s gives passes, (h, held, shut_open h.image shut));
+    told = (passes_here (limit.RangeTooLarge len most) s len most gives passes (refl, refl), (h, held, shut_open h.image shut));
     crash = (h, held, leaves);
   }
   early_left h held shut leaves (script.Limit (limit.FileTooLarge end most)) (s, gives, passes) = record {
-    told = (passes_named (limit.FileTooLarge end most) s gives passes, (h, held, shut_open h.image shut));
+    told = (passes_here (limit.FileTooLarge end most) s end most gives passes (refl, refl), (h, held, shut_open h.image shut));
     crash = (h, held, leaves);
   }
   early_left h held shut leaves (script.Limit limit.TooManyClusters) (s, gives, passes) = record {
-    told = (passes_named limit.TooManyClusters s gives passes, (h, held, shut_open h.image shut));
+    told = (
+      passes_here limit.TooManyClusters s (p.limits.clusters + 1) p.limits.clusters gives passes (refl, refl),
+      (h, held, shut_open h.image shut),
+    );
     crash = (h, held, leaves);
   }
   early_left h held shut leaves script.Outside ends = record {

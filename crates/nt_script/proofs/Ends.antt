@@ -1,5 +1,5 @@
 -- How a script ends.
-use Rattle.std.proofs.Common.{◌≡◌, inl, inr, ℕ, ◌+◌, ◌≤◌, true, false, List, [], ◌∷◌, ◌++◌, Option, Some, None, Result}
+use Rattle.std.proofs.Common.{◌≡◌, ◌≢◌, inl, inr, ℕ, ◌≤◌, true, false, List, [], ◌∷◌, ◌++◌, Option, Some, None, Result}
 use Rattle.std.proofs.Common.{Ok, Err, refl, sym, ap, ◌∙◌, subst, arith}
 use Rattle.nt_lists.specs.Chunks.{chunks}
 use Rattle.nt_types.specs.ShapeData.{MemberData, parts_of}
@@ -8,87 +8,138 @@ use Rattle.nt_outside.specs.Disk.{DiskState}
 use Rattle.nt_grammar.specs.Rows.{Rows}
 use Rattle.nt_grammar.specs.Table.{Table}
 use Rattle.nt_book.specs.declared.limits.LimitError.{LimitError}
-use Rattle.nt_book.specs.declared.limits.LimitError.TheVariants as limit
 use Rattle.nt_book.specs.declared.params.Params.{Params}
+use Rattle.nt_types.specs.declared.fault.SchemaKind.{SchemaKind}
+use Rattle.nt_book.specs.declared.meta.ClusterMeta.{ClusterMeta}
+use Rattle.nt_dealing.specs.Limits.{AreKeptOf}
+use Rattle.nt_event.specs.declared.fault.TextKind.{TextKind}
 use Rattle.nt_event.specs.declared.fault.TextKind.TheVariants.{TooLong}
 use Rattle.nt_event.specs.declared.lines.Line as given
 use Rattle.nt_event.specs.declared.lines.LineError.{LineError}
 use Rattle.nt_event.specs.declared.lines.LineError.TheVariants as reading
 use Rattle.nt_event.specs.Entry.{entry_of}
 use Rattle.nt_event.specs.Lines.{LinesState, IsNextLine, GivesLine}
-use Rattle.nt_seq.specs.Writer.{SeqState}
+use Rattle.nt_seq.specs.Writer.{SeqState, gathered_by}
 use Rattle.nt_seq.specs.Written.{HasWritten}
 use Rattle.nt_script.specs.declared.error.LineFault.TheVariants.{Event, Field}
 use Rattle.nt_script.specs.declared.error.ScriptError.{ScriptError}
 use Rattle.nt_script.specs.declared.error.ScriptError.TheVariants.{Line, Limit, Outside, Memory}
 use Rattle.nt_script.specs.Script.{Script, last_entries, adds_field, field_added}
 use Rattle.nt_script.specs.Clusters.{GrowsByScript}
-use Rattle.nt_script.specs.Reading.{Segment, behind_segments, HasReadScript}
-use Rattle.nt_script.specs.Limits.{IsOverLate, PassesLimit}
-use Rattle.nt_script.specs.Taking.{clusters_of_segments, GrowsBySegments, HasGrownBy, NamesOver}
-use Rattle.nt_script.specs.Taking.{HaltsAt, WritesGathered}
-use Rattle.nt_script.specs.Events.{IsEventError, IsFieldError, TakesEvent, TakesField}
-use Rattle.nt_script.specs.Running.{error_of_lines, PassesNamed, GoesOnScript, HasAllLines, EndsEarlyFor}
+use Rattle.nt_script.specs.Reading.{Segment, segment_metas, behind_segments, GivesScript}
+use Rattle.nt_script.specs.Limits.{StandsWithin, PassesHere}
+use Rattle.nt_script.specs.Taking.{clusters_of_segments, GrowsBySegments, HasGrownBy, HasTakenLines, KeepsClusters, IsOpenWriter}
+use Rattle.nt_script.specs.Taking.{StaysInLimits, MakesWhole, HaltsAt, WritesGathered}
+use Rattle.nt_script.specs.Passing.{IsDue, PassesWriting, IsScriptWritten, whole_clusters, PassesNoneBefore}
+use Rattle.nt_script.specs.Events.{IsEventError, IsFieldError, TakesEvent, WritesBeforeField, TakesField}
+use Rattle.nt_script.specs.Running.{error_of_lines, GoesOnScript, HasAllLines, EndsEarlyFor}
 use Rattle.nt_script.specs.Running.{EndedScript}
 use Rattle.nt_script.proofs.ReadLines.{read-entry, read-bad, read-no_field, read-too_long, read-ahead}
-use Rattle.nt_script.proofs.ReadLines.{ends_here}
+use Rattle.nt_script.proofs.ReadLines.{read-ended, ends_here}
+use Rattle.nt_script.proofs.WholeClusters.{whole_are}
 use Rattle.nt_script.proofs.Segments.{script-segments, bad-segments, grows-script}
 use Rattle.nt_script.proofs.Goes.{grown_same}
 
 module _ {D : Type 0} (state : D → DiskState) (F : List MemberData) (text : Option (List ℕ)) (first : Table) (p : Params) where
-  -- a limit that clusters pass is passed by what comes first of the script
-  named_passed : (rows : Rows F p.plain first) (segments : List Segment) (es : List TreesData) (rest : Script) (t : Table)
-      (error : LimitError) → GrowsBySegments p.plain first 0 segments t
-      → NamesOver t p (clusters_of_segments p.cluster segments ++ chunks p.cluster es) error
-      → PassesNamed F p (behind_segments segments es rest) error
-  named_passed rows segments es rest t error grows over = at error over
-    where
-      passed : (reached most : ℕ) → IsOverLate t p (clusters_of_segments p.cluster segments ++ chunks p.cluster es) reached most
-          → PassesLimit F p (behind_segments segments es rest) reached most
-      passed reached most over = record {
-        front = behind_segments segments [] (last_entries es None);
-        is_front = record { segments = segments; entries = es; behind = rest; front_is = refl; whole_is = refl };
-        first = first;
-        rows = rows;
-        table = t;
-        grows = grows-script p.plain first 0 segments t es None grows;
-        over = subst (λ (l : List (List TreesData)). IsOverLate t p l reached most)
-            (sym (script-segments p.cluster segments es None)) over;
-      }
+  -- a limit that the next cluster passes is passed by the script
+  writing_passed : (rows : Rows F p.plain first) (segments : List Segment) (es next : List TreesData) (behind : Script) (t : Table)
+      (error : LimitError) → GrowsBySegments p first 0 segments t → PassesHere t p segments es next error → IsDue p next behind
+      → PassesWriting F p (behind_segments segments es behind) error
+  writing_passed rows segments es next behind t error grows passes due = record {
+    first = first;
+    rows = rows;
+    segments = segments;
+    table = t;
+    grows = grows;
+    entries = es;
+    next = next;
+    passes = passes;
+    behind = behind;
+    script_is = refl;
+    due = due;
+  }
 
-      at : (e : LimitError) → NamesOver t p (clusters_of_segments p.cluster segments ++ chunks p.cluster es) e
-          → PassesNamed F p (behind_segments segments es rest) e
-      at (limit.RangeTooLarge len most) h = passed len most h
-      at (limit.FileTooLarge end most) h = passed end most h
-      at limit.TooManyClusters h = passed (p.limits.clusters + 1) p.limits.clusters h
+  -- by the parameters of a writer
+  grown_by : (G : List MemberData) (segments : List Segment) (w : SeqState D) → HasGrownBy first G segments w → w.params ≡ p
+      → GrowsBySegments p first 0 segments w.table
+  grown_by G segments w grown same = subst (λ (q : Params). GrowsBySegments q first 0 segments w.table) same grown.grows
+
+  -- what a writer has written is written so far of a script
+  written_so_far : (rows : Rows F p.plain first) (G : List MemberData) (segments : List Segment) (clusters : List (List TreesData))
+      (w : SeqState D) → HasGrownBy first G segments w → w.params ≡ p → StaysInLimits w → KeepsClusters segments clusters w
+      → IsScriptWritten F p segments clusters
+  written_so_far rows G segments clusters w grown same stands keeps = record {
+    first = first;
+    rows = rows;
+    table = w.table;
+    grows = grown_by G segments w grown same;
+    own = keeps.own;
+    kept = subst (λ (q : Params). AreKeptOf w.table q.page clusters keeps.own) same keeps.kept;
+    within = subst (λ (q : Params). StandsWithin w.table q (segment_metas segments ++ keeps.own)) same
+        (subst (λ (ms : List ClusterMeta). StandsWithin w.table w.params ms) keeps.metas stands);
+  }
+
+  -- in front of a bad line of events
+  before_event : (rows : Rows F p.plain first) (G : List MemberData) (segments : List Segment) (es : List TreesData) (w : SeqState D)
+      (line number : ℕ) (kind : TextKind) → HasGrownBy first G segments w → w.params ≡ p → StaysInLimits w
+      → HasTakenLines state segments es w → IsOpenWriter w → number ≡ line
+      → PassesNoneBefore F p (behind_segments segments [] (last_entries es (Some (record { line = line; kind = Event kind }))))
+      (record { line = number; kind = Event kind })
+  before_event rows G segments es w line number kind grown same stands taken is_open is = record {
+    segments = segments;
+    entries = es;
+    script_is = ap (λ (n : ℕ). behind_segments segments [] (last_entries es (Some (record { line = n; kind = Event kind })))) (sym is);
+    written = subst (IsScriptWritten F p segments)
+        (sym (ap (λ (q : Params). whole_clusters q.cluster (chunks q.cluster es)) (sym same)
+        ∙ whole_are w.params.cluster taken.full (gathered_by w) es taken.whole taken.sizes is_open.room))
+        (written_so_far rows G segments taken.full w grown same stands taken.keeps);
+  }
+
+  -- and in front of one that was to add a field
+  before_field : (rows : Rows F p.plain first) (G : List MemberData) (segments : List Segment) (es : List TreesData)
+      (old new : SeqState D) (line number : ℕ) (kind : SchemaKind) → HasGrownBy first G segments old → old.params ≡ p
+      → WritesBeforeField state segments es old new → number ≡ line
+      → PassesNoneBefore F p (behind_segments segments [] (last_entries es (Some (record { line = line; kind = Field kind }))))
+      (record { line = number; kind = Field kind })
+  before_field rows G segments es old new line number kind grown same before is =
+      let params : new.params ≡ p = before.same.params ∙ same in
+      record {
+        segments = segments;
+        entries = es;
+        script_is = ap (λ (n : ℕ). behind_segments segments [] (last_entries es (Some (record { line = n; kind = Field kind })))) (sym is);
+        written = subst (λ (q : Params). IsScriptWritten F p segments (chunks q.cluster es)) params
+            (written_so_far rows G segments (chunks new.params.cluster es) new (grown_same first G segments old new grown before.same)
+            params before.stands before.written.keeps);
+      }
 
   module _ (rows : Rows F p.plain first) where
     -- what was taken isn't written, and so the script ends
-    pub halted_ends : (G : List MemberData) (segments : List Segment) (es : List TreesData) (old new : SeqState D)
-        (was now is : LinesState) (error : ScriptError) → HasGrownBy first G segments old → old.params ≡ p
-        → HasReadScript F text segments es now → HaltsAt state old.table old.params segments es new error
-        → EndsEarlyFor state F text first p was is new error
-    halted_ends G segments es old new was now is (Line line kind) grown same read h = absurd h
-    halted_ends G segments es old new was now is (Limit error) grown same read h =
-        let ahead = read-ahead F segments es now text read in (
-          behind_segments segments es ahead.0,
-          ahead.1,
-          named_passed rows segments es ahead.0 old.table error
-              (subst (λ (q : Params). GrowsBySegments q.plain first 0 segments old.table) same grown.grows)
-              (subst (λ (q : Params). NamesOver old.table q (clusters_of_segments q.cluster segments ++ chunks q.cluster es) error) same h),
-        )
-    halted_ends G segments es old new was now is Outside grown same read h = inr h
-    halted_ends G segments es old new was now is Memory grown same read h = tt
+    pub halted_ends : (IsNext : List TreesData → Type 0) (G : List MemberData) (segments : List Segment) (es : List TreesData)
+        (old new : SeqState D) (was is : LinesState) (error : ScriptError) → HasGrownBy first G segments old → old.params ≡ p
+        → (behind : Script) → GivesScript F text (behind_segments segments es behind)
+        → ((next : List TreesData) → IsNext next → IsDue p next behind)
+        → HaltsAt state IsNext old.table old.params segments es new error → EndsEarlyFor state F text first p was is new error
+    halted_ends IsNext G segments es old new was is (Line line kind) grown same behind gives due h = absurd h
+    halted_ends IsNext G segments es old new was is (Limit error) grown same behind gives due h = (
+      behind_segments segments es behind,
+      gives,
+      writing_passed rows segments es h.0 behind old.table error (grown_by G segments old grown same)
+          (subst (λ (q : Params). PassesHere old.table q segments es h.0 error) same h.2) (due h.0 h.1),
+    )
+    halted_ends IsNext G segments es old new was is Outside grown same behind gives due h = inr h
+    halted_ends IsNext G segments es old new was is Memory grown same behind gives due h = tt
 
     -- a line of events was not taken
     pub event_ends : (G : List MemberData) (old new : SeqState D) (was is : LinesState) (line : given.Line) (error : ScriptError)
-        → (on : GoesOnScript state F text first p G old was) → IsNextLine was is line → adds_field line.bytes ≡ false
+        → (on : GoesOnScript state F text first p G old was) → StaysInLimits old → IsNextLine was is line → adds_field line.bytes ≡ false
         → TakesEvent state G on.segments on.entries line old new (Err error) → EndsEarlyFor state F text first p was is new error
-    event_ends G old new was is line error on next event (inr h) =
-        halted_ends G on.segments (on.entries ++ h.0 ∷ []) old new was is is error on.grown on.params
+    event_ends G old new was is line error on stands next event (inr h) =
+        let ahead = read-ahead F on.segments (on.entries ++ h.0 ∷ []) is text
         (read-entry F on.segments on.entries was is line next text h.0 on.read event h.1.full
-        (ap (λ (l : List MemberData). entry_of (parts_of l) line.bytes) (sym on.fields) ∙ h.1.is)) h.2
-    event_ends G old new was is line error on next event (inl h) = at error h.1
+        (ap (λ (l : List MemberData). entry_of (parts_of l) line.bytes) (sym on.fields) ∙ h.1.is)) in
+        halted_ends (MakesWhole old.params) G on.segments (on.entries ++ h.0 ∷ []) old new was is error on.grown on.params ahead.0 ahead.1
+        (λ next whole. inl (subst (λ (q : Params). MakesWhole q next) on.params whole)) h.2
+    event_ends G old new was is line error on stands next event (inl h) = at error h.1
       where
         at : (e : ScriptError) → IsEventError G line e → EndsEarlyFor state F text first p was is new e
         at (Line number (Event kind)) why = (
@@ -97,6 +148,7 @@ module _ {D : Type 0} (state : D → DiskState) (F : List MemberData) (text : Op
               (ap (λ (l : List MemberData). entry_of (parts_of l) line.bytes) (sym on.fields) ∙ why.1),
           bad-segments on.segments on.entries (Some (record { line = line.number; kind = Event kind }))
               ∙ ap (λ (n : ℕ). Some (record { line = n; kind = Event kind })) (sym why.0),
+          before_event rows G on.segments on.entries old line.number number kind on.grown on.params stands on.taken on.is_open why.0,
         )
         at (Line number (Field kind)) why = absurd why
         at (Limit e) why = absurd why
@@ -108,33 +160,38 @@ module _ {D : Type 0} (state : D → DiskState) (F : List MemberData) (text : Op
         → (on : GoesOnScript state F text first p G old was) → IsNextLine was is line → adds_field line.bytes ≡ true
         → TakesField state first G G' on.segments on.entries line old new (Err error) → EndsEarlyFor state F text first p was is new error
     field_ends G G' old new was is line error on next adding (inr h) =
-        halted_ends G on.segments on.entries old new was was is error on.grown on.params on.read h
-    field_ends G G' old new was is line error on next adding (inl h) = at error h.why
+        let ended = read-ended F on.segments on.entries was is line next text on.read adding in
+        halted_ends (λ next. Unit {0}) G on.segments on.entries old new was is error on.grown on.params ended.0 ended.1
+        (λ next any. inr ended.2) h
+    field_ends G G' old new was is line error on next adding (inl h) = at error h.why h.before
       where
-        at : (e : ScriptError) → IsFieldError G line e → EndsEarlyFor state F text first p was is new e
-        at (Line number (Field kind)) why = (
+        at : (e : ScriptError) → IsFieldError G line e → (e ≢ Memory → WritesBeforeField state on.segments on.entries old new)
+            → EndsEarlyFor state F text first p was is new e
+        at (Line number (Field kind)) why before = (
           behind_segments on.segments [] (last_entries on.entries (Some (record { line = line.number; kind = Field kind }))),
           read-no_field F on.segments on.entries was is line next text kind on.read adding
               (ap (λ (l : List MemberData). field_added l line.bytes) (sym on.fields) ∙ why.1),
           bad-segments on.segments on.entries (Some (record { line = line.number; kind = Field kind }))
               ∙ ap (λ (n : ℕ). Some (record { line = n; kind = Field kind })) (sym why.0),
+          before_field rows G on.segments on.entries old new line.number number kind on.grown on.params (before (λ same. cc same)) why.0,
         )
-        at (Line number (Event kind)) why = absurd why
-        at (Limit e) why = absurd why
-        at Outside why = absurd why
-        at Memory why = tt
+        at (Line number (Event kind)) why before = absurd why
+        at (Limit e) why before = absurd why
+        at Outside why before = absurd why
+        at Memory why before = tt
 
   -- no line was given
-  pub not_given : (G : List MemberData) (w : SeqState D) (was is : LinesState) (error : LineError)
-      → GoesOnScript state F text first p G w was → GivesLine was is (Err error)
+  pub not_given : (rows : Rows F p.plain first) (G : List MemberData) (w : SeqState D) (was is : LinesState) (error : LineError)
+      → GoesOnScript state F text first p G w was → StaysInLimits w → GivesLine was is (Err error)
       → EndsEarlyFor state F text first p was is w (error_of_lines error)
-  not_given G w was is reading.Fault on h = inl h
-  not_given G w was is (reading.TooLong line) on h = (
+  not_given rows G w was is reading.Fault on stands h = inl h
+  not_given rows G w was is (reading.TooLong line) on stands h = (
     behind_segments on.segments [] (last_entries on.entries (Some (record { line = line; kind = Event TooLong }))),
     read-too_long F on.segments on.entries was text line on.read h.0 h.1,
     bad-segments on.segments on.entries (Some (record { line = line; kind = Event TooLong })),
+    before_event rows G on.segments on.entries w line line TooLong on.grown on.params stands on.taken on.is_open refl,
   )
-  not_given G w was is reading.Memory on h = tt
+  not_given rows G w was is reading.Memory on stands h = tt
 
   -- all lines were taken, and what was gathered was written, or why not
   pub script_ended : (rows : Rows F p.plain first) (G : List MemberData) (old new : SeqState D) (was now is : LinesState)
@@ -147,8 +204,13 @@ module _ {D : Type 0} (state : D → DiskState) (F : List MemberData) (text : Op
         script = behind_segments all.segments [] (last_entries all.entries None);
         read = all.read;
         sound = bad-segments all.segments all.entries None;
+        segments = all.segments;
+        entries = all.entries;
+        script_is = refl;
+        segments_grow = grown_by G all.segments new grown same;
+        keeps = subst (λ (q : Params). KeepsClusters all.segments (chunks q.cluster all.entries) new) same h.0.keeps;
         grows = subst (λ (q : Params). GrowsByScript q.plain first 0 (behind_segments all.segments [] (last_entries all.entries None))
-            new.table) same (grows-script new.params.plain first 0 all.segments new.table all.entries None grown.grows);
+            new.table) same (grows-script new.params first 0 all.segments new.table all.entries None grown.grows);
         written = subst (HasWritten state new) (sym (script-segments p.cluster all.segments all.entries None))
             (subst (λ (q : Params). HasWritten state new (clusters_of_segments q.cluster all.segments ++ chunks q.cluster all.entries)) same
             h.0.written);
@@ -160,11 +222,10 @@ module _ {D : Type 0} (state : D → DiskState) (F : List MemberData) (text : Op
   script_ended rows G old new was now is (Err (Limit error)) all h = (
     behind_segments all.segments [] (last_entries all.entries None),
     all.read,
-    subst (λ (s : Script). PassesNamed F p s error) (ends_here all.segments all.entries)
-        (named_passed rows all.segments all.entries (last_entries [] None) old.table error
-        (subst (λ (q : Params). GrowsBySegments q.plain first 0 all.segments old.table) all.params all.grown.grows)
-        (subst (λ (q : Params). NamesOver old.table q (clusters_of_segments q.cluster all.segments ++ chunks q.cluster all.entries) error)
-        all.params h)),
+    subst (λ (s : Script). PassesWriting F p s error) (ends_here all.segments all.entries)
+        (writing_passed rows all.segments all.entries h.0 (last_entries [] None) old.table error
+        (grown_by G all.segments old all.grown all.params)
+        (subst (λ (q : Params). PassesHere old.table q all.segments all.entries h.0 error) all.params h.2) (inr tt)),
   )
   script_ended rows G old new was now is (Err Outside) all h = inr h
   script_ended rows G old new was now is (Err Memory) all h = tt

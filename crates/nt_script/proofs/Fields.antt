@@ -15,6 +15,8 @@ use Rattle.nt_grammar.specs.AsRead.{as_read}
 use Rattle.nt_grammar.specs.Table.{Table}
 use Rattle.nt_plans.specs.Place.{place}
 use Rattle.nt_plans.specs.Late.{GrowsBy}
+use Rattle.nt_machine.specs.History.{Cluster}
+use Rattle.nt_book.specs.declared.meta.ClusterMeta.{ClusterMeta}
 use Rattle.nt_book.specs.Books.{book_clusters, entry_count}
 use Rattle.nt_book.specs.declared.params.Params.{Params}
 use Rattle.nt_finished.specs.LeftOut.{filled}
@@ -25,17 +27,17 @@ use Rattle.nt_script.specs.declared.error.LineFault.TheVariants.{Event, Field}
 use Rattle.nt_script.specs.declared.error.ScriptError.{ScriptError}
 use Rattle.nt_script.specs.declared.error.ScriptError.TheVariants.{Line, Limit, Outside, Memory}
 use Rattle.nt_script.specs.Script.{behind_plus, beside, read_beside}
-use Rattle.nt_script.specs.Reading.{Segment}
-use Rattle.nt_script.specs.Taking.{clusters_of_segments, GrowsBySegments, HasJustFields, HasWrittenLines}
+use Rattle.nt_script.specs.Reading.{Segment, segment_metas}
+use Rattle.nt_script.specs.Taking.{clusters_of_segments, GrowsBySegments, HasJustFields}
 use Rattle.nt_script.specs.Adding.{IsMemberError, IsBesideError, IsWrittenOut, GainsFieldBehind, ExtendsScript}
-use Rattle.nt_script.specs.Events.{IsFieldError, TakesField}
-use Rattle.nt_script.proofs.Segments.{segments-next, entries_of_segments, entries-chunks, entries-segments, grows-next}
+use Rattle.nt_script.specs.Events.{IsFieldError, WritesBeforeField, TakesField}
+use Rattle.nt_script.proofs.Segments.{segments-next, entries_of_segments, entries-chunks, entries-segments, grows-next, metas-next}
 use Rattle.nt_script.proofs.Tables.{added-just}
 
 module _ {D : Type 0} (state : D → DiskState) (first : Table) (F : List MemberData) (m : MemberData) (segments : List Segment)
     (es : List TreesData) where
-  abbrev over : Segment
-  over = record { entries = es; field = m }
+  abbrev over : List ClusterMeta → Segment
+  over metas = record { entries = es; field = m; metas = metas }
 
   -- all entries before the field
   entries_before : (w : SeqState D) → 0 < w.params.cluster
@@ -65,25 +67,36 @@ module _ {D : Type 0} (state : D → DiskState) (first : Table) (F : List Member
       subst (λ (k : ℕ). Added old.table m old.params.plain k new.table) before gains.added in
       let written : HasWritten state new (map (filled (zero_behind m)) (clusters_of_segments n segments ++ chunks n es)) =
       gains.written _ out.written.written in
-      let all : HasWritten state new (clusters_of_segments n (segments ++ over ∷ []) ++ []) =
-      subst (HasWritten state new) (sym (append-nil (clusters_of_segments n (segments ++ over ∷ [])) ∙ segments-next n segments over))
+      let own = out.written.keeps.own in
+      let all : HasWritten state new (clusters_of_segments n (segments ++ over own ∷ []) ++ []) =
+      subst (HasWritten state new)
+      (sym (append-nil (clusters_of_segments n (segments ++ over own ∷ [])) ∙ segments-next n segments (over own)))
       written in
       record {
         beside_is = is;
         fields = fields;
+        metas = own;
         grown = record {
-          grows = subst (λ (p : Params). GrowsBySegments p.plain first 0 (segments ++ over ∷ []) new.table) (sym params)
-              (grows-next old.params.plain first 0 segments old.table over new.table out.grown.grows added);
+          grows = subst (λ (p : Params). GrowsBySegments p first 0 (segments ++ over own ∷ []) new.table) (sym params)
+              (grows-next old.params first 0 segments old.table (over own) new.table out.grown.grows added out.written.keeps.kept);
           just = subst (λ (l : List MemberData). HasJustFields l new.table) (sym fields)
               (added-just F line m out.grown.just.rules member is old.table new.table old.params.plain
               (entry_count (book_clusters old.book)) out.grown.just grows gains.added);
         };
         taken = record {
           full = [];
-          written = subst (λ (p : Params). HasWritten state new (clusters_of_segments p.cluster (segments ++ over ∷ []) ++ [])) (sym params)
+          written = subst
+              (λ (p : Params). HasWritten state new (clusters_of_segments p.cluster (segments ++ over own ∷ []) ++ [])) (sym params)
               all;
           sizes = tt;
           whole = sym gains.none;
+          keeps = record {
+            own = [];
+            kept = tt;
+            metas = ap (map (λ (c : Cluster ClusterMeta). c.meta)) gains.clusters
+                ∙ (out.written.keeps.metas
+                ∙ (sym (metas-next segments (over own)) ∙ sym (append-nil (segment_metas (segments ++ over own ∷ [])))));
+          };
         };
         is_open = record {
           alive = ap (λ (w : SeqState D). w.alive) gains.now ∙ alive;
@@ -114,19 +127,20 @@ member_error F line Memory h = tt
 -- a field that was added behind what was written is that of its line
 pub field_taken : {D : Type 0} (state : D → DiskState) (first : Table) (F G : List MemberData) (m : MemberData) (segments : List Segment)
     (es : List TreesData) (line : given.Line) (old mid new : SeqState D) (result : Result Unit ScriptError)
-    → member_of (behind_plus line.bytes) ≡ Ok m → mid.params ≡ old.params → HasWrittenLines state segments es mid
+    → member_of (behind_plus line.bytes) ≡ Ok m → WritesBeforeField state segments es old mid
     → ExtendsScript state first F G m segments es line.number mid new result
     → TakesField state first F G segments es line old new result
-field_taken state first F G m segments es line old mid new (Ok done) read same wrote h = record {
+field_taken state first F G m segments es line old mid new (Ok done) read before h = record {
   field = m;
   read = ap (λ (r : Result MemberData SchemaKind). read_beside F r) read ∙ h.beside_is;
   fields = h.fields;
+  metas = h.metas;
   grown = h.grown;
   taken = h.taken;
   is_open = h.is_open;
-  params = h.params ∙ same;
+  params = h.params ∙ before.same.params;
 }
-field_taken state first F G m segments es line old mid new (Err error) read same wrote h = inl (record {
+field_taken state first F G m segments es line old mid new (Err error) read before h = inl (record {
   why = beside_error F m line error read h.0;
-  written = λ apart. subst (HasWrittenLines state segments es) (sym (h.1 apart)) wrote;
+  before = λ apart. subst (WritesBeforeField state segments es old) (sym (h.1 apart)) before;
 })

@@ -1,40 +1,23 @@
 -- What a writer has written after a flush, or why not.
-use Rattle.std.proofs.Common.{◌≡◌, ◌≢◌, ◌⊎◌, inl, inr, ℕ, ◌<◌, ◌≤◌, true, List, [], ◌∷◌, ◌++◌, length, Some, Result}
+use Rattle.std.proofs.Common.{◌≡◌, ◌≢◌, ◌⊎◌, inl, inr, ℕ, ◌<◌, ◌≤◌, true, List, [], ◌∷◌, ◌++◌, length, Result}
 use Rattle.std.proofs.Common.{Ok, Err, refl, sym, ap, ◌∙◌, subst, append_assoc, append-nil, arith}
 use Rattle.nt_lists.specs.Chunks.{chunks}
 use Rattle.nt_types.specs.TreeData.{TreesData}
 use Rattle.nt_outside.specs.Disk.{DiskState}
-use Rattle.nt_book.specs.declared.limits.LimitError.{LimitError}
-use Rattle.nt_book.specs.declared.limits.LimitError.TheVariants as limit
 use Rattle.nt_book.specs.declared.params.Params.{Params}
-use Rattle.nt_book.specs.Books.{IsUngrouped}
 use Rattle.nt_book.specs.Kept.{IsBookKept}
-use Rattle.nt_layout.specs.Headers.{clusters_place}
+use Rattle.nt_seq.specs.Standing.{IsWriting}
 use Rattle.nt_commit.specs.declared.error.CommitError.{CommitError}
 use Rattle.nt_commit.specs.declared.error.CommitError.TheVariants as commit
-use Rattle.nt_commit.specs.Claims.{limit_in}
 use Rattle.nt_seq.specs.Writer.{SeqState, gathered_by}
 use Rattle.nt_seq.specs.Written.{HasWritten}
 use Rattle.nt_seq.specs.Changing.{WritesNext, FailsToAppend, RefusesNext, NamesPassed}
 use Rattle.nt_contexts.proofs.Chunking.{chunks-full, chunks-none, chunks-last}
 use Rattle.nt_script.specs.Reading.{Segment}
-use Rattle.nt_script.specs.Taking.{clusters_of_segments, HasTakenLines, HasWrittenLines, NamesOver, HasSameSchema, HaltsAt}
+use Rattle.nt_script.specs.Taking.{clusters_of_segments, KeepsClusters, HasTakenLines, HasWrittenLines, HasSameSchema, HaltsAt}
 use Rattle.nt_script.specs.Taking.{IsFlushed}
 use Rattle.nt_script.specs.Running.{error_of_commit}
-use Rattle.nt_script.proofs.Passed.{next_over}
-
-abbrev pub refusal : CommitError → Result (Unit {0}) CommitError
-refusal e = Err e
-
--- a limit is no want of memory
-range_apart : (len most : ℕ) → refusal (commit.RangeTooLarge len most) ≢ refusal commit.Memory
-range_apart len most is = cc
-
-file_apart : (end most : ℕ) → refusal (commit.FileTooLarge end most) ≢ refusal commit.Memory
-file_apart end most is = cc
-
-many_apart : refusal commit.TooManyClusters ≢ refusal commit.Memory
-many_apart is = cc
+use Rattle.nt_script.proofs.NextCluster.{refusal, same_params, keeps_next, halted}
 
 -- a refusal is no answer
 refused_not_done : (e : CommitError) → refusal e ≢ Ok tt
@@ -51,6 +34,11 @@ module _ {D : Type 0} (state : D → DiskState) where
       ∙ (chunks-full n (omega arith) taken.full (gathered_by w) taken.sizes
       ∙ ap (λ (l : List (List TreesData)). taken.full ++ l) (chunks-last n (omega arith) (gathered_by w) some few))
 
+  -- the book keeps the same of the same clusters
+  keeps_of : (segments : List Segment) (w : SeqState D) (cs ds : List (List TreesData)) → cs ≡ ds → KeepsClusters segments cs w
+      → KeepsClusters segments ds w
+  keeps_of segments w cs ds same keeps = subst (λ (l : List (List TreesData)). KeepsClusters segments l w) same keeps
+
   -- with nothing gathered all is written
   none_gathered : (segments : List Segment) (es : List TreesData) (w : SeqState D) → 0 < w.params.cluster → gathered_by w ≡ []
       → HasTakenLines state segments es w → HasWrittenLines state segments es w
@@ -64,6 +52,7 @@ module _ {D : Type 0} (state : D → DiskState) where
       record {
         written = subst (λ (l : List (List TreesData)). HasWritten state w (clusters_of_segments n segments ++ l)) (sym are) taken.written;
         none = none;
+        keeps = keeps_of segments w taken.full (chunks n es) (sym are) taken.keeps;
       }
 
   -- all clusters that are written, with the next one
@@ -76,13 +65,10 @@ module _ {D : Type 0} (state : D → DiskState) where
       ∙ ap (λ (l : List (List TreesData)). clusters_of_segments w.params.cluster segments ++ l)
       (sym (last_chunk segments es w some few taken))
 
-  same_params : (old new : SeqState D) → WritesNext state old new → new.params ≡ old.params
-  same_params old new next = ap (λ (w : SeqState D). w.params) next.now
-
   next_same : (old new : SeqState D) → old.alive ≡ true → WritesNext state old new → HasSameSchema old new
   next_same old new alive next = record {
     table = ap (λ (w : SeqState D). w.table) next.now;
-    params = same_params old new next;
+    params = same_params state old new next;
     alive = ap (λ (w : SeqState D). w.alive) next.now ∙ alive;
   }
 
@@ -93,39 +79,15 @@ module _ {D : Type 0} (state : D → DiskState) where
       let written = next.written (clusters_of_segments old.params.cluster segments ++ taken.full) taken.written in
       let all : HasWritten state new (clusters_of_segments old.params.cluster segments ++ chunks old.params.cluster es) =
       subst (HasWritten state new) (with_next segments es old some few taken) written in
+      let last : chunks new.params.cluster es ≡ taken.full ++ gathered_by old ∷ [] =
+      ap (λ (p : Params). chunks p.cluster es) (same_params state old new next) ∙ last_chunk segments es old some few taken in
       record {
         written = subst (λ (p : Params). HasWritten state new (clusters_of_segments p.cluster segments ++ chunks p.cluster es))
-            (sym (same_params old new next)) all;
+            (sym (same_params state old new next)) all;
         none = next.none;
+        keeps = keeps_of segments new (taken.full ++ gathered_by old ∷ []) (chunks new.params.cluster es) (sym last)
+            (keeps_next state segments old new taken.full next taken.keeps);
       }
-
-  -- why the gathered entries weren't written
-  halted : (segments : List Segment) (es : List TreesData) (old new : SeqState D) (e : CommitError) → 0 < length (gathered_by old)
-      → length (gathered_by old) ≤ old.params.cluster → IsBookKept old.book → IsUngrouped old.book
-      → old.book.begin ≡ clusters_place old.table
-      → HasTakenLines state segments es old → (refusal e ≢ refusal commit.Memory → NamesPassed old (Err e))
-      → (refusal e ≡ refusal commit.Fault → FailsToAppend state old new)
-      → HaltsAt state old.table old.params segments es new (error_of_commit e)
-  halted segments es old new e some few kept bare begin taken names fault = at e names fault
-    where
-      over : (error : LimitError) (f : CommitError) → limit_in f ≡ Some error → NamesPassed old (Err f)
-          → NamesOver old.table old.params (clusters_of_segments old.params.cluster segments ++ chunks old.params.cluster es) error
-      over error f is passed =
-          subst (λ (l : List (List TreesData)). NamesOver old.table old.params l error) (with_next segments es old some few taken)
-          (next_over old.table old.params old.book kept bare begin (clusters_of_segments old.params.cluster segments ++ taken.full)
-          taken.written.ranges taken.written.late old.columns (gathered_by old) passed.gives old.book.limits error passed.limits_are
-          (passed.names ∙ is))
-
-      at : (f : CommitError) → (refusal f ≢ refusal commit.Memory → NamesPassed old (Err f))
-          → (refusal f ≡ refusal commit.Fault → FailsToAppend state old new)
-          → HaltsAt state old.table old.params segments es new (error_of_commit f)
-      at (commit.RangeTooLarge len most) names fault =
-          over (limit.RangeTooLarge len most) (commit.RangeTooLarge len most) refl (names (range_apart len most))
-      at (commit.FileTooLarge end most) names fault =
-          over (limit.FileTooLarge end most) (commit.FileTooLarge end most) refl (names (file_apart end most))
-      at commit.TooManyClusters names fault = over limit.TooManyClusters commit.TooManyClusters refl (names many_apart)
-      at commit.Memory names fault = tt
-      at commit.Fault names fault = let f = fault refl in omega (arith, f.rose)
 
   some_or_none : (es : List TreesData) → (es ≡ []) ⊎ (0 < length es)
   some_or_none [] = inl refl
@@ -193,14 +155,13 @@ module _ {D : Type 0} (state : D → DiskState) where
 
   -- a flush that was refused
   pub gathered_refused : (segments : List Segment) (es : List TreesData) (old new : SeqState D) (e : CommitError)
-      → length (gathered_by old) ≤ old.params.cluster → IsBookKept old.book → IsUngrouped old.book
-      → old.book.begin ≡ clusters_place old.table
-      → HasTakenLines state segments es old → (gathered_by old ≡ [] → (refusal e ≡ Ok tt) × (new ≡ old))
+      → length (gathered_by old) ≤ old.params.cluster → IsBookKept old.book → IsWriting state old → HasTakenLines state segments es old
+      → (gathered_by old ≡ [] → (refusal e ≡ Ok tt) × (new ≡ old))
       → (0 < length (gathered_by old) → refusal e ≢ refusal commit.Memory → NamesPassed old (Err e))
       → (refusal e ≡ refusal commit.Fault → FailsToAppend state old new)
-      → HaltsAt state old.table old.params segments es new (error_of_commit e)
-  gathered_refused segments es old new e few kept bare begin taken nothing names fault =
+      → HaltsAt state (λ next. next ≡ gathered_by old) old.table old.params segments es new (error_of_commit e)
+  gathered_refused segments es old new e few kept is taken nothing names fault =
       elim (some_or_none (gathered_by old)) [
         | inl none ↦ absurd (refused_not_done e (nothing none).0)
-        | inr more ↦ halted segments es old new e more few kept bare begin taken (names more) fault
+        | inr more ↦ halted state segments es old new e more few kept is taken (names more) fault
       ]

@@ -1,5 +1,5 @@
 -- How a script goes on from line to line.
-use Rattle.std.proofs.Common.{◌≡◌, inl, inr, ℕ, ◌<◌, true, false, List, [], ◌∷◌, ◌++◌, length, Option, None}
+use Rattle.std.proofs.Common.{◌≡◌, inl, inr, ℕ, ◌<◌, true, false, List, [], ◌∷◌, ◌++◌, length, map, refl, Option, None}
 use Rattle.std.proofs.Common.{Ok, sym, ap, ◌∙◌, subst, append_assoc, append-nil, arith}
 use Rattle.nt_types.specs.ShapeData.{MemberData, parts_of}
 use Rattle.nt_types.specs.TreeData.{TreesData}
@@ -9,7 +9,11 @@ use Rattle.nt_book.specs.declared.params.Params.{Params}
 use Rattle.nt_event.specs.declared.lines.Line as given
 use Rattle.nt_event.specs.Entry.{entry_of}
 use Rattle.nt_event.specs.Lines.{LinesState, IsNextLine, GivesLine}
+use Rattle.nt_machine.specs.History.{Cluster}
+use Rattle.nt_book.specs.declared.meta.ClusterMeta.{ClusterMeta}
+use Rattle.nt_book.specs.Books.{book_clusters}
 use Rattle.nt_seq.specs.Writer.{SeqState}
+use Rattle.nt_seq.proofs.Blobs.{late-length}
 use Rattle.nt_script.specs.Script.{adds_field, field_added}
 use Rattle.nt_script.specs.Reading.{Segment, segment_fields}
 use Rattle.nt_script.specs.Taking.{GrowsBySegments, HasJustFields, HasGrownBy}
@@ -22,10 +26,15 @@ use Rattle.nt_script.proofs.ReadLines.{read-nothing, segment_fields-next}
 pub grown_same : {D : Type 0} (first : Table) (G : List MemberData) (segments : List Segment) (old new : SeqState D)
     → HasGrownBy first G segments old → HasSameSchema old new → HasGrownBy first G segments new
 grown_same first G segments old new grown same = record {
-  grows = subst (λ (t : Table). GrowsBySegments new.params.plain first 0 segments t) (sym same.table)
-      (subst (λ (p : Params). GrowsBySegments p.plain first 0 segments old.table) (sym same.params) grown.grows);
+  grows = subst (λ (t : Table). GrowsBySegments new.params first 0 segments t) (sym same.table)
+      (subst (λ (p : Params). GrowsBySegments p first 0 segments old.table) (sym same.params) grown.grows);
   just = subst (HasJustFields G) (sym same.table) grown.just;
 }
+
+-- of no cluster nothing is kept
+none_kept : (cs : List (Cluster ClusterMeta)) → length cs ≡ 0 → map (λ (c : Cluster ClusterMeta). c.meta) cs ≡ []
+none_kept [] none = refl
+none_kept (c ∷ cs) none = absurd (omega (arith, none))
 
 module _ {D : Type 0} (state : D → DiskState) (F : List MemberData) (text : Option (List ℕ)) (first : Table) (p : Params) where
   -- a line of events was taken
@@ -61,7 +70,7 @@ module _ {D : Type 0} (state : D → DiskState) (F : List MemberData) (text : Op
       → (on : GoesOnScript state F text first p G old was) → IsNextLine was is line → adds_field line.bytes ≡ true
       → TakesField state first G G' on.segments on.entries line old new (Ok tt) → GoesOnScript state F text first p G' new is
   field_went G G' old new was is line on next adding h =
-      let s : Segment = record { entries = on.entries; field = h.field } in
+      let s : Segment = record { entries = on.entries; field = h.field; metas = h.metas } in
       record {
         segments = on.segments ++ s ∷ [];
         entries = [];
@@ -69,7 +78,7 @@ module _ {D : Type 0} (state : D → DiskState) (F : List MemberData) (text : Op
             ∙ (ap (λ (l : List MemberData). l ++ h.field ∷ []) on.fields
             ∙ (append_assoc F (segment_fields on.segments) (h.field ∷ [])
             ∙ ap (λ (l : List MemberData). F ++ l) (sym (segment_fields-next on.segments s))));
-        read = read-field F on.segments on.entries was is line next text h.field on.read adding
+        read = read-field F on.segments on.entries was is line next text h.field h.metas on.read adding
             (ap (λ (l : List MemberData). field_added l line.bytes) (sym on.fields) ∙ h.read);
         grown = h.grown;
         taken = h.taken;
@@ -99,7 +108,18 @@ module _ {D : Type 0} (state : D → DiskState) (F : List MemberData) (text : Op
     fields = sym (append-nil F);
     read = read-nothing F text lines is begins.number;
     grown = record { grows = table; just = begins.just };
-    taken = record { full = []; written = begins.written; sizes = tt; whole = sym begins.none };
+    taken = record {
+      full = [];
+      written = begins.written;
+      sizes = tt;
+      whole = sym begins.none;
+      keeps = record {
+        own = [];
+        kept = tt;
+        metas = none_kept (book_clusters w.book)
+            (late-length w.table w.params.page 0 [] begins.written.ranges (book_clusters w.book) begins.written.late);
+      };
+    };
     is_open = record {
       alive = begins.alive;
       room = subst (λ (l : List TreesData). length l < w.params.cluster) (sym begins.none) (omega (arith, w.params.cluster_range.0));

@@ -9,11 +9,13 @@ use Rattle.nt_outside.specs.declared.fault.Refused.TheVariants as refused
 use Rattle.nt_outside.specs.Disk.{DiskState}
 use Rattle.nt_outside.specs.Faults.{TakesIn}
 use Rattle.nt_outside.specs.Held.{Held}
-use Rattle.nt_outside.specs.Order.{FirstByteLast, BeginsOpen}
+use Rattle.nt_outside.specs.Log.{Step}
+use Rattle.nt_outside.specs.Order.{FirstByteLast, BeginsOpen, EndsInSync}
 use Rattle.nt_outside.specs.Source.{SourceState}
 use Rattle.nt_outside.specs.World.{World, Asked, Out, HostState, Creates, IsNewDisk, KeepsDisk, TakesBack, creates, keeps_disk}
 use Rattle.nt_book.specs.declared.params.Params.{Params}
-use Rattle.nt_store.specs.Worlds.{AsksFirst, OthersStay, LeavesOpen, IsWrittenInOrder, WritesInOrder}
+use Rattle.nt_close.specs.Laws.{EndsOverFirst}
+use Rattle.nt_store.specs.Worlds.{AsksFirst, OthersStay, LeavesOpen, IsWrittenInOrder, WritesInOrder, IsLeftAfter}
 use Rattle.nt_store.specs.Writing.{HoldsNow}
 use Rattle.nt_store.proofs.Asking.{asks_all}
 use Rattle.nt_store.proofs.Ends.{stored_kept, file_kept, kept_open, kept_never_begun, others_kept, world_is, none_made, nothing_made}
@@ -76,14 +78,26 @@ module _ (out : List ℕ) (w : World) (world : Option World) (held : Option Held
     opens : (h : Held) → BeginsOpen h.image → LeavesOpen out w (after h)
     opens h begins = (refl, kept_open out h (creates out w) begins)
 
+    -- how its steps end
+    ends_so : (Ends : List Step → Type 0) (h : Held) → Ends h.log → IsLeftAfter Ends out (after h)
+    ends_so Ends h ends = record {
+      at = record { bytes = h.image; log = Some h.log };
+      log = h.log;
+      there = stored_kept (creates out w).files out (record { bytes = h.image; log = Some h.log });
+      steps = refl;
+      ends = ends;
+    }
+
     back_told : (disk : DiskState) → held ≡ disk.held → (result : Result Counts ScriptStoreError)
         → ScriptFileTold fields p text disk result → IsBack result
-    back_told disk same (Ok counts) ((h, is, whole), numbers) = with_told (Ok counts) h (same ∙ is) (makes h whole, numbers)
+    back_told disk same (Ok counts) ((h, is, (whole, ends)), numbers) =
+        with_told (Ok counts) h (same ∙ is) (makes h whole, ends_so EndsInSync h ends, numbers)
     back_told disk same (Err Outside) (inl (h, is, inl begins)) =
         with_told (Err Outside) h (same ∙ is) (inl (inr (refl, inl (opens h begins).1)))
     back_told disk same (Err Outside) (inl (h, is, inr never)) =
         with_told (Err Outside) h (same ∙ is) (inl (inr (refl, inr (kept_never_begun out h (creates out w) never))))
-    back_told disk same (Err Outside) (inr (h, is, whole)) = with_told (Err Outside) h (same ∙ is) (inr (makes h whole))
+    back_told disk same (Err Outside) (inr (h, is, (whole, ends))) =
+        with_told (Err Outside) h (same ∙ is) (inr (makes h whole, ends_so EndsOverFirst h ends))
     back_told disk same (Err Memory) (h, is, begins) = with_told (Err Memory) h (same ∙ is) (inr (opens h begins))
     back_told disk same (Err (Line line kind)) (bad, (h, is, begins)) =
         with_told (Err (Line line kind)) h (same ∙ is) (bad, opens h begins)

@@ -14,6 +14,7 @@ use Rattle.nt_event.specs.declared.fault.TextKind.TheVariants.{TooLong}
 use Rattle.nt_event.specs.Limits.{max_number}
 use Rattle.nt_event.specs.Entry.{entry_of}
 use Rattle.nt_event.specs.Lines.{LinesState, IsNextLine, BeginsTooLong, HasMore}
+use Rattle.nt_book.specs.declared.meta.ClusterMeta.{ClusterMeta}
 use Rattle.nt_dealing.specs.EventText.{text_lines}
 use Rattle.nt_contexts.proofs.Reading.{LineOff, within, next_line, beyond, bad_next}
 use Rattle.nt_script.specs.declared.error.LineFault.{LineFault}
@@ -21,6 +22,7 @@ use Rattle.nt_script.specs.declared.error.LineFault.TheVariants.{Event, Field}
 use Rattle.nt_script.specs.Script.{Script, last_entries, and_field, with_entries, breaks_off, adds_field, then_field, field_added}
 use Rattle.nt_script.specs.Script.{script_of_lines, read_script}
 use Rattle.nt_script.specs.Reading.{Segment, segment_fields, behind_segments, HasReadScript, GivesScript}
+use Rattle.nt_script.specs.Passing.{EndsSegment}
 use Rattle.nt_script.proofs.Scripts.{with_entries-none, then_entry, script-event, script-field, script-beyond, segments-entry}
 use Rattle.nt_script.proofs.Scripts.{segments-field}
 
@@ -126,13 +128,13 @@ module _ (F : List MemberData) (segments : List Segment) where
         ∙ ap (λ (n : ℕ). breaks_off n (Event kind)) (sym next.number.0)))
         ∙ breaks_here segments es line.number (Event kind))
 
-    pub read-field : (text : Option (List ℕ)) (m : MemberData) → HasReadScript F text segments es old → adds_field line.bytes ≡ true
-        → field_added now_fields line.bytes ≡ Ok m
-        → HasReadScript F text (segments ++ record { entries = es; field = m } ∷ []) [] new
-    read-field None m read adding is = tt
-    read-field (Some text) m read adding is =
+    pub read-field : (text : Option (List ℕ)) (m : MemberData) (metas : List ClusterMeta) → HasReadScript F text segments es old
+        → adds_field line.bytes ≡ true → field_added now_fields line.bytes ≡ Ok m
+        → HasReadScript F text (segments ++ record { entries = es; field = m; metas = metas } ∷ []) [] new
+    read-field None m metas read adding is = tt
+    read-field (Some text) m metas read adding is =
         let off = next_line (parts_of F) old new line read.rest read.left next in
-        let s : Segment = record { entries = es; field = m } in
+        let s : Segment = record { entries = es; field = m; metas = metas } in
         let rest = script_of_lines (now_fields ++ m ∷ []) (new.number + 1) (text_lines off.rest) in
         let fields : now_fields ++ m ∷ [] ≡ F ++ segment_fields (segments ++ s ∷ []) =
         append_assoc F (segment_fields segments) (m ∷ [])
@@ -144,7 +146,7 @@ module _ (F : List MemberData) (segments : List Segment) where
               ∙ (ap (behind_segments segments es) (field_line old new line read.rest next off adding
               ∙ ap (λ (r : Result MemberData SchemaKind). then_field (old.number + 1) r
               (λ (x : MemberData). script_of_lines (now_fields ++ x ∷ []) (new.number + 1) (text_lines off.rest))) is)
-              ∙ (segments-field segments es m rest
+              ∙ (segments-field segments es m metas rest
               ∙ ap (λ (l : List MemberData). behind_segments (segments ++ s ∷ []) []
               (script_of_lines l (new.number + 1) (text_lines off.rest))) fields));
         }
@@ -161,6 +163,22 @@ module _ (F : List MemberData) (segments : List Segment) where
         (λ (x : MemberData). script_of_lines (now_fields ++ x ∷ []) (new.number + 1) (text_lines off.rest))) is
         ∙ ap (λ (n : ℕ). breaks_off n (Field kind)) (sym next.number.0)))
         ∙ breaks_here segments es line.number (Field kind))
+
+    -- a line that adds a field, or is to add one, ends the segment
+    ends_segment : (number : ℕ) (r : Result MemberData SchemaKind) (rest : MemberData → Script) → EndsSegment (then_field number r rest)
+    ends_segment number (Ok m) rest = tt
+    ends_segment number (Err kind) rest = tt
+
+    pub read-ended : (text : Option (List ℕ)) → HasReadScript F text segments es old → adds_field line.bytes ≡ true
+        → (behind : Script) × GivesScript F text (behind_segments segments es behind) × EndsSegment behind
+    read-ended None read adding = (last_entries [] None, tt, tt)
+    read-ended (Some text) read adding =
+        let off = next_line (parts_of F) old new line read.rest read.left next in (
+          _,
+          read.whole ∙ ap (behind_segments segments es) (field_line old new line read.rest next off adding),
+          ends_segment (old.number + 1) (field_added now_fields line.bytes)
+              (λ (m : MemberData). script_of_lines (now_fields ++ m ∷ []) (new.number + 1) (text_lines off.rest)),
+        )
 
   module _ (es : List TreesData) (now : LinesState) where
     pub read-end : (text : Option (List ℕ)) → HasReadScript F text segments es now → IsAtEnd now.left

@@ -5,6 +5,7 @@ use Rattle.std.specs.Prelude.{if◌then◌else◌}
 use Rattle.nt_types.specs.ShapeData.{MemberData, parts_of}
 use Rattle.nt_types.specs.TreeData.{TreesData}
 use Rattle.nt_types.specs.Lines.{is_blank_line}
+use Rattle.nt_book.specs.declared.meta.ClusterMeta.{ClusterMeta}
 use Rattle.nt_event.specs.Entry.{entry_of}
 use Rattle.nt_event.specs.declared.fault.TextKind.{TextKind}
 use Rattle.nt_event.specs.declared.fault.TextKind.TheVariants.{TooLong}
@@ -126,9 +127,11 @@ segments-entry [] es e rest = with_entries-more es (e ∷ []) rest
 segments-entry (s ∷ segments) es e rest = ap (λ (x : Script). and_field s.entries s.field x) (segments-entry segments es e rest)
 
 -- one segment more is over
-pub segments-field : (segments : List Segment) (es : List TreesData) (m : MemberData) (rest : Script)
-    → behind_segments segments es (and_field [] m rest) ≡ behind_segments (segments ++ record { entries = es; field = m } ∷ []) [] rest
-segments-field [] es m rest =
+pub segments-field : (segments : List Segment) (es : List TreesData) (m : MemberData) (metas : List ClusterMeta) (rest : Script)
+    → behind_segments segments es (and_field [] m rest)
+    ≡ behind_segments (segments ++ record { entries = es; field = m; metas = metas } ∷ []) [] rest
+segments-field [] es m metas rest =
     ap (λ (l : List TreesData). and_field l m rest) (append-nil es)
     ∙ ap (λ (x : Script). and_field es m x) (sym (with_entries-none rest))
-segments-field (s ∷ segments) es m rest = ap (λ (x : Script). and_field s.entries s.field x) (segments-field segments es m rest)
+segments-field (s ∷ segments) es m metas rest =
+    ap (λ (x : Script). and_field s.entries s.field x) (segments-field segments es m metas rest)

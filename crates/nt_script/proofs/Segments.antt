@@ -1,5 +1,5 @@
 -- The clusters of segments, and the tables that their fields make.
-use Rattle.std.proofs.Common.{◌≡◌, ℕ, ◌+◌, ◌<◌, Bool, List, [], ◌∷◌, ◌++◌, length, map, Option, refl, sym, ap, ◌∙◌}
+use Rattle.std.proofs.Common.{◌≡◌, ℕ, ◌+◌, ◌<◌, List, [], ◌∷◌, ◌++◌, length, map, Option, refl, sym, ap, ◌∙◌}
 use Rattle.std.proofs.Common.{subst, append_assoc, append-nil, arith}
 use Rattle.std.specs.List.{flat_map}
 use Rattle.std.proofs.lemmas.List.{length-append, length-map, map-append}
@@ -10,13 +10,16 @@ use Rattle.nt_types.specs.ShapeData.{MemberData, parts_of}
 use Rattle.nt_types.specs.TreeData.{TreesData, tree}
 use Rattle.nt_grammar.specs.Added.{Added}
 use Rattle.nt_grammar.specs.Table.{Table}
+use Rattle.nt_book.specs.declared.meta.ClusterMeta.{ClusterMeta}
+use Rattle.nt_book.specs.declared.params.Params.{Params}
+use Rattle.nt_dealing.specs.Limits.{AreKeptOf}
 use Rattle.nt_finished.specs.LeftOut.{and_trees, filled}
 use Rattle.nt_finished.specs.Zeros.{zero_tree, zero_parts}
 use Rattle.nt_seq.specs.Written.{entries_of_clusters, zero_behind}
 use Rattle.nt_seq.proofs.Grown.{filled-filled}
 use Rattle.nt_script.specs.Script.{BadScriptLine, last_entries}
 use Rattle.nt_script.specs.Clusters.{bad_line, fields_of_script, clusters_before, script_clusters, GrowsByScript}
-use Rattle.nt_script.specs.Reading.{Segment, segment_fields, behind_segments}
+use Rattle.nt_script.specs.Reading.{Segment, segment_fields, segment_metas, behind_segments}
 use Rattle.nt_script.specs.Taking.{clusters_of_segments, GrowsBySegments}
 
 -- zeros behind entries
@@ -126,30 +129,39 @@ entries-segments most (s ∷ segments) some =
     )
 
 -- a table that grew by segments grew by their script
-pub grows-script : (plain : Bool) (t : Table) (before : ℕ) (segments : List Segment) (new : Table) (es : List TreesData)
-    (bad : Option BadScriptLine) → GrowsBySegments plain t before segments new
-    → GrowsByScript plain t before (behind_segments segments [] (last_entries es bad)) new
-grows-script plain t before [] new es bad grows = grows
-grows-script plain t before (s ∷ segments) new es bad grows =
-    (grows.0, grows.1, grows-script plain grows.0 (before + length s.entries) segments new es bad grows.2)
+pub grows-script : (p : Params) (t : Table) (before : ℕ) (segments : List Segment) (new : Table) (es : List TreesData)
+    (bad : Option BadScriptLine) → GrowsBySegments p t before segments new
+    → GrowsByScript p.plain t before (behind_segments segments [] (last_entries es bad)) new
+grows-script p t before [] new es bad grows = grows
+grows-script p t before (s ∷ segments) new es bad grows =
+    (grows.0, grows.1, grows-script p grows.0 (before + length s.entries) segments new es bad grows.3)
 
 -- and by one segment more
-pub grows-next : (plain : Bool) (t : Table) (before : ℕ) (segments : List Segment) (u : Table) (s : Segment) (new : Table)
-    → GrowsBySegments plain t before segments u
-    → Added u s.field plain (before + entries_of_segments segments + length s.entries) new
-    → GrowsBySegments plain t before (segments ++ s ∷ []) new
-grows-next plain t before [] u s new grows added =
+pub grows-next : (p : Params) (t : Table) (before : ℕ) (segments : List Segment) (u : Table) (s : Segment) (new : Table)
+    → GrowsBySegments p t before segments u
+    → Added u s.field p.plain (before + entries_of_segments segments + length s.entries) new
+    → AreKeptOf u p.page (chunks p.cluster s.entries) s.metas → GrowsBySegments p t before (segments ++ s ∷ []) new
+grows-next p t before [] u s new grows added kept =
     let none : before + 0 + length s.entries ≡ before + length s.entries = omega arith in (
       new,
-      subst (λ (v : Table). Added v s.field plain (before + length s.entries) new) grows
-          (subst (λ (n : ℕ). Added u s.field plain n new) none added),
+      subst (λ (v : Table). Added v s.field p.plain (before + length s.entries) new) grows
+          (subst (λ (n : ℕ). Added u s.field p.plain n new) none added),
+      subst (λ (v : Table). AreKeptOf v p.page (chunks p.cluster s.entries) s.metas) grows kept,
       refl,
     )
-grows-next plain t before (q ∷ segments) u s new grows added =
+grows-next p t before (q ∷ segments) u s new grows added kept =
     let count : before + (length q.entries + entries_of_segments segments) + length s.entries
     ≡ before + length q.entries + entries_of_segments segments + length s.entries = omega arith in (
       grows.0,
       grows.1,
-      grows-next plain grows.0 (before + length q.entries) segments u s new grows.2
-          (subst (λ (n : ℕ). Added u s.field plain n new) count added),
+      grows.2,
+      grows-next p grows.0 (before + length q.entries) segments u s new grows.3
+          (subst (λ (n : ℕ). Added u s.field p.plain n new) count added) kept,
     )
+
+-- what is kept of segments, and of one more
+pub metas-next : (segments : List Segment) (s : Segment) → segment_metas (segments ++ s ∷ []) ≡ segment_metas segments ++ s.metas
+metas-next [] s = append-nil s.metas
+metas-next (q ∷ segments) s =
+    ap (λ (l : List ClusterMeta). q.metas ++ l) (metas-next segments s)
+    ∙ sym (append_assoc q.metas (segment_metas segments) s.metas)

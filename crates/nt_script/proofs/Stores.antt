@@ -6,11 +6,12 @@ use Rattle.nt_types.specs.ShapeData.{MemberData}
 use Rattle.nt_outside.specs.declared.fault.Failed.{Failed}
 use Rattle.nt_outside.specs.declared.stream.Stream.TheVariants.{ToOut}
 use Rattle.nt_outside.specs.Log.{Step}
+use Rattle.nt_outside.specs.Order.{EndsInSync}
 use Rattle.nt_outside.specs.Source.{SourceState}
 use Rattle.nt_outside.specs.World.{World, Asked, Text, Out, HostState, PrintsAll, prints}
 use Rattle.nt_book.specs.declared.params.Params.{Params}
 use Rattle.nt_store.specs.Stored.{asked_for}
-use Rattle.nt_store.specs.Worlds.{AsksFirst, LeavesOut, MakesDisk, IsWrittenInOrder}
+use Rattle.nt_store.specs.Worlds.{AsksFirst, LeavesOut, MakesDisk, IsWrittenInOrder, IsLeftAfter}
 use Rattle.nt_store.proofs.Asking.{asks_front}
 use Rattle.nt_store.proofs.Crashing.{or_as}
 use Rattle.nt_store.proofs.Ends.{world_is}
@@ -50,8 +51,7 @@ module _ (out schema input : List ℕ) (p : Params) (fields : List MemberData) (
   unfiled_told : (w w' : World) (bytes : List ℕ) → AreScriptTexts w schema input fields bytes → w'.out ≡ w.out → (e : ScriptStoreError)
       → FilesTold out p fields bytes w w' (Err e) → ScriptTold out schema input p w w' (Err e)
   unfiled_told w w' bytes are same Outside (inl left) = inl (left, same)
-  unfiled_told w w' bytes are same Outside (inr whole) = inr (
-    [],
+  unfiled_told w w' bytes are same Outside (inr (whole, ends)) = inr (inl (
     line_of_clusters (clusters_of_text p fields bytes),
     record {
       fields = fields;
@@ -61,10 +61,11 @@ module _ (out schema input : List ℕ) (p : Params) (fields : List MemberData) (
       line = refl;
       gained = same ∙ sym (append-nil w.out);
     },
-  )
+    ends,
+  ))
   unfiled_told w w' bytes are same Memory left = (left, same)
   unfiled_told w w' bytes are same (Line line kind) (bad, left) =
-      (record { fields = fields; text = bytes; are = are; first = bad }, left, same)
+      (record { fields = fields; text = bytes; are = are; bad = bad }, left, same)
   unfiled_told w w' bytes are same (Limit reached most) (over, left) =
       (record { fields = fields; text = bytes; are = are; over = over }, left, same)
   unfiled_told w w' bytes are same (Schema line kind) told = absurd told
@@ -117,7 +118,7 @@ module _ (out schema input : List ℕ) (p : Params) (fields : List MemberData) (
     stored : (w w1 : World) (bytes printed behind : List ℕ) → AreScriptTexts w schema input fields bytes → w1.out ≡ w.out
         → FilesTold out p fields bytes w w1 (Ok counts) → line ≡ printed ++ behind
         → StoresWholeScript out schema input p w (prints ToOut printed w1) printed behind
-    stored w w1 bytes printed behind are same (makes, numbers) is = record {
+    stored w w1 bytes printed behind are same (makes, ends, numbers) is = record {
       fields = fields;
       text = bytes;
       are = are;
@@ -126,6 +127,12 @@ module _ (out schema input : List ℕ) (p : Params) (fields : List MemberData) (
           ∙ ap (λ (n : ℕ). counts_line (length (clusters_of_text p fields bytes)) n) numbers.entries) ∙ is;
       gained = ap (λ (l : List ℕ). l ++ printed) same;
     }
+
+    -- a print leaves the steps of the file
+    left_after_print : (w1 : World) (printed : List ℕ) → IsLeftAfter EndsInSync out w1
+        → IsLeftAfter EndsInSync out (prints ToOut printed w1)
+    left_after_print w1 printed left =
+        record { at = left.at; log = left.log; there = left.there; steps = left.steps; ends = left.ends }
 
     -- what was printed, and the world then
     printed_at : (w1 : World) → filed.world ≡ Some w1 → (printed : List ℕ) × (new.world ≡ Some (prints ToOut printed w1))
@@ -212,12 +219,13 @@ module _ (out schema input : List ℕ) (p : Params) (fields : List MemberData) (
               front.2,
               back.2,
               back.4,
-              inr (
+              inr (inr (
                 printed,
                 drop front.0 line,
                 stored filed new counts files (Err e) told w back.0 script.0 printed (drop front.0 line) script.2 back.3 back.5
                     (sym (take-append-drop front.0 line)),
-              ),
+                left_after_print filed new counts files (Err e) told back.0 printed back.5.1,
+              )),
             );
         order = printed_order filed new counts files (Err e) told;
         crash = printed_crash filed new counts files (Err e) told (Err Outside) (λ Whole log leaves. leaves.0);

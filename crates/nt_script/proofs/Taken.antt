@@ -14,13 +14,23 @@ use Rattle.nt_event.specs.declared.lines.Line as given
 use Rattle.nt_seq.specs.Writer.{SeqState, gathered_by, GathersEntry}
 use Rattle.nt_seq.specs.Written.{HasWritten}
 use Rattle.nt_script.specs.declared.error.ScriptError.{ScriptError}
+use Rattle.nt_script.specs.declared.error.ScriptError.TheVariants.{Line, Limit, Outside, Memory}
 use Rattle.nt_script.specs.Reading.{Segment}
-use Rattle.nt_script.specs.Taking.{clusters_of_segments, HasTakenLines, HasSameSchema, HaltsAt}
+use Rattle.nt_script.specs.Taking.{clusters_of_segments, KeepsClusters, HasTakenLines, HasSameSchema, MakesWhole, HaltsAt}
 use Rattle.nt_script.specs.Taking.{WritesGathered, WritesWhole}
 use Rattle.nt_script.specs.Events.{IsEntryLine, TakesEvent}
 use Rattle.nt_script.proofs.Flushed.{last_chunk}
 
 module _ {D : Type 0} (state : D → DiskState) where
+  -- what the next cluster is, is said in other words
+  pub halts_as : (P Q : List TreesData → Type 0) (t : Table) (p : Params) (segments : List Segment) (es : List TreesData)
+      (new : SeqState D) (error : ScriptError) → ((next : List TreesData) → P next → Q next)
+      → HaltsAt state P t p segments es new error → HaltsAt state Q t p segments es new error
+  halts_as P Q t p segments es new (Line line kind) turn h = h
+  halts_as P Q t p segments es new (Limit error) turn h = (h.0, turn h.0 h.1, h.2)
+  halts_as P Q t p segments es new Outside turn h = h
+  halts_as P Q t p segments es new Memory turn h = h
+
   -- a whole cluster that was written, or why not
   pub whole_written : (segments : List Segment) (es : List TreesData) (old new : SeqState D) (result : Result Unit ScriptError)
       → 0 < old.params.cluster → length (gathered_by old) ≡ old.params.cluster → HasTakenLines state segments es old
@@ -47,6 +57,7 @@ module _ {D : Type 0} (state : D → DiskState) where
               ∙ (sym (flat_map-append (λ (c : List TreesData). c) taken.full (g ∷ []))
               ∙ (sym (append-nil (flat_map (λ (c : List TreesData). c) (taken.full ++ g ∷ [])))
               ∙ ap (λ (l : List TreesData). flat_map (λ (c : List TreesData). c) (taken.full ++ g ∷ []) ++ l) (sym writes.0.none))));
+          keeps = subst (λ (l : List (List TreesData)). KeepsClusters segments l new) are writes.0.keeps;
         },
         record {
           alive = same.alive;
@@ -55,7 +66,9 @@ module _ {D : Type 0} (state : D → DiskState) where
         },
         same,
       )
-  whole_written segments es old new (Err error) some whole taken writes = writes
+  whole_written segments es old new (Err error) some whole taken writes =
+      halts_as (λ next. next ≡ gathered_by old) (MakesWhole old.params) old.table old.params segments es new error
+      (λ next same. ap (λ (l : List TreesData). length l) same ∙ whole) writes
 
   -- one entry more was taken
   pub entry_taken : (segments : List Segment) (es : List TreesData) (entry : TreesData) (old new : SeqState D)
@@ -72,6 +85,7 @@ module _ {D : Type 0} (state : D → DiskState) where
         whole = ap (λ (l : List TreesData). l ++ entry ∷ []) taken.whole
             ∙ (append_assoc (flat_map (λ (c : List TreesData). c) taken.full) (gathered_by old) (entry ∷ [])
             ∙ ap (λ (l : List TreesData). flat_map (λ (c : List TreesData). c) taken.full ++ l) (sym more));
+        keeps = record { own = taken.keeps.own; kept = taken.keeps.kept; metas = taken.keeps.metas };
       } in
       subst (HasTakenLines state segments (es ++ entry ∷ [])) (sym now) there
 
@@ -107,6 +121,6 @@ module _ {D : Type 0} (state : D → DiskState) where
       inr (
         entry,
         is,
-        subst (λ (t : Table). HaltsAt state t old.params segments (es ++ entry ∷ []) new error) same.table
-            (subst (λ (p : Params). HaltsAt state mid.table p segments (es ++ entry ∷ []) new error) same.params whole),
+        subst (λ (t : Table). HaltsAt state (MakesWhole old.params) t old.params segments (es ++ entry ∷ []) new error) same.table
+            (subst (λ (p : Params). HaltsAt state (MakesWhole p) mid.table p segments (es ++ entry ∷ []) new error) same.params whole),
       )

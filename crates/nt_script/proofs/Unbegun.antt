@@ -1,9 +1,8 @@
 -- What is left of the disk of a script whose file isn't begun, and how its writing joins the parts.
 use Rattle.std.proofs.Common.{◌≡◌, ◌∙◌, inl, inr, ap, sym, subst, refl, ℕ, zero, suc, ◌<◌, List, [], ◌∷◌, ◌++◌, take}
-use Rattle.std.proofs.Common.{Bool, Some, None, Result, Err, arith}
+use Rattle.std.proofs.Common.{Bool, Some, Result, Err, arith}
 use Rattle.nt_types.specs.ShapeData.{MemberData}
 use Rattle.nt_types.specs.Rules.{AreFields}
-use Rattle.nt_types.specs.TreeData.{TreesData}
 use Rattle.nt_outside.specs.Disk.{DiskState}
 use Rattle.nt_outside.specs.Held.{nothing_held}
 use Rattle.nt_outside.specs.Log.{Step, Sync}
@@ -11,35 +10,29 @@ use Rattle.nt_outside.specs.Source.{SourceState}
 use Rattle.nt_grammar.specs.Rows.{Rows}
 use Rattle.nt_grammar.specs.Table.{Table}
 use Rattle.nt_event.specs.Lines.{LinesState, before_first_line}
-use Rattle.nt_book.specs.declared.limits.LimitError.{LimitError}
 use Rattle.nt_book.specs.declared.limits.LimitError.TheVariants as limit
 use Rattle.nt_book.specs.declared.params.Params.{Params}
 use Rattle.nt_layout.specs.Headers.{header_blob}
 use Rattle.nt_close.specs.declared.error.BeginError.{BeginError}
 use Rattle.nt_close.specs.declared.error.BeginError.TheVariants as begin
 use Rattle.nt_close.specs.Beginning.{IsNotBegun}
-use Rattle.nt_close.specs.Passing.{passed_by_begin}
+use Rattle.nt_close.specs.Steps.{begun_partly}
 use Rattle.nt_close.proofs.FirstByte.{begins_shut}
 use Rattle.nt_cuts.specs.Cuts.{HasSync, LeavesUnfinished}
 use Rattle.nt_seq.specs.Changing.{BeginsFile}
 use Rattle.nt_seq.specs.Writer.{SeqState}
-use Rattle.nt_contexts.proofs.Chunking.{chunks-none}
 use Rattle.nt_store.proofs.Begun.{shut_open}
 use Rattle.nt_store.proofs.Filled.{begin_order}
-use Rattle.nt_store.proofs.Passing.{Names}
 use Rattle.nt_script.specs.declared.storing.Counts.{Counts}
 use Rattle.nt_script.specs.declared.store_error.ScriptStoreError.{ScriptStoreError}
 use Rattle.nt_script.specs.declared.store_error.ScriptStoreError.TheVariants.{Outside, Memory}
 use Rattle.nt_script.specs.StoreErrors.{script_error_of_begin}
-use Rattle.nt_script.specs.Script.{Script, last_entries, read_script}
-use Rattle.nt_script.specs.Limits.{IsOverLate, PassesLimit}
+use Rattle.nt_script.specs.Passing.{passes_begun}
 use Rattle.nt_script.specs.Running.{IsFirstWriter}
 use Rattle.nt_seq.specs.Crashes.{AppendsLeave}
 use Rattle.nt_script.specs.Filing.{LeavesScriptFile, FilesScript, WritesLines}
 use Rattle.nt_script.specs.Filing.{WritesScript}
 use Rattle.nt_script.specs.Taking.{HasJustFields}
-use Rattle.nt_script.proofs.Scripts.{with_entries-none}
-use Rattle.nt_script.proofs.Passed.{begun_over}
 
 -- ---- a file that isn't begun
 
@@ -56,26 +49,6 @@ no_sync k has = at k has.before has.is
 nothing_leaves : LeavesUnfinished []
 nothing_leaves k bytes has may = absurd (no_sync k has)
 
--- a limit that a beginning passes is passed before any entry
-begun_passes : (F : List MemberData) (p : Params) (s : Script) (t : Table) (e : LimitError) (reached most : ℕ) → Rows F p.plain t
-    → passed_by_begin p.limits t ≡ Some e → Names e reached most → PassesLimit F p s reached most
-begun_passes F p s t e reached most rows passed names = record {
-  front = last_entries [] None;
-  is_front = record {
-    segments = [];
-    entries = [];
-    behind = s;
-    front_is = refl;
-    whole_is = sym (with_entries-none s);
-  };
-  first = t;
-  rows = rows;
-  table = t;
-  grows = refl;
-  over = subst (λ (l : List (List TreesData)). IsOverLate t p l reached most)
-      (sym (chunks-none p.cluster (omega (arith, p.cluster_range.0)) [] refl)) (begun_over t p e reached most passed names);
-}
-
 nothing_told : (F : List MemberData) (p : Params) (text : List ℕ) (disk : DiskState) → disk.held ≡ Some nothing_held
     → LeavesScriptFile F p text disk (Err Memory)
 nothing_told F p text disk held = record { told = (nothing_held, held, tt); crash = (nothing_held, held, nothing_leaves) }
@@ -85,14 +58,14 @@ begin_left : AppendsLeave → (e : BeginError) (F : List MemberData) (p : Params
 begin_left leave begin.Memory F p text old new left is = nothing_told F p text new (left.place.held ∙ is)
 begin_left leave (begin.RangeTooLarge len most) F p text old new left is = record {
   told = (
-    begun_passes F p (read_script F text) left.table (limit.RangeTooLarge len most) len most left.rows left.passed_is (inl refl),
+    passes_begun left.table (limit.RangeTooLarge len most) left.rows left.passed_is (refl, refl),
     (nothing_held, left.untouched.place.held ∙ is, tt),
   );
   crash = (nothing_held, left.untouched.place.held ∙ is, nothing_leaves);
 }
 begin_left leave (begin.FileTooLarge end most) F p text old new left is = record {
   told = (
-    begun_passes F p (read_script F text) left.table (limit.FileTooLarge end most) end most left.rows left.passed_is (inr refl),
+    passes_begun left.table (limit.FileTooLarge end most) left.rows left.passed_is (refl, refl),
     (nothing_held, left.untouched.place.held ∙ is, tt),
   );
   crash = (nothing_held, left.untouched.place.held ∙ is, nothing_leaves);
@@ -103,12 +76,12 @@ begin_left leave begin.Fault F p text old new left is =
       told = inl (
         some.0,
         some.1,
-        elim (begins_shut (header_blob left.table) some.0 some.2) [
+        elim (begins_shut (header_blob left.table) some.0 (begun_partly some.2)) [
           | inl shut ↦ inl (shut_open some.0.image shut)
           | inr torn ↦ inr torn
         ],
       );
-      crash = (some.0, some.1, λ k bytes has may. inl (leave.beginning left.table some.0 some.2 k bytes has may));
+      crash = (some.0, some.1, λ k bytes has may. inl (leave.beginning left.table some.0 (begun_partly some.2) k bytes has may));
     }
 
 begin_failed : (e : BeginError) (F : List MemberData) (p : Params) (old new : DiskState) → IsNotBegun F p old new e

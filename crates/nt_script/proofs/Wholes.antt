@@ -1,6 +1,6 @@
 -- The file of a script that is written whole: what it means, its numbers, and the limits that it passes.
-use Rattle.std.proofs.Common.{◌≡◌, ◌∙◌, ap, sym, subst, ℕ, List, [], ◌∷◌, Option, Some, None}
-use Rattle.std.proofs.Common.{Bool, append-nil}
+use Rattle.std.proofs.Common.{◌≡◌, ◌∙◌, ap, sym, subst, ℕ, List, [], Some, None}
+use Rattle.std.proofs.Common.{Bool}
 use Rattle.nt_types.specs.ShapeData.{MemberData}
 use Rattle.nt_types.specs.TreeData.{TreesData}
 use Rattle.nt_outside.specs.Disk.{DiskState}
@@ -8,26 +8,27 @@ use Rattle.nt_grammar.specs.ReadingBack.{IsDescribed}
 use Rattle.nt_grammar.specs.Rows.{Rows}
 use Rattle.nt_grammar.specs.Table.{Table}
 use Rattle.nt_book.specs.declared.limits.LimitError.{LimitError}
-use Rattle.nt_book.specs.Books.{IsUngrouped}
+use Rattle.nt_book.specs.declared.meta.ClusterMeta.{ClusterMeta}
 use Rattle.nt_book.specs.Kept.{IsBookKept}
 use Rattle.nt_file_meaning.specs.Files.{Means}
-use Rattle.nt_layout.specs.Headers.{clusters_place}
 use Rattle.nt_layout.specs.Laid.{Measures, AreMeasures}
 use Rattle.nt_close.specs.Passing.{measures_of, passed_by_close}
 use Rattle.nt_finished.specs.LateFiles.{IsLaidLate}
+use Rattle.nt_seq.specs.Standing.{IsWriting}
 use Rattle.nt_seq.specs.Writer.{SeqState}
 use Rattle.nt_seq.specs.Written.{HasWritten}
 use Rattle.nt_seq.specs.Closing.{IsFileOf, AreCounts}
 use Rattle.nt_store.proofs.Passing.{Names}
 use Rattle.nt_store.proofs.Whole.{measures}
 use Rattle.nt_script.specs.declared.storing.Counts.{Counts}
-use Rattle.nt_script.specs.Script.{BadScriptLine, Script, last_entries, and_field, read_script}
+use Rattle.nt_script.specs.Script.{Script, last_entries, and_field, read_script}
 use Rattle.nt_script.specs.Clusters.{bad_line, fields_of_script, script_clusters, GrowsByScript}
-use Rattle.nt_script.specs.Limits.{IsFront, PassesLimit}
+use Rattle.nt_script.specs.Limits.{StandsWithin, IsOverEnd}
+use Rattle.nt_script.specs.Passing.{PassesLimit, passes_closing}
 use Rattle.nt_script.specs.Running.{IsDoneScript}
 use Rattle.nt_script.specs.Whole.{clusters_of_text, IsScriptFile}
 use Rattle.nt_script.specs.Filing.{AreNumbersOf}
-use Rattle.nt_script.proofs.Passed.{closed_over}
+use Rattle.nt_script.proofs.Passed.{stands_within, closed_over}
 
 -- the law of late files
 abbrev pub LateFilesMean : Type 0
@@ -40,26 +41,6 @@ grows-none : (plain : Bool) (t : Table) (before : ℕ) (s : Script) (new : Table
     → GrowsByScript plain t before s new → new ≡ t
 grows-none plain t before (last_entries es bad) new none grows = grows
 grows-none plain t before (and_field es m rest) new none grows = absurd (cc none)
-
--- a sound script comes first of itself
-front_of_all : (s : Script) → bad_line s ≡ None → IsFront s s
-front_of_all (last_entries es bad) sound = record {
-  segments = [];
-  entries = es;
-  behind = last_entries [] None;
-  front_is = ap (λ (b : Option BadScriptLine). last_entries es b) sound;
-  whole_is = ap (λ (b : Option BadScriptLine). last_entries es b) sound
-      ∙ ap (λ (l : List TreesData). last_entries l None) (sym (append-nil es));
-}
-front_of_all (and_field es m rest) sound =
-    let f = front_of_all rest sound in
-    record {
-      segments = record { entries = es; field = m } ∷ f.segments;
-      entries = f.entries;
-      behind = f.behind;
-      front_is = ap (λ (s : Script). and_field es m s) f.front_is;
-      whole_is = ap (λ (s : Script). and_field es m s) f.whole_is;
-    }
 
 module _ {D : Type 0} (state : D → DiskState) (w : SeqState D) (F : List MemberData) (text : List ℕ) (first : Table)
     (rows : Rows F w.params.plain first) (done : IsDoneScript state F (Some text) first w.params w) where
@@ -93,16 +74,23 @@ module _ {D : Type 0} (state : D → DiskState) (w : SeqState D) (F : List Membe
   numbers_here counts are =
       let both = are (clusters_of_text w.params F text) written_text in record { clusters = both.0; entries = both.1 }
 
-  pub over_here : (reached most : ℕ) (e : LimitError) → IsBookKept w.book → IsUngrouped w.book → w.book.begin ≡ clusters_place w.table
+  -- a limit that its closing passes
+  pub over_here : IsWriting state w → IsBookKept w.book → (reached most : ℕ) (e : LimitError)
       → passed_by_close w.params w.table w.book ≡ Some e → Names e reached most
       → PassesLimit F w.params (read_script F text) reached most
-  over_here reached most e kept bare begin passed names = record {
-    front = read_script F text;
-    is_front = front_of_all (read_script F text) sound_text;
-    first = first;
-    rows = rows;
-    table = w.table;
-    grows = grown_text;
-    over = closed_over w.table w.params w.book kept bare begin (clusters_of_text w.params F text) written_text.ranges written_text.late e
-        reached most passed names;
-  }
+  over_here is kept reached most e passed names = passes_closing (record {
+    segments = done.segments;
+    entries = done.entries;
+    script_is = done.read ∙ done.script_is;
+    written = record {
+      first = first;
+      rows = rows;
+      table = w.table;
+      grows = done.segments_grow;
+      own = done.keeps.own;
+      kept = done.keeps.kept;
+      within = subst (StandsWithin w.table w.params) done.keeps.metas (stands_within state w is kept);
+    };
+    over = subst (λ (ms : List ClusterMeta). IsOverEnd w.table w.params ms reached most) done.keeps.metas
+        (closed_over w.table w.params w.book kept is.closable.begin e reached most passed names);
+  })

@@ -6,6 +6,7 @@ use Rattle.nt_types.specs.Lines.{member_of}
 use Rattle.nt_event.specs.declared.lines.Line as given
 use Rattle.nt_outside.specs.Disk.{DiskState}
 use Rattle.nt_grammar.specs.Table.{Table}
+use Rattle.nt_book.specs.declared.meta.ClusterMeta.{ClusterMeta}
 use Rattle.nt_seq.specs.Writer.{SeqState}
 use Rattle.nt_script.specs.declared.error.LineFault.TheVariants.{Event, Field}
 use Rattle.nt_script.specs.declared.error.ScriptError.{ScriptError}
@@ -42,8 +43,9 @@ module _ {D : Type 0} (state : D → DiskState) (first : Table) where
       (old new : SeqState D) : Type 0 where
     pub beside_is : beside F m ≡ Ok m
     pub fields : G ≡ F ++ m ∷ []
-    pub grown : HasGrownBy first G (segments ++ record { entries = es; field = m } ∷ []) new
-    pub taken : HasTakenLines state (segments ++ record { entries = es; field = m } ∷ []) [] new
+    pub metas : List ClusterMeta
+    pub grown : HasGrownBy first G (segments ++ record { entries = es; field = m; metas = metas } ∷ []) new
+    pub taken : HasTakenLines state (segments ++ record { entries = es; field = m; metas = metas } ∷ []) [] new
     pub is_open : IsOpenWriter new
     pub params : new.params ≡ old.params
 

@@ -7,13 +7,15 @@ use Rattle.nt_event.specs.Entry.{entry_of}
 use Rattle.nt_event.specs.declared.lines.Line as given
 use Rattle.nt_outside.specs.Disk.{DiskState}
 use Rattle.nt_grammar.specs.Table.{Table}
+use Rattle.nt_book.specs.declared.meta.ClusterMeta.{ClusterMeta}
 use Rattle.nt_seq.specs.Writer.{SeqState}
 use Rattle.nt_script.specs.declared.error.LineFault.TheVariants.{Event, Field}
 use Rattle.nt_script.specs.declared.error.ScriptError.{ScriptError}
 use Rattle.nt_script.specs.declared.error.ScriptError.TheVariants.{Line, Limit, Outside, Memory}
 use Rattle.nt_script.specs.Script.{field_added}
 use Rattle.nt_script.specs.Reading.{Segment}
-use Rattle.nt_script.specs.Taking.{HasGrownBy, HasTakenLines, HasWrittenLines, HasSameSchema, IsOpenWriter, HaltsAt}
+use Rattle.nt_script.specs.Taking.{HasGrownBy, HasTakenLines, HasWrittenLines, HasSameSchema, IsOpenWriter, MakesWhole, HaltsAt}
+use Rattle.nt_script.specs.Taking.{StaysInLimits}
 
 -- what is wrong with a line of events by these fields, or memory is wanting
 abbrev pub IsEventError : List MemberData → given.Line → ScriptError → Type 0
@@ -51,7 +53,8 @@ module _ {D : Type 0} (state : D → DiskState) where
       ⊎ ((entry : TreesData) × IsEntryLine F line entry × TakesEntries segments (es ++ entry ∷ []) old new)
   TakesEvent F segments es line old new (Err error) =
       ((is_blank_line line.bytes ≡ false) × IsEventError F line error)
-      ⊎ ((entry : TreesData) × IsEntryLine F line entry × HaltsAt state old.table old.params segments (es ++ entry ∷ []) new error)
+      ⊎ ((entry : TreesData) × IsEntryLine F line entry
+      × HaltsAt state (MakesWhole old.params) old.table old.params segments (es ++ entry ∷ []) new error)
 
   -- a field was added behind these lines, all of which are written
   pub record GainsScriptField (first : Table) (F G : List MemberData) (segments : List Segment) (es : List TreesData) (line : given.Line)
@@ -59,20 +62,27 @@ module _ {D : Type 0} (state : D → DiskState) where
     pub field : MemberData
     pub read : field_added F line.bytes ≡ Ok field
     pub fields : G ≡ F ++ field ∷ []
-    pub grown : HasGrownBy first G (segments ++ record { entries = es; field = field } ∷ []) new
-    pub taken : HasTakenLines state (segments ++ record { entries = es; field = field } ∷ []) [] new
+    pub metas : List ClusterMeta
+    pub grown : HasGrownBy first G (segments ++ record { entries = es; field = field; metas = metas } ∷ []) new
+    pub taken : HasTakenLines state (segments ++ record { entries = es; field = field; metas = metas } ∷ []) [] new
     pub is_open : IsOpenWriter new
     pub params : new.params ≡ old.params
 
+  -- all of these lines is written, by the schema as it was, and stands within the limits
+  pub record WritesBeforeField (segments : List Segment) (es : List TreesData) (old new : SeqState D) : Type 0 where
+    pub written : HasWrittenLines state segments es new
+    pub same : HasSameSchema old new
+    pub stands : StaysInLimits new
+
   -- a field wasn't added, and all lines before it are written nevertheless, unless memory was wanting
-  pub record RefusesField (F : List MemberData) (segments : List Segment) (es : List TreesData) (line : given.Line) (new : SeqState D)
-      (error : ScriptError) : Type 0 where
+  pub record RefusesField (F : List MemberData) (segments : List Segment) (es : List TreesData) (line : given.Line)
+      (old new : SeqState D) (error : ScriptError) : Type 0 where
     pub why : IsFieldError F line error
-    pub written : error ≢ Memory → HasWrittenLines state segments es new
+    pub before : error ≢ Memory → WritesBeforeField segments es old new
 
   -- of a writer that has taken these lines: they are written first, whatever the line says, and a field is added behind them; or why not
   abbrev pub TakesField : Table → List MemberData → List MemberData → List Segment → List TreesData → given.Line → SeqState D → SeqState D
       → Result Unit ScriptError → Type 0
   TakesField first F G segments es line old new (Ok done) = GainsScriptField first F G segments es line old new
   TakesField first F G segments es line old new (Err error) =
-      RefusesField F segments es line new error ⊎ HaltsAt state old.table old.params segments es new error
+      RefusesField F segments es line old new error ⊎ HaltsAt state (λ next. Unit {0}) old.table old.params segments es new error

@@ -3,22 +3,23 @@ use Rattle.std.specs.Prelude.{◌≡◌, ◌⊎◌, ℕ, ◌<◌, List, length, 
 use Rattle.nt_types.specs.ShapeData.{MemberData}
 use Rattle.nt_outside.specs.Faults.{Rose}
 use Rattle.nt_outside.specs.Held.{Held, nothing_held}
-use Rattle.nt_outside.specs.Order.{FirstByteLast, BeginsOpen}
+use Rattle.nt_outside.specs.Order.{FirstByteLast, BeginsOpen, EndsInSync}
 use Rattle.nt_outside.specs.Disk.{DiskState}
 use Rattle.nt_outside.specs.Source.{SourceState}
 use Rattle.nt_grammar.specs.Rows.{Rows}
 use Rattle.nt_grammar.specs.Table.{Table}
 use Rattle.nt_event.specs.Lines.{LinesState}
 use Rattle.nt_book.specs.declared.params.Params.{Params}
+use Rattle.nt_close.specs.Laws.{EndsOverFirst}
 use Rattle.nt_seq.specs.Writer.{SeqState}
 use Rattle.nt_seq.specs.Written.{entries_of_clusters}
 use Rattle.nt_store.specs.Writing.{HoldsNow, NeverBegan}
 use Rattle.nt_script.specs.declared.storing.Counts.{Counts}
 use Rattle.nt_script.specs.declared.store_error.ScriptStoreError.{ScriptStoreError}
 use Rattle.nt_script.specs.declared.store_error.ScriptStoreError.TheVariants.{Outside, Memory, Schema, Line, Limit}
-use Rattle.nt_script.specs.Script.{read_script}
+use Rattle.nt_script.specs.Script.{BadScriptLine, read_script}
 use Rattle.nt_script.specs.Clusters.{bad_line}
-use Rattle.nt_script.specs.Limits.{PassesLimit}
+use Rattle.nt_script.specs.Passing.{PassesNoneBefore, PassesLimit}
 use Rattle.nt_script.specs.Running.{IsDoneScript}
 use Rattle.nt_script.specs.Whole.{clusters_of_text, IsScriptFile}
 use Rattle.nt_script.specs.Crashes.{ScriptCrash}
@@ -32,15 +33,20 @@ pub record AreNumbersOf (p : Params) (fields : List MemberData) (text : List ℕ
 abbrev pub IsOpenFileOf : Held → Type 0
 IsOpenFileOf h = BeginsOpen h.image ⊎ NeverBegan h
 
+-- a script has this first bad line, and what is written in front of it passes no limit
+pub record IsBadAt (fields : List MemberData) (p : Params) (text : List ℕ) (bad : BadScriptLine) : Type 0 where
+  pub first : bad_line (read_script fields text) ≡ Some bad
+  pub before : PassesNoneBefore fields p (read_script fields text) bad
+
 -- what is left of the disk, by the answer
 abbrev pub ScriptFileTold : List MemberData → Params → List ℕ → DiskState → Result Counts ScriptStoreError → Type 0
 ScriptFileTold fields p text disk (Ok counts) =
-    HoldsNow disk.held (λ h. IsScriptFile p fields text h.image) × AreNumbersOf p fields text counts
+    HoldsNow disk.held (λ h. IsScriptFile p fields text h.image × EndsInSync h.log) × AreNumbersOf p fields text counts
 ScriptFileTold fields p text disk (Err Outside) =
-    HoldsNow disk.held IsOpenFileOf ⊎ HoldsNow disk.held (λ h. IsScriptFile p fields text h.image)
+    HoldsNow disk.held IsOpenFileOf ⊎ HoldsNow disk.held (λ h. IsScriptFile p fields text h.image × EndsOverFirst h.log)
 ScriptFileTold fields p text disk (Err Memory) = HoldsNow disk.held (λ h. BeginsOpen h.image)
 ScriptFileTold fields p text disk (Err (Line line kind)) =
-    (bad_line (read_script fields text) ≡ Some (record { line = line; kind = kind })) × HoldsNow disk.held (λ h. BeginsOpen h.image)
+    IsBadAt fields p text (record { line = line; kind = kind }) × HoldsNow disk.held (λ h. BeginsOpen h.image)
 ScriptFileTold fields p text disk (Err (Limit reached most)) =
     PassesLimit fields p (read_script fields text) reached most × HoldsNow disk.held (λ h. BeginsOpen h.image)
 ScriptFileTold fields p text disk (Err (Schema line kind)) = ⊥

@@ -3,17 +3,24 @@ use Rattle.std.specs.Prelude.{◌≡◌, ℕ, ◌+◌, List, [], ◌∷◌, ◌+
 use Rattle.nt_types.specs.ShapeData.{MemberData}
 use Rattle.nt_types.specs.TreeData.{TreesData}
 use Rattle.nt_event.specs.Lines.{LinesState}
+use Rattle.nt_book.specs.declared.meta.ClusterMeta.{ClusterMeta}
 use Rattle.nt_dealing.specs.EventText.{text_lines}
 use Rattle.nt_script.specs.Script.{Script, and_field, with_entries, script_of_lines, read_script}
 
--- a segment that is over: its entries, and the field that was added behind them
+-- a segment that is over: its entries, the field that was added behind them, and what is kept of its clusters
 pub record Segment : Type 0 where
   pub entries : List TreesData
   pub field : MemberData
+  pub metas : List ClusterMeta
 
 -- the fields that were added behind segments
 abbrev pub segment_fields : List Segment → List MemberData
 segment_fields segments = map (λ (s : Segment). s.field) segments
+
+-- what is kept of the clusters of segments
+abbrev pub segment_metas : List Segment → List ClusterMeta
+segment_metas [] = []
+segment_metas (s ∷ segments) = s.metas ++ segment_metas segments
 
 -- segments that are over, the entries of the one that goes on, and what is read behind these
 abbrev pub behind_segments : List Segment → List TreesData → Script → Script

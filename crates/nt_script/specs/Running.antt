@@ -1,12 +1,12 @@
 -- How a script ends.
 use Rattle.std.specs.Prelude.{◌≡◌, ◌⊎◌, ℕ, ◌+◌, ◌<◌, ◌≤◌, Bool, true, false, List, [], ◌++◌, Option, Some, None, Result, Ok, Err}
+use Rattle.nt_lists.specs.Chunks.{chunks}
 use Rattle.nt_types.specs.ShapeData.{MemberData}
 use Rattle.nt_types.specs.TreeData.{TreesData}
 use Rattle.nt_outside.specs.Disk.{DiskState}
 use Rattle.nt_outside.specs.Faults.{Rose}
 use Rattle.nt_grammar.specs.Rows.{Rows}
 use Rattle.nt_grammar.specs.Table.{Table}
-use Rattle.nt_book.specs.declared.limits.LimitError.{LimitError}
 use Rattle.nt_book.specs.declared.limits.LimitError.TheVariants as limit
 use Rattle.nt_book.specs.declared.params.Params.{Params}
 use Rattle.nt_commit.specs.declared.error.CommitError.{CommitError}
@@ -24,8 +24,8 @@ use Rattle.nt_script.specs.declared.error.ScriptError.TheVariants.{Line, Limit, 
 use Rattle.nt_script.specs.Script.{Script, last_entries}
 use Rattle.nt_script.specs.Clusters.{bad_line, script_clusters, GrowsByScript}
 use Rattle.nt_script.specs.Reading.{Segment, segment_fields, behind_segments, HasReadScript, GivesScript}
-use Rattle.nt_script.specs.Limits.{PassesLimit}
-use Rattle.nt_script.specs.Taking.{HasGrownBy, HasTakenLines, HasJustFields, IsOpenWriter}
+use Rattle.nt_script.specs.Taking.{GrowsBySegments, KeepsClusters, HasGrownBy, HasTakenLines, HasJustFields, IsOpenWriter}
+use Rattle.nt_script.specs.Passing.{PassesWriting, PassesNoneBefore}
 
 -- the error of clusters that weren't written
 abbrev pub error_of_commit : CommitError → ScriptError
@@ -40,12 +40,6 @@ abbrev pub error_of_lines : LineError → ScriptError
 error_of_lines lines.Fault = Outside
 error_of_lines (lines.TooLong line) = Line line (Event TooLong)
 error_of_lines lines.Memory = Memory
-
--- what comes first of a script passes the limit that an error names
-abbrev pub PassesNamed : List MemberData → Params → Script → LimitError → Type 0
-PassesNamed F p s (limit.RangeTooLarge len most) = PassesLimit F p s len most
-PassesNamed F p s (limit.FileTooLarge end most) = PassesLimit F p s end most
-PassesNamed F p s limit.TooManyClusters = PassesLimit F p s (p.limits.clusters + 1) p.limits.clusters
 
 module _ {D : Type 0} (state : D → DiskState) (F : List MemberData) where
   -- a writer at the beginning: of these fields, with nothing written and nothing gathered
@@ -84,6 +78,11 @@ module _ {D : Type 0} (state : D → DiskState) (F : List MemberData) where
       pub script : Script
       pub read : GivesScript F text script
       pub sound : bad_line script ≡ None
+      pub segments : List Segment
+      pub entries : List TreesData
+      pub script_is : script ≡ behind_segments segments [] (last_entries entries None)
+      pub segments_grow : GrowsBySegments p first 0 segments w.table
+      pub keeps : KeepsClusters segments (chunks p.cluster entries) w
       pub grows : GrowsByScript p.plain first 0 script w.table
       pub written : HasWritten state w (script_clusters p.cluster script)
       pub none : gathered_by w ≡ []
@@ -95,7 +94,8 @@ module _ {D : Type 0} (state : D → DiskState) (F : List MemberData) where
     abbrev pub EndsEarlyFor : LinesState → LinesState → SeqState D → ScriptError → Type 0
     EndsEarlyFor old new w (Line line kind) =
         (s : Script) × GivesScript F text s × (bad_line s ≡ Some (record { line = line; kind = kind }))
-    EndsEarlyFor old new w (Limit error) = (s : Script) × GivesScript F text s × PassesNamed F p s error
+        × PassesNoneBefore F p s (record { line = line; kind = kind })
+    EndsEarlyFor old new w (Limit error) = (s : Script) × GivesScript F text s × PassesWriting F p s error
     EndsEarlyFor old new w Outside = Rose old.faults new.faults ⊎ (0 < (state w.disk).faults)
     EndsEarlyFor old new w Memory = Unit {0}
 

@@ -4,21 +4,22 @@ use Rattle.nt_types.specs.ShapeData.{MemberData}
 use Rattle.nt_types.specs.Schema.{schema_text, at_line}
 use Rattle.nt_outside.specs.Faults.{Rose}
 use Rattle.nt_outside.specs.Source.{SourceState}
+use Rattle.nt_outside.specs.Order.{EndsInSync}
 use Rattle.nt_outside.specs.World.{World, Out, HostState, file}
 use Rattle.nt_book.specs.declared.params.Params.{Params}
+use Rattle.nt_close.specs.Laws.{EndsOverFirst}
 use Rattle.nt_store.specs.Stored.{asked_for}
 use Rattle.nt_store.specs.Worlds.{IsThereWith, AsksFor, LeavesOut, KeepsFiles, OthersStay, MakesDisk, LeavesOpen, IsLeftByFailure}
-use Rattle.nt_store.specs.Worlds.{IsLeftByMemory, WritesInOrder}
+use Rattle.nt_store.specs.Worlds.{IsLeftByMemory, WritesInOrder, IsLeftAfter}
 use Rattle.nt_script.specs.declared.error.LineFault.{LineFault}
 use Rattle.nt_script.specs.declared.storing.Counts.{Counts}
 use Rattle.nt_script.specs.declared.store_error.ScriptStoreError.{ScriptStoreError}
 use Rattle.nt_script.specs.declared.store_error.ScriptStoreError.TheVariants.{Outside, Memory, Schema, Line, Limit}
 use Rattle.nt_script.specs.Script.{read_script}
-use Rattle.nt_script.specs.Clusters.{bad_line}
-use Rattle.nt_script.specs.Limits.{PassesLimit}
+use Rattle.nt_script.specs.Passing.{PassesLimit}
 use Rattle.nt_script.specs.Whole.{clusters_of_text, IsScriptFile, line_of_clusters}
 use Rattle.nt_script.specs.Crashes.{ScriptCrashTold}
-use Rattle.nt_script.specs.Filing.{AreNumbersOf}
+use Rattle.nt_script.specs.Filing.{AreNumbersOf, IsBadAt}
 
 -- a disk of this name was made, and its file is the whole one of a script
 pub record MakesScriptFile (out : List ℕ) (p : Params) (fields : List MemberData) (text : List ℕ) (w w' : World) : Type 0 where
@@ -29,11 +30,13 @@ pub record MakesScriptFile (out : List ℕ) (p : Params) (fields : List MemberDa
 
 -- what is left of the files once the disk is back, by the answer; nothing is printed yet
 abbrev pub FilesTold : List ℕ → Params → List MemberData → List ℕ → World → World → Result Counts ScriptStoreError → Type 0
-FilesTold out p fields text w w' (Ok counts) = MakesScriptFile out p fields text w w' × AreNumbersOf p fields text counts
-FilesTold out p fields text w w' (Err Outside) = IsLeftByFailure out w w' ⊎ MakesScriptFile out p fields text w w'
+FilesTold out p fields text w w' (Ok counts) =
+    MakesScriptFile out p fields text w w' × IsLeftAfter EndsInSync out w' × AreNumbersOf p fields text counts
+FilesTold out p fields text w w' (Err Outside) =
+    IsLeftByFailure out w w' ⊎ (MakesScriptFile out p fields text w w' × IsLeftAfter EndsOverFirst out w')
 FilesTold out p fields text w w' (Err Memory) = IsLeftByMemory out w w'
 FilesTold out p fields text w w' (Err (Line line kind)) =
-    (bad_line (read_script fields text) ≡ Some (record { line = line; kind = kind })) × LeavesOpen out w w'
+    IsBadAt fields p text (record { line = line; kind = kind }) × LeavesOpen out w w'
 FilesTold out p fields text w w' (Err (Limit reached most)) =
     PassesLimit fields p (read_script fields text) reached most × LeavesOpen out w w'
 FilesTold out p fields text w w' (Err (Schema line kind)) = ⊥
@@ -78,29 +81,33 @@ pub record IsWholeScript (schema input : List ℕ) (p : Params) (w : World) (byt
   pub are : AreScriptTexts w schema input fields text
   pub whole : IsScriptFile p fields text bytes
 
--- the script has this first bad line
-pub record HasBadScript (schema input : List ℕ) (w : World) (line : ℕ) (kind : LineFault) : Type 0 where
+-- the script has this first bad line, and what is written in front of it passes no limit
+pub record HasBadScript (schema input : List ℕ) (p : Params) (w : World) (line : ℕ) (kind : LineFault) : Type 0 where
   pub fields : List MemberData
   pub text : List ℕ
   pub are : AreScriptTexts w schema input fields text
-  pub first : bad_line (read_script fields text) ≡ Some (record { line = line; kind = kind })
+  pub bad : IsBadAt fields p text (record { line = line; kind = kind })
 
--- what comes first of the script passes this limit
+-- the script passes this limit, no line before which is bad
 pub record IsTooLargeScript (schema input : List ℕ) (p : Params) (w : World) (reached limit : ℕ) : Type 0 where
   pub fields : List MemberData
   pub text : List ℕ
   pub are : AreScriptTexts w schema input fields text
   pub over : PassesLimit fields p (read_script fields text) reached limit
 
--- what is left, by the answer
+-- what is left, by the answer. Where the outside failed and the file is whole nevertheless, either the last step was that of its first
+-- byte, which failed or was followed by a failed sync, and nothing was printed; or the file was closed, and the line of its numbers
+-- wasn't printed whole
 abbrev pub ScriptTold : List ℕ → List ℕ → List ℕ → Params → World → World → Result Unit ScriptStoreError → Type 0
 ScriptTold out schema input p w w' (Ok done) = (line : List ℕ) × StoresWholeScript out schema input p w w' line []
 ScriptTold out schema input p w w' (Err Outside) =
-    (IsLeftByFailure out w w' × (w'.out ≡ w.out)) ⊎ ((printed behind : List ℕ) × StoresWholeScript out schema input p w w' printed behind)
+    (IsLeftByFailure out w w' × (w'.out ≡ w.out))
+    ⊎ (((line : List ℕ) × StoresWholeScript out schema input p w w' [] line × IsLeftAfter EndsOverFirst out w')
+    ⊎ ((printed behind : List ℕ) × StoresWholeScript out schema input p w w' printed behind × IsLeftAfter EndsInSync out w'))
 ScriptTold out schema input p w w' (Err Memory) = IsLeftByMemory out w w' × (w'.out ≡ w.out)
 ScriptTold out schema input p w w' (Err (Schema line kind)) =
     IsThereWith (λ text. schema_text text ≡ Err (at_line line kind)) (file w schema) × KeepsFiles w w' × (w'.out ≡ w.out)
-ScriptTold out schema input p w w' (Err (Line line kind)) = HasBadScript schema input w line kind × LeavesOpen out w w' ×
+ScriptTold out schema input p w w' (Err (Line line kind)) = HasBadScript schema input p w line kind × LeavesOpen out w w' ×
     (w'.out ≡ w.out)
 ScriptTold out schema input p w w' (Err (Limit reached limit)) = IsTooLargeScript schema input p w reached limit × LeavesOpen out w w' ×
     (w'.out ≡ w.out)

@@ -148,6 +148,7 @@ pub(crate) fn add_field<D: Disk>(
     if let Err(error) = write_gathered(writer) {
         return Err(error);
     }
+    writer.keeps();
     match member_of(alloc, line) {
         Ok(member) => extend(writer, fields, line.number, member),
         Err(error) => Err(error),

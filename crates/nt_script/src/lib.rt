@@ -6,22 +6,23 @@
 //! writer, `taking.rt` takes a line of events, `adding.rt` the field of a line; `error.rt` and `store_error.rt` are why that
 //! ends early, and `laws.rt` says which fields a table has.
 //!
-//! Words: a *segment* is the lines of events up to the next one that adds a field; a *front* of a script is a prefix of
-//! it; a table has *just* some fields where their names, their number and what fits them are
+//! Words: a *segment* is the lines of events up to the next one that adds a field; entries are *due* where they are written next: as a
+//! whole cluster, or as the last of their segment; a table has *just* some fields where their names, their number and what fits them are
 //! those of its rows; the *whole* file of a script means the schema with all its fields and just its clusters, and is laid
 //! out for them (`specs/Whole.antt`). What is *left open*, and what a crash *leaves*, is as in nt_store.
 //!
 //! Proved of `write_script` (`ended`): after `Ok` no line of the text is bad, its fields stand in the schema, each added
 //! behind all entries before it, and the writer has written just its clusters: those of each segment, each entry with the
-//! zeros of the fields that were added behind it. A line that is told is the first bad one, and a limit one that
-//! some prefix of the script exceeds; `Outside` comes only where a count of faults rose. What is gathered is written before a
-//! line adds its field, whatever that line says (`done` of `add_field`). A table that describes fields has just these
-//! (`tables_have_just_their_fields`).
+//! zeros of the fields that were added behind it. A line that is told is the first bad one, and what is written in front of
+//! it passes no limit; a limit is one that a cluster passes where it is written, and those before it don't (`specs/Passing.antt`).
+//! `Outside` comes only where a count of faults rose. What is gathered is written before a line adds its field, whatever that
+//! line says (`done` of `add_field`). A table that describes fields has just these (`tables_have_just_their_fields`).
 //!
 //! Proved of `store_script` (`StoresScript`): after `Ok` the file is the whole one of the script, and exactly the line of
 //! its numbers was printed; a schema fault is the text's first one, a bad line the script's first one, and a limit one that
-//! some prefix of it exceeds; after these and after `Memory` the file is left open, and after `Outside` too, unless it is whole or its first
-//! append failed, and nothing is printed of a file that isn't whole. The first byte is written over only when all the rest
+//! is passed where the file is begun, where a cluster is written or where it is closed; after these and after `Memory` the file is
+//! left open, and after `Outside` too, unless it is whole or its first append failed; of a file that is whole then, either the step of
+//! its first byte failed or the sync behind it, and nothing is printed, or the print of its numbers failed. The first byte is written over only when all the rest
 //! stays. So wherever a crash comes behind the first sync, it leaves a file that is refused as unfinished, or, where the
 //! first byte was written over before, the whole one; behind all steps of `Ok` just that, and of an answer but `Ok` and
 //! `Outside` only what is unfinished. `Outside` comes only where the host's count rose, and each object that was opened
@@ -39,7 +40,7 @@ mod taking;
 
 pub use error::{LineFault, ScriptError};
 pub use hosting::{ScriptNames, store_script};
-pub use laws::tables_have_just_their_fields;
+pub use laws::{tables_have_just_their_fields, whole_files_pass_what_scripts_pass};
 pub use running::write_script;
 pub use store_error::ScriptStoreError;
 pub use storing::Counts;

@@ -39,6 +39,7 @@ fn take_next<D: Disk, S: Source>(
     ensures later { (left_of S.state lines.old).faults ≤ (left_of S.state lines.new).faults }
     ensures given { writer.new.given ≡ writer.old.given }
 {
+    writer.keeps();
     let next = match lines.next(alloc) {
         Ok(next) => next,
         Err(error) => return Err(ScriptError::from(error)),

@@ -1,5 +1,8 @@
 -- A writer whose file is begun.
-use Rattle.std.proofs.Common.{◌≡◌, ◌∙◌, ap, sym, refl, subst, ℕ, ◌≤◌, List, [], ◌∷◌, map, length, replicate, true, Some, arith}
+use Rattle.std.proofs.Common.{◌≡◌, ◌∙◌, ap, sym, refl, subst, ℕ, ◌≤◌, List, [], ◌∷◌, map, length, replicate, Bool, true, false, Some}
+use Rattle.std.proofs.Common.{None, if◌then◌else◌, arith}
+use Rattle.std.specs.Prelude.{nat_lt}
+use Rattle.std.proofs.lemmas.Bool.{ltb-false}
 use Rattle.std.specs.List.{AllByRecursion}
 use Rattle.nt_types.specs.ShapeData.{MemberData}
 use Rattle.nt_outside.specs.Held.{Held, Becomes, WhereHeld, nothing_held}
@@ -9,15 +12,18 @@ use Rattle.nt_grammar.specs.declared.rows.ColumnRow.{ColumnRow}
 use Rattle.nt_grammar.specs.Table.{Table}
 use Rattle.nt_machine.specs.History.{Cluster}
 use Rattle.nt_book.specs.declared.limits.Limits.{Limits}
+use Rattle.nt_book.specs.declared.limits.LimitError.TheVariants.{RangeTooLarge, FileTooLarge}
 use Rattle.nt_book.specs.declared.meta.ClusterMeta.{ClusterMeta}
 use Rattle.nt_book.specs.declared.params.Params.{Params}
 use Rattle.nt_book.specs.Books.{BookData, book_clusters, book_end, entry_count}
 use Rattle.nt_schema.specs.Whole.{AreWhole}
-use Rattle.nt_layout.specs.Headers.{header_blob}
+use Rattle.nt_pagelists.specs.Blobs.{blob_len}
+use Rattle.nt_layout.specs.Headers.{header_blob, header_object, clusters_place}
 use Rattle.nt_layout.specs.Laid.{AreBlobsOf, none_left}
 use Rattle.nt_close.proofs.NewBooks.{new-ungrouped}
 use Rattle.nt_close.specs.Beginning.{IsBegun}
 use Rattle.nt_close.specs.Closing.{IsClosable}
+use Rattle.nt_close.specs.Passing.{passed_by_begin}
 use Rattle.nt_close.specs.Steps.{begun_on}
 use Rattle.nt_finished.specs.LateFiles.{AreLateBlobs, no_blob}
 use Rattle.nt_column.specs.Column.{Column}
@@ -36,6 +42,19 @@ begun-none : (entries : ℕ) (rows : List ColumnRow) → AllByRecursion (λ (c :
     → AllByRecursion (λ (c : ColumnRow). c.first ≤ entries) rows
 begun-none entries [] none = tt
 begun-none entries (c ∷ rows) none = let first = none.0 in (omega (arith, first), begun-none entries rows none.1)
+
+-- a file that is begun ends within the limit
+header-ends : (limits : Limits) (t : Table) → passed_by_begin limits t ≡ None → clusters_place t ≤ limits.file
+header-ends limits t none =
+    at (nat_lt limits.range (blob_len (length (header_object t)))) (nat_lt limits.file (clusters_place t)) refl none
+  where
+    at : (a b : Bool) → nat_lt limits.file (clusters_place t) ≡ b
+        → (if a then Some (RangeTooLarge (blob_len (length (header_object t))) limits.range)
+        else if b then Some (FileTooLarge (clusters_place t) limits.file) else None) ≡ None
+        → clusters_place t ≤ limits.file
+    at true b above is = absurd (cc is)
+    at false true above is = absurd (cc is)
+    at false false above is = ltb-false limits.file (clusters_place t) above
 
 module _ (fields : List MemberData) (p : Params) (given new : DiskState) (book : BookData) (t : Table)
     (is : IsBegun fields p given new book t) (empty : WhereHeld given.held (λ (h : Held). h ≡ nothing_held)) where
@@ -73,6 +92,13 @@ module _ (fields : List MemberData) (p : Params) (given new : DiskState) (book :
   pub settled-begun : AllByRecursion IsSettledCluster (book_clusters book)
   settled-begun = subst (λ (cs : List (Cluster ClusterMeta)). AllByRecursion IsSettledCluster cs) (sym none-yet) tt
 
+  -- the header ends within the limit
+  pub ends-begun : book_end book ≤ p.limits.file
+  ends-begun = omega (arith, ap book_end is.book_is, header-ends p.limits t is.within)
+
+  pub count-begun : (most : ℕ) → length (book_clusters book) ≤ most
+  count-begun most = subst (λ (cs : List (Cluster ClusterMeta)). length cs ≤ most) (sym none-yet) (omega arith)
+
   pub short-begun : (limits : Limits) → AllByRecursion (IsShortCluster limits) (book_clusters book)
   short-begun limits = subst (λ (cs : List (Cluster ClusterMeta)). AllByRecursion (IsShortCluster limits) cs) (sym none-yet) tt
 
@@ -100,6 +126,8 @@ writing-begun state fields p disk new book t columns is empty out described read
   begun = columns-begun fields p (state disk) (state new) book t is empty;
   settled = settled-begun fields p (state disk) (state new) book t is empty;
   short = short-begun fields p (state disk) (state new) book t is empty p.limits;
+  ends = ends-begun fields p (state disk) (state new) book t is empty;
+  count = count-begun fields p (state disk) (state new) book t is empty p.limits.clusters;
   described = described;
   few = ready.few;
   some = ready.some;

@@ -30,9 +30,9 @@ use Rattle.nt_close.specs.Closing.{HasCloseCause, LeavesClosed, AreRangesOf}
 use Rattle.nt_close.specs.Crashes.{LeavesByAnswer}
 use Rattle.nt_close.specs.Passing.{first_passed, passed_by_begin, passed_by_close, measures_of}
 use Rattle.nt_close.specs.Spoiled.{IsUnspoiled}
-use Rattle.nt_close.specs.Steps.{closed_on, IsClosedSoFar, closed_whole}
+use Rattle.nt_close.specs.Steps.{closed_on, IsClosedSoFar, closed_partly, closed_whole}
 use Rattle.nt_close.proofs.Finishing.{closed-is}
-use Rattle.nt_close.proofs.FirstByte.{closes_shut, closes_in_order}
+use Rattle.nt_close.proofs.FirstByte.{cut_shut, closes_in_order}
 use Rattle.nt_close.proofs.Within.{within}
 use Rattle.nt_finished.proofs.Lengths.{clusters_told}
 use Rattle.nt_finished.proofs.Staged.{all_behind, laid-staged, ranges-by_number}
@@ -159,11 +159,11 @@ module _ {D : Type 0} (state : D → DiskState) (w : SeqState D) (is : IsWriting
       at (inr closed) = inr (closed.0, into bytes closed.1)
 
   abbrev LeftOpen : CloseError → Held → Type 0
-  LeftOpen e left = IsShutOrWhole state w left.image × LeavesByAnswer IsWhole left.log (Err e)
+  LeftOpen e left = IsShutOrWhole state w left × LeavesByAnswer IsWhole left.log (Err e)
 
   module _ (leave : AppendsLeave) where
     stays-open : (new : DiskState) → new.held ≡ (state w.disk).held
-        → IsLeft new (λ left. IsShutOrWhole state w left.image × LeavesUnfinished left.log)
+        → IsLeft new (λ left. IsShutOrWhole state w left × LeavesUnfinished left.log)
     stays-open new same =
         (h, same ∙ held, order-unclosed h unclosed, (inl (shut-unclosed h unclosed), leave.unclosed h unclosed))
 
@@ -175,16 +175,19 @@ module _ {D : Type 0} (state : D → DiskState) (w : SeqState D) (is : IsWriting
     left-open new (FileTooLarge end most) left cause = stays-open new left.place.held
     left-open new Fault left cause =
         let cut = left.held h held in
-        let shown = closes_shut behind before h cut.0 (shut-unclosed h unclosed) cut.2 in
-        let image : IsShutOrWhole state w cut.0.image =
-        elim shown as (λ _. IsShutOrWhole state w cut.0.image) [
+        let shown = cut_shut behind before h cut.0 (shut-unclosed h unclosed) cut.2 in
+        let image : IsShutOrWhole state w cut.0 =
+        elim shown as (λ _. IsShutOrWhole state w cut.0) [
           | inl shut ↦ inl shut
-          | inr same ↦ inr (subst (λ (file : List ℕ). IsFileOf state w file) (sym same) (whole cause.1))
+          | inr same ↦ inr (record {
+            whole = subst (λ (file : List ℕ). IsFileOf state w file) (sym same.0) (whole cause.1);
+            last = same.1;
+          })
         ] in (
           cut.0,
           cut.1,
-          in-order cut.0 cut.2,
-          (image, turned cut.0.log (turn cause.1) (leave.closing w.table is.ranges behind before cut.0 cut.2)),
+          in-order cut.0 (closed_partly cut.2),
+          (image, turned cut.0.log (turn cause.1) (leave.closing w.table is.ranges behind before cut.0 (closed_partly cut.2))),
         )
 
     pub left-whole : (new : DiskState) → LeavesClosed behind before (state w.disk) new (Ok tt)

@@ -15,8 +15,8 @@ use Rattle.nt_container.specs.Spelling.{begun}
 use Rattle.nt_grammar.specs.Table.{Table}
 use Rattle.nt_layout.specs.Headers.{header_blob}
 use Rattle.nt_close.specs.Laws.{IsShut}
-use Rattle.nt_close.specs.Steps.{IsBegunSoFar, first_byte, shut_on, closed_on, IsClosedSoFar, torn_tail, torn_front, not_kept_shut}
-use Rattle.nt_close.specs.Steps.{torn_first, not_kept_open, closed_whole}
+use Rattle.nt_close.specs.Steps.{IsBegunSoFar, first_byte, shut_on, closed_on, IsClosedSoFar, closed_partly, torn_tail, torn_front}
+use Rattle.nt_close.specs.Steps.{not_kept_shut, torn_first, not_kept_open, closed_whole}
 use Rattle.nt_close.proofs.FirstByte.{closes_in_order}
 use Rattle.nt_cuts.specs.Cuts.{ReadsButFirst, LeavesUnfinished, LeavesUnfinishedOr, LeavesOnly}
 use Rattle.nt_cuts.proofs.Reading.{unfinished-zero}
@@ -134,7 +134,7 @@ module _ (order : OrderedLeaves) where
         inr (but.1 ∙ ap (λ (l : List ℕ). 0x72 ∷ l) same ∙ sym closed-rest)
 
     kept-order : FirstByteLast kept_log
-    kept-order = sync_follows shut_log (in-order (shut_on tail front h) (not_kept_shut refl))
+    kept-order = sync_follows shut_log (in-order (shut_on tail front h) (closed_partly (not_kept_shut refl)))
 
     kept : LeavesUnfinishedOr IsClosedFile kept_log
     kept =
@@ -148,7 +148,7 @@ module _ (order : OrderedLeaves) where
     opened =
         one_more IsClosedFile kept_log (Write 0 first_byte) kept
         (any-left open_log (first-push kept_log (Write 0 first_byte) kept-first)
-        (in-order (written 0 first_byte (synced (shut_on tail front h))) (not_kept_open refl)))
+        (in-order (written 0 first_byte (synced (shut_on tail front h))) (closed_partly (not_kept_open refl))))
         (λ bytes may. old_or_new bytes (writes shut_log 0x72 bytes may))
 
     -- all steps
@@ -169,26 +169,26 @@ module _ (order : OrderedLeaves) where
 
     -- wherever closing came
     pub closing-left : (left : Held) → IsClosedSoFar tail front h left → LeavesUnfinishedOr IsClosedFile left.log
-    closing-left left (torn_tail cut) =
+    closing-left left (closed_partly (torn_tail cut)) =
         let s = FailedAppend (length cut.junk) in
         behind-as (h.log ++ s ∷ []) left.log cut.log (first-push h.log s plain.first) (behind-push h.log s plain.behind (λ over. over))
-        (in-order left (torn_tail cut))
-    closing-left left (torn_front cut) =
+        (in-order left (closed_partly (torn_tail cut)))
+    closing-left left (closed_partly (torn_front cut)) =
         let grown = h.log ++ Append tail ∷ [] in
         behind-as (grown ++ FailedWrite 1 front ∷ []) left.log cut.log
         (first-push grown (FailedWrite 1 front) (first-push h.log (Append tail) plain.first))
         (behind-push grown (FailedWrite 1 front) (behind-push h.log (Append tail) plain.behind (λ over. over))
         (λ over. omega (arith, over)))
-        (in-order left (torn_front cut))
-    closing-left left (not_kept_shut is) =
-        behind-as shut_log left.log (ap (λ (k : Held). k.log) is) first behind (in-order left (not_kept_shut is))
-    closing-left left (torn_first cut) =
+        (in-order left (closed_partly (torn_front cut)))
+    closing-left left (closed_partly (not_kept_shut is)) =
+        behind-as shut_log left.log (ap (λ (k : Held). k.log) is) first behind (in-order left (closed_partly (not_kept_shut is)))
+    closing-left left (closed_partly (torn_first cut)) =
         let s = FailedWrite 0 first_byte in
-        let last = subst FirstByteLast cut.log (in-order left (torn_first cut)) in
+        let last = subst FirstByteLast cut.log (in-order left (closed_partly (torn_first cut))) in
         subst (λ (l : List Step). LeavesUnfinishedOr IsClosedFile l) (sym cut.log)
         (one_more IsClosedFile kept_log s kept (any-left (kept_log ++ s ∷ []) (first-push kept_log s kept-first) last)
         (λ bytes may. old_or_new bytes (torn shut_log 0x72 bytes may)))
-    closing-left left (not_kept_open is) = leaves-as (written 0 first_byte (synced (shut_on tail front h))) left is opened
+    closing-left left (closed_partly (not_kept_open is)) = leaves-as (written 0 first_byte (synced (shut_on tail front h))) left is opened
     closing-left left (closed_whole is) =
         leaves-as (closed_on tail front h) left is
         (one_more IsClosedFile open_log Sync opened

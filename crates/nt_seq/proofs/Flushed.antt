@@ -32,7 +32,7 @@ use Rattle.nt_fill.proofs.Images.{blob_of, image_for}
 use Rattle.nt_commit.specs.Images.{IsImageFor}
 use Rattle.nt_plans.specs.Place.{open_plans}
 use Rattle.nt_plans.specs.Types.{AllHaveTypes}
-use Rattle.std.proofs.lemmas.List.{length-map}
+use Rattle.std.proofs.lemmas.List.{length-append, length-map}
 use Rattle.nt_seq.specs.Appending.{settled_cluster, keyed, AppendsImage}
 use Rattle.nt_seq.specs.Standing.{IsSettledCluster, IsShortCluster, IsWriting}
 use Rattle.nt_seq.specs.Writer.{SeqState, gathered_by}
@@ -147,16 +147,38 @@ module _ {D : Type 0} (state : D → DiskState) (w : SeqState D) (disk : D) (nex
       (settled_cluster (length (book_clusters w.book)) (book_end w.book) i.meta ∷ []) is.short
       (subst (λ (l : Limits). i.meta.len ≤ l.range) is.limits here, tt))
 
+  -- limits that the next cluster doesn't pass
+  fitting : (i.meta.len ≤ w.book.limits.range) × (book_end w.book + i.meta.len ≤ w.book.limits.file)
+      × (length (book_clusters w.book) ≡ w.book.limits.clusters → ⊥)
+  fitting = limit_error-none w.book.limits (book_end w.book) (length (book_clusters w.book)) i.meta.len fits
+
+  ends-more : IsClosable new_disk next w.table → book_end next ≤ w.params.limits.file
+  ends-more closable =
+      subst (λ (l : Limits). book_end next ≤ l.file) is.limits
+      (omega (arith, fitting.1, sym closable.end, appends.end, is.closable.end))
+
+  fewer : (n most : ℕ) → n ≤ most → (n ≡ most → ⊥) → n + 1 ≤ most
+  fewer n most le apart = omega (arith, le, apart)
+
+  count-more : length (book_clusters next) ≤ w.params.limits.clusters
+  count-more =
+      let last = settled_cluster (length (book_clusters w.book)) (book_end w.book) i.meta in
+      let room : length (book_clusters w.book) + 1 ≤ w.params.limits.clusters =
+      fewer (length (book_clusters w.book)) w.params.limits.clusters is.count
+      (subst (λ (l : Limits). length (book_clusters w.book) ≡ l.clusters → ⊥) is.limits fitting.2) in
+      omega (arith, room, ap length appends.gains.clusters, length-append (book_clusters w.book) (last ∷ []))
+
   pub writing-more : IsWriting state flushed
   writing-more =
       let page = w.params.page in
       let es = gathered_by w in
+      let closable = closable-more (state w.given) old_disk new_disk w.table page w.book next w.columns es i is.gives bytes meta is.begun
+      appends is.closable in
       record {
         ranges = is.ranges ++ keyed i.bytes (book_end w.book) ∷ [];
         held = held-more (state w.given) old_disk new_disk w.table page w.book next w.columns es i is.gives bytes meta is.begun appends
             is.ranges is.held;
-        closable = closable-more (state w.given) old_disk new_disk w.table page w.book next w.columns es i is.gives bytes meta is.begun
-            appends is.closable;
+        closable = closable;
         within = is.within;
         limits = ap (λ (b : BookData). b.limits) appends.gains.same ∙ is.limits;
         firsts = is.firsts ∙ sym (ap (λ (b : BookData). b.firsts) appends.gains.same);
@@ -164,6 +186,8 @@ module _ {D : Type 0} (state : D → DiskState) (w : SeqState D) (disk : D) (nex
         settled = settled-more (state w.given) old_disk new_disk w.table page w.book next w.columns es i is.gives bytes meta is.begun
             appends is.settled;
         short = short-more;
+        ends = ends-more closable;
+        count = count-more;
         described = is.described;
         few = is.few;
         some = is.some;

@@ -1,5 +1,5 @@
 -- A writer that was refused a flush.
-use Rattle.std.proofs.Common.{◌≡◌, ◌∙◌, ap, sym, refl, subst, ℕ, ◌≤◌, List, inl, inr}
+use Rattle.std.proofs.Common.{◌≡◌, ◌∙◌, ap, sym, refl, subst, ℕ, ◌≤◌, List, length, inl, inr}
 use Rattle.std.specs.List.{AllByRecursion}
 use Rattle.nt_outside.specs.Held.{Becomes, BecomesSome, IsTornAppend}
 use Rattle.nt_outside.specs.Disk.{DiskState}
@@ -52,6 +52,8 @@ module _ {D : Type 0} (state : D → DiskState) (w : SeqState D) (disk : D) (roo
             (sym book) is.begun;
         settled = subst (λ (b : BookData). AllByRecursion IsSettledCluster (book_clusters b)) (sym book) is.settled;
         short = subst (λ (b : BookData). AllByRecursion (IsShortCluster w.params.limits) (book_clusters b)) (sym book) is.short;
+        ends = subst (λ (b : BookData). book_end b ≤ w.params.limits.file) (sym book) is.ends;
+        count = subst (λ (b : BookData). length (book_clusters b) ≤ w.params.limits.clusters) (sym book) is.count;
         described = is.described;
         few = is.few;
         some = is.some;
@@ -72,6 +74,8 @@ writing-alive state w alive is = record {
   begun = is.begun;
   settled = is.settled;
   short = is.short;
+  ends = is.ends;
+  count = is.count;
   described = is.described;
   few = is.few;
   some = is.some;

@@ -141,6 +141,8 @@ module _ {D : Type 0} (state : D → DiskState) (w : SeqState D) (next : BookDat
         (sym same-clusters) (all-begun w.table field w.params.plain entries new added is.begun);
     settled = subst (λ (cs : List (Cluster ClusterMeta)). AllByRecursion IsSettledCluster cs) (sym same-clusters) is.settled;
     short = subst (λ (cs : List (Cluster ClusterMeta)). AllByRecursion (IsShortCluster w.params.limits) cs) (sym same-clusters) is.short;
+    ends = subst (λ (n : ℕ). n ≤ w.params.limits.file) (sym (ap book_end next_is)) is.ends;
+    count = subst (λ (cs : List (Cluster ClusterMeta)). length cs ≤ w.params.limits.clusters) (sym same-clusters) is.count;
     described = described;
     few = few;
     some = ap are_some out.grows.plans ∙ some-more (open_plans w.table) p;

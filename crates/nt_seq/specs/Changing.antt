@@ -1,9 +1,9 @@
 -- What the calls of a sequential writer do to it.
-use Rattle.std.specs.Prelude.{◌≡◌, ◌≤◌, false, true, List, [], ◌∷◌, ◌++◌, map, length, Some, None, Result, Ok, Err, ◌≢◌, IsErrOf}
+use Rattle.std.specs.Prelude.{◌≡◌, ◌≢◌, ◌<◌, ◌≤◌, false, true, List, [], ◌∷◌, ◌++◌, map, length, Some, None, Result, Ok, Err, OnOk, IsErrOf}
 use Rattle.nt_types.specs.ShapeData.{MemberData}
 use Rattle.nt_types.specs.TreeData.{TreesData}
 use Rattle.nt_outside.specs.Faults.{Rose}
-use Rattle.nt_outside.specs.Held.{BecomesSome}
+use Rattle.nt_outside.specs.Held.{BecomesSome, IsTornAppend}
 use Rattle.nt_outside.specs.Disk.{DiskState}
 use Rattle.nt_grammar.specs.Added.{Added}
 use Rattle.nt_schema.specs.Extending.{refused}
@@ -13,13 +13,14 @@ use Rattle.nt_book.specs.declared.params.Params.{Params}
 use Rattle.nt_book.specs.Books.{book_clusters, book_end, entry_count}
 use Rattle.nt_book.specs.Limiting.{limit_error}
 use Rattle.nt_pages.specs.Image.{image}
+use Rattle.nt_pages.specs.Metas.{cluster_meta}
 use Rattle.nt_layout.specs.Laid.{Gives}
 use Rattle.nt_commit.specs.declared.error.CommitError.{CommitError}
-use Rattle.nt_commit.specs.declared.error.CommitError.TheVariants.{Fault}
+use Rattle.nt_commit.specs.declared.error.CommitError.TheVariants as commit
 use Rattle.nt_commit.specs.Claims.{limit_answered}
-use Rattle.nt_cuts.specs.Cuts.{LeavesUnfinished}
 use Rattle.nt_close.specs.Beginning.{IsBegun, IsUntouched}
 use Rattle.nt_finished.specs.LeftOut.{filled}
+use Rattle.nt_seq.specs.Appending.{GainsCluster}
 use Rattle.nt_seq.specs.Writer.{SeqState, gathered_by}
 use Rattle.nt_seq.specs.Written.{HasWritten, zero_behind}
 
@@ -33,8 +34,10 @@ module _ {D : Type 0} (state : D → DiskState) where
     pub none : gathered_by new ≡ []
     pub alive : new.alive ≡ true
 
-  -- the gathered entries are the next cluster, and none is gathered now
+  -- the gathered entries are the next cluster, of which this is kept in the book, and none is gathered now
   pub record WritesNext (old new : SeqState D) : Type 0 where
+    pub gives : Gives old.table old.columns (gathered_by old)
+    pub gains : GainsCluster (cluster_meta old.params.page 0 (length (gathered_by old)) old.columns) old.book new.book
     pub written : (clusters : List (List TreesData)) → HasWritten state old clusters
         → HasWritten state new (clusters ++ gathered_by old ∷ [])
     pub none : gathered_by new ≡ []
@@ -48,26 +51,24 @@ module _ {D : Type 0} (state : D → DiskState) where
     pub written : (clusters : List (List TreesData)) → HasWritten state old clusters → HasWritten state new clusters
     pub now : new ≡ record old { disk = new.disk; book = new.book }
 
-  -- the disk failed, and the writer isn't alive
+  -- the disk failed in the append of the gathered entries' image; the book has no cluster more, and the writer isn't alive
   pub record FailsToAppend (old new : SeqState D) : Type 0 where
+    pub torn : BecomesSome (state old.disk).held (state new.disk).held (IsTornAppend (length (image old.params.page old.columns)))
+    pub book : new.book ≡ record old.book { spare = new.book.spare }
     pub rose : Rose (state old.disk).faults (state new.disk).faults
     pub now : new ≡ record old { disk = new.disk; book = new.book; alive = false }
 
   -- refused, the writer stays as it was; after a fault it isn't alive
   pub record RefusesNext (old new : SeqState D) (result : Result Unit CommitError) : Type 0 where
-    pub kept : (e : CommitError) → result ≡ Err e → e ≢ Fault → StaysAsItWas old new
-    pub fault : IsErrOf result Fault → FailsToAppend old new
-
-  -- what is left of a writer in any case: refused, it stays as it was; and a crash at any step so far leaves what isn't finished
-  pub record LeavesNext (old new : SeqState D) (result : Result Unit CommitError) : Type 0 where
-    pub refused : RefusesNext old new result
-    pub crash : BecomesSome (state new.given).held (state new.disk).held (λ h h'. LeavesUnfinished h'.log)
+    pub kept : (e : CommitError) → result ≡ Err e → e ≢ commit.Fault → StaysAsItWas old new
+    pub fault : IsErrOf result commit.Fault → FailsToAppend old new
 
   -- a field was added behind all entries, which have its zero
   pub record GainsField (field : MemberData) (old new : SeqState D) : Type 0 where
     pub added : Added old.table field old.params.plain (entry_count (book_clusters old.book)) new.table
     pub written : (clusters : List (List TreesData)) → HasWritten state old clusters
         → HasWritten state new (map (filled (zero_behind field)) clusters)
+    pub clusters : book_clusters new.book ≡ book_clusters old.book
     pub none : gathered_by new ≡ []
     pub now : new ≡ record old { book = new.book; table = new.table; columns = new.columns }
 
@@ -86,3 +87,10 @@ module _ {D : Type 0} where
     pub limits_are : w.book.limits ≡ w.params.limits
     pub names : limit_error w.book.limits (book_end w.book) (length (book_clusters w.book)) (length (image w.params.page w.columns))
         ≡ limit_answered result
+
+-- what a flush does to a writer: with nothing gathered nothing, and else the next cluster, unless a limit is passed or the flush is refused
+pub record FlushesNext {D : Type 0} (state : D → DiskState) (old new : SeqState D) (result : Result Unit CommitError) : Type 0 where
+  pub nothing : gathered_by old ≡ [] → (result ≡ Ok tt) × (new ≡ old)
+  pub ok : 0 < length (gathered_by old) → OnOk result (WritesNext state old new)
+  pub limits : 0 < length (gathered_by old) → result ≢ Err commit.Memory → NamesPassed old result
+  pub refused : RefusesNext state old new result

@@ -14,7 +14,7 @@ use Rattle.nt_layout.specs.Laid.{IsLaid}
 use Rattle.nt_close.specs.declared.error.CloseError.{CloseError}
 use Rattle.nt_close.specs.Closing.{HasCloseCause, LeavesClosed}
 use Rattle.nt_close.specs.Crashes.{LeavesByAnswer}
-use Rattle.nt_close.specs.Laws.{IsShut}
+use Rattle.nt_close.specs.Laws.{IsShut, EndsOverFirst}
 use Rattle.nt_close.specs.Passing.{passed_by_close, measures_of}
 use Rattle.nt_close.specs.Spoiled.{NoneSpoiled}
 use Rattle.nt_finished.specs.LateFiles.{IsLaidLate}
@@ -57,14 +57,19 @@ module _ {D : Type 0} (state : D → DiskState) (w : SeqState D) where
       LeavesClosed (tail w.table w.book (lists_behind w.table w.book w.params.group)) (front w.table w.book (lists_behind w.table w.book
       w.params.group)) (state w.disk) (state disk) (done_of result)
 
-  -- after a refusal the first byte is 0, or the file stands there whole
-  abbrev pub IsShutOrWhole : List ℕ → Type 0
-  IsShutOrWhole image = IsShut image ⊎ IsFileOf image
+  -- the file stands there whole, and the last step, which may have failed, was that of its first byte: no sync behind it was done
+  pub record IsWholeUnsynced (left : Held) : Type 0 where
+    pub whole : IsFileOf left.image
+    pub last : EndsOverFirst left.log
+
+  -- after a refusal the first byte is 0, or it was written over and the file stands there whole
+  abbrev pub IsShutOrWhole : Held → Type 0
+  IsShutOrWhole left = IsShut left.image ⊎ IsWholeUnsynced left
 
   -- what a close leaves of a file: after Ok it is whole; in any case its steps are in order, and a crash at any of them leaves what isn't
   -- finished, or, once the first byte was written over, the whole file, and behind all steps of Ok only that
   pub record LeavesFile (left : Held) (result : Result (ℕ × ℕ) CloseError) : Type 0 where
     pub order : FirstByteLast left.log
     pub whole : OnOk result (IsFileOf left.image)
-    pub shut : OnErr result (IsShutOrWhole left.image)
+    pub shut : OnErr result (IsShutOrWhole left)
     pub crash : LeavesByAnswer IsFileOf left.log (done_of result)

@@ -1,5 +1,5 @@
 -- What holds of each sequential writer.
-use Rattle.std.specs.Prelude.{ℕ, ◌≡◌, ◌≤◌, true, List, [], map, None}
+use Rattle.std.specs.Prelude.{ℕ, ◌≡◌, ◌≤◌, true, List, [], map, length, None}
 use Rattle.std.specs.List.{AllByRecursion}
 use Rattle.nt_outside.specs.Held.{Becomes, BecomesSome, WhereHeld, nothing_held}
 use Rattle.nt_outside.specs.Disk.{DiskState}
@@ -11,7 +11,7 @@ use Rattle.nt_schema.specs.Whole.{AreWhole}
 use Rattle.nt_column.specs.Column.{Column}
 use Rattle.nt_book.specs.declared.limits.Limits.{Limits}
 use Rattle.nt_book.specs.declared.meta.ClusterMeta.{ClusterMeta}
-use Rattle.nt_book.specs.Books.{book_clusters, entry_count}
+use Rattle.nt_book.specs.Books.{book_clusters, book_end, entry_count}
 use Rattle.nt_plans.specs.Place.{open_plans}
 use Rattle.nt_plans.specs.Types.{are_some}
 use Rattle.nt_layout.specs.Laid.{Gives}
@@ -43,8 +43,8 @@ pub record IsFitToBegin (t : Table) (columns : List Column) : Type 0 where
 
 module _ {D : Type 0} (state : D → DiskState) where
   -- a writer that is alive: its file is begun, with ranges behind the header, and can be closed; each range of the book is settled and
-  -- within the limit, the first elements of the columns are those of the schema and stand behind no more entries than are written, and the
-  -- columns give what is gathered
+  -- within the limit, and so are their end and their number; the first elements of the columns are those of the schema and stand behind
+  -- no more entries than are written, and the columns give what is gathered
   pub record IsWriting (w : SeqState D) : Type 0 where
     pub ranges : List (List ℕ)
     pub held : Becomes (state w.given).held (state w.disk).held (λ h. file_so_far w.table ranges)
@@ -55,6 +55,8 @@ module _ {D : Type 0} (state : D → DiskState) where
     pub begun : AllByRecursion (λ (c : ColumnRow). c.first ≤ entry_count (book_clusters w.book)) w.table.columns
     pub settled : AllByRecursion IsSettledCluster (book_clusters w.book)
     pub short : AllByRecursion (IsShortCluster w.params.limits) (book_clusters w.book)
+    pub ends : book_end w.book ≤ w.params.limits.file
+    pub count : length (book_clusters w.book) ≤ w.params.limits.clusters
     pub described : IsDescribed w.table
     pub few : IsFew w.table
     pub some : are_some (open_plans w.table) ≡ true

@@ -1,15 +1,15 @@
 //! Gathered entries that are written.
 
-ghost use Rattle.std.specs.Prelude.{◌≡◌, ◌≢◌, ◌<◌, [], true, length, Ok, Err, OnOk, IfOk, IfErr, IsErrOf};
-ghost use Rattle.nt_commit.specs.declared.error.CommitError.{CommitError};
-ghost use Rattle.nt_commit.specs.declared.error.CommitError.TheVariants.{Memory, Fault};
+ghost use Rattle.std.specs.Prelude.{◌≡◌, true, IfOk, IfErr};
+ghost use Rattle.nt_outside.specs.Held.{BecomesSome};
+ghost use Rattle.nt_commit.specs.declared.error.CommitError.TheVariants.{Memory};
 ghost use Rattle.nt_book.specs.Ranges.{IsFromTo, max_page};
 ghost use Rattle.nt_column.specs.Column.{columns_of};
 ghost use Rattle.nt_pages.specs.Image.{image};
 ghost use Rattle.nt_pages.specs.Metas.{cluster_meta};
 ghost use Rattle.nt_trees.specs.Described.{AreDescribed};
-ghost use Rattle.nt_seq.specs.Writer.{gathered_by};
-ghost use Rattle.nt_seq.specs.Changing.{WritesNext, RefusesNext, LeavesNext, NamesPassed};
+ghost use Rattle.nt_cuts.specs.Cuts.{LeavesUnfinished};
+ghost use Rattle.nt_seq.specs.Changing.{FlushesNext};
 
 use crate::appending::append_image;
 use crate::crashing::crashes_leave_closed_or_unfinished;
@@ -45,15 +45,10 @@ fn image_in(
 }
 
 impl<D: Disk> SeqWriter<D> {
-    /// Does what `flush` does.
+    /// Writes all gathered entries as the next cluster, if there are some.
     fn write_next(&mut self) -> Result<(), CommitError>
         requires alive { self.old.alive ≡ true }
-        ensures nothing { gathered_by self.old ≡ [] → (result ≡ Ok tt) × (self.new ≡ self.old) }
-        ensures ok { 0 < length (gathered_by self.old)
-            → OnOk result (WritesNext D.state self.old self.new) }
-        ensures limits { 0 < length (gathered_by self.old) → result ≢ Err Memory
-            → NamesPassed self.old result }
-        ensures refused { RefusesNext D.state self.old self.new result }
+        ensures { FlushesNext D.state self.old self.new result }
     {
         if self.entries == 0 {
             return Ok(());
@@ -80,12 +75,9 @@ impl<D: Disk> SeqWriter<D> {
     /// came of it, the file isn't closed yet: a crash at any step so far leaves it unfinished.
     pub fn flush(&mut self) -> Result<(), CommitError>
         requires alive { self.old.alive ≡ true }
-        ensures nothing { gathered_by self.old ≡ [] → (result ≡ Ok tt) × (self.new ≡ self.old) }
-        ensures ok { 0 < length (gathered_by self.old)
-            → OnOk result (WritesNext D.state self.old self.new) }
-        ensures limits { 0 < length (gathered_by self.old) → result ≢ Err Memory
-            → NamesPassed self.old result }
-        ensures left { LeavesNext D.state self.old self.new result }
+        ensures flushes { FlushesNext D.state self.old self.new result }
+        ensures crash { BecomesSome (D.state self.new.given).held (D.state self.new.disk).held
+            (λ h h'. LeavesUnfinished h'.log) }
     {
         crashes_leave_closed_or_unfinished();
         let answer = self.write_next();

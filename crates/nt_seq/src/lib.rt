@@ -15,18 +15,18 @@
 //!
 //! Proved, as a relation of what the writer is before and after each call (`specs/Changing`): an
 //! entry is gathered whole or not at all (`fill`, `fill_line`); a flush makes the gathered
-//! entries the next cluster (`ok`), names exactly the limit of its book that they pass
+//! entries the next cluster (`ok` of `FlushesNext`), names exactly the limit of its book that they pass
 //! (`limits`), leaves all as it was where it is refused, and fails only where the disk's count of
-//! faults rose (`left`); a field is added exactly where none at the top level has its name and
+//! faults rose, with a part of their image behind its ranges (`refused`); a field is added exactly where none at the top level has its name and
 //! there aren't too many, behind as many entries as are written, and each earlier entry gets its
 //! zero (`extend`). Once it is closed, the file is laid out for the clusters, none of them longer
 //! than a range may get, and as any other where no field was added; after a refusal its first byte
-//! is 0, or it stands there whole; and its steps are in order in any case (`file`). The cause of
+//! is 0, or it stands there whole, its last step being over that byte; and its steps are in order in any case (`file`). The cause of
 //! each answer is that of nt_close, where no range is spoiled (`cause`). Of a file that isn't
 //! closed the first byte is 0 (`unclosed_files_are_shut`). Wherever a crash comes behind the first
 //! sync, in `new`, `flush`, `extend` or `close`, it leaves a file that isn't finished, or, once the
 //! first byte was written over, the closed one; behind all steps of `close` just that: `crash` in what
-//! `new`, `flush` (`left`) and `close` (`file`) say, by the law `crashes_leave_closed_or_unfinished` on
+//! `new`, `flush` and `close` (`file`) say, by the law `crashes_leave_closed_or_unfinished` on
 //! what `keeps` and `close` say of the steps. What holds of each writer at any moment
 //! is `IsSequential`, the invariant, with `IsBookKept` of its book (`keeps`). Nothing is only
 //! tested.

@@ -17,6 +17,15 @@ use nt_reader::{ClusterRead, Reader};
 use nt_tfile::ReadFailure;
 use std::alloc::Global;
 
+/// What goes from one cluster to the next: the entries that are left to show, counted from its first, the
+/// lines that wait to be printed, and columns whose memory it may have.
+#[derive(Drop)]
+struct Pending {
+    range: EntryRange,
+    waiting: Vec<u8>,
+    kept: Option<ColumnSet>,
+}
+
 /// Gathers the lines of those entries of a cluster that lie in the range.
 fn put_entries<H: Host>(
     alloc: Global,
@@ -48,22 +57,21 @@ fn put_cluster<H: Host, F: ReadAt>(
     file: &mut F,
     reader: &Reader,
     k: u32,
-    kept: &mut Option<ColumnSet>,
-    range: &mut EntryRange,
-    waiting: &mut Vec<u8>,
+    pending: &mut Pending,
 ) -> Result<Option<ReadError>, Refused>
     requires { k < length reader.now.clusters }
-    ensures told { (b : List ℕ) → (F.state file.old).bytes ≡ Some b → ClusterTold b reader.now k range.old range.new
-        (H.state host.old).world waiting.old.items (H.state host.new).world waiting.new.items result }
+    ensures told { (b : List ℕ) → (F.state file.old).bytes ≡ Some b → ClusterTold b reader.now k
+        pending.old.range pending.new.range (H.state host.old).world pending.old.waiting.items
+        (H.state host.new).world pending.new.waiting.items result }
     ensures bytes { (F.state file.new).bytes ≡ (F.state file.old).bytes }
     ensures cause { HasCauses (H.state host.old) (H.state host.new) (F.state file.old) (F.state file.new) result }
     ensures rest { OnlyPrints (H.state host.old) (H.state host.new) }
 {
-    match reader.cluster_in(alloc, file, k, kept.take()) {
+    match reader.cluster_in(alloc, file, k, pending.kept.take()) {
         Ok(cluster) => {
-            put_entries(alloc, host, waiting, &cluster, range)?;
-            *range = range.past(cluster.entries());
-            *kept = Some(cluster.into_columns());
+            put_entries(alloc, host, &mut pending.waiting, &cluster, &pending.range)?;
+            pending.range = pending.range.past(cluster.entries());
+            pending.kept = Some(cluster.into_columns());
             Ok(None)
         }
         Err(ReadFailure::Defect(fault)) => Ok(Some(fault)),
@@ -78,18 +86,16 @@ fn put_clusters<H: Host, F: ReadAt>(
     host: &mut H,
     file: &mut F,
     reader: &Reader,
-    range: EntryRange,
-    waiting: &mut Vec<u8>,
+    pending: &mut Pending,
 ) -> Result<Option<ReadError>, Refused>
-    ensures told { (b : List ℕ) → (F.state file.old).bytes ≡ Some b → ClustersTold b reader.now range
-        (H.state host.old).world waiting.old.items (H.state host.new).world waiting.new.items result }
+    ensures told { (b : List ℕ) → (F.state file.old).bytes ≡ Some b → ClustersTold b reader.now
+        pending.old.range (H.state host.old).world pending.old.waiting.items (H.state host.new).world
+        pending.new.waiting.items result }
     ensures cause { HasCauses (H.state host.old) (H.state host.new) (F.state file.old) (F.state file.new) result }
     ensures rest { OnlyPrints (H.state host.old) (H.state host.new) }
 {
-    let mut left = range;
-    let mut kept = None;
     for k in 0..reader.clusters() {
-        let fault = put_cluster(alloc, host, file, reader, k, &mut kept, &mut left, waiting)?;
+        let fault = put_cluster(alloc, host, file, reader, k, pending)?;
         if fault.is_some() {
             return Ok(fault);
         }
@@ -118,9 +124,13 @@ pub fn show_entries<H: Host, F: ReadAt>(
         (F.state file.old) (F.state file.new) result }
 {
     let reader = Reader::attach(alloc, file)?;
-    let mut waiting = Vec::new(alloc);
-    let fault = put_clusters(alloc, host, file, &reader, range, &mut waiting)?;
-    print_all(host, Stream::ToOut, &waiting)?;
+    let mut pending = Pending {
+        range,
+        waiting: Vec::new(alloc),
+        kept: None,
+    };
+    let fault = put_clusters(alloc, host, file, &reader, &mut pending)?;
+    print_all(host, Stream::ToOut, &pending.waiting)?;
     match fault {
         None => Ok(()),
         Some(fault) => Err(ReadFailure::Defect(fault)),

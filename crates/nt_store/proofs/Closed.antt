@@ -1,31 +1,32 @@
 -- What the closing of a filled file leaves on its disk.
-use Rattle.std.proofs.Common.{◌≡◌, ◌⊎◌, ◌∙◌, inl, inr, subst, refl, ℕ, ◌<◌, List, ◌++◌, Option, Some, None, Result, Ok, Err, arith}
+use Rattle.std.proofs.Common.{◌≡◌, ◌⊎◌, ◌∙◌, inl, inr, subst, refl, ℕ, ◌<◌, List, Option, Some, None, Result, Ok, Err, arith}
 use Rattle.nt_types.specs.ShapeData.{MemberData}
 use Rattle.nt_outside.specs.Held.{Held}
 use Rattle.nt_outside.specs.Disk.{DiskState}
 use Rattle.nt_outside.specs.Reads.{Reads}
-use Rattle.nt_outside.specs.Order.{BeginsOpen}
+use Rattle.nt_outside.specs.Order.{BeginsOpen, EndsInSync}
 use Rattle.nt_grammar.specs.Table.{Table}
 use Rattle.nt_book.specs.declared.params.Params.{Params}
 use Rattle.nt_book.specs.declared.limits.LimitError.{LimitError}
 use Rattle.nt_book.specs.Books.{BookData}
 use Rattle.nt_layout.specs.Headers.{clusters_place}
-use Rattle.nt_layout.specs.Finished.{lists_behind, tail, front, finished}
+use Rattle.nt_layout.specs.Finished.{lists_behind, tail, front}
 use Rattle.nt_close.specs.declared.error.CloseError.{CloseError}
 use Rattle.nt_close.specs.declared.error.CloseError.TheVariants as close
-use Rattle.nt_close.specs.Steps.{closed_on, closed_whole}
+use Rattle.nt_close.specs.Steps.{closed_on, closed_partly, closed_whole}
+use Rattle.nt_close.specs.Laws.{EndsOverFirst}
 use Rattle.nt_close.specs.Passing.{passed_by_close}
 use Rattle.nt_close.specs.Spoiled.{NoneSpoiled, IsUnspoiled, IsFirstSpoiled}
 use Rattle.nt_close.specs.Closing.{HasCloseCause, LeavesClosed, IsCloseCut, BecomesFinished, StaysWithin}
-use Rattle.nt_close.proofs.FirstByte.{closes_shut, closes_in_order}
+use Rattle.nt_close.proofs.FirstByte.{cut_shut, closes_in_order}
 use Rattle.nt_close.proofs.Finishing.{closed-is}
 use Rattle.nt_close.proofs.Within.{within}
 use Rattle.nt_dealing.specs.Dealt.{commit_order}
-use Rattle.nt_store.specs.declared.error.StoreError.TheVariants.{Outside, Memory, Limit}
+use Rattle.nt_store.specs.declared.error.StoreError.TheVariants.{Outside}
 use Rattle.nt_store.specs.Errors.{error_of_close}
 use Rattle.nt_store.specs.Whole.{IsStored}
 use Rattle.nt_store.specs.Laws.{RangesAreAsLong, FinishedAreStored, PassedAreOver, CrashesLeave}
-use Rattle.nt_store.specs.Writing.{HoldsNow, PassesLimitOf, KeepsOrder}
+use Rattle.nt_store.specs.Writing.{HoldsNow, by_end, KeepsOrder}
 use Rattle.nt_store.specs.Crashes.{CrashLeaves}
 use Rattle.nt_store.specs.Filling.{IsFilledFile, IsOfNoText, CloseLeaves}
 use Rattle.nt_store.proofs.Begun.{shut_open, some_shut}
@@ -59,21 +60,21 @@ module _ (long : RangesAreAsLong) (stored : FinishedAreStored) (over : PassedAre
       (whole ∙ closed-is t book p.group filled.ranges h begin (long fields p texts t book filled.ranges filled.holds) filled.image)
 
   -- it is closed
-  pub closed_leaves : (old new : Option Held) → old ≡ Some h → BecomesFinished t book p.group old new → StaysWithin t p book
-      → HoldsNow new (λ left. IsStored p fields texts (commit_order book) left.image)
-  closed_leaves old new is becomes stays =
-      let left = becomes filled.ranges (long fields p texts t book filled.ranges filled.holds) h is filled.image in
-      (left.0, left.1, stored fields p texts t book filled.ranges left.0.image filled.holds stays left.2)
+  pub closed_leaves : (new : Option Held) → new ≡ Some (closed_on ends begins h) → StaysWithin t p book
+      → HoldsNow new (λ left. IsStored p fields texts (commit_order book) left.image × EndsInSync left.log)
+  closed_leaves new is stays =
+      (closed_on ends begins h, is, (stands (closed_on ends begins h) stays refl, (_, refl)))
 
   cut_leaves : (old new : DiskState) → old.held ≡ Some h → passed_by_close p t book ≡ None → IsCloseCut ends begins old new
-      → HoldsNow new.held (λ left. BeginsOpen left.image ⊎ IsStored p fields texts (commit_order book) left.image)
+      → HoldsNow new.held (λ left. BeginsOpen left.image
+      ⊎ (IsStored p fields texts (commit_order book) left.image × EndsOverFirst left.log))
   cut_leaves old new is none cut =
       let left = cut.held h is in (
         left.0,
         left.1,
-        elim (closes_shut ends begins h left.0 filled.shut left.2) [
+        elim (cut_shut ends begins h left.0 filled.shut left.2) [
           | inl still ↦ inl (shut_open left.0.image still)
-          | inr whole ↦ inr (stands left.0 (within t p book none) whole)
+          | inr whole ↦ inr (stands left.0 (within t p book none) whole.0, whole.1)
         ],
       )
 
@@ -91,6 +92,7 @@ module _ (long : RangesAreAsLong) (stored : FinishedAreStored) (over : PassedAre
       table = t;
       rows = filled.holds.rows;
       over = over fields p texts t book filled.ranges len most filled.holds (inl cause.1);
+      by = by_end filled.holds.sound filled.holds.fit;
     },
     still new.held (left.place.held ∙ is),
   )
@@ -99,6 +101,7 @@ module _ (long : RangesAreAsLong) (stored : FinishedAreStored) (over : PassedAre
       table = t;
       rows = filled.holds.rows;
       over = over fields p texts t book filled.ranges end most filled.holds (inr cause.1);
+      by = by_end filled.holds.sound filled.holds.fit;
     },
     still new.held (left.place.held ∙ is),
   )
@@ -140,7 +143,8 @@ module _ (leave : CrashesLeave) (t : Table) (p : Params) (book : BookData) (fiel
       let some = left.held h is in (
         some.0,
         some.1,
-        leave.closing fields p texts t book filled.ranges h some.0 filled.holds (within t p book cause.1) filled.filled some.2,
+        leave.closing fields p texts t book filled.ranges h some.0 filled.holds (within t p book cause.1) filled.filled
+            (closed_partly some.2),
       )
 
 -- the steps stay in order
@@ -155,7 +159,7 @@ close_order tail front old new (Err (close.RangeTooLarge len most)) reads left h
 close_order tail front old new (Err (close.FileTooLarge end most)) reads left h is = (h, left.place.held ∙ is, λ shut order. order)
 close_order tail front old new (Err close.Fault) reads left h is =
     let some = left.held h is in
-    (some.0, some.1, λ shut order. closes_in_order tail front h (some_shut h.image shut) (reads h is) order some.0 some.2)
+    (some.0, some.1, λ shut order. closes_in_order tail front h (some_shut h.image shut) (reads h is) order some.0 (closed_partly some.2))
 
 -- the disk has failed where the closing did
 pub close_fails : (book : BookData) (passed : Option LimitError) (tail front : List ℕ) (old new : DiskState) (e : CloseError)

@@ -19,7 +19,7 @@ use Rattle.nt_layout.specs.Finished.{lists_behind, finished, tail, front}
 use Rattle.nt_close.specs.declared.error.BeginError.{BeginError}
 use Rattle.nt_close.specs.declared.error.BeginError.TheVariants as begin
 use Rattle.nt_close.specs.Beginning.{IsNotBegun}
-use Rattle.nt_close.specs.Steps.{closed_on, IsBegunSoFar, IsClosedSoFar}
+use Rattle.nt_close.specs.Steps.{closed_on, IsBegunSoFar, begun_partly, IsClosedSoFar}
 use Rattle.nt_dealing.specs.Dealt.{FillsBehind, commit_order}
 use Rattle.nt_cuts.specs.Cuts.{WritesFirst, HasSync, LeavesUnfinished, LeavesUnfinishedOr, LeavesOnly}
 use Rattle.nt_crash.specs.Fillings.{IsFilling, IsFilled, IsRangedAs}
@@ -129,4 +129,4 @@ begin_crash leave fields p (begin.RangeTooLarge len most) old new left is =
 begin_crash leave fields p (begin.FileTooLarge end most) old new left is =
     (nothing_held, left.untouched.place.held ∙ is, nothing_leaves)
 begin_crash leave fields p begin.Fault old new left is =
-    let some = left.held nothing_held is in (some.0, some.1, leave.beginning left.table some.0 some.2)
+    let some = left.held nothing_held is in (some.0, some.1, leave.beginning left.table some.0 (begun_partly some.2))

@@ -1,7 +1,6 @@
 -- What is left of a host once the disk of a file is back.
 use Rattle.std.proofs.Common.{◌≡◌, ◌≢◌, ◌∙◌, inl, inr, ap, sym, subst, refl, ℕ, List, [], ◌∷◌, ◌++◌, length, Option, Some, Result, Ok, Err}
 use Rattle.std.proofs.Common.{arith, length-append}
-use Rattle.std.proofs.lemmas.List.{append-nil}
 use Rattle.std.specs.Option.{option_map}
 use Rattle.std.proofs.lemmas.Map.Lookups.{exact_bytes}
 use Rattle.std.specs.Prelude.{IsErrOf}
@@ -19,12 +18,14 @@ use Rattle.nt_book.specs.declared.params.Params.{Params}
 use Rattle.nt_store.specs.declared.error.StoreError.{StoreError}
 use Rattle.nt_store.specs.declared.error.StoreError.TheVariants.{Outside, Memory, Schema, Line, Limit}
 use Rattle.nt_store.specs.Errors.{error_of_refusal, IsRefusal}
-use Rattle.nt_store.specs.Orders.{order_line, GainsOrderFront}
+use Rattle.nt_store.specs.Orders.{order_line, GainsOrderFront, gains_nothing, gains_front}
 use Rattle.nt_store.specs.Schemas.{TellsSchema}
 use Rattle.nt_store.specs.Texts.{AreTexts}
 use Rattle.nt_store.specs.Worlds.{IsThereWith, OthersStay, MakesDisk, IsLeftOpen, IsNeverBegun, IsWrittenInOrder, WritesInOrder}
+use Rattle.nt_store.specs.Worlds.{IsLeftAfter}
+use Rattle.nt_close.specs.Laws.{EndsOverFirst}
 use Rattle.nt_store.specs.Stored.{StoresWhole, StoreTold}
-use Rattle.nt_store.specs.Writing.{NeverBegan, EndsWhole, FileTold, IsInOrderFrom}
+use Rattle.nt_store.specs.Writing.{NeverBegan, PrintsOrderFront, prints_nothing, prints_front, EndsWhole, FileTold, IsInOrderFrom}
 
 -- a disk that came back is found under its name
 pub stored_kept : (files : Files) (name : List ℕ) (s : Stored) → map.get (map.insert files name s) name ≡ Some s
@@ -59,6 +60,16 @@ kept_never_begun out h v began = record {
   log = ap (λ (l : List Step). Some l) began.1;
 }
 
+-- and the steps of its disk
+pub kept_steps : (Ends : List Step → Type 0) (out : List ℕ) (h : Held) (v : World) → Ends h.log → IsLeftAfter Ends out (keeps_disk out h v)
+kept_steps Ends out h v ends = record {
+  at = record { bytes = h.image; log = Some h.log };
+  log = h.log;
+  there = stored_kept v.files out (record { bytes = h.image; log = Some h.log });
+  steps = refl;
+  ends = ends;
+}
+
 pub others_kept : (out : List ℕ) (h : Held) (v : World) → OthersStay out v (keeps_disk out h v)
 others_kept out h v other differs = stored_other v.files out other (record { bytes = h.image; log = Some h.log }) differs
 
@@ -81,11 +92,35 @@ module _ (out schema : List ℕ) (inputs : List (List ℕ)) (p : Params) (fields
   others : (printed : List ℕ) (h : Held) → OthersStay out w (after printed h)
   others printed h = others_kept out h (prints ToOut printed (creates out w))
 
-  gains : (order printed left : List ℕ) (h : Held) → order_line order ≡ printed ++ left → GainsOrderFront w (after printed h)
-  gains order printed left h line = record { order = order; printed = printed; left = left; out = refl; line = line }
+  -- the world before the disk is back, with what out gained
+  record IsLeftWith (world : Option World) (h : Held) : Type 0 where
+    pub u : World
+    pub is : world ≡ Some u
+    pub named : u.creating ≡ Some out
+    pub err : u.err ≡ w.err
+    pub made : MakesDisk out w (keeps_disk out h u)
+    pub others : OthersStay out w (keeps_disk out h u)
+    pub gains : GainsOrderFront schema inputs p w (keeps_disk out h u)
 
-  opens : (printed : List ℕ) (h : Held) → BeginsOpen h.image → IsLeftOpen out (after printed h)
-  opens printed h begins = kept_open out h (prints ToOut printed (creates out w)) begins
+  left_with : (world : Option World) (h : Held) → PrintsOrderFront fields p texts (creates out w) world → IsLeftWith world h
+  left_with world h (prints_nothing is) = record {
+    u = creates out w;
+    is = is;
+    named = refl;
+    err = refl;
+    made = refl;
+    others = others_kept out h (creates out w);
+    gains = gains_nothing refl;
+  }
+  left_with world h (prints_front order printed left of is line) = record {
+    u = prints ToOut printed (creates out w);
+    is = is;
+    named = refl;
+    err = refl;
+    made = refl;
+    others = others printed h;
+    gains = gains_front fields texts order printed left are of refl line;
+  }
 
   module _ (world world' : Option World) (held : Option Held) (keeps : ComesBack world world' held) where
     whole : (ends : EndsWhole fields p texts (creates out w) world held)
@@ -113,63 +148,82 @@ module _ (out schema : List ℕ) (inputs : List (List ℕ)) (p : Params) (fields
           ends.order) ends.file.0,
       whole ends,
     )
-    out_told (Err Outside) (inr ends) = (
+    out_told (Err Outside) (inr (ends, over)) = (
       after (order_line ends.order) ends.file.0,
       keeps out ends.file.0 _ ends.printed refl ends.file.1,
       refl,
-      others (order_line
-          ends.order) ends.file.0,
-      inr (whole ends),
+      others (order_line ends.order) ends.file.0,
+      inr (whole ends, kept_steps EndsOverFirst out ends.file.0 (prints ToOut (order_line ends.order) (creates out w)) over),
     )
-    out_told (Err Outside) (inl ((order, printed, left, world-is, line), (h, held-is, inl begins))) = (
-      after printed h,
-      keeps out h _ world-is refl held-is,
-      refl,
-      others printed h,
-      inl (inr (refl, inl (opens printed h begins)), gains order printed left h line),
-    )
-    out_told (Err Outside) (inl ((order, printed, left, world-is, line), (h, held-is, inr began))) = (
-      after printed h,
-      keeps out h _ world-is refl held-is,
-      refl,
-      others printed h,
-      inl (inr (refl, inr (kept_never_begun out h (prints ToOut printed (creates out w)) began)), gains order printed left h line),
-    )
-    out_told (Err Memory) ((order, printed, left, world-is, line), (h, held-is, begins)) = (
-      after printed h,
-      keeps out h _ world-is refl held-is,
-      refl,
-      others printed h,
-      (inr (refl, opens printed h begins), gains order printed left h line),
-    )
-    out_told (Err (Limit reached most)) (passes, (order, printed, left, world-is, line), (h, held-is, begins)) = (
-      after printed h,
-      keeps out h _ world-is refl held-is,
-      refl,
-      others printed h,
-      (
-        record { fields = fields; texts = texts; are = are; table = passes.table; rows = passes.rows; over = passes.over },
-        (refl, opens printed h begins),
-        gains order printed left h line,
-      ),
-    )
+    out_told (Err Outside) (inl (front, (h, held-is, inl begins))) =
+        let l = left_with world h front in (
+          keeps_disk out h l.u,
+          keeps out h l.u l.is l.named held-is,
+          l.err,
+          l.others,
+          inl (inr (l.made, inl (kept_open out h l.u begins)), l.gains),
+        )
+    out_told (Err Outside) (inl (front, (h, held-is, inr began))) =
+        let l = left_with world h front in (
+          keeps_disk out h l.u,
+          keeps out h l.u l.is l.named held-is,
+          l.err,
+          l.others,
+          inl (inr (l.made, inr (kept_never_begun out h l.u began)), l.gains),
+        )
+    out_told (Err Memory) (front, (h, held-is, begins)) =
+        let l = left_with world h front in (
+          keeps_disk out h l.u,
+          keeps out h l.u l.is l.named held-is,
+          l.err,
+          l.others,
+          (inr (l.made, kept_open out h l.u begins), l.gains),
+        )
+    out_told (Err (Limit reached most)) (passes, front, (h, held-is, begins)) =
+        let l = left_with world h front in (
+          keeps_disk out h l.u,
+          keeps out h l.u l.is l.named held-is,
+          l.err,
+          l.others,
+          (
+            record {
+              fields = fields;
+              texts = texts;
+              are = are;
+              table = passes.table;
+              rows = passes.rows;
+              over = passes.over;
+              by = passes.by;
+            },
+            (l.made, kept_open out h l.u begins),
+            l.gains,
+          ),
+        )
     out_told (Err (Line input line kind)) (first, world-is, (h, held-is, begins)) = (
       keeps_disk out h (creates out w),
       keeps out h _ world-is refl held-is,
       refl,
       others_kept out h (creates out w),
-      (record { fields = fields; texts = texts; are = are; first = first }, (refl, kept_open out h (creates out w) begins), refl),
+      (
+        record { fields = fields; texts = texts; are = are; table = first.table; rows = first.rows; fails = first.fails },
+        (refl, kept_open out h (creates out w) begins),
+        refl,
+      ),
     )
     out_told (Err (Schema line kind)) told = absurd told
+
+    front_world : PrintsOrderFront fields p texts (creates out w) world → (u : World) × (world ≡ Some u) × (u.creating ≡ Some out)
+    front_world (prints_nothing is) = (_, is, refl)
+    front_world (prints_front order printed left of is line) = (_, is, refl)
 
     -- the name whose disk is out
     pub left_world : (result : Result Unit StoreError) → FileTold fields p texts (creates out w) world held result
         → (u : World) × (world ≡ Some u) × (u.creating ≡ Some out)
     left_world (Ok value) ends = (_, ends.printed, refl)
-    left_world (Err Outside) (inr ends) = (_, ends.printed, refl)
-    left_world (Err Outside) (inl ((order, printed, left, world-is, line), some)) = (_, world-is, refl)
-    left_world (Err Memory) ((order, printed, left, world-is, line), some) = (_, world-is, refl)
-    left_world (Err (Limit reached most)) (passes, (order, printed, left, world-is, line), some) = (_, world-is, refl)
+    left_world (Err Outside) (inr ends) = (_, ends.0.printed, refl)
+    left_world (Err Outside) (inl (front, some)) = front_world front
+    left_world (Err Memory) (front, some) = front_world front
+    left_world (Err (Limit reached most)) (passes, front, some) = front_world front
     left_world (Err (Line input line kind)) (first, world-is, some) = (_, world-is, refl)
     left_world (Err (Schema line kind)) told = absurd told
 
@@ -206,14 +260,10 @@ none_made name old new stays w w' is is' made =
 pub nothing_made : (name : List ℕ) (old new : Option World) → new ≡ old → WritesInOrder name old new
 nothing_made name old new stays w w' is is' made = absurd (none_made name old new stays w w' is is' made)
 
--- nothing is printed
-gains_none : (w : World) → GainsOrderFront w w
-gains_none w = record { order = []; printed = []; left = order_line []; out = sym (append-nil w.out); line = refl }
-
 refused_as : (out schema : List ℕ) (inputs : List (List ℕ)) (p : Params) (w : World) (e : StoreError) → IsRefusal e
     → StoreTold out schema inputs p w w (Err e)
-refused_as out schema inputs p w Outside is = inl (inl (refl, refl), gains_none w)
-refused_as out schema inputs p w Memory is = (inl (refl, refl), gains_none w)
+refused_as out schema inputs p w Outside is = inl (inl (refl, refl), gains_nothing refl)
+refused_as out schema inputs p w Memory is = (inl (refl, refl), gains_nothing refl)
 refused_as out schema inputs p w (Schema line kind) is = absurd is
 refused_as out schema inputs p w (Line input line kind) is = absurd is
 refused_as out schema inputs p w (Limit reached most) is = absurd is
@@ -225,8 +275,8 @@ refused_told out schema inputs p w world e is same = (w, same, refl, λ other di
 
 schema_as : (out schema : List ℕ) (inputs : List (List ℕ)) (p : Params) (w : World) (e : StoreError)
     → TellsSchema (file w schema) (Err e) → StoreTold out schema inputs p w w (Err e)
-schema_as out schema inputs p w Outside told = inl (inl (refl, refl), gains_none w)
-schema_as out schema inputs p w Memory told = (inl (refl, refl), gains_none w)
+schema_as out schema inputs p w Outside told = inl (inl (refl, refl), gains_nothing refl)
+schema_as out schema inputs p w Memory told = (inl (refl, refl), gains_nothing refl)
 schema_as out schema inputs p w (Schema line kind) told = (told, (refl, refl), refl)
 schema_as out schema inputs p w (Line input line kind) told = absurd told
 schema_as out schema inputs p w (Limit reached most) told = absurd told

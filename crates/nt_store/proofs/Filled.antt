@@ -26,24 +26,24 @@ use Rattle.nt_close.specs.declared.error.BeginError.{BeginError}
 use Rattle.nt_close.specs.declared.error.BeginError.TheVariants as begin
 use Rattle.nt_close.specs.Beginning.{new_book, IsNotBegun}
 use Rattle.nt_close.specs.Passing.{passed_by_begin}
-use Rattle.nt_close.specs.Steps.{begun_whole}
+use Rattle.nt_close.specs.Steps.{begun_partly, begun_whole}
 use Rattle.nt_close.specs.Laws.{IsShut}
 use Rattle.nt_close.proofs.FirstByte.{begins_shut, begins_in_order}
-use Rattle.nt_dealing.specs.Dealt.{IsDealtOut, FillsBehind, commit_order}
+use Rattle.nt_dealing.specs.Dealt.{IsDealtOut, FillsBehind}
 use Rattle.nt_dealing.specs.Texts.{AreSound, chunks_of, all_chunks}
+use Rattle.nt_dealing.specs.Failing.{CommitsFit}
 use Rattle.nt_contexts.specs.declared.error.RunError.{RunError}
 use Rattle.nt_contexts.specs.declared.error.RunError.TheVariants as run
 use Rattle.nt_contexts.specs.Contexts.{IsBookOn, SomeRose, ContextsTold}
-use Rattle.nt_store.specs.declared.error.StoreError.{StoreError}
-use Rattle.nt_store.specs.declared.error.StoreError.TheVariants.{Outside, Memory, Schema, Line, Limit}
+use Rattle.nt_store.specs.declared.error.StoreError.TheVariants.{Outside}
 use Rattle.nt_store.specs.Errors.{error_of_begin, error_of_run}
 use Rattle.nt_store.specs.Worlds.{SomeFailed}
-use Rattle.nt_store.specs.Writing.{as_begun, IsInOrderFrom}
+use Rattle.nt_store.specs.Writing.{as_begun, IsInOrderFrom, by_header, by_chunk}
 use Rattle.nt_store.specs.Laws.{CrashesLeave}
 use Rattle.nt_store.specs.Filling.{IsFilledFile, WhyUnfilled, FillLeaves}
 use Rattle.nt_store.proofs.Begun.{begun_known, shut_open, filled_shut, filled_order}
 use Rattle.nt_store.proofs.Crashing.{run_crash}
-use Rattle.nt_store.proofs.Passing.{begun_over}
+use Rattle.nt_store.proofs.Passing.{WholeAreLongest, begun_over}
 
 -- what the contexts left on the disk of a file that was begun: its first byte is 0
 pub record IsFilledShut (t : Table) (held : Option Held) : Type 0 where
@@ -74,8 +74,9 @@ why_told : (T : Type 0) (e : RunError) (t : Table) (fields : List MemberData) (p
     → WhyUnfilled {T = T} fields p texts (Err (error_of_run e))
 why_told T run.Outside t fields p texts disk disk' book rows told = tt
 why_told T run.Memory t fields p texts disk disk' book rows told = tt
-why_told T (run.Line input line kind) t fields p texts disk disk' book rows told = told
-why_told T (run.Limit reached most) t fields p texts disk disk' book rows told = record { table = t; rows = rows; over = told }
+why_told T (run.Line input line kind) t fields p texts disk disk' book rows told = record { table = t; rows = rows; fails = told }
+why_told T (run.Limit reached most) t fields p texts disk disk' book rows told =
+    record { table = t; rows = rows; over = told.over; by = by_chunk told }
 
 -- the same of an answer that is one of these
 pub run_why : (T : Type 0) (r : Result Unit RunError) (e : RunError) (t : Table) (fields : List MemberData) (p : Params)
@@ -97,6 +98,7 @@ pub run_ok : (r : Result Unit RunError) (t : Table) (fields : List MemberData) (
     DiskState) (book : BookData) → r ≡ Ok tt
     → ContextsTold t fields p texts disk disk' book r
     → AreSound fields texts × IsDealtOut t p.page (chunks_of p.cluster fields texts) book disk.held disk'.held
+    × CommitsFit t p (all_chunks p.cluster fields texts)
 run_ok r t fields p texts disk disk' book is told = subst (λ (o : Result Unit RunError). ContextsTold t fields p texts disk disk' book o)
     is told
 
@@ -119,9 +121,10 @@ pub dealt_from : (fields : List MemberData) (p : Params) (texts : List (List ℕ
     (h : Held) → AreFields fields → Rows fields p.plain t → passed_by_begin p.limits t ≡ None → given ≡ new_book t p.limits
     → IsBookKept book → IsUngrouped book → IsBookOn given book
     → AllByRecursion (λ (c : Cluster ClusterMeta). c.len ≤ given.limits.range) (book_clusters book) → AreSound fields texts
-    → IsDealtOut t p.page (chunks_of p.cluster fields texts) book old new → old ≡ Some (as_begun t) → new ≡ Some h → IsShut h.image
+    → IsDealtOut t p.page (chunks_of p.cluster fields texts) book old new → CommitsFit t p (all_chunks p.cluster fields texts)
+    → old ≡ Some (as_begun t) → new ≡ Some h → IsShut h.image
     → LeavesUnfinished h.log → IsFilledFile fields p texts t book h
-dealt_from fields p texts t given book old new h rules rows within given_is kept bare on short sound dealt begun is shut unfinished =
+dealt_from fields p texts t given book old new h rules rows within given_is kept bare on short sound dealt fit begun is shut unfinished =
     let book_on : IsBookOn (new_book t p.limits) book = subst (λ (b : BookData). IsBookOn b book) given_is on in
     let left = dealt.stand (as_begun t) begun in
     let same : left.0 ≡ h = held_is left.0 h (sym left.1 ∙ is) in
@@ -138,6 +141,7 @@ dealt_from fields p texts t given book old new h rules rows within given_is kept
             short;
         sound = sound;
         are = dealt.are;
+        fit = fit;
       };
       image = subst (λ (k : Held). k.image ≡ file_begun t ++ concat dealt.ranges) same (left.2.stand (begun_known t));
       filled = subst (λ (k : Held). IsFilled t dealt.ranges k.log) same (record {
@@ -159,20 +163,18 @@ dealt_from fields p texts t given book old new h rules rows within given_is kept
     held_is a b e = cc
 
 -- why a file isn't begun
-pub begin_why : (T : Type 0) (e : BeginError) (fields : List MemberData) (p : Params) (texts : List (List ℕ)) (old new : DiskState)
+pub begin_why : WholeAreLongest → (T : Type 0) (e : BeginError) (fields : List MemberData) (p : Params) (texts : List (List ℕ)) (old new : DiskState)
     → IsNotBegun fields p old new e → WhyUnfilled {T = T} fields p texts (Err (error_of_begin e))
-begin_why T begin.Memory fields p texts old new left = tt
-begin_why T (begin.RangeTooLarge len most) fields p texts old new left = record {
-  table = left.table;
-  rows = left.rows;
-  over = begun_over left.table p (all_chunks p.cluster fields texts) (limit.RangeTooLarge len most) len most left.passed_is (inl refl);
-}
-begin_why T (begin.FileTooLarge end most) fields p texts old new left = record {
-  table = left.table;
-  rows = left.rows;
-  over = begun_over left.table p (all_chunks p.cluster fields texts) (limit.FileTooLarge end most) end most left.passed_is (inr refl);
-}
-begin_why T begin.Fault fields p texts old new left = tt
+begin_why longest T begin.Memory fields p texts old new left = tt
+begin_why longest T (begin.RangeTooLarge len most) fields p texts old new left =
+    let over = begun_over longest fields left.table p left.rows (all_chunks p.cluster fields texts) (limit.RangeTooLarge len most) len most
+    left.passed_is (inl refl) in
+    record { table = left.table; rows = left.rows; over = over.0; by = by_header over.1 }
+begin_why longest T (begin.FileTooLarge end most) fields p texts old new left =
+    let over = begun_over longest fields left.table p left.rows (all_chunks p.cluster fields texts) (limit.FileTooLarge end most) end most
+    left.passed_is (inr refl) in
+    record { table = left.table; rows = left.rows; over = over.0; by = by_header over.1 }
+begin_why longest T begin.Fault fields p texts old new left = tt
 
 -- what is left of it then
 pub begin_leaves : (e : BeginError) (fields : List MemberData) (p : Params) (texts : List (List ℕ)) (old new : DiskState)
@@ -184,7 +186,7 @@ begin_leaves begin.Fault fields p texts old new left is =
     let some = left.held nothing_held is in (
       some.0,
       some.1,
-      elim (begins_shut (header_blob left.table) some.0 some.2) [
+      elim (begins_shut (header_blob left.table) some.0 (begun_partly some.2)) [
         | inl shut ↦ inl (shut_open some.0.image shut)
         | inr torn ↦ inr torn
       ],
@@ -197,7 +199,7 @@ begin_order (begin.RangeTooLarge len most) fields p old new left is = (nothing_h
 begin_order (begin.FileTooLarge end most) fields p old new left is = (nothing_held, left.untouched.place.held ∙ is, tt)
 begin_order begin.Fault fields p old new left is =
     let some = left.held nothing_held is in
-    (some.0, some.1, begins_in_order (header_blob left.table) some.0 some.2)
+    (some.0, some.1, begins_in_order (header_blob left.table) some.0 (begun_partly some.2))
 
 pub begin_fails : (e : BeginError) (fields : List MemberData) (p : Params) (old new : DiskState) → IsNotBegun fields p old new e
     → error_of_begin e ≡ Outside → 0 < new.faults

@@ -1,14 +1,16 @@
 -- A limit that the closing of a file passes is one that its chunks pass.
 use Rattle.std.proofs.Common.{◌≡◌, ◌⊎◌, ◌∙◌, inl, inr, ap, sym, subst, refl, ℕ, zero, suc, ◌+◌, ◌<◌, ◌≤◌, Bool, true, false, List, [], ◌∷◌}
-use Rattle.std.proofs.Common.{◌++◌, length, take, drop, map, Option, Some, None, append_assoc, arith}
+use Rattle.std.proofs.Common.{◌++◌, length, take, drop, map, sum_by, Option, Some, None, append_assoc, arith}
 use Rattle.std.specs.Prelude.{nat_lt, if◌then◌else◌, IsPermutation}
 use Rattle.std.specs.Int.{div_ceil}
 use Rattle.std.specs.List.{AllByRecursion, AllZip, range_with_len}
 use Rattle.std.proofs.lemmas.Bool.Decides.{nat_tests}
 use Rattle.std.proofs.lemmas.List.{length-take, length-map, take-append-drop, take-map, drop-map}
-use Rattle.std.proofs.lemmas.List.Sorted.{IsPermutation-append_comm, IsPermutation-append_left, IsPermutation-trans, length_permutation}
+use Rattle.std.proofs.lemmas.List.Sorted.{IsPermutation-refl, IsPermutation-append_comm, IsPermutation-append_left, IsPermutation-trans}
+use Rattle.std.proofs.lemmas.List.Sorted.{length_permutation}
 use Rattle.nt_types.specs.ShapeData.{MemberData}
 use Rattle.nt_types.specs.TreeData.{TreesData}
+use Rattle.nt_grammar.specs.Rows.{Rows}
 use Rattle.nt_grammar.specs.Table.{Table}
 use Rattle.nt_machine.specs.History.{Cluster}
 use Rattle.nt_book.specs.declared.meta.ClusterMeta.{ClusterMeta}
@@ -18,6 +20,7 @@ use Rattle.nt_book.specs.declared.limits.LimitError.{LimitError}
 use Rattle.nt_book.specs.declared.limits.LimitError.TheVariants as limit
 use Rattle.nt_book.specs.Books.{BookData, book_clusters}
 use Rattle.nt_book.specs.Kept.{IsBookKept}
+use Rattle.nt_container.specs.Lengths.{anchor_part_len, key_list_part_len, free_list_part_len}
 use Rattle.nt_pagelists.specs.Blobs.{blob_len}
 use Rattle.nt_layout.specs.Headers.{header_object, header_sum, clusters_place}
 use Rattle.nt_pagelists.specs.Objects.{ClusterSpan, cluster_span, list_len}
@@ -27,9 +30,9 @@ use Rattle.nt_finished.proofs.Spans.{AreInOrder, spans_in_order, order-le}
 use Rattle.nt_close.specs.Passing.{first_passed, passed_by_begin, passed_by_close}
 use Rattle.nt_dealing.specs.Dealt.{AreChunksDealt}
 use Rattle.nt_dealing.specs.Texts.{joined_chunks, chunks_of, all_chunks}
-use Rattle.nt_dealing.specs.Lengths.{page_list_len, group_count, footer_len, whole_len}
-use Rattle.nt_dealing.specs.Limits.{IsKeptOf, AreKeptOf, IsBlobLen, of_header, of_page_list, of_footer, IsOver, range_passed, file_passed}
-use Rattle.nt_dealing.specs.Limits.{begun_passed}
+use Rattle.nt_dealing.specs.Lengths.{page_list_len, page_lists_len, group_count, footer_len, whole_len}
+use Rattle.nt_dealing.specs.Limits.{IsKeptOf, AreKeptOf, IsCountedOf, AreCountedOf, IsBlobLen, of_header, of_page_list, of_footer}
+use Rattle.nt_dealing.specs.Limits.{IsOver, range_passed, file_passed}
 use Rattle.nt_store.specs.Laws.{HoldsChunks, PassedAreOver}
 use Rattle.nt_store.proofs.Whole.{BooksAreOf, book_of}
 
@@ -160,19 +163,51 @@ blob_over : (t : Table) (p : Params) (chunks : List (List TreesData)) (reached m
 blob_over t p chunks reached most len blob above (is, limit-is) =
     range_passed (subst (IsBlobLen t p chunks) (sym is) blob) limit-is (omega (arith, above, is, limit-is))
 
--- the limit that a beginning passes
-pub begun_over : (t : Table) (p : Params) (chunks : List (List TreesData)) (e : LimitError) (reached most : ℕ)
-    → passed_by_begin p.limits t ≡ Some e → Names e reached most → IsOver t p chunks reached most
-begun_over t p chunks e reached most passed names =
+-- the law of whole files that is cited here
+abbrev pub WholeAreLongest : Type 0
+WholeAreLongest =
+    (fields : List MemberData) (plain : Bool) (t : Table) (page most : ℕ) (chunks some others : List (List TreesData))
+    (ms : List ClusterMeta) → Rows fields plain t → 0 < most → IsPermutation (some ++ others) chunks → AreKeptOf t page some ms
+    → (all : List ClusterMeta) × AreCountedOf t page chunks all × (whole_len t most ms ≤ whole_len t most all)
+
+first_part : (a b c d e : ℕ) → a ≤ a + b + c + d + e
+first_part a b c d e = omega arith
+
+-- a file begins with what stands before its clusters
+place_within : (t : Table) (most : ℕ) → clusters_place t ≤ whole_len t most []
+place_within t most =
+    first_part (clusters_place t) (sum_by (λ (m : ClusterMeta). m.len) []) (page_lists_len most []) (footer_len t (group_count most 0))
+    (anchor_part_len + key_list_part_len + free_list_part_len)
+
+-- the limit that a beginning passes, and by what
+pub begun_over : WholeAreLongest → (fields : List MemberData) (t : Table) (p : Params) → Rows fields p.plain t
+    → (chunks : List (List TreesData)) (e : LimitError) (reached most : ℕ)
+    → passed_by_begin p.limits t ≡ Some e → Names e reached most
+    → IsOver t p chunks reached most × ((reached ≡ blob_len (length (header_object t))) ⊎ (reached ≡ clusters_place t))
+begun_over longest fields t p rows chunks e reached most passed names =
     elim (blobs_or (λ (n : ℕ). n) (λ (n : ℕ). n ≡ blob_len (length (header_object t))) (λ (n : ℕ). Unit {0}) p.limits (blob_len (length
     (header_object t)) ∷ []) [] (clusters_place t) e (refl, tt) (tt, tt) passed) [
-      | inl blob ↦ blob_over t p chunks reached most blob.x (of_header blob.first) blob.above (range_named e reached most blob.x
-          p.limits.range names blob.is)
+      | inl blob ↦
+          let named = range_named e reached most blob.x p.limits.range names blob.is in
+          (blob_over t p chunks reached most blob.x (of_header blob.first) blob.above named, inl (named.0 ∙ blob.first))
       | inr rest ↦
           let end = ends p.limits (clusters_place t) e rest in
           let named = file_named e reached most (clusters_place t) p.limits.file names end.1 in
-          begun_passed named.0 named.1 (omega (arith, end.0, named.0, named.1))
+          let group = p.group_range.0 in
+          let all = longest fields p.plain t p.page p.group chunks [] chunks [] rows (omega (arith, group)) (IsPermutation-refl chunks) tt in (
+            file_passed all.0 all.1 (omega (arith, named.0, place_within t p.group, all.2)) named.1
+                (omega (arith, end.0, named.0, named.1)),
+            inr named.0,
+          )
     ]
+
+-- what is kept of chunks is counted
+counted : (t : Table) (page : ℕ) (xs : List (List TreesData)) (ms : List ClusterMeta) → AreKeptOf t page xs ms
+    → AllZip (IsCountedOf t page) xs ms
+counted t page [] [] kept = tt
+counted t page [] (m ∷ ms) kept = absurd kept
+counted t page (x ∷ xs) [] kept = absurd kept
+counted t page (x ∷ xs) (m ∷ ms) kept = (inl kept.0, counted t page xs ms kept.1)
 
 module _ (lists : ListsAreAsLong) (footers : FootersAreAsLong) (files : FilesAreAsLong) (dealt_all : DealtAreAll) (books : BooksAreOf) where
   module _ (fields : List MemberData) (p : Params) (texts : List (List ℕ)) (t : Table) (book : BookData) (ranges : List (List ℕ)) (holds
@@ -229,12 +264,14 @@ module _ (lists : ListsAreAsLong) (footers : FootersAreAsLong) (files : FilesAre
                     let end = ends p.limits (file_len t book (lists_behind t book p.group)) e last in
                     let named = file_named e reached most (file_len t book (lists_behind t book p.group)) p.limits.file names end.1 in
                     let long = files true t book p.group (book_of books fields p texts t book ranges holds) some in
-                    file_passed all-dealt.2.0 all-dealt.2.1 (omega (arith, named.0, long, all-dealt.2.2)) named.1 (omega (
-                      arith,
-                      end.0,
-                      named.0,
-                      named.1,
-                    ))
+                    let ms = metas (book_clusters book) in
+                    file_passed ms
+                    (record {
+                      order = holds.are.dealt;
+                      permuted = all-dealt.0;
+                      counted = counted t p.page holds.are.dealt ms all-dealt.1;
+                    })
+                    (omega (arith, named.0, long)) named.1 (omega (arith, end.0, named.0, named.1))
               ]
         ]
 

@@ -1,5 +1,5 @@
 -- The line of an order, printed before a filled file is closed.
-use Rattle.std.proofs.Common.{◌≡◌, ◌∙◌, inl, inr, ap, sym, refl, ℕ, List, [], ◌++◌, take, drop, Option, Some, Result, Ok, Err}
+use Rattle.std.proofs.Common.{◌≡◌, ◌∙◌, inl, inr, ap, sym, ℕ, List, [], take, drop, Option, Some, Result, Ok, Err}
 use Rattle.std.proofs.lemmas.List.{append-nil, take-append-drop}
 use Rattle.nt_types.specs.ShapeData.{MemberData}
 use Rattle.nt_outside.specs.declared.stream.Stream.TheVariants.{ToOut}
@@ -10,25 +10,25 @@ use Rattle.nt_book.specs.Books.{BookData}
 use Rattle.nt_dealing.specs.Dealt.{commit_order}
 use Rattle.nt_store.specs.declared.error.StoreError.{StoreError}
 use Rattle.nt_store.specs.declared.error.StoreError.TheVariants.{Outside, Memory, Schema, Line, Limit}
-use Rattle.nt_store.specs.Orders.{order_line}
+use Rattle.nt_store.specs.Orders.{order_line, IsOrderOf}
 use Rattle.nt_store.specs.Whole.{IsStored}
-use Rattle.nt_store.specs.Writing.{HoldsNow, PrintsOrderFront, PrintsOrder, FileTold}
+use Rattle.nt_store.specs.Writing.{HoldsNow, PrintsOrderFront, prints_nothing, prints_front, PrintsOrder, FileTold}
 use Rattle.nt_store.specs.Crashes.{CrashLeaves, EndsAsWhole, CrashesTo}
 use Rattle.nt_store.specs.Filling.{WhyUnfilled, FillLeaves, CloseLeaves}
 use Rattle.nt_store.proofs.Crashing.{leaves_as}
 
--- nothing is printed of a line
-pub none_printed : (w : World) (new : Option World) → new ≡ Some w → PrintsOrderFront w new
-none_printed w new is = ([], [], order_line [], is ∙ ap (λ (l : List ℕ). Some (record w { out = l })) (sym (append-nil w.out)), refl)
+module _ (fields : List MemberData) (p : Params) (texts : List (List ℕ)) (w : World) (new : Option World) where
+  -- the front of the line of an order is printed
+  pub front_printed : (order line : List ℕ) (n : ℕ) → IsOrderOf p fields texts order → line ≡ order_line order
+      → new ≡ Some (prints ToOut (take n line) w) → PrintsOrderFront fields p texts w new
+  front_printed order line n of line-is is =
+      prints_front order (take n line) (drop n line) of is (sym line-is ∙ sym (take-append-drop n line))
 
--- or the front of it
-pub front_printed : (order line : List ℕ) (n : ℕ) (w : World) (new : Option World) → line ≡ order_line order
-    → new ≡ Some (prints ToOut (take n line) w) → PrintsOrderFront w new
-front_printed order line n w new line-is is = (order, take n line, drop n line, is, sym line-is ∙ sym (take-append-drop n line))
-
--- or all of it
-whole_printed : (book : BookData) (w : World) (new : Option World) → PrintsOrder book w new → PrintsOrderFront w new
-whole_printed book w new is = (commit_order book, order_line (commit_order book), [], is, sym (append-nil (order_line (commit_order book))))
+  -- or all of it
+  whole_printed : (book : BookData) → IsOrderOf p fields texts (commit_order book) → PrintsOrder book w new
+      → PrintsOrderFront fields p texts w new
+  whole_printed book of is =
+      prints_front (commit_order book) (order_line (commit_order book)) [] of is (sym (append-nil (order_line (commit_order book))))
 
 -- the whole line is printed
 pub line_printed : (book : BookData) (line : List ℕ) (w : World) (new : Option World) → line ≡ order_line (commit_order book)
@@ -39,23 +39,27 @@ module _ (fields : List MemberData) (p : Params) (texts : List (List ℕ)) (w : 
   -- a file that isn't filled
   pub unfilled_told : (e : StoreError) → new ≡ Some w → WhyUnfilled {T = Unit {0}} fields p texts (Err e)
       → FillLeaves fields p texts held (Err e) → FileTold fields p texts w new held (Err e)
-  unfilled_told Outside is why left = inl (none_printed w new is, left)
-  unfilled_told Memory is why left = (none_printed w new is, left)
-  unfilled_told (Limit reached most) is why left = (why, none_printed w new is, left)
+  unfilled_told Outside is why left = inl (prints_nothing is, left)
+  unfilled_told Memory is why left = (prints_nothing is, left)
+  unfilled_told (Limit reached most) is why left = (why, prints_nothing is, left)
   unfilled_told (Line input line kind) is why left = (why, is, left)
   unfilled_told (Schema line kind) is why left = absurd why
 
   -- one that is closed behind its line
-  pub closed_told : (book : BookData) (result : Result Unit StoreError) → PrintsOrder book w new
+  pub closed_told : (book : BookData) (result : Result Unit StoreError) → IsOrderOf p fields texts (commit_order book)
+      → PrintsOrder book w new
       → CloseLeaves fields p texts (commit_order book) held result → FileTold fields p texts w new held result
-  closed_told book (Ok value) printed left = record { order = commit_order book; file = left; printed = printed }
-  closed_told book (Err Outside) printed (h, is, inl begins) = inl (whole_printed book w new printed, (h, is, inl begins))
-  closed_told book (Err Outside) printed (h, is, inr stored) =
-      inr (record { order = commit_order book; file = (h, is, stored); printed = printed })
-  closed_told book (Err Memory) printed left = (whole_printed book w new printed, left)
-  closed_told book (Err (Limit reached most)) printed (passes, left) = (passes, whole_printed book w new printed, left)
-  closed_told book (Err (Line input line kind)) printed left = absurd left
-  closed_told book (Err (Schema line kind)) printed left = absurd left
+  closed_told book (Ok value) of printed (h, is, stored) =
+      record { order = commit_order book; file = (h, is, stored.0); printed = printed }
+  closed_told book (Err Outside) of printed (h, is, inl begins) =
+      inl (whole_printed fields p texts w new book of printed, (h, is, inl begins))
+  closed_told book (Err Outside) of printed (h, is, inr stored) =
+      inr (record { order = commit_order book; file = (h, is, stored.0); printed = printed }, stored.1)
+  closed_told book (Err Memory) of printed left = (whole_printed fields p texts w new book of printed, left)
+  closed_told book (Err (Limit reached most)) of printed (passes, left) =
+      (passes, whole_printed fields p texts w new book of printed, left)
+  closed_told book (Err (Line input line kind)) of printed left = absurd left
+  closed_told book (Err (Schema line kind)) of printed left = absurd left
 
   -- what a crash leaves of that
   pub closed_crashes : (book : BookData) (result : Result Unit StoreError) → PrintsOrder book w new

@@ -2,7 +2,7 @@
 use Rattle.std.specs.Prelude.{⊤, ◌≡◌, ◌⊎◌, ℕ, ◌<◌, List, ◌++◌, length, Option, Some, Result, Ok, Err, IfOk, IfErr, IsErrOf}
 use Rattle.std.specs.List.{concat}
 use Rattle.nt_types.specs.ShapeData.{MemberData}
-use Rattle.nt_outside.specs.Order.{FirstByteLast, BeginsOpen}
+use Rattle.nt_outside.specs.Order.{FirstByteLast, BeginsOpen, EndsInSync}
 use Rattle.nt_outside.specs.Held.{Held}
 use Rattle.nt_outside.specs.Disk.{DiskState}
 use Rattle.nt_outside.specs.Source.{SourceState}
@@ -10,13 +10,12 @@ use Rattle.nt_grammar.specs.Table.{Table}
 use Rattle.nt_book.specs.declared.params.Params.{Params}
 use Rattle.nt_book.specs.Books.{BookData}
 use Rattle.nt_layout.specs.Headers.{file_begun}
-use Rattle.nt_close.specs.Laws.{IsShut}
+use Rattle.nt_close.specs.Laws.{IsShut, EndsOverFirst}
 use Rattle.nt_close.specs.Closing.{IsClosable}
 use Rattle.nt_close.specs.Spoiled.{NoneSpoiled}
 use Rattle.nt_cuts.specs.Cuts.{LeavesUnfinished}
 use Rattle.nt_crash.specs.Fillings.{IsFilled}
 use Rattle.nt_dealing.specs.Dealt.{commit_order}
-use Rattle.nt_dealing.specs.Texts.{IsFirstBad}
 use Rattle.nt_contexts.specs.Contexts.{TellTexts}
 use Rattle.nt_store.specs.declared.error.StoreError.{StoreError}
 use Rattle.nt_store.specs.declared.error.StoreError.TheVariants.{Outside, Memory, Schema, Line, Limit}
@@ -24,7 +23,7 @@ use Rattle.nt_store.specs.Whole.{IsStored}
 use Rattle.nt_store.specs.Laws.{HoldsChunks}
 use Rattle.nt_store.specs.Crashes.{CrashLeaves}
 use Rattle.nt_store.specs.Worlds.{SomeFailed}
-use Rattle.nt_store.specs.Writing.{HoldsNow, NeverBegan, PassesLimitOf, IsInOrderFrom, KeepsOrder}
+use Rattle.nt_store.specs.Writing.{HoldsNow, NeverBegan, PassesLimitOf, FailsAtLine, IsInOrderFrom, KeepsOrder}
 
 -- a file is filled: it was begun for these fields, its clusters are the chunks of the texts, dealt out, and it can't pass for finished
 pub record IsFilledFile (fields : List MemberData) (p : Params) (texts : List (List ℕ)) (t : Table) (book : BookData) (h : Held) : Type 0
@@ -42,7 +41,7 @@ WhyUnfilled fields p texts (Ok made) = ⊤
 WhyUnfilled fields p texts (Err Outside) = ⊤
 WhyUnfilled fields p texts (Err Memory) = ⊤
 WhyUnfilled fields p texts (Err (Limit reached most)) = PassesLimitOf fields p texts reached most
-WhyUnfilled fields p texts (Err (Line input line kind)) = IsFirstBad fields texts input line kind
+WhyUnfilled fields p texts (Err (Line input line kind)) = FailsAtLine fields p texts input line kind
 WhyUnfilled fields p texts (Err (Schema line kind)) = ⊥
 
 -- what is left of it: filled, by this book and schema; else it can't pass for finished, or its first append failed
@@ -81,10 +80,12 @@ IsOfNoText (Limit reached most) = ⊤
 IsOfNoText (Line input line kind) = ⊥
 IsOfNoText (Schema line kind) = ⊥
 
--- what is left of a filled file by its closing: it is stored, or it can't pass for finished; after a failure either
+-- what is left of a filled file by its closing: it is stored, and its last step was a sync; or it can't pass for finished. After a failure
+-- it is one of these: stored only where the last step was over its first byte, or a sync behind that failed
 abbrev pub CloseLeaves : List MemberData → Params → List (List ℕ) → List ℕ → Option Held → Result Unit StoreError → Type 0
-CloseLeaves fields p texts order held (Ok done) = HoldsNow held (λ h. IsStored p fields texts order h.image)
-CloseLeaves fields p texts order held (Err Outside) = HoldsNow held (λ h. BeginsOpen h.image ⊎ IsStored p fields texts order h.image)
+CloseLeaves fields p texts order held (Ok done) = HoldsNow held (λ h. IsStored p fields texts order h.image × EndsInSync h.log)
+CloseLeaves fields p texts order held (Err Outside) =
+    HoldsNow held (λ h. BeginsOpen h.image ⊎ (IsStored p fields texts order h.image × EndsOverFirst h.log))
 CloseLeaves fields p texts order held (Err Memory) = HoldsNow held (λ h. BeginsOpen h.image)
 CloseLeaves fields p texts order held (Err (Limit reached most)) =
     PassesLimitOf fields p texts reached most × HoldsNow held (λ h. BeginsOpen h.image)

@@ -24,6 +24,7 @@ use Rattle.nt_close.specs.Closing.{AreRangesOf, StaysWithin}
 use Rattle.nt_dealing.specs.Dealt.{AreChunksDealt, commit_order}
 use Rattle.nt_dealing.specs.Texts.{AreSound, chunks_of, all_chunks}
 use Rattle.nt_dealing.specs.Limits.{IsOver}
+use Rattle.nt_dealing.specs.Failing.{CommitsFit}
 use Rattle.nt_contexts.specs.Contexts.{IsBookOn}
 use Rattle.nt_store.specs.Whole.{IsStored}
 use Rattle.nt_store.specs.Writing.{IsPassedAs}
@@ -40,6 +41,7 @@ pub record HoldsChunks (fields : List MemberData) (p : Params) (texts : List (Li
   pub short : AllByRecursion (λ (c : Cluster ClusterMeta). c.len ≤ p.limits.range) (book_clusters book)
   pub sound : AreSound fields texts
   pub are : AreChunksDealt t p.page (chunks_of p.cluster fields texts) book ranges
+  pub fit : CommitsFit t p (all_chunks p.cluster fields texts)
 
 -- its ranges are as long as the book says
 abbrev pub RangesAreAsLong : Type 0

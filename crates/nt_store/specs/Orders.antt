@@ -1,7 +1,12 @@
 -- The line that tells in which order the clusters of a file were committed.
 use Rattle.std.specs.Prelude.{◌≡◌, ℕ, List, [], ◌∷◌, ◌++◌, codes, decimal}
 use Rattle.std.specs.List.{flat_map}
+use Rattle.nt_types.specs.ShapeData.{MemberData}
 use Rattle.nt_outside.specs.World.{World}
+use Rattle.nt_machine.specs.Deal.{Uses}
+use Rattle.nt_book.specs.declared.params.Params.{Params}
+use Rattle.nt_dealing.specs.Texts.{AreSound, chunks_of}
+use Rattle.nt_store.specs.Texts.{AreTexts}
 
 -- a number behind a space
 abbrev pub number_text : ℕ → List ℕ
@@ -11,10 +16,14 @@ number_text number = 32 ∷ decimal number
 abbrev pub order_line : List ℕ → List ℕ
 order_line order = (codes "order" ++ flat_map number_text order) ++ 10 ∷ []
 
--- out gained the front of such a line
-pub record GainsOrderFront (w w' : World) : Type 0 where
-  pub order : List ℕ
-  pub printed : List ℕ
-  pub left : List ℕ
-  pub out : w'.out ≡ w.out ++ printed
-  pub line : order_line order ≡ printed ++ left
+-- the chunks of these texts, none of which has a bad line, may be committed in this order: each text stands in it as often as it has chunks
+pub record IsOrderOf (p : Params) (fields : List MemberData) (texts : List (List ℕ)) (order : List ℕ) : Type 0 where
+  pub sound : AreSound fields texts
+  pub uses : Uses order (chunks_of p.cluster fields texts)
+
+-- out gained nothing, or the front of the line of an order of all chunks of the texts
+pub data GainsOrderFront (schema : List ℕ) (inputs : List (List ℕ)) (p : Params) (w w' : World) : Type 0 where
+  gains_nothing : w'.out ≡ w.out → GainsOrderFront schema inputs p w w'
+  gains_front : (fields : List MemberData) (texts : List (List ℕ)) (order printed left : List ℕ) → AreTexts w schema inputs fields texts
+      → IsOrderOf p fields texts order → w'.out ≡ w.out ++ printed → order_line order ≡ printed ++ left
+      → GainsOrderFront schema inputs p w w'

@@ -6,17 +6,20 @@ use Rattle.nt_event.specs.declared.fault.TextKind.{TextKind}
 use Rattle.nt_grammar.specs.Table.{Table}
 use Rattle.nt_grammar.specs.Rows.{Rows}
 use Rattle.nt_book.specs.declared.params.Params.{Params}
+use Rattle.nt_close.specs.Laws.{EndsOverFirst}
 use Rattle.nt_outside.specs.World.{World, Asked, Text, Out, HostState, file}
 use Rattle.nt_store.specs.declared.error.StoreError.{StoreError}
 use Rattle.nt_store.specs.declared.error.StoreError.TheVariants.{Outside, Memory, Schema, Line, Limit}
 use Rattle.nt_store.specs.Orders.{order_line, GainsOrderFront}
 use Rattle.nt_store.specs.Worlds.{IsThereWith, AsksFor, HasStoreCause, LeavesOut, KeepsFiles, OthersStay, MakesDisk, LeavesOpen}
-use Rattle.nt_store.specs.Worlds.{IsLeftByFailure, IsLeftByMemory, WritesInOrder}
+use Rattle.nt_store.specs.Worlds.{IsLeftByFailure, IsLeftByMemory, WritesInOrder, IsLeftAfter}
 use Rattle.nt_store.specs.Texts.{AreTexts}
 use Rattle.nt_store.specs.Whole.{IsStored}
 use Rattle.nt_store.specs.Crashes.{CrashTold}
-use Rattle.nt_dealing.specs.Texts.{IsFirstBad, all_chunks}
+use Rattle.nt_dealing.specs.Texts.{all_chunks}
 use Rattle.nt_dealing.specs.Limits.{IsOver}
+use Rattle.nt_dealing.specs.Failing.{FailsByLine}
+use Rattle.nt_store.specs.Writing.{PassesBy}
 
 -- the file is whole, and out gained the line of its order
 pub record StoresWhole (out schema : List ℕ) (inputs : List (List ℕ)) (p : Params) (w w' : World) : Type 0 where
@@ -30,14 +33,16 @@ pub record StoresWhole (out schema : List ℕ) (inputs : List (List ℕ)) (p : P
   pub stored : IsStored p fields texts order bytes
   pub printed : w'.out ≡ w.out ++ order_line order
 
--- an input has this first bad line, and none of a lower number has one
-pub record HasBadLine (schema : List ℕ) (inputs : List (List ℕ)) (w : World) (input line : ℕ) (kind : TextKind) : Type 0 where
+-- an input has this first bad line, before which nothing fails
+pub record HasBadLine (schema : List ℕ) (inputs : List (List ℕ)) (p : Params) (w : World) (input line : ℕ) (kind : TextKind) : Type 0 where
   pub fields : List MemberData
   pub texts : List (List ℕ)
   pub are : AreTexts w schema inputs fields texts
-  pub first : IsFirstBad fields texts input line kind
+  pub table : Table
+  pub rows : Rows fields p.plain table
+  pub fails : FailsByLine table fields p texts input line kind
 
--- the chunks of the entries before each input's first bad line pass this limit
+-- the chunks of the entries before each input's first bad line pass this limit, which is the first that anything fails by
 pub record IsTooLarge (schema : List ℕ) (inputs : List (List ℕ)) (p : Params) (w : World) (reached limit : ℕ) : Type 0 where
   pub fields : List MemberData
   pub texts : List (List ℕ)
@@ -45,18 +50,22 @@ pub record IsTooLarge (schema : List ℕ) (inputs : List (List ℕ)) (p : Params
   pub table : Table
   pub rows : Rows fields p.plain table
   pub over : IsOver table p (all_chunks p.cluster fields texts) reached limit
+  pub by : PassesBy table fields p texts reached limit
 
--- what is left, by the answer
+-- what is left, by the answer. Where the outside failed and the file is whole nevertheless, its last step was over its first byte, or a
+-- sync behind that failed
 abbrev pub StoreTold : List ℕ → List ℕ → List (List ℕ) → Params → World → World → Result Unit StoreError → Type 0
 StoreTold out schema inputs p w w' (Ok done) = StoresWhole out schema inputs p w w'
-StoreTold out schema inputs p w w' (Err Outside) = (IsLeftByFailure out w w' × GainsOrderFront w w') ⊎ StoresWhole out schema inputs p w w'
-StoreTold out schema inputs p w w' (Err Memory) = IsLeftByMemory out w w' × GainsOrderFront w w'
+StoreTold out schema inputs p w w' (Err Outside) =
+    (IsLeftByFailure out w w' × GainsOrderFront schema inputs p w w')
+    ⊎ (StoresWhole out schema inputs p w w' × IsLeftAfter EndsOverFirst out w')
+StoreTold out schema inputs p w w' (Err Memory) = IsLeftByMemory out w w' × GainsOrderFront schema inputs p w w'
 StoreTold out schema inputs p w w' (Err (Schema line kind)) =
     IsThereWith (λ text. schema_text text ≡ Err (at_line line kind)) (file w schema) × KeepsFiles w w' × (w'.out ≡ w.out)
-StoreTold out schema inputs p w w' (Err (Line input line kind)) = HasBadLine schema inputs w input line kind × LeavesOpen out w w' ×
+StoreTold out schema inputs p w w' (Err (Line input line kind)) = HasBadLine schema inputs p w input line kind × LeavesOpen out w w' ×
     (w'.out ≡ w.out)
 StoreTold out schema inputs p w w' (Err (Limit reached limit)) = IsTooLarge schema inputs p w reached limit × LeavesOpen out w w' ×
-    GainsOrderFront w w'
+    GainsOrderFront schema inputs p w w'
 
 -- the objects that are asked for
 abbrev pub asked_for : List ℕ → List ℕ → List (List ℕ) → List Asked

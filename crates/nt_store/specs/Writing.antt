@@ -1,5 +1,5 @@
 -- What the writing of a file on a disk leaves of it and of out, before the disk is back.
-use Rattle.std.specs.Prelude.{◌≡◌, ◌⊎◌, ℕ, ◌-◌, ◌<◌, ◌≤◌, List, [], ◌∷◌, ◌++◌, Option, Some, Result, Ok, Err}
+use Rattle.std.specs.Prelude.{◌≡◌, ◌⊎◌, ℕ, ◌-◌, ◌<◌, ◌≤◌, List, [], ◌∷◌, ◌++◌, length, Option, Some, Result, Ok, Err}
 use Rattle.nt_types.specs.ShapeData.{MemberData}
 use Rattle.nt_grammar.specs.Table.{Table}
 use Rattle.nt_grammar.specs.Rows.{Rows}
@@ -13,17 +13,20 @@ use Rattle.nt_outside.specs.World.{World, HostState, prints}
 use Rattle.nt_book.specs.declared.params.Params.{Params}
 use Rattle.nt_book.specs.Books.{BookData}
 use Rattle.nt_container.specs.Spelling.{begun}
-use Rattle.nt_layout.specs.Headers.{header_blob}
+use Rattle.nt_layout.specs.Headers.{header_blob, header_object, clusters_place}
+use Rattle.nt_pagelists.specs.Blobs.{blob_len}
+use Rattle.nt_event.specs.declared.fault.TextKind.{TextKind}
 use Rattle.nt_close.specs.Steps.{begun_on}
-use Rattle.nt_close.specs.Laws.{IsShut}
+use Rattle.nt_close.specs.Laws.{IsShut, EndsOverFirst}
 use Rattle.nt_book.specs.declared.limits.LimitError.{LimitError}
 use Rattle.nt_book.specs.declared.limits.LimitError.TheVariants as limit
 use Rattle.nt_dealing.specs.Dealt.{commit_order}
 use Rattle.nt_store.specs.declared.error.StoreError.{StoreError}
 use Rattle.nt_store.specs.declared.error.StoreError.TheVariants.{Outside, Memory, Schema, Line, Limit}
-use Rattle.nt_store.specs.Orders.{order_line}
-use Rattle.nt_dealing.specs.Texts.{IsFirstBad, all_chunks}
+use Rattle.nt_store.specs.Orders.{order_line, IsOrderOf}
+use Rattle.nt_dealing.specs.Texts.{AreSound, all_chunks}
 use Rattle.nt_dealing.specs.Limits.{IsOver}
+use Rattle.nt_dealing.specs.Failing.{CommitsFit, FailsByLine, FailsByChunk}
 use Rattle.nt_store.specs.Whole.{IsStored}
 
 -- a fact of what a disk holds now
@@ -34,9 +37,11 @@ HoldsNow held P = (h : Held) × (held ≡ Some h) × P h
 abbrev pub NeverBegan : Held → Type 0
 NeverBegan h = (n : ℕ) × (h.log ≡ FailedAppend n ∷ [])
 
--- out gained the front of the line of an order
-abbrev pub PrintsOrderFront : World → Option World → Type 0
-PrintsOrderFront w new = (order printed left : List ℕ) × (new ≡ Some (prints ToOut printed w)) × (order_line order ≡ printed ++ left)
+-- out gained nothing, or the front of the line of an order of all chunks of these texts
+pub data PrintsOrderFront (fields : List MemberData) (p : Params) (texts : List (List ℕ)) (w : World) (new : Option World) : Type 0 where
+  prints_nothing : new ≡ Some w → PrintsOrderFront fields p texts w new
+  prints_front : (order printed left : List ℕ) → IsOrderOf p fields texts order → new ≡ Some (prints ToOut printed w)
+      → order_line order ≡ printed ++ left → PrintsOrderFront fields p texts w new
 
 -- out gained the whole line of a book's order
 abbrev pub PrintsOrder : BookData → World → Option World → Type 0
@@ -53,22 +58,38 @@ pub record EndsWhole (fields : List MemberData) (p : Params) (texts : List (List
   pub file : HoldsNow held (λ h. IsStored p fields texts order h.image)
   pub printed : new ≡ Some (prints ToOut (order_line order) w)
 
--- the chunks of the texts pass this limit
+-- what comes first in the writing of a file that passes a limit: its header; a chunk as it is committed, before which nothing fails; or, once
+-- all chunks of texts without a bad line are committed, what stands behind them
+pub data PassesBy (t : Table) (fields : List MemberData) (p : Params) (texts : List (List ℕ)) (reached most : ℕ) : Type 0 where
+  by_header : (reached ≡ blob_len (length (header_object t))) ⊎ (reached ≡ clusters_place t) → PassesBy t fields p texts reached most
+  by_chunk : FailsByChunk t fields p texts reached most → PassesBy t fields p texts reached most
+  by_end : AreSound fields texts → CommitsFit t p (all_chunks p.cluster fields texts) → PassesBy t fields p texts reached most
+
+-- the chunks of the texts pass this limit, which is the first that anything fails by
 pub record PassesLimitOf (fields : List MemberData) (p : Params) (texts : List (List ℕ)) (reached most : ℕ) : Type 0 where
   pub table : Table
   pub rows : Rows fields p.plain table
   pub over : IsOver table p (all_chunks p.cluster fields texts) reached most
+  pub by : PassesBy table fields p texts reached most
 
--- what the writing of a file from its fields and texts leaves, by the answer
+-- a text has this first bad line, before which nothing fails
+pub record FailsAtLine (fields : List MemberData) (p : Params) (texts : List (List ℕ)) (input line : ℕ) (kind : TextKind) : Type 0 where
+  pub table : Table
+  pub rows : Rows fields p.plain table
+  pub fails : FailsByLine table fields p texts input line kind
+
+-- what the writing of a file from its fields and texts leaves, by the answer. Where the outside failed and the file is whole nevertheless,
+-- the last step was over its first byte, or a sync behind that failed
 abbrev pub FileTold : List MemberData → Params → List (List ℕ) → World → Option World → Option Held → Result Unit StoreError → Type 0
 FileTold fields p texts w new held (Ok done) = EndsWhole fields p texts w new held
 FileTold fields p texts w new held (Err Outside) =
-    (PrintsOrderFront w new × HoldsNow held (λ h. BeginsOpen h.image ⊎ NeverBegan h)) ⊎ EndsWhole fields p texts w new held
-FileTold fields p texts w new held (Err Memory) = PrintsOrderFront w new × HoldsNow held (λ h. BeginsOpen h.image)
+    (PrintsOrderFront fields p texts w new × HoldsNow held (λ h. BeginsOpen h.image ⊎ NeverBegan h))
+    ⊎ ((ends : EndsWhole fields p texts w new held) × EndsOverFirst ends.file.0.log)
+FileTold fields p texts w new held (Err Memory) = PrintsOrderFront fields p texts w new × HoldsNow held (λ h. BeginsOpen h.image)
 FileTold fields p texts w new held (Err (Limit reached most)) =
-    PassesLimitOf fields p texts reached most × PrintsOrderFront w new × HoldsNow held (λ h. BeginsOpen h.image)
+    PassesLimitOf fields p texts reached most × PrintsOrderFront fields p texts w new × HoldsNow held (λ h. BeginsOpen h.image)
 FileTold fields p texts w new held (Err (Line input line kind)) =
-    IsFirstBad fields texts input line kind × (new ≡ Some w) × HoldsNow held (λ h. BeginsOpen h.image)
+    FailsAtLine fields p texts input line kind × (new ≡ Some w) × HoldsNow held (λ h. BeginsOpen h.image)
 FileTold fields p texts w new held (Err (Schema line kind)) = ⊥
 
 -- steps that were in order still are, where the first byte was 0

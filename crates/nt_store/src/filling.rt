@@ -15,6 +15,7 @@ use crate::settings::Settings;
 use nt_book::Book;
 use nt_close::begin;
 use nt_contexts::{Ended, Shared, run_contexts};
+use nt_dealing::whole_files_are_longest;
 use nt_outside::{Disk, Gate, Source};
 use nt_schema::Schema;
 use nt_types::Fields;
@@ -94,6 +95,7 @@ where
 {
     let mut disk = disk;
     crashes_leave_chunks_or_none();
+    whole_files_are_longest();
     match begin(settings.alloc, &mut disk, fields, settings.params) {
         Ok(begun) => fill_begun(rt, disk, begun, fields, sources, settings),
         Err(error) => (disk, sources, Err(StoreError::from(error))),

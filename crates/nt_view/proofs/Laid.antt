@@ -14,9 +14,9 @@ use Rattle.nt_view.specs.declared.page_place.PagePlace.{PagePlace}
 use Rattle.nt_view.specs.declared.place.PageAt.{PageAt}
 use Rattle.nt_view.specs.Loads.{loaded_len}
 use Rattle.nt_view.specs.Loaded.{elements_with, kind_with}
-use Rattle.nt_view.specs.Pages.{elements_of_pages, count_of, ArePages}
+use Rattle.nt_view.specs.Pages.{elements_of_pages, count_of, ArePages, IsSplitIndex}
 use Rattle.nt_view.specs.Stores.{lens_of}
-use Rattle.nt_view.specs.Table.{laid_from, elements_counted, pages_at, IsColumnAt, LieInPages, AreAddedUp, IsSplitIndex}
+use Rattle.nt_view.specs.Table.{laid_from, elements_counted, pages_at, IsColumnAt, LieInPages, AreAddedUp}
 use Rattle.nt_view.proofs.Taking.{count-taken}
 use Rattle.nt_view.proofs.Columns.{elements-laid, counts-laid, length-laid, count-laid, at-laid, first-laid, end-laid}
 

@@ -8,3 +8,5 @@ pub mod Zeroed
 pub mod Assembled
 pub mod Places
 pub mod Elements
+pub mod InTable
+pub mod Answered

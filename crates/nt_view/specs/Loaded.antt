@@ -1,8 +1,9 @@
 -- Pages that were loaded, and what columns they give.
 -- RNTuple Binary Format Specification 1.0.0.0, section Column Description.
-use Rattle.std.specs.Prelude.{ℕ, ◌≡◌, ◌⊎◌, ◌+◌, ◌<◌, nat_eq, List, [], ◌∷◌, ◌++◌, length, take, replicate}
+use Rattle.std.specs.Prelude.{ℕ, ◌≡◌, ◌⊎◌, ◌+◌, ◌<◌, ◌≤◌, nat_eq, List, [], ◌∷◌, ◌++◌, length, take, replicate}
 use Rattle.std.specs.Prelude.{if◌then◌else◌, map, Option, Some, None, slice_index_or, All}
-use Rattle.std.specs.List.{flat_map}
+use Rattle.std.specs.List.{flat_map, sum}
+use Rattle.nt_types.specs.ColumnTable.{bits_of}
 use Rattle.nt_types.specs.declared.column_type.ColumnType.{ColumnType}
 use Rattle.nt_encode.specs.Pages.{page_size}
 use Rattle.nt_encode.specs.Elements.{Element, plain, page_elements}
@@ -50,6 +51,20 @@ loaded_pages l k = pages_with k l.pages l.stored
 -- its elements: those of its pages, or zeros, whose tags are 0
 abbrev pub loaded_elements : Loaded → ℕ → List Element
 loaded_elements l k = elements_with (loaded_pages l k) ++ replicate (zeros_listed 0 k l.zeros) (plain 0)
+
+-- its type, that of its first page; none of a column without pages
+abbrev pub loaded_kind : Loaded → ℕ → Option ColumnType
+loaded_kind l k = kind_with (loaded_pages l k)
+
+-- the elements from one place to before another lie in one of pages that have so many elements, or there are none
+abbrev pub LieInOnePage : List ℕ → ℕ → ℕ → Type 0
+LieInOnePage counts from to =
+    (from ≡ to) ⊎ ((j : ℕ) × (j < length counts) × (sum (take j counts) ≤ from) × (to ≤ sum (take (j + 1) counts)))
+
+-- elements of a column lie in one page of 8-bit elements, or there are none: such are lent as they lie
+abbrev pub AreLent : Loaded → ℕ → ℕ → ℕ → Type 0
+AreLent l k from to = (from ≡ to) ⊎ ((kind : ColumnType) × (loaded_kind l k ≡ Some kind) × (bits_of kind ≡ 8)
+    × LieInOnePage (counts_with (loaded_pages l k)) from to)
 
 -- a page may follow another: it is of the same column and its type, or of a column with a higher id
 abbrev pub MayStandBehind : PagePlace → PagePlace → Type 0

@@ -2,8 +2,7 @@
 use Rattle.std.specs.Prelude.{ℕ, ◌≡◌, ◌⊎◌, ◌+◌, ◌<◌, ◌≤◌, List, length, take, drop, slice_index_or}
 use Rattle.std.specs.List.{All, Contains, flat_map, sum_by}
 use Rattle.nt_types.specs.declared.column_type.ColumnType.{ColumnType}
-use Rattle.nt_types.specs.ColumnTable.{bits_of}
-use Rattle.nt_encode.specs.Parts.{StandsAlone}
+use Rattle.nt_types.specs.declared.column_type.ColumnType.TheVariants.{SplitIndex32, SplitIndex64}
 use Rattle.nt_encode.specs.Pages.{page_size}
 use Rattle.nt_encode.specs.Elements.{Element, page_elements}
 use Rattle.nt_view.specs.declared.place.PageAt.{PageAt}
@@ -33,15 +32,20 @@ pub record ArePages (kind : ColumnType) (store : List ℕ) (ps : List PageAt) : 
   pub lie : All (λ (p : PageAt). p.at + page_size kind p.count ≤ length store) ps
   pub follow : Follow ps
 
+-- a type whose numbers are sums of those before them in the page
+abbrev pub IsSplitIndex : ColumnType → Type 0
+IsSplitIndex kind = (kind ≡ SplitIndex32) ⊎ (kind ≡ SplitIndex64)
+
 -- such pages, of a type whose values stand each for itself
 pub record AreOwnPages (kind : ColumnType) (store : List ℕ) (ps : List PageAt) : Type 0 where
   pub pages : ArePages kind store ps
-  pub alone : StandsAlone kind
+  pub single : IsSplitIndex kind → ⊥
 
--- such pages, of a type of 8 bits
-pub record AreBytePages (kind : ColumnType) (store : List ℕ) (ps : List PageAt) : Type 0 where
-  pub own : AreOwnPages kind store ps
-  pub width : bits_of kind ≡ 8
+-- a part of a page of so many values, each of which stands for itself
+pub record IsOwnPart (kind : ColumnType) (count : ℕ) (bytes : List ℕ) (from to : ℕ) : Type 0 where
+  pub size : length bytes ≡ page_size kind count
+  pub single : IsSplitIndex kind → ⊥
+  pub within : to ≤ count
 
 -- pages have the elements from one place to before another
 pub record HaveRange (ps : List PageAt) (from to : ℕ) : Type 0 where

@@ -1,18 +1,18 @@
 -- Where the elements of each column lie: in pages of the store, in numbers that were added up, or nowhere, where they are zeros.
-use Rattle.std.specs.Prelude.{ℕ, ◌≡◌, ◌⊎◌, ◌+◌, ◌^◌, ◌<◌, ◌≤◌, List, [], ◌∷◌, ◌++◌, length, take, drop, map, slice_index_or, All, Some}
+use Rattle.std.specs.Prelude.{ℕ, ◌≡◌, ◌+◌, ◌^◌, ◌<◌, ◌≤◌, List, [], ◌∷◌, ◌++◌, length, take, drop, map, slice_index_or, replicate, All, Some}
 use Rattle.std.specs.List.{slice_range, sum_by, zip}
 use Rattle.nt_types.specs.declared.column_type.ColumnType.{ColumnType}
-use Rattle.nt_types.specs.declared.column_type.ColumnType.TheVariants.{SplitIndex32, SplitIndex64}
+use Rattle.nt_types.specs.ColumnTable.{bits_of}
 use Rattle.nt_encode.specs.Pages.{page_size}
-use Rattle.nt_encode.specs.Elements.{Element}
-use Rattle.nt_column.specs.Column.{Buffer, empty, with_more}
+use Rattle.nt_encode.specs.Elements.{Element, plain}
+use Rattle.nt_column.specs.Column.{Buffer, empty, with_more, columns_of, elements_at}
 use Rattle.nt_view.specs.declared.page_place.PagePlace.{PagePlace}
 use Rattle.nt_view.specs.declared.page_place.ZeroColumn.{ZeroColumn}
 use Rattle.nt_view.specs.declared.place.PageAt.{PageAt}
 use Rattle.nt_view.specs.declared.table.Table.{Table}
 use Rattle.nt_view.specs.declared.table.Held.{Held}
 use Rattle.nt_view.specs.declared.table.Held.TheVariants.{Zeros, Pages, Sums}
-use Rattle.nt_view.specs.Pages.{elements_of_pages, count_of, ArePages}
+use Rattle.nt_view.specs.Pages.{elements_of_pages, count_of, ArePages, AreOwnPages, IsSplitIndex, LieInOne}
 use Rattle.nt_view.specs.Loads.{loaded_len}
 use Rattle.nt_view.specs.Loaded.{elements_with, counts_with, kind_with, pages_with, zeros_listed}
 use Rattle.nt_view.specs.Stores.{lens_of, cut_up}
@@ -41,10 +41,6 @@ pub record IsPageGroup (ps : List PagePlace) (i j : ℕ) : Type 0 where
   pub within : j ≤ length ps
   pub same : (m : ℕ) (d : PagePlace) → i ≤ m → m < j → (slice_index_or ps m d).column ≡ (slice_index_or ps i d).column
   pub last : (d : PagePlace) → j < length ps → (slice_index_or ps j d).column ≡ (slice_index_or ps i d).column → ⊥
-
--- a type whose pages are added up
-abbrev pub IsSplitIndex : ColumnType → Type 0
-IsSplitIndex kind = (kind ≡ SplitIndex32) ⊎ (kind ≡ SplitIndex64)
 
 -- pages of the store from one place of their list to before another are those of a column, of this type and with so many elements
 pub record LieInPages (store : List ℕ) (places : List PageAt) (kind : ColumnType) (begin end count : ℕ)
@@ -140,3 +136,41 @@ pub record IsEmptyTable (t : Table) : Type 0 where
   pub places : t.places.items ≡ []
   pub columns : t.columns.items ≡ []
   pub sums : t.sums.items ≡ []
+
+-- the elements of a column, by what is held of it
+abbrev pub elements_held : List ℕ → List PageAt → List Buffer → Held → List Element
+elements_held store places sums (Zeros n) = replicate n (plain 0)
+elements_held store places sums (Pages kind begin end count) = elements_of_pages kind store (slice_range places begin end)
+elements_held store places sums (Sums s) = elements_at (columns_of sums) s
+
+-- pages of the store from one place of their list to before another are a column's
+pub record ArePagesHeld (store : List ℕ) (places : List PageAt) (kind : ColumnType) (begin end count : ℕ) : Type 0 where
+  pub order : begin ≤ end
+  pub within : end ≤ length places
+  pub own : AreOwnPages kind store (slice_range places begin end)
+  pub all : count ≡ count_of (slice_range places begin end)
+
+-- what is held of a column is there
+abbrev pub IsThere : List ℕ → List PageAt → List Buffer → Held → Type 0
+IsThere store places sums (Zeros n) = Unit {0}
+IsThere store places sums (Pages kind begin end count) = ArePagesHeld store places kind begin end count
+IsThere store places sums (Sums s) = s < length sums
+
+-- what a table holds of a column, over this store
+abbrev pub IsColumnOf : List ℕ → Table → ℕ → Type 0
+IsColumnOf store t k = IsThere store t.places.items t.sums.items (held_at t.columns.items k)
+
+-- and its elements
+abbrev pub elements_in_table : List ℕ → Table → ℕ → List Element
+elements_in_table store t k = elements_held store t.places.items t.sums.items (held_at t.columns.items k)
+
+-- the elements of a column of 8 bits from one place to before another lie in one of its pages
+abbrev pub IsLent : List PageAt → Held → ℕ → ℕ → Type 0
+IsLent places (Zeros n) from to = ⊥
+IsLent places (Pages kind begin end count) from to = (bits_of kind ≡ 8) × LieInOne (slice_range places begin end) from to
+IsLent places (Sums s) from to = ⊥
+
+-- a column has the elements from one place to before another
+pub record HasColumnRange (store : List ℕ) (t : Table) (k from to : ℕ) : Type 0 where
+  pub order : from ≤ to
+  pub within : to ≤ length (elements_in_table store t k)

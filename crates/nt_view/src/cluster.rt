@@ -7,13 +7,15 @@ ghost use Rattle.nt_view.specs.Loaded.{AreLoadable, nothing_loaded, loaded_with}
 ghost use Rattle.nt_view.specs.Stores.{cut_up, lens_of};
 
 use crate::fault::ViewFault;
+use crate::lookup;
 use crate::page_place::{PagePlace, ZeroColumn};
-use crate::place::part_of;
+use crate::place::{are_bytes, part_of};
 use crate::reading::read_pages;
 use crate::table::{Table, add_columns, set_zeros};
 use crate::wanting::Wanting;
+use nt_column::{Columns, CowSlice, WordSlice};
 use nt_outside::ReadAt;
-use std::alloc::Global;
+use std::alloc::{AllocError, Global};
 use std::marker::Model;
 
 /// The pages of the columns of a cluster, as they are stored, and the columns that they give.
@@ -119,6 +121,63 @@ impl ClusterBytes {
     {
         let at = self.table.places[i as usize].at;
         part_of(&self.store, at, self.pages[i as usize].size as usize)
+    }
+}
+
+impl Columns for ClusterBytes {
+    ghost use Rattle.std.specs.Prelude.{◌≡◌, ◌≤◌, length, IsTrue, IfOk, IsOkAnd};
+    ghost use Rattle.std.specs.List.{slice_range};
+    ghost use Rattle.nt_column.specs.Elements.{text_of};
+    ghost use Rattle.nt_column.specs.Cow.{cow_items, is_borrowed};
+    ghost use Rattle.nt_view.specs.Loaded.{loaded_elements, loaded_kind, AreLent};
+
+    ghost elements = { λ l k. loaded_elements l k };
+
+    ghost kind = { λ l k. loaded_kind l k };
+
+    fn in_range(&self) {
+        for buffer in &self.table.sums {
+            buffer.in_range();
+        }
+        are_bytes(&self.store);
+    }
+
+    fn len(&self, column: u32) -> u64 {
+        lookup::len(&self.table, &self.store, column)
+    }
+
+    fn number(&self, column: u32, i: u64) -> u64 {
+        lookup::number(&self.table, &self.store, column, i)
+    }
+
+    fn tag(&self, column: u32, i: u64) -> u32 {
+        lookup::tag(&self.table, &self.store, column, i)
+    }
+
+    fn text(
+        &self,
+        alloc: Global,
+        column: u32,
+        from: u64,
+        to: u64,
+    ) -> Result<CowSlice<'_, u8>, AllocError>
+        requires order { from ≤ to }
+        requires within { to ≤ length (loaded_elements self.now column) }
+        ensures text { IfOk result
+            (λ t. cow_items t ≡ text_of (slice_range (loaded_elements self.now column) from to)) }
+        // Exactly where they lie in one page of 8-bit elements, or are none, nothing is copied, and no memory is taken.
+        ensures lent { AreLent self.now column from to → IsOkAnd result (λ t. IsTrue (is_borrowed t)) }
+        ensures only { IfOk result (λ t. IsTrue (is_borrowed t) → AreLent self.now column from to) }
+    {
+        lookup::text(alloc, &self.table, &self.store, column, from, to)
+    }
+
+    fn words(&self, column: u32, from: u64, to: u64) -> Option<WordSlice<'_>> {
+        lookup::words(&self.table, &self.store, column, from, to)
+    }
+
+    fn read(&self, column: u32, from: u64, out: &mut [u64]) -> usize {
+        lookup::read(&self.table, &self.store, column, from, out)
     }
 }
 

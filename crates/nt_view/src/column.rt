@@ -1,19 +1,53 @@
 //! A column of pages whose values stand each for itself.
 
-ghost use Rattle.std.specs.Prelude.{◌≡◌, ◌+◌, ◌<◌, ◌≤◌, ◌↔◌, length, take, slice_index, IfSome, IfOk, IsSome, IsOkAnd, IsTrue};
+ghost use Rattle.std.specs.Prelude.{◌≡◌, ◌+◌, ◌<◌, ◌≤◌, ◌↔◌, length, map, take, slice_index, IfSome, IsSome};
 ghost use Rattle.std.specs.List.{slice_range};
 ghost use Rattle.nt_types.specs.ColumnTable.{bits_of};
-ghost use Rattle.nt_column.specs.Elements.{numbers, text_of};
-ghost use Rattle.nt_column.specs.Cow.{cow_items, is_borrowed};
-ghost use Rattle.nt_view.specs.Pages.{elements_of_pages, count_of, ArePages, AreOwnPages, AreBytePages, HaveRange, LieInOne};
+ghost use Rattle.nt_types.specs.declared.column_type.ColumnType.TheVariants.{Switch};
+ghost use Rattle.nt_encode.specs.Pages.{page_values};
+ghost use Rattle.nt_column.specs.Elements.{plain, numbers, tags};
+ghost use Rattle.nt_view.specs.Pages.{elements_of_pages, count_of, ArePages, AreOwnPages, IsOwnPart, HaveRange, LieInOne};
 
 use crate::place::{PageAt, page_bytes, page_with};
-use nt_column::CowSlice;
-use nt_encode::{decode_part, own_value_at};
+use nt_encode::{decode_part, index_of_pair, own_value_at, tag_of_pair};
 use nt_types::ColumnType;
-use std::alloc::{AllocError, Global};
 
-/// The number of an element.
+/// Value i of a page of so many; of a Switch the index of its pair.
+#[inline(always)]
+pub fn value_of(kind: ColumnType, bytes: &[u8], count: usize, i: usize) -> u64
+    requires { IsOwnPart kind count bytes.now i (i + 1) }
+    ensures { result ≡ slice_index (page_values kind count bytes.now) i }
+{
+    if kind == ColumnType::Switch {
+        index_of_pair(bytes, count, i)
+    } else {
+        own_value_at(kind, bytes, count, i)
+    }
+}
+
+/// Reads the indices of a Switch page from a place on, as many as there is room for.
+fn read_indices(bytes: &[u8], count: usize, from: usize, out: &mut [u64])
+    requires { IsOwnPart Switch count bytes.now from (from + length out.old) }
+    ensures { out.new ≡ slice_range (page_values Switch count bytes.now) from (from + length out.new) }
+{
+    for (i, index) in out.iter_mut().enumerate() {
+        *index = index_of_pair(bytes, count, from + i);
+    }
+}
+
+/// Reads the values of a page from a place on, as many as there is room for.
+fn read_values(kind: ColumnType, bytes: &[u8], count: usize, from: usize, out: &mut [u64])
+    requires { IsOwnPart kind count bytes.now from (from + length out.old) }
+    ensures { out.new ≡ slice_range (page_values kind count bytes.now) from (from + length out.new) }
+{
+    if kind == ColumnType::Switch {
+        read_indices(bytes, count, from, out);
+    } else {
+        decode_part(kind, bytes, count, from, out);
+    }
+}
+
+/// The number of an element; of a Switch its index.
 pub fn number(kind: ColumnType, store: &[u8], pages: &[PageAt], i: u64) -> u64
     requires own { AreOwnPages kind store.now pages.now }
     requires within { i < count_of pages.now }
@@ -21,7 +55,30 @@ pub fn number(kind: ColumnType, store: &[u8], pages: &[PageAt], i: u64) -> u64
 {
     let page = pages[page_with(pages, i)];
     let bytes = page_bytes(kind, store, page);
-    own_value_at(kind, bytes, page.count as usize, (i - page.first) as usize)
+    value_of(kind, bytes, page.count as usize, (i - page.first) as usize)
+}
+
+/// The tag of an element of a Switch.
+fn pair_tag(store: &[u8], pages: &[PageAt], i: u64) -> u32
+    requires pages { ArePages Switch store.now pages.now }
+    requires within { i < count_of pages.now }
+    ensures { result ≡ slice_index (tags (elements_of_pages Switch store.now pages.now)) i }
+{
+    let page = pages[page_with(pages, i)];
+    let bytes = page_bytes(ColumnType::Switch, store, page);
+    tag_of_pair(bytes, page.count as usize, (i - page.first) as usize)
+}
+
+/// The tag of an element; 0 but of a Switch.
+pub fn tag(kind: ColumnType, store: &[u8], pages: &[PageAt], i: u64) -> u32
+    requires pages { ArePages kind store.now pages.now }
+    requires within { i < count_of pages.now }
+    ensures { result ≡ slice_index (tags (elements_of_pages kind store.now pages.now)) i }
+{
+    match kind {
+        ColumnType::Switch => pair_tag(store, pages, i),
+        _ => 0,
+    }
 }
 
 /// Reads numbers from a place on, as many as stand in its page and as there is room for.
@@ -38,12 +95,12 @@ pub fn read(kind: ColumnType, store: &[u8], pages: &[PageAt], from: u64, out: &m
     let at = (from - page.first) as usize;
     let count = page.count as usize;
     let some = (count - at).min(out.len());
-    decode_part(kind, bytes, count, at, &mut out[..some]);
+    read_values(kind, bytes, count, at, &mut out[..some]);
     some
 }
 
 /// The bytes of elements of 8 bits from one place to before another, where they lie in one page or are none.
-pub fn lent_text<'a>(
+pub fn lent_bytes<'a>(
     kind: ColumnType,
     store: &'a [u8],
     pages: &[PageAt],
@@ -53,8 +110,8 @@ pub fn lent_text<'a>(
     requires pages { ArePages kind store.now pages.now }
     requires kind { bits_of kind ≡ 8 }
     requires part { HaveRange pages.now from to }
-    ensures text { IfSome result (λ t. t.now
-        ≡ text_of (slice_range (elements_of_pages kind store.now pages.now) from to)) }
+    ensures bytes { IfSome result (λ t. map plain t.now
+        ≡ slice_range (elements_of_pages kind store.now pages.now) from to) }
     ensures exact { IsSome result ↔ LieInOne pages.now from to }
 {
     if from == to {
@@ -66,47 +123,4 @@ pub fn lent_text<'a>(
     }
     let bytes = page_bytes(kind, store, page);
     Some(&bytes[(from - page.first) as usize..(to - page.first) as usize])
-}
-
-/// A copy of the low bytes of elements from one place to before another.
-fn copied_text(
-    alloc: Global,
-    kind: ColumnType,
-    store: &[u8],
-    pages: &[PageAt],
-    from: u64,
-    to: u64,
-) -> Result<Vec<u8>, AllocError>
-    requires own { AreOwnPages kind store.now pages.now }
-    requires part { HaveRange pages.now from to }
-    ensures { IfOk result (λ v. v.items
-        ≡ text_of (slice_range (elements_of_pages kind store.now pages.now) from to)) }
-{
-    let mut bytes = Vec::with_capacity(alloc, (to - from) as usize)?;
-    for i in from..to {
-        bytes.push((number(kind, store, pages, i) % 256) as u8)?;
-    }
-    Ok(bytes)
-}
-
-/// The text of elements of 8 bits: borrowed exactly where they lie in one page or are none, and then without memory.
-pub fn text<'a>(
-    alloc: Global,
-    kind: ColumnType,
-    store: &'a [u8],
-    pages: &[PageAt],
-    from: u64,
-    to: u64,
-) -> Result<CowSlice<'a, u8>, AllocError>
-    requires bytes { AreBytePages kind store.now pages.now }
-    requires part { HaveRange pages.now from to }
-    ensures text { IfOk result (λ t. cow_items t
-        ≡ text_of (slice_range (elements_of_pages kind store.now pages.now) from to)) }
-    ensures lent { LieInOne pages.now from to → IsOkAnd result (λ t. IsTrue (is_borrowed t)) }
-    ensures only { IfOk result (λ t. IsTrue (is_borrowed t) → LieInOne pages.now from to) }
-{
-    match lent_text(kind, store, pages, from, to) {
-        Some(bytes) => Ok(CowSlice::Borrowed(bytes)),
-        None => Ok(CowSlice::Owned(copied_text(alloc, kind, store, pages, from, to)?)),
-    }
 }

@@ -1,6 +1,6 @@
 //! Which page an element stands in.
 
-ghost use Rattle.std.specs.Prelude.{◌≡◌, ◌+◌, ◌<◌, ◌≤◌, length, take, drop, IfSome};
+ghost use Rattle.std.specs.Prelude.{◌≡◌, ◌+◌, ◌^◌, ◌<◌, ◌≤◌, ℕ, length, take, drop, slice_index, IfSome};
 ghost use Rattle.nt_encode.specs.Pages.{page_size};
 ghost use Rattle.nt_view.specs.Pages.{bytes_of_page, count_of, Follow, IsIn};
 
@@ -86,4 +86,11 @@ pub fn page_bytes(kind: ColumnType, store: &[u8], page: PageAt) -> &[u8]
         page.at,
         size_of(kind, u64::from(page.count)) as usize,
     )
+}
+
+/// Each byte of a store is one.
+pub fn are_bytes(store: &[u8])
+    ensures { (i : ℕ) → slice_index store.now i < 2 ^ 8 }
+{
+    let _len = store.len();
 }

@@ -2,11 +2,11 @@
 
 ghost use Rattle.std.specs.Prelude.{◌≡◌, ◌+◌, ◌<◌, ◌≤◌, ◌^◌, ◌++◌, ◌↔◌, [], ℕ, length, All, IsTrue, IfOk, OnOk};
 ghost use Rattle.nt_column.specs.Column.{empty, with_more};
-ghost use Rattle.nt_view.specs.Pages.{elements_of_pages, ArePages};
+ghost use Rattle.nt_view.specs.Pages.{elements_of_pages, ArePages, IsSplitIndex};
 ghost use Rattle.nt_view.specs.Stores.{lens_of};
 ghost use Rattle.nt_view.specs.Loaded.{AreLoadable, zeros_listed};
 ghost use Rattle.nt_view.specs.Table.{held_at, laid_from, elements_counted, IsPageGroup, IsColumnAt, GainsSums, GainsColumn, IsLaidTo};
-ghost use Rattle.nt_view.specs.Table.{zeros_held, IsSplitIndex, AreZeros, HasSamePages, IsEmptyTable};
+ghost use Rattle.nt_view.specs.Table.{zeros_held, AreZeros, HasSamePages, IsEmptyTable};
 
 use crate::page_place::{PagePlace, ZeroColumn};
 use crate::place::{PageAt, page_bytes};

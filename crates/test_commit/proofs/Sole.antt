@@ -25,7 +25,7 @@ use Rattle.nt_container.specs.Spelling.{blob_key}
 use Rattle.nt_container.proofs.Lengths.{blob_key-len}
 use Rattle.nt_commit.specs.Images.{image_after}
 use Rattle.nt_book.specs.Entries.{faulted_entry, spoiled_entry}
-use Rattle.nt_commit.specs.Holds.{HasNoneOut, CommitsInHold, AddsInHold, SpoilsInHold, locked_end, locked_count}
+use Rattle.nt_commit.specs.Holds.{HasNoneOut, CommitsInHold, AddsInHold, SpoilsInHold, locked_count}
 use Rattle.test_commit.specs.Sole.{IsSoleClaim, LeavesAtMostOne}
 
 abbrev Entries : Type 0
@@ -142,7 +142,7 @@ module _ {D X : Type 0} (state : D → DiskState) (tell : X → ExtState) (commi
       let last : Cluster ClusterMeta = record {
         context = meta.context;
         number = locked_count state h.taken;
-        start = locked_end state h.taken;
+        start = h.commits.place.before + h.commits.place.due;
         len = meta.len;
         meta = meta;
         state = Out;

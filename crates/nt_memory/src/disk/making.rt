@@ -1,6 +1,6 @@
 //! How a disk in memory is made, taken apart, and what a crash leaves of it.
 
-ghost use Rattle.std.specs.Prelude.{◌≡◌, [], drop, take, false, slice_index_or, IfOk};
+ghost use Rattle.std.specs.Prelude.{◌≡◌, [], drop, take, false, None, slice_index_or, IfOk};
 ghost use Rattle.nt_disk_log.specs.Logged.{steps_of};
 ghost use Rattle.nt_disk_log.specs.Left.{AreInside};
 
@@ -21,7 +21,7 @@ impl MemDisk {
     /// An empty disk, whose calls fail where `fails` lists their numbers; those of its k-th pen where the k-th of `pens` does.
     pub fn new(alloc: Global, fails: Calls, pens: Vec<Calls>) -> Self
         ensures empty { IsEmpty (state_of result) }
-        ensures tally { tally_of result ≡ new_tally fails false }
+        ensures tally { tally_of result ≡ new_tally fails None }
         ensures pens { pens_of result ≡ pens.items }
         ensures torn { result.torn ≡ false }
     {

@@ -7,17 +7,18 @@ use nt_lists::Bytes;
 use std::alloc::AllocError;
 
 impl MemHost {
-    ghost use Rattle.std.specs.Prelude.{◌≡◌, ◌≤◌, IfOk, IfSome};
+    ghost use Rattle.std.specs.Prelude.{◌≡◌, ◌≤◌, IfOk, IfSome, OnOk};
     ghost use Rattle.nt_outside.specs.World.{stored};
     ghost use Rattle.nt_disk_log.specs.Left.{picked_under, MayBeLeft};
     ghost use Rattle.nt_memory.specs.Host.{world_of};
-    ghost use Rattle.nt_memory.specs.Trips.{Trips, Steps};
+    ghost use Rattle.nt_memory.specs.Trips.{FailsCall, StopsAfter, Trips, Steps};
 
     /// Lets the call of this number fail: of those that can answer `Failed`, counted from 1 over the host and all objects that it
-    /// opens from then on, in the order in which they are made. Nothing is proved of the number. It takes the place of what an
+    /// opens from then on, in the order in which they are made. That they are counted so is only tested. It takes the place of what an
     /// earlier `fail_call` or `stop_after` said.
     pub fn fail_call(&mut self, number: u64) -> Result<(), AllocError>
-        ensures { Trips self.old self.new }
+        ensures trips { Trips self.old self.new }
+        ensures number { OnOk result (FailsCall number self.new) }
     {
         let own = Trip::new(self.alloc, number, number)?;
         let trip = own.share()?;
@@ -29,9 +30,10 @@ impl MemHost {
     }
 
     /// Lets each call of disks and pens that are made from then on fail, once so many of them that can were made, and each failing
-    /// append leave half of its bytes. Nothing is proved of the number. It takes the place of what an earlier call said.
+    /// append leave half of its bytes. That they are counted so is only tested. It takes the place of what an earlier call said.
     pub fn stop_after(&mut self, count: u64) -> Result<(), AllocError>
-        ensures { Trips self.old self.new }
+        ensures trips { Trips self.old self.new }
+        ensures count { OnOk result (StopsAfter count self.new) }
     {
         self.plan.disk_trip = Trip::new(self.alloc, count.saturating_add(1), u64::MAX)?;
         self.plan.trip = Trip::none();

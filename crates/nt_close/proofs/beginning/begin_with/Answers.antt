@@ -8,7 +8,7 @@ returns-in_err-write_head-clause-refused g c =
     let p = err_from_is_err_and c.from_residual-in_err-write_head.result c.from_residual-in_err-write_head.ensures.1 in
     rw (p.1, p.2) (begin-cut _ _ c.in_ok-blob.ensures.within _ _ _ _ (g.D.Disk.state c.args.disk.now)
     (g.D.Disk.state c.room.new.self) (g.D.Disk.state c.write_head.new.disk) _
-    c.deref.ensures.value c.in_ok-blob.ensures.ok c.room.ensures c.requires.empty c.write_head.ensures.left c.write_head.ensures.out
+    c.deref.ensures.value c.in_ok-blob.ensures.ok c.room.ensures c.requires.empty c.in_err-write_head.ensures.cut c.write_head.ensures.out
     c.in_err-write_head.ensures.cause.failed)
 
 pub returns-clause-begun : goal.returns-clause-begun

@@ -1,29 +1,40 @@
 use Rattle.std.proofs.Common.{refl, ◌∙◌, rules}
-use Rattle.nt_close.specs.Steps.{torn_tail, torn_front, not_kept_shut, torn_first, not_kept_open, closed_whole}
+use Rattle.std.proofs.lemmas.Result.{err_from_is_err_and}
+use Rattle.nt_close.specs.Steps.{torn_tail, torn_front, not_kept_shut, torn_first, not_kept_open}
 use Rattle.nt_close.proofs.steps.write_end.Goals as goal
 
-pub returns-in_err-append-clause-left : goal.returns-in_err-append-clause-left
-returns-in_err-append-clause-left g c h is = let torn = c.in_err-append.ensures.err h is in (torn.0, torn.1, torn_tail torn.2)
+pub returns-in_err-append-clause-cut : goal.returns-in_err-append-clause-cut
+returns-in_err-append-clause-cut g c =
+    let p = err_from_is_err_and c.from_residual.result c.from_residual.ensures.1 in
+    rw p.1 (λ h is. let torn = c.in_err-append.ensures.err h is in (torn.0, torn.1, torn_tail torn.2))
 
-pub returns-in_err-write_at-clause-left : goal.returns-in_err-write_at-clause-left
-returns-in_err-write_at-clause-left g c h is =
+pub returns-in_err-write_at-clause-cut : goal.returns-in_err-write_at-clause-cut
+returns-in_err-write_at-clause-cut g c =
+    let p = err_from_is_err_and c.from_residual-in_err-write_at.result c.from_residual-in_err-write_at.ensures.1 in
+    rw p.1 (λ h is.
     let torn = c.in_err-write_at.ensures.err _ (c.in_ok-append.ensures.ok h is) in
-    (torn.0, torn.1, torn_front torn.2)
+    (torn.0, torn.1, torn_front torn.2))
 
-pub returns-in_err-sync-clause-left : goal.returns-in_err-sync-clause-left
-returns-in_err-sync-clause-left g c h is =
-    (_, c.in_err-sync.ensures.err ∙ c.in_ok-write_at.ensures.ok _ (c.in_ok-append.ensures.ok h is), not_kept_shut refl)
+pub returns-in_err-sync-clause-cut : goal.returns-in_err-sync-clause-cut
+returns-in_err-sync-clause-cut g c =
+    let p = err_from_is_err_and c.from_residual-in_err-sync.result c.from_residual-in_err-sync.ensures.1 in
+    rw p.1 (λ h is.
+    (_, c.in_err-sync.ensures.err ∙ c.in_ok-write_at.ensures.ok _ (c.in_ok-append.ensures.ok h is), not_kept_shut refl))
 
-pub returns-in_err-write_at-2-clause-left : goal.returns-in_err-write_at-2-clause-left
-returns-in_err-write_at-2-clause-left g c h is =
+pub returns-in_err-write_at-2-clause-cut : goal.returns-in_err-write_at-2-clause-cut
+returns-in_err-write_at-2-clause-cut g c =
+    let p = err_from_is_err_and c.from_residual-in_err-write_at-2.result c.from_residual-in_err-write_at-2.ensures.1 in
+    rw p.1 (λ h is.
     let kept = c.in_ok-sync.ensures.ok _ (c.in_ok-write_at.ensures.ok _ (c.in_ok-append.ensures.ok h is)) in
     let torn = c.in_err-write_at-2.ensures.err _ kept in
-    (torn.0, torn.1, torn_first torn.2)
+    (torn.0, torn.1, torn_first torn.2))
 
-pub returns-in_err-sync-2-clause-left : goal.returns-in_err-sync-2-clause-left
-returns-in_err-sync-2-clause-left g c h is =
+pub returns-in_err-sync-2-clause-cut : goal.returns-in_err-sync-2-clause-cut
+returns-in_err-sync-2-clause-cut g c =
+    let p = err_from_is_err_and c.from_residual-in_err-sync-2.result c.from_residual-in_err-sync-2.ensures.1 in
+    rw p.1 (λ h is.
     let kept = c.in_ok-sync.ensures.ok _ (c.in_ok-write_at.ensures.ok _ (c.in_ok-append.ensures.ok h is)) in
-    (_, c.in_err-sync-2.ensures.err ∙ c.in_ok-write_at-2.ensures.ok _ kept, not_kept_open refl)
+    (_, c.in_err-sync-2.ensures.err ∙ c.in_ok-write_at-2.ensures.ok _ kept, not_kept_open refl))
 
 pub returns-clause-ok : goal.returns-clause-ok
 returns-clause-ok g c = record {
@@ -32,8 +43,3 @@ returns-clause-ok g c = record {
       c.in_ok-sync-2.ensures.ok _ (c.in_ok-write_at-2.ensures.ok _ kept);
   end = search rules;
 }
-
-pub returns-clause-left : goal.returns-clause-left
-returns-clause-left g c h is =
-    let kept = c.in_ok-sync.ensures.ok _ (c.in_ok-write_at.ensures.ok _ (c.in_ok-append.ensures.ok h is)) in
-    (_, c.in_ok-sync-2.ensures.ok _ (c.in_ok-write_at-2.ensures.ok _ kept), closed_whole refl)

@@ -1,4 +1,4 @@
-use Rattle.std.proofs.Common.{◌≡◌, ◌<◌, ◌≤◌, ◌+◌, ◌∷◌, ◌++◌, ◌∙◌, [], length, vec_len, vec_capacity, arith, subst, sym, ap, List, refl}
+use Rattle.std.proofs.Common.{◌≡◌, ◌<◌, ◌∷◌, ◌++◌, ◌∙◌, length, arith, subst, sym, ap, List, refl}
 use Rattle.std.specs.List.{AllByRecursion}
 use Rattle.nt_pool.specs.Pool.{AreNumbered}
 use Rattle.nt_contexts.specs.declared.seats.Context.{Context}

@@ -3,7 +3,7 @@ use denote.Exit.{no}
 use denote.Param.{param}
 use denote.Param.Send.{param_send, arg_send}
 use Rattle.std.proofs.lemmas.List.{length-map}
-use Rattle.std.proofs.Common.{◌≡◌, ◌<◌, ◌≤◌, ◌∙◌, sym, ap, length, vec_len, arith, rules}
+use Rattle.std.proofs.Common.{ap, length, arith, rules}
 use Rattle.nt_types.specs.Views.{members_view}
 use Rattle.nt_contexts.specs.declared.seats.Context.{Context}
 use Rattle.nt_contexts.specs.Seats.{IsSchemaFor, IsFreshSeat, Ran}

@@ -1,4 +1,4 @@
-use Rattle.std.proofs.Common.{◌≡◌, ◌≤◌, ◌+◌, ◌++◌, ℕ, length, vec_len, vec_capacity}
+use Rattle.std.proofs.Common.{◌≡◌, ◌≤◌, ◌+◌, ◌++◌, vec_len, vec_capacity}
 use Rattle.nt_contexts.specs.Jobs.{seats_in}
 use Rattle.nt_contexts.proofs.seats.seats_back.Given as goal
 

@@ -1,4 +1,4 @@
-use Rattle.std.proofs.Common.{◌≡◌, ◌++◌, ◌∙◌, [], sym, refl, ap, subst, length, arith, List, map, Err, append-nil}
+use Rattle.std.proofs.Common.{◌≡◌, ◌∙◌, [], sym, ap, subst, length, arith, List, map, Err, append-nil}
 use Rattle.nt_types.specs.Views.{members_view}
 use Rattle.nt_outside.specs.Source.{SourceState}
 use Rattle.nt_outside.specs.declared.fault.Refused.TheVariants as refused

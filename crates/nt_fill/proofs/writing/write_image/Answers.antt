@@ -1,4 +1,4 @@
-use Rattle.std.proofs.Common.{◌≡◌, ◌∙◌, ◌≤◌, ap, sym, refl, subst, true, length, inl, inr, Option, Some, None}
+use Rattle.std.proofs.Common.{◌≡◌, ◌∙◌, ◌≤◌, ap, sym, refl, subst, true, length, inl, inr, Option, Some, None, [], append-nil}
 use Rattle.std.proofs.lemmas.Result.{err_from_is_err_and}
 use Rattle.std.specs.Prelude.{Ok, Err}
 use Rattle.nt_outside.specs.Held.{WhereHeld}
@@ -6,7 +6,7 @@ use Rattle.nt_pages.specs.declared.image.ClusterImage.{ClusterImage}
 use Rattle.nt_book.specs.declared.limits.LimitError.{LimitError}
 use Rattle.nt_commit.specs.declared.locked.Birth.{Birth}
 use Rattle.nt_commit.specs.declared.error.CommitError.{CommitError}
-use Rattle.nt_commit.specs.declared.error.CommitError.TheVariants.{Fault}
+use Rattle.nt_commit.specs.declared.error.CommitError.TheVariants.{Fault, Memory}
 use Rattle.nt_commit.specs.Claims.{limit_answered}
 use Rattle.nt_commit.specs.Holds.{CommitsInHold}
 use Rattle.nt_fill.proofs.Passes.{claim_is, writes, spoils, names, kept_by, fault_by, pass_after, writes_in, spoil_in, adds_seen}
@@ -16,6 +16,15 @@ use Rattle.nt_fill.proofs.writing.write_image.Goals as goal
 -- where none is named
 none_named : {A : Type 0} (l : LimitError) → ◌≡◌ {A = Option LimitError} None (Some l) → A
 none_named l named = absurd (cc named)
+
+pub returns-in_err-claim-clause-limits : goal.returns-in_err-claim-clause-limits
+returns-in_err-claim-clause-limits g c =
+    let p = err_from_is_err_and c.from_residual.result c.from_residual.ensures.1 in
+    let same : c.from_residual.result ≡ Err c.in_err-claim.field-0.0 = cc (p.1, p.2) in
+    names g.D.Disk.state c.args.committer.now g.D.Ext.Ext.state c.args.image.now.meta c.args.pass.now c.commit.new.pass
+    (Err c.in_err-claim.field-0.0) c.in_err-claim.ensures.commits c.from_residual.result (sym (ap limit_answered same))
+    (λ wanting. let e : c.in_err-claim.field-0.0 ≡ Memory = cc wanting in same ∙ ap (λ (x : CommitError). Err x) e) c.commit.new.pass
+    ([], append-nil c.commit.new.pass.seen) (λ l named. refl)
 
 pub returns-in_err-claim-clause-refused : goal.returns-in_err-claim-clause-refused
 returns-in_err-claim-clause-refused g c =
@@ -66,7 +75,7 @@ returns-in_err-fill_range-clause-limits g c =
     let same : c.from_residual-in_err-fill_range.result ≡ Err Fault = cc (p.1, p.2, fault) in
     names g.D.Disk.state c.args.committer.now g.D.Ext.Ext.state c.args.image.now.meta c.args.pass.now c.commit.new.pass
     (Ok c.in_ok-claim.claim) c.in_ok-claim.ensures.commits c.from_residual-in_err-fill_range.result
-    (sym (ap limit_answered same)) c.fill_range.new.pass
+    (sym (ap limit_answered same)) (λ is. absurd (cc is)) c.fill_range.new.pass
     (spoils_seen g.D.Disk.state c.args.committer.now _ c.commit.new.pass c.fill_range.new.pass c.in_err-fill_range.ensures.err.1)
     (λ l named. none_named l (sym (ap limit_answered same) ∙ named))
 
@@ -94,7 +103,7 @@ returns-clause-pass g c =
 pub returns-clause-limits : goal.returns-clause-limits
 returns-clause-limits g c =
     names g.D.Disk.state c.args.committer.now g.D.Ext.Ext.state c.args.image.now.meta c.args.pass.now c.commit.new.pass
-    (Ok c.in_ok-claim.claim) c.in_ok-claim.ensures.commits (Ok tt) refl c.fill_range.new.pass
+    (Ok c.in_ok-claim.claim) c.in_ok-claim.ensures.commits (Ok tt) refl (λ is. absurd (cc is)) c.fill_range.new.pass
     (adds_seen g.D.Disk.state c.args.committer.now _ c.commit.new.pass c.fill_range.new.pass c.in_ok-fill_range.ensures.ok.0)
     (λ l named. none_named l named)
 

@@ -1,4 +1,4 @@
-use Rattle.nt_finished.proofs.LaidBehind.{late-behind}
+use Rattle.nt_finished.proofs.LateLists.{late-behind}
 use Rattle.nt_finished.proofs.late.late_files_are_laid_behind.Goals as goal
 
 pub returns : goal.returns

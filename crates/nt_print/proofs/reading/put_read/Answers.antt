@@ -1,57 +1,8 @@
-use Rattle.std.proofs.Common.{drop, ℕ, ℤ, ◌+◌, ◌≤◌, ◌∷◌, ◌++◌, [], List, length, map, sym, refl, subst, arith}
-use Rattle.std.proofs.lemmas.List.{length-take, take-append-le}
-use Rattle.std.specs.List.{slice_range}
-use Rattle.nt_column.specs.Elements.{numbers}
-use Rattle.nt_column.proofs.Numbers.{length-numbers}
-use Rattle.nt_event.proofs.Prints.{kept-on}
-use Rattle.nt_trees.specs.Integers.{integer_of}
-use Rattle.nt_print.specs.Integers.{integers_text}
-use Rattle.nt_print.proofs.Arrays.{kept-kept}
-use Rattle.nt_print.proofs.Parts.{IsPut, IsPut-none, IsPut-read, IsPut-line}
+use Rattle.nt_print.proofs.Parts.{line-put}
 use Rattle.nt_print.proofs.reading.put_read.Goals as goal
-
-pub loop-at-init : goal.loop-at-init
-loop-at-init g c =
-    let ns = numbers (g.C.Columns.elements c.args.columns.now c.args.column) in
-    let all = map (integer_of c.args.form.0 c.args.form.1) (slice_range ns c.args.part.0 c.args.part.1) in
-    let old = c.args.out.now.items ++ c.args.mark ∷ [] in
-    record {
-      reached = c.requires.order;
-      put = subst (λ (o : List ℕ). IsPut old o 91 all (integers_text 91 all)) (sym c.in_ok-push.ensures.items) (IsPut-none old 91 all);
-    }
-
-pub loop-at-preserved : goal.loop-at-preserved
-loop-at-preserved g c =
-    let ns = numbers (g.C.Columns.elements c.args.columns.now c.args.column) in
-    let integer : ℕ → ℤ = integer_of c.args.form.0 c.args.form.1 in
-    let n = c.read-count.result in
-    let most : n ≤ length c.read-count.new.out = c.read-count.ensures.some.1 in
-    let room = length-take c.min-most.result c.loop-at.block in
-    let reached : c.loop-at.at + n ≤ c.args.part.1 =
-    omega (arith, most, room, c.read-count.ensures.some.2, c.min-most.ensures, c.loop-at-test.true) in
-    let within : c.args.part.1 ≤ length ns =
-    omega (arith, c.requires.within, length-numbers (g.C.Columns.elements c.args.columns.now c.args.column)) in
-    let front = take-append-le n c.read-count.new.out (drop c.min-most.result c.loop-at.block) most in
-    record {
-      reached = reached;
-      put = IsPut-read _ c.loop-at.out.items c.put_integers.new.out.items c.loop-at.next integer ns _ c.read-count.new.out c.loop-at.at n
-          c.args.part.1 _ c.loop-at.invariant.put c.read-count.ensures.some.0 reached within c.read-count.ensures.read front
-          c.in_ok-put_integers.ensures.ok;
-    }
-
-pub returns-in_err-put_integers-clause-kept : goal.returns-in_err-put_integers-clause-kept
-returns-in_err-put_integers-clause-kept g c =
-    kept-on c.args.out.now.items _ c.put_integers.new.out.items (c.args.mark ∷ []) refl
-    (kept-kept _ c.loop-at.out.items c.put_integers.new.out.items c.loop-at.invariant.put.kept c.put_integers.ensures.kept)
-
-pub returns-in_err-put_end-clause-kept : goal.returns-in_err-put_end-clause-kept
-returns-in_err-put_end-clause-kept g c =
-    kept-on c.args.out.now.items _ c.put_end.new.out.items (c.args.mark ∷ []) refl
-    (kept-kept _ c.loop-at.out.items c.put_end.new.out.items c.loop-at.invariant.put.kept c.put_end.ensures.kept)
 
 pub returns-clause-ok : goal.returns-clause-ok
 returns-clause-ok g c =
     let es = g.C.Columns.elements c.args.columns.now c.args.column in
-    IsPut-line c.args.out.now.items c.args.mark c.loop-at.out.items c.put_end.new.out.items c.loop-at.next c.args.form.0 c.args.form.1 es
-    c.args.part.0 c.args.part.1 c.loop-at.at c.requires.order c.requires.within (omega (arith, c.loop-at-test.false))
-    c.loop-at.invariant.put c.in_ok-put_end.ensures.ok
+    line-put c.args.out.now.items _ _ c.put_end.new.out.items c.args.mark c.args.form.0 c.args.form.1 es c.args.part.0 c.args.part.1
+    c.requires.order c.requires.within c.in_ok-push.ensures.items c.in_ok-put_read_run.ensures.ok c.in_ok-put_end.ensures.ok

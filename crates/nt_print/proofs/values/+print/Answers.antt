@@ -3,7 +3,6 @@ use Rattle.std.proofs.Common.{arith, Box, Global, List, [], false, refl, append_
 use Rattle.std.proofs.lemmas.List.{drop_more, drop_all, length-map}
 use Rattle.std.specs.Prelude.{OnOk}
 use Rattle.std.specs.List.{slice_range}
-use Rattle.nt_column.specs.Words.{lent_elements}
 use Rattle.serde_json.specs.Written.{compact_text}
 use Rattle.nt_types.specs.TreeData.{TreeData, TreesData, flag, text as text_tree, items, parts, pick}
 use Rattle.nt_event.specs.Json.{data_of, line_of}
@@ -14,7 +13,7 @@ use Rattle.nt_plans.specs.declared.plan.Plan.{Plan, List as ListPlan, Maybe as M
 use Rattle.nt_plans.specs.declared.plan.Plans.{Plans}
 use Rattle.nt_plans.proofs.plan.Plan.TheLaws.{the_size}
 use Rattle.nt_plans.proofs.plan.Plans.TheLaws.{the_size as plans_size}
-use Rattle.nt_plans.proofs.PlanViews.{view-Bool, view-Number, view-Text, view-List, view-Maybe, view-Record, view-Choice}
+use Rattle.nt_plans.proofs.PlanViews.{view-Bool, view-Text, view-List, view-Maybe, view-Record, view-Choice}
 use Rattle.nt_trees.specs.Columns.{Cols, begin_at}
 use Rattle.nt_trees.specs.TreeAt.{tree_at, each_at, trees_from, text_from, only}
 use Rattle.nt_join.specs.Readable.{Readable, ReadableTo, ReadableEach}
@@ -23,43 +22,54 @@ use Rattle.nt_join.proofs.Reach.{of_tag-at, readable-is, text-within, items-read
 use Rattle.nt_join.proofs.Reach.{tag-among, picked-readable, tree_at-picked}
 use Rattle.nt_print.proofs.Arrays.{IsBegun, pick-put, IsBegun-none, IsBegun-next, IsBegun-end, kept-kept, mark-put, trees_from-first}
 use Rattle.nt_print.proofs.Arrays.{trees_from-none}
+use Rattle.nt_print.proofs.LentEnds.{known-optionals}
 use Rattle.nt_print.proofs.Places.{number-within, lent-trees}
 use Rattle.nt_print.proofs.values.+print.Goals as goal
 
-pub put_range-words-requires-clause-within : goal.put_range-words-requires-clause-within
-put_range-words-requires-clause-within g t c =
-    let n = c.in-Number in
-    number-within (plan_view c.args.of.now) (g.C.Columns.elements c.args.columns.now) n.column n.bits n.signed c.args.to
-    (ap plan_view n.is ∙ view-Number n.column n.bits n.signed) c.requires.readable
+pub put_range-put_list-requires-clause-within : goal.put_range-put_list-requires-clause-within
+put_range-put_list-requires-clause-within g t c κs within =
+    let n = c.in-Some.integers in
+    number-within (plan_view c.args.of.now) (g.C.Columns.elements c.args.columns.now) n.column n.bits n.signed c.args.part.1
+    c.in-Some.ensures c.requires.readable
 
 pub put_range-returns-in-Some-clause-ok : goal.put_range-returns-in-Some-clause-ok
 put_range-returns-in-Some-clause-ok g t c =
     let cols = g.C.Columns.elements c.args.columns.now in
-    let n = c.in-Number in
-    let es = lent_elements c.in-Some.words in
-    let is = ap plan_view n.is ∙ view-Number n.column n.bits n.signed in
-    let within = number-within (plan_view c.args.of.now) cols n.column n.bits n.signed c.args.to is c.requires.readable in
-    subst (λ (ts : TreesData). OnOk c.put_lent.result (c.put_lent.new.out.items ≡ c.args.out.now.items ++ c.args.mark ∷ line_of ts))
-    (lent-trees (plan_view c.args.of.now) cols n.column n.bits n.signed es c.args.from c.args.to is c.in-Some.ensures.words
-    c.requires.order within) c.put_lent.ensures.ok
-
-pub put_range-returns-in-Number-clause-ok : goal.put_range-returns-in-Number-clause-ok
-put_range-returns-in-Number-clause-ok g t c =
-    let cols = g.C.Columns.elements c.args.columns.now in
-    let n = c.in-Number in
-    let from = c.args.from in
-    let to = c.args.to in
-    let is = ap plan_view n.is ∙ view-Number n.column n.bits n.signed in
+    let n = c.in-Some.integers in
+    let from = c.args.part.0 in
+    let to = c.args.part.1 in
+    let is = c.in-Some.ensures in
     let within = number-within (plan_view c.args.of.now) cols n.column n.bits n.signed to is c.requires.readable in
-    subst (λ (ts : TreesData). OnOk c.put_read.result (c.put_read.new.out.items ≡ c.args.out.now.items ++ c.args.mark ∷ line_of ts))
+    subst (λ (ts : TreesData). OnOk c.put_list.result (c.put_list.new.out.items ≡ c.args.out.now.items ++ c.args.mark ∷ line_of ts))
     (lent-trees (plan_view c.args.of.now) cols n.column n.bits n.signed (slice_range (cols n.column) from to) from to is refl
-    c.requires.order within) c.put_read.ensures.ok
+    c.requires.order within) c.put_list.ensures.ok
+
+pub put_range-put_optionals-requires-clause-steps : goal.put_range-put_optionals-requires-clause-steps
+put_range-put_optionals-requires-clause-steps g t c κs within =
+    let cols = g.C.Columns.elements c.args.columns.now in
+    let is = c.in-Some-optionals_of.ensures in
+    (known-optionals (plan_view c.args.of.now) cols _ _ _ _ _ _ _ is c.requires.order c.requires.readable).steps
+
+pub put_range-put_optionals-requires-clause-within : goal.put_range-put_optionals-requires-clause-within
+put_range-put_optionals-requires-clause-within g t c κs within =
+    let cols = g.C.Columns.elements c.args.columns.now in
+    let is = c.in-Some-optionals_of.ensures in
+    (known-optionals (plan_view c.args.of.now) cols _ _ _ _ _ _ _ is c.requires.order c.requires.readable).within
+
+pub put_range-returns-in-Some-optionals_of-clause-ok : goal.put_range-returns-in-Some-optionals_of-clause-ok
+put_range-returns-in-Some-optionals_of-clause-ok g t c =
+    let cols = g.C.Columns.elements c.args.columns.now in
+    let is = c.in-Some-optionals_of.ensures in
+    let known = known-optionals (plan_view c.args.of.now) cols _ _ _ _ _ _ _ is c.requires.order c.requires.readable in
+    let put = c.put_optionals in
+    subst (λ (ts : TreesData). OnOk put.result (put.new.out.items ≡ c.args.out.now.items ++ c.args.mark ∷ line_of ts))
+    known.trees put.ensures.ok
 
 pub put_items-loop-i-init : goal.put_items-loop-i-init
 put_items-loop-i-init g t c =
     let f = tree_at (plan_view c.args.of.now) (g.C.Columns.elements c.args.columns.now) in
     let old = c.args.out.now.items ++ c.args.mark ∷ [] in
-    let all = trees_from f c.args.from (c.args.to - c.args.from) in
+    let all = trees_from f c.args.part.0 (c.args.part.1 - c.args.part.0) in
     subst (λ (o : List ℕ). IsBegun old o false all all) (sym c.in_ok-push.ensures.items) (IsBegun-none old all)
 
 pub put_items-loop-i-preserved : goal.put_items-loop-i-preserved
@@ -67,7 +77,7 @@ put_items-loop-i-preserved g t c =
     let f = tree_at (plan_view c.args.of.now) (g.C.Columns.elements c.args.columns.now) in
     let i = c.loop-i.i in
     IsBegun-next _ c.loop-i.out.items c.put_value.new.out.items c.loop-i.later (f i) _ _ _
-    (trees_from-first f i c.args.to (omega (arith, c.loop-i-test.true))) c.loop-i.invariant
+    (trees_from-first f i c.args.part.1 (omega (arith, c.loop-i-test.true))) c.loop-i.invariant
     (c.in_ok-put_value.ensures.ok ∙ ap (λ n. c.loop-i.out.items ++ n ∷ compact_text (data_of (f i))) c.mark_before.ensures)
 
 pub put_items-returns-in_err-put_value-clause-kept : goal.put_items-returns-in_err-put_value-clause-kept
@@ -83,7 +93,7 @@ put_items-returns-in_err-put_end-clause-kept g t c =
 pub put_items-returns-clause-ok : goal.put_items-returns-clause-ok
 put_items-returns-clause-ok g t c =
     let f = tree_at (plan_view c.args.of.now) (g.C.Columns.elements c.args.columns.now) in
-    IsBegun-end _ c.loop-i.out.items _ c.loop-i.later _ _ (trees_from-none f c.loop-i.i c.args.to (omega (arith, c.loop-i-test.false)))
+    IsBegun-end _ c.loop-i.out.items _ c.loop-i.later _ _ (trees_from-none f c.loop-i.i c.args.part.1 (omega (arith, c.loop-i-test.false)))
     c.loop-i.invariant c.in_ok-put_end.ensures.ok
     ∙ append_assoc c.args.out.now.items (c.args.mark ∷ []) _
 
@@ -130,7 +140,7 @@ put_value-put_part-requires-clause-within g t c =
     let e = c.in-Text.ends in
     let b = c.in-Text.bytes in
     let r = readable-is _ (text e b) cols c.args.i (ap plan_view c.in-Text.is ∙ view-Text e b) c.requires in
-    omega (arith, c.span-from.ensures.end, text-within e b cols c.args.i r)
+    omega (arith, c.span-text.ensures.end, text-within e b cols c.args.i r)
 
 smaller : (e : ℕ) (p : Box Plan Global) → the_size p.value < the_size (ListPlan e p)
 smaller e p = search (rules, plan_lemmas)
@@ -144,10 +154,10 @@ put_value-put_range-requires g t c κs within =
     let r = items-readable k of cols c.args.i (readable-is _ (list k of) cols c.args.i is c.requires) in
     let e = ap the_size c.in-List.is in
     let d = ap the_size c.deref.ensures in
-    let order : c.span-from-in-List.result.0 ≤ c.span-from-in-List.result.1 =
-    omega (arith, r.1, c.span-from-in-List.ensures.begin, c.span-from-in-List.ensures.end) in (
+    let order : c.span-items.result.0 ≤ c.span-items.result.1 =
+    omega (arith, r.1, c.span-items.ensures.begin, c.span-items.ensures.end) in (
       omega (arith, e, d, smaller k c.in-List.of),
-      (search (rules, within), (search rules, (order, subst (ReadableTo of cols) (sym c.span-from-in-List.ensures.end) r.0))),
+      (search (rules, within), (search rules, (order, subst (ReadableTo of cols) (sym c.span-items.ensures.end) r.0))),
     )
 
 smaller_maybe : (e : ℕ) (p : Box Plan Global) → the_size p.value < the_size (MaybePlan e p)
@@ -257,12 +267,12 @@ put_value-returns-in_ok-put_part-in-Text-clause-ok g t c =
     let i = c.args.i in
     let e = c.in-Text.ends in
     let b = c.in-Text.bytes in
-    let to = c.span-from.result.1 in
+    let to = c.span-text.result.1 in
     let begin = begin_at (cols e) i in
     c.in_ok-put_part-in-Text.ensures.ok
     ∙ ap (λ (u : TreeData). c.args.out.now.items ++ c.args.mark ∷ compact_text (data_of u))
-    (ap (λ n. text_tree (text_from (cols b) n (to - n))) c.span-from.ensures.begin
-    ∙ ap (λ n. text_tree (text_from (cols b) begin (n - begin))) c.span-from.ensures.end
+    (ap (λ n. text_tree (text_from (cols b) n (to - n))) c.span-text.ensures.begin
+    ∙ ap (λ n. text_tree (text_from (cols b) begin (n - begin))) c.span-text.ensures.end
     ∙ ap (λ p. tree_at p cols i) (sym (ap plan_view c.in-Text.is ∙ view-Text e b)))
 
 pub put_value-returns-in_ok-put_range-in-List-clause-ok : goal.put_value-returns-in_ok-put_range-in-List-clause-ok
@@ -271,13 +281,13 @@ put_value-returns-in_ok-put_range-in-List-clause-ok g t c =
     let i = c.args.i in
     let k = c.in-List.ends in
     let of = plan_view c.deref.result.now in
-    let to = c.span-from-in-List.result.1 in
+    let to = c.span-items.result.1 in
     let begin = begin_at (cols k) i in
     let is = ap plan_view c.in-List.is ∙ view-List k c.in-List.of ∙ ap (λ p. list k (plan_view p)) (sym c.deref.ensures) in
     c.in_ok-put_range-in-List.ensures.ok
     ∙ ap (λ (u : TreeData). c.args.out.now.items ++ c.args.mark ∷ compact_text (data_of u))
-    (ap (λ n. items (trees_from (tree_at of cols) n (to - n))) c.span-from-in-List.ensures.begin
-    ∙ ap (λ n. items (trees_from (tree_at of cols) begin (n - begin))) c.span-from-in-List.ensures.end
+    (ap (λ n. items (trees_from (tree_at of cols) n (to - n))) c.span-items.ensures.begin
+    ∙ ap (λ n. items (trees_from (tree_at of cols) begin (n - begin))) c.span-items.ensures.end
     ∙ ap (λ p. tree_at p cols i) (sym is))
 
 pub put_value-returns-in_ok-put_optional-in-Maybe-clause-ok : goal.put_value-returns-in_ok-put_optional-in-Maybe-clause-ok

@@ -1,8 +1,9 @@
-use Rattle.std.proofs.Common.{List, Ok, ◌∙◌, sym, ap}
+use Rattle.std.proofs.Common.{List, Ok, ◌∙◌, sym, ap, refl}
 use Rattle.nt_encode.specs.Elements.{Element}
 use Rattle.nt_column.specs.Column.{Column, zeroed, columns_of}
 use Rattle.nt_reader.proofs.Chains.{reads-as}
 use Rattle.nt_reader.proofs.Changes.{next-elements, next-empty, next-kind, zeroed-elements, changed-changes, row-there, inside}
+use Rattle.nt_reader.proofs.KeptTypes.{changed-keeps}
 use Rattle.nt_reader.proofs.ColumnSteps.{closed-read, zeros-read, paged-read, untyped-read}
 use Rattle.nt_reader.proofs.columns.read_column.Goals as goal
 
@@ -28,8 +29,18 @@ returns-then-begins_behind-clause-read g c row there told is =
     c.zeros.ensures))
 
 pub returns-then-begins_behind-clause-others : goal.returns-then-begins_behind-clause-others
-returns-then-begins_behind-clause-others g c = changed-changes (λ (x : Column). zeroed x.kind c.args.cluster.now.entries) c.args.id
-    (columns_of c.args.columns.now) _ c.zeros.ensures
+returns-then-begins_behind-clause-others g c =
+    let zeros = λ (x : Column). zeroed x.kind c.args.cluster.now.entries in
+    record {
+      one = changed-changes zeros c.args.id (columns_of c.args.columns.now) _ c.zeros.ensures;
+      types = changed-keeps zeros c.args.id (columns_of c.args.columns.now) _ (λ x. refl) c.zeros.ensures;
+    }
+
+pub returns-then-not-known-clause-others : goal.returns-then-not-known-clause-others
+returns-then-not-known-clause-others g c = record { one = record { all = refl; before = refl; behind = refl }; types = refl }
+
+pub returns-in-None-clause-others : goal.returns-in-None-clause-others
+returns-in-None-clause-others g c = record { one = record { all = refl; before = refl; behind = refl }; types = refl }
 
 pub fill-requires-clause-empty : goal.fill-requires-clause-empty
 fill-requires-clause-empty g c = record {

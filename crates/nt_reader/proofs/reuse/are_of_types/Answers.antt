@@ -1,4 +1,4 @@
-use Rattle.std.proofs.Common.{◌∙◌, refl, sym, length, arith}
+use Rattle.std.proofs.Common.{◌∙◌, refl, sym, arith}
 use Rattle.std.proofs.lemmas.List.{length-map}
 use Rattle.nt_column.specs.Column.{Buffer, columns_of}
 use Rattle.nt_column.proofs.Sets.{column-known}

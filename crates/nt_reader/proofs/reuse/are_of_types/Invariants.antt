@@ -1,4 +1,4 @@
-use Rattle.std.proofs.Common.{map, take}
+use Rattle.std.proofs.Common.{take}
 use Rattle.nt_column.specs.Column.{columns_of}
 use Rattle.nt_reader.specs.Columns.{AreOfTypes}
 use Rattle.nt_reader.proofs.reuse.are_of_types.Given as goal

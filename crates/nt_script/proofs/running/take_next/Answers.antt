@@ -7,6 +7,7 @@ use Rattle.nt_script.specs.declared.error.ScriptError.{ScriptError}
 use Rattle.nt_script.specs.Script.{adds_field}
 use Rattle.nt_script.specs.Running.{EndsEarlyFor, ReadsScriptLine}
 use Rattle.nt_script.proofs.Ends.{event_ends, field_ends, not_given}
+use Rattle.nt_script.proofs.Passed.{stands_within}
 use Rattle.nt_script.proofs.Goes.{event_went, field_went, all_given}
 use Rattle.nt_script.proofs.running.take_next.Goals as goal
 
@@ -15,7 +16,8 @@ returns-in-Err-clause-line g c F text first p rows on =
     let was = left_of g.S.Source.state c.args.lines.now in
     let is = left_of g.S.Source.state c.next.new.self in
     subst (λ (e : ScriptError). EndsEarlyFor g.D.Disk.state F text first p was is c.args.writer.now e) (sym c.from.ensures)
-    (not_given g.D.Disk.state F text first p (members_view c.args.fields.now) c.args.writer.now was is c.in-Err.error on
+    (not_given g.D.Disk.state F text first p rows (members_view c.args.fields.now) c.args.writer.now was is c.in-Err.error on
+    (stands_within g.D.Disk.state c.args.writer.now (c.keeps.ensures.writer.writing c.requires.is_open.alive) c.keeps.ensures.book)
     c.in-Err.ensures.line)
 
 pub returns-in_default-clause-line : goal.returns-in_default-clause-line
@@ -76,4 +78,6 @@ returns-in-Err-take_event-clause-line g c F text first p rows on =
     let kind : adds_field c.in-Some.line.bytes ≡ false =
     ap adds_field (sym c.as_slice.ensures) ∙ (sym c.adds_field.ensures ∙ c.if-adds_field.false) in
     event_ends g.D.Disk.state F text first p rows (members_view c.args.fields.now) c.args.writer.now c.take_event.new.writer was is
-    c.in-Some.line c.in-Err-take_event.error on next kind (c.in-Err-take_event.ensures.done on.segments on.entries on.taken)
+    c.in-Some.line c.in-Err-take_event.error on
+    (stands_within g.D.Disk.state c.args.writer.now (c.keeps.ensures.writer.writing c.requires.is_open.alive) c.keeps.ensures.book)
+    next kind (c.in-Err-take_event.ensures.done on.segments on.entries on.taken)

@@ -8,6 +8,6 @@ pub returns-in_ok-put_entries-in-Ok-clause-told : goal.returns-in_ok-put_entries
 returns-in_ok-put_entries-in-Ok-clause-told g c b is = (
   given_entries c.in-Ok.cluster,
   c.in-Ok.ensures.read b is,
-  c.past.ensures ∙ ap (λ (n : ℕ). past_entries n c.args.range.now) (c.entries.ensures ∙ sym (length-given c.in-Ok.cluster)),
+  c.past-pending.ensures ∙ ap (λ (n : ℕ). past_entries n c.args.pending.now.range) (c.entries.ensures ∙ sym (length-given c.in-Ok.cluster)),
   c.in_ok-put_entries-in-Ok.ensures.ok,
 )

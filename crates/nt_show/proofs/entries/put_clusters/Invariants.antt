@@ -18,5 +18,5 @@ pub record HasListed (o : Outline) (range : EntryRange) (k : ℕ) (left : EntryR
 
 abbrev pub invariant-loop-k : goal.invariant-loop-k
 invariant-loop-k g l =
-    HasListed l.reader l.fn.range l.k l.left (g.H.Host.state l.initial.host) l.initial.waiting.items (g.H.Host.state l.host)
-    l.waiting.items (g.F.ReadAt.state l.initial.file) (g.F.ReadAt.state l.file)
+    HasListed l.reader l.fn.pending.range l.k l.pending.range (g.H.Host.state l.initial.host) l.initial.pending.waiting.items
+    (g.H.Host.state l.host) l.pending.waiting.items (g.F.ReadAt.state l.initial.file) (g.F.ReadAt.state l.file)

@@ -31,8 +31,8 @@ returns-in_err-fault g c =
       told = λ w b is is-file.
           entries_refused c.args.range b c.in_ok-reader.reader c.in_err-fault.field-0.0 _ _ w is (attached.read b is-file)
           (told_from b c.in_ok-reader.reader c.args.range (g.H.Host.state c.args.host.now).world
-          (g.H.Host.state c.put_clusters.new.host).world c.new-waiting.result.items c.put_clusters.new.waiting.items
-          (Err c.in_err-fault.field-0.0) c.new-waiting.ensures.items
+          (g.H.Host.state c.put_clusters.new.host).world c.new.result.items c.put_clusters.new.pending.waiting.items
+          (Err c.in_err-fault.field-0.0) c.new.ensures.items
           (listed.told b (attached.file.same ∙ is-file)));
       later = listed.cause.later;
       file_later = omega (arith, attached.file.later, listed.cause.file_later);
@@ -54,11 +54,11 @@ returns-in_err-print_all g c =
     subst (ShowsFile (entries_shown c.args.range) _ _ _ _) (sym (p.1 ∙ ap (λ (e : ReadFailure). Err e) p.2))
     (record {
       told = λ w b is is-file.
-          listed_unprinted c.args.range b c.put_clusters.new.waiting.items c.in_ok-reader.reader c.in_ok-fault.fault _ _ _ w is
+          listed_unprinted c.args.range b c.put_clusters.new.pending.waiting.items c.in_ok-reader.reader c.in_ok-fault.fault _ _ _ w is
           (attached.read b is-file)
           (told_from b c.in_ok-reader.reader c.args.range (g.H.Host.state c.args.host.now).world
-          (g.H.Host.state c.put_clusters.new.host).world c.new-waiting.result.items c.put_clusters.new.waiting.items
-          (Ok c.in_ok-fault.fault) c.new-waiting.ensures.items
+          (g.H.Host.state c.put_clusters.new.host).world c.new.result.items c.put_clusters.new.pending.waiting.items
+          (Ok c.in_ok-fault.fault) c.new.ensures.items
           (listed.told b (attached.file.same ∙ is-file))) front;
       later = omega (arith, listed.cause.later, printed.cause.later);
       file_later = omega (arith, attached.file.later, listed.cause.file_later);
@@ -79,11 +79,11 @@ returns-in-None g c =
     (prints ToOut l)) c.deref.ensures.value printed.ok in
     record {
       told = λ w b is is-file.
-          listed_whole c.args.range b c.put_clusters.new.waiting.items c.in_ok-reader.reader c.in_ok-fault.fault _ _ _ w c.in-None.is is
-          (attached.read b is-file)
+          listed_whole c.args.range b c.put_clusters.new.pending.waiting.items c.in_ok-reader.reader c.in_ok-fault.fault _ _ _ w
+          c.in-None.is is (attached.read b is-file)
           (told_from b c.in_ok-reader.reader c.args.range (g.H.Host.state c.args.host.now).world
-          (g.H.Host.state c.put_clusters.new.host).world c.new-waiting.result.items c.put_clusters.new.waiting.items
-          (Ok c.in_ok-fault.fault) c.new-waiting.ensures.items
+          (g.H.Host.state c.put_clusters.new.host).world c.new.result.items c.put_clusters.new.pending.waiting.items
+          (Ok c.in_ok-fault.fault) c.new.ensures.items
           (listed.told b (attached.file.same ∙ is-file))) turns;
       later = omega (arith, listed.cause.later, printed.cause.later);
       file_later = omega (arith, attached.file.later, listed.cause.file_later);
@@ -104,11 +104,11 @@ returns g c =
     (prints ToOut l)) c.deref.ensures.value printed.ok in
     record {
       told = λ w b is is-file.
-          listed_faulty c.args.range b c.put_clusters.new.waiting.items c.in_ok-reader.reader c.in_ok-fault.fault c.in-Some.fault _ _ _ w
-          c.in-Some.is is (attached.read b is-file)
+          listed_faulty c.args.range b c.put_clusters.new.pending.waiting.items c.in_ok-reader.reader c.in_ok-fault.fault c.in-Some.fault
+          _ _ _ w c.in-Some.is is (attached.read b is-file)
           (told_from b c.in_ok-reader.reader c.args.range (g.H.Host.state c.args.host.now).world
-          (g.H.Host.state c.put_clusters.new.host).world c.new-waiting.result.items c.put_clusters.new.waiting.items
-          (Ok c.in_ok-fault.fault) c.new-waiting.ensures.items
+          (g.H.Host.state c.put_clusters.new.host).world c.new.result.items c.put_clusters.new.pending.waiting.items
+          (Ok c.in_ok-fault.fault) c.new.ensures.items
           (listed.told b (attached.file.same ∙ is-file))) turns;
       later = omega (arith, listed.cause.later, printed.cause.later);
       file_later = omega (arith, attached.file.later, listed.cause.file_later);

@@ -1,4 +1,3 @@
-use Rattle.std.proofs.Common.{inl}
 use Rattle.std.proofs.lemmas.Result.{err_from_is_err_and}
 use Rattle.nt_store.proofs.Closed.{closed_leaves, unclosed_leaves, closed_crash, unclosed_crash, close_order, close_fails, of_no_text}
 use Rattle.nt_store.proofs.closing.close_file.Goals as goal
@@ -14,13 +13,13 @@ returns-in_err-close g c =
       left = λ fields texts h is filled.
           unclosed_leaves c.chunks_in_files.ensures.lengths c.chunks_in_files.ensures.stored c.chunks_in_files.ensures.over
           c.args.schema.now c.args.params.now c.args.book.now may.closable.begin fields texts h filled e disk disk' is may.unspoiled
-          c.in_err-close.ensures.cause c.in_err-close.ensures.left;
-      order = close_order _ _ disk disk' _ (λ h is. (g.met.D.Disk.told c.args.disk.now h is).1) c.close.ensures.left;
+          c.in_err-close.ensures.closes.cause c.in_err-close.ensures.closes.left;
+      order = close_order _ _ disk disk' _ (λ h is. (g.met.D.Disk.told c.args.disk.now h is).1) c.close.ensures.closes.left;
       crash = λ fields texts h is filled.
           unclosed_crash c.crashes_leave_chunks_or_none.ensures c.args.schema.now c.args.params.now c.args.book.now fields texts h filled
-          e disk disk' is may.unspoiled c.in_err-close.ensures.cause c.in_err-close.ensures.left;
-      failed = λ is. close_fails c.args.book.now _ _ _ disk disk' e may.unspoiled c.in_err-close.ensures.cause c.in_err-close.ensures.left
-          (cc is);
+          e disk disk' is may.unspoiled c.in_err-close.ensures.closes.cause c.in_err-close.ensures.closes.left;
+      failed = λ is. close_fails c.args.book.now _ _ _ disk disk' e may.unspoiled c.in_err-close.ensures.closes.cause
+          c.in_err-close.ensures.closes.left (cc is);
       no_text = of_no_text e;
     })
 
@@ -31,12 +30,12 @@ returns g c =
     record {
       left = λ fields texts h is filled.
           closed_leaves c.chunks_in_files.ensures.lengths c.chunks_in_files.ensures.stored c.chunks_in_files.ensures.over
-          c.args.schema.now c.args.params.now c.args.book.now c.requires.may.closable.begin fields texts h filled disk.held disk'.held is
-          c.in_ok-close.ensures.finished.file c.in_ok-close.ensures.finished.within;
-      order = close_order _ _ disk disk' _ (λ h is. (g.met.D.Disk.told c.args.disk.now h is).1) c.close.ensures.left;
+          c.args.schema.now c.args.params.now c.args.book.now c.requires.may.closable.begin fields texts h filled disk'.held
+          (c.in_ok-close.ensures.closes.left.held h is) c.in_ok-close.ensures.closes.finished.within;
+      order = close_order _ _ disk disk' _ (λ h is. (g.met.D.Disk.told c.args.disk.now h is).1) c.close.ensures.closes.left;
       crash = λ fields texts h is filled.
           closed_crash c.crashes_leave_chunks_or_none.ensures c.args.schema.now c.args.params.now c.args.book.now fields texts h filled
-          disk'.held c.in_ok-close.ensures.finished.within (c.in_ok-close.ensures.left.held h is);
+          disk'.held c.in_ok-close.ensures.closes.finished.within (c.in_ok-close.ensures.closes.left.held h is);
       failed = λ is. absurd (cc is);
       no_text = tt;
     }

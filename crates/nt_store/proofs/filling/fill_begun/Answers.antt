@@ -24,7 +24,7 @@ returns-in-Ok g c =
             dealt_from (members_view c.args.fields.now) c.args.settings.now.params.now ts c.args.begun.1 c.args.begun.0
                 c.run_contexts-disk.result.book (g.D.Disk.state c.args.disk).held (g.D.Disk.state c.run_contexts-disk.result.disk).held
                 filled.h c.requires.ready.rules c.requires.ready.rows c.requires.within c.requires.ready.book_is c.keeps.ensures
-                run.ungrouped run.book_on run.short told.0 told.1 held filled.is filled.shut filled.unfinished,
+                run.ungrouped run.book_on run.short told.0 told.1 told.2 held filled.is filled.shut filled.unfinished,
           );
       may_close = record {
         closable = record {

@@ -5,14 +5,15 @@ use Rattle.nt_store.specs.declared.error.StoreError.TheVariants.{Outside}
 use Rattle.nt_store.specs.Orders.{order_line}
 use Rattle.nt_store.proofs.Begun.{shut_open}
 use Rattle.nt_store.proofs.Crashing.{leaves_open}
-use Rattle.nt_store.proofs.Printing.{none_printed, front_printed, line_printed, closed_told, closed_crashes}
+use Rattle.nt_store.specs.Writing.{prints_nothing}
+use Rattle.nt_store.proofs.Printing.{front_printed, line_printed, closed_told, closed_crashes}
 use Rattle.nt_store.proofs.storing.finish.Goals as goal
 
 pub returns-in_err-order-clause-file : goal.returns-in_err-order-clause-file
 returns-in_err-order-clause-file g c =
     let p = err_from_is_err_and c.from_residual.result c.from_residual.ensures.1 in
     record {
-      told = λ fields ts w h is held filled. rw (p.1, p.2) (none_printed w _ is, (h, held, shut_open h.image filled.shut));
+      told = λ fields ts w h is held filled. rw (p.1, p.2) (prints_nothing is, (h, held, shut_open h.image filled.shut));
       order = λ h held. (h, held, λ shut order. order);
       crash = λ fields ts w h is held filled. rw (p.1, p.2) (h, held, filled.unfinished);
     }
@@ -21,7 +22,7 @@ pub returns-in_err-line-clause-file : goal.returns-in_err-line-clause-file
 returns-in_err-line-clause-file g c =
     let p = err_from_is_err_and c.from_residual-in_err-line.result c.from_residual-in_err-line.ensures.1 in
     record {
-      told = λ fields ts w h is held filled. rw (p.1, p.2) (none_printed w _ is, (h, held, shut_open h.image filled.shut));
+      told = λ fields ts w h is held filled. rw (p.1, p.2) (prints_nothing is, (h, held, shut_open h.image filled.shut));
       order = λ h held. (h, held, λ shut order. order);
       crash = λ fields ts w h is held filled. rw (p.1, p.2) (h, held, filled.unfinished);
     }
@@ -34,7 +35,8 @@ returns-in_err-print_all-clause-file g c =
       told = λ fields ts w h is held filled.
           let front = c.print_all.ensures.front w is in
           rw (p.1, p.2) (inl (
-            front_printed (commit_order c.args.book.now) c.deref-2.result.now front.0 w _ line front.2,
+            front_printed fields c.args.params.now ts w _ (commit_order c.args.book.now) c.deref-2.result.now front.0
+                (record { sound = filled.holds.sound; uses = filled.holds.are.uses }) line front.2,
             (h, held, inl (shut_open h.image filled.shut)),
           ));
       order = λ h held. (h, held, λ shut order. order);
@@ -48,6 +50,7 @@ returns-clause-file g c =
     record {
       told = λ fields ts w h is held filled.
           closed_told fields c.args.params.now ts w _ _ c.args.book.now _
+          (record { sound = filled.holds.sound; uses = filled.holds.are.uses })
           (line_printed c.args.book.now c.deref-2.result.now w _ line (c.in_ok-print_all.ensures.ok w is))
           (closes.left fields ts h held filled);
       order = closes.order;

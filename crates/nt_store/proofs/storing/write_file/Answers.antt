@@ -1,4 +1,4 @@
-use Rattle.std.proofs.Common.{◌≡◌, ◌⊎◌, ◌∙◌, inl, inr, arith}
+use Rattle.std.proofs.Common.{◌∙◌}
 use Rattle.nt_store.proofs.Answered.{ok_filled, ok_holds, err_why, err_left, either_failed}
 use Rattle.nt_store.proofs.Crashing.{leaves_open}
 use Rattle.nt_store.proofs.Printing.{unfilled_told}

@@ -1,162 +1,115 @@
-use Rattle.std.proofs.Common.{◌∙◌, ap, subst, refl, arith, rules, ◌++◌, ◌∷◌, [], ◌-◌, ◌≤◌, length}
+use Rattle.std.proofs.Common.{◌≡◌, ◌∙◌, ap, sym, refl, subst, arith, true, ◌+◌, length}
+use Rattle.std.specs.Prelude.{Err}
+use Rattle.std.proofs.lemmas.Result.{err_from_is_err_and}
 use Rattle.nt_machine.specs.History.{ranges_of}
-use Rattle.nt_machine.specs.Legal.{ranges_end}
-use Rattle.nt_book.specs.Books.{BookData, book_end, book_clusters}
-use Rattle.nt_book.specs.Entries.{committed_entry, faulted_entry}
-use Rattle.nt_commit.proofs.Stepping.{limits_are, not_due, range_fits, same_history, faulted, committed, new_claim}
-use Rattle.nt_commit.proofs.Owned.{step_from, commits_from, limit_named, limit_refuses}
+use Rattle.nt_book.specs.Books.{book_clusters, book_end, is_due}
+use Rattle.nt_book.specs.Limiting.{limit_error}
+use Rattle.nt_meta.proofs.DueFacts.{due-none}
+use Rattle.nt_commit.specs.Appending.{due_bytes}
+use Rattle.nt_commit.specs.Holds.{Commits}
+use Rattle.nt_commit.specs.Locked.{LockedState}
+use Rattle.nt_commit.specs.declared.error.CommitError.TheVariants.{Memory}
+use Rattle.nt_commit.proofs.Appended.{on_failed, due-room, due-length, with-behind}
+use Rattle.nt_commit.proofs.Stepping.{place_behind, limits_are}
+use Rattle.nt_commit.proofs.Owned.{commits_from, limit_named, limit_refuses, unmade, no_room, list_refused, commits_behind}
 use Rattle.nt_commit.proofs.locked.Locked.commit.Goals as goal
 
-pub reserve-requires : goal.reserve-requires
-reserve-requires g c = range_fits g.D.Disk.state _ _ _ _ c.self.invariant c.args.meta.now.len c.in_ok-check.ensures
+pub returns-in_default-clause-commits : goal.returns-in_default-clause-commits
+returns-in_default-clause-commits g c =
+    let due = subst (λ v. is_due v.book ≡ true) (sym c.self.view_is) c.in_default.ensures.err in
+    unmade g.D.Disk.state g.D.Ext.Ext.state _ _ c.self.view_is c.args.meta.now
+    (place_behind g.D.Disk.state _ _ _ _ c.self.invariant c.keeps.ensures _ refl) (λ none. due-none c.self.inside.book due none)
 
-pub append-cluster-requires : goal.append-cluster-requires
-append-cluster-requires g c = record {
-  limits = search rules;
-  spare = search rules;
-  not_due = not_due g.D.Disk.state _ _ _ _ c.self.invariant _ c.room.ensures.same;
-  lists = search rules;
-  paged = search rules;
-}
-
-pub invariant_of-self-in-Ok : goal.invariant_of-self-in-Ok
-invariant_of-self-in-Ok g c =
-    let room = c.room.ensures.same in
-    let meta = c.args.meta.now in
-    let reserved = c.in-Ok.ensures.reserves in
-    let book = c.append-cluster.ensures.book ∙ ap (λ (x : BookData). record x {
-      history = x.history ++ committed_entry c.append-cluster.result (book_end x) meta ∷ [];
-      spare = c.room.new.self.spare - 1;
-    }) room in
-    let number = c.append-cluster.ensures.number ∙ ap (λ (x : BookData). length (book_clusters x)) room in
-    let context : meta.context ≤ c.self.inside.contexts = omega (arith, ap (λ v. v.birth.contexts) c.self.view_is, c.requires.context) in
-    let behind = subst (λ (x : BookData). ranges_end x.begin (ranges_of x.history) ≤ book_end x) room c.append-cluster.ensures.allowed.1 in
-    (committed g.D.Disk.state _ _ _ _ c.self.invariant _ _ c.append-cluster.result _ meta book number behind c.in_ok-check.ensures
-    context c.requires.room reserved.ok reserved.end reserved.out reserved.cause.later).0.after
-
-pub invariant_of-self-in-Err-Memory : goal.invariant_of-self-in-Err-Memory
-invariant_of-self-in-Err-Memory g c =
-    let reserved = c.in-Err-Memory.ensures.reserves in
-    (same_history g.D.Disk.state _ _ _ _ c.self.invariant _ _ _ c.room.ensures.same reserved.err reserved.cause.later).0.after
-
-pub invariant_of-self-in-Err-Failed : goal.invariant_of-self-in-Err-Failed
-invariant_of-self-in-Err-Failed g c =
-    let reserved = c.in-Err-Failed.ensures.reserves in
-    let meta = c.args.meta.now in
-    let count = c.faults-faults.result in
-    let book = c.fault.ensures.book ∙ ap (λ (x : BookData). record x {
-      history = x.history ++ faulted_entry meta.context count ∷ [];
-      spare = c.room.new.self.spare - 1;
-    }) c.room.ensures.same in
-    let context : meta.context ≤ c.self.inside.contexts = omega (arith, ap (λ v. v.birth.contexts) c.self.view_is, c.requires.context) in
-    (faulted g.D.Disk.state _ _ _ _ c.self.invariant _ _ meta.context count _ book context reserved.err reserved.cause.later
-    (reserved.cause.failed (cc c.in-Err-Failed.field-0-is)) c.faults-faults.ensures c.faults-faults.type_inv).0.after
-
-pub returns-in_err-check-clause-commits : goal.returns-in_err-check-clause-commits
-returns-in_err-check-clause-commits g c =
-    limit_refuses g.D.Disk.state _ _ c.self.view_is g.D.Ext.Ext.state c.args.meta.now _ c.in_err-check.field-0.0
-    (limit_named _ _ c.from_residual.ensures.1)
-    (limits_are g.D.Disk.state _ _ _ _ c.self.invariant c.args.meta.now.len _ c.in_err-check.ensures)
+pub returns-in_err-check_with-clause-commits : goal.returns-in_err-check_with-clause-commits
+returns-in_err-check_with-clause-commits g c =
+    let list = subst (λ v. c.in-Ok.list.items ≡ due_bytes v.book) (sym c.self.view_is) c.in-Ok.ensures.list in
+    let counted : c.len.result ≡ length c.in-Ok.list.items = omega (arith, c.len.ensures, c.in-Ok.list.ok) in
+    let due = counted ∙ (ap length list ∙ due-length c.self.inside.book) in
+    let place = place_behind g.D.Disk.state _ _ _ _ c.self.invariant c.keeps.ensures c.len.result due in
+    limit_refuses g.D.Disk.state _ _ c.self.view_is g.D.Ext.Ext.state c.args.meta.now _ c.in_err-check_with.field-0.0
+    (limit_named _ _ c.from_residual.ensures.1) place
+    (limits_are g.D.Disk.state _ _ _ _ c.self.invariant c.keeps.ensures c.len.result due c.args.meta.now.len _
+    c.in_err-check_with.ensures)
 
 pub returns-then-is_err-clause-commits : goal.returns-then-is_err-clause-commits
 returns-then-is_err-clause-commits g c =
-    commits_from g.D.Disk.state _ _ _ c.self.view_is g.D.Ext.Ext.state c.args.meta.now _ (record {
-      limits = limits_are g.D.Disk.state _ _ _ _ c.self.invariant c.args.meta.now.len _ c.in_ok-check.ensures;
-      added = [];
-      grows = (same_history g.D.Disk.state _ _ _ _ c.self.invariant _ _ _ c.room.ensures.same (record {
-        held = refl;
-        end = refl;
-        out = refl;
-      }) (omega arith)).1;
-      adds = refl;
+    let list = subst (λ v. c.in-Ok.list.items ≡ due_bytes v.book) (sym c.self.view_is) c.in-Ok.ensures.list in
+    let counted : c.len.result ≡ length c.in-Ok.list.items = omega (arith, c.len.ensures, c.in-Ok.list.ok) in
+    let due = counted ∙ (ap length list ∙ due-length c.self.inside.book) in
+    let place = place_behind g.D.Disk.state _ _ _ _ c.self.invariant c.keeps.ensures c.len.result due in
+    let limits = limits_are g.D.Disk.state _ _ _ _ c.self.invariant c.keeps.ensures c.len.result due c.args.meta.now.len _
+    c.in_ok-check_with.ensures in
+    let same = on_failed c.make_room.result c.if-is_err.ensures.value c.make_room.ensures.err in
+    subst (λ w. Commits g.D.Disk.state g.D.Ext.Ext.state c.args.meta.now c.args.self.now w (Err Memory)) (sym same)
+    (subst (λ v. Commits g.D.Disk.state g.D.Ext.Ext.state c.args.meta.now v v (Err Memory)) c.self.view_is
+    (no_room g.D.Disk.state g.D.Ext.Ext.state c.args.meta.now _ place limits))
+
+pub append_due-requires-clause-list : goal.append_due-requires-clause-list
+append_due-requires-clause-list g c =
+    c.in-Ok.ensures.list ∙ (sym (due-room c.args.self.now.book c.make_room.new.self.book.spare)
+    ∙ sym (ap (λ v. due_bytes v.book) c.make_room.ensures.same))
+
+pub returns-in_err-append_due-clause-commits : goal.returns-in_err-append_due-clause-commits
+returns-in_err-append_due-clause-commits g c =
+    let list = subst (λ v. c.in-Ok.list.items ≡ due_bytes v.book) (sym c.self.view_is) c.in-Ok.ensures.list in
+    let counted : c.len.result ≡ length c.in-Ok.list.items = omega (arith, c.len.ensures, c.in-Ok.list.ok) in
+    let due = counted ∙ (ap length list ∙ due-length c.self.inside.book) in
+    let place = place_behind g.D.Disk.state _ _ _ _ c.self.invariant c.keeps.ensures c.len.result due in
+    let limits = limits_are g.D.Disk.state _ _ _ _ c.self.invariant c.keeps.ensures c.len.result due c.args.meta.now.len _
+    c.in_ok-check_with.ensures in
+    let room = c.make_room.ensures.same ∙ ap (λ (v : LockedState _). record v {
+      book = record v.book { spare = c.make_room.new.self.book.spare };
     })
+    (sym c.self.view_is) in
+    let p = err_from_is_err_and c.from_residual-in_err-append_due.result c.from_residual-in_err-append_due.ensures.1 in
+    let same : c.from_residual-in_err-append_due.result ≡ Err c.in_err-append_due.field-0.0 = cc (p.1, p.2) in
+    subst (λ r. Commits g.D.Disk.state g.D.Ext.Ext.state c.args.meta.now c.args.self.now c.append_due.new.self r) (sym same)
+    (commits_from g.D.Disk.state _ _ _ c.self.view_is g.D.Ext.Ext.state c.args.meta.now _
+    (list_refused g.D.Disk.state g.D.Ext.Ext.state c.args.meta.now _ place limits c.make_room.new.self
+    c.make_room.new.self.book.spare room c.append_due.new.self c.in_err-append_due.field-0.0 c.in_err-append_due.ensures.appends))
 
-pub returns-in-Ok-clause-step : goal.returns-in-Ok-clause-step
-returns-in-Ok-clause-step g c =
-    let room = c.room.ensures.same in
-    let meta = c.args.meta.now in
-    let reserved = c.in-Ok.ensures.reserves in
-    let book = c.append-cluster.ensures.book ∙ ap (λ (x : BookData). record x {
-      history = x.history ++ committed_entry c.append-cluster.result (book_end x) meta ∷ [];
-      spare = c.room.new.self.spare - 1;
-    }) room in
-    let number = c.append-cluster.ensures.number ∙ ap (λ (x : BookData). length (book_clusters x)) room in
-    let context : meta.context ≤ c.self.inside.contexts = omega (arith, ap (λ v. v.birth.contexts) c.self.view_is, c.requires.context) in
-    let behind = subst (λ (x : BookData). ranges_end x.begin (ranges_of x.history) ≤ book_end x) room c.append-cluster.ensures.allowed.1 in
-    let done = committed g.D.Disk.state _ _ _ _ c.self.invariant _ _ c.append-cluster.result _ meta book number behind c.in_ok-check.ensures
-    context c.requires.room reserved.ok reserved.end reserved.out reserved.cause.later in
-    step_from g.D.Disk.state _ _ _ c.self.view_is done.0
-
-pub returns-in-Ok-clause-commits : goal.returns-in-Ok-clause-commits
-returns-in-Ok-clause-commits g c =
-    let room = c.room.ensures.same in
-    let meta = c.args.meta.now in
-    let reserved = c.in-Ok.ensures.reserves in
-    let book = c.append-cluster.ensures.book ∙ ap (λ (x : BookData). record x {
-      history = x.history ++ committed_entry c.append-cluster.result (book_end x) meta ∷ [];
-      spare = c.room.new.self.spare - 1;
-    }) room in
-    let number = c.append-cluster.ensures.number ∙ ap (λ (x : BookData). length (book_clusters x)) room in
-    let context : meta.context ≤ c.self.inside.contexts = omega (arith, ap (λ v. v.birth.contexts) c.self.view_is, c.requires.context) in
-    let behind = subst (λ (x : BookData). ranges_end x.begin (ranges_of x.history) ≤ book_end x) room c.append-cluster.ensures.allowed.1 in
-    let done = committed g.D.Disk.state _ _ _ _ c.self.invariant _ _ c.append-cluster.result _ meta book number behind c.in_ok-check.ensures
-    context c.requires.room reserved.ok reserved.end reserved.out reserved.cause.later in
-    commits_from g.D.Disk.state _ _ _ c.self.view_is g.D.Ext.Ext.state meta _ (record {
-      limits = limits_are g.D.Disk.state _ _ _ _ c.self.invariant meta.len _ c.in_ok-check.ensures;
-      added = _;
-      grows = done.1;
-      adds = (
-        new_claim g.D.Disk.state _ _ _ _ c.self.invariant g.D.Ext.Ext.state c.append-cluster.result meta.len _ number
-            c.in-Ok.ensures.new,
-        refl,
-      );
+pub append_cluster-requires-clause-limits : goal.append_cluster-requires-clause-limits
+append_cluster-requires-clause-limits g c =
+    let list = subst (λ v. c.in-Ok.list.items ≡ due_bytes v.book) (sym c.self.view_is) c.in-Ok.ensures.list in
+    let counted : c.len.result ≡ length c.in-Ok.list.items = omega (arith, c.len.ensures, c.in-Ok.list.ok) in
+    let due = counted ∙ (ap length list ∙ due-length c.self.inside.book) in
+    let room = c.make_room.ensures.same ∙ ap (λ (v : LockedState _). record v {
+      book = record v.book { spare = c.make_room.new.self.book.spare };
     })
+    (sym c.self.view_is) in
+    let first = c.in_ok-append_due.ensures.appends.listed in
+    let b = c.self.inside.book in
+    let kept = (with-behind b.limits (book_end b) (length (book_clusters b)) c.args.meta.now.len c.len.result
+    (sym c.in_ok-check_with.ensures)).0 in
+    let end : book_end c.append_due.new.self.book ≡ book_end b + c.len.result =
+    first.end ∙ (ap (λ v. book_end v.book + length (due_bytes v.book)) room
+    ∙ (ap (λ l. book_end b + length l) (due-room b c.make_room.new.self.book.spare ∙ sym list)
+    ∙ ap (λ n. book_end b + n) (sym counted))) in
+    ap (λ l. limit_error l (book_end c.append_due.new.self.book) (length (book_clusters c.append_due.new.self.book)) c.args.meta.now.len)
+    (first.limits ∙ ap (λ v. v.book.limits) room)
+    ∙ (ap (λ n. limit_error b.limits n (length (book_clusters c.append_due.new.self.book)) c.args.meta.now.len) end
+    ∙ (ap (λ n. limit_error b.limits (book_end b + c.len.result) n c.args.meta.now.len)
+    (ap (λ h. length (ranges_of h)) (first.history ∙ ap (λ v. v.book.history) room)) ∙ kept))
 
-pub returns-in-Err-Memory-clause-step : goal.returns-in-Err-Memory-clause-step
-returns-in-Err-Memory-clause-step g c =
-    let reserved = c.in-Err-Memory.ensures.reserves in
-    step_from g.D.Disk.state _ _ _ c.self.view_is (same_history g.D.Disk.state _ _ _ _ c.self.invariant _ _ _ c.room.ensures.same
-    reserved.err reserved.cause.later).0
-
-pub returns-in-Err-Memory-clause-commits : goal.returns-in-Err-Memory-clause-commits
-returns-in-Err-Memory-clause-commits g c =
-    let reserved = c.in-Err-Memory.ensures.reserves in
-    commits_from g.D.Disk.state _ _ _ c.self.view_is g.D.Ext.Ext.state c.args.meta.now _ (record {
-      limits = limits_are g.D.Disk.state _ _ _ _ c.self.invariant c.args.meta.now.len _ c.in_ok-check.ensures;
-      added = [];
-      grows = (same_history g.D.Disk.state _ _ _ _ c.self.invariant _ _ _ c.room.ensures.same reserved.err reserved.cause.later).1;
-      adds = refl;
+pub returns-clause-commits : goal.returns-clause-commits
+returns-clause-commits g c =
+    let list = subst (λ v. c.in-Ok.list.items ≡ due_bytes v.book) (sym c.self.view_is) c.in-Ok.ensures.list in
+    let counted : c.len.result ≡ length c.in-Ok.list.items = omega (arith, c.len.ensures, c.in-Ok.list.ok) in
+    let due = counted ∙ (ap length list ∙ due-length c.self.inside.book) in
+    let place = place_behind g.D.Disk.state _ _ _ _ c.self.invariant c.keeps.ensures c.len.result due in
+    let limits = limits_are g.D.Disk.state _ _ _ _ c.self.invariant c.keeps.ensures c.len.result due c.args.meta.now.len _
+    c.in_ok-check_with.ensures in
+    let room = c.make_room.ensures.same ∙ ap (λ (v : LockedState _). record v {
+      book = record v.book { spare = c.make_room.new.self.book.spare };
     })
-
-pub returns-in-Err-Failed-clause-step : goal.returns-in-Err-Failed-clause-step
-returns-in-Err-Failed-clause-step g c =
-    let reserved = c.in-Err-Failed.ensures.reserves in
-    let meta = c.args.meta.now in
-    let count = c.faults-faults.result in
-    let book = c.fault.ensures.book ∙ ap (λ (x : BookData). record x {
-      history = x.history ++ faulted_entry meta.context count ∷ [];
-      spare = c.room.new.self.spare - 1;
-    }) c.room.ensures.same in
-    let context : meta.context ≤ c.self.inside.contexts = omega (arith, ap (λ v. v.birth.contexts) c.self.view_is, c.requires.context) in
-    step_from g.D.Disk.state _ _ _ c.self.view_is
-    (faulted g.D.Disk.state _ _ _ _ c.self.invariant _ _ meta.context count _ book context reserved.err reserved.cause.later
-    (reserved.cause.failed (cc c.in-Err-Failed.field-0-is)) c.faults-faults.ensures c.faults-faults.type_inv).0
-
-pub returns-in-Err-Failed-clause-commits : goal.returns-in-Err-Failed-clause-commits
-returns-in-Err-Failed-clause-commits g c =
-    let reserved = c.in-Err-Failed.ensures.reserves in
-    let meta = c.args.meta.now in
-    let count = c.faults-faults.result in
-    let book = c.fault.ensures.book ∙ ap (λ (x : BookData). record x {
-      history = x.history ++ faulted_entry meta.context count ∷ [];
-      spare = c.room.new.self.spare - 1;
-    }) c.room.ensures.same in
-    let context : meta.context ≤ c.self.inside.contexts = omega (arith, ap (λ v. v.birth.contexts) c.self.view_is, c.requires.context) in
-    let rose = reserved.cause.failed (cc c.in-Err-Failed.field-0-is) in
-    commits_from g.D.Disk.state _ _ _ c.self.view_is g.D.Ext.Ext.state meta _ (record {
-      limits = limits_are g.D.Disk.state _ _ _ _ c.self.invariant meta.len _ c.in_ok-check.ensures;
-      added = _;
-      grows = (faulted g.D.Disk.state _ _ _ _ c.self.invariant _ _ meta.context count _ book context reserved.err
-          reserved.cause.later rose c.faults-faults.ensures c.faults-faults.type_inv).1;
-      adds = (rose, refl);
-    })
+    (sym c.self.view_is) in
+    let first = c.in_ok-append_due.ensures.appends.listed in
+    let b = c.self.inside.book in
+    let end : book_end c.append_due.new.self.book ≡ book_end b + c.len.result =
+    first.end ∙ (ap (λ v. book_end v.book + length (due_bytes v.book)) room
+    ∙ (ap (λ l. book_end b + length l) (due-room b c.make_room.new.self.book.spare ∙ sym list)
+    ∙ ap (λ n. book_end b + n) (sym counted))) in
+    commits_from g.D.Disk.state _ _ _ c.self.view_is g.D.Ext.Ext.state c.args.meta.now _
+    (commits_behind g.D.Disk.state g.D.Ext.Ext.state c.args.meta.now _ place limits c.make_room.new.self
+    c.make_room.new.self.book.spare room c.append_due.new.self c.append_cluster.new.self _ c.in_ok-append_due.ensures.appends
+    c.in_ok-append_due.ensures.step.birth end c.append_cluster.result c.append_cluster.ensures.appends)

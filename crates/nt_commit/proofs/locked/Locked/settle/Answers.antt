@@ -27,7 +27,7 @@ invariant_of-self g c =
     c.args.context c.args.claim)
     (sym c.self.view_is) c.requires.own in
     let context : c.args.context ≤ c.self.inside.contexts = omega (arith, ap (λ v. v.birth.contexts) c.self.view_is, c.requires.context) in
-    (claim_settled g.D.Disk.state _ _ _ _ c.self.invariant _ _ g.D.Ext.Ext.state c.args.context c.args.claim own context
+    (claim_settled g.D.Disk.state _ _ _ _ c.self.invariant c.keeps.ensures _ _ g.D.Ext.Ext.state c.args.context c.args.claim own context
     (g.met.D.Ext.Ext.sized c.args.claim.ext) c.settle.ensures.book
     (g.met.D.Ext.Ext.told c.args.claim.ext c.requires.filled) c.settle-2.ensures).0.after
 
@@ -38,7 +38,7 @@ returns-clause-step g c =
     (sym c.self.view_is) c.requires.own in
     let context : c.args.context ≤ c.self.inside.contexts = omega (arith, ap (λ v. v.birth.contexts) c.self.view_is, c.requires.context) in
     step_from g.D.Disk.state _ _ _ c.self.view_is
-    (claim_settled g.D.Disk.state _ _ _ _ c.self.invariant _ _ g.D.Ext.Ext.state c.args.context c.args.claim own context
+    (claim_settled g.D.Disk.state _ _ _ _ c.self.invariant c.keeps.ensures _ _ g.D.Ext.Ext.state c.args.context c.args.claim own context
     (g.met.D.Ext.Ext.sized c.args.claim.ext) c.settle.ensures.book
     (g.met.D.Ext.Ext.told c.args.claim.ext c.requires.filled) c.settle-2.ensures).0
 
@@ -49,6 +49,6 @@ returns-clause-settles g c =
     (sym c.self.view_is) c.requires.own in
     let context : c.args.context ≤ c.self.inside.contexts = omega (arith, ap (λ v. v.birth.contexts) c.self.view_is, c.requires.context) in
     settles_from g.D.Disk.state _ _ _ c.self.view_is c.args.context c.args.claim.cluster (g.D.Ext.Ext.state c.args.claim.ext)
-    (claim_settled g.D.Disk.state _ _ _ _ c.self.invariant _ _ g.D.Ext.Ext.state c.args.context c.args.claim own context
+    (claim_settled g.D.Disk.state _ _ _ _ c.self.invariant c.keeps.ensures _ _ g.D.Ext.Ext.state c.args.context c.args.claim own context
     (g.met.D.Ext.Ext.sized c.args.claim.ext) c.settle.ensures.book
     (g.met.D.Ext.Ext.told c.args.claim.ext c.requires.filled) c.settle-2.ensures).1

@@ -19,7 +19,7 @@ returns-in-Ok-clause-file g c =
     rw (← c.self.view_is) (λ h told.
     let left = left-whole g.D.Disk.state _ was c.keeps.ensures (λ k held. (g.met.D.Disk.told c.self.inside.disk k held).1) h told
     c.crashes_leave_closed_or_unfinished.ensures
-    (g.D.Disk.state c.close.new.disk) c.in-Ok.ensures.left c.in-Ok.ensures.cause in
+    (g.D.Disk.state c.close.new.disk) c.in-Ok.ensures.closes.left c.in-Ok.ensures.closes.cause in
     (left.0, left.1, record { order = left.2; whole = left.3.0; shut = tt; crash = left.3.1 }))
 
 pub returns-clause-cause : goal.returns-clause-cause
@@ -28,7 +28,7 @@ returns-clause-cause g c =
     let was = c.self.invariant.writing alive in
     rw (← c.self.view_is) (record {
       unspoiled = none-spoiled (book_clusters c.self.inside.book) was.settled;
-      cause = c.in-Err.ensures.cause;
+      cause = c.in-Err.ensures.closes.cause;
     })
 
 pub returns-clause-file : goal.returns-clause-file
@@ -38,5 +38,5 @@ returns-clause-file g c =
     rw (← c.self.view_is) (λ h told.
     let left = left-open g.D.Disk.state _ was c.keeps.ensures (λ k held. (g.met.D.Disk.told c.self.inside.disk k held).1) h told
     c.crashes_leave_closed_or_unfinished.ensures
-    (g.D.Disk.state c.close.new.disk) c.in-Err.error c.in-Err.ensures.left c.in-Err.ensures.cause in
+    (g.D.Disk.state c.close.new.disk) c.in-Err.error c.in-Err.ensures.closes.left c.in-Err.ensures.closes.cause in
     (left.0, left.1, record { order = left.2; whole = tt; shut = left.3.0; crash = left.3.1 }))

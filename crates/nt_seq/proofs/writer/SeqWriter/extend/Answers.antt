@@ -119,6 +119,7 @@ returns-in-Ok-widen g c =
         added = added;
         written = written-widened g.D.Disk.state _ c.widen.new.book new columns field plan was none added out next described few whole
             c.in-Ok-widen.ensures.ok.0 (c.added_fields_are_left_out.ensures.zero new.fields new.columns field.of (length t.fields));
+        clusters = ap book_clusters next;
         none = none-gathered g.D.Disk.state _ c.widen.new.book new columns field plan was none added out next described few whole
             c.in-Ok-widen.ensures.ok.0;
         now = refl;

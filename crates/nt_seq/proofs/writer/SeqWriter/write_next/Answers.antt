@@ -1,4 +1,4 @@
-use Rattle.std.proofs.Common.{◌≡◌, ◌∙◌, ap, sym, refl, subst, true, Bool, List, [], length, arith}
+use Rattle.std.proofs.Common.{◌≡◌, ◌∙◌, ap, sym, refl, subst, ℕ, true, Bool, List, [], length, arith, rules}
 use Rattle.std.specs.Prelude.{Err}
 use Rattle.std.proofs.lemmas.Result.{err_from_is_err_and}
 use Rattle.nt_commit.specs.declared.error.CommitError.{CommitError}
@@ -9,6 +9,9 @@ use Rattle.nt_fill.proofs.Entries.{entries_count}
 use Rattle.nt_seq.specs.Writer.{gathered_by}
 use Rattle.nt_seq.proofs.Flushed.{image-fits, meta-gathered, clusters-more, writing-more, unclosed-more}
 use Rattle.nt_seq.proofs.Refused.{writing-alive, after-error, clusters-kept, stays}
+use Rattle.nt_seq.specs.Appending.{GainsCluster}
+use Rattle.nt_outside.specs.Held.{BecomesSome, IsTornAppend}
+use Rattle.nt_book.specs.declared.meta.ClusterMeta.{ClusterMeta}
 use Rattle.nt_seq.proofs.writer.SeqWriter.write_next.Goals as goal
 
 pub append_image-requires : goal.append_image-requires
@@ -53,14 +56,85 @@ invariant_of-self-2 g c =
           (writing-more state _ disk next cleared i was made.bytes meta fits appends empty);
     }
 
-pub returns-clause-nothing : goal.returns-clause-nothing
-returns-clause-nothing g c = λ none.
-    let gathered = subst (λ s. gathered_by s ≡ []) (sym c.self.view_is) none in
-    let zero = sym (entries_count c.self.inside.schema (columns_of c.self.inside.columns) c.self.inside.entries) ∙ ap length gathered in
-    absurd (omega (arith, zero, c.if-self-eq0.false))
+-- something is gathered
+pub returns-in_err-image : goal.returns-in_err-image
+returns-in_err-image g c =
+    let p = err_from_is_err_and c.from_residual.result c.from_residual.ensures.1 in
+    let e = p.1 ∙ ap (λ (x : CommitError). Err x) (p.2 ∙ c.in_err-image.ensures.err) in
+    record {
+      nothing = λ none.
+          let gathered = subst (λ s. gathered_by s ≡ []) (sym c.self.view_is) none in
+          let zero = sym (entries_count c.self.inside.schema (columns_of c.self.inside.columns) c.self.inside.entries)
+          ∙ ap length gathered in
+          absurd (omega (arith, zero, c.if-self-eq0.false));
+      ok = λ some. rw p.1 tt;
+      limits = λ some apart. absurd (apart e);
+      refused = record {
+        kept = λ e is apart. rw (← c.self.view_is) (stays g.D.Disk.state _);
+        fault = λ is. absurd (cc (p.1, p.2, is, c.in_err-image.ensures.err));
+      };
+    }
 
-pub returns-clause-ok : goal.returns-clause-ok
-returns-clause-ok g c = λ some.
+pub returns-in_err-append_image : goal.returns-in_err-append_image
+returns-in_err-append_image g c =
+    let alive = subst (λ s. s.alive ≡ true) (sym c.self.view_is) c.requires.alive in
+    let was = c.self.invariant.writing alive in
+    let p = err_from_is_err_and c.from_residual-in_err-append_image.result c.from_residual-in_err-append_image.ensures.1 in
+    let told = c.in_err-append_image.ensures in
+    let inside = c.self.inside in
+    let i = c.in_ok-image.image in
+    let made = c.in_ok-image.ensures in
+    let meta = meta-gathered g.D.Disk.state _ was i made.bytes made.meta in
+    record {
+      nothing = λ none.
+          let gathered = subst (λ s. gathered_by s ≡ []) (sym c.self.view_is) none in
+          let zero = sym (entries_count c.self.inside.schema (columns_of c.self.inside.columns) c.self.inside.entries)
+          ∙ ap length gathered in
+          absurd (omega (arith, zero, c.if-self-eq0.false));
+      ok = λ some. rw p.1 tt;
+      limits = λ some apart. search rules;
+      refused = record {
+        kept = λ e is apart.
+            let left = told.kept e (cc (p.1, p.2, is)) apart in
+            rw (← c.self.view_is) (record {
+              untouched = left.0.untouched;
+              book = left.0.book_is;
+              written = clusters-kept (g.D.Disk.state inside.given.value) (g.D.Disk.state inside.disk)
+                  (g.D.Disk.state c.append_image.new.disk) inside.schema inside.params.page inside.book c.append_image.new.book left.0;
+              now = ap (λ (a : Bool). record {
+                given = inside.given.value;
+                disk = c.append_image.new.disk;
+                book = c.append_image.new.book;
+                table = inside.schema;
+                params = inside.params;
+                columns = columns_of inside.columns;
+                entries = inside.entries;
+                alive = a;
+              }) left.1;
+            });
+        fault = λ is.
+            let left = told.fault (cc (p.1, p.2, is)) in
+            rw (← c.self.view_is) (record {
+              torn = subst (λ (n : ℕ). BecomesSome (g.D.Disk.state inside.disk).held (g.D.Disk.state c.append_image.new.disk).held
+                  (IsTornAppend n)) (ap (λ (m : ClusterMeta). m.len) meta) left.0.held;
+              book = left.0.book_is;
+              rose = left.0.rose;
+              now = ap (λ (a : Bool). record {
+                given = inside.given.value;
+                disk = c.append_image.new.disk;
+                book = c.append_image.new.book;
+                table = inside.schema;
+                params = inside.params;
+                columns = columns_of inside.columns;
+                entries = inside.entries;
+                alive = a;
+              }) left.1;
+            });
+      };
+    }
+
+pub returns : goal.returns
+returns g c =
     let alive = subst (λ s. s.alive ≡ true) (sym c.self.view_is) c.requires.alive in
     let was = c.self.invariant.writing alive in
     let i = c.in_ok-image.image in
@@ -69,69 +143,31 @@ returns-clause-ok g c = λ some.
     let meta = meta-gathered state _ was i made.bytes made.meta in
     let inside = c.self.inside in
     let appends = c.in_ok-append_image.ensures.ok.0 in
-    rw (← c.self.view_is) (record {
-      written = clusters-more (state inside.given.value) (state inside.disk) (state c.append_image.new.disk) inside.schema
-          inside.params.page inside.book c.append_image.new.book (columns_of inside.columns) _ i was.gives made.bytes meta was.begun
-          appends;
-      none = refl;
-      later = appends.later;
-      now = ap (λ (a : Bool). record {
-        given = inside.given.value;
-        disk = c.append_image.new.disk;
-        book = c.append_image.new.book;
-        table = inside.schema;
-        params = inside.params;
-        columns = columns_of c.clear.new.self;
-        entries = 0;
-        alive = a;
-      }) c.in_ok-append_image.ensures.ok.1;
-    })
-
-pub returns-in_err-image-clause-refused : goal.returns-in_err-image-clause-refused
-returns-in_err-image-clause-refused g c =
-    let p = err_from_is_err_and c.from_residual.result c.from_residual.ensures.1 in
     record {
-      kept = λ e is apart. rw (← c.self.view_is) (stays g.D.Disk.state _);
-      fault = λ is. absurd (cc (p.1, p.2, is, c.in_err-image.ensures.err));
-    }
-
-pub returns-in_err-append_image-clause-refused : goal.returns-in_err-append_image-clause-refused
-returns-in_err-append_image-clause-refused g c =
-    let p = err_from_is_err_and c.from_residual-in_err-append_image.result c.from_residual-in_err-append_image.ensures.1 in
-    let told = c.in_err-append_image.ensures in
-    let inside = c.self.inside in
-    record {
-      kept = λ e is apart.
-          let left = told.kept e (cc (p.1, p.2, is)) apart in
-          rw (← c.self.view_is) (record {
-            untouched = left.0.untouched;
-            book = left.0.book_is;
-            written = clusters-kept (g.D.Disk.state inside.given.value) (g.D.Disk.state inside.disk)
-                (g.D.Disk.state c.append_image.new.disk) inside.schema inside.params.page inside.book c.append_image.new.book left.0;
-            now = ap (λ (a : Bool). record {
-              given = inside.given.value;
-              disk = c.append_image.new.disk;
-              book = c.append_image.new.book;
-              table = inside.schema;
-              params = inside.params;
-              columns = columns_of inside.columns;
-              entries = inside.entries;
-              alive = a;
-            }) left.1;
-          });
-      fault = λ is.
-          let left = told.fault (cc (p.1, p.2, is)) in
-          rw (← c.self.view_is) (record {
-            rose = left.0.rose;
-            now = ap (λ (a : Bool). record {
-              given = inside.given.value;
-              disk = c.append_image.new.disk;
-              book = c.append_image.new.book;
-              table = inside.schema;
-              params = inside.params;
-              columns = columns_of inside.columns;
-              entries = inside.entries;
-              alive = a;
-            }) left.1;
-          });
+      nothing = λ none.
+          let gathered = subst (λ s. gathered_by s ≡ []) (sym c.self.view_is) none in
+          let zero = sym (entries_count c.self.inside.schema (columns_of c.self.inside.columns) c.self.inside.entries)
+          ∙ ap length gathered in
+          absurd (omega (arith, zero, c.if-self-eq0.false));
+      ok = λ some. rw (← c.self.view_is) (record {
+        gives = was.gives;
+        gains = subst (λ (m : ClusterMeta). GainsCluster m inside.book c.append_image.new.book) meta appends.gains;
+        written = clusters-more (state inside.given.value) (state inside.disk) (state c.append_image.new.disk) inside.schema
+            inside.params.page inside.book c.append_image.new.book (columns_of inside.columns) _ i was.gives made.bytes meta was.begun
+            appends;
+        none = refl;
+        later = appends.later;
+        now = ap (λ (a : Bool). record {
+          given = inside.given.value;
+          disk = c.append_image.new.disk;
+          book = c.append_image.new.book;
+          table = inside.schema;
+          params = inside.params;
+          columns = columns_of c.clear.new.self;
+          entries = 0;
+          alive = a;
+        }) c.in_ok-append_image.ensures.ok.1;
+      });
+      limits = λ some apart. search rules;
+      refused = search rules;
     }

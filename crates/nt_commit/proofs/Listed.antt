@@ -1,0 +1,169 @@
+-- The page lists of a book, with one entry or list more.
+use Rattle.std.proofs.Common.{◌≡◌, ◌∙◌, ap, sym, refl, subst, ℕ, ◌+◌, ◌<◌, ◌≤◌, true, false, List, [], ◌∷◌, ◌++◌, length, Option, Some, None, arith}
+use Rattle.std.specs.Prelude.{IfSome}
+use Rattle.std.proofs.lemmas.Bool.{false≢true, eqb-true, ne_eqb}
+use Rattle.nt_lists.specs.Parts.{Part}
+use Rattle.nt_machine.specs.declared.entry.Entry.{Entry}
+use Rattle.nt_book.specs.declared.list.NotedList.{NotedList}
+use Rattle.nt_book.specs.declared.list.Tear.{Tear}
+use Rattle.nt_book.specs.declared.meta.ClusterMeta.{ClusterMeta}
+use Rattle.nt_book.specs.Books.{BookData, book_clusters, is_due}
+use Rattle.nt_book.specs.Kept.{IsBookKept}
+use Rattle.nt_book.specs.Listing.{clusters_listed, group_size, is_due_after}
+use Rattle.nt_book.proofs.Beside.{clusters_listed-more}
+use Rattle.nt_pagelists.specs.Blobs.{blob, blob_len}
+use Rattle.nt_pagelists.specs.Due.{due_len, due_object, due_span, group_sum}
+use Rattle.nt_pagelists.specs.Objects.{ClusterSpan, list_object}
+use Rattle.nt_pagelists.proofs.ListsStay.{list-stays}
+use Rattle.nt_commit.specs.Lists.{AreListsOf, IsNoted, IsTornList, noted_list, torn_lens}
+use Rattle.nt_commit.proofs.Noting.{SameLists, stays-snoc, more-snoc, noted-same, noted-snoc}
+use Rattle.nt_commit.proofs.Placing.{torn-facts}
+
+-- a list doesn't see the room, the lists and the tear of its book
+blind : (sum : ℕ) (b : BookData) (spare : ℕ) (ls : List NotedList) (t : Option Tear) (s : ClusterSpan)
+    → list_object sum (record b { spare = spare; lists = ls; torn = t }) s ≡ list_object sum b s
+unfolding list_object
+blind sum b spare ls t s = refl
+
+-- a book that is due a list isn't torn
+pub due-whole : (b : BookData) → is_due b ≡ true → b.torn ≡ None
+due-whole b due = at b.group b.torn due
+  where
+    at : (g : Option (ℕ × ℕ)) (t : Option Tear) → is_due_after g b.lists t (length (book_clusters b)) ≡ true → t ≡ None
+    at None t due = absurd (false≢true due)
+    at (Some g) None due = refl
+    at (Some g) (Some t) due = absurd (false≢true due)
+
+-- and it has groups
+pub due-group : (b : BookData) → is_due b ≡ true → (g : ℕ × ℕ) × (b.group ≡ Some g)
+due-group b due = at b.group due refl
+  where
+    at : (o : Option (ℕ × ℕ)) → is_due_after o b.lists b.torn (length (book_clusters b)) ≡ true → b.group ≡ o
+        → (g : ℕ × ℕ) × (b.group ≡ Some g)
+    at None due is = absurd (false≢true due)
+    at (Some g) due is = (g, is)
+
+-- once it is noted none is due
+pub noted-once : (b : BookData) (l : NotedList) → IfSome b.group (λ g. 0 < g.0) → is_due b ≡ true
+    → is_due (record b { lists = b.lists ++ l ∷ [] }) ≡ false
+noted-once b l sized due = at b.group b.torn sized due
+  where
+    at : (o : Option (ℕ × ℕ)) (t : Option Tear) → IfSome o (λ g. 0 < g.0) → is_due_after o b.lists t (length (book_clusters b)) ≡ true
+        → is_due_after o (b.lists ++ l ∷ []) t (length (book_clusters b)) ≡ false
+    at None t some due = absurd (false≢true due)
+    at (Some g) (Some t) some due = absurd (false≢true due)
+    at (Some g) None some due =
+        let full = eqb-true (length (book_clusters b)) (clusters_listed g.0 b.lists + g.0) due in
+        ne_eqb (length (book_clusters b)) (clusters_listed g.0 (b.lists ++ l ∷ []) + g.0)
+        (λ is. omega (arith, is, full, some, clusters_listed-more g.0 b.lists l))
+
+-- the list that is due, of two books that have it
+due-stays : (b b' : BookData) → b'.group ≡ b.group → b'.lists ≡ b.lists → SameLists (group_sum b.group) (length (book_clusters b)) b b'
+    → clusters_listed (group_size b.group) b.lists + group_size b.group ≤ length (book_clusters b)
+    → due_len b' ≡ due_len b
+unfolding due_object
+due-stays b b' group lists same full =
+    ap (λ (g : Option (ℕ × ℕ)). blob_len (length (list_object (group_sum g) b' (record {
+      from = clusters_listed (group_size g) b'.lists;
+      count = group_size g;
+    })))) group
+    ∙ (ap (λ (l : List NotedList). blob_len (length (list_object (group_sum b.group) b' (record {
+      from = clusters_listed (group_size b.group) l;
+      count = group_size b.group;
+    })))) lists
+    ∙ ap (λ (object : List ℕ). blob_len (length object)) (same (due_span b) full))
+
+-- the list that is due is that behind the listed ones
+due-noted : (b : BookData) (l : NotedList) (p : Part) → IsNoted (due_object b) l p
+    → IsNoted (list_object (group_sum b.group) b (record {
+      from = 0 + clusters_listed (group_size b.group) b.lists;
+      count = group_size b.group;
+    })) l p
+unfolding due_object
+due-noted b l p h =
+    subst (λ (m : ℕ). IsNoted (list_object (group_sum b.group) b (record { from = m; count = group_size b.group })) l p) (omega arith) h
+
+module _ (b : BookData) (lists : List Part) (torn : List ℕ) (listed : AreListsOf b lists torn) where
+  -- the same with other room
+  pub listed-room : (spare : ℕ) → AreListsOf (record b { spare = spare }) lists torn
+  listed-room spare =
+      let new : BookData = record b { spare = spare } in
+      let same : (sum : ℕ) → SameLists sum (length (book_clusters b)) b new = λ sum s le. blind sum b spare b.lists b.torn s in
+      record {
+        noted = noted-same (group_sum b.group) (group_size b.group) (clusters_listed (group_size b.group) b.lists) b new
+            (λ s le. blind (group_sum b.group) b spare b.lists b.torn s) 0 b.lists lists (omega arith) listed.noted;
+        torn_is = listed.torn_is;
+        torn_short = torn-facts {P = IsTornList b} b.torn (λ t h. record {
+          full = h.full;
+          short = subst (λ (n : ℕ). t.len ≤ n) (sym (due-stays b new refl refl (same (group_sum b.group)) h.full)) h.short;
+        }) listed.torn_short;
+      }
+
+  module _ (kept : IsBookKept b) (e : Entry ClusterMeta) (spare : ℕ) where
+    abbrev next : BookData
+    next = record b { history = b.history ++ e ∷ []; spare = spare }
+
+    pub same-next : (sum : ℕ) → SameLists sum (length (book_clusters b)) b next
+    same-next sum = λ s le.
+        list-stays sum b next s kept le (record {
+          clusters = stays-snoc (s.from + s.count) b.history e le;
+          firsts = λ column less. refl;
+        })
+
+    pub full-next : clusters_listed (group_size b.group) b.lists + group_size b.group ≤ length (book_clusters b)
+        → clusters_listed (group_size b.group) b.lists + group_size b.group ≤ length (book_clusters next)
+    full-next full = omega (arith, full, more-snoc b.history e)
+
+    pub due-next-len : clusters_listed (group_size b.group) b.lists + group_size b.group ≤ length (book_clusters b)
+        → due_len next ≡ due_len b
+    due-next-len full = due-stays b next refl refl (same-next (group_sum b.group)) full
+
+    -- one entry more
+    pub listed-snoc : AreListsOf next lists torn
+    listed-snoc = record {
+      noted = noted-same (group_sum b.group) (group_size b.group) (length (book_clusters b)) b next (same-next (group_sum b.group)) 0
+          b.lists lists (omega (arith, kept.listed)) listed.noted;
+      torn_is = listed.torn_is;
+      torn_short = torn-facts {P = IsTornList b} b.torn (λ t h. record {
+        full = full-next h.full;
+        short = subst (λ (n : ℕ). t.len ≤ n) (sym (due-next-len h.full)) h.short;
+      }) listed.torn_short;
+    }
+
+  -- one list more: that which was due, appended at a place
+  module _ (place : ℕ) (l : NotedList) (is : l ≡ noted_list place (due_object b)) (due : is_due b ≡ true) where
+    abbrev with_list : BookData
+    with_list = record b { lists = b.lists ++ l ∷ [] }
+
+    pub listed-more : clusters_listed (group_size b.group) b.lists ≤ length (book_clusters b)
+        → AreListsOf with_list (lists ++ record { place = place; bytes = blob place (due_object b) } ∷ []) torn
+    listed-more inside =
+        let whole = due-whole b due in
+        record {
+          noted = noted-same (group_sum b.group) (group_size b.group)
+              (clusters_listed (group_size b.group) (b.lists ++ l ∷ [])) b with_list
+              (λ s le. blind (group_sum b.group) b b.spare (b.lists ++ l ∷ []) b.torn s) 0
+              (b.lists ++ l ∷ []) (lists ++ record { place = place; bytes = blob place (due_object b) } ∷ []) (omega arith)
+              (noted-snoc (group_sum b.group) (group_size b.group) b 0 b.lists lists l
+              (record { place = place; bytes = blob place (due_object b) }) listed.noted
+              (due-noted b l (record { place = place; bytes = blob place (due_object b) }) (record { noted = is; bytes = refl })));
+          torn_is = listed.torn_is;
+          torn_short = subst (λ (o : Option Tear). IfSome o (λ t. IsTornList with_list t)) (sym whole) tt;
+        }
+
+  -- and one that failed, of which no more is left than its blob has
+  pub listed-torn : (t : Tear) → b.torn ≡ None
+      → clusters_listed (group_size b.group) b.lists + group_size b.group ≤ length (book_clusters b) → t.len ≤ due_len b
+      → AreListsOf (record b { torn = Some t }) lists (torn ++ t.len ∷ [])
+  listed-torn t none full short =
+      let new : BookData = record b { torn = Some t } in
+      let same : (sum : ℕ) → SameLists sum (length (book_clusters b)) b new = λ sum s le. blind sum b b.spare b.lists (Some t) s in
+      record {
+        noted = noted-same (group_sum b.group) (group_size b.group) (clusters_listed (group_size b.group) b.lists) b new
+            (λ s le. blind (group_sum b.group) b b.spare b.lists (Some t) s) 0 b.lists lists (omega arith) listed.noted;
+        torn_is = ap (λ (l : List ℕ). l ++ t.len ∷ []) (listed.torn_is ∙ ap torn_lens none);
+        torn_short = record {
+          full = full;
+          short = subst (λ (n : ℕ). t.len ≤ n) (sym (due-stays b new refl refl (same (group_sum b.group)) full)) short;
+        };
+      }

@@ -1,0 +1,10 @@
+pub mod Leaves
+pub mod Counts
+pub mod Lowest
+pub mod Sums
+pub mod Clusters
+pub mod Totalled
+pub mod Told
+pub mod Meaning
+pub mod Alone
+pub mod Ended

@@ -1,0 +1,26 @@
+//! What the numbers of a column come to: how many there are, their sum, the least and the greatest. They are totalled by several threads.
+//!
+//! Start at `running.rt` (`Running`, what the numbers so far came to, to which a column is added) and `total.rt`
+//! (`Running::total`, the integers of it all); `parallel.rt` cuts a column into blocks for the threads, and `piece.rt` is
+//! what a block comes to.
+//!
+//! Words: the *key* of an element is its place in the order of the integers of its width; `low` of these stand for integers below
+//! zero, so an integer is its key less `low`. A *piece* is what keys come to. So all sums are of natural numbers, and keep the order.
+//!
+//! Proved: pieces that are joined, in whatever order the threads end, are the piece of the whole (`keys_in_parallel`), so the total is
+//! that of one thread; and it is the total of the integers that the elements stand for, where there are at most 2^60 of them
+//! (`Running::total`). That several threads run is claimed nowhere.
+//!
+//! Choices that bind nobody else: a position of the parallel iterator is a block of 512 numbers, so that no closure is called for each
+//! number; and fewer than 256 blocks are no work for a second thread.
+#![tactic(auto)]
+
+mod parallel;
+mod piece;
+mod running;
+mod total;
+
+pub use parallel::keys_in_parallel;
+pub use piece::{Piece, piece_of};
+pub use running::Running;
+pub use total::{Total, is_integral};

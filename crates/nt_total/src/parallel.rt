@@ -1,0 +1,95 @@
+//! Blocks of numbers, read and totalled by several threads.
+
+ghost use Rattle.std.specs.Prelude.{◌≡◌, ◌+◌, ◌*◌, ◌<◌, ◌≤◌, ◌^◌, [], map, length};
+ghost use Rattle.std.specs.List.{slice_range};
+ghost use Rattle.nt_lists.specs.Chunks.{chunk};
+ghost use Rattle.nt_column.specs.Elements.{numbers};
+ghost use Rattle.nt_total.specs.Keys.{key, IsPieceOf, IsJoinOf};
+
+use crate::piece::{Piece, piece_of};
+use nt_column::Columns;
+use rayon::prelude::*;
+use std::thread::Threads;
+
+/// How many numbers are read at once.
+const BLOCK: usize = 512;
+
+/// How many blocks are worth a thread of their own.
+const LEAST_BLOCKS: usize = 256;
+
+/// Where a block is read to.
+fn empty_block() -> [u64; BLOCK] {
+    [0; BLOCK]
+}
+
+/// Reads numbers from a place on, up to the end of their page and of the room; how many they are, and what their keys come to.
+fn some_piece<C: Columns>(
+    columns: &C,
+    column: u32,
+    low: u64,
+    from: u64,
+    room: &mut [u64],
+) -> (usize, Piece)
+    requires low { low ≤ 2 ^ 63 }
+    requires room { (from < length (C.elements columns.now column)) × (0 < length room.old) }
+    ensures some { (0 < result.0) × (result.0 ≤ length room.old) }
+    ensures within { from + result.0 ≤ length (C.elements columns.now column) }
+    ensures piece { IsPieceOf
+        (map (key low) (slice_range (numbers (C.elements columns.now column)) from (from + result.0))) result.1 }
+{
+    let some = columns.read(column, from, room);
+    (some, piece_of(&room[..some], low))
+}
+
+/// What the keys of a block come to. It is read page by page.
+fn block_piece<C: Columns>(columns: &C, column: u32, low: u64, b: usize) -> Piece
+    requires low { low ≤ 2 ^ 63 }
+    requires within { b * 512 < length (C.elements columns.now column) }
+    ensures { IsPieceOf (map (key low) (chunk 512 (numbers (C.elements columns.now column)) b)) result }
+{
+    let len = columns.len(column);
+    let from = b as u64 * BLOCK as u64;
+    let count = (len - from).min(BLOCK as u64) as usize;
+    let mut room = empty_block();
+    let mut whole = Piece::none();
+    let mut done = 0;
+    while done < count {
+        let at = from + done as u64;
+        let (some, piece) = some_piece(columns, column, low, at, &mut room[done..count]);
+        whole = whole.join(piece);
+        done += some;
+    }
+    whole
+}
+
+/// What the keys of all numbers of a column come to, in as many threads as there are processors.
+pub fn keys_in_parallel<C: Columns>(
+    rt: &(impl Threads + Sync),
+    columns: &C,
+    column: u32,
+    low: u64,
+) -> Piece
+    requires { low ≤ 2 ^ 63 }
+    ensures { IsPieceOf (map (key low) (numbers (C.elements columns.now column))) result }
+{
+    let blocks = columns.len(column).div_ceil(BLOCK as u64) as usize;
+    (0..blocks)
+        .into_par_iter()
+        .with_min_len(LEAST_BLOCKS)
+        .map(
+            |b: usize| -> Piece
+                requires { (low ≤ 2 ^ 63) × (b * 512 < length (C.elements columns.now column)) }
+                ensures { IsPieceOf (map (key low)
+                    (chunk 512 (numbers (C.elements columns.entry.now column)) b)) result }
+            { block_piece(columns, column, low, b) },
+        )
+        .reduce(
+            rt,
+            || -> Piece
+                ensures { IsPieceOf [] result }
+            { Piece::none() },
+            |a: Piece, b: Piece| -> Piece
+                ensures { IsJoinOf a b result }
+            { a.join(b) },
+        )
+}

@@ -1,0 +1,72 @@
+//! Totals of keys, which are put together.
+
+ghost use Rattle.std.specs.Prelude.{◌≡◌, ◌≤◌, ◌^◌, [], map};
+ghost use Rattle.nt_total.specs.Keys.{key, IsPieceOf, IsJoinOf};
+
+/// The sum of keys, the least and the greatest; of none 0, the largest number and 0.
+#[derive(Clone, Copy)]
+pub struct Piece {
+    pub sum: u128,
+    pub least: u64,
+    pub greatest: u64,
+}
+
+/// Where an element stands in the order of the integers of its width, of which so many are below zero.
+#[inline(always)]
+fn key(element: u64, half: u64) -> u64
+    requires { half ≤ 2 ^ 63 }
+    ensures { result ≡ key half element }
+{
+    if element < half {
+        element + half
+    } else {
+        element - half
+    }
+}
+
+impl Piece {
+    /// What no keys come to.
+    #[inline(always)]
+    pub fn none() -> Piece
+        ensures { IsPieceOf [] result }
+    {
+        Piece {
+            sum: 0,
+            least: u64::MAX,
+            greatest: 0,
+        }
+    }
+
+    /// What two parts come to together.
+    #[inline(always)]
+    pub fn join(self, other: Piece) -> Piece
+        ensures { IsJoinOf self other result }
+    {
+        Piece {
+            sum: self.sum.wrapping_add(other.sum),
+            least: self.least.min(other.least),
+            greatest: self.greatest.max(other.greatest),
+        }
+    }
+}
+
+/// What the keys of elements come to.
+pub fn piece_of(elements: &[u64], half: u64) -> Piece
+    requires { half ≤ 2 ^ 63 }
+    ensures { IsPieceOf (map (key half) elements.now) result }
+{
+    let mut sum: u128 = 0;
+    let mut least = u64::MAX;
+    let mut greatest: u64 = 0;
+    for element in elements {
+        let key = key(*element, half);
+        sum = sum.wrapping_add(u128::from(key));
+        least = least.min(key);
+        greatest = greatest.max(key);
+    }
+    Piece {
+        sum,
+        least,
+        greatest,
+    }
+}

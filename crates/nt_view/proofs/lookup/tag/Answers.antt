@@ -1,0 +1,27 @@
+use Rattle.std.proofs.Common.{◌∙◌, List, sym, ap, get_or}
+use Rattle.nt_encode.specs.Elements.{Element, tags}
+use Rattle.nt_view.proofs.InTable.{pages-in, sums-in, zeros-tag}
+use Rattle.nt_view.proofs.lookup.tag.Goals as goal
+
+pub tag-requires-clause-within : goal.tag-requires-clause-within
+tag-requires-clause-within c =
+    rw (
+      c.deref.ensures.value,
+      ← pages-in c.args.store.now c.args.table.now c.args.column c.in-Pages.begin c.in-Pages.end c.in-Pages.count
+          c.in-Pages.kind c.in-Pages.ensures,
+    ) c.requires.within
+
+pub tag-requires-in-Sums : goal.tag-requires-in-Sums
+tag-requires-in-Sums c =
+    rw (sums-in c.args.store.now c.args.table.now c.args.column c.in-Sums.place c.index.result.now c.in-Sums.ensures c.index.ensures
+    c.requires.column) at c.requires.within
+
+pub returns-in-Zeros : goal.returns-in-Zeros
+returns-in-Zeros c =
+    zeros-tag c.args.store.now c.args.table.now c.args.column c.in-Zeros.field-0 c.args.i c.in-Zeros.ensures
+
+pub returns-in-Sums : goal.returns-in-Sums
+returns-in-Sums c =
+    c.tag-in-Sums.ensures ∙ sym (ap (λ (es : List Element). get_or (tags es) c.args.i 0)
+    (sums-in c.args.store.now c.args.table.now c.args.column c.in-Sums.place c.index.result.now c.in-Sums.ensures c.index.ensures
+    c.requires.column))

@@ -1,0 +1,4 @@
+pub mod Same
+pub mod Tested
+pub mod Loops
+pub mod Refused
