@@ -170,8 +170,8 @@ module _ (from to : List ℕ) (k l : ClusterList) (s t : Table) (same : (j : ℕ
       (subst (λ (x : KnownColumn). HoldsColumn to l id x r.code es)
       (sym (known-is (need_of t id) (need_of s id) q r (same id) begin.0 none.0)) read))
       (columns_read (id + 1) (place + length (stored_column own)) rows others left more both.1 none.1 begin.1
-      (λ j less. let next : id + 1 + j ≡ id + suc j = omega arith in ap (λ (i : ℕ). pages_listed l i) next
-      ∙ listed (suc j) (omega (arith, less)))
+      (λ j less. let next : id + 1 + j ≡ id + suc j = omega arith in
+      ap (λ (i : ℕ). pages_listed l i) next ∙ listed (suc j) (omega (arith, less)))
       (λ j p. let next : id + 1 + j ≡ id + suc j = omega arith in long (suc j) (ap (λ (i : ℕ). is_entries (need_of s i)) (sym next) ∙ p))
       (back_stands to (stored_column own) (stored_payload rest) (base + place) (base + (place + length (stored_column own)))
       (omega arith) there))

@@ -30,7 +30,7 @@ use Rattle.nt_file_meaning.specs.Clusters.{kind_of_code, pages_listed, zero_elem
 use Rattle.nt_file_meaning.specs.Holds.{HoldsPages, no_page, and_page, HoldsColumn, closed, not_begun, untyped, in_pages, HoldsColumns}
 use Rattle.nt_file_meaning.specs.Holds.{no_column, and_column, HoldsCluster}
 use Rattle.nt_copied.specs.Stored.{StoredPage, with_sum, stored_column, stored_payload, stored_page_metas, stored_metas, stored_meta}
-use Rattle.nt_copied.specs.Stored.{IsSoundPage, AreSoundPages, AreSoundColumns}
+use Rattle.nt_copied.specs.Stored.{AreSoundPages, AreSoundColumns}
 use Rattle.nt_copied.specs.Copies.{Source, stored_columns, filled_pages, read_pages, page_there, column_there, columns_there}
 use Rattle.nt_copied.specs.Copies.{NoneDeferred, HasFewElements}
 use Rattle.nt_copied.proofs.CopiedPages.{length-with_sum, bytes-are, long-page}

@@ -3,14 +3,12 @@ use Rattle.std.proofs.Common.{◌≡◌, ℕ, zero, suc, ◌+◌, Bool, true, fa
 use Rattle.std.proofs.Common.{get_or, Option, Some, None, refl, sym, ap, subst, ◌∙◌}
 use Rattle.std.specs.Prelude.{find, option_map, option_and_then, slice_get, is_some, codes}
 use Rattle.std.specs.Str.{bytes_eq}
-use Rattle.std.specs.List.{list_any}
 use Rattle.std.proofs.lemmas.Option.{none-some, slice_get-map}
 use Rattle.nt_lists.proofs.Bools.{and_true, both_true}
 use Rattle.nt_types.specs.ShapeData.{ShapeData, ShapesData, MembersData, MemberData, bool, char, byte, int, text, list, maybe, fields}
 use Rattle.nt_types.specs.ShapeData.{tuple, choice}
 use Rattle.nt_types.specs.ShapeData.{no_kinds, kind, no_parts, part}
 use Rattle.nt_types.specs.Schema.{part_under}
-use Rattle.nt_types.specs.ColumnTable.{code_of, bits_of}
 use Rattle.nt_types.specs.declared.column_type.ColumnType.{ColumnType}
 use Rattle.nt_types.specs.declared.column_type.ColumnType.TheVariants.{Char, Switch}
 use Rattle.nt_grammar.specs.declared.rows.FieldRow.{FieldRow}
@@ -25,53 +23,8 @@ use Rattle.nt_grammar.specs.Open.{shape_by_role, all_some, field_of_row, open_fi
 use Rattle.nt_plans.specs.Plan.{PlanData, PlansData}
 use Rattle.nt_plans.specs.Plan as plans
 use Rattle.nt_plans.specs.Place.{column_ids, place, place_members, place_each, place_from, open_plans}
-use Rattle.nt_copied.specs.Copies.{ReadAlike}
-use Rattle.nt_copied.specs.Alike.{without_flags, plain_column, bare, Alike, all_open, AllOpen}
-
--- ---- what is kept of answers
-
-kept-if : {A : Type 0} (b c : Bool) (x y : Option A) (k : A) → (b ≡ true → c ≡ true) → (x ≡ Some k → y ≡ Some k)
-    → cond b x None ≡ Some k → cond c y None ≡ Some k
-kept-if true c x y k h i e = ap (λ (d : Bool). cond d y None) (h refl) ∙ i e
-kept-if false c x y k h i e = absurd (none-some k e)
-
-kept-then : {A B : Type 0} (f : A → Option B) (o p : Option A) (k : B) → ((x : A) → o ≡ Some x → p ≡ Some x)
-    → option_and_then f o ≡ Some k → option_and_then f p ≡ Some k
-kept-then f None p k h e = absurd (none-some k e)
-kept-then f (Some x) p k h e = ap (option_and_then f) (h x refl) ∙ e
-
-kept-by : {A B : Type 0} (f g : A → Option B) (o : Option A) (k : B) → ((x : A) → f x ≡ Some k → g x ≡ Some k)
-    → option_and_then f o ≡ Some k → option_and_then g o ≡ Some k
-kept-by f g None k h e = absurd (none-some k e)
-kept-by f g (Some x) k h e = h x e
-
-kept-map : {A B : Type 0} (f : A → B) (o p : Option A) (k : B) → ((x : A) → o ≡ Some x → p ≡ Some x)
-    → option_map f o ≡ Some k → option_map f p ≡ Some k
-kept-map f None p k h e = absurd (none-some k e)
-kept-map f (Some x) p k h e = ap (option_map f) (h x refl) ∙ e
-
-kept-all : {A : Type 0} (f g : ℕ → Option A) (js : List ℕ) (ms : List A) → ((j : ℕ) (m : A) → f j ≡ Some m → g j ≡ Some m)
-    → all_some (map f js) ≡ Some ms → all_some (map g js) ≡ Some ms
-kept-all f g [] ms h e = e
-kept-all {A} f g (j ∷ js) ms h e = by (f j) refl e (λ rest. kept-all f g js rest h)
-  where
-    by : (o : Option A) → f j ≡ o → all_some (o ∷ map f js) ≡ Some ms
-        → ((rest : List A) → all_some (map f js) ≡ Some rest → all_some (map g js) ≡ Some rest)
-        → all_some (g j ∷ map g js) ≡ Some ms
-    by None is e more = absurd (none-some ms e)
-    by (Some m) is e more =
-        ap (λ (o : Option A). all_some (o ∷ map g js)) (h j m is)
-        ∙ kept-map (λ (xs : List A). m ∷ xs) (all_some (map f js)) (all_some (map g js)) ms more e
-
-kept-four : {A : Type 0} (b1 b2 b3 b4 : Bool) (w x y z w' x' y' z' : Option A) (k : A) → (w ≡ Some k → w' ≡ Some k)
-    → (x ≡ Some k → x' ≡ Some k)
-    → (y ≡ Some k → y' ≡ Some k) → (z ≡ Some k → z' ≡ Some k)
-    → cond b1 w (cond b2 x (cond b3 y (cond b4 z None))) ≡ Some k → cond b1 w' (cond b2 x' (cond b3 y' (cond b4 z' None))) ≡ Some k
-kept-four true b2 b3 b4 w x y z w' x' y' z' k f g h i e = f e
-kept-four false true b3 b4 w x y z w' x' y' z' k f g h i e = g e
-kept-four false false true b4 w x y z w' x' y' z' k f g h i e = h e
-kept-four false false false true w x y z w' x' y' z' k f g h i e = i e
-kept-four false false false false w x y z w' x' y' z' k f g h i e = absurd (none-some k e)
+use Rattle.nt_copied.specs.Alike.{without_flags, all_open, AllOpen}
+use Rattle.nt_copied.proofs.Answered.{kept-if, kept-then, kept-by, kept-map, kept-all, kept-four}
 
 -- ---- columns that fit where others did
 
@@ -278,52 +231,8 @@ module _ (g : ColumnRow → ColumnRow) (keeps : Keeps g) where
         ap (λ (p : PlanData). plans.plan p (place_from (map without_flags fs) (map g cs) (id + 1) shapes)) (place-kept k id)
         ∙ ap (λ (p : PlansData). plans.plan (place fs cs k id) p) (from-kept (id + 1) shapes)
 
-  plans-kept : (t : Table) → AllOpen t → open_plans (in_header (map without_flags t.fields) (map g t.columns)) ≡ open_plans t
+  pub plans-kept : (t : Table) → AllOpen t → open_plans (in_header (map without_flags t.fields) (map g t.columns)) ≡ open_plans t
   plans-kept t all =
       ap (λ (l : List (Option ShapeData)). place_from (map without_flags t.fields) (map g t.columns) 0 l)
       (shapes-kept t.fields t.columns 0 t.fields all)
       ∙ from-kept t.fields t.columns 0 (open_shapes t.fields t.columns 0 t.fields)
-
--- ---- the two ways in which rows lose flags
-
-same-kept : Keeps (λ (c : ColumnRow). c)
-same-kept = record { field = λ c. refl; fit = λ principal types c e. e }
-
-first-of : (a b c d e : Bool) → (a && b && c && d && e) ≡ true → a ≡ true
-first-of true b c d e h = refl
-first-of false b c d e h = absurd cc
-
-five : (a p : Bool) → a ≡ true → (a && true && true && true && (p || true)) ≡ true
-five true true h = refl
-five true false h = refl
-five false p h = absurd cc
-
-plain-kept : Keeps plain_column
-plain-kept = record {
-  field = λ c. refl;
-  fit = λ principal types c e.
-      five (list_any (λ t. eqb c.code (code_of t) && eqb c.bits (bits_of t)) types) principal (first-of _ _ _ _ _ e);
-}
-
-map-same : (cs : List ColumnRow) → map (λ (c : ColumnRow). c) cs ≡ cs
-map-same [] = refl
-map-same (c ∷ cs) = ap (λ (l : List ColumnRow). c ∷ l) (map-same cs)
-
-bare-plans : (t : Table) → AllOpen t → open_plans (bare t) ≡ open_plans t
-bare-plans t all =
-    ap (λ (l : List ColumnRow). open_plans (in_header (map without_flags t.fields) l)) (sym (map-same t.columns))
-    ∙ plans-kept (λ (c : ColumnRow). c) same-kept t all
-
-codes-kept : (cs : List ColumnRow) → map (λ (c : ColumnRow). c.code) (map plain_column cs) ≡ map (λ (c : ColumnRow). c.code) cs
-codes-kept [] = refl
-codes-kept (c ∷ cs) = ap (λ (l : List ℕ). c.code ∷ l) (codes-kept cs)
-
-pub read-alike : (s t : Table) → AllOpen s → AllOpen t → Alike s t → ReadAlike (bare s) t
-read-alike s t s_open t_open alike = record {
-  plans = bare-plans s s_open
-      ∙ (sym (plans-kept plain_column plain-kept s s_open)
-      ∙ (ap (λ (l : List FieldRow). open_plans (in_header l (map plain_column s.columns))) alike.fields
-      ∙ (ap (λ (l : List ColumnRow). open_plans (in_header (map without_flags t.fields) l)) alike.columns
-      ∙ plans-kept plain_column plain-kept t t_open)));
-  codes = sym (codes-kept s.columns) ∙ (ap (map (λ (c : ColumnRow). c.code)) alike.columns ∙ codes-kept t.columns);
-}

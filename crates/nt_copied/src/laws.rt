@@ -1,4 +1,4 @@
-//! The law of copied clusters.
+//! The laws of copied clusters.
 
 ghost use Rattle.std.specs.Prelude.{◌≡◌, List, ℕ, true};
 ghost use Rattle.nt_types.specs.TreeData.{TreesData};
