@@ -4,3 +4,4 @@ pub mod Readings
 pub mod PlanFits
 pub mod Places
 pub mod Choosing
+pub mod PlanRules

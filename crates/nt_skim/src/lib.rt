@@ -11,7 +11,7 @@
 //!
 //! Proved: `plan` gives the fields of the names in their order, or the first name that stands against
 //! it, and then the test (`planned`); what it chooses of any entry fits the fields that it tells
-//! (`fits`). Of any sink and any file: what `skim` put is just the selected entries of all clusters
+//! (`fits`), which keep the rules of fields (`rules`). Of any sink and any file: what `skim` put is just the selected entries of all clusters
 //! (`skimmed`), up to exactly the first fault of a cluster; after any other refusal it is the first
 //! of them; `Fault` comes only where the count of the file rose (`file`), `Sink` is what a put of this
 //! call answered (`cause`); what is put fits the fields of the sink.

@@ -4,6 +4,7 @@ ghost use Rattle.std.specs.Prelude.{◌≡◌, ◌<◌, ◌≤◌, ◌+◌, ◌&
 ghost use Rattle.nt_types.specs.ShapeData.{ShapeData};
 ghost use Rattle.nt_types.specs.Names.{has_name};
 ghost use Rattle.nt_types.specs.Limits.{max_fields};
+ghost use Rattle.nt_types.specs.Rules.{AreFields};
 ghost use Rattle.nt_types.specs.Schema.{field_count};
 ghost use Rattle.nt_types.specs.Views.{shape_view, member_view};
 ghost use Rattle.nt_schema.specs.ByName.{find_from};
@@ -17,7 +18,7 @@ use crate::error::PlanError;
 use crate::selection::{PlaceTest, SkimPlan, Test};
 use nt_schema::Schema;
 use nt_types::{Bytes, MAX_FIELDS, Member, Members, Name, Shape, count_fields};
-use nt_writable::{as_written, is_field, written_shapes_take_the_same};
+use nt_writable::{as_written, fields_are_tested, is_field, written_shapes_take_the_same};
 use std::alloc::{AllocError, Global};
 use std::collections::BTreeSet;
 
@@ -185,7 +186,9 @@ pub fn plan(
     ensures planned { IsPlannedAs selection_of result
         (planned schema.now names.now (option_map (λ t. test_view t.now) test.entry)) }
     ensures fits { IfOk result (λ p. FitsFields schema.now (selection_of p)) }
+    ensures rules { 0 < length names.now → IfOk result (λ p. AreFields (selection_of p).fields) }
 {
     written_shapes_take_the_same();
+    fields_are_tested();
     planned(alloc, schema, names, test)
 }
