@@ -15,13 +15,14 @@ use Rattle.nt_dealing.specs.Texts.{joined_chunks}
 use Rattle.nt_dealing.proofs.Whole.{passes_none}
 use Rattle.nt_generate.specs.Made.{made_chunks, made_lines}
 use Rattle.nt_generate.specs.Leaving.{IsMadeByFailure, LeavesMade, MadeCrashTold}
-use Rattle.nt_generate.specs.Generated.{GainsMadeFront, GenerateTold}
+use Rattle.nt_generate.specs.Generated.{GainsMadeFront, EndsOverFirstOrKept, GenerateTold}
 use Rattle.nt_app.specs.declared.status.Status.{Status}
 use Rattle.nt_app.specs.declared.status.Status.TheVariants as status
 use Rattle.nt_app.specs.Statuses.{message_of}
 use Rattle.nt_app.specs.Reports.{Reports}
 use Rattle.nt_app.specs.Gens.{status_of_generate, GenNamed, FitsMade, RunsGen}
 use Rattle.nt_app.proofs.Joined.{either_after}
+use Rattle.nt_app.proofs.Writing.{steps_after}
 use Rattle.nt_app.proofs.Reported.{IsBefore, reported, ordered_after}
 
 -- parameters where no words say them
@@ -66,13 +67,15 @@ gained_after : (p : Params) (m : Making) (w v : World) (err : List ℕ) → Gain
     → GainsMadeFront p m w (record v { err = err })
 gained_after p m w v err told = record { printed = told.printed; left = told.left; out = told.out; lines = told.lines }
 
-left_after : (p : Params) (m : Making) (commits o : List ℕ) (w v : World) (err : List ℕ) → IsMadeByFailure p m commits o w v
-    → IsMadeByFailure p m commits o w (record v { err = err })
+left_after : (p : Params) (m : Making) (commits o : List ℕ) (w v : World) (err : List ℕ)
+    → IsMadeByFailure EndsOverFirstOrKept p m commits o w v
+    → IsMadeByFailure EndsOverFirstOrKept p m commits o w (record v { err = err })
 left_after p m commits o w v err (inl kept) = inl kept
 left_after p m commits o w v err (inr (made, inl unfinished)) = inr (made, inl unfinished)
 left_after p m commits o w v err (inr (made, inr (inl never))) =
     inr (made, inr (inl (record { at = never.at; len = never.len; there = never.there; log = never.log })))
-left_after p m commits o w v err (inr (made, inr (inr whole))) = inr (made, inr (inr whole))
+left_after p m commits o w v err (inr (made, inr (inr (whole, left)))) =
+    inr (made, inr (inr (whole, steps_after o EndsOverFirstOrKept v err left)))
 
 told_after : (o : List ℕ) (p : Params) (m : Making) (commits : List ℕ) (w v : World) (err : List ℕ) (made : Result Unit GenerateError)
     → GenerateTold o p m commits w v made → GenerateTold o p m commits w (record v { err = err }) made

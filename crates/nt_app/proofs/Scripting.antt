@@ -7,12 +7,11 @@ use Rattle.nt_types.specs.ShapeData.{MemberData}
 use Rattle.nt_types.specs.Schema.{schema_text, at_line}
 use Rattle.nt_types.specs.declared.fault.SchemaKind.{SchemaKind}
 use Rattle.nt_outside.specs.Faults.{Rose}
-use Rattle.nt_outside.specs.Log.{Step}
 use Rattle.nt_outside.specs.Order.{EndsInSync}
 use Rattle.nt_outside.specs.World.{World, Asked, HostState, file}
 use Rattle.nt_book.specs.declared.params.Params.{Params}
 use Rattle.nt_close.specs.Laws.{EndsOverFirst}
-use Rattle.nt_store.specs.Worlds.{IsThereWith, AsksFor}
+use Rattle.nt_store.specs.Worlds.{IsThereWith, AsksFor, IsLeftAfter}
 use Rattle.nt_store.specs.Stored.{asked_for}
 use Rattle.nt_store.proofs.Ends.{none_made, nothing_made}
 use Rattle.nt_script.specs.declared.error.LineFault.{LineFault}
@@ -20,9 +19,11 @@ use Rattle.nt_script.specs.declared.store_error.ScriptStoreError.{ScriptStoreErr
 use Rattle.nt_script.specs.declared.store_error.ScriptStoreError.TheVariants as script
 use Rattle.nt_script.specs.Script.{BadScriptLine, read_script}
 use Rattle.nt_script.specs.Clusters.{bad_line}
-use Rattle.nt_script.specs.Passing.{FitsWhole, PassesLimit}
+use Rattle.nt_script.specs.Passing.{PassesLimit}
+use Rattle.nt_script.specs.Fitting.{FitsWhole}
+use Rattle.nt_script.proofs.WholePassed.{fits_none}
 use Rattle.nt_script.specs.Crashes.{LeavesScript, ScriptCrashTold}
-use Rattle.nt_script.specs.Storing.{AreScriptTexts, MakesScriptFile, IsLeftAfter, StoresWholeScript, IsWholeScript, IsTooLargeScript, ScriptTold}
+use Rattle.nt_script.specs.Storing.{AreScriptTexts, MakesScriptFile, StoresWholeScript, IsWholeScript, IsTooLargeScript, ScriptTold}
 use Rattle.nt_app.specs.declared.status.Status.{Status}
 use Rattle.nt_app.specs.declared.status.Status.TheVariants as status
 use Rattle.nt_app.specs.declared.status.TextFault.TheVariants as fault
@@ -31,7 +32,7 @@ use Rattle.nt_app.specs.Reports.{Reports}
 use Rattle.nt_app.specs.Seqs.{fault_of_line, status_of_script, SeqNamed, AnswersScript, RunsSeq}
 use Rattle.nt_app.proofs.Joined.{either_after}
 use Rattle.nt_app.proofs.Reported.{IsBefore, reported, ordered_after}
-use Rattle.nt_app.proofs.Writing.{left_after, same_fields, not_both, same_fault}
+use Rattle.nt_app.proofs.Writing.{left_after, steps_after, same_fields, not_both, same_fault}
 
 -- want of memory for the words leaves all as it was
 pub memory_scripts : (o s i : List ℕ) (p : Params) (state : HostState) → SeqNamed o s i p state state status.Memory
@@ -64,10 +65,6 @@ whole_after o s i p w v err printed behind told = record {
   line = told.line;
   gained = told.gained;
 }
-
-steps_after : (o : List ℕ) (Ends : List Step → Type 0) (v : World) (err : List ℕ) → IsLeftAfter Ends o v
-    → IsLeftAfter Ends o (record v { err = err })
-steps_after o Ends v err left = record { at = left.at; log = left.log; there = left.there; steps = left.steps; ends = left.ends }
 
 told_after : (o s i : List ℕ) (p : Params) (w v : World) (err : List ℕ) (stored : Result Unit ScriptStoreError)
     → ScriptTold o s i p w v stored → ScriptTold o s i p w (record v { err = err }) stored
@@ -135,7 +132,7 @@ not_sound b x none some = let bad = sym none ∙ some in cc
 not_over : (s i : List ℕ) (p : Params) (w : World) (reached limit : ℕ) (fields : List MemberData) (text : List ℕ)
     → IsTooLargeScript s i p w reached limit → AreScriptTexts w s i fields text → FitsWhole fields p (read_script fields text) → ⊥
 not_over s i p w reached limit fields text over are fits =
-    fits reached limit (same_script w s i over.fields fields over.text text
+    fits_none fields p (read_script fields text) reached limit fits (same_script w s i over.fields fields over.text text
     (λ f t. PassesLimit f p (read_script f t) reached limit) over.are are over.over)
 
 completes : (o s i : List ℕ) (p : Params) (w v : World) (stored : Result Unit ScriptStoreError) (fields : List MemberData)

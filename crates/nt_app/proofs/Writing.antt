@@ -10,15 +10,17 @@ use Rattle.nt_types.specs.declared.fault.SchemaKind.{SchemaKind}
 use Rattle.nt_event.specs.declared.fault.TextKind.{TextKind}
 use Rattle.nt_grammar.specs.Rows.{Rows}
 use Rattle.nt_outside.specs.Faults.{Rose}
+use Rattle.nt_outside.specs.Log.{Step}
 use Rattle.nt_outside.specs.World.{World, Asked, HostState, file}
 use Rattle.nt_book.specs.declared.params.Params.{Params}
+use Rattle.nt_close.specs.Laws.{EndsOverFirst}
 use Rattle.nt_dealing.specs.EventText.{BadLine}
 use Rattle.nt_dealing.specs.Texts.{events_of, AreSound, IsFirstBad, all_chunks}
 use Rattle.nt_dealing.specs.Limits.{IsOver}
 use Rattle.nt_store.specs.declared.error.StoreError.{StoreError}
 use Rattle.nt_store.specs.declared.error.StoreError.TheVariants as store
 use Rattle.nt_store.specs.Orders.{GainsOrderFront, gains_nothing, gains_front}
-use Rattle.nt_store.specs.Worlds.{IsThereWith, AsksFor, IsLeftByFailure}
+use Rattle.nt_store.specs.Worlds.{IsThereWith, AsksFor, IsLeftByFailure, IsLeftAfter}
 use Rattle.nt_store.specs.Texts.{AreTexts}
 use Rattle.nt_store.specs.Stored.{StoresWhole, IsTooLarge, StoreTold, asked_for}
 use Rattle.nt_app.specs.declared.status.Status.{Status}
@@ -82,12 +84,17 @@ left_after o w v err (inr (made, inr never)) = inr (
   }),
 )
 
+pub steps_after : (o : List ℕ) (Ends : List Step → Type 0) (v : World) (err : List ℕ) → IsLeftAfter Ends o v
+    → IsLeftAfter Ends o (record v { err = err })
+steps_after o Ends v err left = record { at = left.at; log = left.log; there = left.there; steps = left.steps; ends = left.ends }
+
 told_after : (o s : List ℕ) (is : List (List ℕ)) (p : Params) (w v : World) (err : List ℕ) (stored : Result Unit StoreError)
     → StoreTold o s is p w v stored → StoreTold o s is p w (record v { err = err }) stored
 told_after o s is p w v err (Ok done) told = whole_after o s is p w v err told
 told_after o s is p w v err (Err store.Outside) (inl told) =
     inl (left_after o w v err told.0, gained_after s is p w v err told.1)
-told_after o s is p w v err (Err store.Outside) (inr told) = inr (whole_after o s is p w v err told)
+told_after o s is p w v err (Err store.Outside) (inr told) =
+    inr (whole_after o s is p w v err told.0, steps_after o EndsOverFirst v err told.1)
 told_after o s is p w v err (Err store.Memory) told = (told.0, gained_after s is p w v err told.1)
 told_after o s is p w v err (Err (store.Schema line kind)) told = told
 told_after o s is p w v err (Err (store.Line input line kind)) told = told

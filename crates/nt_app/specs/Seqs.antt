@@ -14,7 +14,7 @@ use Rattle.nt_script.specs.declared.store_error.ScriptStoreError.{ScriptStoreErr
 use Rattle.nt_script.specs.declared.store_error.ScriptStoreError.TheVariants as script
 use Rattle.nt_script.specs.Script.{read_script}
 use Rattle.nt_script.specs.Clusters.{bad_line}
-use Rattle.nt_script.specs.Passing.{FitsWhole}
+use Rattle.nt_script.specs.Fitting.{FitsWhole}
 use Rattle.nt_script.specs.Crashes.{ScriptCrashTold}
 use Rattle.nt_script.specs.Storing.{AreScriptTexts, IsWholeScript, ScriptTold, StoresScript}
 use Rattle.nt_app.specs.declared.status.Status.{Status}

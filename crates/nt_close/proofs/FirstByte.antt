@@ -34,7 +34,8 @@ pub begins_shut : (blob : List ℕ) (left : Held) → IsBegunSoFar (begun 0 0 0)
     → IsShut left.image ⊎ ((n : ℕ) × (left.log ≡ FailedAppend n ∷ []))
 begins_shut blob left (begun_partly (torn_head torn)) = inr (length torn.junk, torn.log)
 begins_shut blob left (begun_partly (torn_blob torn)) = inl (zero_appended (begun 0 0 0) torn.junk left.image begun_zero torn.image)
-begins_shut blob left (begun_partly (not_kept is)) = inl (zero_appended (begun 0 0 0) blob left.image begun_zero (ap (λ (k : Held). k.image) is))
+begins_shut blob left (begun_partly (not_kept is)) =
+    inl (zero_appended (begun 0 0 0) blob left.image begun_zero (ap (λ (k : Held). k.image) is))
 begins_shut blob left (begun_whole is) = inl (zero_appended (begun 0 0 0) blob left.image begun_zero (ap (λ (k : Held). k.image) is))
 
 -- where a step failed and the file stands there whole, that was the last but one, or the last
@@ -87,7 +88,8 @@ begins_next blob =
 
 pub begins_in_order : (blob : List ℕ) (left : Held) → IsBegunSoFar (begun 0 0 0) blob nothing_held left → FirstByteLast left.log
 begins_in_order blob left (begun_partly (torn_head torn)) = torn_append_follows (length (begun 0 0 0)) nothing_held left torn tt
-begins_in_order blob left (begun_partly (torn_blob torn)) = torn_append_follows (length blob) (appended (begun 0 0 0) nothing_held) left torn begins_first
+begins_in_order blob left (begun_partly (torn_blob torn)) =
+    torn_append_follows (length blob) (appended (begun 0 0 0) nothing_held) left torn begins_first
 begins_in_order blob left (begun_partly (not_kept is)) = subst (λ (k : Held). FirstByteLast k.log) (sym is) (begins_next blob)
 begins_in_order blob left (begun_whole is) =
     subst (λ (k : Held). FirstByteLast k.log) (sym is) (sync_follows (Append (begun 0 0 0) ∷ Append blob ∷ []) (begins_next blob))

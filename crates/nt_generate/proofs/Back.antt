@@ -9,12 +9,14 @@ use Rattle.nt_outside.specs.Held.{Held, nothing_held}
 use Rattle.nt_outside.specs.World.{World, Asked, Out, HostState, TakesBack, Creates, IsNewDisk, KeepsDisk}
 use Rattle.nt_outside.specs.World.{creates, keeps_disk}
 use Rattle.nt_outside.specs.Disk.{DiskState}
+use Rattle.nt_outside.specs.Order.{EndsInSync}
 use Rattle.nt_book.specs.declared.params.Params.{Params}
+use Rattle.nt_close.specs.Laws.{EndsOverFirst}
 use Rattle.nt_draws.specs.declared.making.Making.{Making}
 use Rattle.nt_store.specs.Worlds.{AsksFirst, OthersStay, WritesInOrder, IsWrittenInOrder}
 use Rattle.nt_store.specs.Writing.{HoldsNow, IsInOrderFrom}
 use Rattle.nt_store.proofs.Asking.{asks_all}
-use Rattle.nt_store.proofs.Ends.{stored_kept, there, file_kept, kept_open, kept_never_begun, others_kept, none_made, nothing_made}
+use Rattle.nt_store.proofs.Ends.{stored_kept, there, file_kept, kept_open, kept_never_begun, kept_steps, others_kept, none_made, nothing_made}
 use Rattle.nt_generate.specs.declared.error.GenerateError.{GenerateError}
 use Rattle.nt_generate.specs.declared.error.GenerateError.TheVariants.{Outside, Memory, Limit, Defect}
 use Rattle.nt_generate.specs.Errors.{generate_refusal}
@@ -47,13 +49,24 @@ module _ {V : Type 0} (order : V → List ℕ) (p : Params) (m : Making) (commit
   pub back_told : (result : Result V GenerateError) → WriteLeaves order p m commits held result
       → IsBack order p m commits name w world result
   back_told (Ok made) (named, (h, is, whole)) =
-      with_told (Ok made) h is (named, refl, there (IsMade p m commits) _ h.image (file_kept name h (creates name w)) whole)
+      with_told (Ok made) h is (
+        named,
+        refl,
+        there (IsMade p m commits) _ h.image (file_kept name h (creates name w)) whole.0,
+        kept_steps EndsInSync name h (creates name w) whole.1,
+      )
   back_told (Err Outside) (h, is, inl begins) =
       with_told (Err Outside) h is (inr (refl, inl (kept_open name h (creates name w) begins)))
   back_told (Err Outside) (h, is, inr (inl never)) =
       with_told (Err Outside) h is (inr (refl, inr (inl (kept_never_begun name h (creates name w) never))))
   back_told (Err Outside) (h, is, inr (inr whole)) =
-      with_told (Err Outside) h is (inr (refl, inr (inr (there (IsMade p m commits) _ h.image (file_kept name h (creates name w)) whole))))
+      with_told (Err Outside) h is (inr (
+        refl,
+        inr (inr (
+          there (IsMade p m commits) _ h.image (file_kept name h (creates name w)) whole.0,
+          kept_steps EndsOverFirst name h (creates name w) whole.1,
+        )),
+      ))
   back_told (Err Memory) (h, is, begins) = with_told (Err Memory) h is (inr (refl, kept_open name h (creates name w) begins))
   back_told (Err (Limit reached most)) (passes, (h, is, begins)) =
       with_told (Err (Limit reached most)) h is (passes, (refl, kept_open name h (creates name w) begins))

@@ -17,7 +17,8 @@ use Rattle.nt_generate.specs.Lines.{total_lines}
 use Rattle.nt_generate.proofs.Sums.{made_totals-is}
 use Rattle.nt_generate.specs.ReadTotals.{totals_in}
 use Rattle.nt_draws.specs.declared.making.Making.{Making}
-use Rattle.nt_store.specs.Worlds.{IsThereWith, AsksFor, MakesDisk, IsWrittenInOrder}
+use Rattle.nt_outside.specs.Order.{EndsInSync}
+use Rattle.nt_store.specs.Worlds.{IsThereWith, AsksFor, MakesDisk, IsWrittenInOrder, IsLeftAfter}
 use Rattle.nt_store.proofs.Asking.{asks_front}
 use Rattle.nt_generate.specs.declared.error.GenerateError.{GenerateError}
 use Rattle.nt_generate.specs.declared.error.GenerateError.TheVariants.{Outside, Memory, Limit, Defect}
@@ -75,16 +76,29 @@ module _ (p : Params) (m : Making) (name : List ℕ) (w w1 : World) (out_is : w1
   -- a file that isn't made
   unmade : {V : Type 0} (order : V → List ℕ) (commits : List ℕ) (e : GenerateError) → MakeTold order p m commits name w w1 (Err e)
       → GenerateTold name p m commits w w1 (Err e)
-  unmade order commits Outside told = (told, gains_none p m w w1 out_is)
+  unmade order commits Outside (inl kept) = (inl kept, gains_none p m w w1 out_is)
+  unmade order commits Outside (inr (made, inl opens)) = (inr (made, inl opens), gains_none p m w w1 out_is)
+  unmade order commits Outside (inr (made, inr (inl never))) = (inr (made, inr (inl never)), gains_none p m w w1 out_is)
+  unmade order commits Outside (inr (made, inr (inr (whole, left)))) = (
+    inr (
+      made,
+      inr (inr (
+        whole,
+        record { at = left.at; log = left.log; there = left.there; steps = left.steps; ends = inl left.ends },
+      )),
+    ),
+    gains_none p m w w1 out_is,
+  )
   unmade order commits Memory (inl kept) = (inl kept, gains_none p m w w1 out_is)
   unmade order commits Memory (inr opens) = (inr (opens.0, inl opens.1), gains_none p m w w1 out_is)
   unmade order commits (Limit reached most) told = (told.0, told.1, out_is)
   unmade order commits (Defect e) told = absurd told
 
-  module _ (order : List ℕ) (made : MakesDisk name w w1) (whole : IsThereWith (IsMade p m order) (file w1 name)) where
-    gains : (printed left : List ℕ) → made_lines p m ≡ printed ++ left → GainsMadeFront p m w (prints ToOut printed w1)
-    gains printed left lines =
-        record { printed = printed; left = left; out = ap (λ (l : List ℕ). l ++ printed) out_is; lines = lines }
+  module _ (order : List ℕ) (made : MakesDisk name w w1) (whole : IsThereWith (IsMade p m order) (file w1 name))
+      (left : IsLeftAfter EndsInSync name w1) where
+    gains : (printed rest : List ℕ) → made_lines p m ≡ printed ++ rest → GainsMadeFront p m w (prints ToOut printed w1)
+    gains printed rest lines =
+        record { printed = printed; left = rest; out = ap (λ (l : List ℕ). l ++ printed) out_is; lines = lines }
 
     -- the front of the lines
     front_at : (new : Option World) → PrintsTotalsFront m.contexts order (file w1 name) w1 new
@@ -113,7 +127,16 @@ module _ (p : Params) (m : Making) (name : List ℕ) (w w1 : World) (out_is : w1
         record {
           printed = front.0;
           is = front.2;
-          told = (inr (made, inr (inr whole)), gains front.0 front.1 front.3);
+          told = (
+            inr (
+              made,
+              inr (inr (
+                whole,
+                record { at = left.at; log = left.log; there = left.there; steps = left.steps; ends = inr left.ends },
+              )),
+            ),
+            gains front.0 front.1 front.3,
+          );
         }
     printed_told new (Err Memory) told =
         let front = front_at new told in
@@ -212,12 +235,12 @@ ends_told order name p m old mid new made result makes tells = record {
   told = λ w is.
       let back = makes.told w is in
       let tells' = tells_as name m.contexts (order made) makes.commits mid new result back.5.0 tells in
-      let done = printed_told p m name w back.0 back.3 makes.commits back.5.1 back.5.2 new.world result (tells'.told back.0 back.1) in
+      let done = printed_told p m name w back.0 back.3 makes.commits back.5.1 back.5.2 back.5.3 new.world result (tells'.told back.0 back.1) in
       (prints ToOut done.printed back.0, done.is, back.2, back.4, done.told);
   order = λ w w' is is' made-disk.
       let back = makes.told w is in
       let tells' = tells_as name m.contexts (order made) makes.commits mid new result back.5.0 tells in
-      let done = printed_told p m name w back.0 back.3 makes.commits back.5.1 back.5.2 new.world result (tells'.told back.0 back.1) in
+      let done = printed_told p m name w back.0 back.3 makes.commits back.5.1 back.5.2 back.5.3 new.world result (tells'.told back.0 back.1) in
       let same : prints ToOut done.printed back.0 ≡ w' = some_is _ _ (sym done.is ∙ is') in
       let left = makes.order_kept w back.0 is back.1 back.5.1 in
       subst (IsWrittenInOrder name) same (record {
@@ -230,7 +253,7 @@ ends_told order name p m old mid new made result makes tells = record {
   crash = λ w w' is is' made-disk.
       let back = makes.told w is in
       let tells' = tells_as name m.contexts (order made) makes.commits mid new result back.5.0 tells in
-      let done = printed_told p m name w back.0 back.3 makes.commits back.5.1 back.5.2 new.world result (tells'.told back.0 back.1) in
+      let done = printed_told p m name w back.0 back.3 makes.commits back.5.1 back.5.2 back.5.3 new.world result (tells'.told back.0 back.1) in
       let same : prints ToOut done.printed back.0 ≡ w' = some_is _ _ (sym done.is ∙ is') in
       let left = makes.crash w back.0 is back.1 back.5.1 in
       subst (λ (v : World). LeavesMade name p m makes.commits v result) same (record {

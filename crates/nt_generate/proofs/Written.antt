@@ -85,7 +85,7 @@ module _ {V : Type 0} (order : V → List ℕ) (p : Params) (m : Making) (read :
       left = λ h is filled.
           let left = closes.left event_fields (made_texts m) h is filled in
           let crash = closes.crash event_fields (made_texts m) h is filled in (
-            (order-is, (left.0, left.1, turn left.0.image left.2)),
+            (order-is, (left.0, left.1, (turn left.0.image left.2.0, left.2.1))),
             (crash.0, crash.1, (or_as _ _ crash.0.log turn crash.2.0, λ bytes may. turn bytes (crash.2.1 bytes may))),
           );
       order_kept = closes.order;
@@ -95,7 +95,7 @@ module _ {V : Type 0} (order : V → List ℕ) (p : Params) (m : Making) (read :
     unclosed_leaves : (e : StoreError) → CloseLeaves event_fields p (made_texts m) (commit_order book) new.held (Err e)
         → WriteLeaves order p m (commit_order book) new.held (Err (generate_unwritten e))
     unclosed_leaves store.Outside (h, is, inl begins) = (h, is, inl begins)
-    unclosed_leaves store.Outside (h, is, inr stored) = (h, is, inr (inr (turn h.image stored)))
+    unclosed_leaves store.Outside (h, is, inr stored) = (h, is, inr (inr (turn h.image stored.0, stored.1)))
     unclosed_leaves store.Memory left = left
     unclosed_leaves (store.Limit reached most) (passes, left) = (made_passes p m read reached most passes, left)
     unclosed_leaves (store.Schema line kind) left = absurd left

@@ -1,7 +1,10 @@
 -- What the making of a file leaves of a host.
 use Rattle.std.specs.Prelude.{◌≡◌, ◌⊎◌, ℕ, List, [], ◌∷◌, ◌++◌, Some, Result, Ok, Err}
+use Rattle.nt_outside.specs.Log.{Step}
+use Rattle.nt_outside.specs.Order.{EndsInSync}
 use Rattle.nt_outside.specs.World.{World, Out, File, HostState}
 use Rattle.nt_book.specs.declared.params.Params.{Params}
+use Rattle.nt_close.specs.Laws.{EndsOverFirst}
 use Rattle.nt_draws.specs.declared.making.Making.{Making}
 use Rattle.nt_store.specs.Worlds.{AsksFor, KeepsFiles, OthersStay, MakesDisk, IsLeftOpen, LeavesOpen, WritesInOrder}
 use Rattle.nt_generate.specs.declared.error.GenerateError.{GenerateError}
@@ -20,10 +23,16 @@ pub record GainsMadeFront (p : Params) (m : Making) (w w' : World) : Type 0 wher
 abbrev pub IsMadeByMemory : Params → Making → List ℕ → List ℕ → World → World → Type 0
 IsMadeByMemory p m commits name w w' = KeepsFiles w w' ⊎ (MakesDisk name w w' × (IsLeftOpen name w' ⊎ IsWhole p m commits name w'))
 
+-- the last step was over the first byte, or a sync behind that failed; or the file was closed, whose last step is a sync, and what failed was
+-- to read it back or to print its totals
+abbrev pub EndsOverFirstOrKept : List Step → Type 0
+EndsOverFirstOrKept log = EndsOverFirst log ⊎ EndsInSync log
+
 -- what is left of what was committed in this order, by the answer: that the file read back has a fault never comes
 abbrev pub GenerateTold : List ℕ → Params → Making → List ℕ → World → World → Result Unit GenerateError → Type 0
 GenerateTold name p m commits w w' (Ok done) = MakesDisk name w w' × IsWhole p m commits name w' × (w'.out ≡ w.out ++ made_lines p m)
-GenerateTold name p m commits w w' (Err Outside) = IsMadeByFailure p m commits name w w' × GainsMadeFront p m w w'
+GenerateTold name p m commits w w' (Err Outside) =
+    IsMadeByFailure EndsOverFirstOrKept p m commits name w w' × GainsMadeFront p m w w'
 GenerateTold name p m commits w w' (Err Memory) = IsMadeByMemory p m commits name w w' × GainsMadeFront p m w w'
 GenerateTold name p m commits w w' (Err (Limit reached most)) = PassesMade p m reached most × LeavesOpen name w w' × (w'.out ≡ w.out)
 GenerateTold name p m commits w w' (Err (Defect e)) = ⊥

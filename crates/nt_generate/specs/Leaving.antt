@@ -3,11 +3,13 @@ use Rattle.std.specs.Prelude.{◌≡◌, ◌⊎◌, ℕ, ◌≤◌, List, [], �
 use Rattle.nt_outside.specs.declared.stream.Stream.TheVariants.{ToOut}
 use Rattle.nt_outside.specs.Faults.{Rose}
 use Rattle.nt_outside.specs.Log.{Step}
+use Rattle.nt_outside.specs.Order.{EndsInSync}
 use Rattle.nt_outside.specs.World.{World, Stored, Out, File, HostState, stored, file, prints}
 use Rattle.nt_book.specs.declared.params.Params.{Params}
+use Rattle.nt_close.specs.Laws.{EndsOverFirst}
 use Rattle.nt_draws.specs.declared.making.Making.{Making}
 use Rattle.nt_store.specs.Worlds.{IsThereWith, AsksFor, LeavesOut, KeepsFiles, OthersStay, MakesDisk, IsLeftOpen, IsNeverBegun, LeavesOpen}
-use Rattle.nt_store.specs.Worlds.{IsLeftByMemory, WritesInOrder}
+use Rattle.nt_store.specs.Worlds.{IsLeftByMemory, WritesInOrder, IsLeftAfter}
 use Rattle.nt_generate.specs.declared.total.Total.{Total}
 use Rattle.nt_generate.specs.Lines.{total_lines}
 use Rattle.nt_generate.specs.ReadTotals.{totals_in}
@@ -26,15 +28,17 @@ pub record IsServed {V : Type 0} (old new : HostState) (result : Result V Genera
 abbrev pub IsWhole : Params → Making → List ℕ → List ℕ → World → Type 0
 IsWhole p m commits name w = IsThereWith (IsMade p m commits) (file w name)
 
--- where a failure leaves the files: as before, or, once a disk was made, with one that is open, never begun or whole
-abbrev pub IsMadeByFailure : Params → Making → List ℕ → List ℕ → World → World → Type 0
-IsMadeByFailure p m commits name w w' =
-    KeepsFiles w w' ⊎ (MakesDisk name w w' × (IsLeftOpen name w' ⊎ IsNeverBegun name w' ⊎ IsWhole p m commits name w'))
+-- where a failure leaves the files: as before, or, once a disk was made, with one that is open, never begun, or whole by steps that end so
+abbrev pub IsMadeByFailure : (List Step → Type 0) → Params → Making → List ℕ → List ℕ → World → World → Type 0
+IsMadeByFailure Ends p m commits name w w' =
+    KeepsFiles w w'
+    ⊎ (MakesDisk name w w' × (IsLeftOpen name w' ⊎ IsNeverBegun name w' ⊎ (IsWhole p m commits name w' × IsLeftAfter Ends name w')))
 
 -- what is left once the disk is back, by the answer
 abbrev pub MakeTold : {V : Type 0} → (V → List ℕ) → Params → Making → List ℕ → List ℕ → World → World → Result V GenerateError → Type 0
-MakeTold order p m commits name w w' (Ok made) = (order made ≡ commits) × MakesDisk name w w' × IsWhole p m commits name w'
-MakeTold order p m commits name w w' (Err Outside) = IsMadeByFailure p m commits name w w'
+MakeTold order p m commits name w w' (Ok made) =
+    (order made ≡ commits) × MakesDisk name w w' × IsWhole p m commits name w' × IsLeftAfter EndsInSync name w'
+MakeTold order p m commits name w w' (Err Outside) = IsMadeByFailure EndsOverFirst p m commits name w w'
 MakeTold order p m commits name w w' (Err Memory) = IsLeftByMemory name w w'
 MakeTold order p m commits name w w' (Err (Limit reached most)) = PassesMade p m reached most × LeavesOpen name w w'
 MakeTold order p m commits name w w' (Err (Defect e)) = ⊥

@@ -2,7 +2,7 @@
 use Rattle.std.specs.Prelude.{◌≡◌, ◌⊎◌, ℕ, ◌<◌, List, Option, Some, Result, Ok, Err, IsErrOf}
 use Rattle.nt_types.specs.ShapeData.{MemberData}
 use Rattle.nt_outside.specs.Log.{Step}
-use Rattle.nt_outside.specs.Order.{BeginsOpen}
+use Rattle.nt_outside.specs.Order.{BeginsOpen, EndsInSync}
 use Rattle.nt_outside.specs.Source.{SourceState}
 use Rattle.nt_outside.specs.Held.{Held, nothing_held}
 use Rattle.nt_outside.specs.Disk.{DiskState}
@@ -10,6 +10,7 @@ use Rattle.nt_grammar.specs.Table.{Table}
 use Rattle.nt_book.specs.declared.params.Params.{Params}
 use Rattle.nt_book.specs.Books.{BookData}
 use Rattle.nt_contexts.specs.Contexts.{TellTexts}
+use Rattle.nt_close.specs.Laws.{EndsOverFirst}
 use Rattle.nt_cuts.specs.Cuts.{LeavesUnfinished, LeavesUnfinishedOr, LeavesOnly}
 use Rattle.nt_dealing.specs.Dealt.{commit_order}
 use Rattle.nt_draws.specs.declared.making.Making.{Making}
@@ -26,10 +27,13 @@ pub record MayWriteMade (fields : List MemberData) (m : Making) (sources : List 
   pub texts : TellTexts sources (made_texts m)
   pub empty : IsEmptyDisk disk
 
--- what is left of what was committed in this order, by the answer, which names it
+-- what is left of what was committed in this order, by the answer, which names it: whole behind a sync; after a failure only where the last
+-- step was over the first byte, or a sync behind that failed
 abbrev pub WriteLeaves : {V : Type 0} → (V → List ℕ) → Params → Making → List ℕ → Option Held → Result V GenerateError → Type 0
-WriteLeaves order p m commits held (Ok made) = (order made ≡ commits) × HoldsNow held (λ h. IsMade p m commits h.image)
-WriteLeaves order p m commits held (Err Outside) = HoldsNow held (λ h. BeginsOpen h.image ⊎ NeverBegan h ⊎ IsMade p m commits h.image)
+WriteLeaves order p m commits held (Ok made) =
+    (order made ≡ commits) × HoldsNow held (λ h. IsMade p m commits h.image × EndsInSync h.log)
+WriteLeaves order p m commits held (Err Outside) =
+    HoldsNow held (λ h. BeginsOpen h.image ⊎ NeverBegan h ⊎ (IsMade p m commits h.image × EndsOverFirst h.log))
 WriteLeaves order p m commits held (Err Memory) = HoldsNow held (λ h. BeginsOpen h.image)
 WriteLeaves order p m commits held (Err (Limit reached most)) = PassesMade p m reached most × HoldsNow held (λ h. BeginsOpen h.image)
 WriteLeaves order p m commits held (Err (Defect e)) = ⊥

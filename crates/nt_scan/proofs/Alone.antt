@@ -1,5 +1,6 @@
 -- A file is scanned in one way.
-use Rattle.std.proofs.Common.{◌≡◌, ◌⊎◌, ℕ, ◌<◌, ◌≤◌, List, [], ◌∷◌, Option, Some, None, Result, Ok, Err, refl, sym, ap, subst, ◌∙◌, inl, inr, arith, ⊎_elim}
+use Rattle.std.proofs.Common.{◌≡◌, ◌⊎◌, ℕ, ◌<◌, ◌≤◌, List, [], ◌∷◌, Option, Some, None, Result, Ok, Err, refl, sym, ap, subst}
+use Rattle.std.proofs.Common.{◌∙◌, inl, inr, arith, ⊎_elim}
 use Rattle.std.specs.List.{All, Contains}
 use Rattle.std.proofs.lemmas.Bool.{cases_lt}
 use Rattle.nt_num.specs.declared.fault.ReadError.{ReadError}
@@ -12,13 +13,13 @@ use Rattle.nt_file_meaning.specs.Outlines.{Outline, outline_of}
 use Rattle.nt_file_meaning.specs.Files.{HasDefect, read_file}
 use Rattle.nt_scan.specs.declared.error.ScanError.TheVariants.{TooMany, Defect}
 use Rattle.nt_scan.specs.Leaves.{leaves_of, leaf_columns}
-use Rattle.nt_scan.specs.Counts.{IsCounted, IsFirstTooMany, column_counted}
+use Rattle.nt_scan.specs.Counts.{HasFewEnough, IsFirstTooMany, column_counted}
 use Rattle.nt_scan.specs.Clusters.{columns_over}
 use Rattle.nt_scan.specs.Scans.{ScansAs}
 use Rattle.nt_scan.proofs.Meaning.{over-means}
 
 -- a column can't be counted and have too many
-counted-once : (o : Outline) (c r : ℕ) → IsCounted o c → column_counted o c ≡ Err r → ⊥
+counted-once : (o : Outline) (c r : ℕ) → HasFewEnough o c → column_counted o c ≡ Err r → ⊥
 counted-once o c r fits over =
     let bad = sym fits.1 ∙ over in
     cc
@@ -27,13 +28,13 @@ at : (P : ℕ → Type 0) (cs : List ℕ) (c : ℕ) → All P cs → Contains cs
 at P cs c all in-it = subst P in-it.2 (all in-it.0 c in-it.1)
 
 none-or-one : (o : Outline) (cs : List ℕ) (found : ℕ × ℕ) → IsFirstTooMany o cs None → IsFirstTooMany o cs (Some found) → ⊥
-none-or-one o cs found none one = counted-once o found.0 found.1 (at (λ c. IsCounted o c) cs found.0 none one.0) one.1
+none-or-one o cs found none one = counted-once o found.0 found.1 (at (λ c. HasFewEnough o c) cs found.0 none one.0) one.1
 
 lowest-once : (o : Outline) (cs : List ℕ) (c r d q : ℕ) → IsFirstTooMany o cs (Some (c, r)) → IsFirstTooMany o cs (Some (d, q)) → r ≡ q
 lowest-once o cs c r d q one two = ⊎_elim
-    (λ lt. absurd (counted-once o c r (at (λ e. e < d → IsCounted o e) cs c two.2 one.0 lt) one.1))
+    (λ lt. absurd (counted-once o c r (at (λ e. e < d → HasFewEnough o e) cs c two.2 one.0 lt) one.1))
     (λ ge. ⊎_elim
-        (λ lt. absurd (counted-once o d q (at (λ e. e < c → IsCounted o e) cs d one.2 two.0 lt) two.1))
+        (λ lt. absurd (counted-once o d q (at (λ e. e < c → HasFewEnough o e) cs d one.2 two.0 lt) two.1))
         (λ le. let same : c ≡ d = omega (arith, ge, le) in
         err-is r q (sym one.1 ∙ ap (column_counted o) same ∙ two.1))
         (cases_lt d c))

@@ -1,5 +1,6 @@
 -- A failure in the midst of clusters.
-use Rattle.std.proofs.Common.{◌≡◌, ℕ, ◌<◌, List, [], ◌++◌, length, take, get_or, Option, Some, None, Result, Ok, Err, sym, ap, subst, ◌∙◌, arith}
+use Rattle.std.proofs.Common.{◌≡◌, ℕ, ◌<◌, List, [], ◌++◌, length, take, get_or, Option, Some, None, Result, Ok, Err, sym, ap}
+use Rattle.std.proofs.Common.{subst, ◌∙◌, arith}
 use Rattle.std.specs.List.{All}
 use Rattle.nt_num.specs.declared.fault.ReadError.{ReadError}
 use Rattle.nt_lists.proofs.Variants.{ok_is}
@@ -19,7 +20,7 @@ use Rattle.nt_total.specs.Totals.{low_of}
 use Rattle.nt_scan.specs.declared.error.ScanError.{ScanError}
 use Rattle.nt_scan.specs.declared.error.ScanError.TheVariants as scan
 use Rattle.nt_scan.specs.Leaves.{IsNumberColumn, column_kind, leaves_of, leaf_columns}
-use Rattle.nt_scan.specs.Counts.{IsCounted, IsFirstTooMany}
+use Rattle.nt_scan.specs.Counts.{HasFewEnough, IsFirstTooMany}
 use Rattle.nt_scan.specs.Clusters.{columns_over, column_over}
 use Rattle.nt_scan.specs.Totals.{AreTotalsOf, IsScanOf}
 use Rattle.nt_scan.specs.Scans.{ScansAs}

@@ -1,5 +1,6 @@
 -- The leaves of a schema, field by field.
-use Rattle.std.proofs.Common.{◌≡◌, ℕ, zero, suc, ◌+◌, ◌<◌, ◌≤◌, Bool, true, false, cond, List, [], ◌∷◌, ◌++◌, map, length, drop, get_or, slice_get, Option, Some, None, refl, sym, ap, subst, ◌∙◌, arith, add-one}
+use Rattle.std.proofs.Common.{◌≡◌, ℕ, zero, suc, ◌+◌, ◌<◌, ◌≤◌, Bool, true, false, cond, List, [], ◌∷◌, ◌++◌, map, length, drop}
+use Rattle.std.proofs.Common.{get_or, slice_get, Option, Some, None, refl, sym, ap, subst, ◌∙◌, arith, add-one}
 use Rattle.std.specs.Prelude.{◌==◌, option_and_then, IsSome}
 use Rattle.std.specs.List.{All}
 use Rattle.std.proofs.lemmas.List.{append-nil, append_assoc, drop_all}
@@ -16,7 +17,8 @@ use Rattle.nt_plans.specs.Place.{column_ids, open_plans}
 use Rattle.nt_file_meaning.specs.Clusters.{kind_of_code}
 use Rattle.nt_total.specs.Totals.{is_integral}
 use Rattle.nt_scan.specs.declared.leaf.Leaf.{Leaf}
-use Rattle.nt_scan.specs.Leaves.{integral_kind, number_kind, IsNumberColumn, leaf_of_kind, leaf_of_columns, leaf_of_row, with_leaf, leaves_from, leaves_of, leaf_columns}
+use Rattle.nt_scan.specs.Leaves.{integral_kind, number_kind, IsNumberColumn, leaf_of_kind, leaf_of_columns, leaf_of_row}
+use Rattle.nt_scan.specs.Leaves.{with_leaf, leaves_from, leaves_of, leaf_columns}
 
 -- the fields from one on
 fields-at : (rows : List FieldRow) (id : ℕ) (row : FieldRow) → slice_get rows id ≡ Some row → drop id rows ≡ row ∷ drop (id + 1) rows

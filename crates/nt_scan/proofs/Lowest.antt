@@ -1,11 +1,12 @@
 -- The lowest column that has too many elements.
-use Rattle.std.proofs.Common.{◌≡◌, ℕ, ◌+◌, ◌<◌, ◌≤◌, Bool, true, false, cond, List, [], ◌∷◌, ◌++◌, Option, Some, None, Ok, Err, refl, sym, subst, ◌∙◌, arith}
+use Rattle.std.proofs.Common.{◌≡◌, ℕ, ◌+◌, ◌<◌, ◌≤◌, Bool, true, false, cond, List, [], ◌∷◌, ◌++◌, Option, Some, None, Ok, Err}
+use Rattle.std.proofs.Common.{refl, sym, subst, ◌∙◌, arith}
 use Rattle.std.specs.Prelude.{nat_le}
 use Rattle.std.specs.List.{All, Contains}
 use Rattle.std.proofs.lemmas.List.Elements.{All-nil, All-cons, All-append, All-weaker, Contains-append_left, Contains-append_right}
 use Rattle.std.proofs.lemmas.Bool.{leb-true, leb-false}
 use Rattle.nt_file_meaning.specs.Outlines.{Outline}
-use Rattle.nt_scan.specs.Counts.{IsCounted, IsFirstTooMany, column_counted}
+use Rattle.nt_scan.specs.Counts.{HasFewEnough, IsFirstTooMany, column_counted}
 use Rattle.nt_scan.specs.Steps.{lower_of}
 
 one-all : (P : ℕ → Type 0) (c : ℕ) → P c → All P (c ∷ [])
@@ -15,16 +16,16 @@ one-in : (c : ℕ) → Contains (c ∷ []) c
 one-in c = (0, omega arith, refl)
 
 pub lowest-none : (o : Outline) → IsFirstTooMany o [] None
-lowest-none o = All-nil (λ c. IsCounted o c)
+lowest-none o = All-nil (λ c. HasFewEnough o c)
 
 -- a column that has few enough
-pub lowest-fits : (o : Outline) (cs : List ℕ) (c : ℕ) (x : Option (ℕ × ℕ)) → IsCounted o c → IsFirstTooMany o cs x
+pub lowest-fits : (o : Outline) (cs : List ℕ) (c : ℕ) (x : Option (ℕ × ℕ)) → HasFewEnough o c → IsFirstTooMany o cs x
     → IsFirstTooMany o (cs ++ c ∷ []) x
-lowest-fits o cs c None fits all = All-append (λ d. IsCounted o d) cs (c ∷ []) all (one-all (λ d. IsCounted o d) c fits)
+lowest-fits o cs c None fits all = All-append (λ d. HasFewEnough o d) cs (c ∷ []) all (one-all (λ d. HasFewEnough o d) c fits)
 lowest-fits o cs c (Some found) fits h = (
   Contains-append_left cs (c ∷ []) found.0 h.0,
   h.1,
-  All-append (λ d. d < found.0 → IsCounted o d) cs (c ∷ []) h.2 (one-all (λ d. d < found.0 → IsCounted o d) c (λ lt. fits)),
+  All-append (λ d. d < found.0 → HasFewEnough o d) cs (c ∷ []) h.2 (one-all (λ d. d < found.0 → HasFewEnough o d) c (λ lt. fits)),
 )
 
 -- one that has too many
@@ -33,9 +34,9 @@ pub lowest-over : (o : Outline) (cs : List ℕ) (c r : ℕ) (x : Option (ℕ × 
 lowest-over o cs c r None over all = (
   Contains-append_right cs (c ∷ []) c (one-in c),
   over,
-  All-append (λ d. d < c → IsCounted o d) cs (c ∷ [])
-      (All-weaker (λ d. IsCounted o d) (λ d. d < c → IsCounted o d) (λ d fits lt. fits) cs all)
-      (one-all (λ d. d < c → IsCounted o d) c (λ lt. absurd (omega (arith, lt)))),
+  All-append (λ d. d < c → HasFewEnough o d) cs (c ∷ [])
+      (All-weaker (λ d. HasFewEnough o d) (λ d. d < c → HasFewEnough o d) (λ d fits lt. fits) cs all)
+      (one-all (λ d. d < c → HasFewEnough o d) c (λ lt. absurd (omega (arith, lt)))),
 )
 lowest-over o cs c r (Some found) over h = by_order (nat_le found.0 c) refl
   where
@@ -43,14 +44,14 @@ lowest-over o cs c r (Some found) over h = by_order (nat_le found.0 c) refl
     by_order true is = (
       Contains-append_left cs (c ∷ []) found.0 h.0,
       h.1,
-      All-append (λ d. d < found.0 → IsCounted o d) cs (c ∷ []) h.2
-          (one-all (λ d. d < found.0 → IsCounted o d) c (λ lt. absurd (omega (arith, lt, leb-true found.0 c is)))),
+      All-append (λ d. d < found.0 → HasFewEnough o d) cs (c ∷ []) h.2
+          (one-all (λ d. d < found.0 → HasFewEnough o d) c (λ lt. absurd (omega (arith, lt, leb-true found.0 c is)))),
     )
     by_order false is = (
       Contains-append_right cs (c ∷ []) c (one-in c),
       over,
-      All-append (λ d. d < c → IsCounted o d) cs (c ∷ [])
-          (All-weaker (λ d. d < found.0 → IsCounted o d) (λ d. d < c → IsCounted o d)
+      All-append (λ d. d < c → HasFewEnough o d) cs (c ∷ [])
+          (All-weaker (λ d. d < found.0 → HasFewEnough o d) (λ d. d < c → HasFewEnough o d)
           (λ d fits lt. fits (omega (arith, lt, leb-false found.0 c is))) cs h.2)
-          (one-all (λ d. d < c → IsCounted o d) c (λ lt. absurd (omega (arith, lt)))),
+          (one-all (λ d. d < c → HasFewEnough o d) c (λ lt. absurd (omega (arith, lt)))),
     )

@@ -1,5 +1,6 @@
 -- What a scan says of the meaning of a file, and of the elements of its columns.
-use Rattle.std.proofs.Common.{◌≡◌, ℕ, ◌+◌, ◌^◌, ◌<◌, ◌≤◌, Bool, true, false, cond, ◌-◌, min, List, [], ◌∷◌, ◌++◌, map, length, get_or, slice_get, Option, Some, None, Result, Ok, Err, refl, sym, ap, subst, ◌∙◌, inl, inr, arith}
+use Rattle.std.proofs.Common.{◌≡◌, ℕ, ◌+◌, ◌^◌, ◌<◌, ◌≤◌, Bool, true, false, cond, ◌-◌, min, List, [], ◌∷◌, ◌++◌, map, length}
+use Rattle.std.proofs.Common.{get_or, slice_get, Option, Some, None, Result, Ok, Err, refl, sym, ap, subst, ◌∙◌, inl, inr, arith}
 use Rattle.std.specs.Prelude.{sum, nat_le, option_and_then, IsSome}
 use Rattle.std.specs.List.{All, flat_map, sum_by, fold}
 use Rattle.std.proofs.lemmas.Bool.{cases_lt, leb-true}
@@ -23,13 +24,14 @@ use Rattle.nt_pagelists.specs.declared.column.KnownColumn.{KnownColumn}
 use Rattle.nt_pagelists.specs.declared.page.PageItem.{PageItem}
 use Rattle.nt_pagelists.specs.declared.cluster.ClusterList.{ClusterList}
 use Rattle.nt_file_meaning.specs.Outlines.{Outline, outline_of, known_column}
-use Rattle.nt_file_meaning.specs.Clusters.{kind_of_code, columns_by_id, columns_in_cluster, cluster_of, entries_given, entries_of_columns, pages_listed, begins_behind}
+use Rattle.nt_file_meaning.specs.Clusters.{kind_of_code, columns_by_id, columns_in_cluster, cluster_of, entries_given}
+use Rattle.nt_file_meaning.specs.Clusters.{entries_of_columns, pages_listed, begins_behind}
 use Rattle.nt_file_meaning.specs.Counts.{page_counts, listed_count, zeros_due}
 use Rattle.nt_file_meaning.specs.Files.{entries_from, read_file, HasDefect}
 use Rattle.nt_file_meaning.proofs.ColumnsListed.{cluster-of_columns, count-listed, types-listed}
 use Rattle.nt_total.specs.Totals.{is_integral}
 use Rattle.nt_scan.specs.Leaves.{integral_kind, number_kind, kind_or_byte, column_kind, IsNumberColumn}
-use Rattle.nt_scan.specs.Counts.{with_count, counted, column_known, cluster_counts, column_counted, no_column_row}
+use Rattle.nt_scan.specs.Counts.{with_count, added_up, column_known, cluster_counts, column_counted, no_column_row}
 use Rattle.nt_scan.specs.Clusters.{columns_over, column_over}
 use Rattle.nt_scan.proofs.Counts.{pages_counts}
 
@@ -45,7 +47,8 @@ others-fail : {A : Type 0} (x : A) (r : Result (List A) ReadError) (e : ReadErro
 others-fail x (Ok y) e h = absurd cc
 others-fail x (Err d) e h = ap (λ (f : ReadError). Err f) (err_is d e h)
 
-cluster-fails : (file : List ℕ) (t : Table) (n entries : ℕ) (ks : List ClusterList) (e : ReadError) (r : Result (List (List Element)) ReadError)
+cluster-fails : (file : List ℕ) (t : Table) (n entries : ℕ) (ks : List ClusterList) (e : ReadError) (r : Result (List
+    (List Element)) ReadError)
     → (columns_over file t n ks ≡ Err e → entries_from file t n ks ≡ Err e) → joined-read file t n ks r ≡ Err e
     → joined-entries file t n ks (entries_given t entries r) ≡ Err e
 cluster-fails file t n entries ks e (Ok cs) rest h =
@@ -199,13 +202,13 @@ count-over file t n (l ∷ ks) read c k h =
 
 -- one count more
 count-step : (n x m : ℕ) (xs : List ℕ) (b : Bool) → nat_le (n + x) (2 ^ 60) ≡ b
-    → ((l : ℕ) → l ≤ 2 ^ 60 → counted l xs ≡ Ok m → l + sum xs ≤ 2 ^ 60)
-    → (cond b (Ok (n + x)) (Err (min (n + x) (2 ^ 64 - 1))) >>= λ l. counted l xs) ≡ Ok m → n + x + sum xs ≤ 2 ^ 60
+    → ((l : ℕ) → l ≤ 2 ^ 60 → added_up l xs ≡ Ok m → l + sum xs ≤ 2 ^ 60)
+    → (cond b (Ok (n + x)) (Err (min (n + x) (2 ^ 64 - 1))) >>= λ l. added_up l xs) ≡ Ok m → n + x + sum xs ≤ 2 ^ 60
 count-step n x m xs true is rest h = rest (n + x) (leb-true (n + x) (2 ^ 60) is) h
 count-step n x m xs false is rest h = absurd cc
 
 -- counts that are few enough come to their sum
-counted-sum : (n : ℕ) (xs : List ℕ) (m : ℕ) → n ≤ 2 ^ 60 → counted n xs ≡ Ok m → n + sum xs ≤ 2 ^ 60
+counted-sum : (n : ℕ) (xs : List ℕ) (m : ℕ) → n ≤ 2 ^ 60 → added_up n xs ≡ Ok m → n + sum xs ≤ 2 ^ 60
 counted-sum n [] m few h = omega (arith, few)
 counted-sum n (x ∷ xs) m few h =
     omega (arith, sum-cons x xs,
@@ -214,6 +217,6 @@ counted-sum n (x ∷ xs) m few h =
 -- a column that has few enough by the lists has few enough elements
 pub few-over : (file : List ℕ) (o : Outline) (read : List (List (List Element))) (c m : ℕ) (k : HasKind o.table c)
     → column_counted o c ≡ Ok m → columns_over file o.table 0 o.clusters ≡ Ok read → length (column_over read c) ≤ 2 ^ 60
-few-over file o read c m k counted h =
+few-over file o read c m k few h =
     omega (arith, count-over file o.table 0 o.clusters read c k h,
-    counted-sum 0 (flat_map (cluster_counts o.table c) o.clusters) m (omega arith) counted)
+    counted-sum 0 (flat_map (cluster_counts o.table c) o.clusters) m (omega arith) few)

@@ -2,7 +2,8 @@
 use Rattle.std.proofs.Common.{get_or-set_other, get_or-set_same}
 use Rattle.std.proofs.Math.ListN.{set}
 use Rattle.std.proofs.lemmas.Bool.{cases_lt}
-use Rattle.std.proofs.Common.{◌≡◌, ◌≢◌, refl, ⊎_elim, ℕ, ◌+◌, ◌<◌, ◌≤◌, List, [], ◌∷◌, ◌++◌, map, length, get_or, ap, subst, ◌∙◌, sym, arith}
+use Rattle.std.proofs.Common.{◌≡◌, ◌≢◌, refl, ⊎_elim, ℕ, ◌+◌, ◌<◌, ◌≤◌, List, [], ◌∷◌, ◌++◌, map, length, get_or, ap, subst, ◌∙◌}
+use Rattle.std.proofs.Common.{sym, arith}
 use Rattle.std.specs.List.{flat_map}
 use Rattle.std.proofs.lemmas.List.{map-append, length-set, get_or_default, append_assoc, append-nil}
 use Rattle.std.proofs.lemmas.List.Concat.{flat_map-append}
@@ -20,7 +21,8 @@ pub part-none : (t : Table) (f : ℕ → List Element) (columns : List ℕ) (old
 part-none t f columns old = record { len = refl; done = λ k d e lt. absurd (omega (arith, lt)); rest = λ k e le. refl }
 
 -- one column more
-pub part-next : (t : Table) (f : ℕ → List Element) (columns : List ℕ) (i : ℕ) (old new next : List Running) (y : Running) (d0 : ℕ) (e0 : Running)
+pub part-next : (t : Table) (f : ℕ → List Element) (columns : List ℕ) (i : ℕ) (old new next : List Running) (y : Running) (d0 : ℕ)
+    (e0 : Running)
     → i < length columns → length old ≡ length columns → ArePartAdded t f columns i old new → next ≡ set new i y
     → IsAdded (numbers (f (get_or columns i d0))) (low_of (column_kind t (get_or columns i d0))) (get_or new i e0) y
     → ArePartAdded t f columns (i + 1) old next
@@ -31,7 +33,8 @@ part-next t f columns i old new next y d0 e0 lt same p is a =
       done = λ k d e below. ⊎_elim
           (λ low. let other : k ≢ i = omega arith in rw (get_or-set_other new i k y e other) (p.done k d e low))
           (λ high. let here : k ≡ i = omega (arith, below, high) in
-          rw (here, get_or-set_same new i y e within, get_or_default columns i d d0 lt, sym (p.rest i e (omega arith)), get_or_default new i e e0 within) a)
+          rw (here, get_or-set_same new i y e within, get_or_default columns i d d0 lt, sym (p.rest i e
+              (omega arith)), get_or_default new i e e0 within) a)
           (cases_lt k i);
       rest = λ k e le. let other : k ≢ i = omega (arith, le) in get_or-set_other new i k y e other ∙ p.rest k e (omega (arith, le));
     })

@@ -1,5 +1,6 @@
 -- Totals of what is kept of columns.
-use Rattle.std.proofs.Common.{◌≡◌, ℕ, ◌+◌, ◌^◌, ◌<◌, ◌≤◌, List, [], ◌∷◌, ◌++◌, map, length, get_or, refl, sym, ap, subst, ◌∙◌, inl, inr, arith}
+use Rattle.std.proofs.Common.{◌≡◌, ℕ, ◌+◌, ◌^◌, ◌<◌, ◌≤◌, List, [], ◌∷◌, ◌++◌, map, length, get_or, refl, sym, ap, subst, ◌∙◌}
+use Rattle.std.proofs.Common.{inl, inr, arith}
 use Rattle.std.proofs.lemmas.Bool.{cases_lt}
 use Rattle.std.proofs.lemmas.List.{length-append, get_or_append_left, get_or_at, get_or_default}
 use Rattle.nt_encode.specs.Elements.{Element, numbers, AreElementsOf}
@@ -22,7 +23,8 @@ pub record ArePartTotalled (t : Table) (columns : List ℕ) (running : List Runn
   pub len : length totals ≡ i
   pub each : (k d : ℕ) (e : Running) (f : Total) → k < i → Totals_it t (get_or columns k d) (get_or running k e) (get_or totals k f)
 
-pub totalled-more : (t : Table) (columns : List ℕ) (running : List Running) (i : ℕ) (totals more : List Total) (x : Total) (d0 : ℕ) (e0 : Running)
+pub totalled-more : (t : Table) (columns : List ℕ) (running : List Running) (i : ℕ) (totals more : List Total) (x : Total) (d0 : ℕ)
+    (e0 : Running)
     → i < length columns → length running ≡ length columns → more ≡ totals ++ x ∷ []
     → Totals_it t (get_or columns i d0) (get_or running i e0) x
     → ArePartTotalled t columns running i totals → ArePartTotalled t columns running (i + 1) more
@@ -33,7 +35,8 @@ totalled-more t columns running i totals more x d0 e0 lt same is one h =
         | inl low ↦ rw (get_or_append_left totals (x ∷ []) f k (omega (arith, low, h.len))) (h.each k d e f low)
         | inr high ↦
             let here : k ≡ i = omega (arith, below, high) in
-            rw (here, get_or_at totals x [] f i h.len, get_or_default columns i d d0 lt, get_or_default running i e e0 (omega (arith, lt, same))) one
+            rw (here, get_or_at totals x [] f i h.len, get_or_default columns i d d0 lt, get_or_default running i e e0 (omega
+                (arith, lt, same))) one
       ];
     })
 

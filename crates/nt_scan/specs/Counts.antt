@@ -1,5 +1,6 @@
 -- How many elements columns have by the page lists, up to the first count that is too large.
-use Rattle.std.specs.Prelude.{ℕ, ◌≡◌, ◌+◌, ◌-◌, ◌^◌, ◌<◌, min, nat_le, List, [], ◌∷◌, map, slice_index_or, Option, Some, None, Result, Ok, Err}
+use Rattle.std.specs.Prelude.{ℕ, ◌≡◌, ◌+◌, ◌-◌, ◌^◌, ◌<◌, min, nat_le, List, [], ◌∷◌, map, slice_index_or, Option, Some, None}
+use Rattle.std.specs.Prelude.{Result, Ok, Err}
 use Rattle.std.specs.Prelude.{if◌then◌else◌}
 use Rattle.std.specs.List.{All, Contains, flat_map}
 use Rattle.nt_lists.specs.Chaining.{◌>>=◌}
@@ -22,9 +23,9 @@ abbrev pub with_count : ℕ → ℕ → Result ℕ ℕ
 with_count n more = if nat_le (n + more) most_elements then Ok (n + more) else Err (min (n + more) (2 ^ 64 - 1))
 
 -- counts added up, to the first that is too large
-abbrev pub counted : ℕ → List ℕ → Result ℕ ℕ
-counted n [] = Ok n
-counted n (c ∷ cs) = with_count n c >>= λ m. counted m cs
+abbrev pub added_up : ℕ → List ℕ → Result ℕ ℕ
+added_up n [] = Ok n
+added_up n (c ∷ cs) = with_count n c >>= λ m. added_up m cs
 
 -- what is told of a column that isn't there
 abbrev pub no_column_row : ColumnRow
@@ -40,14 +41,14 @@ cluster_counts t column k = zeros_due k (column_known t column) ∷ map (λ (p :
 
 -- the count of a column in all clusters, or its first count that is too large
 abbrev pub column_counted : Outline → ℕ → Result ℕ ℕ
-column_counted o column = counted 0 (flat_map (cluster_counts o.table column) o.clusters)
+column_counted o column = added_up 0 (flat_map (cluster_counts o.table column) o.clusters)
 
 -- a column has few enough elements
-abbrev pub IsCounted : Outline → ℕ → Type 0
-IsCounted o column = (n : ℕ) × (column_counted o column ≡ Ok n)
+abbrev pub HasFewEnough : Outline → ℕ → Type 0
+HasFewEnough o column = (n : ℕ) × (column_counted o column ≡ Ok n)
 
 -- of these columns none has too many elements; or this is the lowest that has, with its first count above the most
 abbrev pub IsFirstTooMany : Outline → List ℕ → Option (ℕ × ℕ) → Type 0
-IsFirstTooMany o columns None = All (λ c. IsCounted o c) columns
+IsFirstTooMany o columns None = All (λ c. HasFewEnough o c) columns
 IsFirstTooMany o columns (Some found) =
-    Contains columns found.0 × (column_counted o found.0 ≡ Err found.1) × All (λ c. c < found.0 → IsCounted o c) columns
+    Contains columns found.0 × (column_counted o found.0 ≡ Err found.1) × All (λ c. c < found.0 → HasFewEnough o c) columns

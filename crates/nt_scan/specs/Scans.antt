@@ -1,5 +1,6 @@
 -- What a scan prints of a file.
-use Rattle.std.specs.Prelude.{ℕ, ℤ, pos, ◌≡◌, ◌≤◌, ◌⊎◌, List, [], ◌∷◌, ◌++◌, map, slice_index_or, Option, Some, None, Result, Ok, Err, IsErrOf}
+use Rattle.std.specs.Prelude.{ℕ, ℤ, pos, ◌≡◌, ◌≤◌, ◌⊎◌, List, [], ◌∷◌, ◌++◌, map, slice_index_or, Option, Some, None, Result, Ok}
+use Rattle.std.specs.Prelude.{Err, IsErrOf}
 use Rattle.std.specs.List.{flat_map}
 use Rattle.nt_num.specs.declared.fault.ReadError.{ReadError}
 use Rattle.nt_types.specs.TreeData.{TreeData, TreesData, num, text, nothing, trees_of}
@@ -30,13 +31,13 @@ number_or_nothing None = nothing
 number_or_nothing (Some z) = num z
 
 -- the names of fields
-abbrev pub names_of : List FieldRow → List (List ℕ)
-names_of rows = map (λ (r : FieldRow). r.name) rows
+abbrev pub field_names : List FieldRow → List (List ℕ)
+field_names rows = map (λ (r : FieldRow). r.name) rows
 
 -- what is told of a leaf: its field's id and name, and then how many numbers it has, their sum, and the least and greatest of them
 abbrev pub total_told : Table → Leaf → Total → TreesData
 total_told t l x =
-    trees_of (num (pos l.field) ∷ text (slice_index_or (names_of t.fields) l.field []) ∷ num (pos x.count) ∷ num x.sum
+    trees_of (num (pos l.field) ∷ text (slice_index_or (field_names t.fields) l.field []) ∷ num (pos x.count) ∷ num x.sum
     ∷ number_or_nothing x.least ∷ number_or_nothing x.greatest ∷ [])
 
 -- the same of leaves with their totals
@@ -46,15 +47,15 @@ totals_told t (l ∷ ls) [] = []
 totals_told t (l ∷ ls) (x ∷ xs) = total_told t l x ∷ totals_told t ls xs
 
 -- a line for each
-abbrev pub total_lines : Table → List Leaf → List Total → List ℕ
-total_lines t leaves totals = flat_map (λ told. line_of told ++ 10 ∷ []) (totals_told t leaves totals)
+abbrev pub scan_lines : Table → List Leaf → List Total → List ℕ
+scan_lines t leaves totals = flat_map (λ told. line_of told ++ 10 ∷ []) (totals_told t leaves totals)
 
 -- what is scanned of a file: the lines of its number leaves; or that one of them has too many elements, of an outline without fault; or
 -- the file's first fault, where none has
 abbrev pub ScansAs : List ℕ → Result (List ℕ) ScanError → Type 0
 ScansAs file (Ok lines) =
     (o : Outline) × (totals : List Total) × (outline_of file ≡ Ok o)
-    × IsScanOf file o (leaf_columns (leaves_of o.table)) (Ok totals) × (lines ≡ total_lines o.table (leaves_of o.table) totals)
+    × IsScanOf file o (leaf_columns (leaves_of o.table)) (Ok totals) × (lines ≡ scan_lines o.table (leaves_of o.table) totals)
 ScansAs file (Err (TooMany column reached)) =
     (o : Outline) × (outline_of file ≡ Ok o) × IsFirstTooMany o (leaf_columns (leaves_of o.table)) (Some (column, reached))
 ScansAs file (Err (Defect e)) =

@@ -1,5 +1,6 @@
 -- A scan in the steps in which it goes.
-use Rattle.std.specs.Prelude.{ℕ, ◌≡◌, ◌<◌, ◌≤◌, ◌^◌, nat_le, List, [], map, length, slice_index_or, Option, Some, None, Result, Ok, Err, if◌then◌else◌}
+use Rattle.std.specs.Prelude.{ℕ, ◌≡◌, ◌<◌, ◌≤◌, ◌^◌, nat_le, List, [], map, length, slice_index_or, Option, Some, None, Result}
+use Rattle.std.specs.Prelude.{Ok, Err, if◌then◌else◌}
 use Rattle.nt_tfile.specs.declared.failure.ReadFailure.{ReadFailure}
 use Rattle.nt_tfile.specs.declared.failure.ReadFailure.TheVariants as failure
 use Rattle.nt_encode.specs.Elements.{Element, numbers, AreElementsOf}

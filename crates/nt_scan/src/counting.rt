@@ -2,7 +2,7 @@
 
 ghost use Rattle.std.specs.Prelude.{◌≡◌, ◌<◌, ◌≤◌, ◌^◌, length, IfOk, All};
 ghost use Rattle.nt_scan.specs.Leaves.{IsNumberColumn};
-ghost use Rattle.nt_scan.specs.Counts.{with_count, counted, cluster_counts, column_counted, IsFirstTooMany};
+ghost use Rattle.nt_scan.specs.Counts.{with_count, added_up, cluster_counts, column_counted, IsFirstTooMany};
 ghost use Rattle.nt_scan.specs.Steps.{lower_of};
 ghost use Rattle.nt_reader.specs.Outlines.{numbered_cluster};
 
@@ -32,7 +32,7 @@ fn cluster_counted(reader: &Reader, k: u32, column: u32, before: u64) -> Result<
     requires few { before ≤ 2 ^ 60 }
     ensures few { IfOk result (λ n. n ≤ 2 ^ 60) }
     ensures count { result
-        ≡ counted before (cluster_counts reader.now.table column (numbered_cluster reader.now k)) }
+        ≡ added_up before (cluster_counts reader.now.table column (numbered_cluster reader.now k)) }
 {
     let mut count = match with_count(before, reader.zeros_of(k, column)) {
         Ok(count) => count,

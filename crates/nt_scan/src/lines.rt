@@ -6,7 +6,7 @@ ghost use Rattle.nt_types.specs.TreeViews.{tree_view, trees_view};
 ghost use Rattle.nt_file_meaning.specs.Outlines.{Outline};
 ghost use Rattle.nt_total.specs.declared.total.Total.{Total};
 ghost use Rattle.nt_scan.specs.Leaves.{leaves_of, leaf_columns};
-ghost use Rattle.nt_scan.specs.Scans.{ServesScan, number_or_nothing, total_told, total_lines, ScansAs};
+ghost use Rattle.nt_scan.specs.Scans.{ServesScan, number_or_nothing, total_told, scan_lines, ScansAs};
 
 use crate::error::ScanError;
 use crate::leaf::{Leaf, leaves_of};
@@ -94,7 +94,7 @@ fn lines_of(
 ) -> Result<Bytes, AllocError>
     requires leaves { leaves.now ≡ leaves_of schema.now }
     requires len { length totals.now ≡ length leaves.now }
-    ensures { IfOk result (λ lines. lines ≡ total_lines schema.now leaves.now totals.now) }
+    ensures { IfOk result (λ lines. lines ≡ scan_lines schema.now leaves.now totals.now) }
 {
     let mut lines = Vec::new(alloc);
     for i in 0..leaves.len() {

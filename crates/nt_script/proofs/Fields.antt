@@ -85,7 +85,8 @@ module _ {D : Type 0} (state : D → DiskState) (first : Table) (F : List Member
         };
         taken = record {
           full = [];
-          written = subst (λ (p : Params). HasWritten state new (clusters_of_segments p.cluster (segments ++ over own ∷ []) ++ [])) (sym params)
+          written = subst
+              (λ (p : Params). HasWritten state new (clusters_of_segments p.cluster (segments ++ over own ∷ []) ++ [])) (sym params)
               all;
           sizes = tt;
           whole = sym gains.none;

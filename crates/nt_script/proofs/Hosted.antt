@@ -15,7 +15,7 @@ use Rattle.nt_outside.specs.Source.{SourceState}
 use Rattle.nt_outside.specs.World.{World, Asked, Out, HostState, Creates, IsNewDisk, KeepsDisk, TakesBack, creates, keeps_disk}
 use Rattle.nt_book.specs.declared.params.Params.{Params}
 use Rattle.nt_close.specs.Laws.{EndsOverFirst}
-use Rattle.nt_store.specs.Worlds.{AsksFirst, OthersStay, LeavesOpen, IsWrittenInOrder, WritesInOrder}
+use Rattle.nt_store.specs.Worlds.{AsksFirst, OthersStay, LeavesOpen, IsWrittenInOrder, WritesInOrder, IsLeftAfter}
 use Rattle.nt_store.specs.Writing.{HoldsNow}
 use Rattle.nt_store.proofs.Asking.{asks_all}
 use Rattle.nt_store.proofs.Ends.{stored_kept, file_kept, kept_open, kept_never_begun, others_kept, world_is, none_made, nothing_made}
@@ -26,7 +26,7 @@ use Rattle.nt_script.specs.StoreErrors.{script_error_of_refusal}
 use Rattle.nt_script.specs.Whole.{IsScriptFile}
 use Rattle.nt_script.specs.Crashes.{ScriptCrash, LeavesScript, ScriptCrashTold}
 use Rattle.nt_script.specs.Filing.{ScriptFileTold, WritesScript}
-use Rattle.nt_script.specs.Storing.{MakesScriptFile, IsLeftAfter, FilesTold, HasScriptCause, FilesText}
+use Rattle.nt_script.specs.Storing.{MakesScriptFile, FilesTold, HasScriptCause, FilesText}
 
 -- a disk comes back under the name that it was made for
 abbrev ComesBack : List ℕ → World → Option World → Option Held → Type 0

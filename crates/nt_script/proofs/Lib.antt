@@ -5,6 +5,7 @@ pub mod LastTrees
 pub mod Tables
 pub mod Segments
 pub mod Passed
+pub mod NextCluster
 pub mod Flushed
 pub mod Taken
 pub mod Members
@@ -13,6 +14,10 @@ pub mod Goes
 pub mod Ends
 pub mod Wholes
 pub mod WholeClusters
+pub mod Headers
+pub mod WouldBe
+pub mod Counted
+pub mod WholePassed
 pub mod Closed
 pub mod Early
 pub mod Unbegun

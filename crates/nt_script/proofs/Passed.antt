@@ -45,7 +45,8 @@ metas-short : (limits : Limits) (cs : List (Cluster ClusterMeta))
     → AllByRecursion (λ (m : ClusterMeta). m.len ≤ limits.range) (map (λ (c : Cluster ClusterMeta). c.meta) cs)
 metas-short limits [] lens short = tt
 metas-short limits (c ∷ cs) lens short =
-    (subst (λ (n : ℕ). n ≤ limits.range) (lens 0 (omega arith)) short.0, metas-short limits cs (λ k less. lens (suc k) (omega (arith, less))) short.1)
+    let others = metas-short limits cs (λ k less. lens (suc k) (omega (arith, less))) short.1 in
+    (subst (λ (n : ℕ). n ≤ limits.range) (lens 0 (omega arith)) short.0, others)
 
 -- what a writer that is alive has written stands within its limits
 pub stands_within : {D : Type 0} (state : D → DiskState) (w : SeqState D) → IsWriting state w → IsBookKept w.book

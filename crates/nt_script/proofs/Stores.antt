@@ -11,7 +11,7 @@ use Rattle.nt_outside.specs.Source.{SourceState}
 use Rattle.nt_outside.specs.World.{World, Asked, Text, Out, HostState, PrintsAll, prints}
 use Rattle.nt_book.specs.declared.params.Params.{Params}
 use Rattle.nt_store.specs.Stored.{asked_for}
-use Rattle.nt_store.specs.Worlds.{AsksFirst, LeavesOut, MakesDisk, IsWrittenInOrder}
+use Rattle.nt_store.specs.Worlds.{AsksFirst, LeavesOut, MakesDisk, IsWrittenInOrder, IsLeftAfter}
 use Rattle.nt_store.proofs.Asking.{asks_front}
 use Rattle.nt_store.proofs.Crashing.{or_as}
 use Rattle.nt_store.proofs.Ends.{world_is}
@@ -20,7 +20,7 @@ use Rattle.nt_script.specs.declared.store_error.ScriptStoreError.{ScriptStoreErr
 use Rattle.nt_script.specs.declared.store_error.ScriptStoreError.TheVariants.{Outside, Memory, Schema, Line, Limit}
 use Rattle.nt_script.specs.Whole.{clusters_of_text, IsScriptFile, counts_line, line_of_clusters}
 use Rattle.nt_script.specs.Crashes.{ScriptCrash, LeavesScript}
-use Rattle.nt_script.specs.Storing.{IsLeftAfter, FilesTold, FilesText, AreScriptTexts, StoresWholeScript, IsWholeScript, ScriptTold}
+use Rattle.nt_script.specs.Storing.{FilesTold, FilesText, AreScriptTexts, StoresWholeScript, IsWholeScript, ScriptTold}
 use Rattle.nt_script.specs.Storing.{StoresScript}
 use Rattle.nt_script.proofs.Opened.{HasOpened}
 

@@ -53,8 +53,8 @@ module _ {D : Type 0} (state : D → DiskState) where
       ⊎ ((entry : TreesData) × IsEntryLine F line entry × TakesEntries segments (es ++ entry ∷ []) old new)
   TakesEvent F segments es line old new (Err error) =
       ((is_blank_line line.bytes ≡ false) × IsEventError F line error)
-      ⊎ ((entry : TreesData) × IsEntryLine F line entry × HaltsAt state (MakesWhole old.params) old.table old.params segments (es ++ entry ∷ []) new
-      error)
+      ⊎ ((entry : TreesData) × IsEntryLine F line entry
+      × HaltsAt state (MakesWhole old.params) old.table old.params segments (es ++ entry ∷ []) new error)
 
   -- a field was added behind these lines, all of which are written
   pub record GainsScriptField (first : Table) (F G : List MemberData) (segments : List Segment) (es : List TreesData) (line : given.Line)

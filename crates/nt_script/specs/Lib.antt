@@ -4,6 +4,7 @@ pub mod Reading
 pub mod Limits
 pub mod Taking
 pub mod Passing
+pub mod Fitting
 pub mod Adding
 pub mod Events
 pub mod Running

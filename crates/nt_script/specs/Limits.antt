@@ -43,7 +43,8 @@ pub record PassesHere (t : Table) (p : Params) (segments : List Segment) (es nex
   pub within : StandsWithin t p (segment_metas segments ++ own)
   pub meta : ClusterMeta
   pub next_kept : IsKeptOf t p.page next meta
-  pub passed : limit_error p.limits (clusters_end t (segment_metas segments ++ own)) (length (segment_metas segments ++ own)) meta.len ≡ Some error
+  pub passed : limit_error p.limits (clusters_end t (segment_metas segments ++ own)) (length (segment_metas segments ++ own)) meta.len
+      ≡ Some error
 
 -- what closes the file of clusters of which this is kept passes a limit: a page list, the footer, or the end
 pub data IsOverEnd (t : Table) (p : Params) (metas : List ClusterMeta) (reached limit : ℕ) : Type 0 where

@@ -95,7 +95,3 @@ pub data PassesLimit (fields : List MemberData) (p : Params) (s : Script) (reach
   passes_writing : (error : LimitError) → PassesWriting fields p s error → TellsLimit p error reached limit
       → PassesLimit fields p s reached limit
   passes_closing : PassesClosing fields p s reached limit → PassesLimit fields p s reached limit
-
--- it passes none
-abbrev pub FitsWhole : List MemberData → Params → Script → Type 0
-FitsWhole fields p s = (reached limit : ℕ) → PassesLimit fields p s reached limit → ⊥

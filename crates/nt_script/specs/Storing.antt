@@ -4,14 +4,13 @@ use Rattle.nt_types.specs.ShapeData.{MemberData}
 use Rattle.nt_types.specs.Schema.{schema_text, at_line}
 use Rattle.nt_outside.specs.Faults.{Rose}
 use Rattle.nt_outside.specs.Source.{SourceState}
-use Rattle.nt_outside.specs.Log.{Step}
 use Rattle.nt_outside.specs.Order.{EndsInSync}
-use Rattle.nt_outside.specs.World.{World, Stored, Out, HostState, stored, file}
+use Rattle.nt_outside.specs.World.{World, Out, HostState, file}
 use Rattle.nt_book.specs.declared.params.Params.{Params}
 use Rattle.nt_close.specs.Laws.{EndsOverFirst}
 use Rattle.nt_store.specs.Stored.{asked_for}
 use Rattle.nt_store.specs.Worlds.{IsThereWith, AsksFor, LeavesOut, KeepsFiles, OthersStay, MakesDisk, LeavesOpen, IsLeftByFailure}
-use Rattle.nt_store.specs.Worlds.{IsLeftByMemory, WritesInOrder}
+use Rattle.nt_store.specs.Worlds.{IsLeftByMemory, WritesInOrder, IsLeftAfter}
 use Rattle.nt_script.specs.declared.error.LineFault.{LineFault}
 use Rattle.nt_script.specs.declared.storing.Counts.{Counts}
 use Rattle.nt_script.specs.declared.store_error.ScriptStoreError.{ScriptStoreError}
@@ -28,14 +27,6 @@ pub record MakesScriptFile (out : List ℕ) (p : Params) (fields : List MemberDa
   pub bytes : List ℕ
   pub file_is : file w' out ≡ Some bytes
   pub whole : IsScriptFile p fields text bytes
-
--- the file of this name was written by a disk that told its steps, which end so
-pub record IsLeftAfter (Ends : List Step → Type 0) (name : List ℕ) (w : World) : Type 0 where
-  pub at : Stored
-  pub log : List Step
-  pub there : stored w name ≡ Some at
-  pub steps : at.log ≡ Some log
-  pub ends : Ends log
 
 -- what is left of the files once the disk is back, by the answer; nothing is printed yet
 abbrev pub FilesTold : List ℕ → Params → List MemberData → List ℕ → World → World → Result Counts ScriptStoreError → Type 0
@@ -105,7 +96,8 @@ pub record IsTooLargeScript (schema input : List ℕ) (p : Params) (w : World) (
   pub over : PassesLimit fields p (read_script fields text) reached limit
 
 -- what is left, by the answer. Where the outside failed and the file is whole nevertheless, either the last step was that of its first
--- byte, or of a sync behind it that failed, and nothing was printed; or the file was closed, and the line of its numbers wasn't printed whole
+-- byte, which failed or was followed by a failed sync, and nothing was printed; or the file was closed, and the line of its numbers
+-- wasn't printed whole
 abbrev pub ScriptTold : List ℕ → List ℕ → List ℕ → Params → World → World → Result Unit ScriptStoreError → Type 0
 ScriptTold out schema input p w w' (Ok done) = (line : List ℕ) × StoresWholeScript out schema input p w w' line []
 ScriptTold out schema input p w w' (Err Outside) =

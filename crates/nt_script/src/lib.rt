@@ -40,7 +40,7 @@ mod taking;
 
 pub use error::{LineFault, ScriptError};
 pub use hosting::{ScriptNames, store_script};
-pub use laws::tables_have_just_their_fields;
+pub use laws::{tables_have_just_their_fields, whole_files_pass_what_scripts_pass};
 pub use running::write_script;
 pub use store_error::ScriptStoreError;
 pub use storing::Counts;

@@ -43,8 +43,8 @@ pub record IsFitToBegin (t : Table) (columns : List Column) : Type 0 where
 
 module _ {D : Type 0} (state : D → DiskState) where
   -- a writer that is alive: its file is begun, with ranges behind the header, and can be closed; each range of the book is settled and
-  -- within the limit, and so are their end and their number; the first elements of the columns are those of the schema and stand behind no more entries than are written, and the
-  -- columns give what is gathered
+  -- within the limit, and so are their end and their number; the first elements of the columns are those of the schema and stand behind
+  -- no more entries than are written, and the columns give what is gathered
   pub record IsWriting (w : SeqState D) : Type 0 where
     pub ranges : List (List ℕ)
     pub held : Becomes (state w.given).held (state w.disk).held (λ h. file_so_far w.table ranges)

@@ -1,2 +1,6 @@
 pub mod Selecting
+pub mod SkimmedClusters
 pub mod Readings
+pub mod PlanFits
+pub mod Places
+pub mod Choosing

@@ -1,8 +1,7 @@
 -- What the clusters of an outline are read as, by their numbers.
-use Rattle.std.proofs.Common.{◌≡◌, ◌∙◌, ap, ℕ, zero, suc, ◌+◌, ◌<◌, List, [], ◌∷◌, length, Ok, refl, arith}
+use Rattle.std.proofs.Common.{◌≡◌, ◌∙◌, ap, ℕ, zero, suc, ◌+◌, ◌<◌, List, [], ◌∷◌, length, refl, arith}
 use Rattle.std.specs.Prelude.{slice_index_or}
 use Rattle.std.proofs.lemmas.List.{length-map}
-use Rattle.std.specs.List.{range_with_len}
 use Rattle.std.proofs.lemmas.List.FromFn.{length-range_with_len}
 use Rattle.nt_grammar.specs.Table.{Table}
 use Rattle.nt_pagelists.specs.declared.cluster.ClusterList.{ClusterList}
@@ -11,7 +10,7 @@ use Rattle.nt_file_meaning.specs.Outlines.{Outline}
 use Rattle.nt_reader.specs.Columns.{ClusterData, given_entries}
 use Rattle.nt_reader.specs.Outlines.{entries_in, unlisted_cluster}
 use Rattle.nt_skim.specs.Select.{readings_from, cluster_readings}
-use Rattle.nt_skim.proofs.Selecting.{read_at}
+use Rattle.nt_skim.proofs.SkimmedClusters.{read_at}
 
 -- a cluster gives as many entries as it has
 pub length-given : (c : ClusterData) → length (given_entries c) ≡ c.entries

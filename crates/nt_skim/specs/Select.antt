@@ -54,9 +54,9 @@ abbrev pub cluster_readings : List ℕ → Outline → List (Result (List TreesD
 cluster_readings file o = readings_from file o.table 0 o.clusters
 
 -- the entries of clusters that are read one after the other, or the first fault
-abbrev pub all_read : List (Result (List TreesData) ReadError) → Result (List TreesData) ReadError
-all_read [] = Ok []
-all_read (r ∷ rs) = r >>= λ first. all_read rs >>= λ others. Ok (first ++ others)
+abbrev pub entries_read : List (Result (List TreesData) ReadError) → Result (List TreesData) ReadError
+entries_read [] = Ok []
+entries_read (r ∷ rs) = r >>= λ first. entries_read rs >>= λ others. Ok (first ++ others)
 
 -- the entries before the first fault
 abbrev pub before_fault : List (Result (List TreesData) ReadError) → List TreesData

@@ -4,12 +4,20 @@ ghost use Rattle.std.specs.Prelude.{◌≡◌};
 ghost use Rattle.nt_types.specs.Views.{members_view};
 ghost use Rattle.nt_skim.specs.Select.{selection_of};
 
-use nt_types::Fields;
+use nt_types::{Bytes, Fields};
 
 /// The number at a place of an entry lies from the least to the greatest, these included.
 #[derive(Clone, Copy, Debug, PartialEq, Eq)]
 pub struct PlaceTest {
     pub place: u32,
+    pub least: i128,
+    pub greatest: i128,
+}
+
+/// The number in the field of this name lies from the least to the greatest, these included.
+#[derive(Drop)]
+pub struct Test {
+    pub name: Bytes,
     pub least: i128,
     pub greatest: i128,
 }

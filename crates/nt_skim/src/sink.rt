@@ -1,11 +1,11 @@
 //! Where selected entries go.
 
-ghost use Rattle.std.specs.Prelude.{◌≡◌, ◌∷◌, [], true, None, Some, OnOk, IfErr, OnErr};
+ghost use Rattle.std.specs.Prelude.{◌≡◌, true, None};
 ghost use Rattle.nt_types.specs.ShapeData.{parts_of};
 ghost use Rattle.nt_types.specs.Fits.{fit_parts};
 ghost use Rattle.nt_types.specs.TreeData.{trees_of};
 ghost use Rattle.nt_types.specs.TreeViews.{trees_view};
-ghost use Rattle.nt_skim.specs.Skimming.{SinkState, GrowsBy};
+ghost use Rattle.nt_skim.specs.Skimming.{SinkState, AnswersPut};
 
 use nt_types::Trees;
 
@@ -20,10 +20,5 @@ pub trait EntrySink {
     fn put(&mut self, trees: &Trees) -> Result<(), Self::Fault>
         requires fits { fit_parts (parts_of (state self.old).fields) (trees_of (trees_view trees.now)) ≡ true }
         requires going { (state self.old).refused ≡ None }
-        ensures fields { (state self.new).fields ≡ (state self.old).fields }
-        ensures ok { OnOk result ((state self.new).refused ≡ None) }
-        ensures added { OnOk result (GrowsBy (trees_of (trees_view trees.now) ∷ [])
-            (state self.old).entries (state self.new).entries) }
-        ensures err { IfErr result (λ f. (state self.new).refused ≡ Some f) }
-        ensures kept { OnErr result ((state self.new).entries ≡ (state self.old).entries) };
+        ensures { AnswersPut (trees_of (trees_view trees.now)) (state self.old) (state self.new) result };
 }

@@ -7,8 +7,8 @@ ghost use Rattle.nt_types.specs.TreeData.{no_trees};
 ghost use Rattle.nt_join.specs.Chosen.{chosen};
 ghost use Rattle.nt_reader.specs.Columns.{given_entries};
 ghost use Rattle.nt_reader.specs.Outlines.{entries_in};
-ghost use Rattle.nt_skim.specs.Select.{selection_of, selected, passes, cluster_readings, FitsFields};
-ghost use Rattle.nt_skim.specs.Skimming.{TakesEntries, IsClusterSkimmed, IsSkimmed, HasSinkCause, ServesSkim};
+ghost use Rattle.nt_skim.specs.Select.{selection_of, selected, passes, cluster_readings};
+ghost use Rattle.nt_skim.specs.Skimming.{TakesSelected, IsClusterSkimmed, IsSkimmed, LeavesSink, CanSkim, ServesSkim};
 
 use crate::error::SkimError;
 use crate::selection::{PlaceTest, SkimPlan};
@@ -44,11 +44,10 @@ fn put_entry<E: EntrySink>(
     requires going { (E.state out.old).refused ≡ None }
     requires fits { fit_parts (parts_of (E.state out.old).fields)
         (chosen (selection_of plan.now).places (slice_index_or (given_entries cluster.now) i no_trees)) ≡ true }
-    ensures takes { TakesEntries
+    ensures takes { TakesSelected
         (selected (selection_of plan.now) (slice_index_or (given_entries cluster.now) i no_trees ∷ []))
         (E.state out.old) (E.state out.new) result }
-    ensures cause { HasSinkCause (E.state out.new) result }
-    ensures fields { (E.state out.new).fields ≡ (E.state out.old).fields }
+    ensures left { LeavesSink (E.state out.old) (E.state out.new) result }
 {
     if !passes(cluster, &plan.test, i) {
         return Ok(0);
@@ -72,10 +71,9 @@ fn put_entries<E: EntrySink>(
     requires going { (E.state out.old).refused ≡ None }
     requires fits { (i : ℕ) → i < cluster.now.entries → fit_parts (parts_of (E.state out.old).fields)
         (chosen (selection_of plan.now).places (slice_index_or (given_entries cluster.now) i no_trees)) ≡ true }
-    ensures takes { TakesEntries (selected (selection_of plan.now) (given_entries cluster.now))
+    ensures takes { TakesSelected (selected (selection_of plan.now) (given_entries cluster.now))
         (E.state out.old) (E.state out.new) result }
-    ensures cause { HasSinkCause (E.state out.new) result }
-    ensures fields { (E.state out.new).fields ≡ (E.state out.old).fields }
+    ensures left { LeavesSink (E.state out.old) (E.state out.new) result }
 {
     let mut total: u64 = 0;
     for i in 0..cluster.entries() {
@@ -100,14 +98,11 @@ fn put_cluster<F: ReadAt, E: EntrySink>(
     out: &mut E,
 ) -> Result<u64, SkimError<E::Fault>>
     requires there { k < length reader.now.clusters }
-    requires going { (E.state out.old).refused ≡ None }
-    requires fits { FitsFields reader.now.table (selection_of plan.now) }
-    requires fields { (E.state out.old).fields ≡ (selection_of plan.now).fields }
+    requires can { CanSkim reader.now.table (selection_of plan.now) (E.state out.old) }
     ensures skimmed { (b : List ℕ) → (F.state file.old).bytes ≡ Some b
         → IsClusterSkimmed (selection_of plan.now) (entries_in reader.now k b) (E.state out.old) (E.state out.new) result }
     ensures file { ServesSkim (F.state file.old) (F.state file.new) result }
-    ensures cause { HasSinkCause (E.state out.new) result }
-    ensures fields { (E.state out.new).fields ≡ (E.state out.old).fields }
+    ensures left { LeavesSink (E.state out.old) (E.state out.new) result }
 {
     match reader.cluster(alloc, file, k) {
         Ok(cluster) => {
@@ -135,14 +130,11 @@ pub fn skim<F: ReadAt, E: EntrySink>(
     plan: &SkimPlan,
     out: &mut E,
 ) -> Result<u64, SkimError<E::Fault>>
-    requires going { (E.state out.old).refused ≡ None }
-    requires fits { FitsFields reader.now.table (selection_of plan.now) }
-    requires fields { (E.state out.old).fields ≡ (selection_of plan.now).fields }
+    requires { CanSkim reader.now.table (selection_of plan.now) (E.state out.old) }
     ensures skimmed { (b : List ℕ) → (F.state file.old).bytes ≡ Some b
         → IsSkimmed (selection_of plan.now) (cluster_readings b reader.now) (E.state out.old) (E.state out.new) result }
     ensures file { ServesSkim (F.state file.old) (F.state file.new) result }
-    ensures cause { HasSinkCause (E.state out.new) result }
-    ensures fields { (E.state out.new).fields ≡ (E.state out.old).fields }
+    ensures left { LeavesSink (E.state out.old) (E.state out.new) result }
 {
     let mut total: u64 = 0;
     for k in 0..reader.clusters() {

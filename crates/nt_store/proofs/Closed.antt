@@ -4,7 +4,7 @@ use Rattle.nt_types.specs.ShapeData.{MemberData}
 use Rattle.nt_outside.specs.Held.{Held}
 use Rattle.nt_outside.specs.Disk.{DiskState}
 use Rattle.nt_outside.specs.Reads.{Reads}
-use Rattle.nt_outside.specs.Order.{BeginsOpen}
+use Rattle.nt_outside.specs.Order.{BeginsOpen, EndsInSync}
 use Rattle.nt_grammar.specs.Table.{Table}
 use Rattle.nt_book.specs.declared.params.Params.{Params}
 use Rattle.nt_book.specs.declared.limits.LimitError.{LimitError}
@@ -14,10 +14,11 @@ use Rattle.nt_layout.specs.Finished.{lists_behind, tail, front}
 use Rattle.nt_close.specs.declared.error.CloseError.{CloseError}
 use Rattle.nt_close.specs.declared.error.CloseError.TheVariants as close
 use Rattle.nt_close.specs.Steps.{closed_on, closed_partly, closed_whole}
+use Rattle.nt_close.specs.Laws.{EndsOverFirst}
 use Rattle.nt_close.specs.Passing.{passed_by_close}
 use Rattle.nt_close.specs.Spoiled.{NoneSpoiled, IsUnspoiled, IsFirstSpoiled}
 use Rattle.nt_close.specs.Closing.{HasCloseCause, LeavesClosed, IsCloseCut, BecomesFinished, StaysWithin}
-use Rattle.nt_close.proofs.FirstByte.{closes_shut, closes_in_order}
+use Rattle.nt_close.proofs.FirstByte.{cut_shut, closes_in_order}
 use Rattle.nt_close.proofs.Finishing.{closed-is}
 use Rattle.nt_close.proofs.Within.{within}
 use Rattle.nt_dealing.specs.Dealt.{commit_order}
@@ -59,21 +60,21 @@ module _ (long : RangesAreAsLong) (stored : FinishedAreStored) (over : PassedAre
       (whole ∙ closed-is t book p.group filled.ranges h begin (long fields p texts t book filled.ranges filled.holds) filled.image)
 
   -- it is closed
-  pub closed_leaves : (old new : Option Held) → old ≡ Some h → BecomesFinished t book p.group old new → StaysWithin t p book
-      → HoldsNow new (λ left. IsStored p fields texts (commit_order book) left.image)
-  closed_leaves old new is becomes stays =
-      let left = becomes filled.ranges (long fields p texts t book filled.ranges filled.holds) h is filled.image in
-      (left.0, left.1, stored fields p texts t book filled.ranges left.0.image filled.holds stays left.2)
+  pub closed_leaves : (new : Option Held) → new ≡ Some (closed_on ends begins h) → StaysWithin t p book
+      → HoldsNow new (λ left. IsStored p fields texts (commit_order book) left.image × EndsInSync left.log)
+  closed_leaves new is stays =
+      (closed_on ends begins h, is, (stands (closed_on ends begins h) stays refl, (_, refl)))
 
   cut_leaves : (old new : DiskState) → old.held ≡ Some h → passed_by_close p t book ≡ None → IsCloseCut ends begins old new
-      → HoldsNow new.held (λ left. BeginsOpen left.image ⊎ IsStored p fields texts (commit_order book) left.image)
+      → HoldsNow new.held (λ left. BeginsOpen left.image
+      ⊎ (IsStored p fields texts (commit_order book) left.image × EndsOverFirst left.log))
   cut_leaves old new is none cut =
       let left = cut.held h is in (
         left.0,
         left.1,
-        elim (closes_shut ends begins h left.0 filled.shut (closed_partly left.2)) [
+        elim (cut_shut ends begins h left.0 filled.shut left.2) [
           | inl still ↦ inl (shut_open left.0.image still)
-          | inr whole ↦ inr (stands left.0 (within t p book none) whole)
+          | inr whole ↦ inr (stands left.0 (within t p book none) whole.0, whole.1)
         ],
       )
 

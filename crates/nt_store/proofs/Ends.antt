@@ -22,6 +22,8 @@ use Rattle.nt_store.specs.Orders.{order_line, GainsOrderFront, gains_nothing, ga
 use Rattle.nt_store.specs.Schemas.{TellsSchema}
 use Rattle.nt_store.specs.Texts.{AreTexts}
 use Rattle.nt_store.specs.Worlds.{IsThereWith, OthersStay, MakesDisk, IsLeftOpen, IsNeverBegun, IsWrittenInOrder, WritesInOrder}
+use Rattle.nt_store.specs.Worlds.{IsLeftAfter}
+use Rattle.nt_close.specs.Laws.{EndsOverFirst}
 use Rattle.nt_store.specs.Stored.{StoresWhole, StoreTold}
 use Rattle.nt_store.specs.Writing.{NeverBegan, PrintsOrderFront, prints_nothing, prints_front, EndsWhole, FileTold, IsInOrderFrom}
 
@@ -56,6 +58,16 @@ kept_never_begun out h v began = record {
   len = began.0;
   there = stored_kept v.files out (record { bytes = h.image; log = Some h.log });
   log = ap (λ (l : List Step). Some l) began.1;
+}
+
+-- and the steps of its disk
+pub kept_steps : (Ends : List Step → Type 0) (out : List ℕ) (h : Held) (v : World) → Ends h.log → IsLeftAfter Ends out (keeps_disk out h v)
+kept_steps Ends out h v ends = record {
+  at = record { bytes = h.image; log = Some h.log };
+  log = h.log;
+  there = stored_kept v.files out (record { bytes = h.image; log = Some h.log });
+  steps = refl;
+  ends = ends;
 }
 
 pub others_kept : (out : List ℕ) (h : Held) (v : World) → OthersStay out v (keeps_disk out h v)
@@ -136,13 +148,12 @@ module _ (out schema : List ℕ) (inputs : List (List ℕ)) (p : Params) (fields
           ends.order) ends.file.0,
       whole ends,
     )
-    out_told (Err Outside) (inr ends) = (
+    out_told (Err Outside) (inr (ends, over)) = (
       after (order_line ends.order) ends.file.0,
       keeps out ends.file.0 _ ends.printed refl ends.file.1,
       refl,
-      others (order_line
-          ends.order) ends.file.0,
-      inr (whole ends),
+      others (order_line ends.order) ends.file.0,
+      inr (whole ends, kept_steps EndsOverFirst out ends.file.0 (prints ToOut (order_line ends.order) (creates out w)) over),
     )
     out_told (Err Outside) (inl (front, (h, held-is, inl begins))) =
         let l = left_with world h front in (
@@ -209,7 +220,7 @@ module _ (out schema : List ℕ) (inputs : List (List ℕ)) (p : Params) (fields
     pub left_world : (result : Result Unit StoreError) → FileTold fields p texts (creates out w) world held result
         → (u : World) × (world ≡ Some u) × (u.creating ≡ Some out)
     left_world (Ok value) ends = (_, ends.printed, refl)
-    left_world (Err Outside) (inr ends) = (_, ends.printed, refl)
+    left_world (Err Outside) (inr ends) = (_, ends.0.printed, refl)
     left_world (Err Outside) (inl (front, some)) = front_world front
     left_world (Err Memory) (front, some) = front_world front
     left_world (Err (Limit reached most)) (passes, front, some) = front_world front

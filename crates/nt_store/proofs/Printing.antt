@@ -49,11 +49,12 @@ module _ (fields : List MemberData) (p : Params) (texts : List (List ℕ)) (w : 
   pub closed_told : (book : BookData) (result : Result Unit StoreError) → IsOrderOf p fields texts (commit_order book)
       → PrintsOrder book w new
       → CloseLeaves fields p texts (commit_order book) held result → FileTold fields p texts w new held result
-  closed_told book (Ok value) of printed left = record { order = commit_order book; file = left; printed = printed }
+  closed_told book (Ok value) of printed (h, is, stored) =
+      record { order = commit_order book; file = (h, is, stored.0); printed = printed }
   closed_told book (Err Outside) of printed (h, is, inl begins) =
       inl (whole_printed fields p texts w new book of printed, (h, is, inl begins))
   closed_told book (Err Outside) of printed (h, is, inr stored) =
-      inr (record { order = commit_order book; file = (h, is, stored); printed = printed })
+      inr (record { order = commit_order book; file = (h, is, stored.0); printed = printed }, stored.1)
   closed_told book (Err Memory) of printed left = (whole_printed fields p texts w new book of printed, left)
   closed_told book (Err (Limit reached most)) of printed (passes, left) =
       (passes, whole_printed fields p texts w new book of printed, left)

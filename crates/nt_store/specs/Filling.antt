@@ -2,7 +2,7 @@
 use Rattle.std.specs.Prelude.{⊤, ◌≡◌, ◌⊎◌, ℕ, ◌<◌, List, ◌++◌, length, Option, Some, Result, Ok, Err, IfOk, IfErr, IsErrOf}
 use Rattle.std.specs.List.{concat}
 use Rattle.nt_types.specs.ShapeData.{MemberData}
-use Rattle.nt_outside.specs.Order.{FirstByteLast, BeginsOpen}
+use Rattle.nt_outside.specs.Order.{FirstByteLast, BeginsOpen, EndsInSync}
 use Rattle.nt_outside.specs.Held.{Held}
 use Rattle.nt_outside.specs.Disk.{DiskState}
 use Rattle.nt_outside.specs.Source.{SourceState}
@@ -10,7 +10,7 @@ use Rattle.nt_grammar.specs.Table.{Table}
 use Rattle.nt_book.specs.declared.params.Params.{Params}
 use Rattle.nt_book.specs.Books.{BookData}
 use Rattle.nt_layout.specs.Headers.{file_begun}
-use Rattle.nt_close.specs.Laws.{IsShut}
+use Rattle.nt_close.specs.Laws.{IsShut, EndsOverFirst}
 use Rattle.nt_close.specs.Closing.{IsClosable}
 use Rattle.nt_close.specs.Spoiled.{NoneSpoiled}
 use Rattle.nt_cuts.specs.Cuts.{LeavesUnfinished}
@@ -80,10 +80,12 @@ IsOfNoText (Limit reached most) = ⊤
 IsOfNoText (Line input line kind) = ⊥
 IsOfNoText (Schema line kind) = ⊥
 
--- what is left of a filled file by its closing: it is stored, or it can't pass for finished; after a failure either
+-- what is left of a filled file by its closing: it is stored, and its last step was a sync; or it can't pass for finished. After a failure
+-- it is one of these: stored only where the last step was over its first byte, or a sync behind that failed
 abbrev pub CloseLeaves : List MemberData → Params → List (List ℕ) → List ℕ → Option Held → Result Unit StoreError → Type 0
-CloseLeaves fields p texts order held (Ok done) = HoldsNow held (λ h. IsStored p fields texts order h.image)
-CloseLeaves fields p texts order held (Err Outside) = HoldsNow held (λ h. BeginsOpen h.image ⊎ IsStored p fields texts order h.image)
+CloseLeaves fields p texts order held (Ok done) = HoldsNow held (λ h. IsStored p fields texts order h.image × EndsInSync h.log)
+CloseLeaves fields p texts order held (Err Outside) =
+    HoldsNow held (λ h. BeginsOpen h.image ⊎ (IsStored p fields texts order h.image × EndsOverFirst h.log))
 CloseLeaves fields p texts order held (Err Memory) = HoldsNow held (λ h. BeginsOpen h.image)
 CloseLeaves fields p texts order held (Err (Limit reached most)) =
     PassesLimitOf fields p texts reached most × HoldsNow held (λ h. BeginsOpen h.image)

@@ -6,12 +6,13 @@ use Rattle.nt_event.specs.declared.fault.TextKind.{TextKind}
 use Rattle.nt_grammar.specs.Table.{Table}
 use Rattle.nt_grammar.specs.Rows.{Rows}
 use Rattle.nt_book.specs.declared.params.Params.{Params}
+use Rattle.nt_close.specs.Laws.{EndsOverFirst}
 use Rattle.nt_outside.specs.World.{World, Asked, Text, Out, HostState, file}
 use Rattle.nt_store.specs.declared.error.StoreError.{StoreError}
 use Rattle.nt_store.specs.declared.error.StoreError.TheVariants.{Outside, Memory, Schema, Line, Limit}
 use Rattle.nt_store.specs.Orders.{order_line, GainsOrderFront}
 use Rattle.nt_store.specs.Worlds.{IsThereWith, AsksFor, HasStoreCause, LeavesOut, KeepsFiles, OthersStay, MakesDisk, LeavesOpen}
-use Rattle.nt_store.specs.Worlds.{IsLeftByFailure, IsLeftByMemory, WritesInOrder}
+use Rattle.nt_store.specs.Worlds.{IsLeftByFailure, IsLeftByMemory, WritesInOrder, IsLeftAfter}
 use Rattle.nt_store.specs.Texts.{AreTexts}
 use Rattle.nt_store.specs.Whole.{IsStored}
 use Rattle.nt_store.specs.Crashes.{CrashTold}
@@ -51,11 +52,13 @@ pub record IsTooLarge (schema : List ℕ) (inputs : List (List ℕ)) (p : Params
   pub over : IsOver table p (all_chunks p.cluster fields texts) reached limit
   pub by : PassesBy table fields p texts reached limit
 
--- what is left, by the answer
+-- what is left, by the answer. Where the outside failed and the file is whole nevertheless, its last step was over its first byte, or a
+-- sync behind that failed
 abbrev pub StoreTold : List ℕ → List ℕ → List (List ℕ) → Params → World → World → Result Unit StoreError → Type 0
 StoreTold out schema inputs p w w' (Ok done) = StoresWhole out schema inputs p w w'
 StoreTold out schema inputs p w w' (Err Outside) =
-    (IsLeftByFailure out w w' × GainsOrderFront schema inputs p w w') ⊎ StoresWhole out schema inputs p w w'
+    (IsLeftByFailure out w w' × GainsOrderFront schema inputs p w w')
+    ⊎ (StoresWhole out schema inputs p w w' × IsLeftAfter EndsOverFirst out w')
 StoreTold out schema inputs p w w' (Err Memory) = IsLeftByMemory out w w' × GainsOrderFront schema inputs p w w'
 StoreTold out schema inputs p w w' (Err (Schema line kind)) =
     IsThereWith (λ text. schema_text text ≡ Err (at_line line kind)) (file w schema) × KeepsFiles w w' × (w'.out ≡ w.out)

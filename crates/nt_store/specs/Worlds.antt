@@ -103,3 +103,11 @@ pub record PutsTexts (texts : List SourceState) (old new : HostState) : Type 0 w
 -- texts just opened have the whole bytes of their names, and no fault
 abbrev pub AreOpenTexts : Option World → List (List ℕ) → List SourceState → Type 0
 AreOpenTexts world names texts = AllZip (IsOpenText world) names texts
+
+-- the file of this name was written by a disk that told its steps, which end so
+pub record IsLeftAfter (Ends : List Step → Type 0) (name : List ℕ) (w : World) : Type 0 where
+  pub at : Stored
+  pub log : List Step
+  pub there : stored w name ≡ Some at
+  pub steps : at.log ≡ Some log
+  pub ends : Ends log

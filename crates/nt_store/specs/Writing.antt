@@ -17,7 +17,7 @@ use Rattle.nt_layout.specs.Headers.{header_blob, header_object, clusters_place}
 use Rattle.nt_pagelists.specs.Blobs.{blob_len}
 use Rattle.nt_event.specs.declared.fault.TextKind.{TextKind}
 use Rattle.nt_close.specs.Steps.{begun_on}
-use Rattle.nt_close.specs.Laws.{IsShut}
+use Rattle.nt_close.specs.Laws.{IsShut, EndsOverFirst}
 use Rattle.nt_book.specs.declared.limits.LimitError.{LimitError}
 use Rattle.nt_book.specs.declared.limits.LimitError.TheVariants as limit
 use Rattle.nt_dealing.specs.Dealt.{commit_order}
@@ -78,11 +78,13 @@ pub record FailsAtLine (fields : List MemberData) (p : Params) (texts : List (Li
   pub rows : Rows fields p.plain table
   pub fails : FailsByLine table fields p texts input line kind
 
--- what the writing of a file from its fields and texts leaves, by the answer
+-- what the writing of a file from its fields and texts leaves, by the answer. Where the outside failed and the file is whole nevertheless,
+-- the last step was over its first byte, or a sync behind that failed
 abbrev pub FileTold : List MemberData → Params → List (List ℕ) → World → Option World → Option Held → Result Unit StoreError → Type 0
 FileTold fields p texts w new held (Ok done) = EndsWhole fields p texts w new held
 FileTold fields p texts w new held (Err Outside) =
-    (PrintsOrderFront fields p texts w new × HoldsNow held (λ h. BeginsOpen h.image ⊎ NeverBegan h)) ⊎ EndsWhole fields p texts w new held
+    (PrintsOrderFront fields p texts w new × HoldsNow held (λ h. BeginsOpen h.image ⊎ NeverBegan h))
+    ⊎ ((ends : EndsWhole fields p texts w new held) × EndsOverFirst ends.file.0.log)
 FileTold fields p texts w new held (Err Memory) = PrintsOrderFront fields p texts w new × HoldsNow held (λ h. BeginsOpen h.image)
 FileTold fields p texts w new held (Err (Limit reached most)) =
     PassesLimitOf fields p texts reached most × PrintsOrderFront fields p texts w new × HoldsNow held (λ h. BeginsOpen h.image)

@@ -1,5 +1,6 @@
 -- Integers by their keys.
-use Rattle.std.proofs.Common.{◌≡◌, ◌≢◌, ℕ, suc, ◌+◌, ◌-◌, ◌*◌, ◌^◌, ◌<◌, ◌≤◌, min, max, Bool, true, false, ℤ, pos, List, [], ◌∷◌, map, length, fold, refl, sym, ap, subst, ◌∙◌, arith, Some, None, ⊎_elim, ◌⊎◌, inl, inr, zero}
+use Rattle.std.proofs.Common.{◌≡◌, ◌≢◌, ℕ, suc, ◌+◌, ◌-◌, ◌*◌, ◌^◌, ◌<◌, ◌≤◌, min, max, Bool, true, false, ℤ, pos, List, [], ◌∷◌}
+use Rattle.std.proofs.Common.{map, length, fold, refl, sym, ap, subst, ◌∙◌, arith, Some, None, ⊎_elim, ◌⊎◌, inl, inr, zero}
 use Rattle.std.specs.Prelude.{sum, ◌+ℤ◌, ◌-ℤ◌, ◌≤ℤ◌}
 use Rattle.std.specs.List.{All, Contains}
 use Rattle.std.proofs.lemmas.Int.{ints}
@@ -126,7 +127,8 @@ least-keyed low k ks words =
           (All-weaker (λ x. m ≤ x) (λ x. f m ≤ℤ f x) (λ x le. ordered low m x le) (k ∷ ks) (least_key-below (k ∷ ks))),
     )
 
-greatest-keyed : (low k : ℕ) (ks : List ℕ) → IsGreatestOf (map (integer_of_key low) (k ∷ ks)) (Some (integer_of_key low (greatest_key (k ∷ ks))))
+greatest-keyed : (low k : ℕ) (ks : List ℕ) → IsGreatestOf (map (integer_of_key low) (k ∷ ks)) (Some (integer_of_key low
+    (greatest_key (k ∷ ks))))
 greatest-keyed low k ks =
     let f = integer_of_key low in
     let m = greatest_key (k ∷ ks) in (

@@ -1,5 +1,6 @@
 -- Elements as keys, which are in the order of their integers, and what keys come to.
-use Rattle.std.specs.Prelude.{ℤ, pos, ◌-ℤ◌, ℕ, ◌≡◌, ◌+◌, ◌-◌, ◌%◌, ◌^◌, List, [], ◌∷◌, ◌<◌, length, All, min, max, sum, nat_lt, if◌then◌else◌}
+use Rattle.std.specs.Prelude.{ℤ, pos, ◌-ℤ◌, ℕ, ◌≡◌, ◌+◌, ◌-◌, ◌%◌, ◌^◌, List, [], ◌∷◌, ◌<◌, length, All, min, max, sum, nat_lt}
+use Rattle.std.specs.Prelude.{if◌then◌else◌}
 use Rattle.nt_total.specs.declared.piece.Piece.{Piece}
 
 -- the place of an element among the integers of its width, of which so many are below zero

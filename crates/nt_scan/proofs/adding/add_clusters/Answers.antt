@@ -11,7 +11,8 @@ returns-in_err-cluster-clause-added g c told is =
     let p = err_from_is_err_and c.from_residual.result c.from_residual.ensures.1 in
     let so_far = c.loop-k.invariant.added told is in
     rw (p.1, p.2)
-    (clusters-fail told c.args.reader.now c.args.columns.now c.args.running.now c.loop-k.running c.loop-k.k so_far.0 c.in_err-cluster.field-0.0
+    (clusters-fail told c.args.reader.now c.args.columns.now c.args.running.now c.loop-k.running c.loop-k.k so_far.0
+    c.in_err-cluster.field-0.0
     (omega (arith, c.loop-k-test.true, c.clusters-k-end.ensures)) so_far.1
     (c.in_err-cluster.ensures.columns told (c.loop-k.invariant.same ∙ is)))
 

@@ -12,7 +12,8 @@ loop-column-preserved c =
     let i = c.loop-column.column-index in
     rw (take_more cs i 0 c.loop-column-test.true)
     (elim c.match-column_counted.branch [
-      | in-Err w ↦ rw (w.lowest-is, w.lower_of.ensures) (lowest-over o (take i cs) _ _ c.loop-column.lowest (sym w.in-Err.ensures) c.loop-column.invariant)
+      | in-Err w ↦ rw (w.lowest-is, w.lower_of.ensures) (lowest-over o (take i cs) _ _ c.loop-column.lowest
+          (sym w.in-Err.ensures) c.loop-column.invariant)
       | in-Ok w ↦ rw w.lowest-is (lowest-fits o (take i cs) _ c.loop-column.lowest (_, sym w.in-Ok.ensures) c.loop-column.invariant)
     ])
 

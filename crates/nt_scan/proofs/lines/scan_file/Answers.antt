@@ -5,7 +5,7 @@ use Rattle.std.proofs.lemmas.List.{length-map}
 use Rattle.nt_scan.specs.declared.leaf.Leaf.{Leaf}
 use Rattle.nt_scan.specs.Leaves.{IsNumberColumn, leaves_of, leaf_columns}
 use Rattle.nt_scan.specs.Totals.{IsScanOf}
-use Rattle.nt_scan.specs.Scans.{total_lines}
+use Rattle.nt_scan.specs.Scans.{scan_lines}
 use Rattle.nt_scan.proofs.Leaves.{columns-numbers, leaves-in}
 use Rattle.nt_scan.proofs.Ended.{attach-fails, scan-fails}
 use Rattle.nt_scan.proofs.lines.scan_file.Goals as goal
@@ -38,7 +38,8 @@ pub lines_of-requires-clause-len : goal.lines_of-requires-clause-len
 lines_of-requires-clause-len g c =
     rw (c.as_slice.ensures, c.deref-3.ensures.value)
     (c.in_ok-totals.ensures.len ∙ ap length (c.deref-2.ensures.value ∙ c.in_ok-columns.ensures)
-    ∙ ap (λ (l : List Leaf). length (leaf_columns l)) c.deref.ensures.value ∙ length-map c.in_ok-leaves.leaves.items (λ (l : Leaf). l.column))
+    ∙ ap (λ (l : List Leaf). length (leaf_columns l)) c.deref.ensures.value
+    ∙ length-map c.in_ok-leaves.leaves.items (λ (l : Leaf). l.column))
 
 pub returns-clause-scans : goal.returns-clause-scans
 returns-clause-scans g c told is =
@@ -52,5 +53,5 @@ returns-clause-scans g c told is =
       totals,
       c.in_ok-reader.ensures.read told is,
       subst (λ l. IsScanOf told o l (Ok totals)) columns (c.in_ok-totals.ensures.scan told (c.in_ok-reader.ensures.file.same ∙ is)),
-      lines ∙ ap (λ l. total_lines o.table l totals) leaves,
+      lines ∙ ap (λ l. scan_lines o.table l totals) leaves,
     )

@@ -24,7 +24,8 @@ returns-in-Ok-clause-flushed g c =
 
 pub returns-in-Ok-clause-given : goal.returns-in-Ok-clause-given
 returns-in-Ok-clause-given g c =
-    given_flushed g.D.Disk.state c.args.writer.now c.flush.new.self (λ none. (c.in-Ok.ensures.flushes.nothing none).1) c.in-Ok.ensures.flushes.ok
+    given_flushed g.D.Disk.state c.args.writer.now c.flush.new.self (λ none. (c.in-Ok.ensures.flushes.nothing none).1)
+    c.in-Ok.ensures.flushes.ok
 
 pub returns-in-Err-clause-given : goal.returns-in-Err-clause-given
 returns-in-Err-clause-given g c =

@@ -9,14 +9,15 @@ use Rattle.nt_join.specs.Chosen.{chosen}
 use Rattle.nt_reader.specs.Columns.{given_entries}
 use Rattle.nt_reader.specs.Outlines.{entries_in}
 use Rattle.nt_skim.specs.Select.{selection_of, selected}
-use Rattle.nt_skim.proofs.Selecting.{cluster_done, never_fault}
+use Rattle.nt_skim.proofs.SkimmedClusters.{cluster_done, never_fault}
 use Rattle.nt_skim.proofs.skimming.put_cluster.Goals as goal
 
 pub put_entries-requires-clause-fits : goal.put_entries-requires-clause-fits
 put_entries-requires-clause-fits g c i less =
     let e = slice_index_or (given_entries c.in-Ok.cluster) i no_trees in
-    subst (λ (ms : List MemberData). fit_parts (parts_of ms) (chosen (selection_of c.args.plan.now).places e) ≡ true) (sym c.requires.fields)
-    (c.requires.fits e (subst (λ (t : Table). fits_entry t e ≡ true) c.in-Ok.ensures.table (c.entries_fit.ensures i less)))
+    subst (λ (ms : List MemberData). fit_parts (parts_of ms) (chosen (selection_of c.args.plan.now).places e) ≡ true)
+    (sym c.requires.can.fields)
+    (c.requires.can.fits e (subst (λ (t : Table). fits_entry t e ≡ true) c.in-Ok.ensures.table (c.entries_fit.ensures i less)))
 
 pub returns-in-Ok-clause-skimmed : goal.returns-in-Ok-clause-skimmed
 returns-in-Ok-clause-skimmed g c b told =

@@ -34,10 +34,11 @@ loop-i-preserved g c =
     (g.E.EntrySink.state c.args.out.now) (g.E.EntrySink.state c.loop-i.out) (g.E.EntrySink.state c.put_entry.new.out) c.loop-i.invariant
     c.in-Ok.more c.in-Some.sum c.in-Some.ensures.1
     (omega (arith, c.loop-i-test.true, c.entries-i-end.ensures, length-given c.args.cluster.now)) c.in-Ok.ensures.takes
-    c.in-Ok.ensures.cause c.in-Ok.ensures.fields
+    c.in-Ok.ensures.left.cause c.in-Ok.ensures.left.fields
 
 pub returns-clause-takes : goal.returns-clause-takes
 returns-clause-takes g c =
-    taken_all (selection_of c.args.plan.now) (given_entries c.args.cluster.now) c.loop-i.i c.loop-i.total (g.E.EntrySink.state c.args.out.now)
+    taken_all (selection_of c.args.plan.now) (given_entries c.args.cluster.now) c.loop-i.i c.loop-i.total
+    (g.E.EntrySink.state c.args.out.now)
     (g.E.EntrySink.state c.loop-i.out)
     (omega (arith, c.loop-i-test.false, c.entries-i-end.ensures, length-given c.args.cluster.now)) c.loop-i.invariant

@@ -3,7 +3,7 @@ use Rattle.nt_outside.specs.File.{FileState}
 use Rattle.nt_file_meaning.specs.Outlines.{Outline}
 use Rattle.nt_skim.specs.Select.{selection_of, Selection, cluster_readings}
 use Rattle.nt_skim.specs.Skimming.{SinkState}
-use Rattle.nt_skim.proofs.Selecting.{HasSkimmed}
+use Rattle.nt_skim.proofs.SkimmedClusters.{HasSkimmed}
 use Rattle.nt_skim.proofs.skimming.skim.Given as goal
 
 -- the clusters before this one were skimmed
