@@ -150,7 +150,8 @@ module _ {M : Type 0} where
         → d.faults ≤ d'.faults
         → Follows begun d' contexts history (lists ++ record { place = d.end; bytes = bytes } ∷ []) torn
     Follows-list bytes log end out later =
-        Follows-more (lists ++ record { place = d.end; bytes = bytes } ∷ []) torn (Append bytes) (λ h is. (appended bytes h, log h is, refl))
+        Follows-more (lists ++ record { place = d.end; bytes = bytes } ∷ []) torn (Append bytes)
+        (λ h is. (appended bytes h, log h is, refl))
         (λ steps was.
         subst (λ (to : ℕ). IsLogOf begun.end to history (lists ++ record { place = d.end; bytes = bytes } ∷ []) torn
         (steps ++ Append bytes ∷ [])) (sym end) (log-list begun.end d.end history lists torn steps was bytes)) out later

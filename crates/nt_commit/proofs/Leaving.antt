@@ -37,7 +37,8 @@ module _ {D : Type 0} (state : D → DiskState)
         λ shut.
             let stays : StaysShut left.0.log =
             subst StaysShut (sym left.2.log)
-            (keep (state locked.birth.begun).end (state locked.disk).end (history_of_locked state locked) step.lists step.torn h.log left.2.steps h.image
+            (keep (state locked.birth.begun).end (state locked.disk).end (history_of_locked state locked) step.lists step.torn h.log
+            left.2.steps h.image
             shut facts.1 facts.0 step.follows.legal left.2.is_log) in
             (stays, leaves left.0.log stays),
       )

@@ -1,5 +1,6 @@
 -- The page lists of a book, with one entry or list more.
-use Rattle.std.proofs.Common.{◌≡◌, ◌∙◌, ap, sym, refl, subst, ℕ, ◌+◌, ◌<◌, ◌≤◌, true, false, List, [], ◌∷◌, ◌++◌, length, Option, Some, None, arith}
+use Rattle.std.proofs.Common.{◌≡◌, ◌∙◌, ap, sym, refl, subst, ℕ, ◌+◌, ◌<◌, ◌≤◌, true, false, List, [], ◌∷◌, ◌++◌, length, Option, Some}
+use Rattle.std.proofs.Common.{None, arith}
 use Rattle.std.specs.Prelude.{IfSome}
 use Rattle.std.proofs.lemmas.Bool.{false≢true, eqb-true, ne_eqb}
 use Rattle.nt_lists.specs.Parts.{Part}
@@ -15,7 +16,7 @@ use Rattle.nt_pagelists.specs.Blobs.{blob, blob_len}
 use Rattle.nt_pagelists.specs.Due.{due_len, due_object, due_span, group_sum}
 use Rattle.nt_pagelists.specs.Objects.{ClusterSpan, list_object}
 use Rattle.nt_pagelists.proofs.ListsStay.{list-stays}
-use Rattle.nt_commit.specs.Lists.{AreListsOf, IsNoted, IsTornList, noted_list, torn_lens}
+use Rattle.nt_commit.specs.Lists.{HasListsOf, IsNoted, IsTornList, noted_list, torn_lens}
 use Rattle.nt_commit.proofs.Noting.{SameLists, stays-snoc, more-snoc, noted-same, noted-snoc}
 use Rattle.nt_commit.proofs.Placing.{torn-facts}
 
@@ -83,9 +84,9 @@ unfolding due_object
 due-noted b l p h =
     subst (λ (m : ℕ). IsNoted (list_object (group_sum b.group) b (record { from = m; count = group_size b.group })) l p) (omega arith) h
 
-module _ (b : BookData) (lists : List Part) (torn : List ℕ) (listed : AreListsOf b lists torn) where
+module _ (b : BookData) (lists : List Part) (torn : List ℕ) (listed : HasListsOf b lists torn) where
   -- the same with other room
-  pub listed-room : (spare : ℕ) → AreListsOf (record b { spare = spare }) lists torn
+  pub listed-room : (spare : ℕ) → HasListsOf (record b { spare = spare }) lists torn
   listed-room spare =
       let new : BookData = record b { spare = spare } in
       let same : (sum : ℕ) → SameLists sum (length (book_clusters b)) b new = λ sum s le. blind sum b spare b.lists b.torn s in
@@ -119,7 +120,7 @@ module _ (b : BookData) (lists : List Part) (torn : List ℕ) (listed : AreLists
     due-next-len full = due-stays b next refl refl (same-next (group_sum b.group)) full
 
     -- one entry more
-    pub listed-snoc : AreListsOf next lists torn
+    pub listed-snoc : HasListsOf next lists torn
     listed-snoc = record {
       noted = noted-same (group_sum b.group) (group_size b.group) (length (book_clusters b)) b next (same-next (group_sum b.group)) 0
           b.lists lists (omega (arith, kept.listed)) listed.noted;
@@ -136,7 +137,7 @@ module _ (b : BookData) (lists : List Part) (torn : List ℕ) (listed : AreLists
     with_list = record b { lists = b.lists ++ l ∷ [] }
 
     pub listed-more : clusters_listed (group_size b.group) b.lists ≤ length (book_clusters b)
-        → AreListsOf with_list (lists ++ record { place = place; bytes = blob place (due_object b) } ∷ []) torn
+        → HasListsOf with_list (lists ++ record { place = place; bytes = blob place (due_object b) } ∷ []) torn
     listed-more inside =
         let whole = due-whole b due in
         record {
@@ -154,7 +155,7 @@ module _ (b : BookData) (lists : List Part) (torn : List ℕ) (listed : AreLists
   -- and one that failed, of which no more is left than its blob has
   pub listed-torn : (t : Tear) → b.torn ≡ None
       → clusters_listed (group_size b.group) b.lists + group_size b.group ≤ length (book_clusters b) → t.len ≤ due_len b
-      → AreListsOf (record b { torn = Some t }) lists (torn ++ t.len ∷ [])
+      → HasListsOf (record b { torn = Some t }) lists (torn ++ t.len ∷ [])
   listed-torn t none full short =
       let new : BookData = record b { torn = Some t } in
       let same : (sum : ℕ) → SameLists sum (length (book_clusters b)) b new = λ sum s le. blind sum b b.spare b.lists (Some t) s in

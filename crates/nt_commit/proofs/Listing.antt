@@ -1,5 +1,6 @@
 -- A disk and its book to which the page list that was due is appended, or a part of it.
-use Rattle.std.proofs.Common.{◌≡◌, ◌∙◌, ap, sym, refl, subst, ℕ, ◌+◌, ◌-◌, ◌^◌, ◌<◌, ◌≤◌, true, List, [], ◌∷◌, ◌++◌, length, drop, replicate}
+use Rattle.std.proofs.Common.{◌≡◌, ◌∙◌, ap, sym, refl, subst, ℕ, ◌+◌, ◌-◌, ◌^◌, ◌<◌, ◌≤◌, true, List, [], ◌∷◌, ◌++◌, length, drop}
+use Rattle.std.proofs.Common.{replicate}
 use Rattle.std.proofs.Common.{Some, arith}
 use Rattle.std.specs.Prelude.{Ok, Err}
 use Rattle.std.proofs.lemmas.List.Sums.{sum_by_push}
@@ -27,7 +28,8 @@ use Rattle.nt_commit.proofs.Stepping.{locked_of, noted, torn_off}
 
 module _ {D : Type 0} (state : D → DiskState) (begun d : D) (contexts : ℕ) (b : BookData)
     (was : IsInStep state (locked_of begun d contexts b)) (kept : IsBookKept b) (i : ℕ) (items : List ℕ)
-    (items_are : items ≡ replicate blob_key_len 0 ++ due_object b) (due : is_due b ≡ true) (start len : ℕ) (start_is : start ≡ (state d).end)
+    (items_are : items ≡ replicate blob_key_len 0 ++ due_object b) (due : is_due b ≡ true) (start len : ℕ)
+    (start_is : start ≡ (state d).end)
     (len_is : len ≡ length items) (bytes : List ℕ) (bytes_are : bytes ≡ blob start (drop blob_key_len items)) (room : DiskState)
     (held : room.held ≡ (state d).held) (end : room.end ≡ (state d).end) (out : room.out ≡ (state d).out)
     (faults : room.faults ≡ (state d).faults) where

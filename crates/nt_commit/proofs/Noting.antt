@@ -1,5 +1,6 @@
 -- Page lists that a book notes, while the book grows behind them.
-use Rattle.std.proofs.Common.{◌≡◌, ◌∙◌, ap, sym, refl, subst, ℕ, zero, suc, ◌+◌, ◌*◌, ◌≤◌, ◌&&◌, ◌==◌, Bool, true, false, cond, List, [], ◌∷◌}
+use Rattle.std.proofs.Common.{◌≡◌, ◌∙◌, ap, sym, refl, subst, ℕ, zero, suc, ◌+◌, ◌*◌, ◌≤◌, ◌&&◌, ◌==◌, Bool, true, false, cond, List, []}
+use Rattle.std.proofs.Common.{◌∷◌}
 use Rattle.std.proofs.Common.{◌++◌, length, map, take, drop, Option, Some, None, arith}
 use Rattle.std.proofs.Math.Nat.{zero-mul, one-mul, add-mul}
 use Rattle.std.proofs.lemmas.List.{length-map, length-append}

@@ -16,7 +16,7 @@ use Rattle.nt_book.specs.Listing.{AtMostOneUnlisted, HasNoLists, clusters_listed
 use Rattle.nt_pagelists.specs.Blobs.{blob_len}
 use Rattle.nt_pagelists.specs.Due.{due_len, due_object, group_sum}
 use Rattle.nt_pagelists.specs.Objects.{list_len}
-use Rattle.nt_commit.specs.Lists.{AreListsOf, HasNoFault, IsDueLen, IsNextPlace, IsTornList, full_lists_len, groups_len}
+use Rattle.nt_commit.specs.Lists.{HasListsOf, HasNoFault, IsDueLen, IsNextPlace, IsTornList, full_lists_len, groups_len}
 use Rattle.nt_commit.proofs.Noting.{SameLists, suc-times, times, noted-len, groups-snoc, groups-more, groups-same}
 
 -- the page list of the group behind those that are listed
@@ -66,7 +66,8 @@ module _ (g : ℕ × ℕ) (book : BookData) (clusters : ℕ) (ls : List NotedLis
 
   not-full : 0 < g.0 → clusters_listed g.0 ls ≤ clusters → clusters < clusters_listed g.0 ls + g.0 → clusters / g.0 ≡ length ls
   not-full sized least less =
-      div-eq_of_lt-le {k = length ls} g.0 {m = clusters} (omega (arith, least, times g.0 ls)) (omega (arith, less, times g.0 ls, add-mul (length ls) 1 g.0, one-mul g.0))
+      div-eq_of_lt-le {k = length ls} g.0 {m = clusters} (omega (arith, least, times g.0 ls))
+      (omega (arith, less, times g.0 ls, add-mul (length ls) 1 g.0, one-mul g.0))
 
   -- with the one that is due they are at most those of all full groups
   pub most-listed : (torn : Option Tear) → AreListed g book clusters ls torn
@@ -143,7 +144,7 @@ due-next b g is =
     })) is
 
 -- what a book keeps of its lists
-listed-of : (b : BookData) (g : ℕ × ℕ) (lists : List Part) (torn : List ℕ) → IsBookKept b → AreListsOf b lists torn → b.group ≡ Some g
+listed-of : (b : BookData) (g : ℕ × ℕ) (lists : List Part) (torn : List ℕ) → IsBookKept b → HasListsOf b lists torn → b.group ≡ Some g
     → AreListed g b (length (book_clusters b)) b.lists b.torn
 listed-of b g lists torn kept listed is = record {
   sized = subst (λ (o : Option (ℕ × ℕ)). IfSome o (λ g. 0 < g.0)) is kept.sized;
@@ -157,7 +158,7 @@ listed-of b g lists torn kept listed is = record {
   )) listed.torn_short;
 }
 
-module _ (b B : BookData) (kept : IsBookKept b) (lists : List Part) (torn : List ℕ) (listed : AreListsOf b lists torn)
+module _ (b B : BookData) (kept : IsBookKept b) (lists : List Part) (torn : List ℕ) (listed : HasListsOf b lists torn)
     (unlisted : b.group ≡ None → HasNoLists b.lists b.torn) (group : B.group ≡ b.group)
     (count : length (book_clusters B) ≡ length (book_clusters b))
     (end : end_after B.begin (ranges_of B.history) ≡ end_after b.begin (ranges_of b.history))

@@ -82,7 +82,8 @@ module _ {D : Type 0} (state : D → DiskState) (begun d : D) (contexts : ℕ) (
         grows_to state begun d contexts b was d' b' kept (settled_entry i n) (settled_with i n bytes) spare (step ∷ []) is
         (λ h was. let next = log h was in (next.0, next.1, next.2.log))
         (told-settled (state begun).held i n ext.range.start ext.range.len ext.content) (omega (arith, end))
-        (Follows-back (state begun) (state d) (state d') contexts history was.lists was.torn was.follows i n (Settled bytes) (entry.Settled n bytes)
+        (Follows-back (state begun) (state d) (state d') contexts history was.lists was.torn was.follows i n (Settled bytes)
+        (entry.Settled n bytes)
         bytes out refl (λ h told. subst (λ (o : Option Held). IsSome (bytes_where_told o ext.content)) (sym told) (has h told)) refl
         (λ steps w. log-settle (state begun).end (state d).end history was.lists was.torn steps w i n bytes out whole)
         (out, whole) context
@@ -116,7 +117,8 @@ module _ {D : Type 0} (state : D → DiskState) (begun d : D) (contexts : ℕ) (
         let done = grows_to state begun d contexts b was d' b' kept (spoiled_entry i n faults) (spoiled_entry i n faults) spare
         (Settle ext.range.start ext.range.len ext.content ∷ []) is
         log (told-spoiled (state begun).held i n faults (Settle ext.range.start ext.range.len ext.content ∷ [])) (omega (arith, end))
-        (Follows-back (state begun) (state d) (state d') contexts history was.lists was.torn was.follows i n (Spoiled faults) (entry.Spoiled n faults)
+        (Follows-back (state begun) (state d) (state d') contexts history was.lists was.torn was.follows i n (Spoiled faults)
+        (entry.Spoiled n faults)
         None out refl (λ h told. tt) refl
         (λ steps w. log-spoil (state begun).end (state d).end history was.lists was.torn steps w i n faults out) out context
         (λ begins told h was.

@@ -36,8 +36,9 @@ use Rattle.nt_meta.proofs.DueFacts.{due-full, due-none}
 use Rattle.nt_commit.specs.declared.claim.Claim.{Claim}
 use Rattle.nt_commit.specs.Claims.{IsNewClaim, IsClaimOf}
 use Rattle.nt_commit.specs.Holds.{IsLater, locked_count}
-use Rattle.nt_commit.specs.Lists.{AreListsOf, HasNoFault, IsNextPlace, NextPlace, limit_at, noted_list}
-use Rattle.nt_commit.specs.Locked.{LockedState, place_of, EndWithin, Follows, IsInStep, birth_with, book_of_birth, history_of_locked, locked_by}
+use Rattle.nt_commit.specs.Lists.{HasListsOf, HasNoFault, IsNextPlace, NextPlace, limit_at, noted_list}
+use Rattle.nt_commit.specs.Locked.{LockedState, place_of, EndWithin, Follows, IsInStep, birth_with, book_of_birth, history_of_locked}
+use Rattle.nt_commit.specs.Locked.{locked_by}
 use Rattle.nt_logged.specs.Tails.{range_steps}
 use Rattle.nt_logged.specs.Steps.{told_history}
 use Rattle.nt_commit.proofs.Claimed.{claim_out}
@@ -187,7 +188,7 @@ module _ {D : Type 0} (state : D → DiskState) (begun d : D) (contexts : ℕ) (
         → (state d').end ≡ end_after b.begin (ranges_of entries) + (lists_bytes ls + torn_bytes t)
         → (lists : List Part) (torn : List ℕ)
         → Follows (state begun) (state d') contexts (history_of_locked state new) lists torn
-        → AreListsOf (record b { history = entries; spare = spare; lists = ls; torn = t }) lists torn
+        → HasListsOf (record b { history = entries; spare = spare; lists = ls; torn = t }) lists torn
         → (b.group ≡ None → HasNoLists ls t) → (HasNoFault (history_of_locked state new) → t ≡ None)
         → AreShort (history_of_locked state new) → AreWithin (history_of_locked state new)
         → IsLater state old new
@@ -205,7 +206,7 @@ module _ {D : Type 0} (state : D → DiskState) (begun d : D) (contexts : ℕ) (
             lists = lists;
             torn = torn;
             follows = follows;
-            listed = subst (λ (x : BookData). AreListsOf x lists torn) (sym is) listed;
+            listed = subst (λ (x : BookData). HasListsOf x lists torn) (sym is) listed;
             ungrouped = subst (λ (x : BookData). x.group ≡ None → HasNoLists x.lists x.torn) (sym is) ungrouped;
             whole = λ sound. ap (λ (x : BookData). x.torn) is ∙ whole sound;
             short = subst (λ (l : Limits). AllByRecursion (IsShort l.range) (ranges_of (history_of_locked state new)))

@@ -21,7 +21,7 @@ abbrev pub due_bytes : BookData → List ℕ
 due_bytes book = if is_due book then replicate blob_key_len 0 ++ due_object book else []
 
 -- the page list that was due is noted behind the ranges, and so none is due
-pub record IsListed (old new : BookData) : Type 0 where
+pub record IsListNoted (old new : BookData) : Type 0 where
   pub limits : new.limits ≡ old.limits
   pub history : new.history ≡ old.history
   pub end : book_end new ≡ book_end old + length (due_bytes old)
@@ -44,7 +44,7 @@ module _ {D : Type 0} (state : D → DiskState) where
     pub grows : HistoryGrows state old new added
     pub adds : ListAdds (state old.disk).faults (state new.disk).faults context result added
     pub later : (state old.disk).faults ≤ (state new.disk).faults
-    pub listed : OnOk result (IsListed old.book new.book)
+    pub listed : OnOk result (IsListNoted old.book new.book)
 
   -- a cluster that passes no limit was appended, or refused
   pub record AppendsCluster {X : Type 0} (tell : X → ExtState) (meta : ClusterMeta) (old new : LockedState D)

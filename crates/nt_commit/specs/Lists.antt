@@ -45,7 +45,7 @@ pub record IsTornList (book : BookData) (t : Tear) : Type 0 where
   pub short : t.len ≤ due_len book
 
 -- the page lists that were appended are those that the book notes, each of its group; and what failed is what the book keeps of that
-pub record AreListsOf (book : BookData) (lists : List Part) (torn : List ℕ) : Type 0 where
+pub record HasListsOf (book : BookData) (lists : List Part) (torn : List ℕ) : Type 0 where
   pub noted : AreNoted (group_sum book.group) (group_size book.group) book 0 book.lists lists
   pub torn_is : torn ≡ torn_lens book.torn
   pub torn_short : IfSome book.torn (λ t. IsTornList book t)

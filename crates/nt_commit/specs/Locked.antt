@@ -15,7 +15,7 @@ use Rattle.nt_book.specs.declared.meta.ClusterMeta.{ClusterMeta}
 use Rattle.nt_book.specs.Books.{BookData, book_end}
 use Rattle.nt_book.specs.Listing.{HasNoLists}
 use Rattle.nt_commit.specs.declared.locked.Birth.{Birth}
-use Rattle.nt_commit.specs.Lists.{AreListsOf, HasNoFault}
+use Rattle.nt_commit.specs.Lists.{HasListsOf, HasNoFault}
 use Rattle.nt_pages.specs.Image.{key_room}
 use Rattle.nt_logged.specs.Logs.{IsLogOf}
 use Rattle.nt_logged.specs.Steps.{told_history}
@@ -133,7 +133,7 @@ module _ {D : Type 0} (state : D → DiskState) where
     pub lists : List Part
     pub torn : List ℕ
     pub follows : Follows (state locked.birth.begun) (state locked.disk) locked.birth.contexts (history_of_locked locked) lists torn
-    pub listed : AreListsOf locked.book lists torn
+    pub listed : HasListsOf locked.book lists torn
     pub ungrouped : locked.book.group ≡ None → HasNoLists locked.book.lists locked.book.torn
     -- a page list that failed was entered as a fault
     pub whole : HasNoFault (history_of_locked locked) → locked.book.torn ≡ None

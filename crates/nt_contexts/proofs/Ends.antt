@@ -122,7 +122,8 @@ module _ {D P : Type 0} (state : D → DiskState) (fields : List MemberData) (t 
       ⊎ ((read_events (parts_of fields) text).bad ≡ None))) size
       (subst (λ (b : Option BadLine). (next : NextPasses (book_of_birth state c.committer.birth []) t p.page
       (text_chunks p.cluster fields text) c.pass.own c.pass.seen error) × ((length next.chunk ≡ c.cluster) ⊎ (b ≡ None))) (sym bad)
-      (renamed (λ (s : Table) (n : ℕ) (l : List (List TreesData)). (next : NextPasses (book_of_birth state c.committer.birth []) s n l c.pass.own c.pass.seen error) × ((length next.chunk ≡ c.cluster) ⊎ (h.bad ≡ None)))
+      (renamed (λ (s : Table) (n : ℕ) (l : List (List TreesData)). (next : NextPasses
+      (book_of_birth state c.committer.birth []) s n l c.pass.own c.pass.seen error) × ((length next.chunk ≡ c.cluster) ⊎ (h.bad ≡ None)))
       c.table t c.page p.page (chunks c.cluster h.entries) (text_chunks p.cluster fields text) (h.same.table ∙ is_table) (h.same.page
       ∙ is_page) (chunks_are text h.entries h.bad h.same read) h.cause)))
   ended_told left was is (Err Outside) h text told = tt

@@ -32,7 +32,8 @@ use Rattle.nt_contexts.specs.Seating.{kept_by, all_kept, seat_sources, HasBeenSe
 use Rattle.nt_contexts.specs.Working.{KeepsFaults, CommittedBefore, StopsAtLine, WorkTold, HasWorked, HaveRun}
 use Rattle.nt_contexts.specs.Working.KeepsFaults.{of_first, of_kept}
 use Rattle.nt_contexts.proofs.Opens.{same-later}
-use Rattle.nt_contexts.proofs.Ran.{AreNumbered, Before, numbered-joined, SomeFaulty, run-numbered, run-none_out, run-later, run-count, run-blamed}
+use Rattle.nt_contexts.proofs.Ran.{AreNumbered, Before, numbered-joined, SomeFaulty, run-numbered, run-none_out, run-later, run-count}
+use Rattle.nt_contexts.proofs.Ran.{run-blamed}
 use Rattle.nt_contexts.proofs.Ran.{run-wrote, run-committed, run-sound, run-bad, run-passes, new-numbered, new-none_out, new-later}
 
 abbrev Kept : Type 0

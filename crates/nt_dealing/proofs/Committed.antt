@@ -318,7 +318,8 @@ module _ {D : Type 0} (state : D → DiskState) where
   pub next_passes_all : (birth : Birth D) (disk : D) (book : BookData) (first : PassState (Entry ClusterMeta) (Birth D))
       (fields : List MemberData) (t : Table) (p : Params) (rows : Rows fields p.plain t) (chunks : List (List (List TreesData))) (i : ℕ)
       (own seen : List (Entry ClusterMeta)) (error : LimitError)
-      → Closes (history_of_locked state) birth_of context_of first (locked_by birth disk book) → birth.group ≡ None → birth.limits ≡ p.limits
+      → Closes (history_of_locked state) birth_of context_of first (locked_by birth disk book) → birth.group ≡ None
+      → birth.limits ≡ p.limits
       → (state birth.begun).end ≡ clusters_place t → HaveCommitted t p.page chunks first.number first.own first.kept
       → slice_get first.kept i ≡ Some (i, own) → IsPrefix seen first.seen
       → (next : NextPasses (book_of_birth state birth []) t p.page (slice_index_or chunks i []) own seen error)

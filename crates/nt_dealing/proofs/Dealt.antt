@@ -116,7 +116,8 @@ module _ {D : Type 0} (state : D → DiskState)
             let after = bare-log state birth disk book step none h is in
             let begins = (told birth.begun h is).0 in
             let reads = (told disk after.0 after.1).1 in
-            let gains = gained (state birth.begun).end (state disk).end history h after.0 (bare-end state birth disk book step none) after.2 in
+            let gains = gained (state birth.begun).end (state disk).end history h after.0
+            (bare-end state birth disk book step none) after.2 in
             let steps = gains.steps in
             let bytes : List ℕ = flat_map (λ (part : List ℕ). part) blobs.ranges in (
               after.0,

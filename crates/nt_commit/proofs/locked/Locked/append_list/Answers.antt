@@ -17,8 +17,8 @@ append-requires-clause-sum g c =
     let items = subst (λ v. c.args.list.items ≡ replicate blob_key_len 0 ++ due_object v.book) (sym c.self.view_is) c.requires.list in
     let counted : c.len-len.result ≡ length c.args.list.items = omega (arith, c.len-len.ensures, c.args.list.ok) in
     let due = subst (λ v. is_due v.book ≡ true) (sym c.self.view_is) c.requires.due in
-    let long = bytes_long g.D.Disk.state _ _ _ _ c.self.invariant c.keeps.ensures c.args.context c.args.list.items items due c.end-start.result
-    c.len-len.result c.end-start.ensures counted c.as_slice.result.now (c.as_slice.ensures ∙ c.blob_at-blob.ensures)
+    let long = bytes_long g.D.Disk.state _ _ _ _ c.self.invariant c.keeps.ensures c.args.context c.args.list.items items due
+    c.end-start.result c.len-len.result c.end-start.ensures counted c.as_slice.result.now (c.as_slice.ensures ∙ c.blob_at-blob.ensures)
     (g.D.Disk.state c.room.new.self) c.room.ensures.held c.room.ensures.end c.room.ensures.out c.room.ensures.faults in
     omega (
       arith,
@@ -35,8 +35,8 @@ append-requires-clause-spare g c =
     let items = subst (λ v. c.args.list.items ≡ replicate blob_key_len 0 ++ due_object v.book) (sym c.self.view_is) c.requires.list in
     let counted : c.len-len.result ≡ length c.args.list.items = omega (arith, c.len-len.ensures, c.args.list.ok) in
     let due = subst (λ v. is_due v.book ≡ true) (sym c.self.view_is) c.requires.due in
-    let long = bytes_long g.D.Disk.state _ _ _ _ c.self.invariant c.keeps.ensures c.args.context c.args.list.items items due c.end-start.result
-    c.len-len.result c.end-start.ensures counted c.as_slice.result.now (c.as_slice.ensures ∙ c.blob_at-blob.ensures)
+    let long = bytes_long g.D.Disk.state _ _ _ _ c.self.invariant c.keeps.ensures c.args.context c.args.list.items items due
+    c.end-start.result c.len-len.result c.end-start.ensures counted c.as_slice.result.now (c.as_slice.ensures ∙ c.blob_at-blob.ensures)
     (g.D.Disk.state c.room.new.self) c.room.ensures.held c.room.ensures.end c.room.ensures.out c.room.ensures.faults in
     let most = on_done c.room.result c.if-is_err.ensures.negation c.room.ensures.bytes in
     record {
@@ -49,8 +49,8 @@ invariant_of-self-in-Ok g c =
     let items = subst (λ v. c.args.list.items ≡ replicate blob_key_len 0 ++ due_object v.book) (sym c.self.view_is) c.requires.list in
     let counted : c.len-len.result ≡ length c.args.list.items = omega (arith, c.len-len.ensures, c.args.list.ok) in
     let due = subst (λ v. is_due v.book ≡ true) (sym c.self.view_is) c.requires.due in
-    let done = list_appended g.D.Disk.state _ _ _ _ c.self.invariant c.keeps.ensures c.args.context c.args.list.items items due c.end-start.result
-    c.len-len.result c.end-start.ensures counted c.as_slice.result.now (c.as_slice.ensures ∙ c.blob_at-blob.ensures)
+    let done = list_appended g.D.Disk.state _ _ _ _ c.self.invariant c.keeps.ensures c.args.context c.args.list.items items due
+    c.end-start.result c.len-len.result c.end-start.ensures counted c.as_slice.result.now (c.as_slice.ensures ∙ c.blob_at-blob.ensures)
     (g.D.Disk.state c.room.new.self) c.room.ensures.held c.room.ensures.end c.room.ensures.out c.room.ensures.faults
     _ _ c.link_of.result c.link_of.ensures c.note_list.ensures
     (subst (λ r. OnOk r (Becomes (g.D.Disk.state c.room.new.self).held (g.D.Disk.state c.append.new.self).held
@@ -64,8 +64,8 @@ returns-in-Ok-clause-step g c =
     let items = subst (λ v. c.args.list.items ≡ replicate blob_key_len 0 ++ due_object v.book) (sym c.self.view_is) c.requires.list in
     let counted : c.len-len.result ≡ length c.args.list.items = omega (arith, c.len-len.ensures, c.args.list.ok) in
     let due = subst (λ v. is_due v.book ≡ true) (sym c.self.view_is) c.requires.due in
-    let done = list_appended g.D.Disk.state _ _ _ _ c.self.invariant c.keeps.ensures c.args.context c.args.list.items items due c.end-start.result
-    c.len-len.result c.end-start.ensures counted c.as_slice.result.now (c.as_slice.ensures ∙ c.blob_at-blob.ensures)
+    let done = list_appended g.D.Disk.state _ _ _ _ c.self.invariant c.keeps.ensures c.args.context c.args.list.items items due
+    c.end-start.result c.len-len.result c.end-start.ensures counted c.as_slice.result.now (c.as_slice.ensures ∙ c.blob_at-blob.ensures)
     (g.D.Disk.state c.room.new.self) c.room.ensures.held c.room.ensures.end c.room.ensures.out c.room.ensures.faults
     _ _ c.link_of.result c.link_of.ensures c.note_list.ensures
     (subst (λ r. OnOk r (Becomes (g.D.Disk.state c.room.new.self).held (g.D.Disk.state c.append.new.self).held
@@ -79,8 +79,8 @@ returns-in-Ok-clause-appends g c =
     let items = subst (λ v. c.args.list.items ≡ replicate blob_key_len 0 ++ due_object v.book) (sym c.self.view_is) c.requires.list in
     let counted : c.len-len.result ≡ length c.args.list.items = omega (arith, c.len-len.ensures, c.args.list.ok) in
     let due = subst (λ v. is_due v.book ≡ true) (sym c.self.view_is) c.requires.due in
-    let done = list_appended g.D.Disk.state _ _ _ _ c.self.invariant c.keeps.ensures c.args.context c.args.list.items items due c.end-start.result
-    c.len-len.result c.end-start.ensures counted c.as_slice.result.now (c.as_slice.ensures ∙ c.blob_at-blob.ensures)
+    let done = list_appended g.D.Disk.state _ _ _ _ c.self.invariant c.keeps.ensures c.args.context c.args.list.items items due
+    c.end-start.result c.len-len.result c.end-start.ensures counted c.as_slice.result.now (c.as_slice.ensures ∙ c.blob_at-blob.ensures)
     (g.D.Disk.state c.room.new.self) c.room.ensures.held c.room.ensures.end c.room.ensures.out c.room.ensures.faults
     _ _ c.link_of.result c.link_of.ensures c.note_list.ensures
     (subst (λ r. OnOk r (Becomes (g.D.Disk.state c.room.new.self).held (g.D.Disk.state c.append.new.self).held
@@ -95,8 +95,8 @@ tear-requires-clause-fits g c =
     let items = subst (λ v. c.args.list.items ≡ replicate blob_key_len 0 ++ due_object v.book) (sym c.self.view_is) c.requires.list in
     let counted : c.len-len.result ≡ length c.args.list.items = omega (arith, c.len-len.ensures, c.args.list.ok) in
     let due = subst (λ v. is_due v.book ≡ true) (sym c.self.view_is) c.requires.due in
-    let long = bytes_long g.D.Disk.state _ _ _ _ c.self.invariant c.keeps.ensures c.args.context c.args.list.items items due c.end-start.result
-    c.len-len.result c.end-start.ensures counted c.as_slice.result.now (c.as_slice.ensures ∙ c.blob_at-blob.ensures)
+    let long = bytes_long g.D.Disk.state _ _ _ _ c.self.invariant c.keeps.ensures c.args.context c.args.list.items items due
+    c.end-start.result c.len-len.result c.end-start.ensures counted c.as_slice.result.now (c.as_slice.ensures ∙ c.blob_at-blob.ensures)
     (g.D.Disk.state c.room.new.self) c.room.ensures.held c.room.ensures.end c.room.ensures.out c.room.ensures.faults in
     omega (
       arith,
@@ -119,8 +119,8 @@ invariant_of-self-in-Err g c =
       history = x.history ++ faulted_entry c.args.context c.faults-faults.result ∷ [];
       spare = x.spare - 1;
     }) c.tear.ensures in
-    let done = list_torn g.D.Disk.state _ _ _ _ c.self.invariant c.keeps.ensures c.args.context c.args.list.items items due c.end-start.result
-    c.len-len.result c.end-start.ensures counted c.as_slice.result.now (c.as_slice.ensures ∙ c.blob_at-blob.ensures)
+    let done = list_torn g.D.Disk.state _ _ _ _ c.self.invariant c.keeps.ensures c.args.context c.args.list.items items due
+    c.end-start.result c.len-len.result c.end-start.ensures counted c.as_slice.result.now (c.as_slice.ensures ∙ c.blob_at-blob.ensures)
     (g.D.Disk.state c.room.new.self) c.room.ensures.held c.room.ensures.end c.room.ensures.out c.room.ensures.faults
     _ _ g.met.D.Disk.told c.faults-faults.result c.end.result _ _ c.end.ensures book
     (subst (λ r. OnErr r (BecomesSome (g.D.Disk.state c.room.new.self).held (g.D.Disk.state c.append.new.self).held
@@ -140,8 +140,8 @@ returns-clause-step g c =
       history = x.history ++ faulted_entry c.args.context c.faults-faults.result ∷ [];
       spare = x.spare - 1;
     }) c.tear.ensures in
-    let done = list_torn g.D.Disk.state _ _ _ _ c.self.invariant c.keeps.ensures c.args.context c.args.list.items items due c.end-start.result
-    c.len-len.result c.end-start.ensures counted c.as_slice.result.now (c.as_slice.ensures ∙ c.blob_at-blob.ensures)
+    let done = list_torn g.D.Disk.state _ _ _ _ c.self.invariant c.keeps.ensures c.args.context c.args.list.items items due
+    c.end-start.result c.len-len.result c.end-start.ensures counted c.as_slice.result.now (c.as_slice.ensures ∙ c.blob_at-blob.ensures)
     (g.D.Disk.state c.room.new.self) c.room.ensures.held c.room.ensures.end c.room.ensures.out c.room.ensures.faults
     _ _ g.met.D.Disk.told c.faults-faults.result c.end.result _ _ c.end.ensures book
     (subst (λ r. OnErr r (BecomesSome (g.D.Disk.state c.room.new.self).held (g.D.Disk.state c.append.new.self).held
@@ -161,8 +161,8 @@ returns-clause-appends g c =
       history = x.history ++ faulted_entry c.args.context c.faults-faults.result ∷ [];
       spare = x.spare - 1;
     }) c.tear.ensures in
-    let done = list_torn g.D.Disk.state _ _ _ _ c.self.invariant c.keeps.ensures c.args.context c.args.list.items items due c.end-start.result
-    c.len-len.result c.end-start.ensures counted c.as_slice.result.now (c.as_slice.ensures ∙ c.blob_at-blob.ensures)
+    let done = list_torn g.D.Disk.state _ _ _ _ c.self.invariant c.keeps.ensures c.args.context c.args.list.items items due
+    c.end-start.result c.len-len.result c.end-start.ensures counted c.as_slice.result.now (c.as_slice.ensures ∙ c.blob_at-blob.ensures)
     (g.D.Disk.state c.room.new.self) c.room.ensures.held c.room.ensures.end c.room.ensures.out c.room.ensures.faults
     _ _ g.met.D.Disk.told c.faults-faults.result c.end.result _ _ c.end.ensures book
     (subst (λ r. OnErr r (BecomesSome (g.D.Disk.state c.room.new.self).held (g.D.Disk.state c.append.new.self).held

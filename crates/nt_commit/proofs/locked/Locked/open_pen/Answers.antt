@@ -24,7 +24,8 @@ invariant_of-self-in-Err-Failed g c =
       spare = c.room.new.self.spare - 1;
     }) c.in_ok-room.ensures.same in
     let context : c.args.context ≤ c.self.inside.contexts = omega (arith, ap (λ v. v.birth.contexts) c.self.view_is, c.requires) in
-    (faulted g.D.Disk.state _ _ _ _ c.self.invariant _ _ c.keeps.ensures c.args.context count _ book context made.place made.cause.later
+    (faulted g.D.Disk.state _ _ _ _ c.self.invariant _ _ c.keeps.ensures c.args.context count _ book context made.place
+    made.cause.later
     (made.cause.failed (cc c.in-Err-Failed.field-0-is)) c.faults-faults.ensures c.faults-faults.type_inv).0.after
 
 pub returns-in-Ok-clause-step : goal.returns-in-Ok-clause-step
@@ -67,7 +68,8 @@ returns-in-Err-Failed-clause-step g c =
     }) c.in_ok-room.ensures.same in
     let context : c.args.context ≤ c.self.inside.contexts = omega (arith, ap (λ v. v.birth.contexts) c.self.view_is, c.requires) in
     step_from g.D.Disk.state _ _ _ c.self.view_is
-    (faulted g.D.Disk.state _ _ _ _ c.self.invariant _ _ c.keeps.ensures c.args.context count _ book context made.place made.cause.later
+    (faulted g.D.Disk.state _ _ _ _ c.self.invariant _ _ c.keeps.ensures c.args.context count _ book context made.place
+    made.cause.later
     (made.cause.failed (cc c.in-Err-Failed.field-0-is)) c.faults-faults.ensures c.faults-faults.type_inv).0
 
 pub returns-in-Err-Failed-clause-opens : goal.returns-in-Err-Failed-clause-opens
@@ -82,7 +84,8 @@ returns-in-Err-Failed-clause-opens g c =
     let rose = made.cause.failed (cc c.in-Err-Failed.field-0-is) in
     opens_from g.D.Disk.state _ _ _ c.self.view_is c.args.context _ (record {
       added = _;
-      grows = (faulted g.D.Disk.state _ _ _ _ c.self.invariant _ _ c.keeps.ensures c.args.context count _ book context made.place made.cause.later
+      grows = (faulted g.D.Disk.state _ _ _ _ c.self.invariant _ _ c.keeps.ensures c.args.context count _ book context made.place
+          made.cause.later
           rose c.faults-faults.ensures c.faults-faults.type_inv).1;
       adds = (rose, refl);
     })
