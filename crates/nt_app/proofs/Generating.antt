@@ -8,7 +8,7 @@ use Rattle.nt_outside.specs.World.{World, Asked, Out, File, HostState}
 use Rattle.nt_book.specs.declared.params.Params.{Params}
 use Rattle.nt_draws.specs.declared.making.Making.{Making}
 use Rattle.nt_store.specs.Worlds.{AsksFor}
-use Rattle.nt_store.proofs.Ends.{none_made, nothing_made}
+use Rattle.nt_store.proofs.Refused.{none_made, nothing_made}
 use Rattle.nt_generate.specs.declared.error.GenerateError.{GenerateError}
 use Rattle.nt_generate.specs.declared.error.GenerateError.TheVariants as generate
 use Rattle.nt_dealing.specs.Texts.{joined_chunks}

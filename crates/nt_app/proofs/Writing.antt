@@ -30,7 +30,7 @@ use Rattle.nt_app.specs.Statuses.{message_of}
 use Rattle.nt_app.specs.Reports.{Reports}
 use Rattle.nt_app.specs.Writes.{status_of_store, WritesNamed, FitsLimits, AnswersTexts, RunsWrite}
 use Rattle.nt_dealing.proofs.Whole.{passes_none}
-use Rattle.nt_store.proofs.Ends.{nothing_made}
+use Rattle.nt_store.proofs.Refused.{nothing_made}
 use Rattle.nt_store.proofs.Crashed.{none_left}
 use Rattle.nt_app.proofs.Joined.{either_after, not_there_both}
 use Rattle.nt_app.proofs.Reported.{reported, ordered_after, safe_after}

@@ -3,8 +3,10 @@ mod Committing
 mod Wholes
 mod Writing
 pub mod Reading
+pub mod BadLines
 mod TakenLines
 mod Lines
+mod LinesTaken
 mod Ends
 mod Lists
 mod Jobs
@@ -15,3 +17,4 @@ mod Ran
 mod Worked
 mod Finished
 mod Told
+mod Opened

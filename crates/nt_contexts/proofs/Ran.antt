@@ -327,7 +327,8 @@ module _ {D S P : Type 0} (state : D → DiskState) (fields : List MemberData) (
           → (e : Result Unit ContextError) → EndsTold state fields t p committer run.0.pass text e
           → answer_of clusters i e (answer_from clusters (i + 1) xs) ≡ Ok tt
           → AreSound fields (text ∷ texts) × AllWroteFrom (state committer.birth.begun).held t p.page i (chunks_of p.cluster fields
-          (text ∷ texts)) (all_kept (x ∷ xs)) × Before (chunks_of p.cluster fields (text ∷ texts)) (all_kept (x ∷ xs)) (suc (length texts)) []
+          (text ∷ texts)) (all_kept (x ∷ xs)) × Before (chunks_of p.cluster fields (text ∷ texts)) (all_kept (x ∷ xs))
+          (suc (length texts)) []
       by later (Ok done) told is =
           let more = later is in
           let kept = kept-is i s x run.0 in
@@ -371,7 +372,8 @@ module _ {D S P : Type 0} (state : D → DiskState) (fields : List MemberData) (
               bad = b.bad.bad;
               lower = lower-more fields b.place text texts told.0 b.bad.lower;
             };
-            before = before-more (text_chunks p.cluster fields text) (chunks_of p.cluster fields texts) (kept_by x.pass) (all_kept xs) b.place
+            before = before-more (text_chunks p.cluster fields text) (chunks_of p.cluster fields texts) (kept_by x.pass) (all_kept xs)
+                b.place
                 (whole_chunks p.cluster (text_chunks p.cluster fields b.bad.text))
                 (all-taken i s x run.0 (text_chunks p.cluster fields text) told.2) b.before;
           }
@@ -435,7 +437,8 @@ module _ {D S P : Type 0} (state : D → DiskState) (fields : List MemberData) (
             begins = b.begins;
             passes = b.passes;
             is_written = b.is_written;
-            before = before-more (text_chunks p.cluster fields text) (chunks_of p.cluster fields texts) (kept_by x.pass) (all_kept xs) b.place
+            before = before-more (text_chunks p.cluster fields text) (chunks_of p.cluster fields texts) (kept_by x.pass) (all_kept xs)
+                b.place
                 (take (length (ranges_of b.own)) (text_chunks p.cluster fields b.text))
                 (all-taken i s x run.0 (text_chunks p.cluster fields text) told.2) b.before;
           }

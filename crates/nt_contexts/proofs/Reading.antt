@@ -3,7 +3,6 @@ use Rattle.std.proofs.Common.{◌≡◌, ◌⊎◌, inl, inr, ℕ, suc, ◌+◌,
 use Rattle.std.proofs.Common.{Result, Ok, Err, refl, sym, ap, ◌∙◌, subst, append_assoc, append-nil, arith}
 use Rattle.std.specs.Prelude.{◌||◌, ◌==◌, cond, nat_lt, if◌then◌else◌}
 use Rattle.std.specs.List.{onto_first}
-use Rattle.std.proofs.lemmas.List.{length-append}
 use Rattle.std.specs.Io.KnownBytes.{Consumes, IsAtEnd}
 use borrow.Author.Tests.{ltb-true, ltb-false}
 use Rattle.nt_types.specs.ShapeData.{MembersData}
@@ -14,7 +13,7 @@ use Rattle.nt_event.specs.declared.fault.TextKind.{TextKind}
 use Rattle.nt_event.specs.declared.fault.TextKind.TheVariants.{TooLong}
 use Rattle.nt_event.specs.Limits.{max_line, max_number}
 use Rattle.nt_event.specs.Entry.{entry_of}
-use Rattle.nt_event.specs.Lines.{LinesState, HasNoLf, BeginsTooLong, HasMore, EndsLine, IsNextLine}
+use Rattle.nt_event.specs.Lines.{LinesState, HasNoLf, EndsLine, IsNextLine}
 use Rattle.nt_dealing.specs.EventText.{BadLine, EventText, text_lines, ends_badly, then_lines, is_beyond, entries_of_lines}
 use Rattle.nt_dealing.proofs.EventLines.{text_lines-other, text_lines-next, text_lines-last}
 use Rattle.nt_contexts.specs.Reading.{behind, HasRead, GivesJust}
@@ -119,7 +118,7 @@ module _ (F : MembersData) where
       }
 
   -- nothing more comes
-  no_more : (entries : List TreesData) (bad : Option BadLine)
+  pub no_more : (entries : List TreesData) (bad : Option BadLine)
       → behind entries (record { entries = []; bad = bad }) ≡ record { entries = entries; bad = bad }
   no_more entries bad = ap (λ (l : List TreesData). record { entries = l; bad = bad }) (append-nil entries)
 
@@ -161,7 +160,7 @@ first_onto n byte (l ∷ ls) (inr f) =
     let long : n ≤ length l = subst (λ (x : List ℕ). n ≤ length x) same f.holds in
     record { line = byte ∷ l; others = ls; are = refl; holds = omega arith }
 
-first_line : (front rest : List ℕ) → HasNoLf front → 0 < length front
+pub first_line : (front rest : List ℕ) → HasNoLf front → 0 < length front
     → First (λ (l : List ℕ). length front ≤ length l) (text_lines (front ++ rest))
 first_line [] rest one some = absurd (omega arith)
 first_line (byte ∷ []) rest one some =
@@ -178,7 +177,7 @@ first_line (byte ∷ next ∷ front) rest one some =
     subst (λ (ls : List (List ℕ)). First (λ (l : List ℕ). length (byte ∷ next ∷ front) ≤ length l) ls) (sym at)
     (record { line = more.line; others = more.others; are = more.are; holds = omega (arith, more.holds) })
 
-any_line : (text : List ℕ) → 0 < length text → First (λ (l : List ℕ). 0 ≤ length l) (text_lines text)
+pub any_line : (text : List ℕ) → 0 < length text → First (λ (l : List ℕ). 0 ≤ length l) (text_lines text)
 any_line [] some = absurd (omega arith)
 any_line (byte ∷ bytes) some = at (byte == 10)
   where
@@ -206,7 +205,7 @@ beyond number line (inl high) = ap (λ (b : Bool). b || nat_lt max_line (length 
 beyond number line (inr long) = ap (λ (b : Bool). nat_lt max_number number || b) (above max_line (length line) long)
     ∙ or_true (nat_lt max_number number)
 
-bad_first : (F : MembersData) (number : ℕ) (lines : List (List ℕ))
+pub bad_first : (F : MembersData) (number : ℕ) (lines : List (List ℕ))
     → First (λ (l : List ℕ). (max_number < number) ⊎ (max_line < length l)) lines
     → entries_of_lines F number lines ≡ ends_badly number TooLong
 bad_first F number lines f =
@@ -215,52 +214,6 @@ bad_first F number lines f =
     (number + 1) f.others else then_lines number (entry_of F f.line) (entries_of_lines F (number + 1) f.others)))
     (beyond number f.line f.holds)
 
-taken_from : (text front : List ℕ) (rest : Option (List ℕ)) → Consumes (Some text) rest front → (ys : List ℕ) × (text ≡ front ++ ys)
+pub taken_from : (text front : List ℕ) (rest : Option (List ℕ)) → Consumes (Some text) rest front → (ys : List ℕ) × (text ≡ front ++ ys)
 taken_from text front None h = absurd h
 taken_from text front (Some ys) h = (ys, h)
-
-module _ (F : MembersData) where
-  pub bad_next : (number : ℕ) (text : List ℕ) → BeginsTooLong (Some text) ⊎ ((max_number < number) × HasMore (Some text))
-      → First (λ (l : List ℕ). (max_number < number) ⊎ (max_line < length l)) (text_lines text)
-  bad_next number text (inl b) =
-      let t = taken_from text b.front b.begins.rest b.begins.taken in
-      let f = first_line b.front t.0 b.one_line (omega (arith, b.many)) in
-      record {
-        line = f.line;
-        others = f.others;
-        are = ap (λ (l : List ℕ). text_lines l) t.1 ∙ f.are;
-        holds = inr (omega (arith, b.many, f.holds));
-      }
-  bad_next number text (inr h) =
-      let t = taken_from text h.1.front h.1.begins.rest h.1.begins.taken in
-      let some : 0 < length text = omega (arith, ap (λ (l : List ℕ). length l) t.1, length-append h.1.front t.0, h.1.some) in
-      let f = any_line text some in
-      record { line = f.line; others = f.others; are = f.are; holds = inl h.0 }
-
-  pub read-too_long : (text : Option (List ℕ)) (entries : List TreesData) (old : LinesState) (line : ℕ) → HasRead F text entries old
-      → line ≡ old.number + 1
-      → BeginsTooLong old.left ⊎ ((max_number < line) × HasMore old.left)
-      → GivesJust F text entries (Some (record { line = line; kind = TooLong }))
-  read-too_long None entries old line read is long = tt
-  read-too_long (Some text) entries old line read is long =
-      let here : BeginsTooLong (Some read.rest) ⊎ ((max_number < line) × HasMore (Some read.rest)) =
-      subst (λ (o : Option (List ℕ)). BeginsTooLong o ⊎ ((max_number < line) × HasMore o)) read.left long in
-      read.whole
-      ∙ (ap (λ (n : ℕ). behind entries (entries_of_lines F n (text_lines read.rest))) (sym is)
-      ∙ (ap (λ (t : EventText). behind entries t) (bad_first F line (text_lines read.rest) (bad_next line read.rest here))
-      ∙ no_more F entries (Some (record { line = line; kind = TooLong }))))
-
-  -- the entries before the end or the first bad line begin with those that were read
-  pub read-ahead : (text : Option (List ℕ)) (entries : List TreesData) (now : LinesState) → HasRead F text entries now
-      → (rest : List TreesData) × (bad : Option BadLine) × GivesJust F text (entries ++ rest) bad
-  read-ahead None entries now read = ([], None, tt)
-  read-ahead (Some text) entries now read =
-      let more = entries_of_lines F (now.number + 1) (text_lines read.rest) in (more.entries, more.bad, read.whole)
-
-  pub read-nothing : (text : Option (List ℕ)) (now : LinesState) → now.left ≡ text → now.number ≡ 0 → HasRead F text [] now
-  read-nothing None now is none = tt
-  read-nothing (Some text) now is none = record {
-    rest = text;
-    left = is;
-    whole = ap (λ (n : ℕ). behind [] (entries_of_lines F (n + 1) (text_lines text))) (sym none);
-  }

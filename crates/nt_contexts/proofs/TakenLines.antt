@@ -74,7 +74,8 @@ module _ {D P : Type 0} where
       record { full = full; is = is },
       λ rest.
           let same = gathers-same entry old mid h in
-          let halts : Halts state (λ chunk. length chunk ≡ old.cluster) (chunks old.cluster ((entries ++ entry ∷ []) ++ rest)) mid new error =
+          let halts : Halts state (λ chunk. length chunk ≡ old.cluster) (chunks old.cluster ((entries ++ entry ∷ []) ++ rest)) mid new
+          error =
           subst (λ (n : ℕ). Halts state (λ chunk. length chunk ≡ n) (chunks n ((entries ++ entry ∷ []) ++ rest)) mid new error) same.cluster
           (w rest) in
           record { same = same-trans old mid new same halts.same; committed = halts.committed; halt = halts.halt },

@@ -4,7 +4,7 @@ use Rattle.std.proofs.Common.{append-nil, arith}
 use Rattle.std.proofs.Common.{replicate, Result, Ok, Err}
 use Rattle.std.specs.List.{AllByRecursion}
 use Rattle.std.specs.Prelude.{slice_get, slice_index_or}
-use Rattle.std.proofs.lemmas.List.{length-map, length-replicate, take_all}
+use Rattle.std.proofs.lemmas.List.{length-map, take_all}
 use Rattle.std.proofs.lemmas.Slice.Zip.{AllZip-long}
 use Rattle.nt_types.specs.ShapeData.{MemberData}
 use Rattle.nt_types.specs.TreeData.{TreesData}
@@ -15,7 +15,7 @@ use Rattle.nt_outside.specs.Held.{Held}
 use Rattle.nt_outside.specs.Disk.{DiskState}
 use Rattle.nt_outside.specs.Faults.{Rose}
 use Rattle.nt_outside.specs.Source.{SourceState}
-use Rattle.nt_turn.specs.Pass.{TurnState, first_pass}
+use Rattle.nt_turn.specs.Pass.{TurnState}
 use Rattle.nt_machine.specs.declared.entry.Entry.{Entry}
 use Rattle.nt_machine.specs.History.{Cluster, ranges_of}
 use Rattle.nt_machine.specs.Legal.{end_after}
@@ -29,7 +29,6 @@ use Rattle.nt_book.specs.declared.limits.LimitError.TheVariants as limit
 use Rattle.nt_book.specs.Books.{BookData, book_clusters, book_end}
 use Rattle.nt_close.proofs.NewBooks.{new-ungrouped}
 use Rattle.nt_commit.specs.declared.locked.Birth.{Birth}
-use Rattle.nt_commit.specs.Locked.{birth_with}
 use Rattle.nt_layout.specs.Headers.{clusters_place}
 use Rattle.nt_close.specs.Beginning.{new_book}
 use Rattle.nt_dealing.specs.Dealt.{FillsBehind}
@@ -43,7 +42,6 @@ use Rattle.nt_contexts.specs.declared.error.RunError.TheVariants.{Outside, Memor
 use Rattle.nt_contexts.specs.Answers.{limit_told}
 use Rattle.nt_contexts.specs.Contexts.{SomeRose, ContextsTold, IsReady, RunsContexts}
 use Rattle.nt_contexts.specs.Working.{KeepsFaults, CommittedBefore, WorkTold, HasWorked}
-use Rattle.nt_contexts.specs.Seating.{IsLettingIn, MayWork}
 use Rattle.nt_contexts.proofs.Opens.{same-later}
 use Rattle.nt_contexts.specs.Ending.{IsBornFor, HasEnded}
 
@@ -84,10 +82,11 @@ chunks-at most (suc place) fields (x ∷ texts) text is = chunks-at most place f
 -- all chunks are those of all texts
 all-before : (css : List (List (List TreesData))) (n : ℕ) → length css ≡ n → chunks_before css n [] ≡ joined_chunks css
 all-before css n long =
-    append-nil (joined_chunks (take n css)) ∙ ap (λ (l : List (List (List TreesData))). joined_chunks l) (take_all n css (omega (arith, long)))
+    append-nil (joined_chunks (take n css)) ∙ ap (λ (l : List (List (List TreesData))). joined_chunks l)
+    (take_all n css (omega (arith, long)))
 
 module _ {D : Type 0} (state : D → DiskState) (fields : List MemberData) (t : Table) (p : Params) (committer : TurnState (Birth D)) where
-  abbrev begun : DiskState
+  abbrev pub begun : DiskState
   begun = state committer.birth.begun
 
   -- all contexts were joined, and the committer ended
@@ -200,68 +199,3 @@ runs-nothing fields t p disk book sources n ready = record {
   where
     begins : clusters_place t ≡ book_end book
     begins = subst (λ (b : BookData). clusters_place t ≡ book_end b) (sym ready.book_is) (omega arith)
-
-module _ {D : Type 0} (state : D → DiskState) (fields : List MemberData) (t : Table) (p : Params) (committer : TurnState (Birth D)) where
-  -- a new committer over a file that was begun
-  pub newly : (first : DiskPass D) (disk : D) (book : BookData) (n : ℕ) → IsReady fields p t book (state disk) n → committer.seats ≡ n
-      → committer.birth ≡ birth_with disk book n → first ≡ first_pass committer
-      → MayWork committer fields t p n first
-  newly first disk book n ready seats born is =
-      let columns : committer.birth.columns ≡ length book.firsts = ap (λ (b : Birth D). b.columns) born in
-      let contexts : committer.birth.contexts ≡ n = ap (λ (b : Birth D). b.contexts) born in
-      let firsts : book.firsts ≡ replicate (length t.columns) 0 = ap (λ (b : BookData). b.firsts) ready.book_is in
-      let begins : IsLettingIn committer 0 (first_pass committer) = record {
-        of = record {
-          of = record {
-            turn = refl;
-            free = refl;
-            birth = refl;
-            number = omega (arith, seats, contexts);
-            seats = omega (
-              arith,
-              seats,
-              contexts,
-            );
-          };
-          first = refl;
-        };
-        splits = refl;
-        kept = refl;
-        unused = refl;
-      } in
-      record {
-        schema = record {
-          rules = ready.rules;
-          rows = ready.rows;
-          columns = sym (columns ∙ (ap (λ (l : List ℕ). length l) firsts ∙ length-replicate (length t.columns) 0));
-        };
-        some = omega (arith, ready.some);
-        few = ready.few;
-        seated = omega (arith, contexts);
-        letting = subst (λ (f : DiskPass D). IsLettingIn committer 0 f) (sym is) begins;
-      }
-
-  pub born-for : (disk : D) (book : BookData) (n : ℕ) → IsReady fields p t book (state disk) n
-      → committer.birth ≡ birth_with disk book n
-      → IsBornFor state committer.birth t p
-  born-for disk book n ready born = record {
-    limits = ap (λ (b : Birth D). b.limits) born ∙ ap (λ (b : BookData). b.limits) ready.book_is;
-    end = ap (λ (b : Birth D). (state b.begun).end) born ∙ ready.end;
-  }
-
-  pub born-firsts : (disk : D) (book : BookData) (n : ℕ) → IsReady fields p t book (state disk) n
-      → committer.birth ≡ birth_with disk book n
-      → committer.birth.firsts ≡ replicate (length t.columns) 0
-  born-firsts disk book n ready born = ap (λ (b : Birth D). b.firsts) born ∙ ap (λ (b : BookData). b.firsts) ready.book_is
-
-  -- what was begun is the disk and the book that were given
-  pub runs-given : (disk : D) (after : DiskState) (book book' : BookData) (n : ℕ) (sources sources' : List SourceState) (answer : Result
-      Unit RunError)
-      → IsReady fields p t book (state disk) n
-      → committer.birth ≡ birth_with disk book n
-      → RunsContexts t fields p (state committer.birth.begun) after (new_book t p.limits) book' sources sources' answer
-      → RunsContexts t fields p (state disk) after book book' sources sources' answer
-  runs-given disk after book book' n sources sources' answer ready born ran =
-      subst (λ (b : BookData). RunsContexts t fields p (state disk) after b book' sources sources' answer) (sym ready.book_is)
-      (subst (λ (d : D). RunsContexts t fields p (state d) after (new_book t p.limits) book' sources sources' answer) (ap (λ (b : Birth
-      D). b.begun) born) ran)

@@ -124,8 +124,12 @@ module _ {D S P : Type 0} (state : D → DiskState) (fields : List MemberData) (
         → (answer : Result Unit RunError)
         → answer_from p.limits.clusters 0 seats ≡ answer → WorkTold state fields t p committer texts new answer
     work-told texts tell saw (Ok done) is =
-        let sound = run-sound state fields t p committer source p.limits.clusters 0 states seats texts run tell is in
-        (sound.0, have-written (chunks_of p.cluster fields texts) (texts-long texts tell) sound.1, before texts tell (length texts) [] sound.2)
+        let sound = run-sound state fields t p committer source p.limits.clusters 0 states seats texts run tell is in (
+          sound.0,
+          have-written (chunks_of p.cluster fields texts) (texts-long texts tell) sound.1,
+          before texts tell (length texts) []
+              sound.2,
+        )
     work-told texts tell saw (Err (Line input line kind)) is =
         let b = run-bad state fields t p committer source p.limits.clusters 0 states seats texts input line kind run tell is in
         subst (λ (i : ℕ). StopsAtLine state fields t p committer texts new i line kind) (sym (b.number ∙ omega arith))

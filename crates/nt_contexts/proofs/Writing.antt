@@ -117,7 +117,8 @@ module _ {D P : Type 0} (state : D → DiskState) where
             refl,
           );
         } in
-        subst (λ (c : DiskContext D P). Halts state (λ chunk. chunk ≡ gathered old) (full ++ gathered old ∷ others) old c (Limit error)) (sym kept.now) there
+        subst (λ (c : DiskContext D P). Halts state (λ chunk. chunk ≡ gathered old) (full ++ gathered old ∷ others) old c (Limit error))
+        (sym kept.now) there
 
     -- memory was wanting
     wanted : KeepsEntries old new → Halts state (λ chunk. chunk ≡ gathered old) (full ++ gathered old ∷ others) old new Memory
@@ -136,7 +137,8 @@ module _ {D P : Type 0} (state : D → DiskState) where
               (gathered old ∷ others);
           halt = tt;
         } in
-        subst (λ (c : DiskContext D P). Halts state (λ chunk. chunk ≡ gathered old) (full ++ gathered old ∷ others) old c Memory) (sym kept.now) there
+        subst (λ (c : DiskContext D P). Halts state (λ chunk. chunk ≡ gathered old) (full ++ gathered old ∷ others) old c Memory)
+        (sym kept.now) there
 
     -- the disk or the pen failed, and these entries were added
     failed : (all : List (List TreesData)) (added : List (Entry ClusterMeta)) → Gains added old.pass new.pass
@@ -159,7 +161,8 @@ module _ {D P : Type 0} (state : D → DiskState) where
         subst (λ (c : DiskContext D P). Halts state (λ chunk. chunk ≡ gathered old) all old c Outside) (sym now) there
 
     faulted : (meta : ClusterMeta) → IsKeptOf old.table old.page (gathered old) meta → FailsToWrite meta old.pass new.pass old.pen new.pen
-        → new ≡ record old { pass = new.pass; pen = new.pen } → Halts state (λ chunk. chunk ≡ gathered old) (full ++ gathered old ∷ others) old new Outside
+        → new ≡ record old { pass = new.pass; pen = new.pen }
+        → Halts state (λ chunk. chunk ≡ gathered old) (full ++ gathered old ∷ others) old new Outside
     faulted meta kept (inl m) now =
         let i = old.pass.number in
         let added : List (Entry ClusterMeta) = faulted_entry i m.0.faults ∷ [] in

@@ -148,7 +148,8 @@ module _ (t : Table) (page most : ℕ) (history : List (Entry ClusterMeta))
       record {
         all = metas cs ++ rest.all;
         are = zip-append (IsKeptOf t page) first (metas cs) (committed_chunks others kept) rest.all have.1.kept rest.are;
-        low = AllByRecursion-append (λ (m : ClusterMeta). m.len ≤ most) (metas cs) rest.all (metas-short most cs have.1.lengths low) rest.low;
+        low = AllByRecursion-append (λ (m : ClusterMeta). m.len ≤ most) (metas cs) rest.all (metas-short most cs have.1.lengths low)
+            rest.low;
         long =
             let rest-long : sum_by (λ (m : ClusterMeta). m.len) rest.all ≡ total (suc i) (length kept) (λ j. lens (ranges_in j)) =
             rest.long ∙ ap (λ (n : ℕ). total n (length kept) (λ j. lens (ranges_in j))) next in

@@ -14,4 +14,5 @@ mod Fronts
 mod Longest
 pub mod Whole
 mod Committed
+mod CommittedLimits
 pub mod Fitting

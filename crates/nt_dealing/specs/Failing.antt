@@ -52,16 +52,16 @@ ChunkPassesBy t p chunk (limit.RangeTooLarge len most) = ChunkPasses t p chunk l
 ChunkPassesBy t p chunk (limit.FileTooLarge end most) = ChunkPasses t p chunk end most
 ChunkPassesBy t p chunk limit.TooManyClusters = ChunkPasses t p chunk (p.limits.clusters + 1) p.limits.clusters
 
--- a text has this first bad line, and nothing fails before it: no text before this one has a bad line, and the chunks that are written before
--- the line is read pass no limit, those of the texts before it and its own whole ones
+-- a text has this first bad line, and nothing fails before it: no text before this one has a bad line, and the chunks that are written
+-- before the line is read pass no limit, those of the texts before it and its own whole ones
 pub record FailsByLine (t : Table) (fields : List MemberData) (p : Params) (texts : List (List ℕ)) (input line : ℕ) (kind : TextKind)
     : Type 0 where
   pub first : IsFirstBad fields texts input line kind
   pub fit : CommitsFit t p (chunks_before (chunks_of p.cluster fields texts) input (whole_chunks p.cluster (text_chunks p.cluster fields
       first.text)))
 
--- a chunk of a text passes this limit as it is committed, and nothing fails before it: no text before this one has a bad line, and the chunks
--- of the texts before it, with its own that come first, pass no limit
+-- a chunk of a text passes this limit as it is committed, and nothing fails before it: no text before this one has a bad line, and the
+-- chunks of the texts before it, with its own that come first, pass no limit
 pub record FailsByChunk (t : Table) (fields : List MemberData) (p : Params) (texts : List (List ℕ)) (reached limit : ℕ) : Type 0 where
   pub input : ℕ
   pub text : List ℕ

@@ -16,7 +16,8 @@ use Rattle.nt_draws.specs.declared.making.Making.{Making}
 use Rattle.nt_store.specs.Worlds.{AsksFirst, OthersStay, WritesInOrder, IsWrittenInOrder}
 use Rattle.nt_store.specs.Writing.{HoldsNow, IsInOrderFrom}
 use Rattle.nt_store.proofs.Asking.{asks_all}
-use Rattle.nt_store.proofs.Ends.{stored_kept, there, file_kept, kept_open, kept_never_begun, kept_steps, others_kept, none_made, nothing_made}
+use Rattle.nt_store.proofs.Ends.{stored_kept, there, file_kept, kept_open, kept_never_begun, kept_steps, others_kept}
+use Rattle.nt_store.proofs.Refused.{none_made, nothing_made}
 use Rattle.nt_generate.specs.declared.error.GenerateError.{GenerateError}
 use Rattle.nt_generate.specs.declared.error.GenerateError.TheVariants.{Outside, Memory, Limit, Defect}
 use Rattle.nt_generate.specs.Errors.{generate_refusal}

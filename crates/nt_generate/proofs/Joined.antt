@@ -235,12 +235,14 @@ ends_told order name p m old mid new made result makes tells = record {
   told = λ w is.
       let back = makes.told w is in
       let tells' = tells_as name m.contexts (order made) makes.commits mid new result back.5.0 tells in
-      let done = printed_told p m name w back.0 back.3 makes.commits back.5.1 back.5.2 back.5.3 new.world result (tells'.told back.0 back.1) in
+      let done = printed_told p m name w back.0 back.3 makes.commits back.5.1 back.5.2 back.5.3 new.world result
+      (tells'.told back.0 back.1) in
       (prints ToOut done.printed back.0, done.is, back.2, back.4, done.told);
   order = λ w w' is is' made-disk.
       let back = makes.told w is in
       let tells' = tells_as name m.contexts (order made) makes.commits mid new result back.5.0 tells in
-      let done = printed_told p m name w back.0 back.3 makes.commits back.5.1 back.5.2 back.5.3 new.world result (tells'.told back.0 back.1) in
+      let done = printed_told p m name w back.0 back.3 makes.commits back.5.1 back.5.2 back.5.3 new.world result
+      (tells'.told back.0 back.1) in
       let same : prints ToOut done.printed back.0 ≡ w' = some_is _ _ (sym done.is ∙ is') in
       let left = makes.order_kept w back.0 is back.1 back.5.1 in
       subst (IsWrittenInOrder name) same (record {
@@ -253,7 +255,8 @@ ends_told order name p m old mid new made result makes tells = record {
   crash = λ w w' is is' made-disk.
       let back = makes.told w is in
       let tells' = tells_as name m.contexts (order made) makes.commits mid new result back.5.0 tells in
-      let done = printed_told p m name w back.0 back.3 makes.commits back.5.1 back.5.2 back.5.3 new.world result (tells'.told back.0 back.1) in
+      let done = printed_told p m name w back.0 back.3 makes.commits back.5.1 back.5.2 back.5.3 new.world result
+      (tells'.told back.0 back.1) in
       let same : prints ToOut done.printed back.0 ≡ w' = some_is _ _ (sym done.is ∙ is') in
       let left = makes.crash w back.0 is back.1 back.5.1 in
       subst (λ (v : World). LeavesMade name p m makes.commits v result) same (record {

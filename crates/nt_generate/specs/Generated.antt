@@ -23,8 +23,8 @@ pub record GainsMadeFront (p : Params) (m : Making) (w w' : World) : Type 0 wher
 abbrev pub IsMadeByMemory : Params → Making → List ℕ → List ℕ → World → World → Type 0
 IsMadeByMemory p m commits name w w' = KeepsFiles w w' ⊎ (MakesDisk name w w' × (IsLeftOpen name w' ⊎ IsWhole p m commits name w'))
 
--- the last step was over the first byte, or a sync behind that failed; or the file was closed, whose last step is a sync, and what failed was
--- to read it back or to print its totals
+-- the last step was over the first byte, or a sync behind that failed; or the file was closed, whose last step is a sync, and what failed
+-- was to read it back or to print its totals
 abbrev pub EndsOverFirstOrKept : List Step → Type 0
 EndsOverFirstOrKept log = EndsOverFirst log ⊎ EndsInSync log
 

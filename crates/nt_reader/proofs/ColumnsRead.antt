@@ -13,11 +13,12 @@ use Rattle.nt_view.specs.declared.fault.ViewFault.{ViewFault}
 use Rattle.nt_view.specs.Loads.{load_of, IsLoadedAs}
 use Rattle.nt_view.specs.Loaded.{Loaded, AreLoadable, loaded_with}
 use Rattle.nt_file_meaning.specs.Clusters.{columns_from}
-use Rattle.nt_reader.specs.Listings.{Listed, columns_listed, stored_pages, none_wrong, listed_bytes, columns_of_loaded, AreColumnsOf}
+use Rattle.nt_reader.specs.Listings.{Listed, columns_listed, pages_kept, none_wrong, listed_bytes, columns_of_loaded, AreColumnsOf}
 use Rattle.nt_reader.specs.Listed.{IsLoadFailure}
 use Rattle.nt_reader.proofs.Chains.{fails, fails-as}
 use Rattle.nt_reader.proofs.FoundPages.{loaded-stored, load-fails}
-use Rattle.nt_reader.proofs.ListedColumns.{IsAfter, loaded_as, columns-after, columns-listed, columns-are}
+use Rattle.nt_reader.proofs.ListedColumns.{loaded_as}
+use Rattle.nt_reader.proofs.ColumnsBehind.{IsAfter, columns-after, columns-listed, columns-are}
 
 after : (number : ℕ) (k : ClusterList) (t : Table) (l : Listed) → l ≡ columns_listed number k t 0 t.columns → IsAfter 0 (length t.columns) l
 after number k t l is =
@@ -41,16 +42,17 @@ pub columns-failed : {V : Type 0} (view : V → List (List Element)) (told : Lis
     → IsLoadedAs {V = Loaded} (λ c. c) (Err v) (load_of told ps zs) → IsLoadFailure number qs v failure
     → IsReadOrFails view (Err failure) (columns_from told number k t 0 t.columns)
 columns-failed view told number k t l ps qs zs v failure is pages zeros same loaded failed =
-    let here : IsReadOrFails {V = List (List ℕ)} (λ x. x) (Err failure) (stored_pages told number l.pages) =
+    let here : IsReadOrFails {V = List (List ℕ)} (λ x. x) (Err failure) (pages_kept told number l.pages) =
     load-fails told number l.pages l.zeros v failure (rw (pages, zeros) at loaded) (rw same at failed) in
     let bytes : IsReadOrFails {V = List (List ℕ)} (λ x. x) (Err failure) (listed_bytes told number l) =
-    fails (λ (x : List (List ℕ)). x) (λ (x : List (List ℕ)). x) failure (stored_pages told number l.pages) _ here in
+    fails (λ (x : List (List ℕ)). x) (λ (x : List (List ℕ)). x) failure (pages_kept told number l.pages) _ here in
     fails-as view view failure (listed_bytes told number l >>= λ bs. Ok (columns_of_loaded 0 (length t.columns) (loaded_as l bs)))
     (columns_from told number k t 0 t.columns) (listed-first told number k t l is)
     (fails (λ (x : List (List ℕ)). x) view failure (listed_bytes told number l) _ bytes)
 
 -- where all pages were loaded
-loaded-first : (told : List ℕ) (number : ℕ) (k : ClusterList) (t : Table) (l : Listed) (ps : List PagePlace) (zs : List ZeroColumn) (c : Loaded)
+loaded-first : (told : List ℕ) (number : ℕ) (k : ClusterList) (t : Table) (l : Listed) (ps : List PagePlace) (zs : List ZeroColumn)
+    (c : Loaded)
     → l ≡ columns_listed number k t 0 t.columns → ps ≡ l.pages → zs ≡ l.zeros → load_of told ps zs ≡ Ok c
     → columns_from told number k t 0 t.columns ≡ (none_wrong l.wrong >>= λ u. Ok (columns_of_loaded 0 (length t.columns) c))
 loaded-first told number k t l ps zs c is pages zeros loaded =

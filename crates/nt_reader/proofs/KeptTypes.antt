@@ -1,5 +1,6 @@
 -- The elements of loaded columns are of the types of their rows.
-use Rattle.std.proofs.Common.{◌≡◌, ℕ, zero, suc, ◌+◌, ◌<◌, Bool, true, false, cond, eqb, List, [], ◌∷◌, ◌++◌, length, get_or, replicate, slice_get, Option}
+use Rattle.std.proofs.Common.{◌≡◌, ℕ, zero, suc, ◌+◌, ◌<◌, Bool, true, false, cond, eqb, List, [], ◌∷◌, ◌++◌, length, get_or, replicate}
+use Rattle.std.proofs.Common.{slice_get, Option}
 use Rattle.std.proofs.Common.{None, Some, refl, sym, ap, subst, ◌∙◌, arith}
 use Rattle.std.proofs.lemmas.Bool.{eqb-true}
 use Rattle.nt_lists.proofs.Variants.{some_is}
@@ -18,7 +19,8 @@ use Rattle.nt_fitting.specs.Fitting.{AreOfRows}
 use Rattle.nt_file_meaning.specs.Outlines.{known_column}
 use Rattle.nt_file_meaning.specs.Clusters.{kind_of_code, pages_listed, begins_behind}
 use Rattle.nt_reader.specs.Columns.{AreOfRowTypes}
-use Rattle.nt_reader.specs.Listings.{Listed, with_front, with_zeros, stopped, place_of_page, size_fault, pages_onto, typed_onto, columns_listed}
+use Rattle.nt_reader.specs.Listings.{Listed, with_front, with_zeros, stopped, place_of_page, size_fault, pages_onto, typed_onto}
+use Rattle.nt_reader.specs.Listings.{columns_listed}
 use Rattle.nt_reader.proofs.ColumnKinds.{kind-found}
 
 -- each page is of the type that its column's code says
@@ -32,7 +34,8 @@ pages-coded code number id kind (p ∷ ps) l here is =
     by_size (pages-coded code number id kind ps l here is) (eqb p.size (page_size kind p.count))
   where
     by_size : HaveCodes code (pages_onto number id kind ps l).pages → (b : Bool)
-        → HaveCodes code (cond b (with_front (place_of_page id kind p) (pages_onto number id kind ps l)) (stopped (size_fault number id kind p))).pages
+        → HaveCodes code (cond b (with_front (place_of_page id kind p) (pages_onto number id kind ps l))
+        (stopped (size_fault number id kind p))).pages
     by_size after true zero d lt = here
     by_size after true (suc m) d lt = after m d (omega (arith, lt))
     by_size after false m d lt = absurd (omega (arith, lt))
@@ -47,7 +50,8 @@ column-coded code number k id l true false None here is = is
 column-coded code number k id l true false (Some kind) here is = pages-coded code number id kind (pages_listed k id) l here is
 
 columns-coded : (code : ℕ → ℕ) (number : ℕ) (k : ClusterList) (t : Table) (id : ℕ) (cs : List ColumnRow)
-    → ((j : ℕ) (row : ColumnRow) → slice_get cs j ≡ Some row → code (id + j) ≡ row.code) → HaveCodes code (columns_listed number k t id cs).pages
+    → ((j : ℕ) (row : ColumnRow) → slice_get cs j ≡ Some row → code (id + j) ≡ row.code)
+    → HaveCodes code (columns_listed number k t id cs).pages
 columns-coded code number k t id [] said = λ m d lt. absurd (omega (arith, lt))
 columns-coded code number k t id (c ∷ cs) said =
     let known = known_column (need_of t id) c in

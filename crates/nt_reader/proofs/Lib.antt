@@ -12,5 +12,6 @@ pub mod Fitting
 pub mod FoundPages
 pub mod ListingSteps
 pub mod ListedColumns
+pub mod ColumnsBehind
 pub mod ColumnKinds
 pub mod ColumnsRead

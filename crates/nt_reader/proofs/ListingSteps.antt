@@ -74,7 +74,8 @@ pub typed-onto : (number : ℕ) (k : ClusterList) (id : ℕ) (c : KnownColumn) (
 typed-onto number k id c code kind rest open_is behind is = rw (open_is, behind, is) refl
 
 -- one column more
-pub column-listed : (number : ℕ) (k : ClusterList) (t : Table) (rows : List ColumnRow) (id : ℕ) (row : ColumnRow) → slice_get rows id ≡ Some row
+pub column-listed : (number : ℕ) (k : ClusterList) (t : Table) (rows : List ColumnRow) (id : ℕ) (row : ColumnRow) → slice_get rows id
+    ≡ Some row
     → columns_listed number k t id (drop id rows)
     ≡ column_onto number k id (known_column (need_of t id) row) row.code (columns_listed number k t (id + 1) (drop (id + 1) rows))
 column-listed number k t rows id row there = rw (drop-at rows id row there) refl
@@ -87,7 +88,8 @@ column-listed number k t rows id row there = rw (drop-at rows id row there) refl
         rw next (drop-at rs i row is)
 
 -- nothing is listed behind a page of a wrong size
-pub listed-stopped : (ps : List PagePlace) (zs : List ZeroColumn) (wrong : Option ReadError) (e : ReadError) (rest : Listed) → wrong ≡ Some e
+pub listed-stopped : (ps : List PagePlace) (zs : List ZeroColumn) (wrong : Option ReadError) (e : ReadError) (rest : Listed) → wrong
+    ≡ Some e
     → listed_behind ps zs wrong rest ≡ record { pages = ps; zeros = zs; wrong = wrong }
 listed-stopped ps zs wrong e rest is = rw is refl
 

@@ -41,7 +41,8 @@ pub record AreClusterColumns (t : Table) (cols : Cols) (entries : ℕ) : Type 0 
 -- a loaded column with pages is of the type of its row
 abbrev pub AreOfRowTypes : List ColumnRow → Loaded → Type 0
 AreOfRowTypes rows l =
-    (k : ℕ) (row : ColumnRow) (kind : ColumnType) → slice_get rows k ≡ Some row → loaded_kind l k ≡ Some kind → kind_of_code row.code ≡ Some kind
+    (k : ℕ) (row : ColumnRow) (kind : ColumnType) → slice_get rows k ≡ Some row → loaded_kind l k ≡ Some kind → kind_of_code row.code
+    ≡ Some kind
 
 -- the pages of a cluster are all those of its open columns, by column, and none has a wrong size; with those of a file that tells its bytes
 pub record IsLoadedFrom (file : Option (List ℕ)) (number : ℕ) (k : ClusterList) (t : Table) (l : Loaded) : Type 0 where
@@ -49,3 +50,8 @@ pub record IsLoadedFrom (file : Option (List ℕ)) (number : ℕ) (k : ClusterLi
   pub zeros : l.zeros ≡ (columns_listed number k t 0 t.columns).zeros
   pub whole : (columns_listed number k t 0 t.columns).wrong ≡ None
   pub bytes : (told : List ℕ) → file ≡ Some told → load_of told l.pages l.zeros ≡ Ok l
+
+-- a cluster that was read keeps the schema, and its pages
+pub record IsClusterFrom (file : Option (List ℕ)) (number : ℕ) (k : ClusterList) (t : Table) (c : ClusterData) : Type 0 where
+  pub table : c.table ≡ t
+  pub loaded : IsLoadedFrom file number k t c.loaded

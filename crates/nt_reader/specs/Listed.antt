@@ -17,7 +17,8 @@ listing_view l = record { pages = l.pages.items; zeros = l.zeros.items; wrong = 
 -- what was listed more is what comes onto the rest, whatever that is
 abbrev pub IsListedOnto : Listing → Listing → (Listed → Listed) → Type 0
 IsListedOnto old new onto =
-    (rest : Listed) → listed_behind old.pages.items old.zeros.items None (onto rest) ≡ listed_behind new.pages.items new.zeros.items new.wrong rest
+    (rest : Listed) → listed_behind old.pages.items old.zeros.items None (onto rest)
+    ≡ listed_behind new.pages.items new.zeros.items new.wrong rest
 
 -- the failure of a call that loads these pages: of a page that is one of them its fault in the cluster of this number
 abbrev pub IsLoadFailure : ℕ → List PagePlace → ViewFault → ReadFailure → Type 0

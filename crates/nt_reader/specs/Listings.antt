@@ -88,18 +88,18 @@ listed_behind ps zs None rest = record { pages = ps ++ rest.pages; zeros = zs ++
 listed_behind ps zs (Some e) rest = record { pages = ps; zeros = zs; wrong = Some e }
 
 -- the stored bytes of a page of a cluster, or its fault
-abbrev pub stored_page : List ℕ → ℕ → PagePlace → Result (List ℕ) ReadError
-stored_page file number p =
+abbrev pub page_kept : List ℕ → ℕ → PagePlace → Result (List ℕ) ReadError
+page_kept file number p =
     found_or (in_column number p.column (fault out_of_file p.place)) (piece file p.place (loaded_len p)) >>= λ stored.
     demand (has_its_sum p.checked p.size stored)
     (in_column number p.column (with_values (sum_behind p.size stored) (xxh3 (take p.size stored)) (fault bad_page p.place)))
     >>= λ u. Ok stored
 
 -- those of pages, or the first fault
-abbrev pub stored_pages : List ℕ → ℕ → List PagePlace → Result (List (List ℕ)) ReadError
-stored_pages file number [] = Ok []
-stored_pages file number (p ∷ ps) =
-    stored_page file number p >>= λ first. stored_pages file number ps >>= λ others. Ok (first ∷ others)
+abbrev pub pages_kept : List ℕ → ℕ → List PagePlace → Result (List (List ℕ)) ReadError
+pages_kept file number [] = Ok []
+pages_kept file number (p ∷ ps) =
+    page_kept file number p >>= λ first. pages_kept file number ps >>= λ others. Ok (first ∷ others)
 
 -- nothing is wrong, or there is this fault
 abbrev pub none_wrong : Option ReadError → Result (Unit {0}) ReadError
@@ -108,7 +108,7 @@ none_wrong (Some e) = Err e
 
 -- the stored bytes of what is listed: the first fault of a page, or then that of the page of a wrong size
 abbrev pub listed_bytes : List ℕ → ℕ → Listed → Result (List (List ℕ)) ReadError
-listed_bytes file number l = stored_pages file number l.pages >>= λ stored. none_wrong l.wrong >>= λ u. Ok stored
+listed_bytes file number l = pages_kept file number l.pages >>= λ stored. none_wrong l.wrong >>= λ u. Ok stored
 
 -- the elements of so many columns from this id on
 abbrev pub columns_of_loaded : ℕ → ℕ → Loaded → List (List Element)

@@ -12,7 +12,7 @@ ghost use Rattle.nt_file_meaning.specs.Clusters.{columns_by_id, frame_of, value_
 ghost use Rattle.nt_tfile.specs.Calls.{Serves, IsReadAs, ReadsFile};
 ghost use Rattle.nt_view.specs.Loaded.{loaded_elements};
 ghost use Rattle.nt_view.specs.declared.page_place.PagePlace.{PagePlace};
-ghost use Rattle.nt_reader.specs.Columns.{given_entries, IsLoadedFrom};
+ghost use Rattle.nt_reader.specs.Columns.{given_entries, IsClusterFrom};
 
 use crate::columns::read_columns;
 use crate::faults::{BAD_VALUE, fault_with, in_column};
@@ -181,8 +181,8 @@ pub fn read_cluster<'a, F: ReadAt>(
         (λ told. cluster_of told schema.now number cluster.now) (F.state file.old) result }
     ensures columns { ReadsFile (λ c. c.columns)
         (λ told. columns_in_cluster told schema.now number cluster.now) (F.state file.old) result }
-    ensures table { IfOk result (λ c. c.table ≡ schema.now) }
-    ensures loaded { IfOk result (λ c. IsLoadedFrom (F.state file.old).bytes number cluster.now schema.now c.loaded) }
+    ensures kept { let told = (F.state file.old).bytes in
+        IfOk result (λ c. IsClusterFrom told number cluster.now schema.now c) }
 {
     let kept = match kept {
         Some(columns) => columns,

@@ -7,7 +7,7 @@ ghost use Rattle.nt_file_meaning.specs.Outlines.{outline_of, known_column};
 ghost use Rattle.nt_file_meaning.specs.Counts.{zeros_due};
 ghost use Rattle.nt_tfile.specs.Calls.{Serves, ReadsFile};
 ghost use Rattle.nt_reader.specs.Outlines.{numbered_cluster, entries_in, columns_read, page_number, page_count};
-ghost use Rattle.nt_reader.specs.Columns.{given_entries, IsLoadedFrom};
+ghost use Rattle.nt_reader.specs.Columns.{given_entries, IsClusterFrom};
 
 use crate::cluster::{ClusterRead, read_cluster};
 use crate::describing::read_described;
@@ -140,8 +140,8 @@ impl Reader {
             (entries_in self.now k) (F.state file.old) result }
         ensures columns { ReadsFile (λ c. c.columns)
             (columns_read self.now k) (F.state file.old) result }
-        ensures table { IfOk result (λ c. c.table ≡ self.now.table) }
-        ensures loaded { IfOk result (λ c. IsLoadedFrom (F.state file.old).bytes k (numbered_cluster self.now k) self.now.table c.loaded) }
+        ensures kept { let told = (F.state file.old).bytes in
+            IfOk result (λ c. IsClusterFrom told k (numbered_cluster self.now k) self.now.table c) }
     {
         self.cluster_in(alloc, file, k, None)
     }
@@ -161,8 +161,8 @@ impl Reader {
             (entries_in self.now k) (F.state file.old) result }
         ensures columns { ReadsFile (λ c. c.columns)
             (columns_read self.now k) (F.state file.old) result }
-        ensures table { IfOk result (λ c. c.table ≡ self.now.table) }
-        ensures loaded { IfOk result (λ c. IsLoadedFrom (F.state file.old).bytes k (numbered_cluster self.now k) self.now.table c.loaded) }
+        ensures kept { let told = (F.state file.old).bytes in
+            IfOk result (λ c. IsClusterFrom told k (numbered_cluster self.now k) self.now.table c) }
     {
         read_cluster(
             alloc,

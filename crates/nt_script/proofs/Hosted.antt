@@ -18,7 +18,8 @@ use Rattle.nt_close.specs.Laws.{EndsOverFirst}
 use Rattle.nt_store.specs.Worlds.{AsksFirst, OthersStay, LeavesOpen, IsWrittenInOrder, WritesInOrder, IsLeftAfter}
 use Rattle.nt_store.specs.Writing.{HoldsNow}
 use Rattle.nt_store.proofs.Asking.{asks_all}
-use Rattle.nt_store.proofs.Ends.{stored_kept, file_kept, kept_open, kept_never_begun, others_kept, world_is, none_made, nothing_made}
+use Rattle.nt_store.proofs.Ends.{stored_kept, file_kept, kept_open, kept_never_begun, others_kept}
+use Rattle.nt_store.proofs.Refused.{world_is, none_made, nothing_made}
 use Rattle.nt_script.specs.declared.storing.Counts.{Counts}
 use Rattle.nt_script.specs.declared.store_error.ScriptStoreError.{ScriptStoreError}
 use Rattle.nt_script.specs.declared.store_error.ScriptStoreError.TheVariants.{Outside, Memory, Schema, Line, Limit}

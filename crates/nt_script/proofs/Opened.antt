@@ -15,7 +15,7 @@ use Rattle.nt_store.specs.declared.error.StoreError.TheVariants as store
 use Rattle.nt_store.specs.Schemas.{TellsSchema}
 use Rattle.nt_store.specs.Worlds.{AsksOnly, HasStoreCause, LeavesOut}
 use Rattle.nt_store.proofs.Asking.{schema_asked, texts_asked}
-use Rattle.nt_store.proofs.Ends.{nothing_made}
+use Rattle.nt_store.proofs.Refused.{nothing_made}
 use Rattle.nt_script.specs.declared.store_error.ScriptStoreError.TheVariants.{Outside}
 use Rattle.nt_script.specs.StoreErrors.{script_error_of_refusal, script_error_of_store}
 use Rattle.nt_script.specs.Storing.{AreScriptTexts, IsWholeScript, ScriptTold}

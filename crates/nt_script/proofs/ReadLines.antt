@@ -16,7 +16,8 @@ use Rattle.nt_event.specs.Entry.{entry_of}
 use Rattle.nt_event.specs.Lines.{LinesState, IsNextLine, BeginsTooLong, HasMore}
 use Rattle.nt_book.specs.declared.meta.ClusterMeta.{ClusterMeta}
 use Rattle.nt_dealing.specs.EventText.{text_lines}
-use Rattle.nt_contexts.proofs.Reading.{LineOff, within, next_line, beyond, bad_next}
+use Rattle.nt_contexts.proofs.Reading.{LineOff, within, next_line, beyond}
+use Rattle.nt_contexts.proofs.BadLines.{bad_next}
 use Rattle.nt_script.specs.declared.error.LineFault.{LineFault}
 use Rattle.nt_script.specs.declared.error.LineFault.TheVariants.{Event, Field}
 use Rattle.nt_script.specs.Script.{Script, last_entries, and_field, with_entries, breaks_off, adds_field, then_field, field_added}

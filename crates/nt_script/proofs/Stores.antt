@@ -14,7 +14,7 @@ use Rattle.nt_store.specs.Stored.{asked_for}
 use Rattle.nt_store.specs.Worlds.{AsksFirst, LeavesOut, MakesDisk, IsWrittenInOrder, IsLeftAfter}
 use Rattle.nt_store.proofs.Asking.{asks_front}
 use Rattle.nt_store.proofs.Crashing.{or_as}
-use Rattle.nt_store.proofs.Ends.{world_is}
+use Rattle.nt_store.proofs.Refused.{world_is}
 use Rattle.nt_script.specs.declared.storing.Counts.{Counts}
 use Rattle.nt_script.specs.declared.store_error.ScriptStoreError.{ScriptStoreError}
 use Rattle.nt_script.specs.declared.store_error.ScriptStoreError.TheVariants.{Outside, Memory, Schema, Line, Limit}

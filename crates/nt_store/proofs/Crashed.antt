@@ -11,7 +11,8 @@ use Rattle.nt_store.specs.Texts.{AreTexts}
 use Rattle.nt_store.specs.Writing.{FileTold}
 use Rattle.nt_store.specs.Crashes.{IsWholeOf, LeavesAllOrNone, CrashTold, EndsAsWhole, CrashesTo}
 use Rattle.nt_store.proofs.Crashing.{leaves_as}
-use Rattle.nt_store.proofs.Ends.{ComesBack, stored_kept, left_world, none_made}
+use Rattle.nt_store.proofs.Ends.{ComesBack, stored_kept, left_world}
+use Rattle.nt_store.proofs.Refused.{none_made}
 
 some_is : (a b : World) → ◌≡◌ {A = Option World} (Some a) (Some b) → a ≡ b
 some_is a b e = cc

@@ -163,7 +163,8 @@ dealt_from fields p texts t given book old new h rules rows within given_is kept
     held_is a b e = cc
 
 -- why a file isn't begun
-pub begin_why : WholeAreLongest → (T : Type 0) (e : BeginError) (fields : List MemberData) (p : Params) (texts : List (List ℕ)) (old new : DiskState)
+pub begin_why : WholeAreLongest → (T : Type 0) (e : BeginError) (fields : List MemberData) (p : Params) (texts : List (List ℕ))
+    (old new : DiskState)
     → IsNotBegun fields p old new e → WhyUnfilled {T = T} fields p texts (Err (error_of_begin e))
 begin_why longest T begin.Memory fields p texts old new left = tt
 begin_why longest T (begin.RangeTooLarge len most) fields p texts old new left =

@@ -7,11 +7,13 @@ pub mod Begun
 pub mod Sound
 pub mod Whole
 pub mod Passing
+pub mod Counted
 pub mod Crashing
 pub mod Filled
 pub mod Answered
 pub mod Closed
 pub mod Printing
 pub mod Ends
+pub mod Refused
 pub mod Crashed
 pub mod Asking

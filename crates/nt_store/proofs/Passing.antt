@@ -2,12 +2,10 @@
 use Rattle.std.proofs.Common.{◌≡◌, ◌⊎◌, ◌∙◌, inl, inr, ap, sym, subst, refl, ℕ, zero, suc, ◌+◌, ◌<◌, ◌≤◌, Bool, true, false, List, [], ◌∷◌}
 use Rattle.std.proofs.Common.{◌++◌, length, take, drop, map, sum_by, Option, Some, None, append_assoc, arith}
 use Rattle.std.specs.Prelude.{nat_lt, if◌then◌else◌, IsPermutation}
-use Rattle.std.specs.Int.{div_ceil}
 use Rattle.std.specs.List.{AllByRecursion, AllZip, range_with_len}
 use Rattle.std.proofs.lemmas.Bool.Decides.{nat_tests}
-use Rattle.std.proofs.lemmas.List.{length-take, length-map, take-append-drop, take-map, drop-map}
-use Rattle.std.proofs.lemmas.List.Sorted.{IsPermutation-refl, IsPermutation-append_comm, IsPermutation-append_left, IsPermutation-trans}
-use Rattle.std.proofs.lemmas.List.Sorted.{length_permutation}
+use Rattle.std.proofs.lemmas.List.{take-append-drop}
+use Rattle.std.proofs.lemmas.List.Sorted.{IsPermutation-refl, IsPermutation-append_comm, IsPermutation-append_left}
 use Rattle.nt_types.specs.ShapeData.{MemberData}
 use Rattle.nt_types.specs.TreeData.{TreesData}
 use Rattle.nt_grammar.specs.Rows.{Rows}
@@ -22,22 +20,20 @@ use Rattle.nt_book.specs.Books.{BookData, book_clusters}
 use Rattle.nt_book.specs.Kept.{IsBookKept}
 use Rattle.nt_container.specs.Lengths.{anchor_part_len, key_list_part_len, free_list_part_len}
 use Rattle.nt_pagelists.specs.Blobs.{blob_len}
-use Rattle.nt_layout.specs.Headers.{header_object, header_sum, clusters_place}
+use Rattle.nt_layout.specs.Headers.{header_object, clusters_place}
 use Rattle.nt_pagelists.specs.Objects.{ClusterSpan, cluster_span, list_len}
-use Rattle.nt_layout.specs.Finished.{list_places, lists_behind, spans, footer_object, file_len}
+use Rattle.nt_layout.specs.Finished.{list_places, footer_object, file_len}
 use Rattle.nt_layout.specs.Laid.{IsBookOf}
-use Rattle.nt_finished.proofs.Spans.{AreInOrder, spans_in_order, order-le}
-use Rattle.nt_close.specs.Passing.{first_passed, passed_by_begin, passed_by_close}
+use Rattle.nt_finished.proofs.Spans.{AreInOrder, order-le}
+use Rattle.nt_close.specs.Passing.{first_passed, passed_by_begin}
 use Rattle.nt_dealing.specs.Dealt.{AreChunksDealt}
-use Rattle.nt_dealing.specs.Texts.{joined_chunks, chunks_of, all_chunks}
+use Rattle.nt_dealing.specs.Texts.{joined_chunks}
 use Rattle.nt_dealing.specs.Lengths.{page_list_len, page_lists_len, group_count, footer_len, whole_len}
-use Rattle.nt_dealing.specs.Limits.{IsKeptOf, AreKeptOf, IsCountedOf, AreCountedOf, IsBlobLen, of_header, of_page_list, of_footer}
+use Rattle.nt_dealing.specs.Limits.{AreKeptOf, AreCountedOf, IsBlobLen, of_header}
 use Rattle.nt_dealing.specs.Limits.{IsOver, range_passed, file_passed}
-use Rattle.nt_store.specs.Laws.{HoldsChunks, PassedAreOver}
-use Rattle.nt_store.proofs.Whole.{BooksAreOf, book_of}
 
 -- what is kept of clusters
-abbrev metas : List (Cluster ClusterMeta) → List ClusterMeta
+abbrev pub metas : List (Cluster ClusterMeta) → List ClusterMeta
 metas cs = map (λ (c : Cluster ClusterMeta). c.meta) cs
 
 -- the laws of lengths and of chunks that were dealt out
@@ -158,7 +154,7 @@ file_named e reached most end file (inl is) named = absurd (cc)
 file_named e reached most end file (inr is) named = (cc, cc)
 
 -- a blob that is written of the chunks, above the limit
-blob_over : (t : Table) (p : Params) (chunks : List (List TreesData)) (reached most len : ℕ) → IsBlobLen t p chunks len
+pub blob_over : (t : Table) (p : Params) (chunks : List (List TreesData)) (reached most len : ℕ) → IsBlobLen t p chunks len
     → p.limits.range < len → (reached ≡ len) × (most ≡ p.limits.range) → IsOver t p chunks reached most
 blob_over t p chunks reached most len blob above (is, limit-is) =
     range_passed (subst (IsBlobLen t p chunks) (sym is) blob) limit-is (omega (arith, above, is, limit-is))
@@ -194,89 +190,10 @@ begun_over longest fields t p rows chunks e reached most passed names =
           let end = ends p.limits (clusters_place t) e rest in
           let named = file_named e reached most (clusters_place t) p.limits.file names end.1 in
           let group = p.group_range.0 in
-          let all = longest fields p.plain t p.page p.group chunks [] chunks [] rows (omega (arith, group)) (IsPermutation-refl chunks) tt in (
+          let all = longest fields p.plain t p.page p.group chunks [] chunks [] rows (omega (arith, group)) (IsPermutation-refl chunks) tt
+          in (
             file_passed all.0 all.1 (omega (arith, named.0, place_within t p.group, all.2)) named.1
                 (omega (arith, end.0, named.0, named.1)),
             inr named.0,
           )
     ]
-
--- what is kept of chunks is counted
-counted : (t : Table) (page : ℕ) (xs : List (List TreesData)) (ms : List ClusterMeta) → AreKeptOf t page xs ms
-    → AllZip (IsCountedOf t page) xs ms
-counted t page [] [] kept = tt
-counted t page [] (m ∷ ms) kept = absurd kept
-counted t page (x ∷ xs) [] kept = absurd kept
-counted t page (x ∷ xs) (m ∷ ms) kept = (inl kept.0, counted t page xs ms kept.1)
-
-module _ (lists : ListsAreAsLong) (footers : FootersAreAsLong) (files : FilesAreAsLong) (dealt_all : DealtAreAll) (books : BooksAreOf) where
-  module _ (fields : List MemberData) (p : Params) (texts : List (List ℕ)) (t : Table) (book : BookData) (ranges : List (List ℕ)) (holds
-      : HoldsChunks fields p texts t book ranges) where
-    abbrev chunks : List (List TreesData)
-    chunks = all_chunks p.cluster fields texts
-
-    all-dealt : IsPermutation holds.are.dealt (joined_chunks (chunks_of p.cluster fields texts)) × AreKeptOf t p.page holds.are.dealt (metas
-        (book_clusters book))
-        × ((ms : List ClusterMeta) × AreKeptOf t p.page (joined_chunks (chunks_of p.cluster fields texts)) ms × (whole_len t p.group ms ≡
-        whole_len t p.group (metas (book_clusters book))))
-    all-dealt = dealt_all t p.page p.group (chunks_of p.cluster fields texts) book ranges holds.are holds.kept
-
-    list_written : (s : ClusterSpan) → s.from + s.count ≤ length (book_clusters book) → s.count ≤ p.group
-        → IsBlobLen t p chunks (list_len (header_sum t) book s)
-    list_written s within few =
-        let dealt = holds.are.dealt in
-        let ms = metas (book_clusters book) in
-        let same : take s.count (drop s.from ms) ≡ metas (take s.count (drop s.from (book_clusters book))) =
-        ap (λ (l : List ClusterMeta). take s.count l) (drop-map (λ (c : Cluster ClusterMeta). c.meta) s.from (book_clusters book))
-        ∙ take-map (λ (c : Cluster ClusterMeta). c.meta) s.count (drop s.from (book_clusters book)) in
-        of_page_list (take s.count (drop s.from dealt)) (take s.from dealt ++ drop s.count (drop s.from dealt)) (take s.count (drop
-        s.from ms))
-        (IsPermutation-trans _ dealt chunks (piece_apart s.from s.count dealt) all-dealt.0)
-        (omega (arith, few, length-take s.count (drop s.from dealt)))
-        (zip_take (IsKeptOf t p.page) s.count (drop s.from dealt) (drop s.from ms) (zip_drop (IsKeptOf t p.page) s.from dealt ms
-        all-dealt.1))
-        (lists (header_sum t) book s within ∙ ap page_list_len (sym same))
-
-    counts : length (book_clusters book) ≡ length chunks
-    counts =
-        let contexts = length-map (book_clusters book) (λ (c : Cluster ClusterMeta). c.context) in
-        omega (arith, length_permutation holds.are.dealt chunks all-dealt.0, holds.are.is_deal.long, contexts)
-
-    footer_written : IsBlobLen t p chunks (blob_len (length (footer_object t book (lists_behind t book p.group))))
-    footer_written = of_footer (footers true t book p.group ∙ ap (λ (n : ℕ). footer_len t (group_count p.group n)) counts)
-
-    closed_over : (e : LimitError) (reached most : ℕ) → passed_by_close p t book ≡ Some e → Names e reached most
-        → IsOver t p chunks reached most
-    closed_over e reached most passed names =
-        let n = length (book_clusters book) in
-        let foot = blob_len (length (footer_object t book (lists_behind t book p.group))) in
-        let some : 0 < p.group = omega (arith, p.group_range.0) in
-        elim (blobs_or (list_len (header_sum t) book) (λ (s : ClusterSpan). s.from + s.count ≤ n) (λ (s : ClusterSpan). s.count ≤
-        p.group) p.limits (spans book p.group) (foot ∷ []) (file_len t book (lists_behind t book p.group)) e
-        (inside 0 n (spans book p.group) (spans_in_order p.group n some)) (small p.group n 0 (div_ceil n p.group)) passed) [
-          | inl list ↦ blob_over t p chunks reached most _ (list_written list.x list.first list.second) list.above (range_named e reached
-              most _ p.limits.range names list.is)
-          | inr rest ↦ elim (blobs_or (λ (m : ℕ). m) (λ (m : ℕ). m ≡ foot) (λ (m : ℕ). Unit {0}) p.limits (foot ∷ []) [] (file_len t book
-              (lists_behind t book p.group)) e (refl, tt) (tt, tt) rest) [
-                | inl blob ↦ blob_over t p chunks reached most blob.x (subst (IsBlobLen t p chunks) (sym blob.first) footer_written)
-                    blob.above (range_named e reached most blob.x p.limits.range names blob.is)
-                | inr last ↦
-                    let end = ends p.limits (file_len t book (lists_behind t book p.group)) e last in
-                    let named = file_named e reached most (file_len t book (lists_behind t book p.group)) p.limits.file names end.1 in
-                    let long = files true t book p.group (book_of books fields p texts t book ranges holds) some in
-                    let ms = metas (book_clusters book) in
-                    file_passed ms
-                    (record {
-                      order = holds.are.dealt;
-                      permuted = all-dealt.0;
-                      counted = counted t p.page holds.are.dealt ms all-dealt.1;
-                    })
-                    (omega (arith, named.0, long)) named.1 (omega (arith, end.0, named.0, named.1))
-              ]
-        ]
-
-  pub closing_over : PassedAreOver
-  closing_over fields p texts t book ranges reached most holds (inl is) =
-      closed_over fields p texts t book ranges holds (limit.RangeTooLarge reached most) reached most is (inl refl)
-  closing_over fields p texts t book ranges reached most holds (inr is) =
-      closed_over fields p texts t book ranges holds (limit.FileTooLarge reached most) reached most is (inr refl)

@@ -58,8 +58,8 @@ pub record EndsWhole (fields : List MemberData) (p : Params) (texts : List (List
   pub file : HoldsNow held (λ h. IsStored p fields texts order h.image)
   pub printed : new ≡ Some (prints ToOut (order_line order) w)
 
--- what comes first in the writing of a file that passes a limit: its header; a chunk as it is committed, before which nothing fails; or, once
--- all chunks of texts without a bad line are committed, what stands behind them
+-- what comes first in the writing of a file that passes a limit: its header; a chunk as it is committed, before which nothing fails; or,
+-- once all chunks of texts without a bad line are committed, what stands behind them
 pub data PassesBy (t : Table) (fields : List MemberData) (p : Params) (texts : List (List ℕ)) (reached most : ℕ) : Type 0 where
   by_header : (reached ≡ blob_len (length (header_object t))) ⊎ (reached ≡ clusters_place t) → PassesBy t fields p texts reached most
   by_chunk : FailsByChunk t fields p texts reached most → PassesBy t fields p texts reached most

@@ -19,9 +19,11 @@ use Rattle.nt_view.specs.declared.table.Table.{Table}
 use Rattle.nt_view.specs.declared.table.Held.{Held}
 use Rattle.nt_view.specs.declared.table.Held.TheVariants.{Zeros, Pages, Sums}
 use Rattle.nt_view.specs.Pages.{bytes_of_page, elements_of_page, elements_of_pages, count_of, Follow, LieInOne, IsSplitIndex}
-use Rattle.nt_view.specs.Loaded.{Loaded, loaded_elements, loaded_kind, loaded_with, elements_with, counts_with, kind_with, pages_with, LieInOnePage, AreLent}
+use Rattle.nt_view.specs.Loaded.{Loaded, loaded_elements, loaded_kind, loaded_with, elements_with, counts_with, kind_with, pages_with}
+use Rattle.nt_view.specs.Loaded.{LieInOnePage, AreLent}
 use Rattle.nt_view.specs.Stores.{cut_up}
-use Rattle.nt_view.specs.Table.{held_at, zeros_held, elements_held, elements_in_table, IsColumnOf, IsThere, IsHeld, IsLent, IsClusterLaid}
+use Rattle.nt_view.specs.Table.{held_at, zeros_held, elements_held, elements_in_table, IsColumnOf, IsHeldThere, IsHeld, IsLent}
+use Rattle.nt_view.specs.Table.{IsClusterLaid}
 use Rattle.nt_view.proofs.InTable.{sums-at}
 use Rattle.nt_view.proofs.Places.{count-more}
 use Rattle.nt_view.proofs.Laid.{no_place}
@@ -42,7 +44,7 @@ elements-of store places sums (Sums s) ms n is zeros =
     ∙ sym (append-nil (elements_with ms)) ∙ ap (λ (m : ℕ). elements_with ms ++ replicate m (plain 0)) (sym zeros)
 
 there-of : (store : List ℕ) (places : List PageAt) (sums : List Buffer) (h : Held) (ms : List (PagePlace × List ℕ))
-    → IsHeld store places sums h ms → IsThere store places sums h
+    → IsHeld store places sums h ms → IsHeldThere store places sums h
 there-of store places sums (Zeros n) ms is = tt
 there-of store places sums (Pages kind begin end count) ms is = record {
   order = is.order;
@@ -154,7 +156,8 @@ part-bytes store a n fits i = ⊎_elim
     (cases_lt i n)
 
 -- the elements of pages are of their type
-pages-in_range : (kind : ColumnType) (store : List ℕ) (ps : List PageAt) → AreBytesOf store → AreElementsOf kind (elements_of_pages kind store ps)
+pages-in_range : (kind : ColumnType) (store : List ℕ) (ps : List PageAt) → AreBytesOf store
+    → AreElementsOf kind (elements_of_pages kind store ps)
 pages-in_range kind store [] fits = λ k d h. absurd (omega (arith, h))
 pages-in_range kind store (p ∷ ps) fits =
     both-are_elements kind (elements_of_page kind store p) (elements_of_pages kind store ps)
@@ -184,5 +187,6 @@ loaded-in_range l seen store pages zeros t same laid is fits all k kind of =
     let elements : elements_in_table store t k ≡ loaded_elements l k = elements-are l store store pages zeros t k refl laid is in
     let there : kind_with (pages_with k pages (cut_up pages store)) ≡ Some kind =
     ap (λ (x : Loaded). loaded_kind x k) is ∙ of in
-    rw (sym elements) (held-in_range store t.places.items t.sums.items (held_at t.columns.items k) (pages_with k pages (cut_up pages store)) kind
+    rw (sym elements) (held-in_range store t.places.items t.sums.items (held_at t.columns.items k)
+    (pages_with k pages (cut_up pages store)) kind
     (laid.held k) (rw same at fits) all there)

@@ -2,7 +2,8 @@
 use Rattle.std.proofs.Common.{◌≡◌, ◌≢◌, ℕ, ◌+◌, ◌-◌, ◌<◌, ◌≤◌, List, [], ◌∷◌, ◌++◌, length, take, drop, map, get_or, refl, sym, ap, ◌∙◌}
 use Rattle.std.proofs.Common.{arith, ⊎_elim}
 use Rattle.std.specs.List.{flat_map, fold, slice_range}
-use Rattle.std.proofs.lemmas.List.{length-map, get_or-map, get_or_past, length-take, ext_get_or, length-drop, length-take-le, get_or-take, map-append}
+use Rattle.std.proofs.lemmas.List.{length-map, get_or-map, get_or_past, length-take, ext_get_or, length-drop, length-take-le, get_or-take}
+use Rattle.std.proofs.lemmas.List.{map-append}
 use Rattle.std.proofs.lemmas.List.{get_or-drop}
 use Rattle.std.proofs.lemmas.Slice.Zip.{firsts-zip, seconds-zip}
 use Rattle.std.proofs.lemmas.Bool.{cases_lt}
@@ -48,7 +49,8 @@ pub length-elements : (kind : ColumnType) (store : List ℕ) (p : PageAt) → le
 length-elements kind store p = length-page_elements kind p.count (bytes_of_page kind store p)
 
 -- pages have as many elements as they say
-pub length-elements_of_pages : (kind : ColumnType) (store : List ℕ) (ps : List PageAt) → length (elements_of_pages kind store ps) ≡ count_of ps
+pub length-elements_of_pages : (kind : ColumnType) (store : List ℕ) (ps : List PageAt) → length (elements_of_pages kind store ps)
+    ≡ count_of ps
 length-elements_of_pages kind store ps =
     length-flat_map (elements_of_page kind store) ps ∙ same ps 0
   where

@@ -10,7 +10,7 @@ use Rattle.nt_view.specs.declared.table.Table.{Table}
 use Rattle.nt_view.specs.declared.table.Held.{Held}
 use Rattle.nt_view.specs.declared.table.Held.TheVariants.{Zeros, Pages, Sums}
 use Rattle.nt_view.specs.Pages.{count_of}
-use Rattle.nt_view.specs.Table.{held_at, elements_held, elements_in_table, IsColumnOf, IsThere}
+use Rattle.nt_view.specs.Table.{held_at, elements_held, elements_in_table, IsColumnOf, IsHeldThere}
 use Rattle.nt_view.proofs.Elements.{length-elements_of_pages}
 
 -- the elements of a column that is held so
@@ -19,7 +19,7 @@ pub held-is : (store : List ℕ) (t : Table) (k : ℕ) (h : Held) → h ≡ held
 held-is store t k h is = ap (λ (x : Held). elements_held store t.places.items t.sums.items x) (sym is)
 
 pub there-is : (store : List ℕ) (t : Table) (k : ℕ) (h : Held) → h ≡ held_at t.columns.items k → IsColumnOf store t k
-    → IsThere store t.places.items t.sums.items h
+    → IsHeldThere store t.places.items t.sums.items h
 there-is store t k h is there = rw is there
 
 -- numbers that were added up are those of their buffer
@@ -37,13 +37,15 @@ sums-in store t k s b is here there =
     held-is store t k (Sums s) is ∙ sums-at t.sums.items s b here (there-is store t k (Sums s) is there)
 
 -- a column has as many elements as its pages
-pub pages-in : (store : List ℕ) (t : Table) (k begin end count : ℕ) (kind : ColumnType) → Pages kind begin end count ≡ held_at t.columns.items k
+pub pages-in : (store : List ℕ) (t : Table) (k begin end count : ℕ) (kind : ColumnType) → Pages kind begin end count
+    ≡ held_at t.columns.items k
     → length (elements_in_table store t k) ≡ count_of (slice_range t.places.items begin end)
 pages-in store t k begin end count kind is =
     ap length (held-is store t k (Pages kind begin end count) is)
     ∙ length-elements_of_pages kind store (slice_range t.places.items begin end)
 
-pub count-in : (store : List ℕ) (t : Table) (k begin end count : ℕ) (kind : ColumnType) → Pages kind begin end count ≡ held_at t.columns.items k
+pub count-in : (store : List ℕ) (t : Table) (k begin end count : ℕ) (kind : ColumnType) → Pages kind begin end count
+    ≡ held_at t.columns.items k
     → IsColumnOf store t k → count ≡ length (elements_in_table store t k)
 count-in store t k begin end count kind is there =
     (there-is store t k (Pages kind begin end count) is there).all ∙ sym (pages-in store t k begin end count kind is)

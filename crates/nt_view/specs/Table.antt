@@ -1,5 +1,6 @@
 -- Where the elements of each column lie: in pages of the store, in numbers that were added up, or nowhere, where they are zeros.
-use Rattle.std.specs.Prelude.{ℕ, ◌≡◌, ◌+◌, ◌^◌, ◌<◌, ◌≤◌, List, [], ◌∷◌, ◌++◌, length, take, drop, map, slice_index_or, replicate, All, Some}
+use Rattle.std.specs.Prelude.{ℕ, ◌≡◌, ◌+◌, ◌^◌, ◌<◌, ◌≤◌, List, [], ◌∷◌, ◌++◌, length, take, drop, map, slice_index_or, replicate, All}
+use Rattle.std.specs.Prelude.{Some}
 use Rattle.std.specs.List.{slice_range, sum_by, zip}
 use Rattle.nt_types.specs.declared.column_type.ColumnType.{ColumnType}
 use Rattle.nt_types.specs.ColumnTable.{bits_of}
@@ -151,14 +152,14 @@ pub record ArePagesHeld (store : List ℕ) (places : List PageAt) (kind : Column
   pub all : count ≡ count_of (slice_range places begin end)
 
 -- what is held of a column is there
-abbrev pub IsThere : List ℕ → List PageAt → List Buffer → Held → Type 0
-IsThere store places sums (Zeros n) = Unit {0}
-IsThere store places sums (Pages kind begin end count) = ArePagesHeld store places kind begin end count
-IsThere store places sums (Sums s) = s < length sums
+abbrev pub IsHeldThere : List ℕ → List PageAt → List Buffer → Held → Type 0
+IsHeldThere store places sums (Zeros n) = Unit {0}
+IsHeldThere store places sums (Pages kind begin end count) = ArePagesHeld store places kind begin end count
+IsHeldThere store places sums (Sums s) = s < length sums
 
 -- what a table holds of a column, over this store
 abbrev pub IsColumnOf : List ℕ → Table → ℕ → Type 0
-IsColumnOf store t k = IsThere store t.places.items t.sums.items (held_at t.columns.items k)
+IsColumnOf store t k = IsHeldThere store t.places.items t.sums.items (held_at t.columns.items k)
 
 -- and its elements
 abbrev pub elements_in_table : List ℕ → Table → ℕ → List Element

@@ -6,7 +6,8 @@ use Rattle.nt_close.proofs.NewBooks.{new-ungrouped}
 use Rattle.nt_contexts.specs.declared.error.RunError.TheVariants.{Memory}
 use Rattle.nt_contexts.specs.Contexts.{IsReady, RunsContexts}
 use Rattle.nt_contexts.specs.Seating.{MayWork}
-use Rattle.nt_contexts.proofs.Told.{newly, born-for, born-firsts, runs, runs-given, runs-nothing}
+use Rattle.nt_contexts.proofs.Told.{runs, runs-nothing}
+use Rattle.nt_contexts.proofs.Opened.{newly, born-for, born-firsts, runs-given}
 use Rattle.nt_contexts.proofs.run.run_contexts.Goals as goal
 
 pub new-requires : goal.new-requires

@@ -4,7 +4,7 @@ use Rattle.nt_types.specs.Views.{members_view}
 use Rattle.nt_event.specs.Limits.{max_number}
 use Rattle.nt_contexts.specs.Reading.{left_of}
 use Rattle.nt_contexts.specs.Running.{GoesOn, HasAll, ReadsLine}
-use Rattle.nt_contexts.proofs.Lines.{begun, ended_rest, ended_line, still_for}
+use Rattle.nt_contexts.proofs.LinesTaken.{begun, ended_rest, ended_line, still_for}
 use Rattle.nt_contexts.proofs.running.read_all.Goals as goal
 
 pub loop-count-init : goal.loop-count-init

@@ -1,6 +1,6 @@
 use Rattle.std.proofs.Common.{◌<◌, ◌≤◌, ◌∙◌, sym, refl, length, arith}
 use Rattle.nt_fill.specs.Context.{gathered}
-use Rattle.nt_contexts.proofs.Lines.{rest_none, rest_written}
+use Rattle.nt_contexts.proofs.LinesTaken.{rest_none, rest_written}
 use Rattle.nt_contexts.proofs.running.write_rest.Goals as goal
 
 pub returns-then-gathered-eq0 : goal.returns-then-gathered-eq0

@@ -1,5 +1,5 @@
 use Rattle.nt_dealing.specs.Texts.{chunks_of}
-use Rattle.nt_dealing.proofs.Committed.{next_passes_all}
+use Rattle.nt_dealing.proofs.CommittedLimits.{next_passes_all}
 use Rattle.nt_dealing.proofs.limits.next_chunks_pass_limits_of_all.Goals as goal
 
 pub returns : goal.returns

@@ -17,7 +17,8 @@ load_over-requires g c = record {
 
 pub returns-in-Err-clause-read : goal.returns-in-Err-clause-read
 returns-in-Err-clause-read g c told is =
-    columns-failed (λ (x : Loaded). columns_of_loaded 0 (length c.args.schema.now.columns) x) told c.args.number c.args.cluster.now c.args.schema.now (listing_view c.in_ok-listing.listing)
+    columns-failed (λ (x : Loaded). columns_of_loaded 0 (length c.args.schema.now.columns) x) told c.args.number c.args.cluster.now
+    c.args.schema.now (listing_view c.in_ok-listing.listing)
     c.deref.result.now c.deref-in-Err.result.now c.deref-2.result.now c.in-Err.fault c.load_failure.result
     c.in_ok-listing.ensures c.deref.ensures.value c.deref-2.ensures.value c.deref-in-Err.ensures.value
     (c.in-Err.ensures.read told is) c.load_failure.ensures.told

@@ -38,7 +38,8 @@ returns-in-Err g c =
     let disk = g.D.Disk.state c.args.disk in
     let left = c.in-Err.ensures.refused in
     rw c.from.ensures (record {
-      why = λ ts tell. begin_why c.whole_files_are_longest.ensures.chunks (BookData × Table) c.in-Err.error _ c.args.settings.now.params.now ts disk _ left;
+      why = λ ts tell. begin_why c.whole_files_are_longest.ensures.chunks (BookData × Table) c.in-Err.error _
+          c.args.settings.now.params.now ts disk _ left;
       left = λ ts tell held. begin_leaves c.in-Err.error _ c.args.settings.now.params.now ts disk _ left held;
       may_close = tt;
       order = λ held. begin_order c.in-Err.error _ c.args.settings.now.params.now disk _ left held;

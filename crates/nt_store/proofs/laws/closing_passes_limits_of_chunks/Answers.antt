@@ -1,4 +1,4 @@
-use Rattle.nt_store.proofs.Passing.{closing_over}
+use Rattle.nt_store.proofs.Counted.{closing_over}
 use Rattle.nt_store.proofs.laws.closing_passes_limits_of_chunks.Goals as goal
 
 pub returns : goal.returns

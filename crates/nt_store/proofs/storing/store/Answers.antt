@@ -2,7 +2,8 @@ use Rattle.std.proofs.Common.{◌∙◌, map, arith}
 use Rattle.std.proofs.lemmas.Result.{err_from_is_err_and}
 use Rattle.nt_outside.specs.World.{creates}
 use Rattle.nt_store.proofs.Opening.{map_length}
-use Rattle.nt_store.proofs.Ends.{out_told, back_in_order, nothing_made, refused_told, schema_told, refusal_is, refused_outside}
+use Rattle.nt_store.proofs.Ends.{out_told, back_in_order}
+use Rattle.nt_store.proofs.Refused.{nothing_made, refused_told, schema_told, refusal_is, refused_outside}
 use Rattle.nt_store.proofs.Asking.{schema_asked, texts_asked, all_asked, disk_refused, texts_told, texts_counted, cause_back, cause_first}
 use Rattle.nt_store.proofs.Asking.{cause_next}
 use Rattle.nt_store.proofs.Crashed.{none_left, back_safe}

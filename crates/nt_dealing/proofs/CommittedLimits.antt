@@ -1,0 +1,184 @@
+-- Which limits the chunks of a history pass.
+use Rattle.std.proofs.Common.{◌≡◌, ◌∙◌, ap, sym, refl, subst, ℕ, ◌+◌, ◌-◌, ◌<◌, ◌≤◌, List, [], ◌∷◌}
+use Rattle.std.proofs.Common.{◌++◌, length, map, Some, None, append_assoc, sum_by, arith}
+use Rattle.std.specs.Prelude.{IsPermutation, slice_get, slice_index_or}
+use Rattle.std.proofs.lemmas.List.{length-append}
+use Rattle.std.proofs.lemmas.List.Sums.{sum_by-cons, sum_by-append}
+use Rattle.std.proofs.lemmas.List.Sorted.{IsPermutation-sym, IsPermutation-trans, IsPermutation-middle, IsPermutation-append_right}
+use Rattle.std.proofs.lemmas.List.Sorted.{length_permutation}
+use Rattle.std.proofs.lemmas.Slice.Zip.{AllZip-long}
+use mathlib.Core.List.{IsPrefix}
+use Rattle.nt_turn.specs.Pass.{PassState, Closes}
+use Rattle.nt_turn.proofs.Prefixes.{prefix_more}
+use Rattle.nt_types.specs.ShapeData.{MemberData}
+use Rattle.nt_types.specs.TreeData.{TreesData}
+use Rattle.nt_grammar.specs.Table.{Table}
+use Rattle.nt_grammar.specs.Rows.{Rows}
+use Rattle.nt_container.specs.Lengths.{anchor_part_len, key_list_part_len, free_list_part_len}
+use Rattle.nt_outside.specs.Disk.{DiskState}
+use Rattle.nt_machine.specs.declared.entry.Entry.{Entry}
+use Rattle.nt_machine.specs.History.{Cluster, mine_of, ranges_of}
+use Rattle.nt_machine.specs.Legal.{end_after}
+use Rattle.nt_machine.proofs.Histories.{own}
+use Rattle.nt_book.specs.declared.meta.ClusterMeta.{ClusterMeta}
+use Rattle.nt_book.specs.declared.params.Params.{Params}
+use Rattle.nt_book.specs.declared.limits.Limits.{Limits}
+use Rattle.nt_book.specs.declared.limits.LimitError.{LimitError}
+use Rattle.nt_book.specs.Books.{BookData}
+use Rattle.nt_commit.specs.declared.locked.Birth.{Birth}
+use Rattle.nt_commit.proofs.Ungrouped.{limit-ungrouped}
+use Rattle.nt_commit.specs.Locked.{book_of_birth, birth_of, context_of, history_of_locked, locked_by}
+use Rattle.nt_pages.specs.Image.{image}
+use Rattle.nt_pages.specs.Metas.{cluster_meta}
+use Rattle.nt_layout.specs.Headers.{clusters_place}
+use Rattle.nt_dealing.specs.Lengths.{page_lists_len, footer_len, group_count, whole_len}
+use Rattle.nt_dealing.specs.Texts.{joined_chunks}
+use Rattle.nt_dealing.specs.Written.{HaveCommitted}
+use Rattle.nt_dealing.specs.Limits.{IsKeptOf, of_chunk, IsOver, range_passed, file_passed, too_many, IsOverBy}
+use Rattle.nt_dealing.specs.Limits.{NextPasses}
+use Rattle.nt_dealing.specs.Failing.{chunk_too_long, chunk_too_far, chunk_too_many, ChunkPassesBy}
+use Rattle.nt_dealing.proofs.Takings.{Place, place_of_all, contained, get-drop}
+use Rattle.nt_dealing.proofs.Longest.{longest}
+use Rattle.nt_dealing.proofs.Fronts.{Taken, taken, fronts_before, fewer_before}
+use Rattle.nt_dealing.proofs.Committed.{IsRangeOf, kept_are, lens_are, kept_more, by_limit, begins_whole, own_kept, IsFront, each_front}
+
+module _ (fields : List MemberData) (t : Table) (p : Params) (rows : Rows fields p.plain t) (chunks : List (List (List TreesData)))
+    (history : List (Entry ClusterMeta)) (begun : BookData) (none : begun.group ≡ None)
+    (same : begun.limits ≡ p.limits) (begins : begun.begin ≡ clusters_place t)
+    (each : (i : ℕ) → IsFront t p.page history chunks i) where
+  abbrev limits : Limits
+  limits = begun.limits
+
+  abbrev begin : ℕ
+  begin = begun.begin
+
+  passes_all : (i : ℕ) (seen : List (Entry ClusterMeta)) (error : LimitError) → IsPrefix seen history
+      → (next : NextPasses begun t p.page (slice_index_or chunks i []) (mine_of history i) seen error)
+      → IsOverBy t p (joined_chunks chunks) error × ChunkPassesBy t p next.chunk error
+  passes_all i seen error first n =
+      by_limit (λ e. IsOverBy t p (joined_chunks chunks) e × ChunkPassesBy t p n.chunk e) limits (end_after begin cs) (length cs)
+      (length (image p.page n.columns)) error
+      (sym (limit-ungrouped (record begun { history = n.history }) n.place (length (image p.page n.columns)) none) ∙ n.passed)
+      (λ less. (range less, chunk_too_long meta kept refl (ap (λ (l : Limits). l.range) same)))
+      (λ less. (file less, chunk_too_far meta kept (omega (arith, begins)) (ap (λ (l : Limits). l.file) same)))
+      (λ full. (clusters full, chunk_too_many refl refl))
+    where
+      cs : List (Cluster ClusterMeta)
+      cs = ranges_of n.history
+
+      before : IsPrefix n.history history
+      before = subst (λ (l : List (Entry ClusterMeta)). IsPrefix n.history l) first.1 (prefix_more n.history seen first.0 n.before)
+
+      meta : ClusterMeta
+      meta = cluster_meta p.page 0 (length n.chunk) n.columns
+
+      taken_all : Taken (IsRangeOf t p.page) chunks cs
+      taken_all =
+          taken (IsRangeOf t p.page) cs chunks
+          (fronts_before (IsRangeOf t p.page) (λ x state c h. record { kept = h.kept; len = h.len }) chunks history n.history before each)
+
+      kept : IsKeptOf t p.page n.chunk meta
+      kept = record { columns = n.columns; gives = n.gives; meta_is = refl }
+
+      place : Place (joined_chunks taken_all.left) n.chunk
+      place =
+          let k = length (own cs i) in
+          let all = length (ranges_of (mine_of history i)) in
+          let mine : List (List TreesData) = slice_index_or chunks i [] in
+          let fewer = fewer_before history n.history i before in
+          let up : k + (all - k) ≡ all = omega (arith, fewer) in
+          place_of_all i (all - k) taken_all.left n.chunk
+          (ap (λ (l : List (List TreesData)). slice_get l (all - k)) (taken_all.rest i)
+          ∙ (get-drop k (all - k) mine ∙ (ap (λ (m : ℕ). slice_get mine m) up ∙ n.at)))
+
+      some : List (List TreesData)
+      some = taken_all.some ++ n.chunk ∷ []
+
+      others : List (List TreesData)
+      others = place.front ++ place.back
+
+      permuted : IsPermutation (some ++ others) (joined_chunks chunks)
+      permuted =
+          subst (λ (l : List (List TreesData)). IsPermutation l (joined_chunks chunks))
+          (sym (append_assoc taken_all.some (n.chunk ∷ []) others))
+          (IsPermutation-trans (taken_all.some ++ n.chunk ∷ others) (taken_all.some ++ (place.front ++ n.chunk ∷ place.back))
+          (joined_chunks chunks)
+          (IsPermutation-append_right taken_all.some (n.chunk ∷ others) (place.front ++ n.chunk ∷ place.back)
+          (IsPermutation-sym (place.front ++ n.chunk ∷ place.back) (n.chunk ∷ others)
+          (IsPermutation-middle place.front n.chunk place.back)))
+          (subst (λ (l : List (List TreesData)). IsPermutation (taken_all.some ++ l) (joined_chunks chunks)) place.whole
+          taken_all.permuted))
+
+      metas : List ClusterMeta
+      metas = map (λ (c : Cluster ClusterMeta). c.meta) cs
+
+      range : limits.range < length (image p.page n.columns)
+          → IsOver t p (joined_chunks chunks) (length (image p.page n.columns)) limits.range
+      range less =
+          let at = place_of_all i (length (ranges_of (mine_of history i))) chunks n.chunk n.at in
+          range_passed (of_chunk n.chunk meta (contained (joined_chunks chunks) n.chunk at) kept refl)
+          (ap (λ (l : Limits). l.range) same) less
+
+      within : end_after begin cs + length (image p.page n.columns) ≤ whole_len t p.group (metas ++ meta ∷ [])
+      within =
+          let ms : List ClusterMeta = metas ++ meta ∷ [] in
+          let len : ClusterMeta → ℕ = λ (m : ClusterMeta). m.len in
+          let reached = end_after begin cs + length (image p.page n.columns) in
+          let sums : reached ≡ clusters_place t + sum_by len ms =
+          omega (
+            arith,
+            begins,
+            sum_by-append len metas (meta ∷ []),
+            sum_by-cons len meta [],
+            lens_are t p.page taken_all.some cs taken_all.pairs,
+          ) in
+          begins_whole reached (clusters_place t) (sum_by len ms) (page_lists_len p.group ms)
+          (footer_len t (group_count p.group (length ms)))
+          (anchor_part_len + key_list_part_len + free_list_part_len) sums
+
+      file : limits.file < end_after begin cs + length (image p.page n.columns)
+          → IsOver t p (joined_chunks chunks) (end_after begin cs + length (image p.page n.columns)) limits.file
+      file less =
+          let count = p.group_range.0 in
+          let all = longest fields p.plain t rows p.page p.group some others (metas ++ meta ∷ []) (omega (arith, count))
+          (kept_more t p.page taken_all.some metas n.chunk meta (kept_are t p.page taken_all.some cs taken_all.pairs) kept) in
+          file_passed all.0 (record { order = some ++ others; permuted = permuted; counted = all.1 }) (omega (arith, within, all.2))
+          (ap (λ (l : Limits). l.file) same) less
+
+      clusters : length cs ≡ limits.clusters → IsOver t p (joined_chunks chunks) (p.limits.clusters + 1) p.limits.clusters
+      clusters full =
+          let count : limits.clusters ≡ p.limits.clusters = ap (λ (l : Limits). l.clusters) same in
+          too_many refl refl
+          (omega (
+            arith,
+            count,
+            full,
+            length_permutation (some ++ others) (joined_chunks chunks) permuted,
+            length-append some others,
+            length-append taken_all.some (n.chunk ∷ []),
+            AllZip-long (IsRangeOf t p.page) taken_all.some cs taken_all.pairs,
+          ))
+
+module _ {D : Type 0} (state : D → DiskState) where
+  pub next_passes_all : (birth : Birth D) (disk : D) (book : BookData) (first : PassState (Entry ClusterMeta) (Birth D))
+      (fields : List MemberData) (t : Table) (p : Params) (rows : Rows fields p.plain t) (chunks : List (List (List TreesData))) (i : ℕ)
+      (own seen : List (Entry ClusterMeta)) (error : LimitError)
+      → Closes (history_of_locked state) birth_of context_of first (locked_by birth disk book) → birth.group ≡ None
+      → birth.limits ≡ p.limits
+      → (state birth.begun).end ≡ clusters_place t → HaveCommitted t p.page chunks first.number first.own first.kept
+      → slice_get first.kept i ≡ Some (i, own) → IsPrefix seen first.seen
+      → (next : NextPasses (book_of_birth state birth []) t p.page (slice_index_or chunks i []) own seen error)
+      → IsOverBy t p (joined_chunks chunks) error × ChunkPassesBy t p next.chunk error
+  next_passes_all birth disk book first fields t p rows chunks i own seen error closes none same begins have at before next =
+      let history : List (Entry ClusterMeta) = history_of_locked state (locked_by birth disk book) in
+      let mine : own ≡ mine_of history i = own_kept t p.page history first.kept i i own closes.kept at in
+      let begun : IsPrefix seen history =
+      subst (λ (l : List (Entry ClusterMeta)). IsPrefix seen l) closes.seen.1 (prefix_more seen first.seen closes.seen.0 before) in
+      subst
+      (λ (l : List (Entry ClusterMeta)). (x : NextPasses (book_of_birth state birth []) t p.page (slice_index_or chunks i []) l seen
+      error)
+      → IsOverBy t p (joined_chunks chunks) error × ChunkPassesBy t p x.chunk error)
+      (sym mine)
+      (passes_all fields t p rows chunks history (book_of_birth state birth []) none same begins
+      (each_front t p.page history chunks first.number first.own first.kept have closes.kept closes.own closes.others) i seen error begun)
+      next
