@@ -28,6 +28,10 @@ pub on_done : {E P : Type 0} (r : Result (Unit {0}) E) → is_ok r ≡ true → 
 on_done (Ok done) is h = h
 on_done (Err e) is h = absurd (false≢true is)
 
+pub on_passed : {E P : Type 0} (r : Result (Unit {0}) E) → false ≡ is_err r → OnOk r P → P
+on_passed (Ok done) is h = h
+on_passed (Err e) is h = absurd (false≢true is)
+
 pub on_failed : {E P : Type 0} (r : Result (Unit {0}) E) → true ≡ is_err r → OnErr r P → P
 on_failed (Ok done) is h = absurd (false≢true (sym is))
 on_failed (Err e) is h = h

@@ -1,12 +1,13 @@
 -- The page list that is due and the cluster behind it, as they are appended while the turn is held.
-use Rattle.std.specs.Prelude.{◌≡◌, ℕ, ◌+◌, ◌≤◌, false, List, [], ◌∷◌, ◌++◌, length, replicate, if◌then◌else◌, None, Result, Ok, Err, OnOk}
+use Rattle.std.specs.Prelude.{◌≡◌, ℕ, ◌+◌, ◌<◌, ◌≤◌, true, false, List, [], ◌∷◌, ◌++◌, length, replicate, if◌then◌else◌, None, Result, Ok, Err, OnOk}
 use Rattle.nt_outside.specs.Range.{ExtState}
 use Rattle.nt_outside.specs.Disk.{DiskState}
 use Rattle.nt_outside.specs.Faults.{Rose}
 use Rattle.nt_container.specs.Lengths.{blob_key_len}
 use Rattle.nt_machine.specs.declared.entry.Entry.{Entry}
 use Rattle.nt_book.specs.declared.meta.ClusterMeta.{ClusterMeta}
-use Rattle.nt_book.specs.Books.{BookData, book_end, is_due}
+use Rattle.nt_book.specs.Books.{BookData, book_clusters, book_end, is_due}
+use Rattle.nt_book.specs.Limiting.{limit_error}
 use Rattle.nt_book.specs.Entries.{faulted_entry}
 use Rattle.nt_pagelists.specs.Due.{due_object}
 use Rattle.nt_commit.specs.declared.claim.Claim.{Claim}
@@ -19,6 +20,23 @@ use Rattle.nt_commit.specs.Locked.{LockedState}
 -- the page list that is due behind room for its key; nothing where none is due
 abbrev pub due_bytes : BookData → List ℕ
 due_bytes book = if is_due book then replicate blob_key_len 0 ++ due_object book else []
+
+-- the page list that is due, behind room for its key
+pub record IsDueList (book : BookData) (list : List ℕ) : Type 0 where
+  pub due : is_due book ≡ true
+  pub is : list ≡ replicate blob_key_len 0 ++ due_object book
+
+-- a page list of so many bytes keeps the limits of a book, which has room for it
+pub record FitsList (book : BookData) (len : ℕ) : Type 0 where
+  pub short : len ≤ book.limits.range
+  pub within : book_end book + len ≤ book.limits.file
+  pub spare : 0 < book.spare
+
+-- a cluster of so many bytes keeps the limits of a book, which has room for it and is due no page list
+pub record FitsCluster (book : BookData) (len : ℕ) : Type 0 where
+  pub limits : limit_error book.limits (book_end book) (length (book_clusters book)) len ≡ None
+  pub spare : 0 < book.spare
+  pub not_due : is_due book ≡ false
 
 -- the page list that was due is noted behind the ranges, and so none is due
 pub record IsListNoted (old new : BookData) : Type 0 where

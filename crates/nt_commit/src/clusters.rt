@@ -3,7 +3,7 @@
 ghost use Rattle.std.specs.Prelude.{◌≡◌, ◌<◌, ◌≤◌, [], false, length, None, if◌then◌else◌, is_ok, OnOk, OnErr};
 ghost use Rattle.nt_book.specs.Books.{book_clusters, book_end, is_due};
 ghost use Rattle.nt_book.specs.Limiting.{limit_error};
-ghost use Rattle.nt_commit.specs.Appending.{AppendsCluster};
+ghost use Rattle.nt_commit.specs.Appending.{AppendsCluster, FitsCluster};
 ghost use Rattle.nt_commit.specs.Holds.{IsCommittable, IsLater, Commits};
 
 use crate::claim::Claim;
@@ -30,10 +30,7 @@ impl<D: Disk> Locked<D> {
     /// the disk is entered too.
     fn append_cluster(&mut self, meta: &mut ClusterMeta) -> Result<Claim<D::Ext>, CommitError>
         requires meta { IsCommittable self.old.birth.columns self.old.birth.contexts meta.old }
-        requires limits { limit_error self.old.book.limits (book_end self.old.book)
-            (length (book_clusters self.old.book)) meta.old.len ≡ None }
-        requires spare { 0 < self.old.book.spare }
-        requires not_due { is_due self.old.book ≡ false }
+        requires fits { FitsCluster self.old.book meta.old.len }
         ensures step { IsLater D.state self.old self.new }
         ensures appends { AppendsCluster D.state D.Ext.state meta.old self.old self.new result }
         ensures meta { meta.new ≡ (if is_ok result then record meta.old { pages = [] } else meta.old) }

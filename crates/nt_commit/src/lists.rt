@@ -5,7 +5,7 @@ ghost use Rattle.nt_container.specs.Lengths.{blob_key_len, most_place};
 ghost use Rattle.nt_book.specs.Books.{book_end, is_due};
 ghost use Rattle.nt_pagelists.specs.Blobs.{blob};
 ghost use Rattle.nt_pagelists.specs.Due.{due_object};
-ghost use Rattle.nt_commit.specs.Appending.{AppendsList, due_bytes};
+ghost use Rattle.nt_commit.specs.Appending.{AppendsList, FitsList, IsDueList, due_bytes};
 ghost use Rattle.nt_commit.specs.Holds.{IsLater};
 
 use crate::error::CommitError;
@@ -68,11 +68,8 @@ impl<D: Disk> Locked<D> {
     /// disk fails the book is torn there, and the fault is entered.
     fn append_list(&mut self, context: u32, list: Vec<u8>) -> Result<(), CommitError>
         requires context { context ≤ self.old.birth.contexts }
-        requires due { is_due self.old.book ≡ true }
-        requires list { list.items ≡ replicate blob_key_len 0 ++ due_object self.old.book }
-        requires short { length list.items ≤ self.old.book.limits.range }
-        requires fits { book_end self.old.book + length list.items ≤ self.old.book.limits.file }
-        requires spare { 0 < self.old.book.spare }
+        requires list { IsDueList self.old.book list.items }
+        requires fits { FitsList self.old.book (length list.items) }
         ensures step { IsLater D.state self.old self.new }
         ensures appends { AppendsList D.state context self.old self.new result }
     {
@@ -101,9 +98,7 @@ impl<D: Disk> Locked<D> {
     pub(crate) fn append_due(&mut self, context: u32, list: Vec<u8>) -> Result<(), CommitError>
         requires context { context ≤ self.old.birth.contexts }
         requires list { list.items ≡ due_bytes self.old.book }
-        requires short { length list.items ≤ self.old.book.limits.range }
-        requires fits { book_end self.old.book + length list.items ≤ self.old.book.limits.file }
-        requires spare { 0 < self.old.book.spare }
+        requires fits { FitsList self.old.book (length list.items) }
         ensures step { IsLater D.state self.old self.new }
         ensures appends { AppendsList D.state context self.old self.new result }
     {

@@ -9,14 +9,14 @@ pub reserve-requires : goal.reserve-requires
 reserve-requires g c =
     range_fits g.D.Disk.state _ _ _ _ c.self.invariant c.args.meta.now.len
     (subst (λ v. limit_error v.book.limits (book_end v.book) (length (book_clusters v.book)) c.args.meta.now.len ≡ None)
-    (sym c.self.view_is) c.requires.limits)
+    (sym c.self.view_is) c.requires.fits.limits)
 
 pub append-cluster-requires : goal.append-cluster-requires
 append-cluster-requires g c = record {
   limits = subst (λ v. limit_error v.book.limits (book_end v.book) (length (book_clusters v.book)) c.args.meta.now.len ≡ None)
-      (sym c.self.view_is) c.requires.limits;
-  spare = subst (λ v. 0 < v.book.spare) (sym c.self.view_is) c.requires.spare;
-  not_due = subst (λ v. is_due v.book ≡ false) (sym c.self.view_is) c.requires.not_due;
+      (sym c.self.view_is) c.requires.fits.limits;
+  spare = subst (λ v. 0 < v.book.spare) (sym c.self.view_is) c.requires.fits.spare;
+  not_due = subst (λ v. is_due v.book ≡ false) (sym c.self.view_is) c.requires.fits.not_due;
   lists = search rules;
   paged = search rules;
 }
@@ -27,7 +27,7 @@ invariant_of-self g c =
     let context : c.args.meta.now.context ≤ c.self.inside.contexts =
     omega (arith, ap (λ v. v.birth.contexts) c.self.view_is, c.requires.meta.context) in
     let limits = subst (λ v. limit_error v.book.limits (book_end v.book) (length (book_clusters v.book)) c.args.meta.now.len ≡ None)
-    (sym c.self.view_is) c.requires.limits in
+    (sym c.self.view_is) c.requires.fits.limits in
     (committed g.D.Disk.state _ _ _ _ c.self.invariant _ _ c.keeps.ensures c.append-cluster.result _ c.args.meta.now
     c.append-cluster.ensures.book c.append-cluster.ensures.number c.append-cluster.ensures.allowed.1 limits
     context c.requires.meta.room reserved.ok reserved.end reserved.out reserved.cause.later).0.after
@@ -52,7 +52,7 @@ returns-in-Ok-clause-step g c =
     let context : c.args.meta.now.context ≤ c.self.inside.contexts =
     omega (arith, ap (λ v. v.birth.contexts) c.self.view_is, c.requires.meta.context) in
     let limits = subst (λ v. limit_error v.book.limits (book_end v.book) (length (book_clusters v.book)) c.args.meta.now.len ≡ None)
-    (sym c.self.view_is) c.requires.limits in
+    (sym c.self.view_is) c.requires.fits.limits in
     step_from g.D.Disk.state _ _ _ c.self.view_is
     (committed g.D.Disk.state _ _ _ _ c.self.invariant _ _ c.keeps.ensures c.append-cluster.result _ c.args.meta.now
     c.append-cluster.ensures.book c.append-cluster.ensures.number c.append-cluster.ensures.allowed.1 limits
@@ -64,7 +64,7 @@ returns-in-Ok-clause-appends g c =
     let context : c.args.meta.now.context ≤ c.self.inside.contexts =
     omega (arith, ap (λ v. v.birth.contexts) c.self.view_is, c.requires.meta.context) in
     let limits = subst (λ v. limit_error v.book.limits (book_end v.book) (length (book_clusters v.book)) c.args.meta.now.len ≡ None)
-    (sym c.self.view_is) c.requires.limits in
+    (sym c.self.view_is) c.requires.fits.limits in
     appends_from g.D.Disk.state _ _ _ c.self.view_is g.D.Ext.Ext.state c.args.meta.now _ (record {
       added = _;
       grows = (committed g.D.Disk.state _ _ _ _ c.self.invariant _ _ c.keeps.ensures c.append-cluster.result _ c.args.meta.now

@@ -13,10 +13,10 @@ use Rattle.nt_commit.proofs.locked.Locked.append_list.Goals as goal
 
 pub append-requires-clause-sum : goal.append-requires-clause-sum
 append-requires-clause-sum g c =
-    let fits = subst (λ v. book_end v.book + length c.args.list.items ≤ v.book.limits.file) (sym c.self.view_is) c.requires.fits in
-    let items = subst (λ v. c.args.list.items ≡ replicate blob_key_len 0 ++ due_object v.book) (sym c.self.view_is) c.requires.list in
+    let fits = subst (λ v. book_end v.book + length c.args.list.items ≤ v.book.limits.file) (sym c.self.view_is) c.requires.fits.within in
+    let items = subst (λ v. c.args.list.items ≡ replicate blob_key_len 0 ++ due_object v.book) (sym c.self.view_is) c.requires.list.is in
     let counted : c.len-len.result ≡ length c.args.list.items = omega (arith, c.len-len.ensures, c.args.list.ok) in
-    let due = subst (λ v. is_due v.book ≡ true) (sym c.self.view_is) c.requires.due in
+    let due = subst (λ v. is_due v.book ≡ true) (sym c.self.view_is) c.requires.list.due in
     let long = bytes_long g.D.Disk.state _ _ _ _ c.self.invariant c.keeps.ensures c.args.context c.args.list.items items due
     c.end-start.result c.len-len.result c.end-start.ensures counted c.as_slice.result.now (c.as_slice.ensures ∙ c.blob_at-blob.ensures)
     (g.D.Disk.state c.room.new.self) c.room.ensures.held c.room.ensures.end c.room.ensures.out c.room.ensures.faults in
@@ -32,9 +32,9 @@ append-requires-clause-sum g c =
 
 pub append-requires-clause-spare : goal.append-requires-clause-spare
 append-requires-clause-spare g c =
-    let items = subst (λ v. c.args.list.items ≡ replicate blob_key_len 0 ++ due_object v.book) (sym c.self.view_is) c.requires.list in
+    let items = subst (λ v. c.args.list.items ≡ replicate blob_key_len 0 ++ due_object v.book) (sym c.self.view_is) c.requires.list.is in
     let counted : c.len-len.result ≡ length c.args.list.items = omega (arith, c.len-len.ensures, c.args.list.ok) in
-    let due = subst (λ v. is_due v.book ≡ true) (sym c.self.view_is) c.requires.due in
+    let due = subst (λ v. is_due v.book ≡ true) (sym c.self.view_is) c.requires.list.due in
     let long = bytes_long g.D.Disk.state _ _ _ _ c.self.invariant c.keeps.ensures c.args.context c.args.list.items items due
     c.end-start.result c.len-len.result c.end-start.ensures counted c.as_slice.result.now (c.as_slice.ensures ∙ c.blob_at-blob.ensures)
     (g.D.Disk.state c.room.new.self) c.room.ensures.held c.room.ensures.end c.room.ensures.out c.room.ensures.faults in
@@ -46,9 +46,9 @@ append-requires-clause-spare g c =
 
 pub invariant_of-self-in-Ok : goal.invariant_of-self-in-Ok
 invariant_of-self-in-Ok g c =
-    let items = subst (λ v. c.args.list.items ≡ replicate blob_key_len 0 ++ due_object v.book) (sym c.self.view_is) c.requires.list in
+    let items = subst (λ v. c.args.list.items ≡ replicate blob_key_len 0 ++ due_object v.book) (sym c.self.view_is) c.requires.list.is in
     let counted : c.len-len.result ≡ length c.args.list.items = omega (arith, c.len-len.ensures, c.args.list.ok) in
-    let due = subst (λ v. is_due v.book ≡ true) (sym c.self.view_is) c.requires.due in
+    let due = subst (λ v. is_due v.book ≡ true) (sym c.self.view_is) c.requires.list.due in
     let done = list_appended g.D.Disk.state _ _ _ _ c.self.invariant c.keeps.ensures c.args.context c.args.list.items items due
     c.end-start.result c.len-len.result c.end-start.ensures counted c.as_slice.result.now (c.as_slice.ensures ∙ c.blob_at-blob.ensures)
     (g.D.Disk.state c.room.new.self) c.room.ensures.held c.room.ensures.end c.room.ensures.out c.room.ensures.faults
@@ -61,9 +61,9 @@ invariant_of-self-in-Ok g c =
 
 pub returns-in-Ok-clause-step : goal.returns-in-Ok-clause-step
 returns-in-Ok-clause-step g c =
-    let items = subst (λ v. c.args.list.items ≡ replicate blob_key_len 0 ++ due_object v.book) (sym c.self.view_is) c.requires.list in
+    let items = subst (λ v. c.args.list.items ≡ replicate blob_key_len 0 ++ due_object v.book) (sym c.self.view_is) c.requires.list.is in
     let counted : c.len-len.result ≡ length c.args.list.items = omega (arith, c.len-len.ensures, c.args.list.ok) in
-    let due = subst (λ v. is_due v.book ≡ true) (sym c.self.view_is) c.requires.due in
+    let due = subst (λ v. is_due v.book ≡ true) (sym c.self.view_is) c.requires.list.due in
     let done = list_appended g.D.Disk.state _ _ _ _ c.self.invariant c.keeps.ensures c.args.context c.args.list.items items due
     c.end-start.result c.len-len.result c.end-start.ensures counted c.as_slice.result.now (c.as_slice.ensures ∙ c.blob_at-blob.ensures)
     (g.D.Disk.state c.room.new.self) c.room.ensures.held c.room.ensures.end c.room.ensures.out c.room.ensures.faults
@@ -76,9 +76,9 @@ returns-in-Ok-clause-step g c =
 
 pub returns-in-Ok-clause-appends : goal.returns-in-Ok-clause-appends
 returns-in-Ok-clause-appends g c =
-    let items = subst (λ v. c.args.list.items ≡ replicate blob_key_len 0 ++ due_object v.book) (sym c.self.view_is) c.requires.list in
+    let items = subst (λ v. c.args.list.items ≡ replicate blob_key_len 0 ++ due_object v.book) (sym c.self.view_is) c.requires.list.is in
     let counted : c.len-len.result ≡ length c.args.list.items = omega (arith, c.len-len.ensures, c.args.list.ok) in
-    let due = subst (λ v. is_due v.book ≡ true) (sym c.self.view_is) c.requires.due in
+    let due = subst (λ v. is_due v.book ≡ true) (sym c.self.view_is) c.requires.list.due in
     let done = list_appended g.D.Disk.state _ _ _ _ c.self.invariant c.keeps.ensures c.args.context c.args.list.items items due
     c.end-start.result c.len-len.result c.end-start.ensures counted c.as_slice.result.now (c.as_slice.ensures ∙ c.blob_at-blob.ensures)
     (g.D.Disk.state c.room.new.self) c.room.ensures.held c.room.ensures.end c.room.ensures.out c.room.ensures.faults
@@ -91,10 +91,10 @@ returns-in-Ok-clause-appends g c =
 
 pub tear-requires-clause-fits : goal.tear-requires-clause-fits
 tear-requires-clause-fits g c =
-    let fits = subst (λ v. book_end v.book + length c.args.list.items ≤ v.book.limits.file) (sym c.self.view_is) c.requires.fits in
-    let items = subst (λ v. c.args.list.items ≡ replicate blob_key_len 0 ++ due_object v.book) (sym c.self.view_is) c.requires.list in
+    let fits = subst (λ v. book_end v.book + length c.args.list.items ≤ v.book.limits.file) (sym c.self.view_is) c.requires.fits.within in
+    let items = subst (λ v. c.args.list.items ≡ replicate blob_key_len 0 ++ due_object v.book) (sym c.self.view_is) c.requires.list.is in
     let counted : c.len-len.result ≡ length c.args.list.items = omega (arith, c.len-len.ensures, c.args.list.ok) in
-    let due = subst (λ v. is_due v.book ≡ true) (sym c.self.view_is) c.requires.due in
+    let due = subst (λ v. is_due v.book ≡ true) (sym c.self.view_is) c.requires.list.due in
     let long = bytes_long g.D.Disk.state _ _ _ _ c.self.invariant c.keeps.ensures c.args.context c.args.list.items items due
     c.end-start.result c.len-len.result c.end-start.ensures counted c.as_slice.result.now (c.as_slice.ensures ∙ c.blob_at-blob.ensures)
     (g.D.Disk.state c.room.new.self) c.room.ensures.held c.room.ensures.end c.room.ensures.out c.room.ensures.faults in
@@ -111,9 +111,9 @@ tear-requires-clause-fits g c =
 
 pub invariant_of-self-in-Err : goal.invariant_of-self-in-Err
 invariant_of-self-in-Err g c =
-    let items = subst (λ v. c.args.list.items ≡ replicate blob_key_len 0 ++ due_object v.book) (sym c.self.view_is) c.requires.list in
+    let items = subst (λ v. c.args.list.items ≡ replicate blob_key_len 0 ++ due_object v.book) (sym c.self.view_is) c.requires.list.is in
     let counted : c.len-len.result ≡ length c.args.list.items = omega (arith, c.len-len.ensures, c.args.list.ok) in
-    let due = subst (λ v. is_due v.book ≡ true) (sym c.self.view_is) c.requires.due in
+    let due = subst (λ v. is_due v.book ≡ true) (sym c.self.view_is) c.requires.list.due in
     let context : c.args.context ≤ c.self.inside.contexts = omega (arith, ap (λ v. v.birth.contexts) c.self.view_is, c.requires.context) in
     let book = c.fault.ensures.book ∙ ap (λ (x : BookData). record x {
       history = x.history ++ faulted_entry c.args.context c.faults-faults.result ∷ [];
@@ -132,9 +132,9 @@ invariant_of-self-in-Err g c =
 
 pub returns-clause-step : goal.returns-clause-step
 returns-clause-step g c =
-    let items = subst (λ v. c.args.list.items ≡ replicate blob_key_len 0 ++ due_object v.book) (sym c.self.view_is) c.requires.list in
+    let items = subst (λ v. c.args.list.items ≡ replicate blob_key_len 0 ++ due_object v.book) (sym c.self.view_is) c.requires.list.is in
     let counted : c.len-len.result ≡ length c.args.list.items = omega (arith, c.len-len.ensures, c.args.list.ok) in
-    let due = subst (λ v. is_due v.book ≡ true) (sym c.self.view_is) c.requires.due in
+    let due = subst (λ v. is_due v.book ≡ true) (sym c.self.view_is) c.requires.list.due in
     let context : c.args.context ≤ c.self.inside.contexts = omega (arith, ap (λ v. v.birth.contexts) c.self.view_is, c.requires.context) in
     let book = c.fault.ensures.book ∙ ap (λ (x : BookData). record x {
       history = x.history ++ faulted_entry c.args.context c.faults-faults.result ∷ [];
@@ -153,9 +153,9 @@ returns-clause-step g c =
 
 pub returns-clause-appends : goal.returns-clause-appends
 returns-clause-appends g c =
-    let items = subst (λ v. c.args.list.items ≡ replicate blob_key_len 0 ++ due_object v.book) (sym c.self.view_is) c.requires.list in
+    let items = subst (λ v. c.args.list.items ≡ replicate blob_key_len 0 ++ due_object v.book) (sym c.self.view_is) c.requires.list.is in
     let counted : c.len-len.result ≡ length c.args.list.items = omega (arith, c.len-len.ensures, c.args.list.ok) in
-    let due = subst (λ v. is_due v.book ≡ true) (sym c.self.view_is) c.requires.due in
+    let due = subst (λ v. is_due v.book ≡ true) (sym c.self.view_is) c.requires.list.due in
     let context : c.args.context ≤ c.self.inside.contexts = omega (arith, ap (λ v. v.birth.contexts) c.self.view_is, c.requires.context) in
     let book = c.fault.ensures.book ∙ ap (λ (x : BookData). record x {
       history = x.history ++ faulted_entry c.args.context c.faults-faults.result ∷ [];

@@ -9,7 +9,7 @@ use Rattle.nt_commit.specs.Appending.{due_bytes}
 use Rattle.nt_commit.specs.Holds.{Commits}
 use Rattle.nt_commit.specs.Locked.{LockedState}
 use Rattle.nt_commit.specs.declared.error.CommitError.TheVariants.{Memory}
-use Rattle.nt_commit.proofs.Appended.{on_failed, due-room, due-length, with-behind}
+use Rattle.nt_commit.proofs.Appended.{on_failed, on_passed, due-room, due-length, with-behind}
 use Rattle.nt_commit.proofs.Stepping.{place_behind, limits_are}
 use Rattle.nt_commit.proofs.Owned.{commits_from, limit_named, limit_refuses, unmade, no_room, list_refused, commits_behind}
 use Rattle.nt_commit.proofs.locked.Locked.commit.Goals as goal
@@ -68,8 +68,8 @@ returns-in_err-append_due-clause-commits g c =
     (list_refused g.D.Disk.state g.D.Ext.Ext.state c.args.meta.now _ place limits c.make_room.new.self
     c.make_room.new.self.book.spare room c.append_due.new.self c.in_err-append_due.field-0.0 c.in_err-append_due.ensures.appends))
 
-pub append_cluster-requires-clause-limits : goal.append_cluster-requires-clause-limits
-append_cluster-requires-clause-limits g c =
+pub append_cluster-requires-clause-fits : goal.append_cluster-requires-clause-fits
+append_cluster-requires-clause-fits g c =
     let list = subst (λ v. c.in-Ok.list.items ≡ due_bytes v.book) (sym c.self.view_is) c.in-Ok.ensures.list in
     let counted : c.len.result ≡ length c.in-Ok.list.items = omega (arith, c.len.ensures, c.in-Ok.list.ok) in
     let due = counted ∙ (ap length list ∙ due-length c.self.inside.book) in
@@ -78,6 +78,7 @@ append_cluster-requires-clause-limits g c =
     })
     (sym c.self.view_is) in
     let first = c.in_ok-append_due.ensures.appends.listed in
+    let made = on_passed c.make_room.result c.if-is_err.ensures.value c.make_room.ensures.ok in
     let b = c.self.inside.book in
     let kept = (with-behind b.limits (book_end b) (length (book_clusters b)) c.args.meta.now.len c.len.result
     (sym c.in_ok-check_with.ensures)).0 in
@@ -85,11 +86,15 @@ append_cluster-requires-clause-limits g c =
     first.end ∙ (ap (λ v. book_end v.book + length (due_bytes v.book)) room
     ∙ (ap (λ l. book_end b + length l) (due-room b c.make_room.new.self.book.spare ∙ sym list)
     ∙ ap (λ n. book_end b + n) (sym counted))) in
-    ap (λ l. limit_error l (book_end c.append_due.new.self.book) (length (book_clusters c.append_due.new.self.book)) c.args.meta.now.len)
-    (first.limits ∙ ap (λ v. v.book.limits) room)
-    ∙ (ap (λ n. limit_error b.limits n (length (book_clusters c.append_due.new.self.book)) c.args.meta.now.len) end
-    ∙ (ap (λ n. limit_error b.limits (book_end b + c.len.result) n c.args.meta.now.len)
-    (ap (λ h. length (ranges_of h)) (first.history ∙ ap (λ v. v.book.history) room)) ∙ kept))
+    record {
+      limits = ap (λ l. limit_error l (book_end c.append_due.new.self.book) (length (book_clusters c.append_due.new.self.book)) c.args.meta.now.len)
+          (first.limits ∙ ap (λ v. v.book.limits) room)
+          ∙ (ap (λ n. limit_error b.limits n (length (book_clusters c.append_due.new.self.book)) c.args.meta.now.len) end
+          ∙ (ap (λ n. limit_error b.limits (book_end b + c.len.result) n c.args.meta.now.len)
+          (ap (λ h. length (ranges_of h)) (first.history ∙ ap (λ v. v.book.history) room)) ∙ kept));
+      spare = omega (arith, first.spare, made);
+      not_due = first.not_due;
+    }
 
 pub returns-clause-commits : goal.returns-clause-commits
 returns-clause-commits g c =
