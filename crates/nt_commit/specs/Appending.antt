@@ -1,5 +1,6 @@
 -- The page list that is due and the cluster behind it, as they are appended while the turn is held.
-use Rattle.std.specs.Prelude.{◌≡◌, ℕ, ◌+◌, ◌<◌, ◌≤◌, true, false, List, [], ◌∷◌, ◌++◌, length, replicate, if◌then◌else◌, None, Result, Ok, Err, OnOk}
+use Rattle.std.specs.Prelude.{◌≡◌, ℕ, ◌+◌, ◌<◌, ◌≤◌, true, false, List, [], ◌∷◌, ◌++◌, length, replicate, if◌then◌else◌, None, Result, Ok}
+use Rattle.std.specs.Prelude.{Err, OnOk}
 use Rattle.nt_outside.specs.Range.{ExtState}
 use Rattle.nt_outside.specs.Disk.{DiskState}
 use Rattle.nt_outside.specs.Faults.{Rose}

@@ -87,7 +87,8 @@ append_cluster-requires-clause-fits g c =
     ∙ (ap (λ l. book_end b + length l) (due-room b c.make_room.new.self.book.spare ∙ sym list)
     ∙ ap (λ n. book_end b + n) (sym counted))) in
     record {
-      limits = ap (λ l. limit_error l (book_end c.append_due.new.self.book) (length (book_clusters c.append_due.new.self.book)) c.args.meta.now.len)
+      limits = ap (λ l. limit_error l (book_end c.append_due.new.self.book) (length (book_clusters c.append_due.new.self.book))
+          c.args.meta.now.len)
           (first.limits ∙ ap (λ v. v.book.limits) room)
           ∙ (ap (λ n. limit_error b.limits n (length (book_clusters c.append_due.new.self.book)) c.args.meta.now.len) end
           ∙ (ap (λ n. limit_error b.limits (book_end b + c.len.result) n c.args.meta.now.len)
