@@ -1,6 +1,5 @@
 -- The entries that columns give.
 use Rattle.std.proofs.Common.{◌≡◌, ℕ, ◌<◌, List, length, get_or, slice_get, Some, option_map, sym, ap, subst, ◌∙◌, arith}
-use Rattle.std.proofs.Math.Path.{fun_ext}
 use Rattle.std.specs.List.{range_with_len}
 use Rattle.std.proofs.lemmas.Option.{slice_get-map, slice_get-get_or}
 use Rattle.std.proofs.lemmas.List.{length-map}
@@ -11,12 +10,7 @@ use Rattle.nt_grammar.specs.Table.{Table}
 use Rattle.nt_plans.specs.Place.{open_plans}
 use Rattle.nt_trees.specs.TreeAt.{each_at}
 use Rattle.nt_file_meaning.specs.Clusters.{columns_by_id, entries_of_columns}
-use Rattle.nt_trees.specs.Columns.{Cols}
-use Rattle.nt_view.specs.Loaded.{Loaded, loaded_elements}
-use Rattle.nt_trees.specs.Sound.{AllSound}
-use Rattle.nt_fitting.specs.Fitting.{AreOfRows}
-use Rattle.nt_reader.specs.Columns.{ClusterData, given_entries, IsSoundOver, AreClusterColumns}
-use Rattle.nt_reader.specs.Listings.{columns_of_loaded, AreColumnsOf}
+use Rattle.nt_reader.specs.Columns.{ClusterData, given_entries}
 
 given-at : (t : Table) (cs : List (List Element)) (n i : ℕ) → i < n
     → slice_get (entries_of_columns t cs n) i ≡ Some (each_at (open_plans t) (columns_by_id cs) i)
@@ -48,18 +42,3 @@ entry-is c seen i is lt =
     let there = given-at c.table c.columns c.entries i below in
     let same : get_or (given_entries c) i no_trees ≡ x = cc (here, there) in
     subst (λ (d : ClusterData). get_or (given_entries d) i no_trees ≡ x) is same
-
--- an entry of loaded columns is that of the columns by their ids
-pub over-loaded : (t : Table) (l : Loaded) (i : ℕ) → AreColumnsOf (length t.columns) l
-    → each_at (open_plans t) (loaded_elements l) i ≡ each_at (open_plans t) (columns_by_id (columns_of_loaded 0 (length t.columns) l)) i
-over-loaded t l i all = ap (λ (cols : Cols). each_at (open_plans t) cols i) (sym (fun_ext all))
-
--- so are all of them
-pub over-cluster : (t : Table) (l : Loaded) (n : ℕ) → IsSoundOver t l n
-    → AreClusterColumns t (columns_by_id (columns_of_loaded 0 (length t.columns) l)) n
-over-cluster t l n is =
-    let same : loaded_elements l ≡ columns_by_id (columns_of_loaded 0 (length t.columns) l) = sym (fun_ext is.all) in
-    record {
-      sound = subst (λ (cols : Cols). AllSound (open_plans t) cols n) same is.sound;
-      typed = subst (λ (cols : Cols). AreOfRows t.columns cols) same is.typed;
-    }

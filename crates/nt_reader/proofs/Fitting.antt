@@ -1,5 +1,5 @@
 -- The entries of a cluster fit its schema.
-use Rattle.std.proofs.Common.{◌≡◌, ℕ, ◌<◌, List, true, sym, ap, ◌∙◌}
+use Rattle.std.proofs.Common.{◌≡◌, ℕ, ◌<◌, List, true, sym, ap, subst, ◌∙◌}
 use Rattle.std.specs.Prelude.{slice_index_or, Option}
 use Rattle.nt_types.specs.ShapeData.{ShapeData}
 use Rattle.nt_types.specs.TreeData.{TreesData, no_trees}

@@ -1,8 +1,9 @@
 //! A cluster that was read.
 
-ghost use Rattle.std.specs.Prelude.{◌≡◌, ◌<◌, ◌++◌, ◌∷◌, [], ℕ, length, take, Some, slice_get, slice_index_or, IfOk, OnOk, OnErr};
+ghost use Rattle.std.specs.Prelude.{◌≡◌, ◌<◌, ◌++◌, ◌∷◌, [], ℕ, Some, slice_get, slice_index_or, IfOk, OnOk, OnErr};
 ghost use Rattle.nt_types.specs.TreeData.{trees_of, no_trees};
 ghost use Rattle.nt_types.specs.TreeViews.{trees_view};
+ghost use Rattle.nt_column.specs.Column.{columns_of, elements_at};
 ghost use Rattle.nt_plans.specs.Place.{open_plans};
 ghost use Rattle.nt_trees.specs.Sound.{AllSound};
 ghost use Rattle.nt_trees.specs.Faults.{Spot, fault_in_any};
@@ -10,13 +11,11 @@ ghost use Rattle.nt_join.specs.Spots.{spot_of};
 ghost use Rattle.nt_event.specs.Json.{line_of};
 ghost use Rattle.nt_file_meaning.specs.Clusters.{columns_by_id, frame_of, value_fault, no_value_fault, cluster_of, columns_in_cluster};
 ghost use Rattle.nt_tfile.specs.Calls.{Serves, IsReadAs, ReadsFile};
-ghost use Rattle.nt_view.specs.Loaded.{loaded_elements};
-ghost use Rattle.nt_view.specs.declared.page_place.PagePlace.{PagePlace};
-ghost use Rattle.nt_reader.specs.Columns.{given_entries, IsClusterFrom};
+ghost use Rattle.nt_reader.specs.Columns.{held_elements, given_entries};
 
 use crate::columns::read_columns;
 use crate::faults::{BAD_VALUE, fault_with, in_column};
-use nt_column::Columns;
+use nt_column::{ColumnSet, Columns};
 use nt_join::{ValueFault, check_values};
 use nt_num::ReadError;
 use nt_outside::ReadAt;
@@ -24,29 +23,27 @@ use nt_pagelists::ClusterList;
 use nt_schema::Schema;
 use nt_tfile::ReadFailure;
 use nt_types::Trees;
-use nt_view::{ClusterBytes, PagePlace};
 use std::alloc::{AllocError, Global};
 use std::marker::Model;
 
 /// The columns of a cluster, in which nothing is wrong. Contracts see the schema, the elements of
-/// each column, the number of entries, and the pages as they are loaded; `given_entries` says what entries these give.
+/// each column, and the number of entries; `given_entries` says what entries these give.
 #[derive(Drop)]
 pub struct ClusterRead<'a> {
     pub(crate) schema: &'a Schema,
-    pub(crate) columns: ClusterBytes,
+    pub(crate) columns: ColumnSet,
     pub(crate) entries: u64,
 }
 
 impl<'a> Model for ClusterRead<'a> {
-    ghost use Rattle.std.specs.Prelude.{length};
-    ghost use Rattle.nt_reader.specs.Columns.{ClusterData, IsSoundOver};
-    ghost use Rattle.nt_reader.specs.Listings.{columns_of_loaded};
+    ghost use Rattle.nt_file_meaning.specs.Clusters.{columns_by_id};
+    ghost use Rattle.nt_reader.specs.Columns.{ClusterData, held_elements, AreClusterColumns};
 
     ghost Value = { ClusterData };
 
-    ghost view = { λ c. record { table = c.schema.now; columns = columns_of_loaded 0 (length c.schema.now.columns) c.columns; entries = c.entries; loaded = c.columns } };
+    ghost view = { λ c. record { table = c.schema.now; columns = held_elements c.columns; entries = c.entries } };
 
-    ghost invariant = { λ c. IsSoundOver c.schema.now c.columns c.entries };
+    ghost invariant = { λ c. AreClusterColumns c.schema.now (columns_by_id (held_elements c.columns)) c.entries };
 }
 
 impl<'a> ClusterRead<'a> {
@@ -76,41 +73,16 @@ impl<'a> ClusterRead<'a> {
         nt_print::write_entry(alloc, &self.columns, self.schema, i, out)
     }
 
-    /// The columns, by id, as they are loaded; a closed one is empty.
-    pub fn columns(&self) -> &ClusterBytes
-        ensures loaded { result.now ≡ self.now.loaded }
-        ensures columns { (id : ℕ) → loaded_elements result.now id ≡ columns_by_id self.now.columns id }
+    /// The elements of the columns, by id; of a closed column none.
+    pub fn columns(&self) -> &ColumnSet
+        ensures { (id : ℕ) → elements_at (columns_of result.now) id ≡ columns_by_id self.now.columns id }
     {
         &self.columns
     }
 
-    /// The number of pages of the open columns.
-    pub fn pages(&self) -> u32
-        ensures { result ≡ length self.now.loaded.pages }
-    {
-        self.columns.pages()
-    }
-
-    /// A page of the open columns, which stand by id, as it is listed.
-    pub fn page(&self, i: u32) -> PagePlace
-        requires { i < length self.now.loaded.pages }
-        ensures { slice_get self.now.loaded.pages i ≡ Some result }
-    {
-        self.columns.page(i)
-    }
-
-    /// The bytes of a page as they are stored, without its checksum.
-    pub fn page_bytes(&self, i: u32) -> &[u8]
-        requires { i < length self.now.loaded.pages }
-        ensures { (d : PagePlace) → result.now
-            ≡ take (slice_index_or self.now.loaded.pages i d).size (slice_index_or self.now.loaded.stored i []) }
-    {
-        self.columns.page_bytes(i)
-    }
-
     /// The columns, whose memory another cluster can take.
-    pub fn into_columns(self) -> ClusterBytes
-        ensures { result ≡ self.entry.loaded }
+    pub fn into_columns(self) -> ColumnSet
+        ensures { held_elements result ≡ self.entry.columns }
     {
         self.columns
     }
@@ -149,15 +121,15 @@ fn value_fault(number: u32, cluster: &ClusterList, found: ValueFault) -> ReadErr
 
 /// Whether the values of columns are those of the entries of a cluster.
 fn check(
-    columns: &ClusterBytes,
+    columns: &ColumnSet,
     schema: &Schema,
     number: u32,
     cluster: &ClusterList,
 ) -> Result<(), ReadError>
-    ensures fault { let cols = loaded_elements columns.now in
+    ensures fault { let cols = columns_by_id (held_elements columns.now) in
         let found = fault_in_any (open_plans schema.now) cols cluster.now.entries in
         IsReadAs (λ _. tt) result (no_value_fault number cluster.now found) }
-    ensures sound { let cols = loaded_elements columns.now in
+    ensures sound { let cols = columns_by_id (held_elements columns.now) in
         IfOk result (λ _. AllSound (open_plans schema.now) cols cluster.now.entries) }
 {
     match check_values(columns, schema, cluster.entries) {
@@ -174,21 +146,17 @@ pub fn read_cluster<'a, F: ReadAt>(
     schema: &'a Schema,
     number: u32,
     cluster: &ClusterList,
-    kept: Option<ClusterBytes>,
+    kept: Option<ColumnSet>,
 ) -> Result<ClusterRead<'a>, ReadFailure>
     ensures file { Serves (F.state file.old) (F.state file.new) result }
     ensures read { ReadsFile (λ c. given_entries c)
         (λ told. cluster_of told schema.now number cluster.now) (F.state file.old) result }
     ensures columns { ReadsFile (λ c. c.columns)
         (λ told. columns_in_cluster told schema.now number cluster.now) (F.state file.old) result }
-    ensures kept { let told = (F.state file.old).bytes in
-        IfOk result (λ c. IsClusterFrom told number cluster.now schema.now c) }
+    ensures table { IfOk result (λ c. c.table ≡ schema.now) }
 {
-    let kept = match kept {
-        Some(columns) => columns,
-        None => ClusterBytes::new(alloc),
-    };
-    let columns = read_columns(alloc, file, number, cluster, schema, kept)?;
+    let size = file.size()?;
+    let columns = read_columns(alloc, file, size, number, cluster, schema, kept)?;
     columns.in_range();
     check(&columns, schema, number, cluster)?;
     Ok(ClusterRead {

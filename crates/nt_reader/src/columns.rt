@@ -1,87 +1,152 @@
 //! The columns of a cluster.
 
-ghost use Rattle.std.specs.Prelude.{◌≡◌, length, slice_get, Some, IfOk};
-ghost use Rattle.nt_num.specs.Faults.{fault, with_values};
-ghost use Rattle.nt_pagelists.specs.Columns.{in_column};
-ghost use Rattle.nt_view.specs.declared.page_place.PagePlace.{PagePlace};
-ghost use Rattle.nt_file_meaning.specs.Clusters.{columns_from};
-ghost use Rattle.nt_tfile.specs.declared.failure.ReadFailure.TheVariants.{Defect, Fault};
-ghost use Rattle.nt_tfile.specs.Calls.{Serves, ReadsFile};
-ghost use Rattle.nt_view.specs.declared.fault.ViewFault.TheVariants as view;
-ghost use Rattle.nt_reader.specs.Columns.{AreOfRowTypes, IsLoadedFrom};
-ghost use Rattle.nt_reader.specs.Listings.{columns_of_loaded, AreColumnsOf};
-ghost use Rattle.nt_reader.specs.Listed.{IsLoadFailure};
+ghost use Rattle.std.specs.Prelude.{◌≡◌, ◌<◌, length, map, slice_get, Some, IfOk};
+ghost use Rattle.nt_grammar.specs.declared.rows.ColumnRow.{ColumnRow};
+ghost use Rattle.nt_column.specs.Column.{columns_of, elements_at};
+ghost use Rattle.nt_file_meaning.specs.Clusters.{kind_of_code, pages_of_column, pages_listed, begins_behind, columns_from};
+ghost use Rattle.nt_tfile.specs.Calls.{Serves, HasSize, ReadsFile};
+ghost use Rattle.nt_reader.specs.Columns.{kind_or_bit, kept_empty, elements_in, held_elements, held_column, IsNextColumn, IsEmptyAt, FillsOne, AreOfTypes};
 
-use crate::faults::{BAD_PAGE, OUT_OF_FILE, fault_with, in_column};
-use crate::page_listing::list_columns;
+use crate::known::known_column;
+use crate::pages::push_pages;
+use crate::reuse::reused_columns;
+use crate::wanting::Wanting;
+use nt_column::ColumnSet;
+use nt_grammar::ColumnRow;
 use nt_outside::ReadAt;
-use nt_pagelists::ClusterList;
+use nt_pagelists::{ClusterList, KnownColumn, PageItem};
 use nt_schema::Schema;
 use nt_tfile::ReadFailure;
-use nt_view::{ClusterBytes, PagePlace, ViewFault};
+use nt_types::ColumnType;
 use std::alloc::Global;
 
-/// The fault of a page of a cluster, whose place is told; want of memory where the page isn't one of the list.
-fn page_failure(
-    number: u32,
-    pages: &[PagePlace],
-    page: u32,
-    code: u8,
-    kept: u64,
-    found: u64,
-) -> ReadFailure
-    ensures inside { result ≡ Fault → ⊥ }
-    ensures told { (p : PagePlace) → slice_get pages.now page ≡ Some p
-        → result ≡ Defect (in_column number p.column (with_values kept found (fault code p.place))) }
+/// The type of a column, if it is one of those whose values can be read.
+fn kind_of_row(row: &ColumnRow) -> Option<ColumnType>
+    ensures { result ≡ kind_of_code row.now.code }
 {
-    match pages.get(page as usize) {
-        Some(place) => ReadFailure::Defect(in_column(
-            number,
-            place.column,
-            fault_with(code, place.place, kept, found),
-        )),
-        None => ReadFailure::Memory,
+    ColumnType::of_code(row.code)
+}
+
+/// The type by which a column is kept.
+pub fn kept_kind(row: &ColumnRow) -> ColumnType
+    ensures { result ≡ kind_or_bit (kind_of_code row.now.code) }
+{
+    match kind_of_row(row) {
+        Some(kind) => kind,
+        None => ColumnType::Bit,
     }
 }
 
-/// What came in place of pages that were to be loaded, as a fault of the cluster of this number.
-fn load_failure(number: u32, pages: &[PagePlace], fault: ViewFault) -> ReadFailure
-    ensures told { IsLoadFailure number pages.now fault result }
-    ensures fault { result ≡ Fault → fault ≡ view.Fault }
+/// A column without elements for each of the schema.
+pub fn empty_columns(alloc: Global, schema: &Schema) -> Result<ColumnSet, Wanting>
+    ensures { IfOk result (λ set. columns_of set ≡ map kept_empty schema.now.columns) }
 {
-    match fault {
-        ViewFault::OutOfFile { page } => page_failure(number, pages, page, OUT_OF_FILE, 0, 0),
-        ViewFault::Checksum { page, kept, found } => {
-            page_failure(number, pages, page, BAD_PAGE, kept, found)
-        }
-        ViewFault::Fault => ReadFailure::Fault,
-        ViewFault::Memory => ReadFailure::Memory,
+    let mut kinds = Vec::new(alloc);
+    for id in 0..schema.columns() {
+        kinds.push(kept_kind(schema.column(id)))?;
+    }
+    Ok(ColumnSet::new(alloc, &kinds)?)
+}
+
+/// The pages that a cluster lists of a column.
+pub fn pages_listed(cluster: &ClusterList, id: u32) -> &[PageItem]
+    ensures { result.now ≡ pages_listed cluster.now id }
+{
+    match cluster.columns.as_slice().get(id as usize) {
+        Some(column) => column.pages.as_slice(),
+        None => &[],
     }
 }
 
-/// Reads the columns of a cluster, in the memory of others: its pages are listed up to the first of a wrong size, and loaded at once.
-pub fn read_columns<F: ReadAt>(
+/// Whether a column begins behind all entries of a cluster.
+pub fn begins_behind(cluster: &ClusterList, known: &KnownColumn) -> bool
+    ensures { result ≡ begins_behind cluster.now known.now }
+{
+    known.is_principal
+        && u128::from(cluster.first) + u128::from(cluster.entries) <= u128::from(known.first)
+}
+
+/// Fills an empty column with the elements of its pages.
+fn fill<F: ReadAt>(
     alloc: Global,
     file: &mut F,
+    size: u64,
+    number: u32,
+    id: u32,
+    pages: &[PageItem],
+    columns: &mut ColumnSet,
+) -> Result<(), ReadFailure>
+    requires size { HasSize (F.state file.old) size }
+    requires empty { IsEmptyAt (columns_of columns.old) id }
+    ensures file { Serves (F.state file.old) (F.state file.new) result }
+    ensures read { let kind = (held_column (columns_of columns.old) id).kind in
+        ReadsFile (λ _. elements_at (columns_of columns.new) id)
+        (λ told. pages_of_column told number id kind pages.now) (F.state file.old) result }
+    ensures others { FillsOne id (columns_of columns.old) (columns_of columns.new) result }
+{
+    push_pages(alloc, file, size, number, id, pages, columns.buffer(id))
+}
+
+/// Reads the column with this id, of those that are still empty.
+fn read_column<F: ReadAt>(
+    alloc: Global,
+    file: &mut F,
+    size: u64,
     number: u32,
     cluster: &ClusterList,
     schema: &Schema,
-    kept: ClusterBytes,
-) -> Result<ClusterBytes, ReadFailure>
+    id: u32,
+    columns: &mut ColumnSet,
+) -> Result<(), ReadFailure>
+    requires size { HasSize (F.state file.old) size }
+    requires next { IsNextColumn schema.now.columns id (columns_of columns.old) }
     ensures file { Serves (F.state file.old) (F.state file.new) result }
-    ensures read { let rows = schema.now.columns in ReadsFile (λ c. columns_of_loaded 0 (length rows) c)
-        (λ told. columns_from told number cluster.now schema.now 0 rows) (F.state file.old) result }
-    ensures columns { IfOk result (λ c. AreColumnsOf (length schema.now.columns) c) }
-    ensures loaded { IfOk result (λ c. IsLoadedFrom (F.state file.old).bytes number cluster.now schema.now c) }
-    ensures types { IfOk result (λ c. AreOfRowTypes schema.now.columns c) }
+    ensures read { (row : ColumnRow) → slice_get schema.now.columns id ≡ Some row
+        → ReadsFile (λ _. elements_at (columns_of columns.new) id)
+        (elements_in number cluster.now schema.now id row) (F.state file.old) result }
+    ensures others { FillsOne id (columns_of columns.old) (columns_of columns.new) result }
 {
-    let listing = list_columns(alloc, number, cluster, schema)?;
-    let columns = match kept.load_over(alloc, file, &listing.pages, &listing.zeros) {
-        Ok(columns) => columns,
-        Err(fault) => return Err(load_failure(number, &listing.pages, fault)),
-    };
-    match listing.wrong {
-        Some(error) => Err(ReadFailure::Defect(error)),
-        None => Ok(columns),
+    let known = known_column(schema, id);
+    if !known.is_open {
+        return Ok(());
     }
+    if begins_behind(cluster, &known) {
+        columns.zeros(id, cluster.entries);
+        return Ok(());
+    }
+    match kind_of_row(schema.column(id)) {
+        Some(_) => fill(
+            alloc,
+            file,
+            size,
+            number,
+            id,
+            pages_listed(cluster, id),
+            columns,
+        ),
+        None => Ok(()),
+    }
+}
+
+/// Reads the columns of a cluster, by id, in the memory of other columns where they are such.
+pub fn read_columns<F: ReadAt>(
+    alloc: Global,
+    file: &mut F,
+    size: u64,
+    number: u32,
+    cluster: &ClusterList,
+    schema: &Schema,
+    kept: Option<ColumnSet>,
+) -> Result<ColumnSet, ReadFailure>
+    requires { HasSize (F.state file.old) size }
+    ensures file { Serves (F.state file.old) (F.state file.new) result }
+    ensures read { let rows = schema.now.columns in ReadsFile (λ set. held_elements set)
+        (λ told. columns_from told number cluster.now schema.now 0 rows) (F.state file.old) result }
+    ensures types { IfOk result (λ set. AreOfTypes schema.now.columns (columns_of set)) }
+{
+    let mut columns = reused_columns(alloc, schema, kept)?;
+    for id in 0..schema.columns() {
+        read_column(alloc, file, size, number, cluster, schema, id, &mut columns)?;
+    }
+    Ok(columns)
 }

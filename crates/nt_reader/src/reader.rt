@@ -7,17 +7,17 @@ ghost use Rattle.nt_file_meaning.specs.Outlines.{outline_of, known_column};
 ghost use Rattle.nt_file_meaning.specs.Counts.{zeros_due};
 ghost use Rattle.nt_tfile.specs.Calls.{Serves, ReadsFile};
 ghost use Rattle.nt_reader.specs.Outlines.{numbered_cluster, entries_in, columns_read, page_number, page_count};
-ghost use Rattle.nt_reader.specs.Columns.{given_entries, IsClusterFrom};
+ghost use Rattle.nt_reader.specs.Columns.{given_entries};
 
 use crate::cluster::{ClusterRead, read_cluster};
 use crate::describing::read_described;
 use crate::groups::read_clusters;
 use crate::listed::{page_count, page_number, zeros_due};
+use nt_column::ColumnSet;
 use nt_outside::ReadAt;
 use nt_pagelists::ClusterList;
 use nt_schema::Schema;
 use nt_tfile::{ReadFailure, read_tfile};
-use nt_view::ClusterBytes;
 use std::alloc::Global;
 use std::marker::Model;
 
@@ -140,20 +140,19 @@ impl Reader {
             (entries_in self.now k) (F.state file.old) result }
         ensures columns { ReadsFile (λ c. c.columns)
             (columns_read self.now k) (F.state file.old) result }
-        ensures kept { let told = (F.state file.old).bytes in
-            IfOk result (λ c. IsClusterFrom told k (numbered_cluster self.now k) self.now.table c) }
+        ensures table { IfOk result (λ c. c.table ≡ self.now.table) }
     {
         self.cluster_in(alloc, file, k, None)
     }
 
     /// Reads a cluster as `cluster` does, in the memory of the columns of one that was read before.
-    /// Any columns do.
+    /// Any columns do: those of other types than the file's are dropped.
     pub fn cluster_in<F: ReadAt>(
         &self,
         alloc: Global,
         file: &mut F,
         k: u32,
-        kept: Option<ClusterBytes>,
+        kept: Option<ColumnSet>,
     ) -> Result<ClusterRead<'_>, ReadFailure>
         requires { k < length self.now.clusters }
         ensures file { Serves (F.state file.old) (F.state file.new) result }
@@ -161,8 +160,7 @@ impl Reader {
             (entries_in self.now k) (F.state file.old) result }
         ensures columns { ReadsFile (λ c. c.columns)
             (columns_read self.now k) (F.state file.old) result }
-        ensures kept { let told = (F.state file.old).bytes in
-            IfOk result (λ c. IsClusterFrom told k (numbered_cluster self.now k) self.now.table c) }
+        ensures table { IfOk result (λ c. c.table ≡ self.now.table) }
     {
         read_cluster(
             alloc,

@@ -10,11 +10,11 @@ ghost use Rattle.nt_show.specs.Shown.{entries_shown, ShowsFile};
 
 use crate::entry_range::EntryRange;
 use crate::lines::put_entry;
+use nt_column::ColumnSet;
 use nt_num::ReadError;
 use nt_outside::{Host, ReadAt, Refused, Stream, print_all};
 use nt_reader::{ClusterRead, Reader};
 use nt_tfile::ReadFailure;
-use nt_view::ClusterBytes;
 use std::alloc::Global;
 
 /// What goes from one cluster to the next: the entries that are left to show, counted from its first, the
@@ -23,7 +23,7 @@ use std::alloc::Global;
 struct Pending {
     range: EntryRange,
     waiting: Vec<u8>,
-    kept: Option<ClusterBytes>,
+    kept: Option<ColumnSet>,
 }
 
 /// Gathers the lines of those entries of a cluster that lie in the range.

@@ -1,56 +1,53 @@
-use Rattle.std.proofs.Common.{List, length, sym, ap, ◌∙◌}
-use Rattle.nt_view.specs.declared.page_place.PagePlace.{PagePlace}
-use Rattle.nt_view.specs.declared.page_place.ZeroColumn.{ZeroColumn}
-use Rattle.nt_view.specs.Loads.{load_of}
-use Rattle.nt_view.specs.Loaded.{Loaded}
-use Rattle.nt_reader.specs.Listings.{Listed, columns_of_loaded}
-use Rattle.nt_reader.specs.Listed.{listing_view}
-use Rattle.nt_reader.proofs.ColumnsRead.{listed-loadable, columns-failed, columns-wrong, columns-right, columns-all}
-use Rattle.nt_reader.proofs.KeptTypes.{listed-types}
+use Rattle.std.proofs.Common.{◌≡◌, List, [], ◌++◌, Result, Ok, Err, refl, ◌∙◌, arith}
+use Rattle.std.proofs.lemmas.Result.{err_from_is_err_and}
+use Rattle.nt_lists.specs.Chaining.{◌>>=◌}
+use Rattle.nt_num.specs.declared.fault.ReadError.{ReadError}
+use Rattle.nt_encode.specs.Elements.{Element}
+use Rattle.nt_file_meaning.specs.Clusters.{columns_from}
+use Rattle.nt_reader.proofs.Chains.{fails-as}
+use Rattle.nt_reader.proofs.Changes.{none-read, read-more, held-more, row-there, inside-more}
+use Rattle.nt_reader.proofs.KeptTypes.{types-of_empty}
+use Rattle.nt_reader.proofs.ColumnSteps.{columns-more, columns-fail}
 use Rattle.nt_reader.proofs.columns.read_columns.Goals as goal
 
-pub load_over-requires : goal.load_over-requires
-load_over-requires g c = record {
-  listed = listed-loadable c.args.number c.args.cluster.now c.args.schema.now (listing_view c.in_ok-listing.listing)
-      c.deref.result.now c.deref-2.result.now c.in_ok-listing.ensures c.deref.ensures.value c.deref-2.ensures.value;
+behind-none : (r : Result (List (List Element)) ReadError) → r ≡ (r >>= λ others. Ok ([] ++ others))
+behind-none (Ok others) = refl
+behind-none (Err e) = refl
+
+pub loop-id-init : goal.loop-id-init
+loop-id-init g c = record {
+  same = refl;
+  later = omega arith;
+  types = types-of_empty c.args.schema.now.columns _ c.in_ok-columns.ensures;
+  done = none-read c.args.schema.now.columns c.in_ok-columns.columns c.in_ok-columns.ensures;
+  read = λ told is.
+      behind-none (columns_from told c.args.number c.args.cluster.now c.args.schema.now 0 c.args.schema.now.columns);
 }
 
-pub returns-in-Err-clause-read : goal.returns-in-Err-clause-read
-returns-in-Err-clause-read g c told is =
-    columns-failed (λ (x : Loaded). columns_of_loaded 0 (length c.args.schema.now.columns) x) told c.args.number c.args.cluster.now
-    c.args.schema.now (listing_view c.in_ok-listing.listing)
-    c.deref.result.now c.deref-in-Err.result.now c.deref-2.result.now c.in-Err.fault c.load_failure.result
-    c.in_ok-listing.ensures c.deref.ensures.value c.deref-2.ensures.value c.deref-in-Err.ensures.value
-    (c.in-Err.ensures.read told is) c.load_failure.ensures.told
+pub returns-in_err-read_column-clause-read : goal.returns-in_err-read_column-clause-read
+returns-in_err-read_column-clause-read g c told is =
+    let p = err_from_is_err_and c.from_residual-in_err-read_column.result c.from_residual-in_err-read_column.ensures.1 in
+    rw (p.1, p.2)
+    (fails-as (λ (l : List (List Element)). l) (λ (l : List (List Element)). l) _ _ _ (c.loop-id.invariant.read told is)
+    (columns-fail (λ (l : List Element). l) (λ (l : List (List Element)). l) told c.args.number c.args.cluster.now c.args.schema.now
+    c.loop-id.id _ _ _ (omega arith)
+    (row-there c.args.schema.now.columns c.loop-id.id (omega arith))
+    (c.in_err-read_column.ensures.read _ (row-there c.args.schema.now.columns c.loop-id.id (omega arith)) told (c.loop-id.invariant.same
+    ∙ is))))
 
-pub returns-in-Some-clause-read : goal.returns-in-Some-clause-read
-returns-in-Some-clause-read g c told is =
-    columns-wrong told c.args.number c.args.cluster.now c.args.schema.now (listing_view c.in_ok-listing.listing)
-    c.deref.result.now c.deref-2.result.now c.in-Ok.columns c.in-Some.error c.in_ok-listing.ensures c.deref.ensures.value
-    c.deref-2.ensures.value (c.in-Ok.ensures.read told is) c.in-Some.is
-
-pub returns-clause-read : goal.returns-clause-read
-returns-clause-read g c told is =
-    columns-right told c.args.number c.args.cluster.now c.args.schema.now (listing_view c.in_ok-listing.listing)
-    c.deref.result.now c.deref-2.result.now c.in-Ok.columns c.in_ok-listing.ensures c.deref.ensures.value
-    c.deref-2.ensures.value (c.in-Ok.ensures.read told is) c.in-None.is
-
-pub returns-clause-columns : goal.returns-clause-columns
-returns-clause-columns g c =
-    columns-all c.args.number c.args.cluster.now c.args.schema.now (listing_view c.in_ok-listing.listing) c.in-Ok.columns
-    c.in_ok-listing.ensures (c.in-Ok.ensures.listed.0 ∙ c.deref.ensures.value) (c.in-Ok.ensures.listed.1 ∙ c.deref-2.ensures.value)
-
-pub returns-clause-types : goal.returns-clause-types
-returns-clause-types g c =
-    listed-types c.args.number c.args.cluster.now c.args.schema.now (listing_view c.in_ok-listing.listing) c.in-Ok.columns
-    c.in_ok-listing.ensures (c.in-Ok.ensures.listed.0 ∙ c.deref.ensures.value)
-
-pub returns-clause-loaded : goal.returns-clause-loaded
-returns-clause-loaded g c = record {
-  pages = c.in-Ok.ensures.listed.0 ∙ c.deref.ensures.value ∙ ap (λ (l : Listed). l.pages) c.in_ok-listing.ensures;
-  zeros = c.in-Ok.ensures.listed.1 ∙ c.deref-2.ensures.value ∙ ap (λ (l : Listed). l.zeros) c.in_ok-listing.ensures;
-  whole = ap (λ (l : Listed). l.wrong) (sym c.in_ok-listing.ensures) ∙ c.in-None.is;
-  bytes = λ told is.
-      ap (λ (ps : List PagePlace). load_of told ps c.in-Ok.columns.zeros) c.in-Ok.ensures.listed.0
-      ∙ ap (λ (zs : List ZeroColumn). load_of told c.deref.result.now zs) c.in-Ok.ensures.listed.1 ∙ c.in-Ok.ensures.read told is;
+pub loop-id-preserved : goal.loop-id-preserved
+loop-id-preserved g c = record {
+  same = c.in_ok-read_column.ensures.file.same ∙ c.loop-id.invariant.same;
+  later = omega (arith, c.in_ok-read_column.ensures.file.later, c.loop-id.invariant.later);
+  types = c.in_ok-read_column.ensures.others.types ∙ c.loop-id.invariant.types;
+  done = read-more c.args.schema.now.columns _ _ c.loop-id.id c.loop-id.invariant.done c.in_ok-read_column.ensures.others.one;
+  read = λ told is.
+      c.loop-id.invariant.read told is
+      ∙ columns-more told c.args.number c.args.cluster.now c.args.schema.now c.loop-id.id _ _ _ _ (omega arith)
+      (row-there c.args.schema.now.columns c.loop-id.id (omega arith))
+      (c.in_ok-read_column.ensures.read _ (row-there c.args.schema.now.columns c.loop-id.id (omega arith)) told (c.loop-id.invariant.same
+      ∙ is))
+      (held-more c.loop-id.columns c.read_column.new.columns c.loop-id.id
+      (inside-more c.args.schema.now.columns _ _ c.loop-id.id c.loop-id.invariant.done c.in_ok-read_column.ensures.others.one (omega arith))
+      c.in_ok-read_column.ensures.others.one);
 }

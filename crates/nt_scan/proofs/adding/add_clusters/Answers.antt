@@ -28,7 +28,7 @@ loop-k-preserved g c = record {
         over-more told o c.loop-k.k so_far.0 c.in_ok-cluster.cluster.columns
             (omega (arith, c.loop-k-test.true, c.clusters-k-end.ensures)) so_far.1
             (c.in_ok-cluster.ensures.columns told (c.loop-k.invariant.same ∙ is)),
-        added-more o.table so_far.0 c.in_ok-cluster.cluster.columns _ c.args.columns.now _ _ _ c.columns.ensures.columns so_far.2
+        added-more o.table so_far.0 c.in_ok-cluster.cluster.columns _ c.args.columns.now _ _ _ c.columns.ensures so_far.2
             (rw c.schema.ensures at c.add_columns.ensures.each),
       );
 }

@@ -17,7 +17,7 @@ put_entries-requires-clause-fits g c i less =
     let e = slice_index_or (given_entries c.in-Ok.cluster) i no_trees in
     subst (λ (ms : List MemberData). fit_parts (parts_of ms) (chosen (selection_of c.args.plan.now).places e) ≡ true)
     (sym c.requires.can.fields)
-    (c.requires.can.fits e (subst (λ (t : Table). fits_entry t e ≡ true) c.in-Ok.ensures.kept.table (c.entries_fit.ensures i less)))
+    (c.requires.can.fits e (subst (λ (t : Table). fits_entry t e ≡ true) c.in-Ok.ensures.table (c.entries_fit.ensures i less)))
 
 pub returns-in-Ok-clause-skimmed : goal.returns-in-Ok-clause-skimmed
 returns-in-Ok-clause-skimmed g c b told =

@@ -4,16 +4,16 @@ use Rattle.nt_types.specs.TreeData.{TreesData, trees_of}
 use Rattle.nt_types.specs.TreeViews.{trees_view}
 use Rattle.nt_plans.specs.Plan.{PlansData}
 use Rattle.nt_trees.specs.TreeAt.{each_at}
-use Rattle.nt_join.specs.Chosen.{chosen}
+use Rattle.nt_join.specs.Chosen.{tree_in, chosen, number_in}
 use Rattle.nt_join.specs.Readable.{ReadableEach}
-use Rattle.nt_view.specs.Loaded.{loaded_elements}
-use Rattle.nt_reader.specs.Columns.{ClusterData}
-use Rattle.nt_reader.proofs.Entries.{entry-is, over-loaded}
+use Rattle.nt_file_meaning.specs.Clusters.{columns_by_id}
+use Rattle.nt_reader.specs.Columns.{ClusterData, held_elements}
+use Rattle.nt_reader.proofs.Entries.{entry-is}
 use Rattle.nt_reader.proofs.cluster.ClusterRead.chosen.Goals as goal
 
 pub chosen_by-requires-after_bounds : goal.chosen_by-requires-after_bounds
 chosen_by-requires-after_bounds c κs =
-    subst (λ (ps : PlansData). ReadableEach ps (loaded_elements c.self.inside.columns) c.args.i) (sym c.plans.ensures)
+    subst (λ (ps : PlansData). ReadableEach ps (columns_by_id (held_elements c.self.inside.columns)) c.args.i) (sym c.plans.ensures)
     (record {
       size = c.self.inside.entries;
       sound = c.self.invariant.sound;
@@ -22,7 +22,6 @@ chosen_by-requires-after_bounds c κs =
 
 pub returns : goal.returns
 returns c =
-    let own = ap (λ (ps : PlansData). each_at ps (loaded_elements c.self.inside.columns) c.args.i) c.plans.ensures
-    ∙ over-loaded c.self.inside.schema.now c.self.inside.columns c.args.i c.self.invariant.all
+    let own = ap (λ (ps : PlansData). each_at ps (columns_by_id (held_elements c.self.inside.columns)) c.args.i) c.plans.ensures
     ∙ sym (entry-is _ _ c.args.i c.self.view_is c.requires) in
     subst (λ (e : TreesData). IfOk c.chosen_by.result (λ ts. trees_of (trees_view ts) ≡ chosen c.args.places.now e)) own c.chosen_by.ensures

@@ -1,17 +1,19 @@
-use Rattle.std.proofs.Common.{◌∙◌, ap, sym, subst, arith}
-use Rattle.nt_types.specs.TreeData.{TreesData}
+use Rattle.std.proofs.Common.{◌≡◌, ◌∙◌, ap, sym, subst, arith}
+use Rattle.std.specs.Prelude.{IfOk}
+use Rattle.nt_types.specs.TreeData.{TreesData, trees_of}
+use Rattle.nt_types.specs.TreeViews.{trees_view}
 use Rattle.nt_plans.specs.Plan.{PlansData}
 use Rattle.nt_trees.specs.TreeAt.{each_at}
-use Rattle.nt_join.specs.Chosen.{tree_in, number_in}
+use Rattle.nt_join.specs.Chosen.{tree_in, chosen, number_in}
 use Rattle.nt_join.specs.Readable.{ReadableEach}
-use Rattle.nt_view.specs.Loaded.{loaded_elements}
-use Rattle.nt_reader.specs.Columns.{ClusterData}
-use Rattle.nt_reader.proofs.Entries.{entry-is, over-loaded}
+use Rattle.nt_file_meaning.specs.Clusters.{columns_by_id}
+use Rattle.nt_reader.specs.Columns.{ClusterData, held_elements}
+use Rattle.nt_reader.proofs.Entries.{entry-is}
 use Rattle.nt_reader.proofs.cluster.ClusterRead.number.Goals as goal
 
 pub number_by-requires-after_bounds : goal.number_by-requires-after_bounds
 number_by-requires-after_bounds c κs =
-    subst (λ (ps : PlansData). ReadableEach ps (loaded_elements c.self.inside.columns) c.args.i) (sym c.plans.ensures)
+    subst (λ (ps : PlansData). ReadableEach ps (columns_by_id (held_elements c.self.inside.columns)) c.args.i) (sym c.plans.ensures)
     (record {
       size = c.self.inside.entries;
       sound = c.self.invariant.sound;
@@ -20,7 +22,6 @@ number_by-requires-after_bounds c κs =
 
 pub returns : goal.returns
 returns c =
-    let own = ap (λ (ps : PlansData). each_at ps (loaded_elements c.self.inside.columns) c.args.i) c.plans.ensures
-    ∙ over-loaded c.self.inside.schema.now c.self.inside.columns c.args.i c.self.invariant.all
+    let own = ap (λ (ps : PlansData). each_at ps (columns_by_id (held_elements c.self.inside.columns)) c.args.i) c.plans.ensures
     ∙ sym (entry-is _ _ c.args.i c.self.view_is c.requires) in
     c.number_by.ensures ∙ ap (λ (e : TreesData). number_in (tree_in e c.args.place)) own

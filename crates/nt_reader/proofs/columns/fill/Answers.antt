@@ -1,0 +1,26 @@
+use Rattle.std.proofs.Common.{◌∙◌, sym, arith}
+use Rattle.std.proofs.lemmas.List.{length-map}
+use Rattle.std.proofs.lemmas.Result.{on_ok_weaker}
+use Rattle.nt_reader.specs.Pages.{KeepsKind}
+use Rattle.nt_column.specs.Column.{Buffer}
+use Rattle.nt_reader.proofs.Changes.{set-elements, set-changes, buffer-column}
+use Rattle.nt_reader.proofs.KeptTypes.{set-types}
+use Rattle.nt_reader.proofs.ColumnSteps.{filled-reads}
+use Rattle.nt_reader.proofs.columns.fill.Goals as goal
+
+pub returns-clause-read : goal.returns-clause-read
+returns-clause-read g c told is =
+    let seen = buffer-column c.args.columns.now c.args.id c.buffer.result.now c.buffer.ensures.value in
+    filled-reads told c.args.number c.args.id _ c.args.pages.now c.buffer.result.now.column c.push_pages.new.column.column _
+    c.push_pages.result (sym seen ∙ c.requires.empty.none)
+    (set-elements c.args.columns.now c.args.id c.push_pages.new.column
+    (omega (arith, c.requires.empty.there, length-map c.args.columns.now (λ (b : Buffer). b.column)))) (c.push_pages.ensures.read told is)
+
+pub returns-clause-others : goal.returns-clause-others
+returns-clause-others g c = record {
+  one = set-changes c.args.columns.now c.args.id c.push_pages.new.column;
+  types = on_ok_weaker c.push_pages.result
+      (λ (k : KeepsKind c.buffer.result.now.column c.push_pages.new.column.column).
+      set-types c.args.columns.now c.args.id c.push_pages.new.column c.buffer.result.now c.buffer.ensures.value k.kind)
+      c.push_pages.ensures.grown;
+}

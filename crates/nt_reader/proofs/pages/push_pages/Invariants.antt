@@ -1,0 +1,18 @@
+use Rattle.std.proofs.Common.{◌≡◌, ◌≤◌, ℕ, List, drop, Some}
+use Rattle.nt_reader.specs.Windows.{IsWindowOf}
+use Rattle.nt_reader.specs.Pages.{column_with_pages, KeepsKind}
+use Rattle.nt_reader.proofs.pages.push_pages.Given as goal
+
+-- the file serves, and the pages that are left, behind those so far, give what all give
+abbrev pub invariant-loop-i : goal.invariant-loop-i
+invariant-loop-i g l =
+    let state = g.F.ReadAt.state in
+    record {
+      same : (state l.file).bytes ≡ (state l.initial.file).bytes;
+      later : (state l.initial.file).faults ≤ (state l.file).faults;
+      window : IsWindowOf (state l.file) l.window;
+      grown : KeepsKind l.initial.column.column l.column.column;
+      read : (told : List ℕ) → (state l.initial.file).bytes ≡ Some told
+          → column_with_pages l.number l.id l.pages l.initial.column.column told ≡ column_with_pages l.number l.id (drop l.i l.pages)
+          l.column.column told;
+    }

@@ -1,0 +1,6 @@
+use Rattle.std.proofs.Common.{refl}
+use Rattle.nt_reader.proofs.Windows.{none-there}
+use Rattle.nt_reader.proofs.window.Window.new.Goals as goal
+
+pub returns : goal.returns
+returns c file told is = none-there told _ _ refl c.new.ensures.items

@@ -1,0 +1,37 @@
+-- Bytes of a file that were read at once, and the pages in them.
+use Rattle.std.specs.Prelude.{ℕ, ◌≡◌, ◌+◌, ◌-◌, ◌≤◌, ◌⊎◌, List, length, take, drop, Some, Result}
+use Rattle.nt_num.specs.declared.fault.ReadError.{ReadError}
+use Rattle.nt_format.specs.Demands.{found_or}
+use Rattle.nt_format.specs.Pieces.{piece}
+use Rattle.nt_outside.specs.File.{FileState}
+use Rattle.nt_tfile.specs.Calls.{HasSize}
+use Rattle.nt_pagelists.specs.declared.page.PageItem.{PageItem}
+use Rattle.nt_file_meaning.specs.Clusters.{stored_len}
+use Rattle.nt_reader.specs.declared.window.Window.{Window}
+
+-- the window has bytes of the file, where the file tells them
+abbrev pub IsWindowOf : FileState → Window → Type 0
+IsWindowOf file w = (told : List ℕ) → file.bytes ≡ Some told → piece told w.at (length w.bytes.items) ≡ Some w.bytes.items
+
+-- a file of this size is read through the window
+pub record IsSeenBy (file : FileState) (size : ℕ) (w : Window) : Type 0 where
+  pub sized : HasSize file size
+  pub has : IsWindowOf file w
+
+-- the page lies in the window, with its checksum
+pub record LiesIn (p : PageItem) (w : Window) : Type 0 where
+  pub behind : w.at ≤ p.place
+  pub before : p.place + stored_len p ≤ w.at + length w.bytes.items
+
+-- its bytes there
+abbrev pub window_bytes : Window → PageItem → List ℕ
+window_bytes w p = take (stored_len p) (drop (p.place - w.at) w.bytes.items)
+
+-- the bytes of a page with its checksum have to lie in the file
+abbrev pub found_page : ReadError → PageItem → List ℕ → Result (List ℕ) ReadError
+found_page outside p file = found_or outside (piece file p.place (stored_len p))
+
+-- so many bytes are read for the page: its own alone, or more that all lie in a file of this size
+pub record IsReadAtOnce (p : PageItem) (size len : ℕ) : Type 0 where
+  pub first : stored_len p ≤ len
+  pub inside : (len ≡ stored_len p) ⊎ (p.place + len ≤ size)

@@ -1,0 +1,136 @@
+//! Bytes of a file that are read at once, for pages that follow one another.
+
+ghost use Rattle.std.specs.Prelude.{◌≡◌, ◌<◌, ◌^◌, IsTrue, IfOk, OnOk};
+ghost use Rattle.nt_outside.specs.File.{FileState};
+ghost use Rattle.nt_file_meaning.specs.Clusters.{stored_len};
+ghost use Rattle.nt_tfile.specs.Calls.{Serves, HasSize, ReadsFile};
+ghost use Rattle.nt_reader.specs.Windows.{IsWindowOf, IsSeenBy, LiesIn, IsReadAtOnce, window_bytes, found_page};
+
+use nt_num::ReadError;
+use nt_outside::ReadAt;
+use nt_pagelists::PageItem;
+use nt_tfile::{ReadFailure, read_block};
+use std::alloc::Global;
+
+/// How many bytes are read at once, at most, but for a page that is longer: so many stay in the cache until their pages are decoded.
+const MOST_AT_ONCE: u64 = 1 << 17;
+
+/// The bytes of a checksum.
+const SUM_LEN: u64 = 8;
+
+/// Bytes of a file from a place on.
+#[derive(Drop)]
+pub struct Window {
+    at: u64,
+    bytes: Vec<u8>,
+}
+
+/// The bytes of a page, with its checksum if it has one.
+pub fn stored_len(page: &PageItem) -> u64
+    ensures len { result ≡ stored_len page.now }
+    ensures few { result < 2 ^ 33 }
+{
+    if page.checked {
+        u64::from(page.size) + SUM_LEN
+    } else {
+        u64::from(page.size)
+    }
+}
+
+/// How many bytes are read for a page: its own, and those of the pages behind it that follow it
+/// closely in a file of this size.
+fn run_len(page: &PageItem, behind: &[PageItem], size: u64) -> u64
+    ensures { IsReadAtOnce page.now size result }
+{
+    let most = size.saturating_sub(page.place).min(MOST_AT_ONCE);
+    let mut len = stored_len(page);
+    for next in behind {
+        let more = stored_len(next);
+        if next.place.saturating_sub(page.place) != len || len + more > most {
+            break;
+        }
+        len += more;
+    }
+    len
+}
+
+impl Window {
+    /// No bytes, which are some of any file.
+    pub fn new(alloc: Global) -> Window
+        ensures { (file : FileState) → IsWindowOf file result }
+    {
+        Window {
+            at: 0,
+            bytes: Vec::new(alloc),
+        }
+    }
+
+    /// Whether a page lies here.
+    fn has(&self, page: &PageItem) -> bool
+        ensures { IsTrue result → LiesIn page.now self.now }
+    {
+        match page.place.checked_sub(self.at) {
+            Some(from) => {
+                u128::from(from) + u128::from(stored_len(page)) <= self.bytes.len() as u128
+            }
+            None => false,
+        }
+    }
+
+    /// The bytes of a page, with its checksum.
+    pub fn stored(&self, page: &PageItem) -> &[u8]
+        requires { LiesIn page.now self.now }
+        ensures { result.now ≡ window_bytes self.now page.now }
+    {
+        let (_, rest) = self.bytes.split_at((page.place - self.at) as usize);
+        let (stored, _) = rest.split_at(stored_len(page) as usize);
+        stored
+    }
+}
+
+/// The window that begins with a page, if the page lies in a file of this size. The pages behind it
+/// are read with it where they follow it closely.
+fn read_window<F: ReadAt>(
+    alloc: Global,
+    file: &mut F,
+    size: u64,
+    page: &PageItem,
+    behind: &[PageItem],
+    outside: ReadError,
+) -> Result<Window, ReadFailure>
+    requires { HasSize (F.state file.old) size }
+    ensures file { Serves (F.state file.old) (F.state file.new) result }
+    ensures read { ReadsFile (λ w. window_bytes w page.now)
+        (found_page outside page.now) (F.state file.old) result }
+    ensures window { IfOk result (λ w. IsWindowOf (F.state file.old) w) }
+    ensures lies { IfOk result (λ w. LiesIn page.now w) }
+{
+    let at = page.place;
+    let len = run_len(page, behind, size);
+    let bytes = read_block(alloc, file, size, at, len, outside)?;
+    Ok(Window { at, bytes })
+}
+
+/// Moves the window to a page, unless the page lies there already.
+pub fn move_to<F: ReadAt>(
+    alloc: Global,
+    file: &mut F,
+    size: u64,
+    page: &PageItem,
+    behind: &[PageItem],
+    outside: ReadError,
+    window: &mut Window,
+) -> Result<(), ReadFailure>
+    requires { IsSeenBy (F.state file.old) size window.old }
+    ensures file { Serves (F.state file.old) (F.state file.new) result }
+    ensures read { ReadsFile (λ _. window_bytes window.new page.now)
+        (found_page outside page.now) (F.state file.old) result }
+    ensures window { IsWindowOf (F.state file.old) window.new }
+    ensures lies { OnOk result (LiesIn page.now window.new) }
+{
+    if window.has(page) {
+        return Ok(());
+    }
+    *window = read_window(alloc, file, size, page, behind, outside)?;
+    Ok(())
+}
