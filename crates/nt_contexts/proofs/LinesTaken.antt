@@ -23,7 +23,8 @@ use Rattle.nt_contexts.specs.declared.error.ContextError.TheVariants.{Text, Limi
 use Rattle.nt_contexts.specs.Filling.{IsFor, IsSameContext, IsOpen, HasCommitted, HasTaken, HasWrittenAll, held_before, Halts}
 use Rattle.nt_contexts.specs.Taking.{WritesChunk, WritesRest}
 use Rattle.nt_contexts.specs.Running.{GoesOn, HasAll, IsCause, ReadsLine, Ended}
-use Rattle.nt_contexts.proofs.Reading.{read-nothing, read-end}
+use Rattle.nt_contexts.proofs.Reading.{read-end}
+use Rattle.nt_contexts.proofs.BadLines.{read-nothing}
 use Rattle.nt_contexts.proofs.Chunking.{chunks-full, chunks-none, chunks-last}
 use Rattle.nt_contexts.proofs.Committing.{committed-none}
 use Rattle.nt_contexts.proofs.Writing.{written_by, is_written, same_context, committed_written, halts-such}

@@ -152,9 +152,11 @@ module _ {D : Type 0} (state : D → DiskState) (committer : TurnState (Birth D)
         × (HasLooked committer.birth.group result → limit_at (book_of_birth state committer.birth history) place meta.len
         ≡ limit_answered result) =
         subst (λ (b : Birth D). (place : NextPlace (book_of_birth state b history))
-        × (HasLooked b.group result → limit_at (book_of_birth state b history) place meta.len ≡ limit_answered result)) c.hold.birth
-        (c.commits.place, λ looked. c.commits.limits (elim looked [ inl none ↦ inl none | inr apart ↦ inr (λ is. apart (without is)) ])
-        ∙ same) in
+        × (HasLooked b.group result → limit_at (book_of_birth state b history) place meta.len ≡ limit_answered result)) c.hold.birth (
+          c.commits.place,
+          λ looked. c.commits.limits (elim looked [ inl none ↦ inl none | inr apart ↦ inr (λ is. apart (without is)) ])
+              ∙ same,
+        ) in
         record {
           history = history;
           later = c.hold.begins;

@@ -34,10 +34,10 @@ lowest-once : (o : Outline) (cs : List ℕ) (c r d q : ℕ) → IsFirstTooMany o
 lowest-once o cs c r d q one two = ⊎_elim
     (λ lt. absurd (counted-once o c r (at (λ e. e < d → HasFewEnough o e) cs c two.2 one.0 lt) one.1))
     (λ ge. ⊎_elim
-        (λ lt. absurd (counted-once o d q (at (λ e. e < c → HasFewEnough o e) cs d one.2 two.0 lt) two.1))
-        (λ le. let same : c ≡ d = omega (arith, ge, le) in
-        err-is r q (sym one.1 ∙ ap (column_counted o) same ∙ two.1))
-        (cases_lt d c))
+    (λ lt. absurd (counted-once o d q (at (λ e. e < c → HasFewEnough o e) cs d one.2 two.0 lt) two.1))
+    (λ le. let same : c ≡ d = omega (arith, ge, le) in
+    err-is r q (sym one.1 ∙ ap (column_counted o) same ∙ two.1))
+    (cases_lt d c))
     (cases_lt c d)
   where
     err-is : (x y : ℕ) → ◌≡◌ {A = Result ℕ ℕ} (Err x) (Err y) → x ≡ y

@@ -130,10 +130,12 @@ kind-known t c h = by_row (slice_get t.columns c) refl h
     by_kind row true kind there known b h =
         record { row = row; kind = kind; there = there; known = known; is = rw (there, known, b) refl }
     by_kind row false kind there known b h = absurd cc
+
     by_code : (row : ColumnRow) (o : Option ColumnType) → slice_get t.columns c ≡ Some row → kind_of_code row.code ≡ o
         → IsSome (integral_kind o) → HasKind t c
     by_code row None there known h = absurd cc
     by_code row (Some kind) there known h = by_kind row (is_integral kind) kind there known refl h
+
     by_row : (o : Option ColumnRow) → slice_get t.columns c ≡ o → IsSome (integral_kind (option_and_then (λ row. kind_of_code row.code) o))
         → HasKind t c
     by_row None there h = absurd cc
@@ -211,12 +213,18 @@ count-step n x m xs false is rest h = absurd cc
 counted-sum : (n : ℕ) (xs : List ℕ) (m : ℕ) → n ≤ 2 ^ 60 → added_up n xs ≡ Ok m → n + sum xs ≤ 2 ^ 60
 counted-sum n [] m few h = omega (arith, few)
 counted-sum n (x ∷ xs) m few h =
-    omega (arith, sum-cons x xs,
-    count-step n x m xs (nat_le (n + x) (2 ^ 60)) refl (λ l le is. counted-sum l xs m le is) h)
+    omega (
+      arith,
+      sum-cons x xs,
+      count-step n x m xs (nat_le (n + x) (2 ^ 60)) refl (λ l le is. counted-sum l xs m le is) h,
+    )
 
 -- a column that has few enough by the lists has few enough elements
 pub few-over : (file : List ℕ) (o : Outline) (read : List (List (List Element))) (c m : ℕ) (k : HasKind o.table c)
     → column_counted o c ≡ Ok m → columns_over file o.table 0 o.clusters ≡ Ok read → length (column_over read c) ≤ 2 ^ 60
 few-over file o read c m k few h =
-    omega (arith, count-over file o.table 0 o.clusters read c k h,
-    counted-sum 0 (flat_map (cluster_counts o.table c) o.clusters) m (omega arith) few)
+    omega (
+      arith,
+      count-over file o.table 0 o.clusters read c k h,
+      counted-sum 0 (flat_map (cluster_counts o.table c) o.clusters) m (omega arith) few,
+    )

@@ -33,8 +33,14 @@ part-next t f columns i old new next y d0 e0 lt same p is a =
       done = λ k d e below. ⊎_elim
           (λ low. let other : k ≢ i = omega arith in rw (get_or-set_other new i k y e other) (p.done k d e low))
           (λ high. let here : k ≡ i = omega (arith, below, high) in
-          rw (here, get_or-set_same new i y e within, get_or_default columns i d d0 lt, sym (p.rest i e
-              (omega arith)), get_or_default new i e e0 within) a)
+          rw (
+            here,
+            get_or-set_same new i y e within,
+            get_or_default columns i d d0 lt,
+            sym (p.rest i e
+                (omega arith)),
+            get_or_default new i e e0 within,
+          ) a)
           (cases_lt k i);
       rest = λ k e le. let other : k ≢ i = omega (arith, le) in get_or-set_other new i k y e other ∙ p.rest k e (omega (arith, le));
     })
@@ -58,6 +64,7 @@ added-more t read cs f columns old mid new same first second i d e lt ns so_far 
     whole id =
         flat_map-append (λ columns. columns_by_id columns id) read (cs ∷ [])
         ∙ ap (λ l. column_over read id ++ l) (append-nil (columns_by_id cs id) ∙ sym (same id))
+
     joined : (ns : List ℕ) (xs ys zs : List Element) → zs ≡ xs ++ ys → (ns ++ numbers xs) ++ numbers ys ≡ ns ++ numbers zs
     joined ns xs ys zs is =
         append_assoc ns (numbers xs) (numbers ys)

@@ -35,8 +35,13 @@ totalled-more t columns running i totals more x d0 e0 lt same is one h =
         | inl low ↦ rw (get_or_append_left totals (x ∷ []) f k (omega (arith, low, h.len))) (h.each k d e f low)
         | inr high ↦
             let here : k ≡ i = omega (arith, below, high) in
-            rw (here, get_or_at totals x [] f i h.len, get_or_default columns i d d0 lt, get_or_default running i e e0 (omega
-                (arith, lt, same))) one
+            rw (
+              here,
+              get_or_at totals x [] f i h.len,
+              get_or_default columns i d d0 lt,
+              get_or_default running i e e0 (omega
+                  (arith, lt, same)),
+            ) one
       ];
     })
 

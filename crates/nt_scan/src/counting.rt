@@ -67,13 +67,7 @@ fn lower_of(lowest: Option<(u32, u64)>, other: (u32, u64)) -> (u32, u64)
     ensures { result ≡ lower_of lowest other }
 {
     match lowest {
-        Some(found) => {
-            if found.0 <= other.0 {
-                found
-            } else {
-                other
-            }
-        }
+        Some(found) => { if found.0 <= other.0 { found } else { other } }
         None => other,
     }
 }

@@ -48,8 +48,14 @@ whole-one x s = record { sum = omega (arith, s.sum, sum-one x.sum); least = omeg
 join : (xs ys : List Piece) (a b r : Piece) → IsWhole xs a → IsWhole ys b → IsJoinOf a b r → IsWhole (xs ++ ys) r
 join xs ys a b r f g j = record {
   sum = rw (map-append (λ (p : Piece). p.sum) xs ys) (omega (arith, f.sum, g.sum, j.sum, sum-append (sums xs) (sums ys)));
-  least = rw (map-append (λ (p : Piece). p.least) xs ys) (omega (arith, f.least, g.least, j.least, least_key-append (leasts xs)
-      (leasts ys)));
+  least = rw (map-append (λ (p : Piece). p.least) xs ys) (omega (
+    arith,
+    f.least,
+    g.least,
+    j.least,
+    least_key-append (leasts xs)
+        (leasts ys),
+  ));
   greatest = rw (map-append (λ (p : Piece). p.greatest) xs ys)
       (omega (arith, f.greatest, g.greatest, j.greatest, greatest_key-append (greatests xs) (greatests ys)));
 }
@@ -74,7 +80,7 @@ module _ (f : ℕ → List ℕ) where
   small (i ∷ is) [] h = absurd h
   small (i ∷ is) (p ∷ ps) h =
       All-cons IsSmall p ps (record { sum = omega (arith, h.0.sum); least = omega (arith, h.0.least, least_key-le (f i)) })
-          (small is ps h.1)
+      (small is ps h.1)
 
   sums-whole : (is : List ℕ) (ps : List Piece) → Each is ps → sum (sums ps) % 2 ^ 128 ≡ sum (flat_map f is) % 2 ^ 128
   sums-whole [] [] h = refl
