@@ -10,3 +10,5 @@ mod files;
 mod optionals;
 #[cfg(test)]
 mod tests;
+#[cfg(test)]
+mod whole;
