@@ -1,4 +1,5 @@
--- The pages of a cluster that are loaded at once, up to the first of a wrong size.
+-- The pages of a cluster that are loaded at once, up to the first of a wrong size (RNTuple Binary Format Specification 1.0.0.0, section
+-- Page List Envelope).
 use Rattle.std.specs.Prelude.{ℕ, ◌≡◌, ◌+◌, nat_eq, List, [], ◌∷◌, ◌++◌, map, take, if◌then◌else◌, Option, Some, None, Result, Ok, Err}
 use Rattle.std.specs.List.{range_with_len}
 use Rattle.nt_num.specs.Codes.{compressed, out_of_file, bad_page}

@@ -1,4 +1,5 @@
--- The columns of a cluster as they were loaded.
+-- The columns of a cluster as they were loaded (RNTuple Binary Format Specification 1.0.0.0, sections Column Description and Page List
+-- Envelope).
 use Rattle.std.specs.Prelude.{ℕ, ◌≡◌, List, slice_get, Option, Some, None, Ok}
 use Rattle.nt_types.specs.declared.column_type.ColumnType.{ColumnType}
 use Rattle.nt_grammar.specs.declared.rows.ColumnRow.{ColumnRow}
