@@ -67,15 +67,7 @@ impl Store {
         ensures err { IfErr result (λ e. e ≡ Memory) }
     {
         let entries = u64::from(self.entries);
-        match build_in(
-            memory,
-            self.alloc,
-            &self.columns,
-            schema,
-            self.page,
-            context,
-            entries,
-        ) {
+        match build_in(memory, &self.columns, schema, self.page, context, entries) {
             Ok(image) => Ok(image),
             Err(AllocError) => Err(CommitError::Memory),
         }

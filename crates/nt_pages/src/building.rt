@@ -34,22 +34,13 @@ pub fn build(
     ensures meta { IfOk result
         (λ r. r.meta ≡ cluster_meta page context entries (columns_of columns.now)) }
 {
-    build_in(
-        Vec::new(alloc),
-        alloc,
-        columns,
-        schema,
-        page,
-        context,
-        entries,
-    )
+    build_in(Vec::new(alloc), columns, schema, page, context, entries)
 }
 
 /// The same in memory that an earlier image had, whose bytes are lost. What is lacking is taken at
 /// once.
 pub fn build_in(
     memory: Vec<u8>,
-    alloc: Global,
     columns: &ColumnSet,
     schema: &Schema,
     page: u32,
@@ -63,6 +54,7 @@ pub fn build_in(
     ensures meta { IfOk result
         (λ r. r.meta ≡ cluster_meta page context entries (columns_of columns.now)) }
 {
+    let alloc = *memory.allocator();
     let count = schema.columns();
     let size = image_size(columns, count, page).ok_or(AllocError)?;
     let mut image = PartialImage::begin(memory, size as usize)?;

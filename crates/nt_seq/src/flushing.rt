@@ -20,13 +20,12 @@ use nt_outside::Disk;
 use nt_pages::{ClusterImage, build_in};
 use nt_plans::columns_have_types;
 use nt_schema::Schema;
-use std::alloc::{AllocError, Global};
+use std::alloc::AllocError;
 use std::mem;
 
 /// The image of the cluster of so many entries, in memory that an earlier image had.
 fn image_in(
     memory: Vec<u8>,
-    alloc: Global,
     columns: &ColumnSet,
     schema: &Schema,
     page: u32,
@@ -38,7 +37,7 @@ fn image_in(
     ensures meta { IfOk result (λ i. i.meta ≡ cluster_meta page 0 entries (columns_of columns.now)) }
     ensures err { IfErr result (λ e. e ≡ Memory) }
 {
-    match build_in(memory, alloc, columns, schema, page, 0, u64::from(entries)) {
+    match build_in(memory, columns, schema, page, 0, u64::from(entries)) {
         Ok(image) => Ok(image),
         Err(AllocError) => Err(CommitError::Memory),
     }
@@ -57,7 +56,6 @@ impl<D: Disk> SeqWriter<D> {
         let memory = mem::replace(&mut self.spare, Vec::new(self.alloc));
         let mut image = image_in(
             memory,
-            self.alloc,
             &self.columns,
             &self.schema,
             self.params.page,
