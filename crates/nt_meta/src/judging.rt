@@ -9,6 +9,17 @@ use crate::known::{KnownColumns, ends_before};
 use nt_num::ReadError;
 use nt_pagelists::{ClusterSummary, KnownColumn, PageItem};
 
+/// What a cluster lists of a column.
+#[derive(Clone, Copy)]
+pub(crate) struct Listed<'a> {
+    pub(crate) pages: &'a [PageItem],
+    /// The elements of these pages together.
+    pub(crate) elements: u64,
+    /// The first element index.
+    pub(crate) offset: u64,
+    ghost summed: { elements ≡ paged_elements pages.now },
+}
+
 /// The code of a column that begins inside of a cluster.
 const DEFERRED_INSIDE: u8 = 20;
 
@@ -30,36 +41,25 @@ fn no_pages(pages: &[PageItem]) -> bool
     pages.is_empty()
 }
 
-fn has_its_elements(
-    cluster: &ClusterSummary,
-    column: &KnownColumn,
-    pages: &[PageItem],
-    elements: u64,
-) -> bool
-    requires { elements ≡ paged_elements pages.now }
-    ensures { result ≡ has_its_elements cluster.now column.now pages.now }
+fn has_its_elements(cluster: &ClusterSummary, column: &KnownColumn, listed: &Listed) -> bool
+    ensures { result ≡ has_its_elements cluster.now column.now listed.now.pages.now }
 {
     if !(column.is_open && column.is_principal) {
         return true;
     }
     if cluster.entries == 0 || cluster.first < column.first {
-        no_pages(pages)
+        no_pages(listed.pages)
     } else {
-        elements == cluster.entries
+        listed.elements == cluster.entries
     }
 }
 
-fn has_its_offset(
-    column: &KnownColumn,
-    before: u64,
-    pages: &[PageItem],
-    elements: u64,
-    offset: u64,
-) -> bool
-    requires { elements ≡ paged_elements pages.now }
-    ensures { result ≡ has_its_offset column.now before pages.now offset }
+fn has_its_offset(column: &KnownColumn, before: u64, listed: &Listed) -> bool
+    ensures { result ≡ has_its_offset column.now before listed.now.pages.now listed.now.offset }
 {
-    !column.is_open || elements == 0 || (column.first <= offset && offset - column.first == before)
+    !column.is_open
+        || listed.elements == 0
+        || (column.first <= listed.offset && listed.offset - column.first == before)
 }
 
 /// The fault of a column in a cluster, by the pages that it has there.
@@ -70,20 +70,15 @@ pub(crate) fn judge(
     column: &KnownColumn,
     before: u64,
     frame: usize,
-    pages: &[PageItem],
-    elements: u64,
-    offset: u64,
+    listed: &Listed,
 ) -> Result<(), ReadError>
-    requires { elements ≡ paged_elements pages.now }
     ensures { Answers (λ done. done) (λ e. Some e) result
-        (judged cluster.now id column.now before frame pages.now offset) }
+        (judged cluster.now id column.now before frame listed.now.pages.now listed.now.offset) }
 {
     if begins_inside(cluster, column) {
         return Err(fault_in(DEFERRED_INSIDE, frame, cluster.number, id));
     }
-    if has_its_elements(cluster, column, pages, elements)
-        && has_its_offset(column, before, pages, elements, offset)
-    {
+    if has_its_elements(cluster, column, listed) && has_its_offset(column, before, listed) {
         return Ok(());
     }
     Err(fault_in(BAD_CLUSTER, frame, cluster.number, id))
@@ -103,7 +98,12 @@ fn judge_each(
 {
     for id in from..columns.len() as u32 {
         let column = columns.column(id);
-        judge(cluster, id, &column, 0, frame, &[], 0, 0)?;
+        let nothing = Listed {
+            pages: &[],
+            elements: 0,
+            offset: 0,
+        };
+        judge(cluster, id, &column, 0, frame, &nothing)?;
     }
     Ok(())
 }

@@ -7,7 +7,7 @@ ghost use Rattle.nt_pagelists.specs.Pages.{element_offset_at, column_list_at, co
 
 use crate::error::MetaError;
 use crate::faults::fault_in;
-use crate::judging::judge;
+use crate::judging::{Listed, judge};
 use crate::known::KnownColumns;
 use crate::reading_pages::push_items;
 use crate::words::{read_u32, read_u64};
@@ -59,7 +59,12 @@ fn read_column(
     let mut pages = Vec::new(alloc);
     let elements = push_items(&mut inside, cluster.number, id, count, &mut pages)?;
     let offset = read_offset(&mut inside, cluster, id, column, frame)?;
-    judge(cluster, id, column, before, frame, &pages, elements, offset).map_err(MetaError::Defect)?;
+    let listed = Listed {
+        pages: &pages,
+        elements,
+        offset,
+    };
+    judge(cluster, id, column, before, frame, &listed).map_err(MetaError::Defect)?;
     Ok(ColumnList {
         inner: frame as u64,
         offset: offset.cast_signed(),
