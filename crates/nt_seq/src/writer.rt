@@ -16,12 +16,12 @@ ghost use Rattle.nt_seq.specs.Changing.{BeginsFile};
 use nt_book::{Book, Params};
 use nt_close::{BeginError, begin};
 use nt_column::ColumnSet;
-use nt_direct::Direct;
 use nt_fill::empty_columns;
 use nt_outside::Disk;
 use nt_schema::{
     Schema, describe, described_fields_are_open, descriptions_are_one, schemas_are_described,
 };
+use nt_shred::Direct;
 use nt_types::Fields;
 use std::alloc::{AllocError, Global};
 use std::marker::Model;

@@ -14,7 +14,7 @@ use Rattle.nt_trees.specs.Fits.{fits_plan, fits_alternative}
 use Rattle.nt_trees.specs.Views.{cols_of, plans_in}
 use Rattle.nt_trees.proofs.Lists.{add_to-extends}
 use Rattle.nt_shred.specs.Frame.{Frame, set_frame, Takes, AllTake, FitsIn}
-use Rattle.nt_shred.specs.Steps.{Ready, Gains}
+use Rattle.nt_shred.specs.Steps.{Ready, GainsInRoom}
 use Rattle.nt_shred.proofs.Sets.{less-room}
 use Rattle.nt_shred.proofs.Arms.{rest-room}
 
@@ -98,14 +98,15 @@ module _ (s : ℕ) (ps : PlansData) (tag : ℕ) (p : PlanData) (t : TreeData) (n
         (less-room bs _ _ (add_to-extends s ((count_tag tag (cols_of bs s), tag) ∷ []) (put_one ps tag t (cols_of bs))) r.room);
   }
 
-  module _ (old now : List Buffer) (g : Gains (put_tree p t) old now) (x : ℕ) (is : x ≡ count_tag tag (cols_of old s)) where
+  module _ (old now : List Buffer) (g : GainsInRoom (put_tree p t) old now) (x : ℕ) (is : x ≡ count_tag tag (cols_of old s)) where
     pub pick-whole : add_to s ((x, tag) ∷ []) (cols_of now) ≡ put_tree (choice s ps) (pick tag t) (cols_of old)
     pick-whole = ap₂ (λ (m : ℕ) (c : Cols). add_to s ((m, tag) ∷ []) c) is (g.columns ∙ sym (nth-put ps tag p t (cols_of old) n))
 
     pub pick-room : Ready (choice s ps) (pick tag t) old → FitsIn now (add_to s ((x, tag) ∷ []) (cols_of now))
     pick-room r = rest-room (put_tree p t) (add_to s ((x, tag) ∷ [])) old now _ g pick-whole r.room
 
-    pub pick-done : (new : List Buffer) → Gains (add_to s ((x, tag) ∷ [])) now new → Gains (put_tree (choice s ps) (pick tag t)) old new
+    pub pick-done : (new : List Buffer) → GainsInRoom (add_to s ((x, tag) ∷ [])) now new
+        → GainsInRoom (put_tree (choice s ps) (pick tag t)) old new
     pick-done new h = record {
       columns = h.columns ∙ pick-whole;
       frame = h.frame ∙ g.frame;

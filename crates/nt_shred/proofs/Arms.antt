@@ -15,7 +15,7 @@ use Rattle.nt_trees.proofs.Elsewhere.{add_to-here}
 use Rattle.nt_trees.proofs.Leaves.{length-plain}
 use Rattle.nt_trees.proofs.Added.{added, all_added}
 use Rattle.nt_shred.specs.Frame.{set_frame, ends_below, FitsIn}
-use Rattle.nt_shred.specs.Steps.{Ready, ReadyAll, Gains}
+use Rattle.nt_shred.specs.Steps.{Ready, ReadyAll, GainsInRoom}
 use Rattle.nt_shred.proofs.Sets.{less-room, later-room, same-length, frame-within}
 
 -- ---- by what plans and trees are
@@ -23,17 +23,18 @@ use Rattle.nt_shred.proofs.Sets.{less-room, later-room, same-length, frame-withi
 pub ready-is : (p q : PlanData) (t u : TreeData) (bs : List Buffer) → p ≡ q → t ≡ u → Ready p t bs → Ready q u bs
 ready-is p q t u bs e f r = subst (λ x. Ready x u bs) e (subst (λ x. Ready p x bs) f r)
 
-pub gains-is : (p q : PlanData) (t u : TreeData) (old new : List Buffer) → p ≡ q → t ≡ u → Gains (put_tree q u) old new
-    → Gains (put_tree p t) old new
-gains-is p q t u old new e f g = subst (λ x. Gains (put_tree x t) old new) (sym e) (subst (λ x. Gains (put_tree q x) old new) (sym f) g)
+pub gains-is : (p q : PlanData) (t u : TreeData) (old new : List Buffer) → p ≡ q → t ≡ u → GainsInRoom (put_tree q u) old new
+    → GainsInRoom (put_tree p t) old new
+gains-is p q t u old new e f g = subst (λ x. GainsInRoom (put_tree x t) old new) (sym e) (subst (λ x. GainsInRoom
+    (put_tree q x) old new) (sym f) g)
 
 -- what is still to be added has room, where all had it
-pub rest-room : (f g : Cols → Cols) (old now : List Buffer) (final : Cols) → Gains f old now → g (cols_of now) ≡ final
+pub rest-room : (f g : Cols → Cols) (old now : List Buffer) (final : Cols) → GainsInRoom f old now → g (cols_of now) ≡ final
     → FitsIn old final → FitsIn now (g (cols_of now))
 rest-room f g old now final gain is r = subst (FitsIn now) (sym is) (later-room old now final gain.frame gain.room r)
 
 -- what was added has room
-pub now-room : (f : Cols → Cols) (old now : List Buffer) (final : Cols) → Gains f old now → Extends (f (cols_of old)) final
+pub now-room : (f : Cols → Cols) (old now : List Buffer) (final : Cols) → GainsInRoom f old now → Extends (f (cols_of old)) final
     → FitsIn old final → FitsIn now (cols_of now)
 now-room f old now final gain x r = subst (FitsIn now) (sym gain.columns)
     (less-room now _ final x (later-room old now final gain.frame gain.room r))
@@ -55,7 +56,7 @@ list-all e p ts bs r = record {
 }
 
 module _ (e : ℕ) (p : PlanData) (ts : TreesData) (old now : List Buffer) (r : Ready (list e p) (items ts) old)
-    (g : Gains (put_each (put_tree p) ts) old now) where
+    (g : GainsInRoom (put_each (put_tree p) ts) old now) where
   pub list-sound : Sound p (cols_of now) (last_end (cols_of old e) + how_many_trees ts)
   list-sound = subst (λ c. Sound p c (last_end (cols_of old e) + how_many_trees ts)) (sym g.columns)
       (all_added p (λ t cs m s i. added p t cs m r.differ.1 s i) ts (cols_of old) (last_end (cols_of old e)) r.sound.2 r.fitting).0
@@ -72,8 +73,8 @@ module _ (e : ℕ) (p : PlanData) (ts : TreesData) (old now : List Buffer) (r : 
   pub list-end : (end : ℕ) → end ≡ last_end (cols_of old e) + how_many_trees ts → FitsIn now (add_to e (plain end ∷ []) (cols_of now))
   list-end end is = rest-room (put_each (put_tree p) ts) (add_to e (plain end ∷ [])) old now _ g (list-whole end is) r.room
 
-  pub list-done : (new : List Buffer) (end : ℕ) → Gains (add_to e (plain end ∷ [])) now new → end ≡ last_end (cols_of old e)
-      + how_many_trees ts → Gains (put_tree (list e p) (items ts)) old new
+  pub list-done : (new : List Buffer) (end : ℕ) → GainsInRoom (add_to e (plain end ∷ [])) now new → end ≡ last_end (cols_of old e)
+      + how_many_trees ts → GainsInRoom (put_tree (list e p) (items ts)) old new
   list-done new end h is = record {
     columns = h.columns ∙ list-whole end is;
     frame = h.frame ∙ g.frame;
@@ -88,7 +89,7 @@ text-bytes e c s bs r = less-room bs _ _ (add_to-extends e (plain (last_end (col
     (add_to c (map plain s) (cols_of bs))) r.room
 
 module _ (e c : ℕ) (s : List ℕ) (old now : List Buffer) (r : Ready (text e c) (trees.text s) old)
-    (g : Gains (add_to c (map plain s)) old now) where
+    (g : GainsInRoom (add_to c (map plain s)) old now) where
   pub text-end : length (cols_of now c) ≡ last_end (cols_of old e) + length s
   text-end =
       let here = ap (λ (f : Cols). length (f c)) g.columns in
@@ -113,8 +114,8 @@ module _ (e c : ℕ) (s : List ℕ) (old now : List Buffer) (r : Ready (text e c
   pub text-last : (end : ℕ) → end ≡ last_end (cols_of old e) + length s → FitsIn now (add_to e (plain end ∷ []) (cols_of now))
   text-last end is = rest-room (add_to c (map plain s)) (add_to e (plain end ∷ [])) old now _ g (text-whole end is) r.room
 
-  pub text-done : (new : List Buffer) (end : ℕ) → Gains (add_to e (plain end ∷ [])) now new → end ≡ last_end (cols_of old e)
-      + length s → Gains (put_tree (text e c) (trees.text s)) old new
+  pub text-done : (new : List Buffer) (end : ℕ) → GainsInRoom (add_to e (plain end ∷ [])) now new → end ≡ last_end (cols_of old e)
+      + length s → GainsInRoom (put_tree (text e c) (trees.text s)) old new
   text-done new end h is = record {
     columns = h.columns ∙ text-whole end is;
     frame = h.frame ∙ g.frame;

@@ -14,7 +14,7 @@ use Rattle.nt_trees.proofs.Stable.{put_each-extends, put_tree-extends, put_trees
 use Rattle.nt_trees.proofs.Elsewhere.{put_tree-elsewhere, all_sound-agrees, other_side}
 use Rattle.nt_trees.proofs.Added.{added}
 use Rattle.nt_shred.specs.Frame.{set_frame, Takes, AllTake, capacity_at, FitsIn}
-use Rattle.nt_shred.specs.Steps.{Ready, ReadyAll, ReadyEach, Gains}
+use Rattle.nt_shred.specs.Steps.{Ready, ReadyAll, ReadyEach, GainsInRoom}
 use Rattle.nt_shred.proofs.Sets.{less-room, later-room}
 
 -- what is left of trees of one plan
@@ -50,7 +50,7 @@ all-first p all rest t start now l =
     }
 
 pub all-next : (p : PlanData) (all rest : TreesData) (t : TreeData) (start now new : List Buffer)
-    → LeftAll p all (tree t rest) start now → Gains (put_tree p t) now new → LeftAll p all rest start new
+    → LeftAll p all (tree t rest) start now → GainsInRoom (put_tree p t) now new → LeftAll p all rest start new
 all-next p all rest t start now new l g =
     let r = l.ready in
     let q = and_parts (fits_plan p t) (all_trees (fits_plan p) rest) r.fitting in
@@ -70,7 +70,7 @@ all-next p all rest t start now new l g =
     }
 
 pub all-ends : (p : PlanData) (all : TreesData) (start now : List Buffer) → LeftAll p all no_trees start now
-    → Gains (put_each (put_tree p) all) start now
+    → GainsInRoom (put_each (put_tree p) all) start now
 all-ends p all start now l = record { columns = l.columns; frame = l.frame; room = l.room }
 
 pub each-begins : (ps : PlansData) (ts : TreesData) (bs : List Buffer) → ReadyEach ps ts bs → LeftEach ps ts ps ts bs bs
@@ -91,7 +91,7 @@ each-first ps all p qs t rest start now l =
     }
 
 pub each-next : (ps : PlansData) (all : TreesData) (p : PlanData) (qs : PlansData) (t : TreeData) (rest : TreesData)
-    (start now new : List Buffer) → LeftEach ps all (plan p qs) (tree t rest) start now → Gains (put_tree p t) now new
+    (start now new : List Buffer) → LeftEach ps all (plan p qs) (tree t rest) start now → GainsInRoom (put_tree p t) now new
     → LeftEach ps all qs rest start new
 each-next ps all p qs t rest start now new l g =
     let r = l.ready in
@@ -113,7 +113,7 @@ each-next ps all p qs t rest start now new l g =
     }
 
 pub each-ends : (ps : PlansData) (all rest : TreesData) (start now : List Buffer) → LeftEach ps all no_plans rest start now
-    → Gains (put_trees ps all) start now
+    → GainsInRoom (put_trees ps all) start now
 each-ends ps all rest start now l = record { columns = l.columns; frame = l.frame; room = l.room }
 
 -- there is a tree for each plan that is left

@@ -13,7 +13,7 @@ use Rattle.nt_trees.specs.Views.{cols_of}
 use Rattle.nt_trees.proofs.Lists.{add_to-extends}
 use Rattle.nt_trees.proofs.Added.{added}
 use Rattle.nt_shred.specs.Frame.{FitsIn}
-use Rattle.nt_shred.specs.Steps.{put_some, Ready, ReadySome, Gains}
+use Rattle.nt_shred.specs.Steps.{put_some, Ready, ReadySome, GainsInRoom}
 use Rattle.nt_shred.proofs.Sets.{less-room}
 use Rattle.nt_shred.proofs.Arms.{rest-room, now-room}
 
@@ -51,15 +51,15 @@ some-ready p t bs is r = record {
   room = subst (λ b. FitsIn bs (cond b (cols_of bs) (put_tree p t (cols_of bs)))) is r.room;
 }
 
-pub some-gains : (f : TreeData → Cols → Cols) (t : TreeData) (old new : List Buffer) → is_nothing t ≡ false → Gains (f t) old new
-    → Gains (put_some f t) old new
+pub some-gains : (f : TreeData → Cols → Cols) (t : TreeData) (old new : List Buffer) → is_nothing t ≡ false → GainsInRoom (f t) old new
+    → GainsInRoom (put_some f t) old new
 some-gains f t old new is g = record {
   columns = g.columns ∙ sym (ap (λ b. cond b (cols_of old) (f t (cols_of old))) is);
   frame = g.frame;
   room = g.room;
 }
 
-pub none-gains : (f : TreeData → Cols → Cols) (t : TreeData) (bs : List Buffer) → is_nothing t ≡ true → Gains (put_some f t) bs bs
+pub none-gains : (f : TreeData → Cols → Cols) (t : TreeData) (bs : List Buffer) → is_nothing t ≡ true → GainsInRoom (put_some f t) bs bs
 none-gains f t bs is = record {
   columns = sym (ap (λ b. cond b (cols_of bs) (f t (cols_of bs))) is);
   frame = refl;
@@ -84,7 +84,7 @@ maybe-some e p t bs r = record {
 }
 
 module _ (e : ℕ) (p : PlanData) (t : TreeData) (old now : List Buffer) (r : Ready (maybe e p) t old)
-    (g : Gains (put_some (put_tree p) t) old now) where
+    (g : GainsInRoom (put_some (put_tree p) t) old now) where
   pub maybe-sound : Sound p (cols_of now) (last_end (cols_of old e) + how_many_in t)
   maybe-sound = subst (λ c. Sound p c (last_end (cols_of old e) + how_many_in t)) (sym g.columns)
       (some_sound p t (cols_of old) (last_end (cols_of old e)) r.differ.1 r.sound.3 r.fitting)
@@ -103,8 +103,8 @@ module _ (e : ℕ) (p : PlanData) (t : TreeData) (old now : List Buffer) (r : Re
   pub maybe-end : (end : ℕ) → end ≡ last_end (cols_of old e) + how_many_in t → FitsIn now (add_to e (plain end ∷ []) (cols_of now))
   maybe-end end is = rest-room (put_some (put_tree p) t) (add_to e (plain end ∷ [])) old now _ g (maybe-whole end is) r.room
 
-  pub maybe-done : (new : List Buffer) (end : ℕ) → Gains (add_to e (plain end ∷ [])) now new
-      → end ≡ last_end (cols_of old e) + how_many_in t → Gains (put_tree (maybe e p) t) old new
+  pub maybe-done : (new : List Buffer) (end : ℕ) → GainsInRoom (add_to e (plain end ∷ [])) now new
+      → end ≡ last_end (cols_of old e) + how_many_in t → GainsInRoom (put_tree (maybe e p) t) old new
   maybe-done new end h is = record {
     columns = h.columns ∙ maybe-whole end is;
     frame = h.frame ∙ g.frame;

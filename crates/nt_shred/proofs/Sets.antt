@@ -12,7 +12,7 @@ use Rattle.nt_trees.specs.Views.{cols_of}
 use Rattle.nt_trees.proofs.Elsewhere.{add_to-here}
 use Rattle.nt_trees.proofs.Lists.{Extends}
 use Rattle.nt_shred.specs.Frame.{set_frame, capacity_at, ends_below, FitsIn}
-use Rattle.nt_shred.specs.Steps.{Gains}
+use Rattle.nt_shred.specs.Steps.{GainsInRoom}
 
 suc-same : (j k : ℕ) → (suc j == suc k) ≡ (j == k)
 suc-same j k = go (cases_eq j k)
@@ -58,7 +58,7 @@ capacity-set (x ∷ bs) (suc k) b new es at is le zero = omega arith
 capacity-set (x ∷ bs) (suc k) b new es at is le (suc j) = capacity-set bs k b new es at is le j
 
 pub gains : (bs : List Buffer) (k : ℕ) (b new : Buffer) (es : List Element) → slice_get bs k ≡ Some b
-    → new.column ≡ with_more b.column es → b.spare ≤ new.spare + length es → Gains (add_to k es) bs (set bs k new)
+    → new.column ≡ with_more b.column es → b.spare ≤ new.spare + length es → GainsInRoom (add_to k es) bs (set bs k new)
 gains bs k b new es at is le = record {
   columns = λ i j. elements-set bs k b new es at is j i;
   frame = frame-set bs k b new es at is;

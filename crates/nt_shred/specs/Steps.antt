@@ -57,7 +57,7 @@ pub record ReadyEach (ps : PlansData) (ts : TreesData) (bs : List Buffer) : Type
   pub room : FitsIn bs (put_trees ps ts (cols_of bs))
 
 -- this is added, by memory that was there
-pub record Gains (f : Cols → Cols) (old new : List Buffer) : Type 0 where
+pub record GainsInRoom (f : Cols → Cols) (old new : List Buffer) : Type 0 where
   pub columns : cols_of new ≡ f (cols_of old)
   pub frame : set_frame new ≡ set_frame old
   pub room : (k : ℕ) → capacity_at old k ≤ capacity_at new k

@@ -5,7 +5,7 @@ ghost use Rattle.nt_column.specs.Elements.{plain};
 ghost use Rattle.nt_trees.specs.Columns.{add_to};
 ghost use Rattle.nt_trees.specs.Views.{cols_of};
 ghost use Rattle.nt_shred.specs.Frame.{set_frame, IsPlain, IsEnds, IsTags, FitsIn, ends_below};
-ghost use Rattle.nt_shred.specs.Steps.{Gains};
+ghost use Rattle.nt_shred.specs.Steps.{GainsInRoom};
 
 use nt_column::ColumnSet;
 
@@ -13,7 +13,7 @@ use nt_column::ColumnSet;
 pub fn push(out: &mut ColumnSet, column: u32, value: u64)
     requires column { (bits : ℕ) × IsPlain (set_frame out.old) column bits × (value < 2 ^ bits) }
     requires room { FitsIn out.old (add_to column (plain value ∷ []) (cols_of out.old)) }
-    ensures { Gains (add_to column (plain value ∷ [])) out.old out.new }
+    ensures { GainsInRoom (add_to column (plain value ∷ [])) out.old out.new }
 {
     out.buffer(column).push(value);
 }
@@ -23,7 +23,7 @@ pub fn push(out: &mut ColumnSet, column: u32, value: u64)
 pub fn push_at_width(out: &mut ColumnSet, column: u32, bits: u8, value: u64)
     requires column { IsPlain (set_frame out.old) column bits × (value < 2 ^ bits) }
     requires room { FitsIn out.old (add_to column (plain value ∷ []) (cols_of out.old)) }
-    ensures { Gains (add_to column (plain value ∷ [])) out.old out.new }
+    ensures { GainsInRoom (add_to column (plain value ∷ [])) out.old out.new }
 {
     out.buffer(column).push_at_width(bits, value);
 }
@@ -33,7 +33,7 @@ pub fn push_end(out: &mut ColumnSet, column: u32, end: u64)
     requires column { IsEnds (set_frame out.old) column }
     requires end { end < ends_below (set_frame out.old) }
     requires room { FitsIn out.old (add_to column (plain end ∷ []) (cols_of out.old)) }
-    ensures { Gains (add_to column (plain end ∷ [])) out.old out.new }
+    ensures { GainsInRoom (add_to column (plain end ∷ [])) out.old out.new }
 {
     out.buffer(column).push(end);
 }
@@ -42,7 +42,7 @@ pub fn push_end(out: &mut ColumnSet, column: u32, end: u64)
 pub fn push_tag(out: &mut ColumnSet, column: u32, index: u64, tag: u32)
     requires column { IsTags (set_frame out.old) column }
     requires room { FitsIn out.old (add_to column ((index, tag) ∷ []) (cols_of out.old)) }
-    ensures { Gains (add_to column ((index, tag) ∷ [])) out.old out.new }
+    ensures { GainsInRoom (add_to column ((index, tag) ∷ [])) out.old out.new }
 {
     out.buffer(column).push_switch(index, tag);
 }
@@ -51,7 +51,7 @@ pub fn push_tag(out: &mut ColumnSet, column: u32, index: u64, tag: u32)
 pub fn push_bytes(out: &mut ColumnSet, column: u32, bytes: &[u8])
     requires column { IsPlain (set_frame out.old) column 8 }
     requires room { FitsIn out.old (add_to column (map plain bytes.now) (cols_of out.old)) }
-    ensures { Gains (add_to column (map plain bytes.now)) out.old out.new }
+    ensures { GainsInRoom (add_to column (map plain bytes.now)) out.old out.new }
 {
     out.buffer(column).push_bytes(bytes);
 }

@@ -4,7 +4,7 @@ ghost use Rattle.nt_plans.specs.PlanViews.{plan_view};
 ghost use Rattle.nt_types.specs.TreeViews.{tree_view};
 ghost use Rattle.nt_trees.specs.Put.{put_tree, put_each, put_trees};
 ghost use Rattle.nt_trees.specs.Views.{plans_in, trees_in};
-ghost use Rattle.nt_shred.specs.Steps.{put_some, Ready, ReadyAll, ReadySome, ReadyEach, Gains};
+ghost use Rattle.nt_shred.specs.Steps.{put_some, Ready, ReadyAll, ReadySome, ReadyEach, GainsInRoom};
 
 use crate::counting::count;
 use crate::integers::element;
@@ -19,7 +19,7 @@ use nt_types::Tree;
 #[cycle(put)]
 fn put_tree(out: &mut ColumnSet, plan: &Plan, tree: &Tree)
     requires { Ready (plan_view plan.now) (tree_view tree.now) out.old }
-    ensures { Gains (put_tree (plan_view plan.now) (tree_view tree.now)) out.old out.new }
+    ensures { GainsInRoom (put_tree (plan_view plan.now) (tree_view tree.now)) out.old out.new }
 {
     match plan {
         Plan::Bool { column } => push(out, *column, u64::from(flag_in(tree))),
@@ -56,7 +56,7 @@ fn put_tree(out: &mut ColumnSet, plan: &Plan, tree: &Tree)
 #[cycle(put)]
 fn put_each(out: &mut ColumnSet, of: &Plan, items: &[Tree])
     requires { ReadyAll (plan_view of.now) (trees_in items.now) out.old }
-    ensures { Gains (put_each (put_tree (plan_view of.now)) (trees_in items.now)) out.old out.new }
+    ensures { GainsInRoom (put_each (put_tree (plan_view of.now)) (trees_in items.now)) out.old out.new }
 {
     for item in items {
         put_tree(out, of, item);
@@ -67,7 +67,7 @@ fn put_each(out: &mut ColumnSet, of: &Plan, items: &[Tree])
 #[cycle(put)]
 fn put_some(out: &mut ColumnSet, of: &Plan, tree: &Tree)
     requires { ReadySome (plan_view of.now) (tree_view tree.now) out.old }
-    ensures { Gains (put_some (put_tree (plan_view of.now)) (tree_view tree.now)) out.old out.new }
+    ensures { GainsInRoom (put_some (put_tree (plan_view of.now)) (tree_view tree.now)) out.old out.new }
 {
     if !is_nothing(tree) {
         put_tree(out, of, tree);
@@ -78,7 +78,7 @@ fn put_some(out: &mut ColumnSet, of: &Plan, tree: &Tree)
 #[cycle(put)]
 pub fn put_trees(out: &mut ColumnSet, plans: &[Plan], trees: &[Tree])
     requires { ReadyEach (plans_in plans.now) (trees_in trees.now) out.old }
-    ensures { Gains (put_trees (plans_in plans.now) (trees_in trees.now)) out.old out.new }
+    ensures { GainsInRoom (put_trees (plans_in plans.now) (trees_in trees.now)) out.old out.new }
 {
     for (i, plan) in plans.iter().enumerate() {
         put_tree(out, plan, &trees[i]);

@@ -8,7 +8,7 @@ use Rattle.nt_trees.specs.Views.{cols_of}
 use Rattle.nt_trees.proofs.FitPlans.{fit-open}
 use Rattle.nt_shred.specs.Frame.{set_frame}
 use Rattle.nt_shred.proofs.Typed.{all-typed-take}
-use Rattle.nt_direct.specs.Lines.{PutsEntry}
+use Rattle.nt_shred.specs.Lines.{PutsEntry}
 use Rattle.nt_fill.proofs.Bytes.{all_bytes, small_of}
 use Rattle.nt_fill.proofs.Entries.{entries_more, entries_count, nones_more, gives_of}
 use Rattle.nt_seq.specs.Writer.{gathered_by}

@@ -1,9 +1,0 @@
-use Rattle.std.proofs.Common.{length, ◌-◌}
-use Rattle.nt_direct.proofs.OneColumn.{SoFarIn}
-use Rattle.nt_direct.proofs.integers.items.Given as goal
-
-abbrev pub invariant-loop-next : goal.invariant-loop-next
-invariant-loop-next l = SoFarIn l.bits l.signed l.line l.at l.i l.fn.column l.column
-
-abbrev pub decreases-loop-next : goal.decreases-loop-next
-decreases-loop-next l = length l.line - l.i

@@ -1,9 +1,0 @@
-use Rattle.std.proofs.Common.{length, ◌-◌}
-use Rattle.nt_direct.proofs.RunOfIntegers.{RunSoFar}
-use Rattle.nt_direct.proofs.optional.run.Given as goal
-
-abbrev pub invariant-loop-next : goal.invariant-loop-next
-invariant-loop-next l = RunSoFar l.bits l.signed l.line l.at l.i l.fn.column l.column
-
-abbrev pub decreases-loop-next : goal.decreases-loop-next
-decreases-loop-next l = length l.line - l.i

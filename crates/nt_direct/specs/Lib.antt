@@ -1,4 +1,0 @@
-pub mod Places
-pub mod Runs
-pub mod Walk
-pub mod Lines

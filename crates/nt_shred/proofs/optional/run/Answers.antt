@@ -1,0 +1,22 @@
+use Rattle.nt_shred.proofs.RunOfIntegers.{run-first, run-more, run-not, run-part}
+use Rattle.nt_shred.proofs.optional.run.Goals as goal
+
+pub returns-in_err-first : goal.returns-in_err-first
+returns-in_err-first c =
+    run-not c.args.bits c.args.signed c.args.line.now c.args.at c.args.column.now c.from_residual.result c.from_residual.ensures
+
+pub loop-next-init : goal.loop-next-init
+loop-next-init c =
+    run-first c.args.bits c.args.signed c.in_ok-first.first c.args.line.now c.args.at c.in_ok-first.end c.args.column.now
+    c.push_at_width.new.self c.requires.takes c.in_ok-first.ensures c.push_at_width.ensures.column c.push_at_width.ensures.spare
+
+pub returns-in_err-value : goal.returns-in_err-value
+returns-in_err-value c =
+    run-part c.args.bits c.args.signed c.args.line.now c.args.at c.loop-next.i c.args.column.now c.loop-next.column
+    c.from_residual-in_err-value.result c.from_residual-in_err-value.ensures c.loop-next.invariant
+
+pub loop-next-preserved : goal.loop-next-preserved
+loop-next-preserved c =
+    run-more c.args.bits c.args.signed c.in_ok-value.value c.args.line.now c.args.at c.loop-next.i c.in-Some.next c.in_ok-value.end
+    c.args.column.now c.loop-next.column c.push_at_width-in-Some.new.self c.loop-next.invariant c.in-Some.ensures c.in_ok-value.ensures
+    c.push_at_width-in-Some.ensures.column c.push_at_width-in-Some.ensures.spare
