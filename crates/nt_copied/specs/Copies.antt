@@ -1,4 +1,5 @@
--- Files whose clusters are copies of those of other files, page by page as these are stored.
+-- Files whose clusters are copies of those of other files, page by page as these are stored
+-- (RNTuple Binary Format Specification 1.0.0.0, sections Pages, Page Locations and Page List Envelope).
 use Rattle.std.specs.Prelude.{ℕ, ◌≡◌, ◌+◌, ◌<◌, ◌^◌, ◌==◌, ◌&&◌, not, List, [], ◌∷◌, map, length, Option, Some, None, if◌then◌else◌}
 use Rattle.std.specs.List.{AllByRecursion}
 use Rattle.nt_types.specs.TreeData.{TreesData}

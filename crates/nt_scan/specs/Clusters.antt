@@ -1,4 +1,4 @@
--- The elements of columns in all clusters of a file.
+-- The elements of columns in all clusters of a file (RNTuple Binary Format Specification 1.0.0.0, sections Clusters and Pages).
 use Rattle.std.specs.Prelude.{ℕ, ◌+◌, List, [], ◌∷◌, Result, Ok}
 use Rattle.std.specs.List.{flat_map}
 use Rattle.nt_num.specs.declared.fault.ReadError.{ReadError}

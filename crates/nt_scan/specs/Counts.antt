@@ -1,4 +1,5 @@
--- How many elements columns have by the page lists, up to the first count that is too large.
+-- How many elements columns have by the page lists, up to the first count that is too large (RNTuple Binary Format Specification 1.0.0.0,
+-- sections Page List Envelope and Page Locations).
 use Rattle.std.specs.Prelude.{ℕ, ◌≡◌, ◌+◌, ◌-◌, ◌^◌, ◌<◌, min, nat_le, List, [], ◌∷◌, map, slice_index_or, Option, Some, None}
 use Rattle.std.specs.Prelude.{Result, Ok, Err}
 use Rattle.std.specs.Prelude.{if◌then◌else◌}

@@ -1,4 +1,5 @@
--- The number leaves of a schema: of open fields those with one column of integers, characters or bytes.
+-- The number leaves of a schema: of open fields those with one column of integers, characters or bytes
+-- (RNTuple Binary Format Specification 1.0.0.0, sections Field Description and Column Description).
 use Rattle.std.specs.Prelude.{ℕ, ◌+◌, List, [], ◌∷◌, map, Option, Some, None, ◌==◌, if◌then◌else◌, slice_get, option_and_then, IsSome}
 use Rattle.nt_types.specs.declared.column_type.ColumnType.{ColumnType}
 use Rattle.nt_types.specs.declared.column_type.ColumnType.TheVariants.{Byte}
