@@ -1,8 +1,8 @@
 //! Sweeps over the ends of optionals, each of which has one item at most.
 
-ghost use Rattle.std.specs.Prelude.{◌≡◌, ◌+◌, ◌&&◌, nat_le, map, option_map};
+ghost use Rattle.std.specs.Prelude.{◌≡◌, ◌+◌, ◌&&◌, ◌<◌, ℕ, nat_le, map, option_map, length, true, IsTrue};
 ghost use Rattle.nt_column.specs.Elements.{plain};
-ghost use Rattle.nt_trees.specs.Faults.{stepping, column_fault};
+ghost use Rattle.nt_trees.specs.Faults.{stepping, is_met, column_fault};
 ghost use Rattle.nt_join.specs.Spots.{spot_of};
 ghost use Rattle.nt_join.specs.Sweeps.{IsFirstUnmet};
 
@@ -17,10 +17,26 @@ fn is_step(last: u64, end: u64) -> bool
     last <= end && end - last <= 1
 }
 
+/// Whether each of these ends is a step. No end is branched on, so that LLVM looks at several at once.
+fn are_steps(ends: &[u64]) -> bool
+    ensures { IsTrue result → (i : ℕ) → i < length ends.now → is_met stepping (map plain ends.now) i ≡ true }
+{
+    let mut odd: u64 = 0;
+    let mut last: u64 = 0;
+    for end in ends {
+        odd |= end.wrapping_sub(last) >> 1;
+        last = *end;
+    }
+    odd == 0
+}
+
 /// The first of these ends that is no step, or their number.
 fn first_leap_in(ends: &[u64]) -> usize
     ensures { IsFirstUnmet stepping (map plain ends.now) result }
 {
+    if are_steps(ends) {
+        return ends.len();
+    }
     let mut last: u64 = 0;
     for i in 0..ends.len() {
         let end = ends[i];
