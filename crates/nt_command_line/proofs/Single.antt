@@ -6,7 +6,7 @@ use Rattle.nt_book.specs.declared.params.Params.{Params}
 use Rattle.nt_book.specs.Ranges.{IsFromTo}
 use Rattle.nt_draws.specs.Making.{max_events, max_seed, AreContexts}
 use Rattle.nt_draws.specs.declared.making.Making.{Making}
-use Rattle.nt_command_line.specs.CommandLine.{IsEntries, IsSchemaCommand}
+use Rattle.nt_command_line.specs.CommandLine.{IsEntries, IsSchemaCommand, IsScan}
 use Rattle.clap.specs.Words.{App}
 use Rattle.nt_command_line.specs.Options.{AreParamsSaid}
 use Rattle.nt_command_line.specs.WriteWords.{write_app, IsWrite}
@@ -126,7 +126,11 @@ same_entries P words f c f' c' n n' one other holds =
     let name : n ≡ n' = some_is n n' (sym one.file_is ∙ other.file_is) in
     subst (λ (o : Option ℕ). P o c' n') from (subst (λ (o : Option ℕ). P f o n') count (subst (P f c) name holds))
 
--- and of `schema`
+-- of `schema`
 pub same_schema : (P : List ℕ → Type 0) (words : List (List ℕ)) (n n' : List ℕ) → IsSchemaCommand words n
     → IsSchemaCommand words n' → P n → P n'
 same_schema P words n n' one other holds = subst P (some_is n n' (sym one.file_is ∙ other.file_is)) holds
+
+-- and of `scan`
+pub same_scan : (P : List ℕ → Type 0) (words : List (List ℕ)) (n n' : List ℕ) → IsScan words n → IsScan words n' → P n → P n'
+same_scan P words n n' one other holds = subst P (some_is n n' (sym one.file_is ∙ other.file_is)) holds

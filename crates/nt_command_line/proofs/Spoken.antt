@@ -12,7 +12,7 @@ use Rattle.clap.specs.Words.{is_simple_and_free}
 use Rattle.clap.specs.declared.parser.matches.ArgMatches.{ArgMatches}
 use Rattle.clap.proofs.WalkLemmas.{first_value-rows, raw_values-rows}
 use Rattle.nt_command_line.specs.CommandLine.{texts, app, operand, entries_rules, entries_app}
-use Rattle.nt_command_line.specs.CommandLine.{schema_app, is_true_word, number_said, number_found}
+use Rattle.nt_command_line.specs.CommandLine.{schema_app, scan_app, is_true_word, number_said, number_found}
 use Rattle.nt_command_line.specs.CommandLine.{is_flag_found, Begins, IsTaken, word_found, words_found, is_among}
 use Rattle.nt_command_line.specs.WriteWords.{write_rules, write_app, NamesOfWrite}
 use Rattle.nt_command_line.specs.SeqWords.{seq_rules, seq_app, NamesOfSeq}
@@ -128,3 +128,7 @@ entries_is = refl
 pub schema_is : app (codes "schema") (operand (codes "FILE") ∷ []) ≡ schema_app
 unfolding schema_app
 schema_is = refl
+
+pub scan_is : app (codes "scan") (operand (codes "FILE") ∷ []) ≡ scan_app
+unfolding scan_app
+scan_is = refl

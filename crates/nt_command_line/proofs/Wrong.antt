@@ -2,7 +2,7 @@
 use Rattle.std.proofs.Common.{◌≡◌, ◌∙◌, inl, inr, ap, sym, subst, refl, ℕ, true, false, List, ◌∷◌, [], codes, Option, Some}
 use Rattle.std.specs.Prelude.{unwrap_or, slice_get}
 use Rattle.std.specs.Str.{bytes_eq}
-use Rattle.nt_command_line.specs.CommandLine.{entries_app, schema_app, Begins, IsTaken, is_among}
+use Rattle.nt_command_line.specs.CommandLine.{entries_app, schema_app, scan_app, Begins, IsTaken, is_among}
 use Rattle.nt_command_line.specs.WriteWords.{AreApart, IsWrongWrite}
 use Rattle.nt_command_line.specs.SeqWords.{IsWrongSeq}
 use Rattle.nt_command_line.specs.GenWords.{gen_app}
@@ -24,6 +24,7 @@ wrong_write words begins why = record {
   gen = λ other taken. begins_once words _ _ refl begins other;
   entries = λ other taken. begins_once words _ _ refl begins other;
   schema = λ other taken. begins_once words _ _ refl begins other;
+  scan = λ other taken. begins_once words _ _ refl begins other;
 }
 
 -- words that begin with `seq` and are wrong
@@ -34,6 +35,7 @@ wrong_seq words begins why = record {
   gen = λ other taken. begins_once words _ _ refl begins other;
   entries = λ other taken. begins_once words _ _ refl begins other;
   schema = λ other taken. begins_once words _ _ refl begins other;
+  scan = λ other taken. begins_once words _ _ refl begins other;
 }
 
 -- words that begin with `gen` and are wrong
@@ -44,6 +46,7 @@ wrong_gen words begins why = record {
   gen = λ auto. why;
   entries = λ other taken. begins_once words _ _ refl begins other;
   schema = λ other taken. begins_once words _ _ refl begins other;
+  scan = λ other taken. begins_once words _ _ refl begins other;
 }
 
 -- words that begin with `entries` and are wrong
@@ -54,6 +57,7 @@ wrong_entries words begins why = record {
   gen = λ other taken. begins_once words _ _ refl begins other;
   entries = λ auto. why;
   schema = λ other taken. begins_once words _ _ refl begins other;
+  scan = λ other taken. begins_once words _ _ refl begins other;
 }
 
 -- words that begin with `schema` and are wrong
@@ -64,6 +68,18 @@ wrong_schema words begins why = record {
   gen = λ other taken. begins_once words _ _ refl begins other;
   entries = λ other taken. begins_once words _ _ refl begins other;
   schema = λ auto. why;
+  scan = λ other taken. begins_once words _ _ refl begins other;
+}
+
+-- words that begin with `scan` and are wrong
+pub wrong_scan : (words : List (List ℕ)) → Begins words (codes "scan") → (IsTaken scan_app words → ⊥) → IsWrong words
+wrong_scan words begins why = record {
+  write = λ other. absurd (begins_once words _ _ refl begins other);
+  seq = λ other. absurd (begins_once words _ _ refl begins other);
+  gen = λ other taken. begins_once words _ _ refl begins other;
+  entries = λ other taken. begins_once words _ _ refl begins other;
+  schema = λ other taken. begins_once words _ _ refl begins other;
+  scan = λ auto. why;
 }
 
 -- words that are wrong are no command
@@ -97,4 +113,5 @@ wrong_is_none words wrong = record {
   no_gen = λ m out is. wrong.gen is.begins is.taken;
   no_entries = λ from count file is. wrong.entries is.begins is.taken;
   no_schema = λ file is. wrong.schema is.begins is.taken;
+  no_scan = λ file is. wrong.scan is.begins is.taken;
 }

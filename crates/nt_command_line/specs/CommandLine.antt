@@ -64,6 +64,10 @@ entries_app = app (codes "entries") entries_rules
 unfoldable pub schema_app : App
 schema_app = app (codes "schema") (operand (codes "FILE") ∷ [])
 
+-- `scan`
+unfoldable pub scan_app : App
+scan_app = app (codes "scan") (operand (codes "FILE") ∷ [])
+
 -- the first word
 abbrev pub Begins : List (List ℕ) → List ℕ → Type 0
 Begins words name = slice_get words 0 ≡ Some name
@@ -113,3 +117,9 @@ pub record IsSchemaCommand (words : List (List ℕ)) (file : List ℕ) : Type 0 
   pub begins : Begins words (codes "schema")
   pub taken : IsTaken schema_app words
   pub file_is : word_found schema_app words (codes "FILE") ≡ Some file
+
+-- `scan FILE`, as clap reads it
+pub record IsScan (words : List (List ℕ)) (file : List ℕ) : Type 0 where
+  pub begins : Begins words (codes "scan")
+  pub taken : IsTaken scan_app words
+  pub file_is : word_found scan_app words (codes "FILE") ≡ Some file

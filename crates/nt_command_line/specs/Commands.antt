@@ -4,10 +4,10 @@ use Rattle.std.specs.Borrow.{Bor}
 use Rattle.nt_book.specs.declared.params.Params.{Params}
 use Rattle.nt_draws.specs.declared.making.Making.{Making}
 use Rattle.nt_command_line.specs.declared.command.Parallel.{Parallel}
-use Rattle.nt_command_line.specs.declared.command.Parallel.TheVariants.{Write, Gen}
+use Rattle.nt_command_line.specs.declared.command.Parallel.TheVariants.{Write, Gen, Scan}
 use Rattle.nt_command_line.specs.declared.command.Alone.{Alone}
 use Rattle.nt_command_line.specs.declared.command.Alone.TheVariants.{Seq, Entries, Schema}
-use Rattle.nt_command_line.specs.CommandLine.{entries_app, schema_app, Begins, IsTaken, IsEntries, IsSchemaCommand}
+use Rattle.nt_command_line.specs.CommandLine.{entries_app, schema_app, scan_app, Begins, IsTaken, IsEntries, IsSchemaCommand, IsScan}
 use Rattle.nt_command_line.specs.WriteWords.{IsWrite, IsWrongWrite, AreContextsSaid}
 use Rattle.nt_command_line.specs.SeqWords.{IsSeq, IsWrongSeq}
 use Rattle.nt_command_line.specs.GenWords.{gen_app, IsGen}
@@ -23,6 +23,7 @@ pub record IsNoCommand (words : List (List ℕ)) : Type 0 where
   pub no_gen : (m : Making) (out : List ℕ) → IsGen words m out → ⊥
   pub no_entries : (from count : Option ℕ) (file : List ℕ) → IsEntries words from count file → ⊥
   pub no_schema : (file : List ℕ) → IsSchemaCommand words file → ⊥
+  pub no_scan : (file : List ℕ) → IsScan words file → ⊥
 
 -- why words are no command: the first is none, clap refuses those after it, those of `write` have no or too many inputs, or those of
 -- `write` or `seq` have OUT among the texts that are read
@@ -32,16 +33,18 @@ pub record IsWrong (words : List (List ℕ)) : Type 0 where
   pub gen : Begins words (codes "gen") → IsTaken gen_app words → ⊥
   pub entries : Begins words (codes "entries") → IsTaken entries_app words → ⊥
   pub schema : Begins words (codes "schema") → IsTaken schema_app words → ⊥
+  pub scan : Begins words (codes "scan") → IsTaken scan_app words → ⊥
 
 -- the first word is that of a command that starts threads
 abbrev pub NeedsThreads : List (List ℕ) → Type 0
-NeedsThreads words = Begins words (codes "write") ⊎ Begins words (codes "gen")
+NeedsThreads words = Begins words (codes "write") ⊎ Begins words (codes "gen") ⊎ Begins words (codes "scan")
 
 -- the words say this command, which starts threads, or are wrong
 abbrev pub SaysParallel : List (List ℕ) → Option Parallel → Type 0
 SaysParallel words (Some (Write w)) =
     IsWrite words w.out.now w.schema.now (names_of w.inputs.items) w.params × AreContextsSaid words (length w.inputs.items) w.contexts
 SaysParallel words (Some (Gen g)) = IsGen words g.making g.out.now
+SaysParallel words (Some (Scan file)) = IsScan words file.now
 SaysParallel words None = IsWrong words
 
 -- the words say this command, which waits for nobody, or are wrong

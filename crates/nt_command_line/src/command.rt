@@ -6,7 +6,7 @@ ghost use Rattle.nt_command_line.specs.Commands.{NeedsThreads, SaysParallel, Say
 
 use crate::generate::{GenWords, gen_of};
 use crate::seq::{SeqWords, seq_of};
-use crate::show::{entries_of, schema_of};
+use crate::show::{entries_of, scan_of, schema_of};
 use crate::write::{WriteWords, write_of};
 use std::alloc::{AllocError, Global};
 
@@ -15,6 +15,7 @@ use std::alloc::{AllocError, Global};
 pub enum Parallel<'a> {
     Write(WriteWords<'a>),
     Gen(GenWords<'a>),
+    Scan { file: &'a str },
 }
 
 /// A command that waits for nobody, by the names and numbers that its words give.
@@ -38,8 +39,10 @@ pub fn needs_threads(words: &[String]) -> bool
     ensures no { result ≡ false → NeedsThreads (texts words.now) → ⊥ }
 {
     match words {
-        [first, ..] => first.as_str() == "write" || first.as_str() == "gen",
-        [] => false,
+        [first, ..] if first.as_str() == "write" => true,
+        [first, ..] if first.as_str() == "gen" => true,
+        [first, ..] if first.as_str() == "scan" => true,
+        _ => false,
     }
 }
 
@@ -53,7 +56,8 @@ pub fn parallel_of<'a>(
 {
     match words {
         [first, ..] if first.as_str() == "write" => write_of(alloc, words),
-        _ => gen_of(alloc, words),
+        [first, ..] if first.as_str() == "gen" => gen_of(alloc, words),
+        _ => scan_of(alloc, words),
     }
 }
 

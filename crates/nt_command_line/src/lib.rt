@@ -1,8 +1,9 @@
 //! The words of the command line: which command they say, its names and its numbers, as clap reads them.
 //!
-//! Start at `command.rt`: `needs_threads` says which kind of command the first word is, `parallel_of` and `alone_of` what the words say. `write.rt`, `seq.rt` and `generate.rt` have the words of the commands that write a file,
-//! `show.rt` those of `entries` and `schema`; `options.rt` has the options that `write` and `seq` share, and `arguments.rt` what all
-//! share: arguments and commands of clap's, and what it finds.
+//! Start at `command.rt`: `needs_threads` says which kind of command the first word is, `parallel_of` and `alone_of` what the words
+//! say. `write.rt`, `seq.rt` and `generate.rt` have the words of the commands that write a file, `show.rt` those of `entries`, `schema`
+//! and `scan`; `options.rt` has the options that `write` and `seq` share, and `arguments.rt` what all share: arguments and commands of
+//! clap's, and what it finds.
 //!
 //! Words: what clap *finds* under a name is what its matches have there; it *takes* the words of a command that it doesn't refuse.
 //!

@@ -1,12 +1,12 @@
-//! The words of `entries` and `schema`.
+//! The words of the commands that read a file: `entries`, `schema` and `scan`.
 
 ghost use Rattle.std.specs.Prelude.{[], ◌∷◌, codes, IfOk};
 ghost use Rattle.nt_command_line.specs.CommandLine.{texts, operand, entries_rules, Begins};
-ghost use Rattle.nt_command_line.specs.Commands.{SaysAlone};
+ghost use Rattle.nt_command_line.specs.Commands.{SaysAlone, SaysParallel};
 ghost use Rattle.nt_command_line.specs.Arguments.{IsCommandOf};
 
 use crate::arguments::{bare, matches_of, name_in, number_in, number_option, operand};
-use crate::command::Alone;
+use crate::command::{Alone, Parallel};
 use std::alloc::{AllocError, Global};
 
 /// `entries [--from A] [--count C] FILE`.
@@ -53,6 +53,29 @@ pub(crate) fn schema_of<'a>(
 {
     match matches_of(schema_command(alloc)?, words)? {
         Some(matches) => Ok(Some(Alone::Schema {
+            file: name_in(&matches, "FILE"),
+        })),
+        None => Ok(None),
+    }
+}
+
+/// `scan FILE`.
+fn scan_command<'a>(alloc: Global) -> Result<clap::Command<'a>, AllocError>
+    ensures { IfOk result (IsCommandOf (codes "scan") (operand (codes "FILE") ∷ [])) }
+{
+    bare(alloc, "scan").arg(operand(alloc, "FILE"))
+}
+
+/// The command of words that begin with `scan`.
+pub(crate) fn scan_of<'a>(
+    alloc: Global,
+    words: &'a [String],
+) -> Result<Option<Parallel<'a>>, AllocError>
+    requires { Begins (texts words.now) (codes "scan") }
+    ensures { IfOk result (SaysParallel (texts words.entry.now)) }
+{
+    match matches_of(scan_command(alloc)?, words)? {
+        Some(matches) => Ok(Some(Parallel::Scan {
             file: name_in(&matches, "FILE"),
         })),
         None => Ok(None),
