@@ -27,10 +27,10 @@ LAYERS = ["definitions", "codecs", "data", "plans", "threads", "whole files", "p
 SHARED = set("state_of".split())
 
 # Names that two crates define and that are still to be changed: each that is mended goes from this list.
-KNOWN_TWICE = {"Follows"}
+KNOWN_TWICE = set()
 
 # How many there may be at most, which is how many there were: who mends one lowers the number.
-LIMITS = {"wide": 10, "long lemmas": 19}
+LIMITS = {"wide": 10, "long lemmas": 18}
 
 DOCUMENTS = ["README.md"] + sorted("docs/" + name for name in os.listdir("docs") if name.endswith(".md"))
 

@@ -15,7 +15,7 @@ use Rattle.nt_book.specs.declared.list.ListPlace.{ListPlace}
 use Rattle.nt_book.specs.declared.list.NotedList.{NotedList}
 use Rattle.nt_book.specs.Books.{BookData, is_due}
 use Rattle.nt_book.specs.Limiting.{limit_error, limit_error_with}
-use Rattle.nt_book.proofs.Fitting.{limit_error-fits}
+use Rattle.nt_book.proofs.Fitting.{limit_error_with-fits, limit_error_with-nothing}
 use Rattle.nt_pagelists.specs.Blobs.{blob, blob_len}
 use Rattle.nt_pagelists.specs.Due.{due_len, due_object}
 use Rattle.nt_pagelists.specs.Objects.{list_object}
@@ -118,6 +118,8 @@ with-behind limits end count len list is =
     at false false false true p q r s e = cc
     at false false false false p q r s e =
         let within = ltb-false limits.file (end + list + len) r in (
-          limit_error-fits limits (end + list) count len false (ltb-false limits.range len p) within s,
+          sym (limit_error_with-nothing limits (end + list) count len)
+              ∙ limit_error_with-fits limits (end + list) count len 0 false (ltb-false limits.range len p) (omega arith)
+              (omega (arith, within)) s,
           (ltb-false limits.range list q, omega (arith, within)),
         )

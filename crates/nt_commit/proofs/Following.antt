@@ -17,7 +17,7 @@ use Rattle.nt_machine.specs.History.{Cluster, Fate, Out, is_out, handed_back, af
 use Rattle.nt_machine.specs.Legal.{IsKindAllowed, IsAllowed, IsOut, ranges_end}
 use Rattle.nt_machine.proofs.Histories.{AllByRecursion-append}
 use Rattle.nt_machine.proofs.Legality.{IsLegalAfter-snoc, ranges_of-snoc, ranges_of-back, IsApart-fold}
-use Rattle.nt_commit.specs.Locked.{HasToldBytes, place_of, ranges_out, Follows}
+use Rattle.nt_commit.specs.Locked.{HasToldBytes, place_of, ranges_out, IsDiskAfter}
 use Rattle.nt_logged.specs.Logs.{IsLogOf}
 use Rattle.nt_logged.proofs.Growing.{log-commit, log-fault, log-list, log-tear}
 use Rattle.nt_commit.proofs.Handed.{IsRoomy, ranges_out-snoc, ranges_out-set, roomy-handed_back, bytes-handed_back}
@@ -61,17 +61,17 @@ module _ {M : Type 0} where
   FaultsRise-later least (d ∷ ds) count later rise le = (rise.0, FaultsRise-later (faults_after least d.kind) ds count later rise.1 le)
 
   module _ (begun d d' : DiskState) (contexts : ℕ) (history : List (Entry M)) (lists : List Part) (torn : List ℕ)
-      (follows : Follows begun d contexts history lists torn) where
+      (follows : IsDiskAfter begun d contexts history lists torn) where
     -- one entry more, and what it does to the disk
-    pub Follows-snoc : (e : Entry M) (new : List Step) → IsAllowed begun.end (ranges_of history) e → e.context ≤ contexts
+    pub IsDiskAfter-snoc : (e : Entry M) (new : List Step) → IsAllowed begun.end (ranges_of history) e → e.context ≤ contexts
         → AllByRecursion IsRoomy (after_entry (ranges_of history) e) → HaveBytes begun (after_entry (ranges_of history) e)
         → d'.out ≡ ranges_out (after_entry (ranges_of history) e)
         → ((h : Held) → begun.held ≡ Some h → BecomesSome d.held d'.held (λ h h'. h'.log ≡ h.log ++ new))
         → ((steps : List Step) → IsLogOf begun.end d.end history lists torn steps
         → IsLogOf begun.end d'.end (history ++ e ∷ []) lists torn (steps ++ new))
         → (HasFaults e.kind → HasRisen d.faults (faults_after d.faults e.kind)) → faults_after d.faults e.kind ≤ d'.faults
-        → Follows begun d' contexts (history ++ e ∷ []) lists torn
-    Follows-snoc e new allowed context roomy have out log grown rises later =
+        → IsDiskAfter begun d' contexts (history ++ e ∷ []) lists torn
+    IsDiskAfter-snoc e new allowed context roomy have out log grown rises later =
         let ranges = sym (ranges_of-snoc history e) in
         record {
           legal = IsLegalAfter-snoc begun.end [] history e follows.legal allowed;
@@ -95,9 +95,9 @@ module _ {M : Type 0} where
         }
 
     -- the same history over a disk that only counted faults
-    pub Follows-same : d'.held ≡ d.held → d'.end ≡ d.end → d'.out ≡ d.out → d.faults ≤ d'.faults
-        → Follows begun d' contexts history lists torn
-    Follows-same held end out later =
+    pub IsDiskAfter-same : d'.held ≡ d.held → d'.end ≡ d.end → d'.out ≡ d.out → d.faults ≤ d'.faults
+        → IsDiskAfter begun d' contexts history lists torn
+    IsDiskAfter-same held end out later =
         record {
           legal = follows.legal;
           contexts_are = follows.contexts_are;
@@ -118,13 +118,13 @@ module _ {M : Type 0} where
         }
 
     -- the same history over a disk to which a page list was appended, or a part of one
-    Follows-more : (lists' : List Part) (torn' : List ℕ) (new : Step)
+    IsDiskAfter-more : (lists' : List Part) (torn' : List ℕ) (new : Step)
         → BecomesSome d.held d'.held (λ h h'. h'.log ≡ h.log ++ new ∷ [])
         → ((steps : List Step) → IsLogOf begun.end d.end history lists torn steps
         → IsLogOf begun.end d'.end history lists' torn' (steps ++ new ∷ []))
         → d'.out ≡ d.out → d.faults ≤ d'.faults
-        → Follows begun d' contexts history lists' torn'
-    Follows-more lists' torn' new log grown out later =
+        → IsDiskAfter begun d' contexts history lists' torn'
+    IsDiskAfter-more lists' torn' new log grown out later =
         record {
           legal = follows.legal;
           contexts_are = follows.contexts_are;
@@ -146,39 +146,39 @@ module _ {M : Type 0} where
         }
 
     -- a page list was appended
-    pub Follows-list : (bytes : List ℕ) → Becomes d.held d'.held (appended bytes) → d'.end ≡ d.end + length bytes → d'.out ≡ d.out
+    pub IsDiskAfter-list : (bytes : List ℕ) → Becomes d.held d'.held (appended bytes) → d'.end ≡ d.end + length bytes → d'.out ≡ d.out
         → d.faults ≤ d'.faults
-        → Follows begun d' contexts history (lists ++ record { place = d.end; bytes = bytes } ∷ []) torn
-    Follows-list bytes log end out later =
-        Follows-more (lists ++ record { place = d.end; bytes = bytes } ∷ []) torn (Append bytes)
+        → IsDiskAfter begun d' contexts history (lists ++ record { place = d.end; bytes = bytes } ∷ []) torn
+    IsDiskAfter-list bytes log end out later =
+        IsDiskAfter-more (lists ++ record { place = d.end; bytes = bytes } ∷ []) torn (Append bytes)
         (λ h is. (appended bytes h, log h is, refl))
         (λ steps was.
         subst (λ (to : ℕ). IsLogOf begun.end to history (lists ++ record { place = d.end; bytes = bytes } ∷ []) torn
         (steps ++ Append bytes ∷ [])) (sym end) (log-list begun.end d.end history lists torn steps was bytes)) out later
 
     -- and one failed, of which so many bytes are left
-    pub Follows-tear : (len : ℕ) → BecomesSome d.held d'.held (λ h h'. h'.log ≡ h.log ++ FailedAppend len ∷ []) → d'.end ≡ d.end + len
+    pub IsDiskAfter-tear : (len : ℕ) → BecomesSome d.held d'.held (λ h h'. h'.log ≡ h.log ++ FailedAppend len ∷ []) → d'.end ≡ d.end + len
         → d'.out ≡ d.out → d.faults ≤ d'.faults
-        → Follows begun d' contexts history lists (torn ++ len ∷ [])
-    Follows-tear len log end out later =
-        Follows-more lists (torn ++ len ∷ []) (FailedAppend len) log
+        → IsDiskAfter begun d' contexts history lists (torn ++ len ∷ [])
+    IsDiskAfter-tear len log end out later =
+        IsDiskAfter-more lists (torn ++ len ∷ []) (FailedAppend len) log
         (λ steps was.
         subst (λ (to : ℕ). IsLogOf begun.end to history lists (torn ++ len ∷ []) (steps ++ FailedAppend len ∷ [])) (sym end)
         (log-tear begun.end d.end history lists torn steps was len)) out later
 
     -- a range was reserved for a cluster
-    pub Follows-commit : (i n start len : ℕ) (meta : M) → n ≡ length (ranges_of history)
+    pub IsDiskAfter-commit : (i n start len : ℕ) (meta : M) → n ≡ length (ranges_of history)
         → ranges_end begun.end (ranges_of history) ≤ start → d.end ≡ start → i ≤ contexts → 42 ≤ len
         → BecomesSome d.held d'.held (IsReserved d.end len) → d'.end ≡ d.end + len → d'.out ≡ d.out ++ record {
           start = d.end;
           len = len;
         } ∷ [] → d.faults ≤ d'.faults
-        → Follows begun d' contexts (history ++ record { context = i; kind = entry.Committed n start len meta } ∷ []) lists torn
-    Follows-commit i n start len meta number behind from context roomy log end out later =
+        → IsDiskAfter begun d' contexts (history ++ record { context = i; kind = entry.Committed n start len meta } ∷ []) lists torn
+    IsDiskAfter-commit i n start len meta number behind from context roomy log end out later =
         let c : Cluster M = record { context = i; number = n; start = start; len = len; meta = meta; state = Out } in
         let old = ranges_of history in
         let e : ℕ → Entry M = λ (m : ℕ). record { context = i; kind = entry.Committed n m len meta } in
-        Follows-snoc (e start) (Reserve start len ∷ []) (number, behind) context
+        IsDiskAfter-snoc (e start) (Reserve start len ∷ []) (number, behind) context
         (AllByRecursion-append IsRoomy old (c ∷ []) follows.roomy (roomy, tt))
         (λ h is. AllByRecursion-append (λ (c : Cluster M). HasToldBytes c.state) old (c ∷ []) (follows.told h is) (tt, tt))
         (out ∙ (ap (λ (l : List _). l ++ record { start = d.end; len = len } ∷ []) follows.out
@@ -191,7 +191,7 @@ module _ {M : Type 0} where
         (λ h. absurd h) later
 
     -- a range was handed back
-    pub Follows-back : (i n : ℕ) (fate : Fate) (k : EntryKind M) (bytes : Option (List ℕ)) → (is : IsOut (ranges_of history) i n)
+    pub IsDiskAfter-back : (i n : ℕ) (fate : Fate) (k : EntryKind M) (bytes : Option (List ℕ)) → (is : IsOut (ranges_of history) i n)
         → is_out fate ≡ false → WhereHeld begun.held (λ h. HasToldBytes fate)
         → after_kind (ranges_of history) i k ≡ map (handed_back i n fate) (ranges_of history)
         → ((steps : List Step) → IsLogOf begun.end d.end history lists torn steps
@@ -202,14 +202,14 @@ module _ {M : Type 0} where
         ++ Settle is.cluster.start is.cluster.len bytes ∷ []))
         → d'.end ≡ d.end → d'.out ≡ without (place_of is.cluster) d.out
         → (HasFaults k → HasRisen d.faults (faults_after d.faults k)) → faults_after d.faults k ≤ d'.faults
-        → Follows begun d' contexts (history ++ record { context = i; kind = k } ∷ []) lists torn
-    Follows-back i n fate k bytes is back has after grown allowed context log end out rises later =
+        → IsDiskAfter begun d' contexts (history ++ record { context = i; kind = k } ∷ []) lists torn
+    IsDiskAfter-back i n fate k bytes is back has after grown allowed context log end out rises later =
         let old = ranges_of history in
         let apart = IsApart-fold begun.end [] history follows.legal (omega arith) in
         let put = ranges_of-back begun.end i n fate history follows.legal is in
         let e : Entry M = record { context = i; kind = k } in
         let step = Settle is.cluster.start is.cluster.len bytes in
-        Follows-snoc e (step ∷ []) allowed context
+        IsDiskAfter-snoc e (step ∷ []) allowed context
         (subst (λ (l : List (Cluster M)). AllByRecursion IsRoomy l) (sym after) (roomy-handed_back i n fate old follows.roomy))
         (λ h told. subst (λ (l : List (Cluster M)). AllByRecursion (λ (c : Cluster M). HasToldBytes c.state) l) (sym after)
         (bytes-handed_back i n fate old (has h told) (follows.told h told)))
@@ -222,12 +222,12 @@ module _ {M : Type 0} where
         rises later
 
     -- the disk failed, and that was entered
-    pub Follows-fault : (i faults : ℕ) → i ≤ contexts → d'.held ≡ d.held → d'.end ≡ d.end → d'.out ≡ d.out
+    pub IsDiskAfter-fault : (i faults : ℕ) → i ≤ contexts → d'.held ≡ d.held → d'.end ≡ d.end → d'.out ≡ d.out
         → HasRisen d.faults faults → faults ≤ d'.faults
-        → Follows begun d' contexts (history ++ record { context = i; kind = entry.Faulted faults } ∷ []) lists torn
-    Follows-fault i faults context held end out rises later =
+        → IsDiskAfter begun d' contexts (history ++ record { context = i; kind = entry.Faulted faults } ∷ []) lists torn
+    IsDiskAfter-fault i faults context held end out rises later =
         let e : Entry M = record { context = i; kind = entry.Faulted faults } in
-        Follows-snoc e [] tt context follows.roomy follows.told (out ∙ follows.out)
+        IsDiskAfter-snoc e [] tt context follows.roomy follows.told (out ∙ follows.out)
         (λ begins told h is. (h, held ∙ is, sym (append-nil h.log)))
         (λ steps was.
         subst (λ (to : ℕ). IsLogOf begun.end to (history ++ e ∷ []) lists torn (steps ++ [])) (sym end)

@@ -16,8 +16,8 @@ use Rattle.nt_pagelists.specs.Due.{group_sum}
 use Rattle.nt_logged.specs.Steps.{told_history}
 use Rattle.nt_logged.proofs.Growing.{log-fresh}
 use Rattle.nt_commit.specs.Lists.{AreNoted, IsTornList, torn_lens}
-use Rattle.nt_commit.specs.Locked.{EndWithin, Follows, IsInStep, IsNewBookOn, history_of_locked}
-use Rattle.nt_commit.proofs.Stepping.{locked_of}
+use Rattle.nt_commit.specs.Locked.{EndWithin, IsDiskAfter, IsInStep, IsNewBookOn, history_of_locked}
+use Rattle.nt_commit.proofs.Standing.{locked_of}
 
 told-nothing : (begun now : Option Held) → told_history {M = ClusterMeta} begun now [] ≡ []
 told-nothing None now = refl
@@ -29,7 +29,7 @@ module _ {D : Type 0} (state : D → DiskState) (d : D) (contexts : ℕ) (b : Bo
   nothing = ap (λ (l : List (Entry ClusterMeta)). told_history (state d).held (state d).held l) new.history
       ∙ told-nothing (state d).held (state d).held
 
-  follows_nothing : Follows {M = ClusterMeta} (state d) (state d) contexts [] [] []
+  follows_nothing : IsDiskAfter {M = ClusterMeta} (state d) (state d) contexts [] [] []
   follows_nothing = record {
     legal = tt;
     contexts_are = tt;
@@ -56,7 +56,7 @@ module _ {D : Type 0} (state : D → DiskState) (d : D) (contexts : ℕ) (b : Bo
     );
     lists = [];
     torn = [];
-    follows = subst (λ (l : List (Entry ClusterMeta)). Follows (state d) (state d) contexts l [] []) (sym nothing) follows_nothing;
+    follows = subst (λ (l : List (Entry ClusterMeta)). IsDiskAfter (state d) (state d) contexts l [] []) (sym nothing) follows_nothing;
     listed = record {
       noted = subst (λ (l : List NotedList). AreNoted (group_sum b.group) (group_size b.group) b 0 l []) (sym new.unlisted.none_noted) tt;
       torn_is = sym (ap torn_lens new.unlisted.none_torn);

@@ -1,11 +1,13 @@
 mod Appended
 mod Claimed
 mod Ending
+mod Entering
 mod Following
 mod Fresh
 mod Handed
 mod Holding
 mod Leaving
+mod ListSteps
 mod Listed
 mod Listing
 mod Noting
@@ -13,6 +15,7 @@ mod Owned
 mod Placing
 mod Returning
 mod Short
+mod Standing
 mod Stepping
 mod Telling
 pub mod Ungrouped

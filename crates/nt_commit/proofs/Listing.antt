@@ -24,7 +24,8 @@ use Rattle.nt_commit.specs.Locked.{LockedState, IsInStep}
 use Rattle.nt_commit.proofs.Appended.{due-length, item-count, blob-is, link-noted, blob-length}
 use Rattle.nt_commit.proofs.Listed.{noted-once}
 use Rattle.nt_commit.proofs.Placing.{due_or_none}
-use Rattle.nt_commit.proofs.Stepping.{locked_of, noted, torn_off}
+use Rattle.nt_commit.proofs.Standing.{locked_of}
+use Rattle.nt_commit.proofs.ListSteps.{noted, torn_off}
 
 module _ {D : Type 0} (state : D → DiskState) (begun d : D) (contexts : ℕ) (b : BookData)
     (was : IsInStep state (locked_of begun d contexts b)) (kept : IsBookKept b) (i : ℕ) (items : List ℕ)

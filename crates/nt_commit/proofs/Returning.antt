@@ -21,9 +21,10 @@ use Rattle.nt_commit.specs.Holds.{IsLater, SettlesRange, Spoils}
 use Rattle.nt_commit.specs.Locked.{LockedState, place_of, IsInStep, history_of_locked}
 use Rattle.nt_logged.specs.Steps.{bytes_where_told}
 use Rattle.nt_logged.proofs.Growing.{log-settle, log-spoil}
-use Rattle.nt_commit.proofs.Following.{risen, Follows-back}
+use Rattle.nt_commit.proofs.Following.{risen, IsDiskAfter-back}
 use Rattle.nt_commit.proofs.Telling.{told_entry}
-use Rattle.nt_commit.proofs.Stepping.{locked_of, grows_to, claimed}
+use Rattle.nt_commit.proofs.Standing.{locked_of, claimed}
+use Rattle.nt_commit.proofs.Stepping.{grows_to}
 
 -- only a settled entry gains bytes
 told-spoiled : (held : Option Held) (i n faults : ℕ) (steps : List Step) → told_entry held (spoiled_entry i n faults) steps
@@ -82,7 +83,7 @@ module _ {D : Type 0} (state : D → DiskState) (begun d : D) (contexts : ℕ) (
         grows_to state begun d contexts b was d' b' kept (settled_entry i n) (settled_with i n bytes) spare (step ∷ []) is
         (λ h was. let next = log h was in (next.0, next.1, next.2.log))
         (told-settled (state begun).held i n ext.range.start ext.range.len ext.content) (omega (arith, end))
-        (Follows-back (state begun) (state d) (state d') contexts history was.lists was.torn was.follows i n (Settled bytes)
+        (IsDiskAfter-back (state begun) (state d) (state d') contexts history was.lists was.torn was.follows i n (Settled bytes)
         (entry.Settled n bytes)
         bytes out refl (λ h told. subst (λ (o : Option Held). IsSome (bytes_where_told o ext.content)) (sym told) (has h told)) refl
         (λ steps w. log-settle (state begun).end (state d).end history was.lists was.torn steps w i n bytes out whole)
@@ -117,7 +118,7 @@ module _ {D : Type 0} (state : D → DiskState) (begun d : D) (contexts : ℕ) (
         let done = grows_to state begun d contexts b was d' b' kept (spoiled_entry i n faults) (spoiled_entry i n faults) spare
         (Settle ext.range.start ext.range.len ext.content ∷ []) is
         log (told-spoiled (state begun).held i n faults (Settle ext.range.start ext.range.len ext.content ∷ [])) (omega (arith, end))
-        (Follows-back (state begun) (state d) (state d') contexts history was.lists was.torn was.follows i n (Spoiled faults)
+        (IsDiskAfter-back (state begun) (state d) (state d') contexts history was.lists was.torn was.follows i n (Spoiled faults)
         (entry.Spoiled n faults)
         None out refl (λ h told. tt) refl
         (λ steps w. log-spoil (state begun).end (state d).end history was.lists was.torn steps w i n faults out) out context

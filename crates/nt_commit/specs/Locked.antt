@@ -84,7 +84,8 @@ module _ {M : Type 0} where
   GainsSteps place end history old new = GainsLists place end history [] [] old new
 
   -- the disk is what a history of so many contexts makes of it as it was begun, and page lists
-  pub record Follows (begun disk : DiskState) (contexts : ℕ) (history : List (Entry M)) (lists : List Part) (torn : List ℕ) : Type 0 where
+  pub record IsDiskAfter (begun disk : DiskState) (contexts : ℕ) (history : List (Entry M)) (lists : List Part)
+      (torn : List ℕ) : Type 0 where
     -- ranges lie apart, in the order in which they were reserved, and each is settled or spoiled at most once, by its context
     pub legal : IsLegal begun.end history
     pub contexts_are : AllByRecursion (λ (e : Entry M). e.context ≤ contexts) history
@@ -132,7 +133,7 @@ module _ {D : Type 0} (state : D → DiskState) where
     -- the page lists that were appended, and the unknown bytes of one that failed
     pub lists : List Part
     pub torn : List ℕ
-    pub follows : Follows (state locked.birth.begun) (state locked.disk) locked.birth.contexts (history_of_locked locked) lists torn
+    pub follows : IsDiskAfter (state locked.birth.begun) (state locked.disk) locked.birth.contexts (history_of_locked locked) lists torn
     pub listed : HasListsOf locked.book lists torn
     pub ungrouped : locked.book.group ≡ None → HasNoLists locked.book.lists locked.book.torn
     -- a page list that failed was entered as a fault

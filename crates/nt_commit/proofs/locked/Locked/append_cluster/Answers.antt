@@ -1,7 +1,9 @@
 use Rattle.std.proofs.Common.{◌≡◌, ap, sym, subst, refl, arith, rules, None, false, ◌<◌, ◌≤◌, [], length}
 use Rattle.nt_book.specs.Books.{book_clusters, book_end, is_due}
 use Rattle.nt_book.specs.Limiting.{limit_error}
-use Rattle.nt_commit.proofs.Stepping.{range_fits, same_history, faulted, committed, new_claim}
+use Rattle.nt_commit.proofs.Standing.{range_fits, new_claim}
+use Rattle.nt_commit.proofs.Stepping.{same_history}
+use Rattle.nt_commit.proofs.Entering.{faulted, committed}
 use Rattle.nt_commit.proofs.Owned.{step_from, appends_from}
 use Rattle.nt_commit.proofs.locked.Locked.append_cluster.Goals as goal
 

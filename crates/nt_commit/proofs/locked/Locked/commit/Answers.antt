@@ -10,7 +10,7 @@ use Rattle.nt_commit.specs.Holds.{Commits}
 use Rattle.nt_commit.specs.Locked.{LockedState}
 use Rattle.nt_commit.specs.declared.error.CommitError.TheVariants.{Memory}
 use Rattle.nt_commit.proofs.Appended.{on_failed, on_passed, due-room, due-length, with-behind}
-use Rattle.nt_commit.proofs.Stepping.{place_behind, limits_are}
+use Rattle.nt_commit.proofs.Standing.{place_behind, limits_are}
 use Rattle.nt_commit.proofs.Owned.{commits_from, limit_named, limit_refuses, unmade, no_room, list_refused, commits_behind}
 use Rattle.nt_commit.proofs.locked.Locked.commit.Goals as goal
 

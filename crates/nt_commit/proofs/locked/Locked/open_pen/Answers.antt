@@ -1,7 +1,8 @@
 use Rattle.std.proofs.Common.{◌∙◌, ap, refl, arith, ◌≤◌, ◌++◌, ◌∷◌, [], ◌-◌}
 use Rattle.nt_book.specs.Books.{BookData}
 use Rattle.nt_book.specs.Entries.{faulted_entry}
-use Rattle.nt_commit.proofs.Stepping.{same_history, faulted}
+use Rattle.nt_commit.proofs.Stepping.{same_history}
+use Rattle.nt_commit.proofs.Entering.{faulted}
 use Rattle.nt_commit.proofs.Owned.{step_from, opens_from}
 use Rattle.nt_commit.proofs.locked.Locked.open_pen.Goals as goal
 

@@ -2,7 +2,7 @@ use Rattle.std.proofs.Common.{ap, sym, subst, arith, ◌≤◌}
 use Rattle.nt_machine.specs.History.{ranges_of}
 use Rattle.nt_commit.specs.Claims.{IsClaimOf}
 use Rattle.nt_commit.specs.Locked.{history_of_locked}
-use Rattle.nt_commit.proofs.Stepping.{out_in_book, out_of_disk}
+use Rattle.nt_commit.proofs.Standing.{out_in_book, out_of_disk}
 use Rattle.nt_commit.proofs.Returning.{claim_spoiled}
 use Rattle.nt_commit.proofs.Owned.{step_from, spoils_from}
 use Rattle.nt_commit.proofs.locked.Locked.spoil.Goals as goal
