@@ -33,10 +33,7 @@ pub(crate) fn tree<C: Columns>(
             column,
             bits,
             signed,
-        } => {
-            let element = number(columns, *column, i);
-            Ok(Tree::Num(integer_of(element, *bits, *signed)))
-        }
+        } => Ok(Tree::Num(integer_of(number(columns, *column, i), *bits, *signed))),
         Plan::Text { ends, bytes } => {
             let from = begin(columns, *ends, i);
             let to = number(columns, *ends, i);

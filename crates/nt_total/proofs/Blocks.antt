@@ -12,20 +12,20 @@ use Rattle.nt_total.specs.Running.{IsSoFar}
 use Rattle.nt_total.proofs.Pieces.{piece-join}
 
 -- numbers behind others
-pub added : (ns more : List ℕ) (low : ℕ) (old new : Running) (b : Piece) → new.count ≡ (old.count + length more) % 2 ^ 64
-    → IsPieceOf (map (key low) more) b → IsJoinOf old.piece b new.piece → IsSoFar ns low old → IsSoFar (ns ++ more) low new
-added ns more low old new b c p j s = record {
+pub added : (ns more : List ℕ) (bias : ℕ) (old new : Running) (b : Piece) → new.count ≡ (old.count + length more) % 2 ^ 64
+    → IsPieceOf (map (key bias) more) b → IsJoinOf old.piece b new.piece → IsSoFar ns bias old → IsSoFar (ns ++ more) bias new
+added ns more bias old new b c p j s = record {
   count = omega (arith, length-append ns more, s.count, c);
-  piece = rw (map-append (key low) ns more) (piece-join (map (key low) ns) (map (key low) more) old.piece b new.piece s.piece p j);
+  piece = rw (map-append (key bias) ns more) (piece-join (map (key bias) ns) (map (key bias) more) old.piece b new.piece s.piece p j);
 }
 
 -- so many numbers from a place on were read, of so many
-pub record IsPartDone (ns : List ℕ) (low from count done : ℕ) (p : Piece) : Type 0 where
+pub record IsPartDone (ns : List ℕ) (bias from count done : ℕ) (p : Piece) : Type 0 where
   pub few : done ≤ count
-  pub piece : IsPieceOf (map (key low) (slice_range ns from (from + done))) p
+  pub piece : IsPieceOf (map (key bias) (slice_range ns from (from + done))) p
 
-pub part-none : (ns : List ℕ) (low from count : ℕ) (p : Piece) → IsPieceOf [] p → IsPartDone ns low from count 0 p
-part-none ns low from count p h =
+pub part-none : (ns : List ℕ) (bias from count : ℕ) (p : Piece) → IsPieceOf [] p → IsPartDone ns bias from count 0 p
+part-none ns bias from count p h =
     let none : from + 0 - from ≡ 0 = omega arith in
     record { few = omega arith; piece = rw none h }
 
@@ -36,24 +36,24 @@ ranges ns a b c le le' =
     let at : a + (b - a) ≡ b = omega (arith, le) in
     rw (all, take-add (b - a) (c - b) (drop a ns), drop-drop (b - a) a ns, at) refl
 
-pub part-more : (ns : List ℕ) (low from count done some : ℕ) (p q r : Piece) → IsPartDone ns low from count done p
-    → done + some ≤ count → IsPieceOf (map (key low) (slice_range ns (from + done) (from + done + some))) q → IsJoinOf p q r
-    → IsPartDone ns low from count (done + some) r
-part-more ns low from count done some p q r h few more j =
+pub part-more : (ns : List ℕ) (bias from count done some : ℕ) (p q r : Piece) → IsPartDone ns bias from count done p
+    → done + some ≤ count → IsPieceOf (map (key bias) (slice_range ns (from + done) (from + done + some))) q → IsJoinOf p q r
+    → IsPartDone ns bias from count (done + some) r
+part-more ns bias from count done some p q r h few more j =
     let end : from + (done + some) ≡ from + done + some = omega arith in
     let both = ranges ns from (from + done) (from + done + some) (omega arith) (omega arith) in
     record {
       few = few;
-      piece = rw (end, both, map-append (key low) (slice_range ns from (from + done)) (slice_range ns (from + done) (from + done + some)))
+      piece = rw (end, both, map-append (key bias) (slice_range ns from (from + done)) (slice_range ns (from + done) (from + done + some)))
           (piece-join _ _ p q r h.piece more j);
     }
 
 -- all that a block has
-pub part-whole : (ns : List ℕ) (low b count done : ℕ) (p : Piece) → IsPartDone ns low (b * 512) count done p → count ≤ done
-    → count ≡ min (length ns - b * 512) 512 → IsPieceOf (map (key low) (chunk 512 ns b)) p
-part-whole ns low b count done p h past is =
+pub part-whole : (ns : List ℕ) (bias b count done : ℕ) (p : Piece) → IsPartDone ns bias (b * 512) count done p → count ≤ done
+    → count ≡ min (length ns - b * 512) 512 → IsPieceOf (map (key bias) (chunk 512 ns b)) p
+part-whole ns bias b count done p h past is =
     let all : done ≡ count = omega (arith, h.few, past) in
-    subst (λ l. IsPieceOf (map (key low) l) p) (to-end ns (b * 512) done (omega (arith, all, is))) h.piece
+    subst (λ l. IsPieceOf (map (key bias) l) p) (to-end ns (b * 512) done (omega (arith, all, is))) h.piece
   where
     to-end : (ns : List ℕ) (a n : ℕ) → n ≡ min (length ns - a) 512 → slice_range ns a (a + n) ≡ slice_range ns a (a + 512)
     to-end ns a n is =

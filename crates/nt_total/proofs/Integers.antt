@@ -22,11 +22,11 @@ use Rattle.nt_column.specs.Elements.{Element, numbers, IsElementOf, AreElementsO
 use Rattle.nt_total.specs.Totals.{below_zero, IsOfWidth, IsLeastOf, IsGreatestOf, IsTotalOf}
 use Rattle.nt_total.proofs.Pieces.{sum-append, sum-one}
 
-key-under : (low n : ℕ) → n < low → key low n ≡ n + low
-key-under low n lt = rw (lt-ltb n low lt) refl
+key-under : (bias n : ℕ) → n < bias → key bias n ≡ n + bias
+key-under bias n lt = rw (lt-ltb n bias lt) refl
 
-key-over : (low n : ℕ) → low ≤ n → key low n ≡ n - low
-key-over low n le = rw (le-ltb n low le) refl
+key-over : (bias n : ℕ) → bias ≤ n → key bias n ≡ n - bias
+key-over bias n le = rw (le-ltb n bias le) refl
 
 -- an element's integer is that of its key
 pub integer_of-key : (bits : ℕ) (signed : Bool) (n : ℕ) → n < half bits + half bits
@@ -38,11 +38,11 @@ integer_of-key bits true n lt = ⊎_elim
     (cases_lt n (half bits))
 
 -- a key is a number of 64 bits
-pub key-small : (low n : ℕ) → low ≤ 2 ^ 63 → n < 2 ^ 64 → key low n < 2 ^ 64
-key-small low n few lt = ⊎_elim
-    (λ under. rw (key-under low n under) (omega arith))
-    (λ over. rw (key-over low n over) (omega arith))
-    (cases_lt n low)
+pub key-small : (bias n : ℕ) → bias ≤ 2 ^ 63 → n < 2 ^ 64 → key bias n < 2 ^ 64
+key-small bias n few lt = ⊎_elim
+    (λ under. rw (key-under bias n under) (omega arith))
+    (λ over. rw (key-over bias n over) (omega arith))
+    (cases_lt n bias)
 
 -- elements' integers are those of their keys
 pub integers-keyed : (bits : ℕ) (signed : Bool) (ns : List ℕ) → All (IsOfWidth bits) ns
@@ -54,11 +54,12 @@ integers-keyed bits signed (n ∷ ns) all =
     rw (first, others) refl
 
 -- the sum of integers by that of their keys
-pub sum-keyed : (low : ℕ) (ks : List ℕ) (a : ℤ) → fold ◌+ℤ◌ a (map (integer_of_key low) ks) ≡ a +ℤ (pos (sum ks) -ℤ pos (length ks * low))
-sum-keyed low [] a = omega (arith, ints)
-sum-keyed low (k ∷ ks) a =
-    let more : length (k ∷ ks) * low ≡ length ks * low + low = omega arith in
-    sum-keyed low ks (a +ℤ integer_of_key low k) ∙ omega (arith, ints, sum-append (k ∷ []) ks, sum-one k, more)
+pub sum-keyed : (bias : ℕ) (ks : List ℕ) (a : ℤ) → fold ◌+ℤ◌ a (map (integer_of_key bias) ks) ≡ a +ℤ (pos (sum ks) -ℤ pos
+    (length ks * bias))
+sum-keyed bias [] a = omega (arith, ints)
+sum-keyed bias (k ∷ ks) a =
+    let more : length (k ∷ ks) * bias ≡ length ks * bias + bias = omega arith in
+    sum-keyed bias ks (a +ℤ integer_of_key bias k) ∙ omega (arith, ints, sum-append (k ∷ []) ks, sum-one k, more)
 
 -- none is below the least
 pub least_key-below : (ks : List ℕ) → All (λ k. least_key ks ≤ k) ks
@@ -108,61 +109,61 @@ in-image f x (y ∷ xs) (zero, lt, e) = (0, omega arith, ap f e)
 in-image f x (y ∷ xs) (suc i, lt, e) = later-in (f y) (f x) (map f xs) (in-image f x xs (i, omega (arith, lt), e))
 
 -- no integers
-pub total-none : (low : ℕ) (ks : List ℕ) (t : Total) → length ks ≡ 0 → t ≡ record { count = 0; sum = pos 0; least = None; greatest = None }
-    → IsTotalOf (map (integer_of_key low) ks) t
-total-none low [] t e is = rw is (record { count = refl; sum = refl; least = refl; greatest = refl })
-total-none low (k ∷ ks) t e is = absurd (omega (arith, e))
+pub total-none : (bias : ℕ) (ks : List ℕ) (t : Total) → length ks ≡ 0 → t ≡ record { count = 0; sum = pos 0; least = None; greatest = None }
+    → IsTotalOf (map (integer_of_key bias) ks) t
+total-none bias [] t e is = rw is (record { count = refl; sum = refl; least = refl; greatest = refl })
+total-none bias (k ∷ ks) t e is = absurd (omega (arith, e))
 
 -- the order of keys is that of their integers
-ordered : (low a b : ℕ) → a ≤ b → integer_of_key low a ≤ℤ integer_of_key low b
-ordered low a b le = omega (arith, ints)
+ordered : (bias a b : ℕ) → a ≤ b → integer_of_key bias a ≤ℤ integer_of_key bias b
+ordered bias a b le = omega (arith, ints)
 
-least-keyed : (low k : ℕ) (ks : List ℕ) → All (λ x. x < 2 ^ 64) (k ∷ ks)
-    → IsLeastOf (map (integer_of_key low) (k ∷ ks)) (Some (integer_of_key low (least_key (k ∷ ks))))
-least-keyed low k ks words =
-    let f = integer_of_key low in
+least-keyed : (bias k : ℕ) (ks : List ℕ) → All (λ x. x < 2 ^ 64) (k ∷ ks)
+    → IsLeastOf (map (integer_of_key bias) (k ∷ ks)) (Some (integer_of_key bias (least_key (k ∷ ks))))
+least-keyed bias k ks words =
+    let f = integer_of_key bias in
     let m = least_key (k ∷ ks) in (
       in-image f m (k ∷ ks) (least_key-in k ks words),
       All-map (λ z. f m ≤ℤ z) f (k ∷ ks)
-          (All-weaker (λ x. m ≤ x) (λ x. f m ≤ℤ f x) (λ x le. ordered low m x le) (k ∷ ks) (least_key-below (k ∷ ks))),
+          (All-weaker (λ x. m ≤ x) (λ x. f m ≤ℤ f x) (λ x le. ordered bias m x le) (k ∷ ks) (least_key-below (k ∷ ks))),
     )
 
-greatest-keyed : (low k : ℕ) (ks : List ℕ) → IsGreatestOf (map (integer_of_key low) (k ∷ ks)) (Some (integer_of_key low
+greatest-keyed : (bias k : ℕ) (ks : List ℕ) → IsGreatestOf (map (integer_of_key bias) (k ∷ ks)) (Some (integer_of_key bias
     (greatest_key (k ∷ ks))))
-greatest-keyed low k ks =
-    let f = integer_of_key low in
+greatest-keyed bias k ks =
+    let f = integer_of_key bias in
     let m = greatest_key (k ∷ ks) in (
       in-image f m (k ∷ ks) (greatest_key-in k ks),
       All-map (λ z. z ≤ℤ f m) f (k ∷ ks)
-          (All-weaker (λ x. x ≤ m) (λ x. f x ≤ℤ f m) (λ x le. ordered low x m le) (k ∷ ks) (greatest_key-above (k ∷ ks))),
+          (All-weaker (λ x. x ≤ m) (λ x. f x ≤ℤ f m) (λ x le. ordered bias x m le) (k ∷ ks) (greatest_key-above (k ∷ ks))),
     )
 
 -- the total of integers by what their keys come to
-pub total-keyed : (low n : ℕ) (ks : List ℕ) (p : Piece) (t : Total) → AreKeysOf n p ks → n ≢ 0 → t.count ≡ n
-    → t.sum ≡ pos p.sum -ℤ pos (n * low)
-    → t.least ≡ Some (integer_of_key low p.least) → t.greatest ≡ Some (integer_of_key low p.greatest)
-    → IsTotalOf (map (integer_of_key low) ks) t
-total-keyed low n [] p t keys some c s l g = absurd (some (sym keys.count))
-total-keyed low n (k ∷ ks) p t keys some c s l g =
-    let f = integer_of_key low in
+pub total-keyed : (bias n : ℕ) (ks : List ℕ) (p : Piece) (t : Total) → AreKeysOf n p ks → n ≢ 0 → t.count ≡ n
+    → t.sum ≡ pos p.sum -ℤ pos (n * bias)
+    → t.least ≡ Some (integer_of_key bias p.least) → t.greatest ≡ Some (integer_of_key bias p.greatest)
+    → IsTotalOf (map (integer_of_key bias) ks) t
+total-keyed bias n [] p t keys some c s l g = absurd (some (sym keys.count))
+total-keyed bias n (k ∷ ks) p t keys some c s l g =
+    let f = integer_of_key bias in
     let all = k ∷ ks in
     let exact : p.sum ≡ sum all = omega (arith, keys.whole, keys.piece.sum) in
     record {
       count = c ∙ sym keys.count ∙ sym (length-map all f);
-      sum = s ∙ rw (exact, sym keys.count) (sym (sum-keyed low all (pos 0) ∙ omega (arith, ints)));
-      least = rw (l, keys.piece.least) (least-keyed low k ks keys.words);
-      greatest = rw (g, keys.piece.greatest) (greatest-keyed low k ks);
+      sum = s ∙ rw (exact, sym keys.count) (sym (sum-keyed bias all (pos 0) ∙ omega (arith, ints)));
+      least = rw (l, keys.piece.least) (least-keyed bias k ks keys.words);
+      greatest = rw (g, keys.piece.greatest) (greatest-keyed bias k ks);
     }
 
 -- keys of a column are words, whose sum is kept whole
-pub keys-whole : (low n : ℕ) (ns : List ℕ) (p : Piece) → low ≤ 2 ^ 63 → n ≤ 2 ^ 60 → length ns ≡ n → All (λ x. x < 2 ^ 64) ns
-    → IsPieceOf (map (key low) ns) p → AreKeysOf n p (map (key low) ns)
-keys-whole low n ns p few short len words piece =
-    let small = All-map (λ x. x < 2 ^ 64) (key low) ns
-    (All-weaker (λ x. x < 2 ^ 64) (λ x. key low x < 2 ^ 64) (λ x lt. key-small low x few lt) ns words) in
-    let most = sum_by-le (λ x. x) 18446744073709551615 (map (key low) ns)
-    (All-weaker (λ x. x < 2 ^ 64) (λ x. x ≤ 18446744073709551615) (λ x lt. omega arith) (map (key low) ns) small) in
-    let count : length (map (key low) ns) ≡ n = length-map ns (key low) ∙ len in
+pub keys-whole : (bias n : ℕ) (ns : List ℕ) (p : Piece) → bias ≤ 2 ^ 63 → n ≤ 2 ^ 60 → length ns ≡ n → All (λ x. x < 2 ^ 64) ns
+    → IsPieceOf (map (key bias) ns) p → AreKeysOf n p (map (key bias) ns)
+keys-whole bias n ns p few short len words piece =
+    let small = All-map (λ x. x < 2 ^ 64) (key bias) ns
+    (All-weaker (λ x. x < 2 ^ 64) (λ x. key bias x < 2 ^ 64) (λ x lt. key-small bias x few lt) ns words) in
+    let most = sum_by-le (λ x. x) 18446744073709551615 (map (key bias) ns)
+    (All-weaker (λ x. x < 2 ^ 64) (λ x. x ≤ 18446744073709551615) (λ x lt. omega arith) (map (key bias) ns) small) in
+    let count : length (map (key bias) ns) ≡ n = length-map ns (key bias) ∙ len in
     record { count = count; whole = omega (arith, most, count); words = small; piece = piece }
 
 -- the elements of a type are those of its width

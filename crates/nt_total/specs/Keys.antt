@@ -3,9 +3,9 @@ use Rattle.std.specs.Prelude.{ℤ, pos, ◌-ℤ◌, ℕ, ◌≡◌, ◌+◌, ◌
 use Rattle.std.specs.Prelude.{if◌then◌else◌}
 use Rattle.nt_total.specs.declared.piece.Piece.{Piece}
 
--- the place of an element among the integers of its width, of which so many are below zero
+-- the place of an element among the integers of its width, of which as many as the bias are below zero
 abbrev pub key : ℕ → ℕ → ℕ
-key half n = if nat_lt n half then n + half else n - half
+key bias n = if nat_lt n bias then n + bias else n - bias
 
 -- the least of keys, and the largest number of none
 abbrev pub least_key : List ℕ → ℕ
@@ -29,9 +29,9 @@ pub record IsJoinOf (a b p : Piece) : Type 0 where
   pub least : p.least ≡ min a.least b.least
   pub greatest : p.greatest ≡ max a.greatest b.greatest
 
--- the integer of a key, where so many of the width are below zero
+-- the integer of a key
 abbrev pub integer_of_key : ℕ → ℕ → ℤ
-integer_of_key low k = pos k -ℤ pos low
+integer_of_key bias k = pos k -ℤ pos bias
 
 -- a piece is what so many keys come to, whose sum is kept whole
 pub record AreKeysOf (n : ℕ) (p : Piece) (ks : List ℕ) : Type 0 where

@@ -4,8 +4,9 @@
 //! (`Running::total`, the integers of it all); `parallel.rt` cuts a column into blocks for the threads, and `piece.rt` is
 //! what a block comes to.
 //!
-//! Words: the *key* of an element is its place in the order of the integers of its width; `low` of these stand for integers below
-//! zero, so an integer is its key less `low`. A *piece* is what keys come to. So all sums are of natural numbers, and keep the order.
+//! Words: the *bias* of a width is how many of its elements stand for integers below zero: half of them where there is a sign, and
+//! else none. The *key* of an element is its integer plus the bias (excess code), which is its place in the order of these integers.
+//! A *piece* is what keys come to. So all sums are of natural numbers, and keep the order.
 //!
 //! Proved: pieces that are joined, in whatever order the threads end, are the piece of the whole (`keys_in_parallel`), so the total is
 //! that of one thread; and it is the total of the integers that the elements stand for, where there are at most 2^60 of them

@@ -26,26 +26,26 @@ fn empty_block() -> [u64; BLOCK] {
 fn some_piece<C: Columns>(
     columns: &C,
     column: u32,
-    low: u64,
+    bias: u64,
     from: u64,
     room: &mut [u64],
 ) -> (usize, Piece)
-    requires low { low ≤ 2 ^ 63 }
+    requires bias { bias ≤ 2 ^ 63 }
     requires room { (from < length (C.elements columns.now column)) × (0 < length room.old) }
     ensures some { (0 < result.0) × (result.0 ≤ length room.old) }
     ensures within { from + result.0 ≤ length (C.elements columns.now column) }
     ensures piece { IsPieceOf
-        (map (key low) (slice_range (numbers (C.elements columns.now column)) from (from + result.0))) result.1 }
+        (map (key bias) (slice_range (numbers (C.elements columns.now column)) from (from + result.0))) result.1 }
 {
     let some = columns.read(column, from, room);
-    (some, piece_of(&room[..some], low))
+    (some, piece_of(&room[..some], bias))
 }
 
 /// What the keys of a block come to. It is read page by page.
-fn block_piece<C: Columns>(columns: &C, column: u32, low: u64, b: usize) -> Piece
-    requires low { low ≤ 2 ^ 63 }
+fn block_piece<C: Columns>(columns: &C, column: u32, bias: u64, b: usize) -> Piece
+    requires bias { bias ≤ 2 ^ 63 }
     requires within { b * 512 < length (C.elements columns.now column) }
-    ensures { IsPieceOf (map (key low) (chunk 512 (numbers (C.elements columns.now column)) b)) result }
+    ensures { IsPieceOf (map (key bias) (chunk 512 (numbers (C.elements columns.now column)) b)) result }
 {
     let len = columns.len(column);
     let from = b as u64 * BLOCK as u64;
@@ -55,7 +55,7 @@ fn block_piece<C: Columns>(columns: &C, column: u32, low: u64, b: usize) -> Piec
     let mut done = 0;
     while done < count {
         let at = from + done as u64;
-        let (some, piece) = some_piece(columns, column, low, at, &mut room[done..count]);
+        let (some, piece) = some_piece(columns, column, bias, at, &mut room[done..count]);
         whole = whole.join(piece);
         done += some;
     }
@@ -67,10 +67,10 @@ pub fn keys_in_parallel<C: Columns>(
     rt: &(impl Threads + Sync),
     columns: &C,
     column: u32,
-    low: u64,
+    bias: u64,
 ) -> Piece
-    requires { low ≤ 2 ^ 63 }
-    ensures { IsPieceOf (map (key low) (numbers (C.elements columns.now column))) result }
+    requires { bias ≤ 2 ^ 63 }
+    ensures { IsPieceOf (map (key bias) (numbers (C.elements columns.now column))) result }
 {
     let blocks = columns.len(column).div_ceil(BLOCK as u64) as usize;
     (0..blocks)
@@ -78,10 +78,10 @@ pub fn keys_in_parallel<C: Columns>(
         .with_min_len(LEAST_BLOCKS)
         .map(
             |b: usize| -> Piece
-                requires { (low ≤ 2 ^ 63) × (b * 512 < length (C.elements columns.now column)) }
-                ensures { IsPieceOf (map (key low)
+                requires { (bias ≤ 2 ^ 63) × (b * 512 < length (C.elements columns.now column)) }
+                ensures { IsPieceOf (map (key bias)
                     (chunk 512 (numbers (C.elements columns.entry.now column)) b)) result }
-            { block_piece(columns, column, low, b) },
+            { block_piece(columns, column, bias, b) },
         )
         .reduce(
             rt,

@@ -11,16 +11,16 @@ pub struct Piece {
     pub greatest: u64,
 }
 
-/// Where an element stands in the order of the integers of its width, of which so many are below zero.
+/// Where an element stands in the order of the integers of its width, of which as many as the bias are below zero.
 #[inline(always)]
-fn key(element: u64, half: u64) -> u64
-    requires { half ≤ 2 ^ 63 }
-    ensures { result ≡ key half element }
+fn key(element: u64, bias: u64) -> u64
+    requires { bias ≤ 2 ^ 63 }
+    ensures { result ≡ key bias element }
 {
-    if element < half {
-        element + half
+    if element < bias {
+        element + bias
     } else {
-        element - half
+        element - bias
     }
 }
 
@@ -51,15 +51,15 @@ impl Piece {
 }
 
 /// What the keys of elements come to.
-pub fn piece_of(elements: &[u64], half: u64) -> Piece
-    requires { half ≤ 2 ^ 63 }
-    ensures { IsPieceOf (map (key half) elements.now) result }
+pub fn piece_of(elements: &[u64], bias: u64) -> Piece
+    requires { bias ≤ 2 ^ 63 }
+    ensures { IsPieceOf (map (key bias) elements.now) result }
 {
     let mut sum: u128 = 0;
     let mut least = u64::MAX;
     let mut greatest: u64 = 0;
     for element in elements {
-        let key = key(*element, half);
+        let key = key(*element, bias);
         sum = sum.wrapping_add(u128::from(key));
         least = least.min(key);
         greatest = greatest.max(key);

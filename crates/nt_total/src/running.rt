@@ -22,7 +22,7 @@ pub struct Running {
 impl Running {
     /// No numbers.
     pub fn none() -> Running
-        ensures { (low : ℕ) → IsSoFar [] low result }
+        ensures { (bias : ℕ) → IsSoFar [] bias result }
     {
         Running {
             count: 0,

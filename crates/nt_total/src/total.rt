@@ -34,7 +34,7 @@ pub fn is_integral(kind: ColumnType) -> bool
 /// How many of the elements of a type stand for integers below zero.
 pub fn low_of(kind: ColumnType) -> u64
     ensures few { result ≤ 2 ^ 63 }
-    ensures low { result ≡ low_of kind }
+    ensures bias { result ≡ low_of kind }
 {
     match kind {
         ColumnType::Int8 => 1 << 7,
@@ -46,27 +46,27 @@ pub fn low_of(kind: ColumnType) -> u64
 }
 
 /// The sum of integers by that of their keys, where that is kept whole.
-fn sum_by_keys(sum: u128, count: u64, low: u64) -> i128
-    requires { low ≤ 2 ^ 63 }
-    ensures { sum < 2 ^ 124 → result ≡ pos sum -ℤ pos (count * low) }
+fn sum_by_keys(sum: u128, count: u64, bias: u64) -> i128
+    requires { bias ≤ 2 ^ 63 }
+    ensures { sum < 2 ^ 124 → result ≡ pos sum -ℤ pos (count * bias) }
 {
     let Ok(sum) = i128::try_from(sum) else {
         return 0;
     };
-    sum - i128::from(count) * i128::from(low)
+    sum - i128::from(count) * i128::from(bias)
 }
 
 /// The integer of a key.
-fn integer_of_key(key: u64, low: u64) -> i128
-    ensures { result ≡ integer_of_key low key }
+fn integer_of_key(key: u64, bias: u64) -> i128
+    ensures { result ≡ integer_of_key bias key }
 {
-    i128::from(key) - i128::from(low)
+    i128::from(key) - i128::from(bias)
 }
 
 /// The total of so many integers whose keys come to a piece.
-pub fn total_of_piece(count: u64, piece: Piece, low: u64) -> Total
-    requires { low ≤ 2 ^ 63 }
-    ensures { (ks : List ℕ) → AreKeysOf count piece ks → IsTotalOf (map (integer_of_key low) ks) result }
+pub fn total_of_piece(count: u64, piece: Piece, bias: u64) -> Total
+    requires { bias ≤ 2 ^ 63 }
+    ensures { (ks : List ℕ) → AreKeysOf count piece ks → IsTotalOf (map (integer_of_key bias) ks) result }
 {
     if count == 0 {
         return Total {
@@ -78,8 +78,8 @@ pub fn total_of_piece(count: u64, piece: Piece, low: u64) -> Total
     }
     Total {
         count,
-        sum: sum_by_keys(piece.sum, count, low),
-        least: Some(integer_of_key(piece.least, low)),
-        greatest: Some(integer_of_key(piece.greatest, low)),
+        sum: sum_by_keys(piece.sum, count, bias),
+        least: Some(integer_of_key(piece.least, bias)),
+        greatest: Some(integer_of_key(piece.greatest, bias)),
     }
 }

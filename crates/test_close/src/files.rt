@@ -117,21 +117,21 @@ fn add(
     Ok(())
 }
 
-/// Adds a cluster for each page, and closes the file. From this cluster on the ranges are spoiled.
+/// Adds a cluster for each page, whose ranges are spoiled from a number on, and closes the file.
 fn fill(
     alloc: Global,
     disk: &mut MemDisk,
     book: &mut Book,
     schema: &Schema,
     params: &Params,
-    pages: &[&[u8]],
-    spoiled: usize,
+    clusters: (&[&[u8]], usize),
 ) -> Result<End, AllocError>
     requires begin { book.old.begin ≡ clusters_place schema.now }
     requires columns { length book.old.firsts ≡ 1 }
     requires out { (state_of disk.old).out ≡ [] }
     requires whole { AreWhole schema.now }
 {
+    let (pages, spoiled) = clusters;
     for (k, page) in pages.iter().enumerate() {
         let count = page.len() / 8;
         if count >= 1000 || page.len() != 8 * count {
@@ -170,7 +170,7 @@ fn write_on(
             if schema.columns() != 1 {
                 return Err(AllocError);
             }
-            fill(alloc, disk, &mut book, &schema, params, pages, spoiled)
+            fill(alloc, disk, &mut book, &schema, params, (pages, spoiled))
         }
         Err(e) => Ok(End::NotBegun(e)),
     }

@@ -75,6 +75,13 @@ pub struct Refusals {
     pub b: Option<CommitError>,
 }
 
+/// In which way two contexts write, and whether `b` leads.
+#[derive(Clone, Copy)]
+struct Meeting {
+    way: Way,
+    b_leads: bool,
+}
+
 /// Lets `b` in beside `a`, and both write.
 fn write_with_another<D: Disk>(
     rt: &impl Wait,
@@ -82,8 +89,7 @@ fn write_with_another<D: Disk>(
     committer: &Committer<D>,
     first: &mut Pass<Locked<D>>,
     a: Context<D>,
-    way: Way,
-    b_leads: bool,
+    meeting: Meeting,
 ) -> (Done<D>, Option<CommitError>)
     requires letting { MayLetIn committer.now 1 first.old }
     requires ready { IsReadyToWrite committer.now a.pass a.image }
@@ -98,7 +104,7 @@ fn write_with_another<D: Disk>(
         return (write_one(rt, committer, a), Some(CommitError::Memory));
     };
     let b = Context { pass, pen, image };
-    let (a, b) = write_led(rt, committer, a, b, way, b_leads);
+    let (a, b) = write_led(rt, committer, a, b, meeting.way, meeting.b_leads);
     let Done { pass, pen, refused } = b;
     leave_one(rt, committer, first, pass, pen);
     (a, refused)
@@ -130,7 +136,8 @@ fn write_two<D: Disk>(
         };
     };
     let a = Context { pass, pen, image };
-    let (a, b) = write_with_another(rt, alloc, committer, first, a, way, b_leads);
+    let meeting = Meeting { way, b_leads };
+    let (a, b) = write_with_another(rt, alloc, committer, first, a, meeting);
     let Done { pass, pen, refused } = a;
     leave_one(rt, committer, first, pass, pen);
     Refusals { a: refused, b }

@@ -22,7 +22,7 @@ reduce-requires-clause-ready g c κs within =
     let blocks : c.div_ceil-blocks.result ≡ length (chunks 512 xs) =
     c.div_ceil-blocks.ensures ∙ ap (λ (n : ℕ). div_ceil n 512) (c.len.ensures ∙ sym same) ∙ sym (length-chunks 512 xs) in
     let inside = nat_range-All (λ i. i * 512 < length es) 0 c.div_ceil-blocks.result
-    (λ i low high. omega (arith, same, chunk-begins 512 xs i (omega arith) (omega (arith, high, blocks)))) in
+    (λ i bias high. omega (arith, same, chunk-begins 512 xs i (omega arith) (omega (arith, high, blocks)))) in
     rw (c.map.ensures.base, c.map.ensures.f, c.with_min_len.ensures.base, ends.0, ends.1)
     (λ k d lt. (((c.requires, inside k d lt), search (sendable, crosses) depth 40), λ y p. tt))
 
@@ -33,11 +33,11 @@ returns g c =
     let es = g.C.Columns.elements c.args.columns.now c.args.column in
     let xs = numbers es in
     let same : length xs ≡ length es = length-map es (λ (e : Element). e.0) in
-    let f = λ (i : ℕ). map (key c.args.low) (chunk 512 xs i) in
+    let f = λ (i : ℕ). map (key c.args.bias) (chunk 512 xs i) in
     let chain = rw (c.map.ensures.base, c.map.ensures.f, c.with_min_len.ensures.base) at done.1 in
     let n = c.div_ceil-blocks.result in
     let whole : n - 0 ≡ n = omega arith in
     let blocks : n ≡ div_ceil (length xs) 512 = c.div_ceil-blocks.ensures ∙ ap (λ (m : ℕ). div_ceil m 512) (c.len.ensures ∙ sym same) in
     let is = chain.1 ∙ (λ i. nat_range (ends.0 i) (ends.1 i)) ∙ ap (range_with_len 0) (whole ∙ blocks) in
     let total = reduced f chain.0 done.0 c.reduce.result chain.2 done.2 in
-    subst (λ l. IsPieceOf l c.reduce.result) (ap (flat_map f) is ∙ map-of_chunks (key c.args.low) 512 xs (omega arith)) total
+    subst (λ l. IsPieceOf l c.reduce.result) (ap (flat_map f) is ∙ map-of_chunks (key c.args.bias) 512 xs (omega arith)) total

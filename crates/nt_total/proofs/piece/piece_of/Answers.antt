@@ -8,8 +8,8 @@ pub loop-element-preserved : goal.loop-element-preserved
 loop-element-preserved c =
     let xs = c.args.elements.now in
     let i = c.loop-element.element-index in
-    rw (map_more (key c.args.half) xs i 0 c.loop-element-test.true)
-    (piece-more (map (key c.args.half) (take i xs)) _ _ _ (search (rules, c.key-key.ensures, c.key-key.type_inv)) c.loop-element.invariant
+    rw (map_more (key c.args.bias) xs i 0 c.loop-element-test.true)
+    (piece-more (map (key c.args.bias) (take i xs)) _ _ _ (search (rules, c.key-key.ensures, c.key-key.type_inv)) c.loop-element.invariant
     (omega (arith, c.from-sum.ensures, c.key-key.ensures)) (omega (arith, c.min-least.ensures, c.key-key.ensures))
     (omega (arith, c.max-greatest.ensures, c.key-key.ensures)))
 

@@ -4,4 +4,4 @@ use Rattle.nt_total.proofs.piece.piece_of.Given as goal
 
 abbrev pub invariant-loop-element : goal.invariant-loop-element
 invariant-loop-element l =
-    IsPieceOf (map (key l.half) (take l.element-index l.elements)) (record { sum = l.sum; least = l.least; greatest = l.greatest })
+    IsPieceOf (map (key l.bias) (take l.element-index l.elements)) (record { sum = l.sum; least = l.least; greatest = l.greatest })

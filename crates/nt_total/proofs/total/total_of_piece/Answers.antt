@@ -9,6 +9,6 @@ returns c ks keys =
     let sum = to_z-of_z w128 c.sum_by_keys.result (record { sfits = c.sum_by_keys.type_inv }) in
     let least = to_z-of_z w128 c.integer_of_key.result (record { sfits = c.integer_of_key.type_inv }) in
     let greatest = to_z-of_z w128 c.integer_of_key-2.result (record { sfits = c.integer_of_key-2.type_inv }) in
-    total-keyed c.args.low c.args.count ks c.args.piece _ keys c.if-count-eq0.false refl
+    total-keyed c.args.bias c.args.count ks c.args.piece _ keys c.if-count-eq0.false refl
     (sum ∙ c.sum_by_keys.ensures (omega (arith, keys.whole, keys.piece.sum)))
     (ap (λ (z : ℤ). Some z) (least ∙ c.integer_of_key.ensures)) (ap (λ (z : ℤ). Some z) (greatest ∙ c.integer_of_key-2.ensures))

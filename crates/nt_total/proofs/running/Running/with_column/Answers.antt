@@ -9,7 +9,7 @@ pub returns : goal.returns
 returns g c ns so_far =
     let es = g.C.Columns.elements c.args.columns.now c.args.column in
     let same : length (numbers es) ≡ length es = length-map es (λ (e : Element). e.0) in
-    let piece = subst (λ l. IsPieceOf (map (key l) (numbers es)) c.keys_in_parallel-piece.result) c.low_of.ensures.low
+    let piece = subst (λ l. IsPieceOf (map (key l) (numbers es)) c.keys_in_parallel-piece.result) c.low_of.ensures.bias
     c.keys_in_parallel-piece.ensures in
     added ns (numbers es) _ c.args.self _ c.keys_in_parallel-piece.result (omega (arith, same, c.len.ensures)) piece
     c.join.ensures so_far
