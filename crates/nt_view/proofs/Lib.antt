@@ -1,3 +1,4 @@
+pub mod HadReady
 pub mod Stores
 pub mod Taking
 pub mod Columns
