@@ -1,6 +1,7 @@
 //! The laws of copied clusters.
 
 ghost use Rattle.std.specs.Prelude.{◌≡◌, List, ℕ, true, false, Ok};
+ghost use Rattle.std.specs.List.{AllByRecursion};
 ghost use Rattle.nt_types.specs.TreeData.{TreesData};
 ghost use Rattle.nt_grammar.specs.Table.{Table};
 ghost use Rattle.nt_grammar.specs.ReadingBack.{IsDescribed};
@@ -58,6 +59,12 @@ pub fn copies_are_paged()
     ensures { (s : Source) (entries : List TreesData) → HoldsCluster s.file s.table s.list entries
         → NoneDeferred s.table.columns → HasFewElements s.list → AllHaveTypes s.table.columns (open_plans s.table)
         → are_some (open_plans s.table) ≡ true → (context : ℕ) → IsPaged (stored_meta context s.list.entries (stored_columns s)) }
+{}
+
+/// The pages that the outline of a file lists have counts that are signed in 32 bits, as a page list
+/// tells them.
+pub fn listed_pages_have_few_elements()
+    ensures { (file : List ℕ) (o : Outline) → outline_of file ≡ Ok o → AllByRecursion HasFewElements o.clusters }
 {}
 
 /// The schema of a file that was read is one that a description can hold, and so is the bare one;
