@@ -42,16 +42,16 @@ first-none (r ∷ rows) (suc j) all less = first-none rows j all.1 (omega (arith
 
 module _ (t : Table) (s : Source) (entries : List TreesData) (c : Cluster ClusterMeta) (range : List ℕ)
     (is : IsCopyOf t s entries c range) (begin : NoneDeferred t.columns) where
-  need-same : (j : ℕ) → need_of t j ≡ need_of s.table j
+  pub need-same : (j : ℕ) → need_of t j ≡ need_of s.table j
   need-same j = ap (λ (ps : PlansData). need_in_any needs.entries ps j) is.alike.plans
 
-  pages-kept : c.meta.pages ≡ stored_metas 0 (stored_columns s)
+  pub pages-kept : c.meta.pages ≡ stored_metas 0 (stored_columns s)
   pages-kept = ap (λ (m : ClusterMeta). m.pages) is.meta_is
 
-  entries-kept : c.meta.entries ≡ s.list.entries
+  pub entries-kept : c.meta.entries ≡ s.list.entries
   entries-kept = ap (λ (m : ClusterMeta). m.entries) is.meta_is
 
-  pages-long : length c.meta.pages ≡ length s.table.columns
+  pub pages-long : length c.meta.pages ≡ length s.table.columns
   pages-long = ap length pages-kept ∙ length-metas s.file s.list s.table 0 0 s.table.columns
 
   columns-long : length t.columns ≡ length s.table.columns
@@ -66,7 +66,7 @@ module _ (t : Table) (s : Source) (entries : List TreesData) (c : Cluster Cluste
       ∙ sym (ap (λ (m : ClusterMeta). m.len) is.meta_is))
 
   -- a principal column has an element for each entry
-  each-long : (j : ℕ) → is_entries (need_of s.table j) ≡ true → length (columns_by_id is.holds.columns j) ≡ s.list.entries
+  pub each-long : (j : ℕ) → is_entries (need_of s.table j) ≡ true → length (columns_by_id is.holds.columns j) ≡ s.list.entries
   each-long j p = any-entries (open_plans s.table) (columns_by_id is.holds.columns) s.list.entries j is.holds.sound p
 
   -- the copy holds the entries of its source

@@ -134,10 +134,10 @@ module _ (from to : List ℕ) (k l : ClusterList) (base place id : ℕ) where
 
 -- ---- all columns
 
-head-is : (x y : ℕ) (xs ys : List ℕ) → x ∷ xs ≡ y ∷ ys → (x ≡ y) × (xs ≡ ys)
+pub head-is : (x y : ℕ) (xs ys : List ℕ) → x ∷ xs ≡ y ∷ ys → (x ≡ y) × (xs ≡ ys)
 head-is x y xs ys e = (cc, cc)
 
-known-is : (need other : Option NeedData) (r q : ColumnRow) → need ≡ other → r.first ≡ 0 → q.first ≡ 0
+pub known-is : (need other : Option NeedData) (r q : ColumnRow) → need ≡ other → r.first ≡ 0 → q.first ≡ 0
     → known_column need r ≡ known_column other q
 known-is need other r q same first begin =
     ap (λ (o : Option NeedData). known_column o r) same

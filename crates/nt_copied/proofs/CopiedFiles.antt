@@ -70,7 +70,7 @@ file-chain : (file : List ℕ) (t : Table) (lists : List ClusterList) (clusters 
 unfolding read_file
 file-chain file t lists clusters p q = rw (p, q) refl
 
-lists-le : (book : BookData) (k n : ℕ) (ls : List ClusterList) → AreListsOf book k n ls → k ≤ n
+pub lists-le : (book : BookData) (k n : ℕ) (ls : List ClusterList) → AreListsOf book k n ls → k ≤ n
 lists-le book k n [] h = omega (arith, h)
 lists-le book k n (l ∷ ls) h = omega (arith, lists-le book (k + 1) n ls h.1)
 
@@ -112,7 +112,7 @@ module _ (file : List ℕ) (t : Table) (sources : List Source) (clusters : List 
       inside in
       copy_sound t some.source some.entries (cluster_at book k) some.range some.is begin (first_entry book k) j less
 
-  sound-copies : (from count : ℕ) → from + count ≤ length (book_clusters book) → HasSoundClusters (known_columns t) book from count
+  pub sound-copies : (from count : ℕ) → from + count ≤ length (book_clusters book) → HasSoundClusters (known_columns t) book from count
   sound-copies from count inside =
       let long : length t.columns ≡ length book.firsts =
       sym (length-map t.columns (λ (c : ColumnRow). c.first)) ∙ ap length copied.is_of.firsts in
@@ -129,7 +129,7 @@ module _ (file : List ℕ) (t : Table) (sources : List Source) (clusters : List 
             (sound-at k j (omega (arith, high, inside)) (omega (arith, less, length-known t 0 t.columns)));
       }
 
-  ranged : IsRangedBook m.staged t m.group book copied.ranges
+  pub ranged : IsRangedBook m.staged t m.group book copied.ranges
   ranged = record {
     kept = copied.is_of.kept;
     begin = copied.is_of.begin;

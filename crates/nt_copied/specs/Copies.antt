@@ -1,6 +1,7 @@
 -- Files whose clusters are copies of those of other files, page by page as these are stored
 -- (RNTuple Binary Format Specification 1.0.0.0, sections Pages, Page Locations and Page List Envelope).
-use Rattle.std.specs.Prelude.{ℕ, ◌≡◌, ◌+◌, ◌<◌, ◌^◌, ◌==◌, ◌&&◌, not, List, [], ◌∷◌, map, length, Option, Some, None, if◌then◌else◌}
+use Rattle.std.specs.Prelude.{ℕ, ◌≡◌, ◌+◌, ◌<◌, ◌^◌, ◌==◌, ◌&&◌, not, List, [], ◌∷◌, map, length, Option, Some, None, Ok}
+use Rattle.std.specs.Prelude.{if◌then◌else◌}
 use Rattle.std.specs.List.{AllByRecursion}
 use Rattle.nt_types.specs.TreeData.{TreesData}
 use Rattle.nt_types.specs.declared.column_type.ColumnType.{ColumnType}
@@ -15,7 +16,7 @@ use Rattle.nt_book.specs.Books.{BookData, book_clusters}
 use Rattle.nt_pagelists.specs.declared.column.KnownColumn.{KnownColumn}
 use Rattle.nt_pagelists.specs.declared.page.PageItem.{PageItem}
 use Rattle.nt_pagelists.specs.declared.cluster.ClusterList.{ClusterList}
-use Rattle.nt_file_meaning.specs.Outlines.{known_column}
+use Rattle.nt_file_meaning.specs.Outlines.{known_column, outline_of}
 use Rattle.nt_file_meaning.specs.Clusters.{kind_of_code, pages_listed, begins_behind}
 use Rattle.nt_file_meaning.specs.Holds.{HoldsCluster}
 use Rattle.nt_pagelists.specs.Blobs.{blob}
@@ -59,6 +60,11 @@ pub record Source : Type 0 where
 abbrev pub stored_columns : Source → List (List StoredPage)
 stored_columns s = columns_there s.file s.list s.table 0 s.table.columns
 
+-- the clusters of a file, each as a source
+abbrev pub sources_of : List ℕ → Table → List ClusterList → List Source
+sources_of file t [] = []
+sources_of file t (k ∷ ks) = record { file = file; table = t; list = k } ∷ sources_of file t ks
+
 -- the counts of the pages are signed in 32 bits, as a page list tells them
 abbrev pub HasFewElements : ClusterList → Type 0
 HasFewElements k = (id : ℕ) → AllByRecursion (λ (p : PageItem). p.count < 2 ^ 31) (pages_listed k id)
@@ -100,3 +106,10 @@ pub record IsCopied (file : List ℕ) (t : Table) (sources : List Source) (clust
   pub copies : AreCopies t sources clusters (map (range_of ranges) (book_clusters book)) (book_clusters book)
   pub behind : AreBehind (clusters_place t) (middle m.staged t book m.group ranges)
   pub is : file ≡ finished m.staged t book m.group ranges
+
+-- the file has an outline of this schema, in each of whose clusters stand, column by column and page by page, the bytes of a source's
+-- stored pages
+pub record HasStoredPages (file : List ℕ) (t : Table) (sources : List Source) : Type 0 where
+  pub lists : List ClusterList
+  pub outline : outline_of file ≡ Ok (record { table = t; clusters = lists })
+  pub pages : map stored_columns (sources_of file t lists) ≡ map stored_columns sources

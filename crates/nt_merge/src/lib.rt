@@ -10,16 +10,19 @@
 //! place that is named is the first one of the schemas that stands against it: of all files first the
 //! closed fields, then the deferred columns, then rows unlike those of the first file (`told`); each file
 //! has the bytes that it had (`kept`), and `ReadFault` comes only where the count of one of them rose
-//! (`rose`). Nothing is only tested.
+//! (`rose`). Schemas that nothing stands against have open fields alone, no deferred column, and are
+//! alike the first one (`schemas_without_error_are_mergeable`). Nothing is only tested.
 //!
 //! Choices that bind nobody else: a file without fields is told as one whose field 0 is closed.
 #![tactic(auto)]
 
 mod comparing;
 mod error;
+mod laws;
 mod place;
 mod planning;
 
 pub use error::MergeError;
+pub use laws::schemas_without_error_are_mergeable;
 pub use place::SchemaPlace;
 pub use planning::{MergePlan, plan};
