@@ -85,3 +85,14 @@ page-stored store ps places i d e are lt =
     sym (ap (λ (l : List ℕ). take p.size l) (cut-at ps i d store lt)
     ∙ take-take p.size (loaded_len p) (drop (lens_of (take i ps)) store) (len-le p.checked p.size)
     ∙ ap (λ (n : ℕ). take p.size (drop n store)) (sym (are.at i e lt)))
+
+-- with its checksum it lies there too
+pub page-whole : (store : List ℕ) (ps : List PagePlace) (places : List PageAt) (i : ℕ) (d : PagePlace) (e : PageAt) → AreAt places ps
+    → length store ≡ lens_of ps → i < length ps → (get_or places i e).at + loaded_len (get_or ps i d) ≤ length store
+page-whole store ps places i d e are long lt = omega (arith, are.at i e lt, end-laid ps i d lt, long)
+
+pub page-kept : (store : List ℕ) (ps : List PagePlace) (places : List PageAt) (i : ℕ) (d : PagePlace) (e : PageAt) → AreAt places ps
+    → i < length ps
+    → take (loaded_len (get_or ps i d)) (drop (get_or places i e).at store) ≡ get_or (cut_up ps store) i []
+page-kept store ps places i d e are lt =
+    ap (λ (n : ℕ). take (loaded_len (get_or ps i d)) (drop n store)) (are.at i e lt) ∙ sym (cut-at ps i d store lt)

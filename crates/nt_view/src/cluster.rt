@@ -2,7 +2,7 @@
 
 ghost use Rattle.std.specs.Prelude.{◌≡◌, ◌<◌, ◌^◌, [], length, take, Some, slice_get, slice_index_or, IfOk, IsTrue};
 ghost use Rattle.nt_view.specs.declared.page_place.PagePlace.{PagePlace};
-ghost use Rattle.nt_view.specs.Loads.{load_of, LoadsFile, ServesView};
+ghost use Rattle.nt_view.specs.Loads.{load_of, LoadsFile, ServesView, loaded_len};
 ghost use Rattle.nt_view.specs.Loaded.{AreLoadable, nothing_loaded, loaded_with, loaded_elements};
 ghost use Rattle.nt_view.specs.Ahead.{AreUntagged};
 ghost use Rattle.nt_view.specs.Stores.{cut_up, lens_of};
@@ -11,7 +11,7 @@ use crate::fault::ViewFault;
 use crate::lookup;
 use crate::page_place::{PagePlace, ZeroColumn};
 use crate::place::{are_bytes, part_of};
-use crate::reading::read_pages;
+use crate::reading::{read_pages, stored_len};
 use crate::table::{Table, add_columns, set_zeros};
 use crate::wanting::Wanting;
 use nt_column::{Columns, CowSlice, WordSlice};
@@ -100,9 +100,10 @@ impl ClusterBytes {
         Ok(assembled(alloc, store, pages, zeros, kept)?)
     }
 
-    /// The number of pages.
+    /// The number of pages, each of which has its stored bytes.
     pub fn pages(&self) -> u32
-        ensures { result ≡ length self.now.pages }
+        ensures pages { result ≡ length self.now.pages }
+        ensures stored { result ≡ length self.now.stored }
     {
         self.pages.len() as u32
     }
@@ -138,6 +139,17 @@ impl ClusterBytes {
     {
         let at = self.table.places[i as usize].at;
         part_of(&self.store, at, self.pages[i as usize].size as usize)
+    }
+
+    /// The bytes of a page as they are stored, with its checksum behind them where it has one.
+    pub fn page_stored(&self, i: u32) -> &[u8]
+        requires { i < length self.now.pages }
+        ensures bytes { slice_get self.now.stored i ≡ Some result.now }
+        ensures len { (d : PagePlace) → length result.now ≡ loaded_len (slice_index_or self.now.pages i d) }
+    {
+        let at = self.table.places[i as usize].at;
+        let len = stored_len(&self.pages[i as usize]);
+        part_of(&self.store, at, len as usize)
     }
 }
 

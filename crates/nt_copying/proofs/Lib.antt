@@ -1,0 +1,5 @@
+pub mod CopiedPages
+pub mod Runs
+pub mod PagesFound
+pub mod FoundPages
+pub mod CopiedMetas
