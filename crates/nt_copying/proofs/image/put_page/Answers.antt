@@ -22,7 +22,8 @@ returns-clause-meta c =
     let e = page-is l c.args.i p c.page_stored.result.now c.page-page.ensures c.page_stored.ensures.bytes in
     let long : length c.page_stored.result.now ≡ loaded_len p =
     c.page_stored.ensures.len p ∙ ap loaded_len (get_or_from_slice_get l.pages c.args.i p p c.page-page.ensures) in
-    meta-is (loaded_page l c.args.i) p c.page_stored.result.now c.len.result (length c.args.image.now.items) e long (omega (arith, c.len.ensures))
+    meta-is (loaded_page l c.args.i) p c.page_stored.result.now c.len.result (length c.args.image.now.items) e long
+    (omega (arith, c.len.ensures))
 
 pub returns-clause-sound : goal.returns-clause-sound
 returns-clause-sound c =
