@@ -1,5 +1,5 @@
-use Rattle.std.proofs.Common.{◌≡◌, ◌∙◌, ◌<◌, ◌^◌, List, ℕ, length, ap, sym, subst, arith}
-use Rattle.std.proofs.lemmas.Option.{get_or_from_slice_get, slice_get_within}
+use Rattle.std.proofs.Common.{◌≡◌, ◌∙◌, List, ℕ, length, ap, sym, subst, arith}
+use Rattle.std.proofs.lemmas.Option.{get_or_from_slice_get}
 use Rattle.nt_encode.specs.Pages.{page_size}
 use Rattle.nt_view.specs.declared.page_place.PagePlace.{PagePlace}
 use Rattle.nt_view.specs.Loads.{loaded_len}
@@ -22,7 +22,8 @@ returns-clause-meta c =
     let e = page-is l c.args.i p c.page_stored.result.now c.page-page.ensures c.page_stored.ensures.bytes in
     let long : length c.page_stored.result.now ≡ loaded_len p =
     c.page_stored.ensures.len p ∙ ap loaded_len (get_or_from_slice_get l.pages c.args.i p p c.page-page.ensures) in
-    meta-is (loaded_page l c.args.i) p c.page_stored.result.now c.len.result (length c.args.image.now.items) e long (omega (arith, c.len.ensures))
+    meta-is (loaded_page l c.args.i) p c.page_stored.result.now c.len.result (length c.args.image.now.items) e long
+    (omega (arith, c.len.ensures))
 
 pub returns-clause-sound : goal.returns-clause-sound
 returns-clause-sound c =
