@@ -1,3 +1,4 @@
 pub mod Unlike
 pub mod Lists
 pub mod Kept
+pub mod LoadedValues

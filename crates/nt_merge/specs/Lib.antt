@@ -1,3 +1,4 @@
 pub mod Comparing
 pub mod Files
 pub mod Planning
+pub mod Loading
