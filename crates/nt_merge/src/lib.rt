@@ -3,16 +3,18 @@
 //! Start at `plan` in `planning.rt`, which attaches to all files and compares their schemas row by row
 //! (`comparing.rt`). Files can be merged where each has an outline, all their fields are open, all their
 //! columns begin with the first entry, and their rows are the same but for flags (`specs/Comparing.antt`,
-//! `schema_error`). That a file whose clusters are copies of theirs means the same is said in nt_copied. `load_cluster` in `loading.rt` loads
-//! the pages of one of their clusters, which nt_copying makes the image of another of.
+//! `schema_error`). That a file whose clusters are copies of theirs means the same is said in nt_copied.
+//! `load_cluster` in `loading.rt` loads the pages of one of their clusters, of which nt_copying makes the
+//! image of another.
 //!
 //! Proved of `plan`: after `Ok` the outlines are those of the files, and nothing stands against merging
 //! them; a defect is the first fault of the first file that has no outline, and else the
 //! place that is named is the first one of the schemas that stands against it: of all files first the
 //! closed fields, then the deferred columns, then rows unlike those of the first file (`told`); each file
 //! has the bytes that it had (`kept`), and `ReadFault` comes only where the count of one of them rose
-//! (`rose`). Of `load_cluster`: wherever the file tells its bytes, the entries of the pages are those that nt_file_meaning reads, or the fault
-//! is the first one (`read`), and the pages are all those of the open columns (`loaded`). Nothing is only tested.
+//! (`rose`). Of `load_cluster`: wherever the file tells its bytes, the entries of the pages are those that
+//! nt_file_meaning reads, or the fault is the first one (`read`), and the pages are all those of the open
+//! columns (`loaded`). Nothing is only tested.
 //!
 //! Choices that bind nobody else: a file without fields is told as one whose field 0 is closed.
 #![tactic(auto)]
