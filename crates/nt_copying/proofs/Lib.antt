@@ -3,3 +3,4 @@ pub mod Runs
 pub mod PagesFound
 pub mod FoundPages
 pub mod CopiedMetas
+pub mod Keyed

@@ -1,13 +1,16 @@
 -- The pages of a loaded cluster as they are copied: those that have elements, column by column (RNTuple Binary Format Specification
 -- 1.0.0.0, sections Pages and Page Locations).
-use Rattle.std.specs.Prelude.{ℕ, ◌≡◌, ◌<◌, ◌≤◌, ◌+◌, ◌==◌, true, false, List, [], ◌∷◌, ◌++◌, map, length, take, slice_index_or}
+use Rattle.std.specs.Prelude.{ℕ, ◌≡◌, ◌<◌, ◌≤◌, ◌+◌, ◌==◌, true, false, List, [], ◌∷◌, ◌++◌, map, length, take, replicate, slice_index_or}
 use Rattle.std.specs.Prelude.{if◌then◌else◌}
 use Rattle.std.specs.List.{AllByRecursion, range_with_len, slice_range, zip}
 use Rattle.nt_types.specs.declared.column_type.ColumnType.TheVariants.{Bit}
 use Rattle.nt_view.specs.declared.page_place.PagePlace.{PagePlace}
 use Rattle.nt_view.specs.Loaded.{Loaded, loaded_pages, AreLoadable}
 use Rattle.nt_view.specs.Stored.{has_its_sum}
-use Rattle.nt_copied.specs.Stored.{StoredPage}
+use Rattle.nt_book.specs.declared.meta.ClusterMeta.{ClusterMeta}
+use Rattle.nt_grammar.specs.Table.{Table}
+use Rattle.nt_pages.specs.Image.{key_room}
+use Rattle.nt_copied.specs.Stored.{StoredPage, stored_payload, stored_meta}
 
 -- a loaded page, with its stored bytes, as it is copied
 abbrev pub copied_page : PagePlace × List ℕ → StoredPage
@@ -76,3 +79,8 @@ pub record HasCopyable (i : ℕ) (l : Loaded) : Type 0 where
 pub record HasCopyableSpan (from to : ℕ) (l : Loaded) : Type 0 where
   pub span : IsPageSpan from to l.pages
   pub copyable : IsCopyable l
+
+-- bytes are the image of the loaded pages of a cluster of a schema, with so many entries, and this is kept of it
+pub record IsImageOf (t : Table) (entries : ℕ) (l : Loaded) (bytes : List ℕ) (meta : ClusterMeta) : Type 0 where
+  pub bytes_are : HaveTheirSums (all_loaded l) → bytes ≡ replicate key_room 0 ++ stored_payload (copied_columns l 0 (length t.columns))
+  pub meta_is : meta ≡ stored_meta 0 entries (copied_columns l 0 (length t.columns))

@@ -2,3 +2,4 @@ pub mod Unlike
 pub mod Lists
 pub mod Kept
 pub mod Mergeable
+pub mod LoadedValues

@@ -2,3 +2,4 @@ pub mod Comparing
 pub mod Files
 pub mod Planning
 pub mod Mergeable
+pub mod Loading

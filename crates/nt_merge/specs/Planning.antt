@@ -9,7 +9,8 @@ use Rattle.nt_tfile.specs.declared.failure.ReadFailure.{ReadFailure}
 use Rattle.nt_tfile.specs.declared.failure.ReadFailure.TheVariants as failure
 use Rattle.nt_merge.specs.Comparing.{schema_error}
 use Rattle.nt_merge.specs.declared.error.MergeError.{MergeError}
-use Rattle.nt_merge.specs.declared.error.MergeError.TheVariants.{Defect, Schema, ReadFault, Memory}
+use Rattle.nt_merge.specs.declared.error.MergeError.TheVariants.{Defect, Schema, RangeTooLarge, FileTooLarge, TooManyClusters, ReadFault}
+use Rattle.nt_merge.specs.declared.error.MergeError.TheVariants.{DiskFault, Memory}
 
 -- what the file of this number gives, its fault with that number
 abbrev pub of_file : {A : Type 0} → ℕ → Result A ReadError → Result A (ℕ × ReadError)
@@ -40,7 +41,11 @@ pub record ArePlanned (bytes : List (List ℕ)) (os : List Outline) : Type 0 whe
 abbrev pub IsPlanError : List (List ℕ) → MergeError → Type 0
 IsPlanError bytes (Defect file e) = outlines_from 0 bytes ≡ Err (file, e)
 IsPlanError bytes (Schema place) = (os : List Outline) × (outlines_from 0 bytes ≡ Ok os) × (schema_error (tables_of os) ≡ Some place)
+IsPlanError bytes (RangeTooLarge len most) = ⊥
+IsPlanError bytes (FileTooLarge end most) = ⊥
+IsPlanError bytes TooManyClusters = ⊥
 IsPlanError bytes ReadFault = Unit {0}
+IsPlanError bytes DiskFault = ⊥
 IsPlanError bytes Memory = Unit {0}
 
 -- what attaching to all files answers: their outlines, or the first fault
@@ -48,7 +53,11 @@ abbrev pub AreAttached : List (List ℕ) → Result (Vec Outline Global) MergeEr
 AreAttached bytes (Ok readers) = outlines_from 0 bytes ≡ Ok readers.items
 AreAttached bytes (Err (Defect file e)) = outlines_from 0 bytes ≡ Err (file, e)
 AreAttached bytes (Err (Schema place)) = ⊥
+AreAttached bytes (Err (RangeTooLarge len most)) = ⊥
+AreAttached bytes (Err (FileTooLarge end most)) = ⊥
+AreAttached bytes (Err TooManyClusters) = ⊥
 AreAttached bytes (Err ReadFault) = Unit {0}
+AreAttached bytes (Err DiskFault) = ⊥
 AreAttached bytes (Err Memory) = Unit {0}
 
 -- what a failure in reading the file of this number is to a merge

@@ -19,9 +19,21 @@ pub enum MergeError {
     /// A schema stands against merging.
     #[error("the schemas can't be merged")]
     Schema(SchemaPlace),
-    /// A file failed.
+    /// A cluster, a page list, the header or the footer is longer, with its key, than a range may get.
+    #[error("a range of {len} bytes is above the limit of {limit}")]
+    RangeTooLarge { len: u64, limit: u64 },
+    /// The file would end past the place where it may end.
+    #[error("a file of {end} bytes is above the limit of {limit}")]
+    FileTooLarge { end: u64, limit: u64 },
+    /// There are as many clusters as there may be.
+    #[error("too many clusters")]
+    TooManyClusters,
+    /// A file that is read failed.
     #[error("a file failed")]
     ReadFault,
+    /// The disk failed.
+    #[error("the disk failed")]
+    DiskFault,
     #[error("out of memory")]
     Memory,
 }

@@ -4,6 +4,8 @@
 //! (`comparing.rt`). Files can be merged where each has an outline, all their fields are open, all their
 //! columns begin with the first entry, and their rows are the same but for flags (`specs/Comparing.antt`,
 //! `schema_error`). That a file whose clusters are copies of theirs means the same is said in nt_copied.
+//! `load_cluster` in `loading.rt` loads the pages of one of their clusters, of which nt_copying makes the
+//! image of another.
 //!
 //! Proved of `plan`: after `Ok` the outlines are those of the files, and nothing stands against merging
 //! them; a defect is the first fault of the first file that has no outline, and else the
@@ -11,7 +13,9 @@
 //! closed fields, then the deferred columns, then rows unlike those of the first file (`told`); each file
 //! has the bytes that it had (`kept`), and `ReadFault` comes only where the count of one of them rose
 //! (`rose`). Schemas that nothing stands against have open fields alone, no deferred column, and are
-//! alike the first one (`schemas_without_error_are_mergeable`). Nothing is only tested.
+//! alike the first one (`schemas_without_error_are_mergeable`). Of `load_cluster`: wherever the file tells its bytes, the entries of the pages are those that
+//! nt_file_meaning reads, or the fault is the first one (`read`), and the pages are all those of the open
+//! columns (`loaded`). Nothing is only tested.
 //!
 //! Choices that bind nobody else: a file without fields is told as one whose field 0 is closed.
 #![tactic(auto)]
@@ -19,10 +23,12 @@
 mod comparing;
 mod error;
 mod laws;
+mod loading;
 mod place;
 mod planning;
 
 pub use error::MergeError;
 pub use laws::schemas_without_error_are_mergeable;
+pub use loading::load_cluster;
 pub use place::SchemaPlace;
 pub use planning::{MergePlan, plan};

@@ -1,4 +1,4 @@
-use Rattle.std.proofs.Common.{◌≡◌, ◌∙◌, ◌++◌, ◌∷◌, [], ◌+◌, ◌-◌, ◌<◌, ◌≤◌, List, ℕ, length, ap, sym, subst, arith}
+use Rattle.std.proofs.Common.{◌≡◌, ◌∙◌, ◌++◌, ◌+◌, ◌-◌, List, ℕ, length, ap, sym, subst, arith}
 use Rattle.nt_book.specs.declared.meta.PageMeta.{PageMeta}
 use Rattle.nt_view.specs.declared.page_place.PagePlace.{PagePlace}
 use Rattle.nt_copied.specs.Stored.{with_sum, stored_page_metas}

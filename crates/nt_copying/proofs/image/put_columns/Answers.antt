@@ -1,8 +1,7 @@
-use Rattle.std.proofs.Common.{◌≡◌, ◌∙◌, ◌++◌, ◌∷◌, [], ◌+◌, ◌-◌, ◌<◌, ◌≤◌, suc, List, ℕ, length, ap, sym, subst, arith, refl, append-nil}
+use Rattle.std.proofs.Common.{◌≡◌, ◌∙◌, ◌++◌, ◌∷◌, [], ◌+◌, ◌-◌, suc, List, ℕ, length, ap, sym, subst, arith, refl, append-nil}
 use Rattle.nt_book.specs.declared.meta.PageMeta.{PageMeta}
 use Rattle.nt_view.specs.declared.page_place.PagePlace.{PagePlace}
-use Rattle.nt_view.specs.Loaded.{loaded_pages}
-use Rattle.nt_copied.specs.Stored.{StoredPage, stored_column, stored_page_metas, stored_metas, AreSoundColumns}
+use Rattle.nt_copied.specs.Stored.{StoredPage, stored_page_metas, stored_metas, AreSoundColumns}
 use Rattle.nt_copying.specs.Copied.{copied_pages, copied_columns, all_loaded, loaded_part, HasItsSum, HaveTheirSums}
 use Rattle.nt_copying.proofs.Runs.{all-part, stands-first, stands-next, column-is, columns-next, ColumnsGoOn, columns-from, columns-end}
 use Rattle.nt_copying.proofs.Runs.{columns-more, lists-more}

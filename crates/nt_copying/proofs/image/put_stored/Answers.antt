@@ -1,4 +1,4 @@
-use Rattle.std.proofs.Common.{◌≡◌, ◌++◌, ◌<◌, ◌∙◌, ap, List, ℕ, length, arith}
+use Rattle.std.proofs.Common.{◌≡◌, ◌++◌, ◌∙◌, ap, List, ℕ, length, arith}
 use Rattle.std.proofs.lemmas.List.{length-append}
 use Rattle.nt_copying.proofs.CopiedPages.{sum-stored, long-stored}
 use Rattle.nt_copying.proofs.image.put_stored.Goals as goal
