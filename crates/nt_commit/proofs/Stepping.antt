@@ -41,6 +41,7 @@ use Rattle.nt_commit.specs.Locked.{LockedState, place_of, EndWithin, Follows, Is
 use Rattle.nt_commit.specs.Locked.{locked_by}
 use Rattle.nt_logged.specs.Tails.{range_steps}
 use Rattle.nt_logged.specs.Steps.{told_history}
+use Rattle.nt_commit.proofs.Behind.{due-ends}
 use Rattle.nt_commit.proofs.Claimed.{claim_out}
 use Rattle.nt_commit.proofs.Handed.{contains_out, reserved_len, end_after-entry}
 use Rattle.nt_commit.proofs.Listed.{due-whole, due-group, listed-room, listed-snoc, listed-more, listed-torn, full-next, due-next-len}
@@ -322,11 +323,13 @@ module _ {D : Type 0} (state : D → DiskState) (begun d : D) (contexts : ℕ) (
     -- the page list that was due was appended, and noted
     pub noted : IsBookKept b → (l : NotedList) → b' ≡ record b { lists = b.lists ++ l ∷ [] } → is_due b ≡ true
         → l ≡ noted_list (state d).end (due_object b)
-        → Becomes (state d).held (state d').held (appended (blob (state d).end (due_object b)))
+        → l.len ≤ b.limits.range → Becomes (state d).held (state d').held (appended (blob (state d).end (due_object b)))
         → (state d').end ≡ (state d).end + l.len → (state d').end ≡ (state d).end + length (blob (state d).end (due_object b))
         → (state d').out ≡ (state d).out → (state d).faults ≤ (state d').faults
         → IsLater state old new × (history_of_locked state new ≡ history ++ [])
-    noted kept l is due listed log end grew out later =
+    noted kept l is due listed fits log end grew out later =
+        let group = due-group b due in
+        let ends = due-ends b group.0 kept group.1 (due-whole b due) (due-full b group.0 due group.1) in
         let bytes = blob (state d).end (due_object b) in
         let all : history_of_locked state new ≡ history =
         ap (λ (x : BookData). told_history (state begun).held (state d').held x.history) is
@@ -338,7 +341,8 @@ module _ {D : Type 0} (state : D → DiskState) (begun d : D) (contexts : ℕ) (
               (subst (λ (h : List (Entry ClusterMeta)). Follows (state begun) (state d') contexts h
               (was.lists ++ record { place = (state d).end; bytes = bytes } ∷ []) was.torn) (sym all)
               (Follows-list (state begun) (state d) (state d') contexts history was.lists was.torn was.follows bytes log grew out later))
-              (listed-more b was.lists was.torn was.listed (state d).end l listed due kept.listed)
+              (listed-more b was.lists was.torn was.listed (state d).end l listed due kept.listed
+              (was.end ∙ ends) fits)
               (λ none. absurd (due-none b due none)) (λ sound. was.whole (subst HasNoFault all sound))
               (subst AreShort (sym all) was.short) (subst AreWithin (sym all) was.within),
           all ∙ sym (append-nil history),

@@ -52,7 +52,8 @@ invariant_of-self-in-Ok g c =
     let done = list_appended g.D.Disk.state _ _ _ _ c.self.invariant c.keeps.ensures c.args.context c.args.list.items items due
     c.end-start.result c.len-len.result c.end-start.ensures counted c.as_slice.result.now (c.as_slice.ensures ∙ c.blob_at-blob.ensures)
     (g.D.Disk.state c.room.new.self) c.room.ensures.held c.room.ensures.end c.room.ensures.out c.room.ensures.faults
-    _ _ c.link_of.result c.link_of.ensures c.note_list.ensures
+    _ _ c.link_of.result (subst (λ v. length c.args.list.items ≤ v.book.limits.range) (sym c.self.view_is) c.requires.fits.short)
+    c.link_of.ensures c.note_list.ensures
     (subst (λ r. OnOk r (Becomes (g.D.Disk.state c.room.new.self).held (g.D.Disk.state c.append.new.self).held
     (appended c.as_slice.result.now))) c.in-Ok.is c.append.ensures.ok)
     (subst (λ r. OnOk r ((g.D.Disk.state c.append.new.self).end ≡ (g.D.Disk.state c.room.new.self).end + length c.as_slice.result.now))
@@ -67,7 +68,8 @@ returns-in-Ok-clause-step g c =
     let done = list_appended g.D.Disk.state _ _ _ _ c.self.invariant c.keeps.ensures c.args.context c.args.list.items items due
     c.end-start.result c.len-len.result c.end-start.ensures counted c.as_slice.result.now (c.as_slice.ensures ∙ c.blob_at-blob.ensures)
     (g.D.Disk.state c.room.new.self) c.room.ensures.held c.room.ensures.end c.room.ensures.out c.room.ensures.faults
-    _ _ c.link_of.result c.link_of.ensures c.note_list.ensures
+    _ _ c.link_of.result (subst (λ v. length c.args.list.items ≤ v.book.limits.range) (sym c.self.view_is) c.requires.fits.short)
+    c.link_of.ensures c.note_list.ensures
     (subst (λ r. OnOk r (Becomes (g.D.Disk.state c.room.new.self).held (g.D.Disk.state c.append.new.self).held
     (appended c.as_slice.result.now))) c.in-Ok.is c.append.ensures.ok)
     (subst (λ r. OnOk r ((g.D.Disk.state c.append.new.self).end ≡ (g.D.Disk.state c.room.new.self).end + length c.as_slice.result.now))
@@ -82,7 +84,8 @@ returns-in-Ok-clause-appends g c =
     let done = list_appended g.D.Disk.state _ _ _ _ c.self.invariant c.keeps.ensures c.args.context c.args.list.items items due
     c.end-start.result c.len-len.result c.end-start.ensures counted c.as_slice.result.now (c.as_slice.ensures ∙ c.blob_at-blob.ensures)
     (g.D.Disk.state c.room.new.self) c.room.ensures.held c.room.ensures.end c.room.ensures.out c.room.ensures.faults
-    _ _ c.link_of.result c.link_of.ensures c.note_list.ensures
+    _ _ c.link_of.result (subst (λ v. length c.args.list.items ≤ v.book.limits.range) (sym c.self.view_is) c.requires.fits.short)
+    c.link_of.ensures c.note_list.ensures
     (subst (λ r. OnOk r (Becomes (g.D.Disk.state c.room.new.self).held (g.D.Disk.state c.append.new.self).held
     (appended c.as_slice.result.now))) c.in-Ok.is c.append.ensures.ok)
     (subst (λ r. OnOk r ((g.D.Disk.state c.append.new.self).end ≡ (g.D.Disk.state c.room.new.self).end + length c.as_slice.result.now))
