@@ -59,6 +59,8 @@ module _ {D : Type 0} (state : D → DiskState) (d : D) (contexts : ℕ) (b : Bo
     follows = subst (λ (l : List (Entry ClusterMeta)). IsDiskAfter (state d) (state d) contexts l [] []) (sym nothing) follows_nothing;
     listed = record {
       noted = subst (λ (l : List NotedList). AreNoted (group_sum b.group) (group_size b.group) b 0 l []) (sym new.unlisted.none_noted) tt;
+      behind = tt;
+      short = subst (λ (l : List NotedList). AllByRecursion (λ (k : NotedList). k.len ≤ b.limits.range) l) (sym new.unlisted.none_noted) tt;
       torn_is = sym (ap torn_lens new.unlisted.none_torn);
       torn_short = subst (λ (o : Option Tear). IfSome o (λ t. IsTornList b t)) (sym new.unlisted.none_torn) tt;
     };

@@ -1,4 +1,5 @@
 mod Appended
+mod Behind
 mod Claimed
 mod Ending
 mod Entering

@@ -24,6 +24,7 @@ use Rattle.nt_commit.specs.Holds.{IsLater}
 use Rattle.nt_commit.specs.Lists.{HasNoFault, noted_list}
 use Rattle.nt_commit.specs.Locked.{LockedState, IsDiskAfter, IsInStep, history_of_locked}
 use Rattle.nt_logged.specs.Steps.{told_history}
+use Rattle.nt_commit.proofs.Behind.{due-ends}
 use Rattle.nt_commit.proofs.Handed.{end_after-entry}
 use Rattle.nt_commit.proofs.Listed.{due-whole, due-group, listed-snoc, listed-more, listed-torn, full-next, due-next-len}
 use Rattle.nt_commit.proofs.Short.{short-snoc, within-snoc}
@@ -51,11 +52,13 @@ module _ {D : Type 0} (state : D → DiskState) (begun d : D) (contexts : ℕ) (
     -- the page list that was due was appended, and noted
     pub noted : IsBookKept b → (l : NotedList) → b' ≡ record b { lists = b.lists ++ l ∷ [] } → is_due b ≡ true
         → l ≡ noted_list (state d).end (due_object b)
-        → Becomes (state d).held (state d').held (appended (blob (state d).end (due_object b)))
+        → l.len ≤ b.limits.range → Becomes (state d).held (state d').held (appended (blob (state d).end (due_object b)))
         → (state d').end ≡ (state d).end + l.len → (state d').end ≡ (state d).end + length (blob (state d).end (due_object b))
         → (state d').out ≡ (state d).out → (state d).faults ≤ (state d').faults
         → IsLater state old new × (history_of_locked state new ≡ history ++ [])
-    noted kept l is due listed log end grew out later =
+    noted kept l is due listed fits log end grew out later =
+        let group = due-group b due in
+        let ends = due-ends b group.0 kept group.1 (due-whole b due) (due-full b group.0 due group.1) in
         let bytes = blob (state d).end (due_object b) in
         let all : history_of_locked state new ≡ history =
         ap (λ (x : BookData). told_history (state begun).held (state d').held x.history) is
@@ -69,7 +72,8 @@ module _ {D : Type 0} (state : D → DiskState) (begun d : D) (contexts : ℕ) (
               (was.lists ++ record { place = (state d).end; bytes = bytes } ∷ []) was.torn) (sym all)
               (IsDiskAfter-list (state begun) (state d) (state d') contexts history was.lists was.torn was.follows bytes log grew out
               later))
-              (listed-more b was.lists was.torn was.listed (state d).end l listed due kept.listed)
+              (listed-more b was.lists was.torn was.listed (state d).end l listed due kept.listed
+              (was.end ∙ ends) fits)
               (λ none. absurd (due-none b due none)) (λ sound. was.whole (subst HasNoFault all sound))
               (subst (AreShort b.limits) (sym all) was.short) (subst (AreWithin b.limits (state begun).end) (sym all) was.within),
           all ∙ sym (append-nil history),

@@ -1,10 +1,12 @@
 -- The page lists of a book, with one entry or list more.
-use Rattle.std.proofs.Common.{◌≡◌, ◌∙◌, ap, sym, refl, subst, ℕ, ◌+◌, ◌<◌, ◌≤◌, true, false, List, [], ◌∷◌, ◌++◌, length, Option, Some}
-use Rattle.std.proofs.Common.{None, arith}
+use Rattle.std.proofs.Common.{◌≡◌, ◌∙◌, ap, sym, refl, subst, ℕ, ◌+◌, ◌<◌, ◌≤◌, true, false, List, [], ◌∷◌, ◌++◌, length, take, Option}
+use Rattle.std.proofs.Common.{Some, None, arith}
 use Rattle.std.specs.Prelude.{IfSome}
+use Rattle.std.specs.List.{AllByRecursion}
 use Rattle.std.proofs.lemmas.Bool.{false≢true, eqb-true, ne_eqb}
 use Rattle.nt_lists.specs.Parts.{Part}
 use Rattle.nt_machine.specs.declared.entry.Entry.{Entry}
+use Rattle.nt_machine.specs.Legal.{ranges_end}
 use Rattle.nt_book.specs.declared.list.NotedList.{NotedList}
 use Rattle.nt_book.specs.declared.list.Tear.{Tear}
 use Rattle.nt_book.specs.declared.meta.ClusterMeta.{ClusterMeta}
@@ -18,7 +20,13 @@ use Rattle.nt_pagelists.specs.Objects.{ClusterSpan, list_object}
 use Rattle.nt_pagelists.proofs.ListsStay.{list-stays}
 use Rattle.nt_commit.specs.Lists.{HasListsOf, IsNoted, IsTornList, noted_list, torn_lens}
 use Rattle.nt_commit.proofs.Noting.{SameLists, stays-snoc, more-snoc, noted-same, noted-snoc}
+use Rattle.nt_commit.proofs.Behind.{behind-same, behind-snoc}
 use Rattle.nt_commit.proofs.Placing.{torn-facts}
+
+-- all of them are such, and one more
+push_all : {A : Type 0} (P : A → Type 0) (xs : List A) (x : A) → AllByRecursion P xs → P x → AllByRecursion P (xs ++ x ∷ [])
+push_all P [] x h one = (one, tt)
+push_all P (y ∷ xs) x h one = (h.0, push_all P xs x h.1 one)
 
 -- a list doesn't see the room, the lists and the tear of its book
 blind : (sum : ℕ) (b : BookData) (spare : ℕ) (ls : List NotedList) (t : Option Tear) (s : ClusterSpan)
@@ -93,6 +101,8 @@ module _ (b : BookData) (lists : List Part) (torn : List ℕ) (listed : HasLists
       record {
         noted = noted-same (group_sum b.group) (group_size b.group) (clusters_listed (group_size b.group) b.lists) b new
             (λ s le. blind (group_sum b.group) b spare b.lists b.torn s) 0 b.lists lists (omega arith) listed.noted;
+        behind = listed.behind;
+        short = listed.short;
         torn_is = listed.torn_is;
         torn_short = torn-facts {P = IsTornList b} b.torn (λ t h. record {
           full = h.full;
@@ -124,6 +134,10 @@ module _ (b : BookData) (lists : List Part) (torn : List ℕ) (listed : HasLists
     listed-snoc = record {
       noted = noted-same (group_sum b.group) (group_size b.group) (length (book_clusters b)) b next (same-next (group_sum b.group)) 0
           b.lists lists (omega (arith, kept.listed)) listed.noted;
+      behind = behind-same (group_sum b.group) (group_size b.group) b.begin b (length (book_clusters b)) (book_clusters b)
+          (book_clusters next) (λ k le. stays-snoc k b.history e le) 0 b.lists lists (omega (arith, kept.listed)) listed.noted
+          listed.behind;
+      short = listed.short;
       torn_is = listed.torn_is;
       torn_short = torn-facts {P = IsTornList b} b.torn (λ t h. record {
         full = full-next h.full;
@@ -137,8 +151,10 @@ module _ (b : BookData) (lists : List Part) (torn : List ℕ) (listed : HasLists
     with_list = record b { lists = b.lists ++ l ∷ [] }
 
     pub listed-more : clusters_listed (group_size b.group) b.lists ≤ length (book_clusters b)
+        → place ≡ ranges_end b.begin (take (0 + clusters_listed (group_size b.group) b.lists + group_size b.group) (book_clusters b))
+        → l.len ≤ b.limits.range
         → HasListsOf with_list (lists ++ record { place = place; bytes = blob place (due_object b) } ∷ []) torn
-    listed-more inside =
+    listed-more inside here fits =
         let whole = due-whole b due in
         record {
           noted = noted-same (group_sum b.group) (group_size b.group)
@@ -148,6 +164,9 @@ module _ (b : BookData) (lists : List Part) (torn : List ℕ) (listed : HasLists
               (noted-snoc (group_sum b.group) (group_size b.group) b 0 b.lists lists l
               (record { place = place; bytes = blob place (due_object b) }) listed.noted
               (due-noted b l (record { place = place; bytes = blob place (due_object b) }) (record { noted = is; bytes = refl })));
+          behind = behind-snoc (group_sum b.group) (group_size b.group) b.begin b (book_clusters b) 0 b.lists lists
+              (record { place = place; bytes = blob place (due_object b) }) listed.noted listed.behind here;
+          short = push_all (λ (k : NotedList). k.len ≤ b.limits.range) b.lists l listed.short fits;
           torn_is = listed.torn_is;
           torn_short = subst (λ (o : Option Tear). IfSome o (λ t. IsTornList with_list t)) (sym whole) tt;
         }
@@ -162,6 +181,8 @@ module _ (b : BookData) (lists : List Part) (torn : List ℕ) (listed : HasLists
       record {
         noted = noted-same (group_sum b.group) (group_size b.group) (clusters_listed (group_size b.group) b.lists) b new
             (λ s le. blind (group_sum b.group) b b.spare b.lists (Some t) s) 0 b.lists lists (omega arith) listed.noted;
+        behind = listed.behind;
+        short = listed.short;
         torn_is = ap (λ (l : List ℕ). l ++ t.len ∷ []) (listed.torn_is ∙ ap torn_lens none);
         torn_short = record {
           full = full;

@@ -52,17 +52,18 @@ module _ {D : Type 0} (state : D → DiskState) (begun d : D) (contexts : ℕ) (
 
     -- it was appended, and is noted
     pub list_appended : (link : ListPlace)
+        → length items ≤ b.limits.range
         → link ≡ record { length = len - blob_key_len; size = len - blob_key_len; place = start + blob_key_len }
         → b' ≡ record b { lists = b.lists ++ record { at = link; len = len } ∷ [] }
         → Becomes room.held (state d').held (appended bytes) → (state d').end ≡ room.end + length bytes
         → (state d').out ≡ room.out → room.faults ≤ (state d').faults
         → IsLater state old new × AppendsList state i old new (Ok tt)
-    list_appended link link_is is log grew left later =
+    list_appended link fits link_is is log grew left later =
         let l : NotedList = record { at = link; len = len } in
         let told : Becomes (state d).held (state d').held (appended (blob (state d).end (due_object b))) =
         subst (λ (x : List ℕ). Becomes (state d).held (state d').held (appended x)) blob_bytes (λ h was. log h (held ∙ was)) in
         let done = noted state begun d contexts b was d' b' kept l is due
-        (link-noted items (due_object b) items_are link start len (state d).end len_is start_is link_is) told
+        (link-noted items (due_object b) items_are link start len (state d).end len_is start_is link_is) (omega (arith, fits, len_is)) told
         (omega (arith, grew, end, bytes_long)) (omega (arith, grew, end, ap (λ (x : List ℕ). length x) blob_bytes)) (left ∙ out)
         (omega (arith, later, faults)) in (
           done.0,

@@ -178,6 +178,7 @@ module _ (b B : BookData) (kept : IsBookKept b) (lists : List Part) (torn : List
       omega (arith, end, ap lists_bytes no.none_noted, ap torn_bytes no.none_torn) in
       record {
         due_is = subst (λ (o : Option (ℕ × ℕ)). IsDueLen o B due) (sym (group ∙ none)) nothing;
+        least = omega (arith, here);
         most = omega (arith, here, nothing, all);
         exact = λ sound. omega (arith, here, nothing, all);
         ungrouped = λ un. here;
@@ -213,6 +214,7 @@ module _ (b B : BookData) (kept : IsBookKept b) (lists : List Part) (torn : List
         record {
           due_is = subst (λ (o : Option (ℕ × ℕ)). IsDueLen o B due) (sym (group ∙ is))
               (subst (λ (n : ℕ). IsDueLen (Some g) B n) (sym owed-is) (last-here (due-last g b clusters b.lists b.torn refl)));
+          least = omega (arith, end);
           most = omega (arith, end, owed-is, all-is, most-listed g b clusters b.lists b.torn h);
           exact = λ sound.
               let none = whole sound in

@@ -1,10 +1,10 @@
 -- Page lists beside the clusters, and where the next cluster may begin behind them.
-use Rattle.std.specs.Prelude.{◌≡◌, ◌⊎◌, ℕ, zero, suc, ◌+◌, ◌*◌, ◌/◌, ◌≤◌, List, [], ◌∷◌, length, Option, Some, None, IfSome}
+use Rattle.std.specs.Prelude.{◌≡◌, ◌⊎◌, ℕ, zero, suc, ◌+◌, ◌*◌, ◌/◌, ◌≤◌, List, [], ◌∷◌, length, take, Option, Some, None, IfSome}
 use Rattle.std.specs.List.{AllByRecursion}
 use Rattle.nt_lists.specs.Parts.{Part}
 use Rattle.nt_machine.specs.declared.entry.Entry.{Entry}
-use Rattle.nt_machine.specs.History.{IsFaulted, ranges_of}
-use Rattle.nt_machine.specs.Legal.{end_after}
+use Rattle.nt_machine.specs.History.{Cluster, IsFaulted, ranges_of}
+use Rattle.nt_machine.specs.Legal.{end_after, ranges_end}
 use Rattle.nt_book.specs.declared.limits.LimitError.{LimitError}
 use Rattle.nt_book.specs.declared.list.NotedList.{NotedList}
 use Rattle.nt_book.specs.declared.list.Tear.{Tear}
@@ -34,6 +34,12 @@ AreNoted sum most book from (l ∷ ls) [] = ⊥
 AreNoted sum most book from (l ∷ ls) (p ∷ ps) =
     IsNoted (list_object sum book (record { from = from; count = most })) l p × AreNoted sum most book (from + most) ls ps
 
+-- page lists were appended each where the last range of its group ends, of so many clusters; the first group begins with this one
+abbrev pub AreBehindGroups : ℕ → ℕ → List (Cluster ClusterMeta) → ℕ → List Part → Type 0
+AreBehindGroups most begin clusters from [] = Unit {0}
+AreBehindGroups most begin clusters from (p ∷ ps) =
+    (p.place ≡ ranges_end begin (take (from + most) clusters)) × AreBehindGroups most begin clusters (from + most) ps
+
 -- the lengths of appends that failed, by what is kept of that
 abbrev pub torn_lens : Option Tear → List ℕ
 torn_lens None = []
@@ -44,9 +50,12 @@ pub record IsTornList (book : BookData) (t : Tear) : Type 0 where
   pub full : clusters_listed (group_size book.group) book.lists + group_size book.group ≤ length (book_clusters book)
   pub short : t.len ≤ due_len book
 
--- the page lists that were appended are those that the book notes, each of its group; and what failed is what the book keeps of that
+-- the page lists that were appended are those that the book notes, each of its group, behind it, and no longer than a range may get; and
+-- what failed is what the book keeps of that
 pub record HasListsOf (book : BookData) (lists : List Part) (torn : List ℕ) : Type 0 where
   pub noted : AreNoted (group_sum book.group) (group_size book.group) book 0 book.lists lists
+  pub behind : AreBehindGroups (group_size book.group) book.begin (book_clusters book) 0 lists
+  pub short : AllByRecursion (λ (l : NotedList). l.len ≤ book.limits.range) book.lists
   pub torn_is : torn ≡ torn_lens book.torn
   pub torn_short : IfSome book.torn (λ t. IsTornList book t)
 
@@ -80,10 +89,11 @@ abbrev pub IsDueLen : Option (ℕ × ℕ) → BookData → ℕ → Type 0
 IsDueLen None book due = due ≡ 0
 IsDueLen (Some g) book due = (due ≡ 0) ⊎ IsLastList g.1 g.0 book due
 
--- a file ends there behind the clusters of a book, and so long is the page list that comes before the next of them. With it all full groups
+-- a file ends there behind the ranges of a book, and so long is the page list that comes before the next of them. With it all full groups
 -- have their lists, unless one failed: then the file may be shorter
 pub record IsNextPlace (book : BookData) (before due : ℕ) : Type 0 where
   pub due_is : IsDueLen book.group book due
+  pub least : end_after book.begin (ranges_of book.history) ≤ before
   pub most : before + due ≤ listed_end book
   pub exact : HasNoFault book.history → before + due ≡ listed_end book
   pub ungrouped : book.group ≡ None → before ≡ end_after book.begin (ranges_of book.history)

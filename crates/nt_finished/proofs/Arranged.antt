@@ -26,7 +26,7 @@ use Rattle.nt_finished.proofs.Standing.{length-blob}
 
 -- ---- what is among parts
 
-contains-cons : {A : Type 0} (xs : List A) (y x : A) → Contains xs x → Contains (y ∷ xs) x
+pub contains-cons : {A : Type 0} (xs : List A) (y x : A) → Contains xs x → Contains (y ∷ xs) x
 contains-cons xs y x (k, less, at) = (suc k, omega (arith, less), at)
 
 pub all_among : {A : Type 0} (P : A → Type 0) (xs : List A) (x : A) → AllByRecursion P xs → Contains xs x → P x
@@ -85,7 +85,8 @@ module _ (sum : ℕ) (book : BookData) where
   abbrev pub lists_len : List PlacedList → ℕ
   lists_len ls = sum_by (λ (l : PlacedList). list_len sum book l.span) ls
 
-  len-beside : (ls : List PlacedList) (ranges : List Part) → parts_len (parts_beside sum book ls ranges) ≡ parts_len ranges + lists_len ls
+  pub len-beside : (ls : List PlacedList) (ranges : List Part)
+      → parts_len (parts_beside sum book ls ranges) ≡ parts_len ranges + lists_len ls
   len-beside [] ranges = omega arith
   len-beside (l ∷ ls) ranges =
       let front = take l.span.count ranges in

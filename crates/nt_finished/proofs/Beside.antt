@@ -27,13 +27,13 @@ use Rattle.nt_finished.proofs.Lengths.{clusters_told, ranges-len}
 use Rattle.nt_finished.proofs.Spans.{spans_in_order}
 use Rattle.nt_finished.proofs.Staged.{ranges-by_number}
 use Rattle.nt_finished.proofs.RangeParts.{length-range_parts}
-use Rattle.nt_finished.proofs.BesideLists.{beside-from, left-behind, noted-of, spans-large}
+use Rattle.nt_finished.proofs.BesideLists.{AreNotedOf, beside-from, left-behind, noted-of, spans-large}
 
 module _ (t : Table) (most : ℕ) (book : BookData) (kept : IsBookKept book) (beside : HasListsBeside t most book) where
-  some-beside : 0 < most
+  pub some-beside : 0 < most
   some-beside = subst (λ (g : Option (ℕ × ℕ)). IfSome g (λ (x : ℕ × ℕ). 0 < x.0)) beside.group kept.sized
 
-  listed-beside : clusters_listed most book.lists ≤ length (book_clusters book)
+  pub listed-beside : clusters_listed most book.lists ≤ length (book_clusters book)
   listed-beside =
       subst (λ (g : Option (ℕ × ℕ)). clusters_listed (group_size g) book.lists ≤ length (book_clusters book)) beside.group kept.listed
 
@@ -41,6 +41,13 @@ module _ (t : Table) (most : ℕ) (book : BookData) (kept : IsBookKept book) (be
   few-beside =
       subst (λ (g : Option (ℕ × ℕ)). AtMostOneUnlisted g book.lists (length (book_clusters book))) beside.group
       (kept.few_lists beside.untorn)
+
+  -- so many lists are noted, of that many groups
+  pub noted-beside : AreNotedOf (header_sum t) book book.lists (spans book most)
+  noted-beside =
+      noted-of (header_sum t) book most some-beside (length (book_clusters book)) 0 (div_ceil (length (book_clusters book)) most) book.lists
+      (λ k less. beside.noted k less ∙ ap (λ (j : ℕ). list_len (header_sum t) book (full_span most j)) (omega arith))
+      (omega (arith, listed-beside))
 
   pub all_beside : (ranges : List (List ℕ)) → book.begin ≡ clusters_place t
       → map length ranges ≡ map (λ (c : Cluster ClusterMeta). c.len) (ranges_of book.history)
@@ -56,27 +63,30 @@ module _ (t : Table) (most : ℕ) (book : BookData) (kept : IsBookKept book) (be
       (kept.placed beside.untorn)) in
       beside-from (header_sum t) book most some-beside (spans book most) 0 (clusters_place t) cs ranges book.lists
       (spans_in_order most n some-beside) (spans-large most n (range_with_len 0 (div_ceil n most))) refl (omega arith) lens same placed
-      (omega (arith, listed-beside)) (omega (arith, few-beside))
-      (noted-of (header_sum t) book most some-beside n 0 (div_ceil n most) book.lists
-      (λ k less. beside.noted k less ∙ ap (λ (j : ℕ). list_len (header_sum t) book (full_span most j)) (omega arith))
-      (omega (arith, listed-beside)))
+      (omega (arith, listed-beside)) (omega (arith, few-beside)) noted-beside
 
   -- the lists that are left stand behind all that stands already
+  pub middle-parts : (ranges : List (List ℕ))
+      → map length ranges ≡ map (λ (c : Cluster ClusterMeta). c.len) (ranges_of book.history)
+      → middle false t book most ranges
+      ≡ parts_so_far t book most ranges ++ list_parts (header_sum t) book (lists_left t book most)
+  middle-parts ranges lens =
+      let cs = ranges_of book.history in
+      let n = length (book_clusters book) in
+      let same : length ranges ≡ length cs =
+      sym (length-map ranges length) ∙ (ap length lens ∙ length-map cs (λ (c : Cluster ClusterMeta). c.len)) in
+      left-behind (header_sum t) book most some-beside (spans book most) 0 (range_parts cs ranges) book.lists
+      (spans_in_order most n some-beside) (spans-large most n (range_with_len 0 (div_ceil n most)))
+      (omega (arith, length-range_parts cs ranges same)) (omega (arith, listed-beside)) (omega (arith, few-beside))
+
   pub middle_beside : (ranges : List (List ℕ))
       → map length ranges ≡ map (λ (c : Cluster ClusterMeta). c.len) (ranges_of book.history)
       → concat (part_bytes (middle false t book most ranges))
       ≡ concat (part_bytes (parts_so_far t book most ranges))
       ++ concat (part_bytes (list_parts (header_sum t) book (lists_left t book most)))
   middle_beside ranges lens =
-      let cs = ranges_of book.history in
-      let n = length (book_clusters book) in
-      let same : length ranges ≡ length cs =
-      sym (length-map ranges length) ∙ (ap length lens ∙ length-map cs (λ (c : Cluster ClusterMeta). c.len)) in
       let left = list_parts (header_sum t) book (lists_left t book most) in
-      ap (λ (ps : List Part). concat (part_bytes ps))
-      (left-behind (header_sum t) book most some-beside (spans book most) 0 (range_parts cs ranges) book.lists
-      (spans_in_order most n some-beside) (spans-large most n (range_with_len 0 (div_ceil n most)))
-      (omega (arith, length-range_parts cs ranges same)) (omega (arith, listed-beside)) (omega (arith, few-beside)))
+      ap (λ (ps : List Part). concat (part_bytes ps)) (middle-parts ranges lens)
       ∙ (ap (λ (l : List (List ℕ)). concat l) (map-append (λ (p : Part). p.bytes) (parts_so_far t book most ranges) left)
       ∙ concat-append (part_bytes (parts_so_far t book most ranges)) (part_bytes left))
 

@@ -30,3 +30,5 @@ pub mod AddedBegin
 pub mod AddedFields
 pub mod LateLists
 pub mod RunFiles
+pub mod SoFar
+pub mod FilledFiles

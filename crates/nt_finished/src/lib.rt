@@ -21,7 +21,8 @@
 //! writes the file: how long it is (`finished_files_are_as_long`), and of which parts, in order
 //! (`finished_files_are_parts`), both whatever stands in the ranges of the clusters; that it is laid
 //! out where all page lists stand behind the ranges (`files_are_laid_behind`), or beside their
-//! clusters, the last ones left to who closes it (`files_are_laid_beside`); and which books are of
+//! clusters, the last ones left to who closes it (`files_are_laid_beside`); that before this each of
+//! its bytes is known (`filled_files_are_known`, with `specs/Filled`); and which books are of
 //! the schema of fields (`books_of_fields_are_of_their_schema`). And of the machine of contexts
 //! (nt_machine): a run of it that closes, whatever its steps are, means the chunks of its contexts in
 //! the file that holds its ranges (`closed_runs_mean_their_chunks`, with `specs/RunFiles`).
@@ -43,12 +44,14 @@
 #![tactic(auto)]
 
 mod added;
+mod filled;
 mod late;
 mod laws;
 mod missing;
 mod runs;
 
 pub use added::{added_fields_are_lacked, added_fields_are_left_out};
+pub use filled::filled_files_are_known;
 pub use late::{
     earlier_clusters_are_filled, files_mean_filled_entries, late_files_are_laid_behind,
     late_files_are_laid_beside, late_files_mean_their_entries,

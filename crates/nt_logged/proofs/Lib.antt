@@ -7,3 +7,4 @@ pub mod Reading
 pub mod Growing
 pub mod Written
 pub mod Tiles
+pub mod Parted

@@ -27,10 +27,10 @@ use Rattle.nt_logged.proofs.Sparing.{AreInside, inside-steps}
 use Rattle.nt_logged.proofs.Written.{settles-range}
 
 -- each part is told
-abbrev AreTold : List Known → List Part → Type 0
+abbrev pub AreTold : List Known → List Part → Type 0
 AreTold known ps = AllByRecursion (λ (p : Part). TellsAt known p.place p.bytes) ps
 
-moved : (before : List Step) (s : Step) (steps : List Step) → before ++ s ∷ steps ≡ (before ++ s ∷ []) ++ steps
+pub moved : (before : List Step) (s : Step) (steps : List Step) → before ++ s ∷ steps ≡ (before ++ s ∷ []) ++ steps
 moved before s steps = sym (append_assoc before (s ∷ []) steps)
 
 module _ (log : List Step) where
@@ -55,7 +55,7 @@ module _ (log : List Step) where
   one_settled before (Settle start len bytes) steps is once = one_told before steps start len bytes is once
   one_settled before Sync steps is once = tt
 
-  all_settled : (before steps : List Step) → IsTail (length (known_of log)) [] (before ++ steps)
+  pub all_settled : (before steps : List Step) → IsTail (length (known_of log)) [] (before ++ steps)
       → StandOnceSettled (range_steps (before ++ steps)) → AreTold (behind (before ++ steps)) (settles_in steps)
   all_settled before [] is once = tt
   all_settled before (s ∷ steps) is once =
@@ -75,7 +75,7 @@ parts-split : (known : List Known) (a b : List Part) → AreTold known (a ++ b) 
 parts-split known [] b h = (tt, h)
 parts-split known (p ∷ a) b h = let rest = parts-split known a b h.1 in ((h.0, rest.0), rest.1)
 
-drop-all : (n : ℕ) (xs : List Known) → length xs ≡ n → drop n xs ≡ []
+pub drop-all : (n : ℕ) (xs : List Known) → length xs ≡ n → drop n xs ≡ []
 drop-all zero [] is = refl
 drop-all zero (x ∷ xs) is = absurd (omega (arith, is))
 drop-all (suc n) [] is = absurd (omega (arith, is))
@@ -85,7 +85,7 @@ drop-all (suc n) (x ∷ xs) is = drop-all n xs (omega (arith, is))
 
 module _ {M : Type 0} (known : List Known) where
   -- a range that is settled with its bytes is told
-  abbrev IsTold : Cluster M → Type 0
+  abbrev pub IsTold : Cluster M → Type 0
   IsTold c = (bytes : List ℕ) → c.state ≡ Settled (Some bytes) → TellsAt known c.start bytes × (length bytes ≡ c.len)
 
   told-set : (cs : List (Cluster M)) (n : ℕ) (c : Cluster M) → AllByRecursion IsTold cs → IsTold c → AllByRecursion IsTold (set cs n c)
@@ -124,7 +124,7 @@ module _ {M : Type 0} (known : List Known) where
       told-back cs i n (Spoiled faults) numbered ok (λ bytes is. cc) h
   told-kind place cs i (entry.Faulted faults) ok numbered told h = h
 
-  told-all : (place : ℕ) (cs : List (Cluster M)) (es : List (Entry M)) → IsLegalAfter place cs es → IsNumbered 0 cs
+  pub told-all : (place : ℕ) (cs : List (Cluster M)) (es : List (Entry M)) → IsLegalAfter place cs es → IsNumbered 0 cs
       → AreTold known (settles_in (map logged_step (log_after cs es))) → AllByRecursion IsTold cs
       → AllByRecursion IsTold (fold after_entry cs es)
   told-all place cs [] ok numbered told h = h

@@ -1,8 +1,8 @@
 -- The log of a disk on which a history was made, with page lists appended between its steps.
-use Rattle.std.specs.Prelude.{◌≡◌, ℕ, List, [], ◌∷◌, ◌++◌, Option, Some, None}
+use Rattle.std.specs.Prelude.{◌≡◌, ℕ, List, [], ◌∷◌, ◌++◌, Option, Some, None, Contains}
 use Rattle.nt_outside.specs.Log.{Step, Write, FailedWrite, Append, FailedAppend, Reserve, Settle, Sync}
 use Rattle.nt_machine.specs.declared.entry.Entry.{Entry}
-use Rattle.nt_machine.specs.History.{ranges_of}
+use Rattle.nt_machine.specs.History.{Cluster, Settled, ranges_of}
 use Rattle.nt_machine.specs.Legal.{spans_of}
 use Rattle.nt_logged.specs.Steps.{steps_of_history}
 use Rattle.nt_lists.specs.Parts.{Part}
@@ -68,3 +68,8 @@ pub record IsLogOf {M : Type 0} (place end : ℕ) (history : List (Entry M)) (li
   pub ends : end_after_steps place steps ≡ end
   pub lists_are : appends_in place steps ≡ lists
   pub torn_is : torn_in steps ≡ torn
+
+-- a part of the file that was written: a page list that was appended, or a range that is settled with its bytes
+pub data WasWritten {M : Type 0} (lists : List Part) (ranges : List (Cluster M)) (p : Part) : Type 0 where
+  is_list : Contains lists p → WasWritten lists ranges p
+  is_range : (c : Cluster M) → Contains ranges c → c.start ≡ p.place → c.state ≡ Settled (Some p.bytes) → WasWritten lists ranges p

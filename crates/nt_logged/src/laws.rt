@@ -2,8 +2,8 @@
 //! them.
 
 ghost use Rattle.std.specs.Prelude.{◌≡◌, ◌+◌, ℕ, List, [], ◌∷◌, ◌++◌, length, take, Option, Some, None, slice_get};
-ghost use Rattle.std.specs.List.{AllByRecursion, AllZip, flat_map};
-ghost use Rattle.nt_lists.specs.Parts.{Part, StandAt};
+ghost use Rattle.std.specs.List.{AllByRecursion, AllZip, concat, flat_map};
+ghost use Rattle.nt_lists.specs.Parts.{Part, StandAt, AreBehind, joined_len, part_bytes};
 ghost use Rattle.nt_outside.specs.Faults.{Rose};
 ghost use Rattle.nt_outside.specs.Log.{Step, Append, FailedAppend, Reserve, Settle};
 ghost use Rattle.nt_outside.specs.Reads.{Reads, IsKnown, known_of};
@@ -17,7 +17,7 @@ ghost use Rattle.nt_logged.specs.Settled.{IsLogged};
 ghost use Rattle.nt_logged.specs.Steps.{steps_of_history};
 ghost use Rattle.nt_logged.specs.Tails.{IsTail, range_steps, end_after_steps};
 ghost use Rattle.nt_logged.specs.Spares.{SparesPlace};
-ghost use Rattle.nt_logged.specs.Logs.{IsLogOf, settles_in};
+ghost use Rattle.nt_logged.specs.Logs.{IsLogOf, WasWritten, settles_in};
 
 /// No step covers a place before the beginning, and none a range that was handed back before.
 pub fn steps_stand<M>()
@@ -136,4 +136,16 @@ pub fn settled_ranges_are_known<M>()
         → IsLogOf (length front) (end_after (length front) (ranges_of history)) history [] [] steps
         → AllZip (λ part c. c.state ≡ Settled (Some part)) parts (ranges_of history)
         → IsKnown (log ++ steps) (front ++ flat_map (λ part. part) parts) }
+{}
+
+/// Where page lists were appended and ranges handed back with their bytes, and these parts leave no
+/// gap, the file is known: what was known before, and then their bytes.
+pub fn written_parts_are_known<M>()
+    ensures { (log steps : List Step) (front : List ℕ) (end : ℕ) (history : List (Entry M)) (lists : List Part)
+        (torn : List ℕ) (parts : List Part)
+        → IsKnown log front → IsLegal (length front) history
+        → IsLogOf (length front) end history lists torn steps
+        → AreBehind (length front) parts → length front + joined_len parts ≡ end
+        → AllByRecursion (WasWritten lists (ranges_of history)) parts
+        → IsKnown (log ++ steps) (front ++ concat (part_bytes parts)) }
 {}

@@ -36,7 +36,9 @@ noted g c =
     list_appended g.D.Disk.state _ _ _ _ c.self.invariant c.keeps.ensures c.args.context c.args.list.items list.is list.due
     c.end-start.result c.len-len.result c.end-start.ensures (omega (arith, c.len-len.ensures, c.args.list.ok)) c.as_slice.result.now
     (c.as_slice.ensures ∙ c.blob_at-blob.ensures) (g.D.Disk.state c.room.new.self) c.room.ensures.held c.room.ensures.end
-    c.room.ensures.out c.room.ensures.faults _ _ c.link_of.result c.link_of.ensures c.note_list.ensures
+    c.room.ensures.out c.room.ensures.faults _ _ c.link_of.result
+    (subst (λ v. length c.args.list.items ≤ v.book.limits.range) (sym c.self.view_is) c.requires.fits.short)
+    c.link_of.ensures c.note_list.ensures
     (subst (λ r. OnOk r (Becomes (g.D.Disk.state c.room.new.self).held (g.D.Disk.state c.append.new.self).held
     (appended c.as_slice.result.now))) c.in-Ok.is c.append.ensures.ok)
     (subst (λ r. OnOk r ((g.D.Disk.state c.append.new.self).end ≡ (g.D.Disk.state c.room.new.self).end + length c.as_slice.result.now))
