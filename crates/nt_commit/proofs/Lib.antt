@@ -1,4 +1,4 @@
-mod Appended
+pub mod Appended
 mod Claimed
 mod Ending
 mod Following
@@ -6,11 +6,11 @@ mod Fresh
 mod Handed
 mod Holding
 mod Leaving
-mod Listed
+pub mod Listed
 mod Listing
 mod Noting
 mod Owned
-mod Placing
+pub mod Placing
 mod Returning
 mod Short
 mod Stepping
