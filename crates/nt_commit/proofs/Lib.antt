@@ -1,4 +1,4 @@
-mod Appended
+pub mod Appended
 mod Behind
 mod Claimed
 mod Ending
@@ -9,11 +9,11 @@ mod Handed
 mod Holding
 mod Leaving
 mod ListSteps
-mod Listed
+pub mod Listed
 mod Listing
 mod Noting
 mod Owned
-mod Placing
+pub mod Placing
 mod Returning
 mod Short
 mod Standing

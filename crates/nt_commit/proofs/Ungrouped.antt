@@ -23,7 +23,7 @@ use Rattle.nt_commit.specs.Locked.{GainsLists, GainsSteps, IsInStep, history_of_
 use Rattle.nt_commit.proofs.Telling.{told_end}
 
 -- no list is none that passes a limit
-with-none : (limits : Limits) (end count len : ℕ) → limit_error_with limits end count len 0 ≡ limit_error limits end count len
+pub with-none : (limits : Limits) (end count len : ℕ) → limit_error_with limits end count len 0 ≡ limit_error limits end count len
 with-none limits end count len =
     ap (λ (a : Bool). if nat_lt limits.range len then Some (RangeTooLarge len limits.range) else if a then Some (RangeTooLarge 0
     limits.range) else if nat_lt limits.file (end + 0 + len) then Some (FileTooLarge (end + 0 + len) limits.file)

@@ -41,5 +41,6 @@ pub use claim::Claim;
 pub use committer::{Committer, CommitterOf};
 pub use error::CommitError;
 pub use key::write_key;
+pub use lists::{blob_at, link_of};
 pub use locked::{Birth, Locked};
 pub use shared::committers_cross_threads;

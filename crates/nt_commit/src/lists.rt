@@ -25,7 +25,7 @@ fn empty_key() -> [u8; 42] {
 }
 
 /// The blob of an object at a place: its key comes into the room before it.
-fn blob_at(list: Vec<u8>, start: u64) -> Bytes
+pub fn blob_at(list: Vec<u8>, start: u64) -> Bytes
     requires room { blob_key_len ≤ length list.items }
     requires fits { length list.items < 2 ^ 32 }
     requires start { start ≤ most_place }
@@ -40,7 +40,7 @@ fn blob_at(list: Vec<u8>, start: u64) -> Bytes
 }
 
 /// The link to the object of a blob of so many bytes that starts there.
-fn link_of(start: u64, len: u64) -> ListPlace
+pub fn link_of(start: u64, len: u64) -> ListPlace
     requires { (blob_key_len ≤ len) × (len < 2 ^ 32) × (start ≤ most_place) }
     ensures { result ≡ record { length = len - blob_key_len; size = len - blob_key_len; place = start + blob_key_len } }
 {

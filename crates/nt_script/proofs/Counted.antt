@@ -40,7 +40,7 @@ grows-one plain t before (and_field es m rest) one other first second =
     (subst (λ (u : Table). GrowsByScript plain u (before + length es) rest one) same first.2) second.2
 
 -- of a script none of whose clusters is written
-counts-all : (p : Params) (t : Table) (before : ℕ) (s : Script) (new : Table) → HasTypes t → GrowsByScript p.plain t before s new
+pub counts-all : (p : Params) (t : Table) (before : ℕ) (s : Script) (new : Table) → HasTypes t → GrowsByScript p.plain t before s new
     → (metas : List ClusterMeta) × CountsScript p t before s metas
 counts-all p t before (last_entries es bad) new has grows =
     (map (would_be t p.page has) (chunks p.cluster es), all-would-be t p.page has (chunks p.cluster es))

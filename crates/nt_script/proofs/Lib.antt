@@ -15,6 +15,7 @@ pub mod Ends
 pub mod Wholes
 pub mod WholeClusters
 pub mod Headers
+pub mod HeaderPassed
 pub mod WouldBe
 pub mod Counted
 pub mod WholePassed

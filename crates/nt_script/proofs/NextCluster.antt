@@ -13,14 +13,16 @@ use Rattle.nt_book.specs.declared.limits.Limits.{Limits}
 use Rattle.nt_book.specs.declared.params.Params.{Params}
 use Rattle.nt_book.specs.Books.{book_clusters, book_end}
 use Rattle.nt_book.specs.Kept.{IsBookKept}
-use Rattle.nt_book.specs.Limiting.{limit_error}
+use Rattle.nt_book.specs.Limiting.{limit_error, limit_error_with}
 use Rattle.nt_pages.specs.Image.{image}
 use Rattle.nt_pages.specs.Metas.{cluster_meta}
 use Rattle.nt_commit.specs.declared.error.CommitError.{CommitError}
 use Rattle.nt_commit.specs.declared.error.CommitError.TheVariants as commit
 use Rattle.nt_commit.specs.Claims.{limit_in}
+use Rattle.nt_commit.proofs.Ungrouped.{with-none}
 use Rattle.nt_dealing.specs.Limits.{IsKeptOf, AreKeptOf}
-use Rattle.nt_seq.specs.Appending.{settled_cluster}
+use Rattle.nt_append.specs.Appending.{settled_cluster, with_due_list}
+use Rattle.nt_append.proofs.Due.{bytes-ungrouped}
 use Rattle.nt_seq.specs.Standing.{IsWriting}
 use Rattle.nt_seq.specs.Writer.{SeqState, gathered_by}
 use Rattle.nt_seq.specs.Changing.{WritesNext, FailsToAppend, NamesPassed}
@@ -76,7 +78,7 @@ module _ {D : Type 0} (state : D → DiskState) where
             (sym (same_params old new next)) here;
         metas = ap (map (λ (c : Cluster ClusterMeta). c.meta)) next.gains.clusters
             ∙ (map-append (λ (c : Cluster ClusterMeta). c.meta) (book_clusters old.book)
-            (settled_cluster (length (book_clusters old.book)) (book_end old.book) m ∷ [])
+            (settled_cluster (length (book_clusters old.book)) (book_end (with_due_list old.book)) m ∷ [])
             ∙ (ap (λ (l : List ClusterMeta). l ++ m ∷ []) keeps.metas
             ∙ append_assoc (segment_metas segments) keeps.own (m ∷ [])));
       }
@@ -114,7 +116,9 @@ module _ {D : Type 0} (state : D → DiskState) where
             passed = ap (λ (l : Limits). limit_error l (clusters_end old.table own) (length own) len) (sym passed.limits_are)
                 ∙ (ap (λ (n : ℕ). limit_error old.book.limits n (length own) len) (sym end)
                 ∙ (ap (λ (n : ℕ). limit_error old.book.limits (book_end old.book) n len) (sym count)
-                ∙ (passed.names ∙ limit_is)));
+                ∙ (sym (with-none old.book.limits (book_end old.book) (length (book_clusters old.book)) len)
+                ∙ (ap (λ (n : ℕ). limit_error_with old.book.limits (book_end old.book) (length (book_clusters old.book)) len n)
+                (sym (bytes-ungrouped old.book is.closable.ungrouped)) ∙ (passed.names ∙ limit_is)))));
           }
 
       at : (f : CommitError) → (refusal f ≢ refusal commit.Memory → NamesPassed old (Err f))
@@ -133,4 +137,4 @@ module _ {D : Type 0} (state : D → DiskState) where
       at commit.TooManyClusters names fault =
           (gathered_by old, refl, over limit.TooManyClusters commit.TooManyClusters refl (names many_apart))
       at commit.Memory names fault = tt
-      at commit.Fault names fault = let f = fault refl in omega (arith, f.rose)
+      at commit.Fault names fault = let f = fault refl in omega (arith, f.fails.rose)

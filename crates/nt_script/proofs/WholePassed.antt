@@ -37,6 +37,7 @@ use Rattle.nt_script.specs.Fitting.{CountsScript, FitsWhole, WholePasses, whole_
 use Rattle.nt_script.proofs.Segments.{grows-script}
 use Rattle.nt_script.proofs.Headers.{HasHeader, header-described, place-grown}
 use Rattle.nt_script.proofs.WouldBe.{HasTypes, types-described}
+use Rattle.nt_script.proofs.HeaderPassed.{begun_passed, header_fits}
 use Rattle.nt_script.proofs.Counted.{kept-counts, zip_more, grows-one, first_entries, counts-from, counts-written}
 
 -- ---- the clusters of entries in front of others
@@ -194,7 +195,7 @@ module _ (fields : List MemberData) (p : Params) (s : Script) (reached most : �
 
   pub whole_passed : PassesLimit fields p s reached most → WholePasses first table p s reached most
   whole_passed (passes_begun t error described passed tells) =
-      whole_begun error
+      begun_passed fields p s reached most first table rows grows error
       (subst (λ (u : Table). passed_by_begin p.limits u ≡ Some error) (Rows-one fields p.plain t first described rows) passed) tells
   whole_passed (passes_writing error w tells) = writing_passed error w tells
   whole_passed (passes_closing c) = closing_passed c
@@ -226,7 +227,8 @@ fits_none fields p s reached most fits passes =
         let within = (fits.whole metas counts).file in omega (arith, within, is, limit_is, above)
 
     at : WholePasses fits.first fits.table p s reached most → ⊥
-    at (whole_begun error passed tells) = let bad = sym fits.header ∙ passed in cc
+    at (whole_begun is limit_is above) =
+        let within = header_fits p.limits fits.first fits.header in omega (arith, within, is, limit_is, above)
     at (whole_cluster metas m counts has is limit_is above) =
         let within = short_one p.limits.range metas m (fits.whole metas counts).clusters has in omega (arith, within, is, limit_is, above)
     at (whole_file metas counts le limit_is above) =

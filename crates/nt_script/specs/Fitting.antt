@@ -1,20 +1,21 @@
 -- When the whole file of a script passes no limit, and which one it passes.
-use Rattle.std.specs.Prelude.{◌≡◌, ℕ, ◌+◌, ◌<◌, ◌≤◌, List, [], ◌∷◌, ◌++◌, length, take, drop, Some, None}
+use Rattle.std.specs.Prelude.{◌≡◌, ℕ, ◌+◌, ◌<◌, ◌≤◌, List, [], ◌∷◌, ◌++◌, length, take, drop, None}
 use Rattle.std.specs.List.{AllByRecursion, AllZip, Contains}
 use Rattle.nt_lists.specs.Chunks.{chunks}
 use Rattle.nt_types.specs.ShapeData.{MemberData}
 use Rattle.nt_grammar.specs.Added.{Added}
 use Rattle.nt_grammar.specs.Rows.{Rows}
 use Rattle.nt_grammar.specs.Table.{Table}
-use Rattle.nt_book.specs.declared.limits.LimitError.{LimitError}
 use Rattle.nt_book.specs.declared.meta.ClusterMeta.{ClusterMeta}
 use Rattle.nt_book.specs.declared.params.Params.{Params}
+use Rattle.nt_pagelists.specs.Blobs.{blob_len}
+use Rattle.nt_layout.specs.Headers.{header_object}
 use Rattle.nt_close.specs.Passing.{passed_by_begin}
 use Rattle.nt_dealing.specs.Limits.{IsCountedOf}
 use Rattle.nt_dealing.specs.Lengths.{page_list_len, group_count, footer_len, whole_len}
 use Rattle.nt_script.specs.Script.{Script, last_entries, and_field}
 use Rattle.nt_script.specs.Clusters.{GrowsByScript}
-use Rattle.nt_script.specs.Limits.{TellsLimit, IsOverEnd}
+use Rattle.nt_script.specs.Limits.{IsOverEnd}
 
 -- this is kept of all clusters of a script, or would be, each by the fields that there are when it is written
 abbrev pub CountsScript : Params → Table → ℕ → Script → List ClusterMeta → Type 0
@@ -44,8 +45,8 @@ pub record FitsWhole (fields : List MemberData) (p : Params) (s : Script) : Type
 
 -- the whole file of a script passes this limit: with this reached, or, of the limit of a file, with no less
 pub data WholePasses (first t : Table) (p : Params) (s : Script) (reached limit : ℕ) : Type 0 where
-  -- already where it is begun
-  whole_begun : (error : LimitError) → passed_by_begin p.limits first ≡ Some error → TellsLimit p error reached limit
+  -- with its header, of so many bytes
+  whole_begun : reached ≡ blob_len (length (header_object first)) → limit ≡ p.limits.range → limit < reached
       → WholePasses first t p s reached limit
   -- with a cluster of so many bytes
   whole_cluster : (metas : List ClusterMeta) (m : ClusterMeta) → CountsScript p first 0 s metas → Contains metas m → reached ≡ m.len

@@ -15,21 +15,16 @@ use Rattle.nt_layout.specs.Headers.{header_blob, file_begun}
 use Rattle.nt_close.specs.Steps.{begun_on, begun_whole}
 use Rattle.nt_close.specs.Laws.{IsShut}
 use Rattle.nt_close.proofs.FirstByte.{begins_shut, begins_in_order}
-use Rattle.nt_seq.specs.Written.{ranges_on, file_so_far, IsUnclosed}
-
--- one range more
-pub ranges_on-push : (ranges : List (List ℕ)) (range : List ℕ) (h : Held)
-    → ranges_on (ranges ++ range ∷ []) h ≡ appended range (ranges_on ranges h)
-ranges_on-push [] range h = refl
-ranges_on-push (r ∷ ranges) range h = ranges_on-push ranges range (appended r h)
+use Rattle.nt_append.specs.Appending.{all_appended}
+use Rattle.nt_seq.specs.Written.{file_so_far, IsUnclosed}
 
 -- the ranges stand behind what was there
-image-ranges_on : (ranges : List (List ℕ)) (h : Held) → (ranges_on ranges h).image ≡ h.image ++ concat ranges
-image-ranges_on [] h = sym (append-nil h.image)
-image-ranges_on (r ∷ ranges) h = image-ranges_on ranges (appended r h) ∙ append_assoc h.image r (concat ranges)
+image-all_appended : (ranges : List (List ℕ)) (h : Held) → (all_appended ranges h).image ≡ h.image ++ concat ranges
+image-all_appended [] h = sym (append-nil h.image)
+image-all_appended (r ∷ ranges) h = image-all_appended ranges (appended r h) ∙ append_assoc h.image r (concat ranges)
 
 pub image-file : (t : Table) (ranges : List (List ℕ)) → (file_so_far t ranges).image ≡ file_begun t ++ concat ranges
-image-file t ranges = image-ranges_on ranges (begun_on (begun 0 0 0) (header_blob t) nothing_held)
+image-file t ranges = image-all_appended ranges (begun_on (begun 0 0 0) (header_blob t) nothing_held)
 
 -- ---- its first byte
 
@@ -46,7 +41,7 @@ shut-begun blob =
 shut-file : (t : Table) (ranges : List (List ℕ)) → IsShut (file_so_far t ranges).image
 shut-file t ranges =
     shut-behind (begun_on (begun 0 0 0) (header_blob t) nothing_held).image (concat ranges) (file_so_far t ranges).image
-    (shut-begun (header_blob t)) (image-ranges_on ranges (begun_on (begun 0 0 0) (header_blob t) nothing_held))
+    (shut-begun (header_blob t)) (image-all_appended ranges (begun_on (begun 0 0 0) (header_blob t) nothing_held))
 
 pub shut-unclosed : (h : Held) → IsUnclosed h → IsShut h.image
 shut-unclosed h is =
@@ -62,14 +57,14 @@ known_from-push : (known : List Known) (log : List Step) (s : Step)
 known_from-push known [] s = refl
 known_from-push known (x ∷ log) s = known_from-push (after_step known x) log s
 
-order-ranges_on : (ranges : List (List ℕ)) (h : Held) → 0 < length (known_of h.log) → FirstByteLast h.log
-    → FirstByteLast (ranges_on ranges h).log
-order-ranges_on [] h some order = order
-order-ranges_on (r ∷ ranges) h some order =
+order-all_appended : (ranges : List (List ℕ)) (h : Held) → 0 < length (known_of h.log) → FirstByteLast h.log
+    → FirstByteLast (all_appended ranges h).log
+order-all_appended [] h some order = order
+order-all_appended (r ∷ ranges) h some order =
     let more : length (known_of (h.log ++ Append r ∷ [])) ≡ length (known_of h.log ++ map exactly r) =
     ap length (known_from-push [] h.log (Append r)) in
     let long = length-append (known_of h.log) (map exactly r) in
-    order-ranges_on ranges (appended r h) (omega (arith, some, more, long))
+    order-all_appended ranges (appended r h) (omega (arith, some, more, long))
     (one_follows h.log (Append r) order (λ none. absurd (omega (arith, some, ap length none))))
 
 order-file : (t : Table) (ranges : List (List ℕ)) → FirstByteLast (file_so_far t ranges).log
@@ -77,7 +72,7 @@ order-file t ranges =
     let h = begun_on (begun 0 0 0) (header_blob t) nothing_held in
     let head = length-append (map exactly (begun 0 0 0)) (map exactly (header_blob t)) in
     let long = length-map (begun 0 0 0) exactly in
-    order-ranges_on ranges h (omega (arith, head, long, begin-len 0 0 0)) (begins_in_order (header_blob t) h (begun_whole refl))
+    order-all_appended ranges h (omega (arith, head, long, begin-len 0 0 0)) (begins_in_order (header_blob t) h (begun_whole refl))
 
 pub order-unclosed : (h : Held) → IsUnclosed h → FirstByteLast h.log
 order-unclosed h is =

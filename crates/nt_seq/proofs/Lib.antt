@@ -1,4 +1,3 @@
-pub mod Entered
 pub mod Blobs
 pub mod Grown
 pub mod Files
@@ -8,7 +7,6 @@ pub mod Refused
 pub mod Widened
 pub mod Closed
 pub mod Begun
-pub mod Appended
 pub mod Filled
 pub mod Plain
 pub mod Cuts

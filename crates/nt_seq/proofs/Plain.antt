@@ -18,7 +18,8 @@ use Rattle.nt_file_meaning.specs.Files.{HasDefect}
 use Rattle.nt_close.specs.Steps.{begun_on}
 use Rattle.nt_close.proofs.Finishing.{first_and_others}
 use Rattle.nt_cuts.specs.Cuts.{IsOverFirst, WritesFirst, HasSync, LeavesUnfinished, LeavesUnfinishedOr}
-use Rattle.nt_seq.specs.Written.{ranges_on, file_so_far}
+use Rattle.nt_append.specs.Appending.{all_appended}
+use Rattle.nt_seq.specs.Written.{file_so_far}
 
 -- ---- what steps tell
 
@@ -101,7 +102,7 @@ plain-appended h bytes plain = record {
   known = known-appended h bytes plain.known;
 }
 
-plain-ranges : (ranges : List (List ℕ)) (h : Held) → IsPlain h → IsPlain (ranges_on ranges h)
+plain-ranges : (ranges : List (List ℕ)) (h : Held) → IsPlain h → IsPlain (all_appended ranges h)
 plain-ranges [] h plain = plain
 plain-ranges (r ∷ ranges) h plain = plain-ranges ranges (appended r h) (plain-appended h r plain)
 

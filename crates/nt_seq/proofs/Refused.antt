@@ -1,22 +1,28 @@
 -- A writer that was refused a flush.
-use Rattle.std.proofs.Common.{◌≡◌, ◌∙◌, ap, sym, refl, subst, ℕ, ◌≤◌, List, length, inl, inr}
+use Rattle.std.proofs.Common.{◌≡◌, ◌∙◌, ◌⊎◌, ap, sym, refl, subst, ℕ, ◌≤◌, List, ◌++◌, length, inl, inr}
 use Rattle.std.specs.List.{AllByRecursion}
-use Rattle.nt_outside.specs.Held.{Becomes, BecomesSome, IsTornAppend}
+use Rattle.nt_outside.specs.Held.{Held, Becomes, BecomesSome, IsTornAppend, nothing_held}
 use Rattle.nt_outside.specs.Disk.{DiskState}
 use Rattle.nt_grammar.specs.declared.rows.ColumnRow.{ColumnRow}
+use Rattle.nt_container.specs.Spelling.{begun}
 use Rattle.nt_grammar.specs.Table.{Table}
 use Rattle.nt_book.specs.Books.{BookData, IsUngrouped, book_clusters, book_end, entry_count}
 use Rattle.nt_commit.specs.declared.error.CommitError.{CommitError}
 use Rattle.nt_commit.specs.declared.error.CommitError.TheVariants.{RangeTooLarge, FileTooLarge, TooManyClusters, Memory, Fault}
 use Rattle.std.proofs.lemmas.Bool.{false≢true}
 use Rattle.std.proofs.Common.{◌≢◌, Bool, false}
-use Rattle.nt_seq.specs.Appending.{KeepsDiskAndBook, CutsImage}
+use Rattle.nt_append.specs.Appending.{CutsImage, FailsOnDisk, KeepsDiskAndBook, TearsList, due_blobs}
+use Rattle.nt_append.proofs.Images.{appended-behind}
+use Rattle.nt_pages.specs.declared.image.ClusterImage.{ClusterImage}
 use Rattle.nt_seq.specs.Standing.{IsSettledCluster, IsShortCluster, IsWriting, IsSequential}
 use Rattle.nt_seq.specs.Writer.{SeqState}
 use Rattle.nt_seq.specs.Written.{file_so_far, HasClusters, IsUnclosed}
 use Rattle.nt_seq.specs.Changing.{StaysAsItWas}
 use Rattle.nt_types.specs.TreeData.{TreesData}
+use Rattle.nt_pagelists.specs.Due.{due_len}
+use Rattle.nt_layout.specs.Headers.{header_blob}
 use Rattle.nt_layout.specs.Laid.{AreBlobsOf}
+use Rattle.nt_close.specs.Steps.{begun_on}
 use Rattle.nt_finished.specs.LateFiles.{AreLateBlobs}
 
 -- a writer whose disk failed
@@ -27,22 +33,48 @@ unclosed-cut given old new t ranges len told cut h is =
     let left = cut (file_so_far t ranges) (told h is) in
     (left.0, left.1, record { table = t; ranges = ranges; steps = inr (len, left.2) })
 
+-- one that failed behind the page list that was due
+unclosed-behind : (given old new : DiskState) (t : Table) (ranges : List (List ℕ)) (i : ClusterImage) (book next : BookData)
+    → Becomes given.held old.held (λ h. file_so_far t ranges) → CutsImage i old new book next
+    → BecomesSome given.held new.held (λ h h'. IsUnclosed h')
+unclosed-behind given old new t ranges i book next told cut h is =
+    let left = cut.held (file_so_far t ranges) (told h is) in
+    let same = appended-behind ranges (due_blobs book) (begun_on (begun 0 0 0) (header_blob t) nothing_held) in (
+      left.0,
+      left.1,
+      record {
+        table = t;
+        ranges = ranges ++ due_blobs book;
+        steps = inr (i.meta.len, subst (λ (k : Held). IsTornAppend i.meta.len k left.0) same left.2);
+      },
+    )
+
+-- or either
+unclosed-failed : (given old new : DiskState) (t : Table) (ranges : List (List ℕ)) (i : ClusterImage) (book next : BookData)
+    → Becomes given.held old.held (λ h. file_so_far t ranges) → FailsOnDisk i old new book next
+    → BecomesSome given.held new.held (λ h h'. IsUnclosed h')
+unclosed-failed given old new t ranges i book next told fails = at fails.how
+  where
+    at : TearsList i.meta.context old new book next ⊎ CutsImage i old new book next
+        → BecomesSome given.held new.held (λ h h'. IsUnclosed h')
+    at (inl torn) = unclosed-cut given old new t ranges (due_len book) told torn.held
+    at (inr cut) = unclosed-behind given old new t ranges i book next told cut
+
 -- a writer that stays as it was, but for memory
 module _ {D : Type 0} (state : D → DiskState) (w : SeqState D) (disk : D) (room : BookData) (is : IsWriting state w)
     (kept : KeepsDiskAndBook (state w.disk) (state disk) w.book room) where
   writing-kept : IsWriting state (record w { disk = disk; book = room })
   writing-kept =
       let book = kept.book_is in
-      let place = kept.untouched.place in
       record {
         ranges = is.ranges;
-        held = λ h told. place.held ∙ is.held h told;
+        held = λ h told. kept.held ∙ is.held h told;
         closable = record {
           begin = ap (λ (b : BookData). b.begin) book ∙ is.closable.begin;
           ungrouped = subst IsUngrouped (sym book)
               (record { no_groups = is.closable.ungrouped.no_groups; between = is.closable.ungrouped.between });
-          end = place.end ∙ (is.closable.end ∙ sym (ap book_end book));
-          out = place.out ∙ is.closable.out;
+          end = kept.end ∙ (is.closable.end ∙ sym (ap book_end book));
+          out = kept.out ∙ is.closable.out;
           whole = is.closable.whole;
         };
         within = is.within;
@@ -85,7 +117,7 @@ writing-alive state w alive is = record {
 
 -- a writer that was refused a flush
 module _ {D : Type 0} (state : D → DiskState) (w : SeqState D) (is : IsWriting state w) (disk : D) (room : BookData) (alive : Bool)
-    (len : ℕ) where
+    (i : ClusterImage) where
   abbrev left : SeqState D
   left = record w { disk = disk; book = room; alive = alive }
 
@@ -93,7 +125,7 @@ module _ {D : Type 0} (state : D → DiskState) (w : SeqState D) (is : IsWriting
   kept-on kept = record {
     unclosed = λ h told. (
       _,
-      kept.untouched.place.held ∙ is.held h told,
+      kept.held ∙ is.held h told,
       record { table = w.table; ranges = is.ranges; steps = inl refl },
     );
     writing = λ _. writing-alive state (record w { disk = disk; book = room }) alive (writing-kept state w disk room is kept);
@@ -101,7 +133,7 @@ module _ {D : Type 0} (state : D → DiskState) (w : SeqState D) (is : IsWriting
 
   pub after-error : (e : CommitError)
       → (e ≢ Fault → KeepsDiskAndBook (state w.disk) (state disk) w.book room × (alive ≡ w.alive))
-      → (e ≡ Fault → CutsImage len (state w.disk) (state disk) w.book room × (alive ≡ false)) → IsSequential state left
+      → (e ≡ Fault → FailsOnDisk i (state w.disk) (state disk) w.book room × (alive ≡ false)) → IsSequential state left
   after-error (RangeTooLarge n most) kept cut = kept-on (kept (λ same. cc same)).0
   after-error (FileTooLarge n most) kept cut = kept-on (kept (λ same. cc same)).0
   after-error TooManyClusters kept cut = kept-on (kept (λ same. cc same)).0
@@ -109,7 +141,7 @@ module _ {D : Type 0} (state : D → DiskState) (w : SeqState D) (is : IsWriting
   after-error Fault kept cut =
       let torn = cut refl in
       record {
-        unclosed = unclosed-cut (state w.given) (state w.disk) (state disk) w.table is.ranges len is.held torn.0.held;
+        unclosed = unclosed-failed (state w.given) (state w.disk) (state disk) w.table is.ranges i w.book room is.held torn.0;
         writing = λ on. absurd (false≢true (sym torn.1 ∙ on));
       }
 
@@ -120,7 +152,7 @@ clusters-kept given old new t page book room kept clusters has = record {
   ranges = has.ranges;
   late = subst (λ (b : BookData). AreLateBlobs t page 0 clusters has.ranges (book_clusters b)) (sym kept.book_is) has.late;
   first = λ first. subst (λ (b : BookData). AreBlobsOf t page clusters has.ranges (book_clusters b)) (sym kept.book_is) (has.first first);
-  held = λ h told. kept.untouched.place.held ∙ has.held h told;
+  held = λ h told. kept.held ∙ has.held h told;
 }
 
 -- nothing changed

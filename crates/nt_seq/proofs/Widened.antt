@@ -36,7 +36,8 @@ use Rattle.nt_finished.specs.Zeros.{zero_of, zero_tree}
 use Rattle.nt_seq.specs.Standing.{IsSettledCluster, IsShortCluster, IsWriting}
 use Rattle.nt_seq.specs.Widening.{first_elements}
 use Rattle.nt_seq.specs.Writer.{SeqState, gathered_by}
-use Rattle.nt_seq.specs.Written.{file_so_far, ranges_on, HasClusters, HasWritten, zero_behind}
+use Rattle.nt_append.specs.Appending.{all_appended}
+use Rattle.nt_seq.specs.Written.{file_so_far, HasClusters, HasWritten, zero_behind}
 use Rattle.nt_seq.proofs.AddedRows.{header-kept, not_first, all-firsts, all-begun, some-more}
 use Rattle.nt_seq.proofs.Grown.{late-grown}
 
@@ -74,7 +75,7 @@ module _ (t new : Table) (same : header_object new ≡ header_object t) where
       ap (λ (object : List ℕ). first_passed limits (blob_len (length object) ∷ []) (begun_len + blob_len (length object))) same ∙ within
 
   pub file-kept : (ranges : List (List ℕ)) → file_so_far new ranges ≡ file_so_far t ranges
-  file-kept ranges = ap (λ (object : List ℕ). ranges_on ranges (begun_on (begun 0 0 0) (blob begun_len object) nothing_held)) same
+  file-kept ranges = ap (λ (object : List ℕ). all_appended ranges (begun_on (begun 0 0 0) (blob begun_len object) nothing_held)) same
 
   pub held-kept : (given disk : DiskState) (ranges : List (List ℕ)) → Becomes given.held disk.held (λ h. file_so_far t ranges)
       → Becomes given.held disk.held (λ h. file_so_far new ranges)

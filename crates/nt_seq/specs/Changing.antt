@@ -2,8 +2,6 @@
 use Rattle.std.specs.Prelude.{◌≡◌, ◌≢◌, ◌<◌, ◌≤◌, false, true, List, [], ◌∷◌, ◌++◌, map, length, Some, None, Result, Ok, Err, OnOk, IsErrOf}
 use Rattle.nt_types.specs.ShapeData.{MemberData}
 use Rattle.nt_types.specs.TreeData.{TreesData}
-use Rattle.nt_outside.specs.Faults.{Rose}
-use Rattle.nt_outside.specs.Held.{BecomesSome, IsTornAppend}
 use Rattle.nt_outside.specs.Disk.{DiskState}
 use Rattle.nt_grammar.specs.Added.{Added}
 use Rattle.nt_schema.specs.Extending.{refused}
@@ -11,18 +9,27 @@ use Rattle.nt_schema.specs.declared.extend_error.ExtendError.{ExtendError}
 use Rattle.nt_schema.specs.declared.extend_error.ExtendError.TheVariants.{Repeated, TooMany, Memory}
 use Rattle.nt_book.specs.declared.params.Params.{Params}
 use Rattle.nt_book.specs.Books.{book_clusters, book_end, entry_count}
-use Rattle.nt_book.specs.Limiting.{limit_error}
+use Rattle.nt_book.specs.Limiting.{limit_error_with}
+use Rattle.nt_pages.specs.declared.image.ClusterImage.{ClusterImage}
 use Rattle.nt_pages.specs.Image.{image}
 use Rattle.nt_pages.specs.Metas.{cluster_meta}
 use Rattle.nt_layout.specs.Laid.{Gives}
 use Rattle.nt_commit.specs.declared.error.CommitError.{CommitError}
 use Rattle.nt_commit.specs.declared.error.CommitError.TheVariants as commit
+use Rattle.nt_commit.specs.Appending.{due_bytes}
 use Rattle.nt_commit.specs.Claims.{limit_answered}
+use Rattle.nt_append.specs.Appending.{FailsOnDisk, GainsCluster, with_due_list}
 use Rattle.nt_close.specs.Beginning.{IsBegun, IsUntouched}
 use Rattle.nt_finished.specs.LeftOut.{filled}
-use Rattle.nt_seq.specs.Appending.{GainsCluster}
 use Rattle.nt_seq.specs.Writer.{SeqState, gathered_by}
 use Rattle.nt_seq.specs.Written.{HasWritten, zero_behind}
+
+-- the image of what a writer has gathered
+abbrev pub gathered_image : {D : Type 0} → SeqState D → ClusterImage
+gathered_image w = record {
+  bytes = image w.params.page w.columns;
+  meta = cluster_meta w.params.page 0 (length (gathered_by w)) w.columns;
+}
 
 module _ {D : Type 0} (state : D → DiskState) where
   -- the file of these fields is begun; no cluster is written, and no entry gathered
@@ -34,10 +41,11 @@ module _ {D : Type 0} (state : D → DiskState) where
     pub none : gathered_by new ≡ []
     pub alive : new.alive ≡ true
 
-  -- the gathered entries are the next cluster, of which this is kept in the book, and none is gathered now
+  -- the gathered entries are the next cluster, of which this is kept in the book behind the page list that was due, and none is gathered
+  -- now
   pub record WritesNext (old new : SeqState D) : Type 0 where
     pub gives : Gives old.table old.columns (gathered_by old)
-    pub gains : GainsCluster (cluster_meta old.params.page 0 (length (gathered_by old)) old.columns) old.book new.book
+    pub gains : GainsCluster (cluster_meta old.params.page 0 (length (gathered_by old)) old.columns) (with_due_list old.book) new.book
     pub written : (clusters : List (List TreesData)) → HasWritten state old clusters
         → HasWritten state new (clusters ++ gathered_by old ∷ [])
     pub none : gathered_by new ≡ []
@@ -51,11 +59,10 @@ module _ {D : Type 0} (state : D → DiskState) where
     pub written : (clusters : List (List TreesData)) → HasWritten state old clusters → HasWritten state new clusters
     pub now : new ≡ record old { disk = new.disk; book = new.book }
 
-  -- the disk failed in the append of the gathered entries' image; the book has no cluster more, and the writer isn't alive
+  -- the disk failed in the append of the gathered entries' image, or of the page list that was due; the book has no cluster more, and the
+  -- writer isn't alive
   pub record FailsToAppend (old new : SeqState D) : Type 0 where
-    pub torn : BecomesSome (state old.disk).held (state new.disk).held (IsTornAppend (length (image old.params.page old.columns)))
-    pub book : new.book ≡ record old.book { spare = new.book.spare }
-    pub rose : Rose (state old.disk).faults (state new.disk).faults
+    pub fails : FailsOnDisk (gathered_image old) (state old.disk) (state new.disk) old.book new.book
     pub now : new ≡ record old { disk = new.disk; book = new.book; alive = false }
 
   -- refused, the writer stays as it was; after a fault it isn't alive
@@ -81,11 +88,12 @@ module _ {D : Type 0} (state : D → DiskState) where
       (refused old.table field ≡ None) × (new.given ≡ old.given) × (new.disk ≡ old.disk) × (new.alive ≡ false)
 
 module _ {D : Type 0} where
-  -- the answer names the limit of its book that the cluster of the gathered entries passes, or none
+  -- the answer names the limit of its book that the cluster of the gathered entries passes, or the page list that is due, or none
   pub record NamesPassed (w : SeqState D) (result : Result Unit CommitError) : Type 0 where
     pub gives : Gives w.table w.columns (gathered_by w)
     pub limits_are : w.book.limits ≡ w.params.limits
-    pub names : limit_error w.book.limits (book_end w.book) (length (book_clusters w.book)) (length (image w.params.page w.columns))
+    pub names : limit_error_with w.book.limits (book_end w.book) (length (book_clusters w.book)) (length (image w.params.page w.columns))
+        (length (due_bytes w.book))
         ≡ limit_answered result
 
 -- what a flush does to a writer: with nothing gathered nothing, and else the next cluster, unless a limit is passed or the flush is refused

@@ -1,6 +1,5 @@
 pub mod Writer
 pub mod Written
-pub mod Appending
 pub mod Changing
 pub mod Closing
 pub mod Standing

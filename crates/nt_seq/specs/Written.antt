@@ -3,26 +3,22 @@ use Rattle.std.specs.Prelude.{ℕ, ◌≡◌, ◌⊎◌, List, [], ◌∷◌, le
 use Rattle.std.specs.List.{sum_by}
 use Rattle.nt_types.specs.ShapeData.{MemberData}
 use Rattle.nt_types.specs.TreeData.{TreesData, no_trees, tree}
-use Rattle.nt_outside.specs.Held.{Held, Becomes, nothing_held, appended, IsTornAppend}
+use Rattle.nt_outside.specs.Held.{Held, Becomes, nothing_held, IsTornAppend}
 use Rattle.nt_outside.specs.Disk.{DiskState}
 use Rattle.nt_container.specs.Spelling.{begun}
 use Rattle.nt_grammar.specs.Table.{Table}
 use Rattle.nt_book.specs.Books.{BookData, book_clusters}
 use Rattle.nt_layout.specs.Headers.{header_blob}
 use Rattle.nt_layout.specs.Laid.{AreBlobsOf}
+use Rattle.nt_append.specs.Appending.{all_appended}
 use Rattle.nt_close.specs.Steps.{begun_on}
 use Rattle.nt_finished.specs.LateFiles.{AreLateBlobs}
 use Rattle.nt_finished.specs.Zeros.{zero_tree}
 use Rattle.nt_seq.specs.Writer.{SeqState}
 
--- these ranges are appended, one behind the other
-abbrev pub ranges_on : List (List ℕ) → Held → Held
-ranges_on [] h = h
-ranges_on (range ∷ ranges) h = ranges_on ranges (appended range h)
-
 -- what is held of a file of this schema that is begun, with these ranges behind its header
 abbrev pub file_so_far : Table → List (List ℕ) → Held
-file_so_far t ranges = ranges_on ranges (begun_on (begun 0 0 0) (header_blob t) nothing_held)
+file_so_far t ranges = all_appended ranges (begun_on (begun 0 0 0) (header_blob t) nothing_held)
 
 -- what is held before a file is closed: it is begun, ranges stand behind its header, and the append of one more may have failed
 pub record IsUnclosed (h : Held) : Type 0 where

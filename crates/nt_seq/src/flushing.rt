@@ -11,7 +11,7 @@ ghost use Rattle.nt_trees.specs.Described.{AreDescribed};
 ghost use Rattle.nt_cuts.specs.Cuts.{LeavesUnfinished};
 ghost use Rattle.nt_seq.specs.Changing.{FlushesNext};
 
-use crate::appending::append_image;
+use crate::appending::append_next;
 use crate::crashing::crashes_leave_closed_or_unfinished;
 use crate::writer::SeqWriter;
 use nt_column::ColumnSet;
@@ -61,15 +61,22 @@ impl<D: Disk> SeqWriter<D> {
             self.params.page,
             self.entries,
         )?;
-        append_image(&mut self.disk, &mut self.book, &mut image, &mut self.alive)?;
+        append_next(
+            self.alloc,
+            &mut self.disk,
+            &mut self.book,
+            &mut image,
+            &mut self.alive,
+        )?;
         self.spare = image.bytes.into_vec();
         self.columns.clear();
         self.entries = 0;
         Ok(())
     }
 
-    /// Writes all gathered entries as the next cluster, in one step of the disk. With nothing gathered
-    /// it does nothing. All memory is taken, and all limits are tested, before that step. Whatever
+    /// Writes all gathered entries as the next cluster, in one step of the disk, and in one before it the
+    /// page list that is due, if one is. With nothing gathered it does nothing. All memory is taken, and
+    /// all limits are tested, before these steps. Whatever
     /// came of it, the file isn't closed yet: a crash at any step so far leaves it unfinished.
     pub fn flush(&mut self) -> Result<(), CommitError>
         requires alive { self.old.alive ≡ true }

@@ -4,7 +4,7 @@
 //! Start at `SeqWriter` in `writer.rt`. `new` begins the file; `fill` gathers an entry, and
 //! `fill_line` that of a line of event text: it does what nt_event's `read_line` and then `fill`
 //! do, without a tree in between, or refuses the line, whose trees are then to be read. `flush` writes
-//! what is gathered as the next cluster, in one append; `extend` adds a field behind all entries
+//! what is gathered as the next cluster, in one append, and before it the page list that is due; `extend` adds a field behind all entries
 //! so far; `close` closes the file, and `abandon` gives the disk back as it is.
 //!
 //! Words: those of nt_fill and nt_finished. The *clusters* of a writer are the lists of the entries
@@ -15,9 +15,9 @@
 //!
 //! Proved, as a relation of what the writer is before and after each call (`specs/Changing`): an
 //! entry is gathered whole or not at all (`fill`, `fill_line`); a flush makes the gathered
-//! entries the next cluster (`ok` of `FlushesNext`), names exactly the limit of its book that they pass
-//! (`limits`), leaves all as it was where it is refused, and fails only where the disk's count of
-//! faults rose, with a part of their image behind its ranges (`refused`); a field is added exactly where none at the top level has its name and
+//! entries the next cluster, behind the page list that its book is due (`ok` of `FlushesNext`), names exactly the limit of its
+//! book that they or that list pass (`limits`), leaves all as it was where it is refused, and fails only where the disk's count of
+//! faults rose, with a part of their image or of that list behind its ranges (`refused`); a field is added exactly where none at the top level has its name and
 //! there aren't too many, behind as many entries as are written, and each earlier entry gets its
 //! zero (`extend`). Once it is closed, the file is laid out for the clusters, none of them longer
 //! than a range may get, and as any other where no field was added; after a refusal its first byte
@@ -37,7 +37,7 @@
 //! - The columns are made anew when a field is added. Columns and image keep their memory from
 //!   flush to flush; after a refused flush the next image takes its memory anew.
 //! - A range is neither reserved nor settled on the disk: there is no pen, so its image is
-//!   appended as it is. In the book it is both, at once, for the context 0.
+//!   appended as it is (nt_append). In the book it is both, at once, for the context 0.
 #![tactic(auto)]
 
 mod appending;

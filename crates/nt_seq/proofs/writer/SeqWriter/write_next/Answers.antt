@@ -7,31 +7,30 @@ use Rattle.nt_layout.specs.Laid.{Gives}
 use Rattle.nt_fill.proofs.Emptied.{emptied_gives}
 use Rattle.nt_fill.proofs.Entries.{entries_count}
 use Rattle.nt_seq.specs.Writer.{gathered_by}
-use Rattle.nt_seq.proofs.Flushed.{image-fits, meta-gathered, clusters-more, writing-more, unclosed-more}
+use Rattle.nt_seq.proofs.Flushed.{image-fits, image-gathered, meta-gathered, clusters-more, writing-more, unclosed-more}
 use Rattle.nt_seq.proofs.Refused.{writing-alive, after-error, clusters-kept, stays}
-use Rattle.nt_seq.specs.Appending.{GainsCluster}
-use Rattle.nt_outside.specs.Held.{BecomesSome, IsTornAppend}
+use Rattle.nt_append.specs.Appending.{FailsOnDisk, GainsCluster, with_due_list}
+use Rattle.nt_pages.specs.declared.image.ClusterImage.{ClusterImage}
 use Rattle.nt_book.specs.declared.meta.ClusterMeta.{ClusterMeta}
 use Rattle.nt_seq.proofs.writer.SeqWriter.write_next.Goals as goal
 
-pub append_image-requires : goal.append_image-requires
-append_image-requires g c =
+pub append_next-requires : goal.append_next-requires
+append_next-requires g c =
     let alive = subst (λ s. s.alive ≡ true) (sym c.self.view_is) c.requires.alive in
     let was = c.self.invariant.writing alive in
     record {
       image_is = image-fits g.D.Disk.state _ was c.in_ok-image.image c.in_ok-image.ensures.bytes c.in_ok-image.ensures.meta
           (c.columns_have_types.ensures c.self.inside.schema);
-      ungrouped = was.closable.ungrouped;
       end = was.closable.end;
     }
 
-pub invariant_of-self-in_err-append_image : goal.invariant_of-self-in_err-append_image
-invariant_of-self-in_err-append_image g c =
+pub invariant_of-self-in_err-append_next : goal.invariant_of-self-in_err-append_next
+invariant_of-self-in_err-append_next g c =
     let alive = subst (λ s. s.alive ≡ true) (sym c.self.view_is) c.requires.alive in
-    let told = c.in_err-append_image.ensures in
-    let e = c.in_err-append_image.field-0.0 in
-    after-error g.D.Disk.state _ (c.self.invariant.writing alive) c.append_image.new.disk c.append_image.new.book
-    c.append_image.new.alive c.in_ok-image.image.meta.len e (λ apart. told.kept e refl apart) (λ same.
+    let told = c.in_err-append_next.ensures in
+    let e = c.in_err-append_next.field-0.0 in
+    after-error g.D.Disk.state _ (c.self.invariant.writing alive) c.append_next.new.disk c.append_next.new.book
+    c.append_next.new.alive c.in_ok-image.image e (λ apart. told.kept e refl apart) (λ same.
     told.fault (ap (λ (x : CommitError). Err x) same))
 
 pub invariant_of-self-2 : goal.invariant_of-self-2
@@ -42,17 +41,17 @@ invariant_of-self-2 g c =
     let made = c.in_ok-image.ensures in
     let state = g.D.Disk.state in
     let meta = meta-gathered state _ was i made.bytes made.meta in
-    let appends = c.in_ok-append_image.ensures.ok.0 in
+    let appends = c.in_ok-append_next.ensures.ok.0 in
     let t = c.self.inside.schema in
     let empty = subst (λ (cs : List Column). Gives t cs []) (sym c.clear.ensures)
     (emptied_gives t (columns_of c.self.inside.columns) was.gives.set.described) in
-    let fits = c.in_ok-append_image.ensures.limits (λ same. cc same) in
-    let disk = c.append_image.new.disk in
-    let next = c.append_image.new.book in
+    let fits = c.in_ok-append_next.ensures.limits (λ same. cc same) in
+    let disk = c.append_next.new.disk in
+    let next = c.append_next.new.book in
     let cleared = columns_of c.clear.new.self in
     record {
       unclosed = unclosed-more state _ disk next cleared i was made.bytes meta fits appends empty;
-      writing = λ _. writing-alive state _ c.append_image.new.alive
+      writing = λ _. writing-alive state _ c.append_next.new.alive
           (writing-more state _ disk next cleared i was made.bytes meta fits appends empty);
     }
 
@@ -75,12 +74,12 @@ returns-in_err-image g c =
       };
     }
 
-pub returns-in_err-append_image : goal.returns-in_err-append_image
-returns-in_err-append_image g c =
+pub returns-in_err-append_next : goal.returns-in_err-append_next
+returns-in_err-append_next g c =
     let alive = subst (λ s. s.alive ≡ true) (sym c.self.view_is) c.requires.alive in
     let was = c.self.invariant.writing alive in
-    let p = err_from_is_err_and c.from_residual-in_err-append_image.result c.from_residual-in_err-append_image.ensures.1 in
-    let told = c.in_err-append_image.ensures in
+    let p = err_from_is_err_and c.from_residual-in_err-append_next.result c.from_residual-in_err-append_next.ensures.1 in
+    let told = c.in_err-append_next.ensures in
     let inside = c.self.inside in
     let i = c.in_ok-image.image in
     let made = c.in_ok-image.ensures in
@@ -97,14 +96,17 @@ returns-in_err-append_image g c =
         kept = λ e is apart.
             let left = told.kept e (cc (p.1, p.2, is)) apart in
             rw (← c.self.view_is) (record {
-              untouched = left.0.untouched;
+              untouched = record {
+                place = record { held = left.0.held; end = left.0.end; out = left.0.out };
+                faults = left.0.faults;
+              };
               book = left.0.book_is;
               written = clusters-kept (g.D.Disk.state inside.given.value) (g.D.Disk.state inside.disk)
-                  (g.D.Disk.state c.append_image.new.disk) inside.schema inside.params.page inside.book c.append_image.new.book left.0;
+                  (g.D.Disk.state c.append_next.new.disk) inside.schema inside.params.page inside.book c.append_next.new.book left.0;
               now = ap (λ (a : Bool). record {
                 given = inside.given.value;
-                disk = c.append_image.new.disk;
-                book = c.append_image.new.book;
+                disk = c.append_next.new.disk;
+                book = c.append_next.new.book;
                 table = inside.schema;
                 params = inside.params;
                 columns = columns_of inside.columns;
@@ -115,14 +117,12 @@ returns-in_err-append_image g c =
         fault = λ is.
             let left = told.fault (cc (p.1, p.2, is)) in
             rw (← c.self.view_is) (record {
-              torn = subst (λ (n : ℕ). BecomesSome (g.D.Disk.state inside.disk).held (g.D.Disk.state c.append_image.new.disk).held
-                  (IsTornAppend n)) (ap (λ (m : ClusterMeta). m.len) meta) left.0.held;
-              book = left.0.book_is;
-              rose = left.0.rose;
+              fails = subst (λ (x : ClusterImage). FailsOnDisk x (g.D.Disk.state inside.disk) (g.D.Disk.state c.append_next.new.disk)
+                  inside.book c.append_next.new.book) (image-gathered g.D.Disk.state _ was i made.bytes made.meta) left.0;
               now = ap (λ (a : Bool). record {
                 given = inside.given.value;
-                disk = c.append_image.new.disk;
-                book = c.append_image.new.book;
+                disk = c.append_next.new.disk;
+                book = c.append_next.new.book;
                 table = inside.schema;
                 params = inside.params;
                 columns = columns_of inside.columns;
@@ -142,7 +142,7 @@ returns g c =
     let state = g.D.Disk.state in
     let meta = meta-gathered state _ was i made.bytes made.meta in
     let inside = c.self.inside in
-    let appends = c.in_ok-append_image.ensures.ok.0 in
+    let appends = c.in_ok-append_next.ensures.ok.0 in
     record {
       nothing = λ none.
           let gathered = subst (λ s. gathered_by s ≡ []) (sym c.self.view_is) none in
@@ -151,22 +151,22 @@ returns g c =
           absurd (omega (arith, zero, c.if-self-eq0.false));
       ok = λ some. rw (← c.self.view_is) (record {
         gives = was.gives;
-        gains = subst (λ (m : ClusterMeta). GainsCluster m inside.book c.append_image.new.book) meta appends.gains;
-        written = clusters-more (state inside.given.value) (state inside.disk) (state c.append_image.new.disk) inside.schema
-            inside.params.page inside.book c.append_image.new.book (columns_of inside.columns) _ i was.gives made.bytes meta was.begun
-            appends;
+        gains = subst (λ (m : ClusterMeta). GainsCluster m (with_due_list inside.book) c.append_next.new.book) meta appends.gains;
+        written = clusters-more (state inside.given.value) (state inside.disk) (state c.append_next.new.disk) inside.schema
+            inside.params.page inside.book c.append_next.new.book (columns_of inside.columns) _ i was.gives made.bytes meta was.begun
+            appends was.closable.ungrouped;
         none = refl;
         later = appends.later;
         now = ap (λ (a : Bool). record {
           given = inside.given.value;
-          disk = c.append_image.new.disk;
-          book = c.append_image.new.book;
+          disk = c.append_next.new.disk;
+          book = c.append_next.new.book;
           table = inside.schema;
           params = inside.params;
           columns = columns_of c.clear.new.self;
           entries = 0;
           alive = a;
-        }) c.in_ok-append_image.ensures.ok.1;
+        }) c.in_ok-append_next.ensures.ok.1;
       });
       limits = λ some apart. search rules;
       refused = search rules;

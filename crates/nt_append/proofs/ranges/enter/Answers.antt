@@ -4,8 +4,8 @@ use Rattle.nt_machine.specs.History.{ranges_of}
 use Rattle.nt_machine.specs.Legal.{IsOut}
 use Rattle.nt_book.specs.declared.meta.ClusterMeta.{ClusterMeta}
 use Rattle.nt_book.specs.Books.{BookData, book_end}
-use Rattle.nt_seq.proofs.Entered.{out-committed, gains}
-use Rattle.nt_seq.proofs.appending.enter.Goals as goal
+use Rattle.nt_append.proofs.Entered.{out-committed, gains}
+use Rattle.nt_append.proofs.ranges.enter.Goals as goal
 
 pub settle-requires : goal.settle-requires
 settle-requires c =

@@ -1,15 +1,15 @@
 -- A cluster that is committed and handed back behind those of a history.
-use Rattle.std.proofs.Common.{◌≡◌, ◌∙◌, ap, sym, refl, ℕ, ◌-◌, List, [], ◌∷◌, ◌++◌, length, None, Some}
+use Rattle.std.proofs.Common.{◌≡◌, ◌∙◌, ap, sym, refl, ℕ, ◌+◌, ◌-◌, List, [], ◌∷◌, ◌++◌, length, None, Some, arith}
 use Rattle.std.specs.Prelude.{slice_get}
 use Rattle.std.proofs.Math.ListN.{set}
 use Rattle.nt_machine.specs.declared.entry.Entry.{Entry}
 use Rattle.nt_machine.specs.History.{Cluster, Out, Settled, ranges_of}
-use Rattle.nt_machine.specs.Legal.{IsOut, IsAllowed, IsLegal}
-use Rattle.nt_machine.proofs.Legality.{ranges_of-snoc, ranges_of-back, IsLegalAfter-snoc}
+use Rattle.nt_machine.specs.Legal.{IsOut, IsAllowed, IsLegal, end_after}
+use Rattle.nt_machine.proofs.Legality.{ranges_of-snoc, ranges_of-back, IsLegalAfter-snoc, end_after-snoc}
 use Rattle.nt_book.specs.declared.meta.ClusterMeta.{ClusterMeta}
 use Rattle.nt_book.specs.Books.{BookData, book_clusters, book_end}
 use Rattle.nt_book.specs.Entries.{committed_entry, settled_entry}
-use Rattle.nt_seq.specs.Appending.{settled_cluster, GainsCluster}
+use Rattle.nt_append.specs.Appending.{settled_cluster, GainsCluster}
 
 -- the item behind a list
 item-behind : {A : Type 0} (xs : List A) (x : A) → slice_get (xs ++ x ∷ []) (length xs) ≡ Some x
@@ -71,3 +71,13 @@ module _ (book mid next : BookData) (meta : ClusterMeta) (n : ℕ) (is : n ≡ l
         ∙ ap (λ (k : ℕ). book_clusters book ++ settled_cluster k (book_end book) meta ∷ []) is);
     same = next-is ∙ ap (λ (b : BookData). record book { history = b.history; spare = b.spare }) (sym next-is);
   }
+
+-- where a book ends that gained a cluster
+pub end-gained : (meta : ClusterMeta) (old new : BookData) → GainsCluster meta old new → book_end new ≡ book_end old + meta.len
+end-gained meta old new gains =
+    omega (
+      arith,
+      ap (λ (b : BookData). book_end b) gains.same,
+      ap (λ (cs : List (Cluster ClusterMeta)). end_after old.begin cs) gains.clusters,
+      end_after-snoc old.begin (book_clusters old) (settled_cluster (length (book_clusters old)) (book_end old) meta),
+    )
