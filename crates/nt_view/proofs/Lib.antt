@@ -1,4 +1,3 @@
-pub mod HadReady
 pub mod Stores
 pub mod Taking
 pub mod Columns

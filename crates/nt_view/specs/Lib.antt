@@ -6,4 +6,3 @@ pub mod Stores
 pub mod Pages
 pub mod Table
 pub mod Searching
-pub mod Ahead

@@ -1,10 +1,9 @@
 //! The pages of a cluster, loaded as they are stored.
 
-ghost use Rattle.std.specs.Prelude.{◌≡◌, ◌<◌, ◌^◌, [], length, take, Some, slice_get, slice_index_or, IfOk, IsTrue};
+ghost use Rattle.std.specs.Prelude.{◌≡◌, ◌<◌, ◌^◌, [], length, take, Some, slice_get, slice_index_or, IfOk};
 ghost use Rattle.nt_view.specs.declared.page_place.PagePlace.{PagePlace};
-ghost use Rattle.nt_view.specs.Loads.{load_of, LoadsFile, ServesView, loaded_len};
-ghost use Rattle.nt_view.specs.Loaded.{AreLoadable, nothing_loaded, loaded_with, loaded_elements};
-ghost use Rattle.nt_view.specs.Ahead.{AreUntagged};
+ghost use Rattle.nt_view.specs.Loads.{loaded_len, load_of, LoadsFile, ServesView};
+ghost use Rattle.nt_view.specs.Loaded.{AreLoadable, nothing_loaded, loaded_with};
 ghost use Rattle.nt_view.specs.Stores.{cut_up, lens_of};
 
 use crate::fault::ViewFault;
@@ -114,22 +113,6 @@ impl ClusterBytes {
         ensures { slice_get self.now.pages i ≡ Some result }
     {
         self.pages[i as usize]
-    }
-
-    /// Whether no element of a column has a tag, as its type tells: it has pages, and isn't a Switch, nor are its numbers added up.
-    pub(crate) fn is_untagged(&self, column: u32) -> bool
-        ensures { IsTrue result → AreUntagged (loaded_elements self.now column) }
-    {
-        self.in_range();
-        lookup::is_untagged(&self.table, column)
-    }
-
-    /// Where the elements begin and end that lie together with this one, where such are lent: those of its page of 8 bits, or all that
-    /// were added up; else where nothing lies.
-    pub(crate) fn run_with(&self, column: u32, i: u64) -> (u64, u64)
-        requires { i < length (loaded_elements self.now column) }
-    {
-        lookup::run_with(&self.table, &self.store, column, i)
     }
 
     /// The bytes of a page as they are stored, without its checksum.

@@ -6,13 +6,10 @@ ghost use Rattle.nt_column.specs.Elements.{plain, numbers, tags, text_of};
 ghost use Rattle.nt_column.specs.Cow.{cow_items, is_borrowed};
 ghost use Rattle.nt_column.specs.Words.{lent_elements};
 ghost use Rattle.nt_view.specs.Table.{held_at, elements_in_table, IsColumnOf, IsLent, HasColumnRange};
-ghost use Rattle.nt_view.specs.Ahead.{IsUntagged};
 
 use crate::column;
-use crate::place::page_with;
 use crate::table::{Held, Table};
 use nt_column::{CowSlice, WordSlice};
-use nt_types::ColumnType;
 use std::alloc::{AllocError, Global};
 
 impl Table {
@@ -56,41 +53,6 @@ pub fn number(table: &Table, store: &[u8], column: u32, i: u64) -> u64
             ..
         } => column::number(kind, store, &table.places[begin..end], i),
         Held::Sums(place) => table.sums[place].number(i as usize),
-    }
-}
-
-/// Where the elements begin and end that lie together with this one, where such are lent; else where nothing lies.
-pub fn run_with(table: &Table, store: &[u8], column: u32, i: u64) -> (u64, u64)
-    requires column { IsColumnOf store.now table.now column }
-    requires within { i < length (elements_in_table store.now table.now column) }
-{
-    let _store = store;
-    match table.held(column) {
-        Held::Sums(place) => (0, table.sums[place].len() as u64),
-        Held::Pages {
-            kind,
-            begin,
-            end,
-            ..
-        } => {
-            if kind.bits() != 8 {
-                return (0, 0);
-            }
-            let pages = &table.places[begin..end];
-            let page = pages[page_with(pages, i)];
-            (page.first, page.first.saturating_add(u64::from(page.count)))
-        }
-        Held::Zeros(_) => (0, 0),
-    }
-}
-
-/// Whether what is held of a column are pages of a type without tags.
-pub fn is_untagged(table: &Table, column: u32) -> bool
-    ensures { IsTrue result → IsUntagged (held_at table.now.columns.items column) }
-{
-    match table.held(column) {
-        Held::Pages { kind, .. } => kind != ColumnType::Switch,
-        _ => false,
     }
 }
 
@@ -195,7 +157,7 @@ fn copied(
 }
 
 /// Bytes that are the elements, as they lie.
-pub fn borrowed(bytes: &[u8]) -> CowSlice<'_, u8>
+fn borrowed(bytes: &[u8]) -> CowSlice<'_, u8>
     ensures text { cow_items result ≡ text_of (map plain bytes.now) }
     ensures lent { IsTrue (is_borrowed result) }
 {
