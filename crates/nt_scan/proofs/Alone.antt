@@ -62,6 +62,12 @@ pub defect-not_over : (file : List ℕ) (e : ReadError) (c r : ℕ) → ScansAs 
 defect-not_over file e c r faulty over =
     none-or-one over.0 (leaf_columns (leaves_of over.0.table)) (c, r) (faulty.1 over.0 over.1) over.2
 
+-- few elements, or too many
+pub few-not_over : (file : List ℕ) (c r : ℕ)
+    → ((o : Outline) → outline_of file ≡ Ok o → IsFirstTooMany o (leaf_columns (leaves_of o.table)) None)
+    → ScansAs file (Err (TooMany c r)) → ⊥
+few-not_over file c r few over = none-or-one over.0 (leaf_columns (leaves_of over.0.table)) (c, r) (few over.0 over.1) over.2
+
 -- one count is the first above
 pub over-once : (file : List ℕ) (c r d q : ℕ) → ScansAs file (Err (TooMany c r)) → ScansAs file (Err (TooMany d q)) → r ≡ q
 over-once file c r d q one two =
@@ -72,3 +78,13 @@ over-once file c r d q one two =
 -- one fault is the first
 pub defect-once : (file : List ℕ) (e f : ReadError) → ScansAs file (Err (Defect e)) → ScansAs file (Err (Defect f)) → e ≡ f
 defect-once file e f one two = err_is e f (sym one.0 ∙ two.0)
+
+-- a file that has lines means a schema and entries
+pub lines-mean : (file lines : List ℕ) → ScansAs file (Ok lines)
+    → (read : Table × List (List TreesData)) × (read_file file ≡ Ok read)
+lines-mean file lines scanned = by_reading (read_file file) refl
+  where
+    by_reading : (r : Result (Table × List (List TreesData)) ReadError) → read_file file ≡ r
+        → (read : Table × List (List TreesData)) × (read_file file ≡ Ok read)
+    by_reading (Ok read) is = (read, is)
+    by_reading (Err e) is = absurd (over-means file scanned.0 scanned.3.1.0 e scanned.2 scanned.3.1.1 is)

@@ -8,7 +8,7 @@ ghost use Rattle.nt_reader.specs.Outlines.{numbered_cluster};
 
 use nt_reader::Reader;
 
-/// The most elements of a column that are totalled.
+/// The most elements of a column that are totalled, so that a sum of any 64-bit numbers fits 128 bits with its sign.
 pub const MOST_ELEMENTS: u64 = 1 << 60;
 
 /// So many more, or a count that is too large.

@@ -11,9 +11,10 @@ use std::alloc::AllocError;
 /// What came in place of totals.
 #[derive(Clone, Copy, Debug, PartialEq, Eq)]
 pub enum ScanError {
-    /// A column has more than 2^60 elements, and this is its first count above.
+    /// The column of this id has more than 2^60 elements by the page lists, and this is its first count above, in elements; 2^64 - 1
+    /// stands for a count that is larger.
     TooMany { column: u32, reached: u64 },
-    /// The first fault of the file.
+    /// The first fault of the file, with its code and its place in bytes.
     Defect(ReadError),
     /// The outside failed.
     Fault,

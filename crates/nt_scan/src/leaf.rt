@@ -13,7 +13,8 @@ use std::alloc::{AllocError, Global};
 /// The role of a field without fields inside.
 const LEAF: u16 = 0;
 
-/// A field of integers, characters or bytes that lies in an open one, and its column.
+/// A field of integers, characters or bytes that lies in an open one, and its column, by their ids, which count fields and columns from 0
+/// (RNTuple Binary Format Specification 1.0.0.0, sections Field Description and Column Description).
 #[derive(Clone, Copy, Debug, PartialEq, Eq)]
 pub struct Leaf {
     pub field: u32,
@@ -66,7 +67,7 @@ fn leaf_of(schema: &Schema, id: u32) -> Option<Leaf>
     Some(Leaf { field: id, column })
 }
 
-/// All number leaves of a schema, in the order of the fields' ids.
+/// All number leaves of a schema, in the order of the fields' ids. Its one error is want of memory.
 pub fn leaves_of(alloc: Global, schema: &Schema) -> Result<Vec<Leaf>, AllocError>
     ensures { IfOk result (λ leaves. leaves.items ≡ leaves_of schema.now) }
 {

@@ -28,8 +28,11 @@ fn nothing(alloc: Global, columns: usize) -> Result<Vec<Running>, AllocError>
     Ok(running)
 }
 
-/// The totals of columns in all clusters of the file that the reader is attached to: they are counted first, and then the clusters
-/// are read one after the other, and the numbers of a column totalled by several threads.
+/// The totals of columns, given by their ids, in all clusters of the file that the reader is attached to: one for each, in the same
+/// order. Elements are read by the sign of the column's type; those of a cluster in which the column is defaulted are its zeros. The
+/// elements are counted first by the page lists (RNTuple Binary Format Specification 1.0.0.0, section Page Locations), and then the
+/// clusters are read and checked whole, one after the other, and the numbers of a column totalled by several threads. Memory is that
+/// of one cluster, beside what a column's total takes.
 ///
 /// # Errors
 ///

@@ -9,7 +9,7 @@ use nt_total::{Running, Total};
 use std::alloc::{AllocError, Global};
 use std::marker::Model;
 
-/// The totals of columns, in their order.
+/// The totals of columns, in the order in which the columns were given.
 #[derive(Drop)]
 pub struct Totals {
     items: Vec<Total>,
