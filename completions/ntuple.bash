@@ -22,7 +22,7 @@ _ntuple() {
     local word=${COMP_WORDS[COMP_CWORD]} before=${COMP_WORDS[COMP_CWORD - 1]}
     COMPREPLY=()
     if [ "$COMP_CWORD" -eq 1 ]; then
-        COMPREPLY=($(compgen -W 'write seq gen entries schema' -- "$word"))
+        COMPREPLY=($(compgen -W 'write seq gen entries schema scan' -- "$word"))
         return
     fi
     if [[ " ${COMP_WORDS[*]:2:COMP_CWORD-2} " != *' -- '* ]]; then

@@ -18,6 +18,7 @@ complete -c ntuple -n __fish_is_first_arg -a seq -d 'Write the events of a scrip
 complete -c ntuple -n __fish_is_first_arg -a gen -d 'Write drawn events'
 complete -c ntuple -n __fish_is_first_arg -a entries -d 'Print the entries of a file'
 complete -c ntuple -n __fish_is_first_arg -a schema -d 'Print the fields of a file'
+complete -c ntuple -n __fish_is_first_arg -a scan -d 'Print the totals of the numbers of a file'
 complete -c ntuple -n __ntuple_awaits_name -F
 
 complete -c ntuple -n '__ntuple_is write seq' -l cluster -x -d 'The entries of a cluster, 1 to 1000000'

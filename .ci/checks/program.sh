@@ -73,6 +73,12 @@ same out "$top/examples/events.txt"
 expect 0 '' schema example.root
 [ "$(wc -l <out)" -eq 8 ] || fail 'the example has not eight fields'
 
+# the totals of the numbers
+expect 0 '' scan two.root
+printf '[0,"x",2,18446744073709551616,1,18446744073709551615]\n' | cmp - out || fail 'other totals of two numbers'
+expect 0 '' scan example.root
+[ "$(wc -l <out)" -eq 4 ] || fail 'the example has not four fields of numbers'
+
 # inputs without entries, and more than one
 : >nothing.txt
 expect 0 '' write none.root schema.txt nothing.txt

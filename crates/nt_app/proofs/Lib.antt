@@ -4,5 +4,8 @@ pub mod Writing
 pub mod Scripting
 pub mod Generating
 pub mod Shown
+pub mod ScanPrinted
+pub mod ScanEnds
+pub mod Scanned
 pub mod Running
 pub mod Obeying

@@ -4,12 +4,12 @@ use Rattle.nt_outside.specs.World.{HostState}
 use Rattle.nt_book.specs.declared.params.Params.{Params}
 use Rattle.nt_draws.specs.declared.making.Making.{Making}
 use Rattle.nt_show.specs.Shown.{entries_shown, fields_shown}
-use Rattle.nt_command_line.specs.CommandLine.{IsEntries, IsSchemaCommand}
+use Rattle.nt_command_line.specs.CommandLine.{IsEntries, IsSchemaCommand, IsScan}
 use Rattle.nt_command_line.specs.WriteWords.{IsWrite}
 use Rattle.nt_command_line.specs.SeqWords.{IsSeq}
 use Rattle.nt_command_line.specs.GenWords.{IsGen}
 use Rattle.nt_command_line.proofs.Wrong.{begins_once}
-use Rattle.nt_command_line.proofs.Single.{same_write, same_seq, same_gen, same_entries, same_schema}
+use Rattle.nt_command_line.proofs.Single.{same_write, same_seq, same_gen, same_entries, same_schema, same_scan}
 use Rattle.nt_store.specs.declared.error.StoreError.{StoreError}
 use Rattle.nt_store.specs.declared.error.StoreError.TheVariants as store
 use Rattle.nt_script.specs.declared.store_error.ScriptStoreError.{ScriptStoreError}
@@ -22,7 +22,8 @@ use Rattle.nt_app.specs.Shows.{IsAnswerOfReading, ShowsNamed}
 use Rattle.nt_app.specs.Writes.{status_of_store, WritesNamed}
 use Rattle.nt_app.specs.Seqs.{status_of_script, SeqNamed}
 use Rattle.nt_app.specs.Gens.{status_of_generate, GenNamed}
-use Rattle.nt_app.specs.Runs.{SayWriting, SayMaking, SayReading, range_said, IsAnswerTo, Obeys}
+use Rattle.nt_app.specs.Scans.{IsAnswerOfScan, ScansNamed}
+use Rattle.nt_app.specs.Runs.{SayWriting, SayMaking, SayReading, SayScanning, range_said, IsAnswerTo, Obeys}
 
 store_answers : (words : List (List ℕ)) (stored : Result Unit StoreError) → SayWriting words → IsAnswerTo words (status_of_store stored)
 store_answers words (Ok done) said = inl said
@@ -46,17 +47,26 @@ generate_answers : (words : List (List ℕ)) (made : Result Unit GenerateError) 
 generate_answers words (Ok done) said = inr (inl said)
 generate_answers words (Err generate.Outside) said = inr (inl said)
 generate_answers words (Err generate.Memory) said = tt
-generate_answers words (Err (generate.Limit reached limit)) said = inr said
+generate_answers words (Err (generate.Limit reached limit)) said = inr (inl said)
 generate_answers words (Err (generate.Defect fault)) said = inl said
 
 reading_answers : (words : List (List ℕ)) (answer : Status) → IsAnswerOfReading answer → SayReading words → IsAnswerTo words answer
-reading_answers words status.Done is said = inr (inr said)
+reading_answers words status.Done is said = inr (inr (inl said))
 reading_answers words status.Usage is said = absurd is
-reading_answers words (status.File fault) is said = inr said
-reading_answers words status.Outside is said = inr (inr said)
+reading_answers words (status.File fault) is said = inr (inl said)
+reading_answers words status.Outside is said = inr (inr (inl said))
 reading_answers words (status.Limit reached limit) is said = absurd is
 reading_answers words (status.Text input number kind) is said = absurd is
 reading_answers words status.Memory is said = tt
+
+scanning_answers : (words : List (List ℕ)) (answer : Status) → IsAnswerOfScan answer → SayScanning words → IsAnswerTo words answer
+scanning_answers words status.Done is said = inr (inr (inr said))
+scanning_answers words status.Usage is said = absurd is
+scanning_answers words (status.File fault) is said = inr (inr said)
+scanning_answers words status.Outside is said = inr (inr (inr said))
+scanning_answers words (status.Limit reached limit) is said = inr (inr said)
+scanning_answers words (status.Text input number kind) is said = absurd is
+scanning_answers words status.Memory is said = tt
 
 -- `write`
 pub written_words : (words : List (List ℕ)) (o s : List ℕ) (is : List (List ℕ)) (p : Params) (old new : HostState) (answer : Status)
@@ -67,6 +77,7 @@ written_words words o s is p old new answer said writes = record {
   gen = λ o' m other. absurd (begins_once words _ _ refl said.begins other.begins);
   entries = λ from count name other. absurd (begins_once words _ _ refl said.begins other.begins);
   schema = λ name other. absurd (begins_once words _ _ refl said.begins other.begins);
+  scan = λ name other. absurd (begins_once words _ _ refl said.begins other.begins);
   usage = λ none. absurd (none.no_write o s is p said);
   answers = subst (IsAnswerTo words) (sym writes.answer_is) (store_answers words writes.stored (inl (o, s, is, p, said)));
 }
@@ -80,6 +91,7 @@ scripted_words words o s i p old new answer said writes = record {
   gen = λ o' m other. absurd (begins_once words _ _ refl said.begins other.begins);
   entries = λ from count name other. absurd (begins_once words _ _ refl said.begins other.begins);
   schema = λ name other. absurd (begins_once words _ _ refl said.begins other.begins);
+  scan = λ name other. absurd (begins_once words _ _ refl said.begins other.begins);
   usage = λ none. absurd (none.no_seq o s i p said);
   answers = subst (IsAnswerTo words) (sym writes.answer_is) (script_answers words writes.stored (inr (o, s, i, p, said)));
 }
@@ -93,6 +105,7 @@ made_words words o m old new answer said makes = record {
   gen = λ o' m' other. same_gen (λ n l. GenNamed l n old new answer) words m m' o o' said other makes;
   entries = λ from count name other. absurd (begins_once words _ _ refl said.begins other.begins);
   schema = λ name other. absurd (begins_once words _ _ refl said.begins other.begins);
+  scan = λ name other. absurd (begins_once words _ _ refl said.begins other.begins);
   usage = λ none. absurd (none.no_gen m o said);
   answers = subst (IsAnswerTo words) (sym makes.answer_is) (generate_answers words makes.made (m, o, said));
 }
@@ -108,6 +121,7 @@ listed_words words from count name old new answer said shows = record {
       same_entries (λ f c n. ShowsNamed (entries_shown (range_said f c)) n old new answer) words from count from' count' name name'
       said other shows;
   schema = λ name' other. absurd (begins_once words _ _ refl said.begins other.begins);
+  scan = λ name' other. absurd (begins_once words _ _ refl said.begins other.begins);
   usage = λ none. absurd (none.no_entries from count name said);
   answers = reading_answers words answer shows.answer_is (inl (from, count, name, said));
 }
@@ -121,6 +135,21 @@ outlined_words words name old new answer said shows = record {
   gen = λ o m other. absurd (begins_once words _ _ refl said.begins other.begins);
   entries = λ from count name' other. absurd (begins_once words _ _ refl said.begins other.begins);
   schema = λ name' other. same_schema (λ n. ShowsNamed fields_shown n old new answer) words name name' said other shows;
+  scan = λ name' other. absurd (begins_once words _ _ refl said.begins other.begins);
   usage = λ none. absurd (none.no_schema name said);
   answers = reading_answers words answer shows.answer_is (inr (name, said));
+}
+
+-- `scan`
+pub scanned_words : (words : List (List ℕ)) (name : List ℕ) (old new : HostState) (answer : Status) → IsScan words name
+    → ScansNamed name old new answer → Obeys words old new answer
+scanned_words words name old new answer said scans = record {
+  write = λ o s is p other. absurd (begins_once words _ _ refl said.begins other.begins);
+  seq = λ o s i p other. absurd (begins_once words _ _ refl said.begins other.begins);
+  gen = λ o m other. absurd (begins_once words _ _ refl said.begins other.begins);
+  entries = λ from count name' other. absurd (begins_once words _ _ refl said.begins other.begins);
+  schema = λ name' other. absurd (begins_once words _ _ refl said.begins other.begins);
+  scan = λ name' other. same_scan (λ n. ScansNamed n old new answer) words name name' said other scans;
+  usage = λ none. absurd (none.no_scan name said);
+  answers = scanning_answers words answer scans.answer_is (name, said);
 }

@@ -16,6 +16,7 @@ use Rattle.nt_app.proofs.Writing.{memory_writes, run_write}
 use Rattle.nt_app.proofs.Scripting.{memory_scripts, run_seq}
 use Rattle.nt_app.proofs.Generating.{memory_makes, run_gen}
 use Rattle.nt_app.proofs.Shown.{memory_shows, run_shows}
+use Rattle.nt_app.proofs.Scanned.{memory_scans, run_scan}
 
 -- no command, and then its message
 run_usage : (old mid new : HostState) (answer : Status) → (answer ≡ status.Usage) ⊎ (answer ≡ status.Memory) → mid ≡ old
@@ -59,6 +60,7 @@ runs words old mid new answer obeys reports bytes = record {
   entries = λ from count name said. run_shows (entries_shown (range_said from count)) name old mid new answer
       (obeys.entries from count name said) reports;
   schema = λ name said. run_shows fields_shown name old mid new answer (obeys.schema name said) reports;
+  scan = λ name said. run_scan name old mid new answer (obeys.scan name said) reports;
   usage = λ none. let refused = obeys.usage none in run_usage old mid new answer refused.0 refused.1 reports;
   wrong = λ wrong.
       let refused = obeys.usage (wrong_is_none words wrong) in run_usage old mid new answer refused.0 refused.1 reports;
@@ -87,6 +89,7 @@ no_memory words state = record {
   gen = λ o m said. memory_makes o m state;
   entries = λ from count name said. memory_shows (entries_shown (range_said from count)) name state;
   schema = λ name said. memory_shows fields_shown name state;
+  scan = λ name said. memory_scans name state;
   usage = λ none. (inr refl, refl);
   answers = tt;
 }
@@ -101,6 +104,7 @@ wrong_words words state wrong =
       gen = λ o m said. absurd (none.no_gen m o said);
       entries = λ from count name said. absurd (none.no_entries from count name said);
       schema = λ name said. absurd (none.no_schema name said);
+      scan = λ name said. absurd (none.no_scan name said);
       usage = λ auto. (inl refl, refl);
       answers = wrong;
     }

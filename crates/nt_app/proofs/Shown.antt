@@ -21,7 +21,7 @@ use Rattle.nt_app.specs.declared.status.Status.{Status}
 use Rattle.nt_app.specs.declared.status.Status.TheVariants as status
 use Rattle.nt_app.proofs.Joined.{either_after, not_there_both, there_is}
 
-there : (P : List ℕ → Type 0) (found : Option (List ℕ)) (bytes : List ℕ) → found ≡ Some bytes → P bytes → IsThereWith P found
+pub there : (P : List ℕ → Type 0) (found : Option (List ℕ)) (bytes : List ℕ) → found ≡ Some bytes → P bytes → IsThereWith P found
 there P found bytes is has = subst (IsThereWith P) (sym is) has
 
 -- what out gained, by what was printed of the file
@@ -71,7 +71,7 @@ shown_failed (Err failure.Fault) is = refl
 shown_failed (Err failure.Memory) is = absurd (cc)
 
 -- the faults of a host that took a file back
-rose_either : (before opened printed now one one' : ℕ) → before ≤ opened → opened ≤ printed → one ≡ 0 → TakesIn printed now one'
+pub rose_either : (before opened printed now one one' : ℕ) → before ≤ opened → opened ≤ printed → one ≡ 0 → TakesIn printed now one'
     → Rose opened printed ⊎ Rose one one' → Rose before now
 rose_either before opened printed now one one' first second none taken (inl rose) = omega (arith, rose, first, taken.later)
 rose_either before opened printed now one one' first second none taken (inr rose) = omega (arith, rose, none, first, second, taken.sum)
@@ -109,7 +109,7 @@ refusal_told : {V : Type 0} (s : Shown V) (name : List ℕ) (w : World) (r : Ref
 refusal_told s name w refused.Failed = nothing_gained s (file w name) w
 refusal_told s name w refused.Memory = nothing_gained s (file w name) w
 
-refusal_asks : {T : Type 0} (r : Refused) (name : List ℕ) (old new : HostState) → Asks {T = T} (File name) old new (Err r)
+pub refusal_asks : {T : Type 0} (r : Refused) (name : List ℕ) (old new : HostState) → Asks {T = T} (File name) old new (Err r)
     → AsksAsDone (File name ∷ []) old.asked new.asked (status_of_refusal r)
 refusal_asks refused.Failed name old new asks = (1, asks.failed refl)
 refusal_asks refused.Memory name old new asks =
@@ -119,7 +119,7 @@ refusal_answers : (r : Refused) → IsAnswerOfReading (status_of_refusal r)
 refusal_answers refused.Failed = tt
 refusal_answers refused.Memory = tt
 
-refusal_failed : {T : Type 0} (r : Refused) → status_of_refusal r ≡ status.Outside → IsErrOf {T = T} (Err r) refused.Failed
+pub refusal_failed : {T : Type 0} (r : Refused) → status_of_refusal r ≡ status.Outside → IsErrOf {T = T} (Err r) refused.Failed
 refusal_failed refused.Failed is = refl
 refusal_failed refused.Memory is = absurd (cc)
 

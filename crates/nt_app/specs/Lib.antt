@@ -4,4 +4,5 @@ pub mod Shows
 pub mod Writes
 pub mod Seqs
 pub mod Gens
+pub mod Scans
 pub mod Runs

@@ -6,7 +6,7 @@ use Rattle.nt_book.specs.declared.params.Params.{Params}
 use Rattle.nt_draws.specs.declared.making.Making.{Making}
 use Rattle.nt_show.specs.declared.entry_range.EntryRange.{EntryRange}
 use Rattle.nt_show.specs.Shown.{entries_shown, fields_shown}
-use Rattle.nt_command_line.specs.CommandLine.{IsEntries, IsSchemaCommand}
+use Rattle.nt_command_line.specs.CommandLine.{IsEntries, IsSchemaCommand, IsScan}
 use Rattle.nt_command_line.specs.WriteWords.{IsWrite}
 use Rattle.nt_command_line.specs.SeqWords.{IsSeq}
 use Rattle.nt_command_line.specs.GenWords.{IsGen}
@@ -20,6 +20,7 @@ use Rattle.nt_app.specs.Shows.{ShowsNamed, Shows}
 use Rattle.nt_app.specs.Writes.{WritesNamed, RunsWrite}
 use Rattle.nt_app.specs.Seqs.{SeqNamed, RunsSeq}
 use Rattle.nt_app.specs.Gens.{GenNamed, RunsGen}
+use Rattle.nt_app.specs.Scans.{ScansNamed, RunsScan}
 
 -- the words were no command, which is said unless memory runs out: nothing was asked for, no disk was made, and no file changed
 pub record RefusesWords (old new : HostState) (answer : Status) : Type 0 where
@@ -57,13 +58,17 @@ abbrev pub SayReading : List (List ℕ) → Type 0
 SayReading words =
     ((from count : Option ℕ) × (name : List ℕ) × IsEntries words from count name) ⊎ ((name : List ℕ) × IsSchemaCommand words name)
 
+-- the words are `scan ..`
+abbrev pub SayScanning : List (List ℕ) → Type 0
+SayScanning words = (name : List ℕ) × IsScan words name
+
 -- each answer comes of some commands alone, and `Usage` of words that are wrong
 abbrev pub IsAnswerTo : List (List ℕ) → Status → Type 0
-IsAnswerTo words status.Done = SayWriting words ⊎ SayMaking words ⊎ SayReading words
+IsAnswerTo words status.Done = SayWriting words ⊎ SayMaking words ⊎ SayReading words ⊎ SayScanning words
 IsAnswerTo words status.Usage = IsWrong words
-IsAnswerTo words (status.File fault) = SayMaking words ⊎ SayReading words
-IsAnswerTo words status.Outside = SayWriting words ⊎ SayMaking words ⊎ SayReading words
-IsAnswerTo words (status.Limit reached limit) = SayWriting words ⊎ SayMaking words
+IsAnswerTo words (status.File fault) = SayMaking words ⊎ SayReading words ⊎ SayScanning words
+IsAnswerTo words status.Outside = SayWriting words ⊎ SayMaking words ⊎ SayReading words ⊎ SayScanning words
+IsAnswerTo words (status.Limit reached limit) = SayWriting words ⊎ SayMaking words ⊎ SayScanning words
 IsAnswerTo words (status.Text input number kind) = SayWriting words
 IsAnswerTo words status.Memory = ⊤
 
@@ -76,6 +81,7 @@ pub record Obeys (words : List (List ℕ)) (old new : HostState) (answer : Statu
   pub entries : (from count : Option ℕ) (name : List ℕ) → IsEntries words from count name
       → ShowsNamed (entries_shown (range_said from count)) name old new answer
   pub schema : (name : List ℕ) → IsSchemaCommand words name → ShowsNamed fields_shown name old new answer
+  pub scan : (name : List ℕ) → IsScan words name → ScansNamed name old new answer
   pub usage : IsNoCommand words → ((answer ≡ status.Usage) ⊎ (answer ≡ status.Memory)) × (new ≡ old)
   pub answers : IsAnswerTo words answer
 
@@ -92,6 +98,7 @@ pub record Runs (words : List (List ℕ)) (old new : HostState) (answer : Status
   pub gen : (out : List ℕ) (m : Making) → IsGen words m out → RunsGen out m old new answer
   pub entries : (from count : Option ℕ) (name : List ℕ) → IsEntries words from count name → RunsEntries from count name old new answer
   pub schema : (name : List ℕ) → IsSchemaCommand words name → RunsSchema name old new answer
+  pub scan : (name : List ℕ) → IsScan words name → RunsScan name old new answer
   pub usage : IsNoCommand words → RefusesWords old new answer
   -- which words that are wrong are
   pub wrong : IsWrong words → RefusesWords old new answer

@@ -9,6 +9,7 @@ ghost use Rattle.nt_app.specs.Runs.{Obeys, Runs};
 
 use crate::generate::make;
 use crate::message::message_of;
+use crate::scan::scan;
 use crate::seq::seq;
 use crate::show::{entries, schema};
 use crate::status::Status;
@@ -77,11 +78,12 @@ where
     match command {
         Parallel::Write(said) => write(rt, alloc, host, &said, gate),
         Parallel::Gen(said) => make(rt, alloc, host, &said, gate),
+        Parallel::Scan { file } => scan(rt, alloc, host, file),
     }
 }
 
 /// Does what the words after the program's name say, as `run` does, where that waits for nobody: all but words that begin with
-/// `write` or `gen`. Of these nothing is done.
+/// `write`, `gen` or `scan`. Of these nothing is done.
 pub fn run_alone<H: Host>(alloc: Global, words: &[String], host: &mut H) -> Option<Status>
     ensures some { IfSome result (Runs (texts words.now) (H.state host.old) (H.state host.new)) }
     ensures none { result ≡ None → NeedsThreads (texts words.now) × (H.state host.new ≡ H.state host.old) }
@@ -99,8 +101,8 @@ pub fn run_alone<H: Host>(alloc: Global, words: &[String], host: &mut H) -> Opti
 ///
 /// Commands are `write` and `seq` with `[--cluster N] [--page P] [--group G] [--plain] [--max-range B] [--max-file B] OUT SCHEMA IN`,
 /// for `write` of 1 to 64 inputs and with `[--contexts K]`, where OUT is another name than those that are read, `gen C E SEED OUT`,
-/// `entries [--from A] [--count C] FILE` and `schema FILE`; clap reads the words after the first.
-/// `rt` is the runtime of `write`, which has a context for each input and K workers that run them, and of `gen`; `gate` is told the
+/// `entries [--from A] [--count C] FILE`, `schema FILE` and `scan FILE`; clap reads the words after the first.
+/// `rt` is the runtime of `write`, which has a context for each input and K workers that run them, of `gen`, and of `scan`; `gate` is told the
 /// steps of each context's clusters.
 pub fn run<R, H, G>(rt: &R, alloc: Global, words: Vec<String>, host: &mut H, gate: &G) -> Status
 where

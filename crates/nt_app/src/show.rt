@@ -11,7 +11,7 @@ use nt_tfile::ReadFailure;
 use std::alloc::Global;
 
 /// The answer of a refusal.
-fn status_of_refusal(refused: Refused) -> Status
+pub(crate) fn status_of_refusal(refused: Refused) -> Status
     ensures { result ≡ status_of_refusal refused }
 {
     match refused {

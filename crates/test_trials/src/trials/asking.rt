@@ -54,7 +54,10 @@ impl Trials {
     /// Whether the words are those of a command that writes the file `o`.
     fn is_writing(&self) -> bool {
         match self.words.first() {
-            Some(word) => word.as_str() != "entries" && word.as_str() != "schema",
+            Some(word) => {
+                let word = word.as_str();
+                word != "entries" && word != "schema" && word != "scan"
+            }
             None => false,
         }
     }

@@ -4,7 +4,7 @@ use Rattle.nt_command_line.specs.declared.command.Parallel.TheVariants.{Write}
 use Rattle.nt_command_line.specs.CommandLine.{texts}
 use Rattle.nt_command_line.specs.Commands.{names_of, SaysParallel}
 use Rattle.nt_app.proofs.Running.{no_memory, wrong_words}
-use Rattle.nt_app.proofs.Obeying.{written_words, made_words}
+use Rattle.nt_app.proofs.Obeying.{written_words, made_words, scanned_words}
 use Rattle.nt_app.proofs.program.do_in_parallel.Goals as goal
 
 pub returns-in_default : goal.returns-in_default
@@ -41,3 +41,8 @@ returns-in-Gen g c =
     let is = c.in-Some.is ∙ ap (λ (a : Parallel). Some a) c.in-Gen.is in
     made_words _ said.out.now said.making _ _ _
     (subst (SaysParallel (texts c.args.words.now)) is c.in-Ok.ensures) c.make.ensures
+
+pub returns-in-Scan : goal.returns-in-Scan
+returns-in-Scan g c =
+    let is = c.in-Some.is ∙ ap (λ (a : Parallel). Some a) c.in-Scan.is in
+    scanned_words _ c.in-Scan.file.now _ _ _ (subst (SaysParallel (texts c.args.words.now)) is c.in-Ok.ensures) c.scan.ensures
