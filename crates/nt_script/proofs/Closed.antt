@@ -22,7 +22,7 @@ use Rattle.nt_close.specs.Spoiled.{NoneSpoiled, IsUnspoiled, IsFirstSpoiled}
 use Rattle.nt_close.specs.Steps.{closed_on, closed_partly, closed_whole}
 use Rattle.nt_seq.specs.Standing.{IsWriting}
 use Rattle.nt_seq.specs.Writer.{SeqState}
-use Rattle.nt_seq.specs.Written.{IsUnclosed, file_so_far}
+use Rattle.nt_seq.specs.Written.{IsUnclosedOf, file_so_far}
 use Rattle.nt_seq.specs.Closing.{IsFileOf, AreCounts, AnswersClosing, EndsFile, IsShutOrWhole, LeavesFile}
 use Rattle.nt_seq.proofs.Closed.{whole}
 use Rattle.nt_seq.proofs.Files.{shut-unclosed}
@@ -66,8 +66,8 @@ module _ {D : Type 0} (state : D → DiskState) (w : SeqState D) (F : List Membe
     held : (state w.disk).held ≡ Some h
     held = is.held nothing_held empty
 
-    unclosed : IsUnclosed h
-    unclosed = record { table = w.table; ranges = is.ranges; steps = inl refl }
+    unclosed : IsUnclosedOf w.table h
+    unclosed = record { ranges = is.ranges; steps = inl refl }
 
     -- the closed file is that of the script
     whole_file : IsFileOf state w (closed_on behind before h).image → (bytes : List ℕ) → IsClosedBy w.table is.ranges behind before bytes
@@ -109,7 +109,7 @@ module _ {D : Type 0} (state : D → DiskState) (w : SeqState D) (F : List Membe
         }
 
     still : (state disk).held ≡ (state w.disk).held → HoldsNow (state disk).held (λ left. BeginsOpen left.image)
-    still same = (h, same ∙ held, shut_open h.image (shut-unclosed h unclosed))
+    still same = (h, same ∙ held, shut_open h.image (shut-unclosed w.table h unclosed))
 
     abbrev Ends : CloseError → Type 0
     Ends e = LeavesScriptFile F w.params text (state disk) (Err (script_error_of_close e))
@@ -121,21 +121,21 @@ module _ {D : Type 0} (state : D → DiskState) (w : SeqState D) (F : List Membe
     unclosed_here (close.Spoiled cluster faults) none cause left ends = absurd (none_spoiled w.book cluster faults none cause)
     unclosed_here close.Memory none cause left ends = record {
       told = still left.place.held;
-      crash = (h, left.place.held ∙ held, leave.unclosed h unclosed);
+      crash = (h, left.place.held ∙ held, leave.unclosed w.table h unclosed);
     }
     unclosed_here (close.RangeTooLarge len most) none cause left ends = record {
       told = (
         over_here state w F text first rows done is kept len most (limit.RangeTooLarge len most) cause.1 (inl refl),
         still left.place.held,
       );
-      crash = (h, left.place.held ∙ held, leave.unclosed h unclosed);
+      crash = (h, left.place.held ∙ held, leave.unclosed w.table h unclosed);
     }
     unclosed_here (close.FileTooLarge end most) none cause left ends = record {
       told = (
         over_here state w F text first rows done is kept end most (limit.FileTooLarge end most) cause.1 (inr refl),
         still left.place.held,
       );
-      crash = (h, left.place.held ∙ held, leave.unclosed h unclosed);
+      crash = (h, left.place.held ∙ held, leave.unclosed w.table h unclosed);
     }
     unclosed_here close.Fault none cause left ends =
         let cut = left.held h held in

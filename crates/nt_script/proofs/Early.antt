@@ -13,7 +13,7 @@ use Rattle.nt_book.specs.declared.params.Params.{Params}
 use Rattle.nt_close.specs.Laws.{IsShut}
 use Rattle.nt_cuts.specs.Cuts.{LeavesUnfinished}
 use Rattle.nt_seq.specs.Writer.{SeqState}
-use Rattle.nt_seq.specs.Written.{IsUnclosed}
+use Rattle.nt_seq.specs.Written.{IsUnclosedOf}
 use Rattle.nt_seq.proofs.Files.{shut-unclosed, order-unclosed}
 use Rattle.nt_store.proofs.Begun.{shut_open}
 use Rattle.nt_script.specs.declared.storing.Counts.{Counts}
@@ -107,15 +107,15 @@ files_done {D} state F old new w now disk result begins given done ends = record
 pub files_early : {D : Type 0} (state : D → DiskState) (F : List MemberData) (old new : LinesState) (w now : SeqState D) (disk : D)
     (clusters : ℕ) (e : ScriptError) → AppendsLeave → w.params.limits.clusters ≡ clusters → now.given ≡ w.given
     → EndsEarlyFor state F old.left w.table w.params old new now e → disk ≡ now.disk
-    → BecomesSome (state now.given).held (state disk).held (λ h left. IsUnclosed left)
+    → BecomesSome (state now.given).held (state disk).held (λ h left. IsUnclosedOf now.begun left)
     → FilesScript state w F old new disk (Err (error_of_script clusters e))
 files_early {D} state F old new w now disk clusters e leave few given ends same unclosed =
     subst (λ (n : ℕ). FilesScript state w F old new disk (Err (error_of_script n e))) few (record {
       left = λ text is empty.
           let left = unclosed nothing_held (empty_now empty) in
-          early_left state F w.table w.params old new now (state disk) text is left.0 left.1 (shut-unclosed left.0 left.2)
-          (leave.unclosed left.0 left.2) e ends;
-      order = λ empty. let left = unclosed nothing_held (empty_now empty) in (left.0, left.1, order-unclosed left.0 left.2);
+          early_left state F w.table w.params old new now (state disk) text is left.0 left.1 (shut-unclosed now.begun left.0 left.2)
+          (leave.unclosed now.begun left.0 left.2) e ends;
+      order = λ empty. let left = unclosed nothing_held (empty_now empty) in (left.0, left.1, order-unclosed now.begun left.0 left.2);
       failed = λ bad.
           elim (early_failed state F old.left w.table w.params old new now w.params.limits.clusters e ends (cc bad)) [
             | inl some ↦ inl (subst (λ (d : D). 0 < (state d).faults) (sym same) some)

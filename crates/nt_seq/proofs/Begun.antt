@@ -110,6 +110,7 @@ pub writing-begun : {D : Type 0} (state : D → DiskState) (fields : List Member
       given = disk;
       disk = new;
       book = book;
+      begun = t;
       table = t;
       params = p;
       columns = columns;
@@ -119,6 +120,7 @@ pub writing-begun : {D : Type 0} (state : D → DiskState) (fields : List Member
 writing-begun state fields p disk new book t columns is empty out described ready = record {
   ranges = [];
   held = held-begun fields p (state disk) (state new) book t is empty;
+  header = refl;
   closable = closable-begun fields p (state disk) (state new) book t is empty out ready.whole;
   within = is.within;
   limits = ap (λ (b : BookData). b.limits) is.book_is;

@@ -42,7 +42,7 @@ use Rattle.nt_seq.specs.Closing.{IsFileOf, IsShutOrWhole}
 use Rattle.nt_seq.specs.Crashes.{IsClosedBy, AppendsLeave}
 use Rattle.nt_seq.specs.Standing.{IsSettledCluster, IsWriting}
 use Rattle.nt_seq.specs.Writer.{SeqState}
-use Rattle.nt_seq.specs.Written.{HasWritten, file_so_far, IsUnclosed}
+use Rattle.nt_seq.specs.Written.{HasWritten, file_so_far, IsUnclosedOf}
 use Rattle.nt_seq.proofs.AddedRows.{described-first}
 use Rattle.nt_seq.proofs.Files.{image-file, shut-unclosed, order-unclosed}
 
@@ -84,8 +84,8 @@ module _ {D : Type 0} (state : D → DiskState) (w : SeqState D) (is : IsWriting
   held : (state w.disk).held ≡ Some h
   held = is.held first told
 
-  unclosed : IsUnclosed h
-  unclosed = record { table = w.table; ranges = is.ranges; steps = inl refl }
+  unclosed : IsUnclosedOf w.table h
+  unclosed = record { ranges = is.ranges; steps = inl refl }
 
   lens : (clusters : List (List TreesData)) (has : HasWritten state w clusters) → AreRangesOf w.book has.ranges
   lens clusters has =
@@ -130,10 +130,10 @@ module _ {D : Type 0} (state : D → DiskState) (w : SeqState D) (is : IsWriting
   -- ---- the steps of a close
 
   some : 0 < length h.image
-  some = let shut = shut-unclosed h unclosed in omega (arith, ap length shut.1)
+  some = let shut = shut-unclosed w.table h unclosed in omega (arith, ap length shut.1)
 
   in-order : (left : Held) → IsClosedSoFar behind before h left → FirstByteLast left.log
-  in-order left so_far = closes_in_order behind before h some (reads h held) (order-unclosed h unclosed) left so_far
+  in-order left so_far = closes_in_order behind before h some (reads h held) (order-unclosed w.table h unclosed) left so_far
 
   abbrev IsLeft : DiskState → (Held → Type 0) → Type 0
   IsLeft new P = (left : Held) × (new.held ≡ Some left) × FirstByteLast left.log × P left
@@ -165,7 +165,7 @@ module _ {D : Type 0} (state : D → DiskState) (w : SeqState D) (is : IsWriting
     stays-open : (new : DiskState) → new.held ≡ (state w.disk).held
         → IsLeft new (λ left. IsShutOrWhole state w left × LeavesUnfinished left.log)
     stays-open new same =
-        (h, same ∙ held, order-unclosed h unclosed, (inl (shut-unclosed h unclosed), leave.unclosed h unclosed))
+        (h, same ∙ held, order-unclosed w.table h unclosed, (inl (shut-unclosed w.table h unclosed), leave.unclosed w.table h unclosed))
 
     pub left-open : (new : DiskState) (e : CloseError) → LeavesClosed behind before (state w.disk) new (Err e)
         → HasCloseCause w.book (passed_by_close w.params w.table w.book) (Err e) → IsLeft new (LeftOpen e)
@@ -175,7 +175,7 @@ module _ {D : Type 0} (state : D → DiskState) (w : SeqState D) (is : IsWriting
     left-open new (FileTooLarge end most) left cause = stays-open new left.place.held
     left-open new Fault left cause =
         let cut = left.held h held in
-        let shown = cut_shut behind before h cut.0 (shut-unclosed h unclosed) cut.2 in
+        let shown = cut_shut behind before h cut.0 (shut-unclosed w.table h unclosed) cut.2 in
         let image : IsShutOrWhole state w cut.0 =
         elim shown as (λ _. IsShutOrWhole state w cut.0) [
           | inl shut ↦ inl shut

@@ -20,7 +20,7 @@ use Rattle.nt_close.specs.Steps.{not_kept_shut, torn_first, not_kept_open, close
 use Rattle.nt_close.proofs.FirstByte.{closes_in_order}
 use Rattle.nt_cuts.specs.Cuts.{ReadsButFirst, LeavesUnfinished, LeavesUnfinishedOr, LeavesOnly}
 use Rattle.nt_cuts.proofs.Reading.{unfinished-zero}
-use Rattle.nt_seq.specs.Written.{file_so_far, IsUnclosed}
+use Rattle.nt_seq.specs.Written.{file_so_far, IsUnclosedOf}
 use Rattle.nt_seq.specs.Crashes.{IsClosedBy, AppendsLeave}
 use Rattle.nt_seq.proofs.Plain.{known-appended, known-synced, known-written, AreBehind, behind-push, behind-take, never_over, HasFirst}
 use Rattle.nt_seq.proofs.Plain.{first-push, IsPlain, plain-file, IsAny, Left, or_whole, one_more}
@@ -58,19 +58,19 @@ module _ (order : OrderedLeaves) where
   ]
 
   -- a file that isn't closed
-  pub unclosed-left : (h : Held) → IsUnclosed h → FirstByteLast h.log → LeavesUnfinished h.log
-  unclosed-left h is last = at is.steps
+  pub unclosed-left : (t : Table) (h : Held) → IsUnclosedOf t h → FirstByteLast h.log → LeavesUnfinished h.log
+  unclosed-left t h is last = at is.steps
     where
-      plain : IsPlain (file_so_far is.table is.ranges)
-      plain = plain-file is.table is.ranges
+      plain : IsPlain (file_so_far t is.ranges)
+      plain = plain-file t is.ranges
 
-      at : (h ≡ file_so_far is.table is.ranges) ⊎ ((most : ℕ) × IsTornAppend most (file_so_far is.table is.ranges) h)
+      at : (h ≡ file_so_far t is.ranges) ⊎ ((most : ℕ) × IsTornAppend most (file_so_far t is.ranges) h)
           → LeavesUnfinished h.log
       at (inl same) =
           behind-left h.log (subst (λ (k : Held). HasFirst k.log) (sym same) plain.first) last
           (subst (λ (k : Held). AreBehind k.log) (sym same) plain.behind)
       at (inr torn) =
-          let log = (file_so_far is.table is.ranges).log in
+          let log = (file_so_far t is.ranges).log in
           let s = FailedAppend (length torn.1.junk) in
           behind-left h.log (subst HasFirst (sym torn.1.log) (first-push log s plain.first)) last
           (subst AreBehind (sym torn.1.log) (behind-push log s plain.behind (λ over. over)))
@@ -198,18 +198,18 @@ module _ (order : OrderedLeaves) where
 
 -- all of it
 pub appends_leave : ((t : Table) (left : Held) → IsBegunSoFar (begun 0 0 0) (header_blob t) nothing_held left → LeavesUnfinished left.log)
-    → OrderedLeaves → WrittenLeaves → TornLeaves → ((h : Held) → IsUnclosed h → IsShut h.image)
-    → ((h : Held) → IsUnclosed h → FirstByteLast h.log) → AppendsLeave
+    → OrderedLeaves → WrittenLeaves → TornLeaves → ((t : Table) (h : Held) → IsUnclosedOf t h → IsShut h.image)
+    → ((t : Table) (h : Held) → IsUnclosedOf t h → FirstByteLast h.log) → AppendsLeave
 appends_leave beginning order writes torn shut last = record {
   beginning = beginning;
-  unclosed = λ h is. unclosed-left order h is (last h is);
+  unclosed = λ t h is. unclosed-left order t h is (last t h is);
   closing = λ t ranges tail front left so_far.
-      closing-left order writes torn t ranges tail front (shut (file_so_far t ranges) (unclosed t ranges))
-      (last (file_so_far t ranges) (unclosed t ranges)) left so_far;
+      closing-left order writes torn t ranges tail front (shut t (file_so_far t ranges) (unclosed t ranges))
+      (last t (file_so_far t ranges) (unclosed t ranges)) left so_far;
   closed = λ t ranges tail front.
-      closed-only order writes torn t ranges tail front (shut (file_so_far t ranges) (unclosed t ranges))
-      (last (file_so_far t ranges) (unclosed t ranges));
+      closed-only order writes torn t ranges tail front (shut t (file_so_far t ranges) (unclosed t ranges))
+      (last t (file_so_far t ranges) (unclosed t ranges));
 }
   where
-    unclosed : (t : Table) (ranges : List (List ℕ)) → IsUnclosed (file_so_far t ranges)
-    unclosed t ranges = record { table = t; ranges = ranges; steps = inl refl }
+    unclosed : (t : Table) (ranges : List (List ℕ)) → IsUnclosedOf t (file_so_far t ranges)
+    unclosed t ranges = record { ranges = ranges; steps = inl refl }

@@ -1,22 +1,37 @@
 -- A file that isn't closed: its bytes, its first byte, and the order of its steps.
-use Rattle.std.proofs.Common.{◌≡◌, ◌∙◌, ap, sym, refl, subst, ℕ, ◌<◌, List, [], ◌∷◌, ◌++◌, map, length, inl, inr, arith}
+use Rattle.std.proofs.Common.{◌≡◌, ◌∙◌, ◌⊎◌, ap, sym, refl, subst, ℕ, ◌<◌, List, [], ◌∷◌, ◌++◌, map, length, inl, inr, arith}
 use Rattle.std.proofs.Common.{append-nil, append_assoc}
 use Rattle.std.proofs.lemmas.List.{length-append, length-map}
 use Rattle.std.specs.List.{concat}
 use Rattle.nt_outside.specs.Log.{Step, Append}
-use Rattle.nt_outside.specs.Held.{Held, nothing_held, appended}
+use Rattle.nt_outside.specs.Held.{Held, IsTornAppend, nothing_held, appended}
 use Rattle.nt_outside.specs.Order.{FirstByteLast}
 use Rattle.nt_outside.specs.Reads.{Known, exactly, after_step, known_from, known_of}
 use Rattle.nt_outside.proofs.Order.{one_follows, torn_append_follows}
+use Rattle.nt_container.specs.Lengths.{begun_len}
 use Rattle.nt_container.specs.Spelling.{begun}
 use Rattle.nt_container.proofs.Gate.{begin-len}
 use Rattle.nt_grammar.specs.Table.{Table}
-use Rattle.nt_layout.specs.Headers.{header_blob, file_begun}
+use Rattle.nt_pagelists.specs.Blobs.{blob}
+use Rattle.nt_layout.specs.Headers.{header_blob, header_object, file_begun}
 use Rattle.nt_close.specs.Steps.{begun_on, begun_whole}
 use Rattle.nt_close.specs.Laws.{IsShut}
 use Rattle.nt_close.proofs.FirstByte.{begins_shut, begins_in_order}
 use Rattle.nt_append.specs.Appending.{all_appended}
-use Rattle.nt_seq.specs.Written.{file_so_far, IsUnclosed}
+use Rattle.nt_seq.specs.Written.{file_so_far, IsUnclosedOf}
+
+-- a file with the same header
+pub file-kept : (t new : Table) → header_object new ≡ header_object t → (ranges : List (List ℕ))
+    → file_so_far new ranges ≡ file_so_far t ranges
+file-kept t new same ranges =
+    ap (λ (object : List ℕ). all_appended ranges (begun_on (begun 0 0 0) (blob begun_len object) nothing_held)) same
+
+-- one that isn't closed is just as well the file of a schema with the same header
+pub unclosed-kept : (t new : Table) → header_object new ≡ header_object t → (h : Held) → IsUnclosedOf new h → IsUnclosedOf t h
+unclosed-kept t new same h is = record {
+  ranges = is.ranges;
+  steps = subst (λ (f : Held). (h ≡ f) ⊎ ((most : ℕ) × IsTornAppend most f h)) (file-kept t new same is.ranges) is.steps;
+}
 
 -- the ranges stand behind what was there
 image-all_appended : (ranges : List (List ℕ)) (h : Held) → (all_appended ranges h).image ≡ h.image ++ concat ranges
@@ -43,11 +58,11 @@ shut-file t ranges =
     shut-behind (begun_on (begun 0 0 0) (header_blob t) nothing_held).image (concat ranges) (file_so_far t ranges).image
     (shut-begun (header_blob t)) (image-all_appended ranges (begun_on (begun 0 0 0) (header_blob t) nothing_held))
 
-pub shut-unclosed : (h : Held) → IsUnclosed h → IsShut h.image
-shut-unclosed h is =
+pub shut-unclosed : (t : Table) (h : Held) → IsUnclosedOf t h → IsShut h.image
+shut-unclosed t h is =
     elim is.steps [
-      | inl whole ↦ subst (λ (k : Held). IsShut k.image) (sym whole) (shut-file is.table is.ranges)
-      | inr torn ↦ shut-behind (file_so_far is.table is.ranges).image torn.1.junk h.image (shut-file is.table is.ranges) torn.1.image
+      | inl whole ↦ subst (λ (k : Held). IsShut k.image) (sym whole) (shut-file t is.ranges)
+      | inr torn ↦ shut-behind (file_so_far t is.ranges).image torn.1.junk h.image (shut-file t is.ranges) torn.1.image
     ]
 
 -- ---- the order of its steps
@@ -74,9 +89,9 @@ order-file t ranges =
     let long = length-map (begun 0 0 0) exactly in
     order-all_appended ranges h (omega (arith, head, long, begin-len 0 0 0)) (begins_in_order (header_blob t) h (begun_whole refl))
 
-pub order-unclosed : (h : Held) → IsUnclosed h → FirstByteLast h.log
-order-unclosed h is =
+pub order-unclosed : (t : Table) (h : Held) → IsUnclosedOf t h → FirstByteLast h.log
+order-unclosed t h is =
     elim is.steps [
-      | inl whole ↦ subst (λ (k : Held). FirstByteLast k.log) (sym whole) (order-file is.table is.ranges)
-      | inr torn ↦ torn_append_follows torn.0 (file_so_far is.table is.ranges) h torn.1 (order-file is.table is.ranges)
+      | inl whole ↦ subst (λ (k : Held). FirstByteLast k.log) (sym whole) (order-file t is.ranges)
+      | inr torn ↦ torn_append_follows torn.0 (file_so_far t is.ranges) h torn.1 (order-file t is.ranges)
     ]

@@ -14,6 +14,7 @@ pub writing-filled : {D : Type 0} (state : D → DiskState) (w : SeqState D) (co
 writing-filled state w columns entries is gives full = record {
   ranges = is.ranges;
   held = is.held;
+  header = is.header;
   closable = is.closable;
   within = is.within;
   limits = is.limits;

@@ -41,7 +41,8 @@ use Rattle.nt_append.proofs.Images.{appended-behind}
 use Rattle.nt_seq.specs.Changing.{gathered_image}
 use Rattle.nt_seq.specs.Standing.{IsSettledCluster, IsShortCluster, IsWriting}
 use Rattle.nt_seq.specs.Writer.{SeqState, gathered_by}
-use Rattle.nt_seq.specs.Written.{file_so_far, HasClusters, IsUnclosed}
+use Rattle.nt_seq.specs.Written.{file_so_far, HasClusters, IsUnclosedOf}
+use Rattle.nt_seq.proofs.Files.{unclosed-kept}
 use Rattle.nt_seq.proofs.Blobs.{late-push, blobs-push, late-blob-now}
 
 module _ (given old new : DiskState) (t : Table) (page : ℕ) (book next : BookData) (columns : List Column) (entries : List TreesData)
@@ -182,6 +183,7 @@ module _ {D : Type 0} (state : D → DiskState) (w : SeqState D) (disk : D) (nex
         ranges = is.ranges ++ (due_blobs w.book ++ range_behind i w.book ∷ []);
         held = held-more (state w.given) old_disk new_disk w.table page w.book next w.columns es i is.gives bytes meta is.begun appends
             is.ranges is.held;
+        header = is.header;
         closable = closable;
         within = is.within;
         limits = ap (λ (b : BookData). b.limits) appends.gains.same ∙ is.limits;
@@ -200,10 +202,11 @@ module _ {D : Type 0} (state : D → DiskState) (w : SeqState D) (disk : D) (nex
       }
 
   -- its file isn't closed
-  pub unclosed-more : BecomesSome (state w.given).held (state disk).held (λ h h'. IsUnclosed h')
+  pub unclosed-more : BecomesSome (state w.given).held (state disk).held (λ h h'. IsUnclosedOf w.begun h')
   unclosed-more h told =
       let held = writing-more.held h told in
-      (_, held, record { table = w.table; ranges = writing-more.ranges; steps = inl refl })
+      let ranges = writing-more.ranges in
+      (_, held, unclosed-kept w.begun w.table is.header (file_so_far w.table ranges) (record { ranges = ranges; steps = inl refl }))
 
 -- what is gathered makes an image that the book takes
 module _ {D : Type 0} (state : D → DiskState) (w : SeqState D) (is : IsWriting state w) (i : ClusterImage)

@@ -16,8 +16,9 @@ use Rattle.nt_append.proofs.Images.{appended-behind}
 use Rattle.nt_pages.specs.declared.image.ClusterImage.{ClusterImage}
 use Rattle.nt_seq.specs.Standing.{IsSettledCluster, IsShortCluster, IsWriting, IsSequential}
 use Rattle.nt_seq.specs.Writer.{SeqState}
-use Rattle.nt_seq.specs.Written.{file_so_far, HasClusters, IsUnclosed}
+use Rattle.nt_seq.specs.Written.{file_so_far, HasClusters, IsUnclosedOf}
 use Rattle.nt_seq.specs.Changing.{StaysAsItWas}
+use Rattle.nt_seq.proofs.Files.{unclosed-kept}
 use Rattle.nt_types.specs.TreeData.{TreesData}
 use Rattle.nt_pagelists.specs.Due.{due_len}
 use Rattle.nt_layout.specs.Headers.{header_blob}
@@ -28,22 +29,21 @@ use Rattle.nt_finished.specs.LateFiles.{AreLateBlobs}
 -- a writer whose disk failed
 unclosed-cut : (given old new : DiskState) (t : Table) (ranges : List (List ℕ)) (len : ℕ)
     → Becomes given.held old.held (λ h. file_so_far t ranges) → BecomesSome old.held new.held (IsTornAppend len)
-    → BecomesSome given.held new.held (λ h h'. IsUnclosed h')
+    → BecomesSome given.held new.held (λ h h'. IsUnclosedOf t h')
 unclosed-cut given old new t ranges len told cut h is =
     let left = cut (file_so_far t ranges) (told h is) in
-    (left.0, left.1, record { table = t; ranges = ranges; steps = inr (len, left.2) })
+    (left.0, left.1, record { ranges = ranges; steps = inr (len, left.2) })
 
 -- one that failed behind the page list that was due
 unclosed-behind : (given old new : DiskState) (t : Table) (ranges : List (List ℕ)) (i : ClusterImage) (book next : BookData)
     → Becomes given.held old.held (λ h. file_so_far t ranges) → CutsImage i old new book next
-    → BecomesSome given.held new.held (λ h h'. IsUnclosed h')
+    → BecomesSome given.held new.held (λ h h'. IsUnclosedOf t h')
 unclosed-behind given old new t ranges i book next told cut h is =
     let left = cut.held (file_so_far t ranges) (told h is) in
     let same = appended-behind ranges (due_blobs book) (begun_on (begun 0 0 0) (header_blob t) nothing_held) in (
       left.0,
       left.1,
       record {
-        table = t;
         ranges = ranges ++ due_blobs book;
         steps = inr (i.meta.len, subst (λ (k : Held). IsTornAppend i.meta.len k left.0) same left.2);
       },
@@ -52,11 +52,11 @@ unclosed-behind given old new t ranges i book next told cut h is =
 -- or either
 unclosed-failed : (given old new : DiskState) (t : Table) (ranges : List (List ℕ)) (i : ClusterImage) (book next : BookData)
     → Becomes given.held old.held (λ h. file_so_far t ranges) → FailsOnDisk i old new book next
-    → BecomesSome given.held new.held (λ h h'. IsUnclosed h')
+    → BecomesSome given.held new.held (λ h h'. IsUnclosedOf t h')
 unclosed-failed given old new t ranges i book next told fails = at fails.how
   where
     at : TearsList i.meta.context old new book next ⊎ CutsImage i old new book next
-        → BecomesSome given.held new.held (λ h h'. IsUnclosed h')
+        → BecomesSome given.held new.held (λ h h'. IsUnclosedOf t h')
     at (inl torn) = unclosed-cut given old new t ranges (due_len book) told torn.held
     at (inr cut) = unclosed-behind given old new t ranges i book next told cut
 
@@ -69,6 +69,7 @@ module _ {D : Type 0} (state : D → DiskState) (w : SeqState D) (disk : D) (roo
       record {
         ranges = is.ranges;
         held = λ h told. kept.held ∙ is.held h told;
+        header = is.header;
         closable = record {
           begin = ap (λ (b : BookData). b.begin) book ∙ is.closable.begin;
           ungrouped = subst IsUngrouped (sym book)
@@ -99,6 +100,7 @@ pub writing-alive : {D : Type 0} (state : D → DiskState) (w : SeqState D) (ali
 writing-alive state w alive is = record {
   ranges = is.ranges;
   held = is.held;
+  header = is.header;
   closable = is.closable;
   within = is.within;
   limits = is.limits;
@@ -126,7 +128,7 @@ module _ {D : Type 0} (state : D → DiskState) (w : SeqState D) (is : IsWriting
     unclosed = λ h told. (
       _,
       kept.held ∙ is.held h told,
-      record { table = w.table; ranges = is.ranges; steps = inl refl },
+      unclosed-kept w.begun w.table is.header (file_so_far w.table is.ranges) (record { ranges = is.ranges; steps = inl refl }),
     );
     writing = λ _. writing-alive state (record w { disk = disk; book = room }) alive (writing-kept state w disk room is kept);
   }
@@ -141,7 +143,9 @@ module _ {D : Type 0} (state : D → DiskState) (w : SeqState D) (is : IsWriting
   after-error Fault kept cut =
       let torn = cut refl in
       record {
-        unclosed = unclosed-failed (state w.given) (state w.disk) (state disk) w.table is.ranges i w.book room is.held torn.0;
+        unclosed = λ h told.
+            let cut = unclosed-failed (state w.given) (state w.disk) (state disk) w.table is.ranges i w.book room is.held torn.0 h told in
+            (cut.0, cut.1, unclosed-kept w.begun w.table is.header cut.0 cut.2);
         writing = λ on. absurd (false≢true (sym torn.1 ∙ on));
       }
 

@@ -6,10 +6,9 @@ use Rattle.std.specs.List.{AllByRecursion, sum_by}
 use Rattle.std.proofs.lemmas.List.Sums.{sum_by-cons}
 use Rattle.nt_types.specs.ShapeData.{MemberData}
 use Rattle.nt_types.specs.TreeData.{TreeData, TreesData, no_trees, tree}
-use Rattle.nt_outside.specs.Held.{Becomes, nothing_held}
+use Rattle.nt_outside.specs.Held.{Becomes}
 use Rattle.nt_outside.specs.Disk.{DiskState}
 use Rattle.nt_container.specs.Lengths.{begun_len}
-use Rattle.nt_container.specs.Spelling.{begun}
 use Rattle.nt_grammar.specs.Added.{Added}
 use Rattle.nt_grammar.specs.ReadingBack.{IsDescribed}
 use Rattle.nt_grammar.specs.Table.{Table, IsFew}
@@ -26,19 +25,18 @@ use Rattle.nt_book.specs.declared.limits.Limits.{Limits}
 use Rattle.nt_book.specs.declared.meta.ClusterMeta.{ClusterMeta}
 use Rattle.nt_book.specs.Books.{BookData, IsUngrouped, book_clusters, book_end, no_cluster, entry_count}
 use Rattle.nt_book.specs.Kept.{IsKeptCluster, IsBookKept}
-use Rattle.nt_pagelists.specs.Blobs.{blob, blob_len}
+use Rattle.nt_pagelists.specs.Blobs.{blob_len}
 use Rattle.nt_layout.specs.Headers.{header_object, clusters_place}
 use Rattle.nt_close.specs.Passing.{first_passed, passed_by_begin}
-use Rattle.nt_close.specs.Steps.{begun_on}
 use Rattle.nt_finished.specs.LateFiles.{AreLateBlobs}
 use Rattle.nt_finished.specs.LeftOut.{IsLeftOut, filled}
 use Rattle.nt_finished.specs.Zeros.{zero_of, zero_tree}
 use Rattle.nt_seq.specs.Standing.{IsSettledCluster, IsShortCluster, IsWriting}
 use Rattle.nt_seq.specs.Widening.{first_elements}
 use Rattle.nt_seq.specs.Writer.{SeqState, gathered_by}
-use Rattle.nt_append.specs.Appending.{all_appended}
 use Rattle.nt_seq.specs.Written.{file_so_far, HasClusters, HasWritten, zero_behind}
 use Rattle.nt_seq.proofs.AddedRows.{header-kept, not_first, all-firsts, all-begun, some-more}
+use Rattle.nt_seq.proofs.Files.{file-kept}
 use Rattle.nt_seq.proofs.Grown.{late-grown}
 
 -- ---- how many entries a book can have
@@ -74,12 +72,9 @@ module _ (t new : Table) (same : header_object new ≡ header_object t) where
   within-kept limits within =
       ap (λ (object : List ℕ). first_passed limits (blob_len (length object) ∷ []) (begun_len + blob_len (length object))) same ∙ within
 
-  pub file-kept : (ranges : List (List ℕ)) → file_so_far new ranges ≡ file_so_far t ranges
-  file-kept ranges = ap (λ (object : List ℕ). all_appended ranges (begun_on (begun 0 0 0) (blob begun_len object) nothing_held)) same
-
   pub held-kept : (given disk : DiskState) (ranges : List (List ℕ)) → Becomes given.held disk.held (λ h. file_so_far t ranges)
       → Becomes given.held disk.held (λ h. file_so_far new ranges)
-  held-kept given disk ranges told h is = told h is ∙ ap Some (sym (file-kept ranges))
+  held-kept given disk ranges told h is = told h is ∙ ap Some (sym (file-kept t new same ranges))
 
 -- the clusters have the zero of the field
 pub clusters-grown : (given disk : DiskState) (t new : Table) (page : ℕ) (book next : BookData) (field : MemberData) (p : PlanData)
@@ -126,6 +121,7 @@ module _ {D : Type 0} (state : D → DiskState) (w : SeqState D) (next : BookDat
   writing-widened = record {
     ranges = is.ranges;
     held = held-kept w.table new same-header (state w.given) (state w.disk) is.ranges is.held;
+    header = same-header ∙ is.header;
     closable = record {
       begin = ap (λ (b : BookData). b.begin) next_is ∙ (is.closable.begin ∙ sym (place-kept w.table new same-header));
       ungrouped = subst IsUngrouped (sym next_is)

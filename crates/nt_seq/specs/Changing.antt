@@ -32,12 +32,13 @@ gathered_image w = record {
 }
 
 module _ {D : Type 0} (state : D → DiskState) where
-  -- the file of these fields is begun; no cluster is written, and no entry gathered
+  -- the file of these fields is begun, with the schema as it is; no cluster is written, and no entry gathered
   pub record BeginsFile (ps : List MemberData) (p : Params) (disk : D) (new : SeqState D) : Type 0 where
     pub begun : IsBegun ps p (state disk) (state new.disk) new.book new.table
     pub written : HasWritten state new []
     pub params : new.params ≡ p
     pub given : new.given ≡ disk
+    pub first : new.begun ≡ new.table
     pub none : gathered_by new ≡ []
     pub alive : new.alive ≡ true
 
@@ -85,7 +86,7 @@ module _ {D : Type 0} (state : D → DiskState) where
   ExtendsWriter field old new (Err Repeated) = (refused old.table field ≡ Some Repeated) × (new ≡ old)
   ExtendsWriter field old new (Err TooMany) = (refused old.table field ≡ Some TooMany) × (new ≡ old)
   ExtendsWriter field old new (Err Memory) =
-      (refused old.table field ≡ None) × (new.given ≡ old.given) × (new.disk ≡ old.disk) × (new.alive ≡ false)
+      (refused old.table field ≡ None) × (new.given ≡ old.given) × (new.disk ≡ old.disk) × (new.begun ≡ old.begun) × (new.alive ≡ false)
 
 module _ {D : Type 0} where
   -- the answer names the limit of its book that the cluster of the gathered entries passes, or the page list that is due, or none

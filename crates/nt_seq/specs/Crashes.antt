@@ -6,7 +6,7 @@ use Rattle.nt_grammar.specs.Table.{Table}
 use Rattle.nt_layout.specs.Headers.{header_blob}
 use Rattle.nt_close.specs.Steps.{closed_on, IsBegunSoFar, IsClosedSoFar}
 use Rattle.nt_cuts.specs.Cuts.{LeavesUnfinished, LeavesUnfinishedOr, LeavesOnly}
-use Rattle.nt_seq.specs.Written.{file_so_far, IsUnclosed}
+use Rattle.nt_seq.specs.Written.{file_so_far, IsUnclosedOf}
 
 -- these bytes are a file of this schema with these ranges, closed by these parts
 abbrev pub IsClosedBy : Table → List (List ℕ) → List ℕ → List ℕ → List ℕ → Type 0
@@ -16,7 +16,7 @@ IsClosedBy t ranges tail front bytes = bytes ≡ (closed_on tail front (file_so_
 -- and behind all steps just that
 pub record AppendsLeave : Type 0 where
   pub beginning : (t : Table) (left : Held) → IsBegunSoFar (begun 0 0 0) (header_blob t) nothing_held left → LeavesUnfinished left.log
-  pub unclosed : (h : Held) → IsUnclosed h → LeavesUnfinished h.log
+  pub unclosed : (t : Table) (h : Held) → IsUnclosedOf t h → LeavesUnfinished h.log
   pub closing : (t : Table) (ranges : List (List ℕ)) (tail front : List ℕ) (left : Held)
       → IsClosedSoFar tail front (file_so_far t ranges) left → LeavesUnfinishedOr (IsClosedBy t ranges tail front) left.log
   pub closed : (t : Table) (ranges : List (List ℕ)) (tail front : List ℕ)

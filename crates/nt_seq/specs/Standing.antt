@@ -14,11 +14,12 @@ use Rattle.nt_book.specs.declared.meta.ClusterMeta.{ClusterMeta}
 use Rattle.nt_book.specs.Books.{book_clusters, book_end, entry_count}
 use Rattle.nt_plans.specs.Place.{open_plans}
 use Rattle.nt_plans.specs.Types.{are_some}
+use Rattle.nt_layout.specs.Headers.{header_object}
 use Rattle.nt_layout.specs.Laid.{Gives}
 use Rattle.nt_close.specs.Passing.{passed_by_begin}
 use Rattle.nt_close.specs.Closing.{IsClosable}
 use Rattle.nt_seq.specs.Writer.{SeqState, gathered_by}
-use Rattle.nt_seq.specs.Written.{IsUnclosed, file_so_far}
+use Rattle.nt_seq.specs.Written.{IsUnclosedOf, file_so_far}
 
 -- the range of a cluster was handed back filled
 abbrev pub IsSettledCluster : Cluster ClusterMeta → Type 0
@@ -42,12 +43,13 @@ pub record IsFitToBegin (t : Table) (columns : List Column) : Type 0 where
   pub gives : Gives t columns []
 
 module _ {D : Type 0} (state : D → DiskState) where
-  -- a writer that is alive: its file is begun, with ranges behind the header, and can be closed; each range of the book is settled and
-  -- within the limit, and so are their end and their number; the first elements of the columns are those of the schema and stand behind
-  -- no more entries than are written, and the columns give what is gathered
+  -- a writer that is alive: its file is begun, with ranges behind the header, which is still that of the schema with which it was begun,
+  -- and can be closed; each range of the book is settled and within the limit, and so are their end and their number; the first elements
+  -- of the columns are those of the schema and stand behind no more entries than are written, and the columns give what is gathered
   pub record IsWriting (w : SeqState D) : Type 0 where
     pub ranges : List (List ℕ)
     pub held : Becomes (state w.given).held (state w.disk).held (λ h. file_so_far w.table ranges)
+    pub header : header_object w.table ≡ header_object w.begun
     pub closable : IsClosable (state w.disk) w.book w.table
     pub within : passed_by_begin w.params.limits w.table ≡ None
     pub limits : w.book.limits ≡ w.params.limits
@@ -63,7 +65,7 @@ module _ {D : Type 0} (state : D → DiskState) where
     pub gives : Gives w.table w.columns (gathered_by w)
     pub full : w.entries ≤ w.params.cluster
 
-  -- a writer: its file isn't closed, as far as it is told, and while it is alive it can be
+  -- a writer: its file, begun with the schema that it had first, isn't closed, as far as it is told, and while it is alive it can be
   pub record IsSequential (w : SeqState D) : Type 0 where
-    pub unclosed : BecomesSome (state w.given).held (state w.disk).held (λ h h'. IsUnclosed h')
+    pub unclosed : BecomesSome (state w.given).held (state w.disk).held (λ h h'. IsUnclosedOf w.begun h')
     pub writing : w.alive ≡ true → IsWriting w

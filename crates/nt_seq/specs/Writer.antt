@@ -9,12 +9,13 @@ use Rattle.nt_book.specs.Books.{BookData}
 use Rattle.nt_trees.specs.Fits.{fits_entry}
 use Rattle.nt_fill.specs.Context.{entries_given}
 
--- a writer: the disk as it was given, and as it is, its book, the schema as it is now, the parameters, its columns with so many entries
--- in them, and whether it is alive
+-- a writer: the disk as it was given, and as it is, its book, the schema with which its file was begun, and as it is now, the parameters,
+-- its columns with so many entries in them, and whether it is alive
 pub record SeqState (D : Type 0) : Type 0 where
   pub given : D
   pub disk : D
   pub book : BookData
+  pub begun : Table
   pub table : Table
   pub params : Params
   pub columns : List Column

@@ -20,11 +20,11 @@ use Rattle.nt_seq.specs.Writer.{SeqState}
 abbrev pub file_so_far : Table → List (List ℕ) → Held
 file_so_far t ranges = all_appended ranges (begun_on (begun 0 0 0) (header_blob t) nothing_held)
 
--- what is held before a file is closed: it is begun, ranges stand behind its header, and the append of one more may have failed
-pub record IsUnclosed (h : Held) : Type 0 where
-  pub table : Table
+-- what is held before the file of this schema is closed: it is begun, ranges stand behind its header, and the append of one more may have
+-- failed
+pub record IsUnclosedOf (t : Table) (h : Held) : Type 0 where
   pub ranges : List (List ℕ)
-  pub steps : (h ≡ file_so_far table ranges) ⊎ ((most : ℕ) × IsTornAppend most (file_so_far table ranges) h)
+  pub steps : (h ≡ file_so_far t ranges) ⊎ ((most : ℕ) × IsTornAppend most (file_so_far t ranges) h)
 
 -- no field was added: all rows stand in the header
 abbrev pub IsFirstSchema : Table → Type 0

@@ -26,6 +26,7 @@ impl<D: Disk> SeqWriter<D> {
             given,
             mut disk,
             book,
+            begun,
             schema,
             params,
             columns: _,
@@ -35,6 +36,7 @@ impl<D: Disk> SeqWriter<D> {
             direct: _,
         } = self;
         drop(given);
+        drop(begun);
         crashes_leave_closed_or_unfinished();
         book.keeps();
         match close(alloc, &mut disk, &book, &schema, &params) {

@@ -8,7 +8,7 @@ ghost use Rattle.nt_outside.specs.Order.{FirstByteLast};
 ghost use Rattle.nt_grammar.specs.Table.{Table};
 ghost use Rattle.nt_book.specs.Books.{BookData, book_clusters, entry_count};
 ghost use Rattle.nt_close.specs.Laws.{IsShut};
-ghost use Rattle.nt_seq.specs.Written.{HasClusters, IsUnclosed, entries_of_clusters};
+ghost use Rattle.nt_seq.specs.Written.{HasClusters, IsUnclosedOf, entries_of_clusters};
 
 /// A book has as many clusters and entries as were written.
 pub fn written_clusters_are_counted()
@@ -21,6 +21,6 @@ pub fn written_clusters_are_counted()
 /// A file that isn't closed begins with 0, and nothing is written over that byte, wherever its last
 /// append failed.
 pub fn unclosed_files_are_shut()
-    ensures shut { (h : Held) → IsUnclosed h → IsShut h.image }
-    ensures order { (h : Held) → IsUnclosed h → FirstByteLast h.log }
+    ensures shut { (t : Table) (h : Held) → IsUnclosedOf t h → IsShut h.image }
+    ensures order { (t : Table) (h : Held) → IsUnclosedOf t h → FirstByteLast h.log }
 {}

@@ -11,7 +11,8 @@
 //! that it has written, each entry with the zeros of the fields that were added behind it
 //! (`HasWritten` in `specs/Written`); a writer is *alive* until a call on its disk fails, or
 //! memory is wanting while a field is added; *given* is the disk as it was before all calls, by
-//! which it is known what is told.
+//! which it is known what is told; *begun* is the schema with which the file was begun, whose
+//! header stands in it whatever was added since.
 //!
 //! Proved, as a relation of what the writer is before and after each call (`specs/Changing`): an
 //! entry is gathered whole or not at all (`fill`, `fill_line`); a flush makes the gathered
@@ -22,8 +23,9 @@
 //! zero (`extend`). Once it is closed, the file is laid out for the clusters, none of them longer
 //! than a range may get, and as any other where no field was added; after a refusal its first byte
 //! is 0, or it stands there whole, its last step being over that byte; and its steps are in order in any case (`file`). The cause of
-//! each answer is that of nt_close, where no range is spoiled (`cause`). Of a file that isn't
-//! closed the first byte is 0 (`unclosed_files_are_shut`). Wherever a crash comes behind the first
+//! each answer is that of nt_close, where no range is spoiled (`cause`). Whatever was done, the disk that
+//! `abandon` gives back holds the writer's own file: that of `begun`, not closed, with ranges, and perhaps a part of one more
+//! (`unclosed`). Of a file that isn't closed the first byte is 0 (`unclosed_files_are_shut`). Wherever a crash comes behind the first
 //! sync, in `new`, `flush`, `extend` or `close`, it leaves a file that isn't finished, or, once the
 //! first byte was written over, the closed one; behind all steps of `close` just that: `crash` in what
 //! `new`, `flush` and `close` (`file`) say, by the law `crashes_leave_closed_or_unfinished` on

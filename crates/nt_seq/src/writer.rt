@@ -10,7 +10,7 @@ ghost use Rattle.nt_grammar.specs.Table.{Table};
 ghost use Rattle.nt_grammar.specs.Rows.{Rows};
 ghost use Rattle.nt_seq.specs.Standing.{IsBlankDisk, IsFitToBegin};
 ghost use Rattle.nt_seq.specs.Writer.{gathered_by};
-ghost use Rattle.nt_seq.specs.Written.{IsUnclosed};
+ghost use Rattle.nt_seq.specs.Written.{IsUnclosedOf};
 ghost use Rattle.nt_seq.specs.Changing.{BeginsFile};
 
 use nt_book::{Book, Params};
@@ -34,6 +34,7 @@ pub struct SeqWriter<D: Disk> {
     pub(crate) given: Snapshot<D>,
     pub(crate) disk: D,
     pub(crate) book: Book,
+    pub(crate) begun: Snapshot<Schema>,
     pub(crate) schema: Schema,
     pub(crate) params: Params,
     pub(crate) columns: ColumnSet,
@@ -56,6 +57,7 @@ impl<D: Disk> Model for SeqWriter<D> {
       given = w.given.value;
       disk = w.disk;
       book = w.book;
+      begun = w.begun.value;
       table = w.schema;
       params = w.params;
       columns = columns_of w.columns;
@@ -67,6 +69,7 @@ impl<D: Disk> Model for SeqWriter<D> {
       given = w.given.value;
       disk = w.disk;
       book = w.book;
+      begun = w.begun.value;
       table = w.schema;
       params = w.params;
       columns = columns_of w.columns;
@@ -109,19 +112,23 @@ impl<D: Disk> SeqWriter<D> {
         let given = Snapshot::of(&disk);
         let mut disk = disk;
         match begin(alloc, &mut disk, fields, params) {
-            Ok((book, schema)) => Ok(SeqWriter {
-                alloc,
-                given,
-                disk,
-                book,
-                schema,
-                params: *params,
-                columns,
-                entries: 0,
-                alive: true,
-                spare: Vec::new(alloc),
-                direct: Direct::new(alloc),
-            }),
+            Ok((book, schema)) => {
+                let begun = Snapshot::of(&schema);
+                Ok(SeqWriter {
+                    alloc,
+                    given,
+                    disk,
+                    book,
+                    begun,
+                    schema,
+                    params: *params,
+                    columns,
+                    entries: 0,
+                    alive: true,
+                    spare: Vec::new(alloc),
+                    direct: Direct::new(alloc),
+                })
+            }
             Err(error) => {
                 drop(given);
                 Err((disk, error))
@@ -152,17 +159,19 @@ impl<D: Disk> SeqWriter<D> {
         u64::from(self.entries)
     }
 
-    /// The disk as it is. What is gathered is dropped.
+    /// The disk as it is: it holds the file that was begun with the first schema, not closed. What is
+    /// gathered is dropped.
     pub fn abandon(self) -> D
         ensures disk { result ≡ self.disk }
         ensures unclosed { BecomesSome (D.state self.given).held (D.state result).held
-            (λ h h'. IsUnclosed h') }
+            (λ h h'. IsUnclosedOf self.begun h') }
     {
         let SeqWriter {
             alloc: _,
             given,
             disk,
             book: _,
+            begun,
             schema: _,
             params: _,
             columns: _,
@@ -172,6 +181,7 @@ impl<D: Disk> SeqWriter<D> {
             direct: _,
         } = self;
         drop(given);
+        drop(begun);
         disk
     }
 }
