@@ -38,19 +38,23 @@ module _ (s : Selection) where
 
 -- ---- what a sink gains
 
-pub gains-nothing : (o : Option (List TreesData)) → GainsEntries [] o o
-gains-nothing o es is = is ∙ ap (λ (l : List TreesData). Some l) (sym (append-nil es))
+-- which entries were put, as a sink tells
+abbrev pub Told : Type 1
+Told = List TreesData → Type 0
 
-pub gains-then : (a b c : Option (List TreesData)) (xs ys : List TreesData) → GainsEntries xs a b → GainsEntries ys b c
+pub gains-nothing : (o : Told) → GainsEntries [] o o
+gains-nothing o es is = subst o (sym (append-nil es)) is
+
+pub gains-then : (a b c : Told) (xs ys : List TreesData) → GainsEntries xs a b → GainsEntries ys b c
     → GainsEntries (xs ++ ys) a c
 gains-then a b c xs ys first more es is =
-    more (es ++ xs) (first es is) ∙ ap (λ (l : List TreesData). Some l) (append_assoc es xs ys)
+    subst c (append_assoc es xs ys) (more (es ++ xs) (first es is))
 
-pub gains-front : (a b : Option (List TreesData)) (xs : List TreesData) → GainsEntries xs a b → GainsFirstEntries xs a b
+pub gains-front : (a b : Told) (xs : List TreesData) → GainsEntries xs a b → GainsFirstEntries xs a b
 gains-front a b xs gains es is = (xs, [], sym (append-nil xs), gains es is)
 
 -- the first of what comes behind, and maybe more behind that
-pub front-then : (a b c : Option (List TreesData)) (xs ys zs : List TreesData) → GainsEntries xs a b → GainsFirstEntries ys b c
+pub front-then : (a b c : Told) (xs ys zs : List TreesData) → GainsEntries xs a b → GainsFirstEntries ys b c
     → GainsFirstEntries (xs ++ (ys ++ zs)) a c
 front-then a b c xs ys zs first more es is =
     let some = more (es ++ xs) (first es is) in (
@@ -58,25 +62,26 @@ front-then a b c xs ys zs first more es is =
       some.1 ++ zs,
       ap (λ (l : List TreesData). xs ++ (l ++ zs)) some.2
           ∙ (ap (λ (l : List TreesData). xs ++ l) (append_assoc some.0 some.1 zs) ∙ sym (append_assoc xs some.0 (some.1 ++ zs))),
-      some.3 ∙ ap (λ (l : List TreesData). Some l) (append_assoc es xs some.0),
+      subst c (append_assoc es xs some.0) some.3,
     )
 
 -- ---- the entries of one cluster
 
 -- those before this one were taken
-pub record HasTaken {F : Type 0} (s : Selection) (entries : List TreesData) (i total : ℕ)
-    (old new : SinkState F) : Type 0 where
+pub record HasTaken {F B : Type 0} (s : Selection) (entries : List TreesData) (i total : ℕ)
+    (old new : SinkState F B) : Type 0 where
   pub count : total ≡ length (selected s (take i entries))
   pub gains : GainsEntries (selected s (take i entries)) old.entries new.entries
   pub going : new.refused ≡ None
   pub fields : new.fields ≡ old.fields
+  pub birth : new.birth ≡ old.birth
 
-module _ {F : Type 0} (s : Selection) (entries : List TreesData) (i total : ℕ) (old mid new : SinkState F)
+module _ {F B : Type 0} (s : Selection) (entries : List TreesData) (i total : ℕ) (old mid new : SinkState F B)
     (so-far : HasTaken s entries i total old mid) where
   pub taken_more : (n sum : ℕ) → sum ≡ total + n → i < length entries
       → TakesSelected (selected s (slice_index_or entries i no_trees ∷ [])) mid new (Ok n) → new.refused ≡ None
-      → new.fields ≡ mid.fields → HasTaken s entries (i + 1) sum old new
-  taken_more n sum sum_is less takes going fields =
+      → new.fields ≡ mid.fields → new.birth ≡ mid.birth → HasTaken s entries (i + 1) sum old new
+  taken_more n sum sum_is less takes going fields birth =
       let more = one-more s entries i less in
       record {
         count = omega (
@@ -87,14 +92,15 @@ module _ {F : Type 0} (s : Selection) (entries : List TreesData) (i total : ℕ)
           ap length more,
           length-append (selected s (take i entries)) (selected s (slice_index_or entries i no_trees ∷ [])),
         );
-        gains = λ es is. gains-then old.entries mid.entries new.entries _ _ so-far.gains takes.1 es is
-            ∙ ap (λ (l : List TreesData). Some (es ++ l)) (sym more);
+        gains = λ es is. subst (λ (l : List TreesData). new.entries (es ++ l)) (sym more)
+            (gains-then old.entries mid.entries new.entries _ _ so-far.gains takes.1 es is);
         going = going;
         fields = fields ∙ so-far.fields;
+        birth = birth ∙ so-far.birth;
       }
 
   -- what a put takes of the next one is the front of all
-  front_of_all : (a b c : Option (List TreesData)) → i < length entries
+  front_of_all : (a b c : Told) → i < length entries
       → GainsEntries (selected s (take i entries)) a b
       → GainsFirstEntries (selected s (slice_index_or entries i no_trees ∷ [])) b c
       → GainsFirstEntries (selected s entries) a c
@@ -124,14 +130,14 @@ module _ {F : Type 0} (s : Selection) (entries : List TreesData) (i total : ℕ)
   taken_too_many n less takes =
       front_of_all old.entries mid.entries new.entries less so-far.gains (gains-front mid.entries new.entries _ takes.1)
 
-module _ {F : Type 0} (s : Selection) (entries : List TreesData) where
-  pub taken_none : (old : SinkState F) → old.refused ≡ None → HasTaken s entries 0 0 old old
-  taken_none old going = record { count = refl; gains = gains-nothing old.entries; going = going; fields = refl }
+module _ {F B : Type 0} (s : Selection) (entries : List TreesData) where
+  pub taken_none : (old : SinkState F B) → old.refused ≡ None → HasTaken s entries 0 0 old old
+  taken_none old going = record { count = refl; gains = gains-nothing old.entries; going = going; fields = refl; birth = refl }
 
-  pub taken_all : (i total : ℕ) (old new : SinkState F) → length entries ≤ i → HasTaken s entries i total old new
+  pub taken_all : (i total : ℕ) (old new : SinkState F B) → length entries ≤ i → HasTaken s entries i total old new
       → TakesSelected (selected s entries) old new (Ok total)
   taken_all i total old new past so-far =
       let whole : take i entries ≡ entries = take_all i entries past in (
         so-far.count ∙ ap (λ (l : List TreesData). length (selected s l)) whole,
-        λ es is. so-far.gains es is ∙ ap (λ (l : List TreesData). Some (es ++ selected s l)) whole,
+        λ es is. subst (λ (l : List TreesData). new.entries (es ++ selected s l)) whole (so-far.gains es is),
       )

@@ -47,7 +47,7 @@ before-any (Ok es) rs = (before_fault rs, refl)
 before-any (Err e) rs = ([], refl)
 
 -- of a cluster that was skimmed all is a front
-cluster_all : {F : Type 0} (s : Selection) (reading : Result (List TreesData) ReadError) (n : ℕ) (old new : SinkState F)
+cluster_all : {F B : Type 0} (s : Selection) (reading : Result (List TreesData) ReadError) (n : ℕ) (old new : SinkState F B)
     → IsClusterSkimmed s reading old new (Ok n) → GainsFirstEntries (selected s (entries_or_none reading)) old.entries new.entries
 cluster_all s reading n old new is es told =
     let same : selected s (entries_or_none reading) ≡ selected s is.0 =
@@ -55,8 +55,8 @@ cluster_all s reading n old new is es told =
     (selected s is.0, [], same ∙ sym (append-nil (selected s is.0)), is.3 es told)
 
 -- the clusters before this one were read, and their entries taken
-pub record HasSkimmed {F : Type 0} (s : Selection) (rs : List (Result (List TreesData) ReadError)) (k total : ℕ)
-    (old new : SinkState F) : Type 0 where
+pub record HasSkimmed {F B : Type 0} (s : Selection) (rs : List (Result (List TreesData) ReadError)) (k total : ℕ)
+    (old new : SinkState F B) : Type 0 where
   pub before : List TreesData
   pub reads : entries_read rs ≡ behind before (entries_read (drop k rs))
   pub sound : before_fault rs ≡ before ++ before_fault (drop k rs)
@@ -70,8 +70,8 @@ read_at rs k = slice_index_or rs k (Ok [])
 next-read : (rs : List (Result (List TreesData) ReadError)) (k : ℕ) → k < length rs → drop k rs ≡ read_at rs k ∷ drop (k + 1) rs
 next-read rs k less = drop_more rs k (Ok []) less
 
-module _ {F : Type 0} (s : Selection) (rs : List (Result (List TreesData) ReadError)) where
-  pub skimmed_none : (old : SinkState F) → HasSkimmed s rs 0 0 old old
+module _ {F B : Type 0} (s : Selection) (rs : List (Result (List TreesData) ReadError)) where
+  pub skimmed_none : (old : SinkState F B) → HasSkimmed s rs 0 0 old old
   skimmed_none old = record {
     before = [];
     reads = sym (behind-nothing (entries_read rs));
@@ -80,7 +80,7 @@ module _ {F : Type 0} (s : Selection) (rs : List (Result (List TreesData) ReadEr
     gains = gains-nothing old.entries;
   }
 
-  pub skimmed_all : (k total : ℕ) (old new : SinkState F) → length rs ≤ k → HasSkimmed s rs k total old new
+  pub skimmed_all : (k total : ℕ) (old new : SinkState F B) → length rs ≤ k → HasSkimmed s rs k total old new
       → IsSkimmed s rs old new (Ok total)
   skimmed_all k total old new past so-far = (
     so-far.before,
@@ -91,7 +91,7 @@ module _ {F : Type 0} (s : Selection) (rs : List (Result (List TreesData) ReadEr
     so-far.gains,
   )
 
-  module _ (k total : ℕ) (old mid new : SinkState F) (less : k < length rs) (so-far : HasSkimmed s rs k total old mid) where
+  module _ (k total : ℕ) (old mid new : SinkState F B) (less : k < length rs) (so-far : HasSkimmed s rs k total old mid) where
     pub skimmed_more : (n sum : ℕ) → sum ≡ total + n → IsClusterSkimmed s (read_at rs k) mid new (Ok n)
         → HasSkimmed s rs (k + 1) sum old new
     skimmed_more n sum sum_is is =
@@ -114,8 +114,8 @@ module _ {F : Type 0} (s : Selection) (rs : List (Result (List TreesData) ReadEr
             ap length more,
             length-append (selected s so-far.before) (selected s is.0),
           );
-          gains = λ es told. gains-then old.entries mid.entries new.entries _ _ so-far.gains is.3 es told
-              ∙ ap (λ (l : List TreesData). Some (es ++ l)) (sym more);
+          gains = λ es told. subst (λ (l : List TreesData). new.entries (es ++ l)) (sym more)
+              (gains-then old.entries mid.entries new.entries _ _ so-far.gains is.3 es told);
         }
 
     part : GainsFirstEntries (selected s (entries_or_none (read_at rs k))) mid.entries new.entries
@@ -148,9 +148,8 @@ module _ {F : Type 0} (s : Selection) (rs : List (Result (List TreesData) ReadEr
       so-far.reads
           ∙ (ap (λ (l : List (Result (List TreesData) ReadError)). behind so-far.before (entries_read l)) (next-read rs k less)
           ∙ ap (behind so-far.before) (read-faulty (read_at rs k) (entries_read (drop (k + 1) rs)) e is.0)),
-      λ es told. is.1
-          ∙ (so-far.gains es told
-          ∙ ap (λ (l : List TreesData). Some (es ++ selected s l)) (sym (faulty e is.0))),
+      λ es told. subst (λ (l : List TreesData). new.entries (es ++ selected s l)) (sym (faulty e is.0))
+          (is.1 (es ++ selected s so-far.before) (so-far.gains es told)),
     )
     skimmed_part Fault is = part is
     skimmed_part (Sink f) is = part is
@@ -161,16 +160,16 @@ module _ {F : Type 0} (s : Selection) (rs : List (Result (List TreesData) ReadEr
     skimmed_too_many n is = part (cluster_all s (read_at rs k) n mid new is)
 
 -- a cluster whose entries were taken is skimmed
-pub cluster_part : {F : Type 0} (s : Selection) (reading : Result (List TreesData) ReadError)
-    (entries : List TreesData) (old new : SinkState F) → reading ≡ Ok entries
+pub cluster_part : {F B : Type 0} (s : Selection) (reading : Result (List TreesData) ReadError)
+    (entries : List TreesData) (old new : SinkState F B) → reading ≡ Ok entries
     → GainsFirstEntries (selected s entries) old.entries new.entries
     → GainsFirstEntries (selected s (entries_or_none reading)) old.entries new.entries
 cluster_part s reading entries old new is front es told =
     let some = front es told in
     (some.0, some.1, ap (λ (r : Result (List TreesData) ReadError). selected s (entries_or_none r)) is ∙ some.2, some.3)
 
-pub cluster_refused : {F : Type 0} (s : Selection) (reading : Result (List TreesData) ReadError)
-    (entries : List TreesData) (old new : SinkState F) (e : SkimError F) → reading ≡ Ok entries
+pub cluster_refused : {F B : Type 0} (s : Selection) (reading : Result (List TreesData) ReadError)
+    (entries : List TreesData) (old new : SinkState F B) (e : SkimError F) → reading ≡ Ok entries
     → TakesSelected (selected s entries) old new (Err e) → IsClusterSkimmed s reading old new (Err e)
 cluster_refused s reading entries old new (Defect f) is takes = absurd takes
 cluster_refused s reading entries old new Fault is takes = absurd takes
@@ -178,14 +177,14 @@ cluster_refused s reading entries old new (Sink f) is takes = cluster_part s rea
 cluster_refused s reading entries old new Memory is takes = cluster_part s reading entries old new is takes
 
 -- what is put of a cluster that was read
-pub cluster_done : {F : Type 0} (s : Selection) (reading : Result (List TreesData) ReadError) (entries : List TreesData)
-    (old new : SinkState F) (r : Result ℕ (SkimError F)) → reading ≡ Ok entries → TakesSelected (selected s entries) old new r
+pub cluster_done : {F B : Type 0} (s : Selection) (reading : Result (List TreesData) ReadError) (entries : List TreesData)
+    (old new : SinkState F B) (r : Result ℕ (SkimError F)) → reading ≡ Ok entries → TakesSelected (selected s entries) old new r
     → IsClusterSkimmed s reading old new r
 cluster_done s reading entries old new (Ok n) is takes = (entries, is, takes.0, takes.1)
 cluster_done s reading entries old new (Err e) is takes = cluster_refused s reading entries old new e is takes
 
 -- the outside doesn't fail while entries are put
-pub never_fault : {F : Type 0} (more : List TreesData) (old new : SinkState F) (r : Result ℕ (SkimError F))
+pub never_fault : {F B : Type 0} (more : List TreesData) (old new : SinkState F B) (r : Result ℕ (SkimError F))
     → TakesSelected more old new r → IsErrOf r Fault → ⊥
 never_fault more old new (Ok n) takes is = absurd cc
 never_fault more old new (Err e) takes is =

@@ -10,24 +10,29 @@ use Rattle.nt_skim.specs.declared.error.SkimError.{SkimError}
 use Rattle.nt_skim.specs.declared.error.SkimError.TheVariants.{Defect, Fault, Sink, Memory}
 use Rattle.nt_skim.specs.Select.{Selection, FitsFields, selected, entries_read, before_fault}
 
--- a sink: the fields of its entries; those that were put, where it tells them; and the answer of a put that it refused
-pub record SinkState (F : Type 0) : Type 0 where
+-- a sink: the fields of its entries; which entries were put, as it tells; the answer of a put that it refused; and what no put changes
+pub record SinkState (F B : Type 0) : Type 1 where
   pub fields : List MemberData
-  pub entries : Option (List TreesData)
+  pub entries : List TreesData → Type 0
   pub refused : Option F
+  pub birth : B
 
--- what is told has these behind it
-abbrev pub GainsEntries : List TreesData → Option (List TreesData) → Option (List TreesData) → Type 0
-GainsEntries more old new = (es : List TreesData) → old ≡ Some es → new ≡ Some (es ++ more)
+-- what was put stands there still
+abbrev pub KeepsPut : (List TreesData → Type 0) → (List TreesData → Type 0) → Type 0
+KeepsPut old new = (es : List TreesData) → old es → new es
 
--- what is told has the first of these behind it
-abbrev pub GainsFirstEntries : List TreesData → Option (List TreesData) → Option (List TreesData) → Type 0
+-- it has these behind it
+abbrev pub GainsEntries : List TreesData → (List TreesData → Type 0) → (List TreesData → Type 0) → Type 0
+GainsEntries more old new = (es : List TreesData) → old es → new (es ++ more)
+
+-- it has the first of these behind it
+abbrev pub GainsFirstEntries : List TreesData → (List TreesData → Type 0) → (List TreesData → Type 0) → Type 0
 GainsFirstEntries more old new =
-    (es : List TreesData) → old ≡ Some es → (front rest : List TreesData) × (more ≡ front ++ rest) × (new ≡ Some (es ++ front))
+    (es : List TreesData) → old es → (front rest : List TreesData) × (more ≡ front ++ rest) × new (es ++ front)
 
 -- the number of the selected entries, of clusters that are read as these, is the answer, and the sink gained just them; before an answer
 -- in its place it gained the first of those of the clusters before the first fault, and all of these where that fault is the answer
-abbrev pub IsSkimmed : {F : Type 0} → Selection → List (Result (List TreesData) ReadError) → SinkState F → SinkState F
+abbrev pub IsSkimmed : {F B : Type 0} → Selection → List (Result (List TreesData) ReadError) → SinkState F B → SinkState F B
     → Result ℕ (SkimError F) → Type 0
 IsSkimmed s rs old new (Ok n) =
     (entries : List TreesData) × (entries_read rs ≡ Ok entries) × (n ≡ length (selected s entries))
@@ -38,35 +43,37 @@ IsSkimmed s rs old new (Err (Sink f)) = GainsFirstEntries (selected s (before_fa
 IsSkimmed s rs old new (Err Memory) = GainsFirstEntries (selected s (before_fault rs)) old.entries new.entries
 
 -- a sink refused only where that is the answer
-abbrev pub HasSinkCause : {F V : Type 0} → SinkState F → Result V (SkimError F) → Type 0
+abbrev pub HasSinkCause : {F B V : Type 0} → SinkState F B → Result V (SkimError F) → Type 0
 HasSinkCause new (Ok v) = new.refused ≡ None
 HasSinkCause new (Err (Defect e)) = new.refused ≡ None
 HasSinkCause new (Err Fault) = new.refused ≡ None
 HasSinkCause new (Err (Sink f)) = new.refused ≡ Some f
 HasSinkCause new (Err Memory) = new.refused ≡ None
 
--- a sink keeps its fields, and refused a put only where that is the answer
-pub record LeavesSink {F V : Type 0} (old new : SinkState F) (result : Result V (SkimError F)) : Type 0 where
+-- a sink keeps its fields and what no put changes, and refused a put only where that is the answer
+pub record LeavesSink {F B V : Type 0} (old new : SinkState F B) (result : Result V (SkimError F)) : Type 0 where
   pub cause : HasSinkCause new result
   pub fields : new.fields ≡ old.fields
+  pub birth : new.birth ≡ old.birth
 
 -- a sink took an entry, or refused it and then has as many as before
-pub record AnswersPut {F : Type 0} (entry : TreesData) (old new : SinkState F) (result : Result Unit F) : Type 0 where
+pub record AnswersPut {F B : Type 0} (entry : TreesData) (old new : SinkState F B) (result : Result Unit F) : Type 0 where
   pub fields : new.fields ≡ old.fields
+  pub birth : new.birth ≡ old.birth
   pub ok : OnOk result (new.refused ≡ None)
   pub added : OnOk result (GainsEntries (entry ∷ []) old.entries new.entries)
   pub err : IfErr result (λ f. new.refused ≡ Some f)
-  pub kept : OnErr result (new.entries ≡ old.entries)
+  pub kept : OnErr result (KeepsPut old.entries new.entries)
 
 -- entries of a file of this schema can be put into a sink by a plan: it has refused none, what is chosen fits, and its fields are those
 -- of the plan
-pub record CanSkim {F : Type 0} (t : Table) (s : Selection) (out : SinkState F) : Type 0 where
+pub record CanSkim {F B : Type 0} (t : Table) (s : Selection) (out : SinkState F B) : Type 0 where
   pub going : out.refused ≡ None
   pub fits : FitsFields t s
   pub fields : out.fields ≡ s.fields
 
 -- of these entries of one cluster the first were taken, and all where the answer is their number
-abbrev pub TakesSelected : {F : Type 0} → List TreesData → SinkState F → SinkState F → Result ℕ (SkimError F) → Type 0
+abbrev pub TakesSelected : {F B : Type 0} → List TreesData → SinkState F B → SinkState F B → Result ℕ (SkimError F) → Type 0
 TakesSelected more old new (Ok n) = (n ≡ length more) × GainsEntries more old.entries new.entries
 TakesSelected more old new (Err (Defect e)) = ⊥
 TakesSelected more old new (Err Fault) = ⊥
@@ -79,12 +86,12 @@ entries_or_none (Ok es) = es
 entries_or_none (Err e) = []
 
 -- what one cluster leaves, which is read as this
-abbrev pub IsClusterSkimmed : {F : Type 0} → Selection → Result (List TreesData) ReadError → SinkState F → SinkState F
+abbrev pub IsClusterSkimmed : {F B : Type 0} → Selection → Result (List TreesData) ReadError → SinkState F B → SinkState F B
     → Result ℕ (SkimError F) → Type 0
 IsClusterSkimmed s reading old new (Ok n) =
     (entries : List TreesData) × (reading ≡ Ok entries) × (n ≡ length (selected s entries))
     × GainsEntries (selected s entries) old.entries new.entries
-IsClusterSkimmed s reading old new (Err (Defect e)) = (reading ≡ Err e) × (new.entries ≡ old.entries)
+IsClusterSkimmed s reading old new (Err (Defect e)) = (reading ≡ Err e) × KeepsPut old.entries new.entries
 IsClusterSkimmed s reading old new (Err Fault) = GainsFirstEntries (selected s (entries_or_none reading)) old.entries new.entries
 IsClusterSkimmed s reading old new (Err (Sink f)) = GainsFirstEntries (selected s (entries_or_none reading)) old.entries new.entries
 IsClusterSkimmed s reading old new (Err Memory) = GainsFirstEntries (selected s (entries_or_none reading)) old.entries new.entries

@@ -7,7 +7,8 @@
 //!
 //! Words: a *place* counts the open fields at the top level, from 0, as the trees of an entry stand;
 //! an entry *passes* where a number of it lies in the range of the test; it is *selected* where it
-//! passes, and is then its trees at the chosen places.
+//! passes, and is then its trees at the chosen places. A *sink* tells which entries were put, as a
+//! relation, and its *birth* is what no put changes.
 //!
 //! Proved: `plan` gives the fields of the names in their order, or the first name that stands against
 //! it, and then the test (`planned`); what it chooses of any entry fits the fields that it tells

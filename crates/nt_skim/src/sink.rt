@@ -14,7 +14,10 @@ pub trait EntrySink {
     /// Why an entry isn't taken.
     type Fault;
 
-    ghost state: { Self → SinkState Self.Fault };
+    /// What no put changes. No value of it need be made.
+    type Birth;
+
+    ghost state: { Self → SinkState Self.Fault Self.Birth };
 
     /// Takes an entry; a refusal adds nothing.
     fn put(&mut self, trees: &Trees) -> Result<(), Self::Fault>

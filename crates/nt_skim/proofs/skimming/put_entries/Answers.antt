@@ -34,7 +34,7 @@ loop-i-preserved g c =
     (g.E.EntrySink.state c.args.out.now) (g.E.EntrySink.state c.loop-i.out) (g.E.EntrySink.state c.put_entry.new.out) c.loop-i.invariant
     c.in-Ok.more c.in-Some.sum c.in-Some.ensures.1
     (omega (arith, c.loop-i-test.true, c.entries-i-end.ensures, length-given c.args.cluster.now)) c.in-Ok.ensures.takes
-    c.in-Ok.ensures.left.cause c.in-Ok.ensures.left.fields
+    c.in-Ok.ensures.left.cause c.in-Ok.ensures.left.fields c.in-Ok.ensures.left.birth
 
 pub returns-clause-takes : goal.returns-clause-takes
 returns-clause-takes g c =

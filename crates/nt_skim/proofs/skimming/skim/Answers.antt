@@ -13,6 +13,7 @@ loop-k-init g c = record {
   told = λ b told. skimmed_none (selection_of c.args.plan.now) (cluster_readings b c.args.reader.now) (g.E.EntrySink.state c.args.out.now);
   going = c.requires.going;
   fields = refl;
+  birth = refl;
   same = refl;
   later = omega arith;
 }
@@ -58,6 +59,7 @@ loop-k-preserved g c = record {
       (sym (reading-at b c.args.reader.now c.loop-k.k there)) (c.in-Ok.ensures.skimmed b (c.loop-k.invariant.same ∙ told)));
   going = c.in-Ok.ensures.left.cause;
   fields = c.in-Ok.ensures.left.fields ∙ c.loop-k.invariant.fields;
+  birth = c.in-Ok.ensures.left.birth ∙ c.loop-k.invariant.birth;
   same = c.in-Ok.ensures.file.same ∙ c.loop-k.invariant.same;
   later = omega (arith, c.loop-k.invariant.later, c.in-Ok.ensures.file.later);
 }

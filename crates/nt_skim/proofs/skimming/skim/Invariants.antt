@@ -7,11 +7,12 @@ use Rattle.nt_skim.proofs.SkimmedClusters.{HasSkimmed}
 use Rattle.nt_skim.proofs.skimming.skim.Given as goal
 
 -- the clusters before this one were skimmed
-pub record GoesOn {F : Type 0} (s : Selection) (o : Outline) (k total : ℕ) (file file' : FileState) (old new : SinkState F)
+pub record GoesOn {F B : Type 0} (s : Selection) (o : Outline) (k total : ℕ) (file file' : FileState) (old new : SinkState F B)
     : Type 0 where
   pub told : (b : List ℕ) → file.bytes ≡ Some b → HasSkimmed s (cluster_readings b o) k total old new
   pub going : new.refused ≡ None
   pub fields : new.fields ≡ old.fields
+  pub birth : new.birth ≡ old.birth
   pub same : file'.bytes ≡ file.bytes
   pub later : file.faults ≤ file'.faults
 

@@ -1,0 +1,13 @@
+pub mod Meanings
+pub mod Takings
+pub mod Puts
+pub mod Ended
+pub mod Early
+pub mod Selected
+pub mod Skimmed
+pub mod Begun
+pub mod Hosted
+pub mod Chosen
+pub mod Named
+pub mod Stored
+pub mod Unique
