@@ -19,7 +19,7 @@ use Rattle.nt_commit.specs.declared.error.CommitError.{CommitError}
 use Rattle.nt_commit.specs.declared.error.CommitError.TheVariants as commit
 use Rattle.nt_seq.specs.Standing.{IsWriting}
 use Rattle.nt_seq.specs.Writer.{SeqState, gathered_by}
-use Rattle.nt_seq.specs.Written.{IsUnclosed}
+use Rattle.nt_seq.specs.Written.{IsUnclosedOf}
 use Rattle.nt_seq.specs.Changing.{FlushesNext}
 use Rattle.nt_store.proofs.Begun.{shut_open}
 use Rattle.nt_script.specs.declared.storing.Counts.{Counts}
@@ -35,13 +35,17 @@ use Rattle.nt_skim_file.specs.Errors.{skim_of_commit}
 use Rattle.nt_skim_file.specs.Whole.{PassesSelected}
 use Rattle.nt_skim_file.specs.Filing.{LeavesEntries, EndsEntries}
 
+-- the law of files that aren't closed
+abbrev pub UnclosedAreShut : Type 0
+UnclosedAreShut = (t : Table) (h : Held) → IsUnclosedOf t h → IsShut h.image
+
 -- the law of the order of files that aren't closed
 abbrev pub UnclosedInOrder : Type 0
-UnclosedInOrder = (h : Held) → IsUnclosed h → FirstByteLast h.log
+UnclosedInOrder = (t : Table) (h : Held) → IsUnclosedOf t h → FirstByteLast h.log
 
 -- and of what a crash leaves of them
 abbrev pub UnclosedLeave : Type 0
-UnclosedLeave = (h : Held) → IsUnclosed h → LeavesUnfinished h.log
+UnclosedLeave = (t : Table) (h : Held) → IsUnclosedOf t h → LeavesUnfinished h.log
 
 module _ (F : List MemberData) (t : Table) (p : Params) (rows : Rows F p.plain t) (front rest : List TreesData) where
   -- a cluster behind the first entries passes a limit
@@ -123,9 +127,9 @@ module _ {D : Type 0} (state : D → DiskState) (old new : SeqState D) (disk : D
           failed = ends.failed;
         }
 
-    module _ (kept : IsBookKept old.book) (is : IsWriting state old) (shut : (h : Held) → IsUnclosed h → IsShut h.image)
+    module _ (kept : IsBookKept old.book) (is : IsWriting state old) (shut : UnclosedAreShut)
         (ordered : UnclosedInOrder) (leave : UnclosedLeave) (same : disk ≡ new.disk)
-        (unclosed : BecomesSome (state new.given).held (state disk).held (λ h left. IsUnclosed left)) where
+        (unclosed : BecomesSome (state new.given).held (state disk).held (λ h left. IsUnclosedOf new.begun left)) where
       -- or it wasn't written
       pub not_finished : (e : CommitError) → FlushesNext state old new (Err e)
           → EndsEntries state old Taken disk (Err (skim_of_commit old.params.limits.clusters e))
@@ -138,10 +142,10 @@ module _ {D : Type 0} (state : D → DiskState) (old new : SeqState D) (disk : D
                 let left = unclosed nothing_held (empty_now empty) in
                 subst (λ (l : List TreesData). LeavesEntries old.params F l (state disk)
                 (Err (skim_of_commit old.params.limits.clusters e))) (append-nil es)
-                (early_left F old.table old.params rows es [] state new (state disk) left.0 left.1 (shut left.0 left.2)
-                (leave left.0 left.2) (λ next. next ≡ gathered_by old) (λ next any. inr tt) e
+                (early_left F old.table old.params rows es [] state new (state disk) left.0 left.1 (shut new.begun left.0 left.2)
+                (leave new.begun left.0 left.2) (λ next. next ≡ gathered_by old) (λ next any. inr tt) e
                 (gathered_refused state [] es old new e few kept is taken flushes.nothing flushes.limits flushes.refused.fault));
-            order = λ empty. let left = unclosed nothing_held (empty_now empty) in (left.0, left.1, ordered left.0 left.2);
+            order = λ empty. let left = unclosed nothing_held (empty_now empty) in (left.0, left.1, ordered new.begun left.0 left.2);
             failed = λ bad.
                 let cut = flushes.refused.fault (ap (λ (f : CommitError). Err f) (commit_failed old.params.limits.clusters e (cc bad))) in
                 subst (λ (d : D). 0 < (state d).faults) (sym same) (omega (arith, cut.rose));

@@ -18,10 +18,9 @@ use Rattle.nt_close.specs.declared.error.CloseError.{CloseError}
 use Rattle.nt_close.specs.declared.error.CloseError.TheVariants as close
 use Rattle.nt_close.specs.Passing.{passed_by_close, measures_of}
 use Rattle.nt_close.specs.Spoiled.{NoneSpoiled, IsUnspoiled, IsFirstSpoiled}
-use Rattle.nt_close.specs.Laws.{IsShut}
 use Rattle.nt_seq.specs.Standing.{IsWriting, IsSequential}
 use Rattle.nt_seq.specs.Writer.{SeqState}
-use Rattle.nt_seq.specs.Written.{HasWritten, IsUnclosed}
+use Rattle.nt_seq.specs.Written.{HasWritten, IsUnclosedOf}
 use Rattle.nt_seq.specs.Closing.{IsFileOf, AreCounts, AnswersClosing, EndsFile, LeavesFile}
 use Rattle.nt_store.specs.Writing.{HoldsNow}
 use Rattle.nt_store.proofs.Begun.{shut_open}
@@ -38,16 +37,13 @@ use Rattle.nt_skim_file.specs.declared.error.SkimStoreError.TheVariants.{Outside
 use Rattle.nt_skim_file.specs.Errors.{skim_of_close}
 use Rattle.nt_skim_file.specs.Whole.{IsSelectedFile, AreSelectedNumbers, PassesSelected}
 use Rattle.nt_skim_file.specs.Filing.{EntriesTold, LeavesEntries, EndsEntries}
+use Rattle.nt_skim_file.proofs.Early.{UnclosedAreShut}
 
 none_spoiled : (book : BookData) (cluster faults : ℕ) → NoneSpoiled book → IsFirstSpoiled book cluster faults → ⊥
 none_spoiled book cluster faults none first = subst IsUnspoiled first.spoiled (none cluster first.inside)
 
 pub held_is : (held : Option Held) (h k : Held) → held ≡ Some h → held ≡ Some k → h ≡ k
 held_is held h k one two = cc (one, two)
-
--- the law of files that aren't closed
-abbrev pub UnclosedAreShut : Type 0
-UnclosedAreShut = (h : Held) → IsUnclosed h → IsShut h.image
 
 module _ {D : Type 0} (state : D → DiskState) (w : SeqState D) (F : List MemberData) (es : List TreesData)
     (rows : Rows F w.params.plain w.table) (has : HasWrittenLines state [] es w) where
@@ -92,7 +88,7 @@ module _ {D : Type 0} (state : D → DiskState) (w : SeqState D) (F : List Membe
   })
 
   module _ (law : LateFilesMean) (shut : UnclosedAreShut) (is : IsWriting state w) (kept : IsBookKept w.book)
-      (now : HoldsNow (state w.disk).held IsUnclosed) (disk : D) where
+      (now : HoldsNow (state w.disk).held (IsUnclosedOf w.begun)) (disk : D) where
     turn : (bytes : List ℕ) → IsFileOf state w bytes → IsSelectedFile w.params F es bytes
     turn bytes file = file_here law bytes file
 
@@ -118,7 +114,7 @@ module _ {D : Type 0} (state : D → DiskState) (w : SeqState D) (F : List Membe
         }
 
     still : (state disk).held ≡ (state w.disk).held → HoldsNow (state disk).held (λ left. BeginsOpen left.image)
-    still same = (now.0, same ∙ now.1, shut_open now.0.image (shut now.0 now.2))
+    still same = (now.0, same ∙ now.1, shut_open now.0.image (shut w.begun now.0 now.2))
 
     -- or why not
     unclosed_here : (e : CloseError) → AnswersClosing w (Err e) → EndsFile state w disk (Err e)

@@ -11,11 +11,10 @@ use Rattle.nt_outside.specs.Held.{Held, BecomesSome, nothing_held}
 use Rattle.nt_grammar.specs.Rows.{Rows}
 use Rattle.nt_grammar.specs.Table.{Table}
 use Rattle.nt_book.specs.declared.params.Params.{Params}
-use Rattle.nt_close.specs.Laws.{IsShut}
 use Rattle.nt_commit.specs.declared.error.CommitError.{CommitError}
 use Rattle.nt_file_meaning.specs.Outlines.{Outline}
 use Rattle.nt_seq.specs.Writer.{SeqState}
-use Rattle.nt_seq.specs.Written.{IsUnclosed}
+use Rattle.nt_seq.specs.Written.{IsUnclosedOf}
 use Rattle.nt_script.specs.declared.storing.Counts.{Counts}
 use Rattle.nt_script.specs.Taking.{HasTakenLines}
 use Rattle.nt_skim.specs.declared.error.SkimError.{SkimError}
@@ -28,7 +27,7 @@ use Rattle.nt_skim_file.specs.declared.error.SkimStoreError.TheVariants.{Outside
 use Rattle.nt_skim_file.specs.Errors.{skim_of_early}
 use Rattle.nt_skim_file.specs.Sinks.{FileSinkState, TookEntries, IsFileSink, sink_of}
 use Rattle.nt_skim_file.specs.Filing.{KeepsFile, LeavesSelection, IsNewWriterOf, EndsEntries, EndsSelection}
-use Rattle.nt_skim_file.proofs.Early.{UnclosedInOrder, UnclosedLeave, commit_failed}
+use Rattle.nt_skim_file.proofs.Early.{UnclosedAreShut, UnclosedInOrder, UnclosedLeave, commit_failed}
 use Rattle.nt_skim_file.proofs.Selected.{all_left, failed_left, wanting_left, defect_left, refused_left}
 
 module _ {D : Type 0} (state : D → DiskState) (s : Selection) (o : Outline) (w : SeqState D) (sink : FileSinkState D)
@@ -104,27 +103,27 @@ module _ {D : Type 0} (state : D → DiskState) (s : Selection) (o : Outline) (w
   skimmed_all begun same r n is first skims disk result ends =
       all_put first n (subst Skims is (subst (λ (b : FileSinkState D). SkimsFrom b r) same skims)) disk result ends
 
-  module _ (first : IsNewWriterOf state s.fields w) (is : IsFileSink state sink) (shut : (h : Held) → IsUnclosed h → IsShut h.image)
+  module _ (first : IsNewWriterOf state s.fields w) (is : IsFileSink state sink) (shut : UnclosedAreShut)
       (ordered : UnclosedInOrder) (leave : UnclosedLeave) (disk : D) (same : disk ≡ sink.writer.disk)
-      (unclosed : BecomesSome (state sink.writer.given).held (state disk).held (λ h left. IsUnclosed left)) where
+      (unclosed : BecomesSome (state sink.writer.given).held (state disk).held (λ h left. IsUnclosedOf sink.writer.begun left)) where
     -- why it ended, and what is left then
     early_left : (e : SkimError CommitError) → Skims (Err e) → (bytes : List ℕ) → file.bytes ≡ Some bytes
-        → (h : Held) → (state disk).held ≡ Some h → IsUnclosed h
+        → (h : Held) → (state disk).held ≡ Some h → IsUnclosedOf sink.writer.begun h
         → LeavesSelection sink.writer.params s (cluster_readings bytes o) (state disk)
         (Err (skim_of_early sink.writer.params.limits.clusters e))
     early_left (skim.Defect e) skims bytes told h held un =
-        defect_left sink.writer.params s (cluster_readings bytes o) (state disk) h held (shut h un) (leave h un) e
+        defect_left sink.writer.params s (cluster_readings bytes o) (state disk) h held (shut sink.writer.begun h un) (leave sink.writer.begun h un) e
         (skims.skimmed bytes told).0
     early_left skim.Fault skims bytes told h held un =
-        failed_left sink.writer.params s (cluster_readings bytes o) (state disk) h held (shut h un) (leave h un)
+        failed_left sink.writer.params s (cluster_readings bytes o) (state disk) h held (shut sink.writer.begun h un) (leave sink.writer.begun h un)
     early_left (skim.Sink e) skims bytes told h held un =
         let some = skims.skimmed bytes told [] first.taken in
         let halts : TookEntries state some.0 sink.writer (Some e) =
         subst (λ (o : Option CommitError). TookEntries state some.0 sink.writer o) skims.left.cause some.3 in
-        refused_left sink.writer.params s (cluster_readings bytes o) (state disk) h held (shut h un) (leave h un) state
+        refused_left sink.writer.params s (cluster_readings bytes o) (state disk) h held (shut sink.writer.begun h un) (leave sink.writer.begun h un) state
         sink.writer.table (rows (Err (skim.Sink e)) skims first) sink.writer some.0 some.1 some.2 e halts
     early_left skim.Memory skims bytes told h held un =
-        wanting_left sink.writer.params s (cluster_readings bytes o) (state disk) h held (shut h un) (leave h un)
+        wanting_left sink.writer.params s (cluster_readings bytes o) (state disk) h held (shut sink.writer.begun h un) (leave sink.writer.begun h un)
 
     early_failed : (clusters : ℕ) (e : SkimError CommitError) → Skims (Err e) → skim_of_early clusters e ≡ Outside
         → (0 < (state disk).faults) ⊎ Rose file.faults file'.faults
@@ -142,7 +141,7 @@ module _ {D : Type 0} (state : D → DiskState) (s : Selection) (o : Outline) (w
           let left = unclosed nothing_held (empty_now (Err e) skims empty) in
           subst (λ (p : Params). LeavesSelection p s (cluster_readings bytes o) (state disk) (Err (skim_of_early p.limits.clusters e)))
           (params (Err e) skims) (early_left e skims bytes told left.0 left.1 left.2);
-      order = λ empty. let left = unclosed nothing_held (empty_now (Err e) skims empty) in (left.0, left.1, ordered left.0 left.2);
+      order = λ empty. let left = unclosed nothing_held (empty_now (Err e) skims empty) in (left.0, left.1, ordered sink.writer.begun left.0 left.2);
       kept = file_kept (Err e) skims;
       failed = λ bad. early_failed w.params.limits.clusters e skims (cc bad);
     }

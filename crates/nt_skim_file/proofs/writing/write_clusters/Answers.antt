@@ -3,7 +3,7 @@ use Rattle.nt_types.specs.TreeData.{TreesData}
 use Rattle.nt_outside.specs.Held.{Held, BecomesSome}
 use Rattle.nt_book.specs.declared.params.Params.{Params}
 use Rattle.nt_seq.specs.Writer.{SeqState}
-use Rattle.nt_seq.specs.Written.{IsUnclosed}
+use Rattle.nt_seq.specs.Written.{IsUnclosedOf}
 use Rattle.nt_script.specs.Taking.{HasTakenLines}
 use Rattle.nt_skim.specs.Select.{selection_of}
 use Rattle.nt_skim_file.specs.Errors.{skim_of_early}
@@ -37,6 +37,6 @@ returns-in-Err g c =
     c.unclosed_files_are_shut.ensures.order c.crashes_leave_closed_or_unfinished.ensures.unclosed c.abandon-disk.result
     (c.abandon-disk.ensures.disk ∙ ap (λ (w : SeqState _). w.disk) same)
     (subst (λ (w : SeqState _). BecomesSome (g.D.Disk.state w.given).held (g.D.Disk.state c.abandon-disk.result).held
-    (λ (h left : Held). IsUnclosed left)) same c.abandon-disk.ensures.unclosed)
+    (λ (h left : Held). IsUnclosedOf w.begun left)) same c.abandon-disk.ensures.unclosed)
     c.new-sink.result c.new-sink.ensures skims.result c.in-Err.error c.in-Err.is
     (record { left = skims.ensures.left; serves = skims.ensures.file; skimmed = skims.ensures.skimmed })))
