@@ -148,5 +148,5 @@ module _ {D : Type 0} (state : D → DiskState) (old new : SeqState D) (disk : D
             order = λ empty. let left = unclosed nothing_held (empty_now empty) in (left.0, left.1, ordered new.begun left.0 left.2);
             failed = λ bad.
                 let cut = flushes.refused.fault (ap (λ (f : CommitError). Err f) (commit_failed old.params.limits.clusters e (cc bad))) in
-                subst (λ (d : D). 0 < (state d).faults) (sym same) (omega (arith, cut.rose));
+                subst (λ (d : D). 0 < (state d).faults) (sym same) (omega (arith, cut.fails.rose));
           }

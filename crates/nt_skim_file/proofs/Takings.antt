@@ -103,7 +103,7 @@ module _ {D : Type 0} (state : D → DiskState) where
           params = same.params;
           few = few_still old new same few;
           alive = tt;
-          failed = λ bad. let cut = flushes.refused.fault bad in omega (arith, cut.rose);
+          failed = λ bad. let cut = flushes.refused.fault bad in omega (arith, cut.fails.rose);
         }
 
   -- nothing was written, since there is room
