@@ -112,18 +112,22 @@ module _ {D : Type 0} (state : D → DiskState) (s : Selection) (o : Outline) (w
         → LeavesSelection sink.writer.params s (cluster_readings bytes o) (state disk)
         (Err (skim_of_early sink.writer.params.limits.clusters e))
     early_left (skim.Defect e) skims bytes told h held un =
-        defect_left sink.writer.params s (cluster_readings bytes o) (state disk) h held (shut sink.writer.begun h un) (leave sink.writer.begun h un) e
+        defect_left sink.writer.params s (cluster_readings bytes o) (state disk) h held (shut sink.writer.begun h un)
+        (leave sink.writer.begun h un) e
         (skims.skimmed bytes told).0
     early_left skim.Fault skims bytes told h held un =
-        failed_left sink.writer.params s (cluster_readings bytes o) (state disk) h held (shut sink.writer.begun h un) (leave sink.writer.begun h un)
+        failed_left sink.writer.params s (cluster_readings bytes o) (state disk) h held (shut sink.writer.begun h un)
+        (leave sink.writer.begun h un)
     early_left (skim.Sink e) skims bytes told h held un =
         let some = skims.skimmed bytes told [] first.taken in
         let halts : TookEntries state some.0 sink.writer (Some e) =
         subst (λ (o : Option CommitError). TookEntries state some.0 sink.writer o) skims.left.cause some.3 in
-        refused_left sink.writer.params s (cluster_readings bytes o) (state disk) h held (shut sink.writer.begun h un) (leave sink.writer.begun h un) state
+        refused_left sink.writer.params s (cluster_readings bytes o) (state disk) h held (shut sink.writer.begun h un)
+        (leave sink.writer.begun h un) state
         sink.writer.table (rows (Err (skim.Sink e)) skims first) sink.writer some.0 some.1 some.2 e halts
     early_left skim.Memory skims bytes told h held un =
-        wanting_left sink.writer.params s (cluster_readings bytes o) (state disk) h held (shut sink.writer.begun h un) (leave sink.writer.begun h un)
+        wanting_left sink.writer.params s (cluster_readings bytes o) (state disk) h held (shut sink.writer.begun h un)
+        (leave sink.writer.begun h un)
 
     early_failed : (clusters : ℕ) (e : SkimError CommitError) → Skims (Err e) → skim_of_early clusters e ≡ Outside
         → (0 < (state disk).faults) ⊎ Rose file.faults file'.faults
@@ -141,7 +145,8 @@ module _ {D : Type 0} (state : D → DiskState) (s : Selection) (o : Outline) (w
           let left = unclosed nothing_held (empty_now (Err e) skims empty) in
           subst (λ (p : Params). LeavesSelection p s (cluster_readings bytes o) (state disk) (Err (skim_of_early p.limits.clusters e)))
           (params (Err e) skims) (early_left e skims bytes told left.0 left.1 left.2);
-      order = λ empty. let left = unclosed nothing_held (empty_now (Err e) skims empty) in (left.0, left.1, ordered sink.writer.begun left.0 left.2);
+      order = λ empty. let left = unclosed nothing_held (empty_now (Err e) skims empty) in
+          (left.0, left.1, ordered sink.writer.begun left.0 left.2);
       kept = file_kept (Err e) skims;
       failed = λ bad. early_failed w.params.limits.clusters e skims (cc bad);
     }
