@@ -92,7 +92,8 @@ impl Reader {
         &self.clusters[k as usize]
     }
 
-    /// How many pages are listed of a column in a cluster.
+    /// How many pages are listed of a column in a cluster (RNTuple Binary Format Specification 1.0.0.0,
+    /// section Page Locations).
     pub fn pages_of(&self, k: u32, column: u32) -> u64
         requires { k < length self.now.clusters }
         ensures { result ≡ page_number self.now k column }
@@ -100,7 +101,8 @@ impl Reader {
         page_number(&self.clusters[k as usize], column)
     }
 
-    /// How many elements one of these pages has.
+    /// How many elements one of these pages has, by its number from 0 on (RNTuple Binary Format
+    /// Specification 1.0.0.0, section Page Locations).
     pub fn count_of(&self, k: u32, column: u32, i: u64) -> u32
         requires cluster { k < length self.now.clusters }
         requires page { i < page_number self.now k column }
@@ -110,7 +112,8 @@ impl Reader {
     }
 
     /// How many zeros stand for a column of an open field in a cluster: as many as the cluster has
-    /// entries where the column begins behind them, else none. It has no page then.
+    /// entries where the column begins behind them, else none. It has no page then (RNTuple Binary
+    /// Format Specification 1.0.0.0, section Column Description, which calls such a column deferred).
     pub fn zeros_of(&self, k: u32, column: u32) -> u64
         requires cluster { k < length self.now.clusters }
         requires column { column < length self.now.table.columns }
