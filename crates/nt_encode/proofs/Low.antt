@@ -3,7 +3,7 @@ use Rattle.std.proofs.Common.{◌≡◌, ℕ, zero, suc, ◌+◌, ◌*◌, ◌/�
 use Rattle.std.proofs.Math.Nat.{div-eq_of_lt, mul-zero, mul-one, pow-zero, zero-add, zero-mul}
 use Rattle.nt_encode.specs.Digits.{digit_of, number_of}
 use Rattle.nt_encode.specs.Split.{split_value, split_values, GoOnLow}
-use Rattle.nt_encode.proofs.Lists.{Filled, list_of_filled, length-list_of, get_or-list_of}
+use Rattle.nt_encode.proofs.Lists.{length-list_of, get_or-list_of}
 use Rattle.nt_encode.proofs.Digits.{number_of-lt}
 use Rattle.std.proofs.lemmas.Grind.{get_or_default_zero}
 use Rattle.nt_encode.proofs.Powers.{word-le}
@@ -29,22 +29,14 @@ pub number_of-low : (d k : ℕ) (f : ℕ → ℕ) → 0 < k → ((j : ℕ) → 0
 number_of-low d zero f some none = absurd (omega arith)
 number_of-low d (suc k) f some none = number_of-first d k f none
 
--- the elements of a page each of which but the first has its lowest byte alone
-pub split_values-low : (k n : ℕ) (bytes words : List ℕ) → length words ≡ n → 0 < k → GoOnLow k n bytes
-    → (0 < n → get_or words 0 0 ≡ split_value k n bytes 0) → ((p : ℕ) → 0 < p → p < n → get_or words p 0 ≡ get_or bytes p 0)
-    → words ≡ split_values k n bytes
-split_values-low k n bytes words size some low first rest = list_of_filled words n (split_value k n bytes) size at
-  where
-    later : (p : ℕ) → 0 < p → p < n → get_or words p 0 ≡ split_value k n bytes p
-    later p behind h =
-        let here : 0 * n + p ≡ p = simp (zero-mul, zero-add) refl in
-        rest p behind h
-        ∙ sym (number_of-low 8 k (λ j. get_or bytes (j * n + p) 0) some (λ j above g. low p j behind h above g)
-        ∙ ap (λ (q : ℕ). get_or bytes q 0) here)
-
-    at : Filled words n (split_value k n bytes)
-    at zero h = first h
-    at (suc p) h = later (suc p) (omega arith) h
+-- behind the first the elements of such a page are its bytes
+pub split_value-low : (k n : ℕ) (bytes : List ℕ) (i : ℕ) → 0 < k → GoOnLow k n bytes → 0 < i → i < n
+    → get_or bytes i 0 ≡ get_or (split_values k n bytes) i 0
+split_value-low k n bytes i some low behind h =
+    let here : 0 * n + i ≡ i = simp (zero-mul, zero-add) refl in
+    sym (get_or-list_of n (split_value k n bytes) i h
+    ∙ number_of-low 8 k (λ j. get_or bytes (j * n + i) 0) some (λ j above g. low i j behind h above g)
+    ∙ ap (λ (q : ℕ). get_or bytes q 0) here)
 
 -- elements of bytes fit
 pub split_values-fit : (k n : ℕ) (bytes : List ℕ) → ((p : ℕ) → get_or bytes p 0 < 256) → (i d : ℕ) → i < length (split_values k n bytes)

@@ -19,6 +19,7 @@ ghost use Rattle.nt_shred.specs.Walk.{CanPut, Puts, PutsAll, Leaves};
 use crate::integer_items::element_at;
 use crate::leaves::whole;
 use crate::pushing::push_end;
+use core::mem::replace_with;
 use nt_column::{ColumnBuf, ColumnSet, Columns};
 use nt_event::{after, comma, null};
 use nt_plans::Plan;
@@ -152,7 +153,27 @@ fn put_run(out: &mut ColumnSet, of: Integers, line: &[u8], at: usize) -> Option<
     }
 }
 
-/// Adds the ends behind one up to another. Inlined, so that a loop has one width alone.
+/// The column of ends with those behind one up to another. It is held by value, so that its place is kept in registers. Inlined, so
+/// that a loop has one width alone.
+#[inline(always)]
+fn counted_on(column: ColumnBuf, span: (u8, u64, u64)) -> (ColumnBuf, ())
+    requires width { bits_of column.column.kind ≡ span.0 }
+    requires takes { TakesNumber column.column span.2 }
+    requires room { (span.1 ≤ span.2) × (span.2 - span.1 ≤ column.spare) }
+    ensures column { result.0.column ≡ with_more column.column (ends_behind span.1 (span.2 - span.1)) }
+    ensures spare { column.spare ≤ result.0.spare + (span.2 - span.1) }
+{
+    let (bits, before, last) = span;
+    let mut ends = column;
+    let mut end = before;
+    while end < last {
+        end += 1;
+        ends.push_at_width(bits, end);
+    }
+    (ends, ())
+}
+
+/// Adds the ends behind one up to another.
 #[inline(always)]
 fn count_on(ends: &mut ColumnBuf, bits: u8, before: u64, last: u64)
     requires width { bits_of ends.old.column.kind ≡ bits }
@@ -161,11 +182,7 @@ fn count_on(ends: &mut ColumnBuf, bits: u8, before: u64, last: u64)
     ensures column { ends.new.column ≡ with_more ends.old.column (ends_behind before (last - before)) }
     ensures spare { ends.old.spare ≤ ends.new.spare + (last - before) }
 {
-    let mut end = before;
-    while end < last {
-        end += 1;
-        ends.push_at_width(bits, end);
-    }
+    replace_with(ends, (bits, before, last), counted_on);
 }
 
 /// Adds the ends behind one up to another to their column of a set.

@@ -1,26 +1,29 @@
-use Rattle.std.proofs.Common.{◌≡◌, ◌≢◌, ℕ, ◌*◌, ◌<◌, ◌^◌, List, length, get_or, get_or-set_other, get_or-set_same, sym, ◌∙◌, subst, arith}
-use Rattle.std.proofs.Math.ListN.{set, length-set}
-use Rattle.nt_encode.specs.Split.{split_values}
-use Rattle.nt_encode.proofs.Lists.{fits_byte}
-use Rattle.nt_encode.proofs.Low.{split_values-low, split_values-fit}
+use Rattle.std.proofs.Common.{◌≡◌, ℕ, ◌+◌, ◌*◌, ◌%◌, ◌^◌, length, sym, ◌∙◌, ap, arith}
+use Rattle.nt_encode.specs.Delta.{delta_value}
+use Rattle.nt_encode.specs.Split.{split_value, split_values}
+use Rattle.nt_encode.proofs.Deltas.{total-more}
+use Rattle.nt_encode.proofs.Lists.{Filled-set, length-list_of, list_of_whole}
 use Rattle.nt_encode.proofs.split.take_low.Goals as goal
 
-pub returns-then-count-gt0-clause-words : goal.returns-then-count-gt0-clause-words
-returns-then-count-gt0-clause-words c =
-    let read = c.loop-i.out in
-    let first = c.number_at.result in
-    let n = length c.args.out.now in
-    let size : length (set read 0 first) ≡ n = length-set read 0 first ∙ c.loop-i.auto.out in
-    let others = λ (p : ℕ) (behind : 0 < p) (h : p < n).
-    let other : p ≢ 0 = omega arith in
-    get_or-set_other read 0 p first 0 other ∙ c.loop-i.invariant p (omega arith) in
-    rw size (split_values-low c.args.width.bytes n c.args.bytes.now (set read 0 first) size c.args.width.some c.requires.low
-    (λ h. get_or-set_same read 0 first 0 (omega arith) ∙ c.number_at.ensures) others)
+pub loop-i-preserved : goal.loop-i-preserved
+loop-i-preserved c =
+    let k = c.args.width.bytes in
+    let n : ℕ = length c.args.out.now in
+    let words = split_values k n c.args.bytes.now in
+    let size : length words ≡ n = length-list_of n (split_value k n c.args.bytes.now) in
+    let here : c.sum_within-total.result ≡ delta_value (8 * k) words c.loop-i.i =
+    c.sum_within-total.ensures ∙ ap (λ (x : ℕ). (c.loop-i.total + x) % 2 ^ (8 * k)) c.low_word.ensures.word
+    ∙ total-more (8 * k) words c.loop-i.i c.loop-i.total (omega (arith, size)) c.loop-i.invariant.1 in (
+      Filled-set c.loop-i.out c.loop-i.i c.sum_within-total.result (delta_value (8 * k) words) c.loop-i.invariant.0 (omega arith) here,
+      here,
+    )
 
-pub returns-then-count-gt0-clause-fits : goal.returns-then-count-gt0-clause-fits
-returns-then-count-gt0-clause-fits c =
-    let bytes = c.args.bytes.now in
-    let words = set c.loop-i.out 0 c.number_at.result in
-    λ k d. subst (λ (xs : List ℕ). k < length xs → get_or xs k d < 2 ^ (8 * c.args.width.bytes))
-    (sym (returns-then-count-gt0-clause-words c))
-    (split_values-fit c.args.width.bytes (length words) bytes (λ p. fits_byte bytes p c.type_inv.bytes) k d)
+pub returns : goal.returns
+returns c =
+    let k = c.args.width.bytes in
+    let n : ℕ = length c.args.out.now in
+    let words = split_values k n c.args.bytes.now in
+    let size : length words ≡ n = length-list_of n (split_value k n c.args.bytes.now) in
+    let same : length c.loop-i.out ≡ n = c.loop-i.auto.out in
+    rw same (list_of_whole c.loop-i.out (length words) c.loop-i.i (delta_value (8 * k) words) (same ∙ sym size) c.loop-i.invariant.0
+    (omega (arith, size)))
