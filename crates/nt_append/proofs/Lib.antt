@@ -6,3 +6,4 @@ pub mod Images
 pub mod Beside
 pub mod Growing
 pub mod Grown
+pub mod Noted

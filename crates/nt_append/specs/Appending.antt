@@ -4,16 +4,20 @@ use Rattle.nt_outside.specs.Faults.{Rose}
 use Rattle.nt_outside.specs.Held.{Held, Becomes, BecomesSome, IsTornAppend, appended}
 use Rattle.nt_outside.specs.Disk.{DiskState}
 use Rattle.nt_container.specs.Spelling.{blob_key}
+use Rattle.nt_grammar.specs.Table.{Table}
 use Rattle.nt_machine.specs.History.{Cluster, Settled}
 use Rattle.nt_book.specs.declared.list.NotedList.{NotedList}
 use Rattle.nt_book.specs.declared.meta.ClusterMeta.{ClusterMeta}
-use Rattle.nt_book.specs.Books.{BookData, book_clusters, book_end, is_due}
+use Rattle.nt_book.specs.Books.{BookData, book_clusters, book_end, is_due, noted_at}
 use Rattle.nt_book.specs.Entries.{faulted_entry}
 use Rattle.nt_book.specs.Limiting.{limit_error}
 use Rattle.nt_pages.specs.declared.image.ClusterImage.{ClusterImage}
 use Rattle.nt_pages.specs.Image.{key_room}
 use Rattle.nt_pagelists.specs.Blobs.{blob}
 use Rattle.nt_pagelists.specs.Due.{due_len, due_object}
+use Rattle.nt_pagelists.specs.Objects.{list_object}
+use Rattle.nt_layout.specs.Headers.{header_sum}
+use Rattle.nt_layout.specs.Beside.{full_span}
 use Rattle.nt_commit.specs.Appending.{due_bytes}
 use Rattle.nt_commit.specs.Images.{IsImageFor}
 use Rattle.nt_commit.specs.Lists.{noted_list}
@@ -56,6 +60,12 @@ range_behind image book = keyed image.bytes (book_end (with_due_list book))
 pub record GainsCluster (meta : ClusterMeta) (old new : BookData) : Type 0 where
   pub clusters : book_clusters new ≡ book_clusters old ++ settled_cluster (length (book_clusters old)) (book_end old) meta ∷ []
   pub same : new ≡ record old { history = new.history; spare = new.spare }
+
+-- each page list that is noted is noted with the size of its group's, of so many clusters
+abbrev pub AreSizesNoted : Table → ℕ → BookData → Type 0
+AreSizesNoted t most book =
+    (k : ℕ) → k < length book.lists
+    → (noted_at book k).at.size ≡ length (list_object (header_sum t) book (full_span most k))
 
 -- ---- what is asked, and what each answer leaves
 

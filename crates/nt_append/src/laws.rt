@@ -8,13 +8,16 @@ ghost use Rattle.nt_book.specs.Kept.{IsBookKept};
 ghost use Rattle.nt_lists.specs.Parts.{part_bytes};
 ghost use Rattle.nt_layout.specs.Headers.{header_sum};
 ghost use Rattle.nt_layout.specs.Beside.{HasListsBeside, parts_so_far};
-ghost use Rattle.nt_append.specs.Appending.{GainsCluster, due_blobs, with_due_list};
+ghost use Rattle.nt_append.specs.Appending.{AreSizesNoted, GainsCluster, due_blobs, with_due_list};
 
 /// With one cluster more, and the page list that was due, the page lists of a book stand beside its
-/// clusters, and the parts of its file go on by just what is appended.
+/// clusters, each noted with its size, and the parts of its file go on by just what is appended.
 pub fn appended_parts_go_on()
     ensures beside { (t : Table) (most : ℕ) (meta : ClusterMeta) (old new : BookData) → IsBookKept old
         → HasListsBeside t most old → GainsCluster meta (with_due_list old) new → HasListsBeside t most new }
+    ensures sizes { (t : Table) (most : ℕ) (meta : ClusterMeta) (old new : BookData) → IsBookKept old
+        → HasListsBeside t most old → GainsCluster meta (with_due_list old) new
+        → AreSizesNoted t most old → AreSizesNoted t most new }
     ensures parts { (t : Table) (most : ℕ) (meta : ClusterMeta) (old new : BookData)
         (ranges : List (List ℕ)) (range : List ℕ) → IsBookKept old → IsBookKept new
         → HasListsBeside t most old → GainsCluster meta (with_due_list old) new
@@ -23,12 +26,15 @@ pub fn appended_parts_go_on()
         ≡ part_bytes (parts_so_far t old most ranges) ++ (due_blobs old ++ range ∷ []) }
 {}
 
-/// Columns that are added to a book change none of its page lists, and no part of its file, if the
-/// header stays.
+/// Columns that are added to a book change none of its page lists, nor the size of any, and no part of
+/// its file, if the header stays.
 pub fn added_columns_change_no_part()
     ensures beside { (t u : Table) (most : ℕ) (old new : BookData) (more : List ℕ) → IsBookKept old
         → IsBookKept new → HasListsBeside t most old → header_sum u ≡ header_sum t
         → new ≡ record old { firsts = old.firsts ++ more } → HasListsBeside u most new }
+    ensures sizes { (t u : Table) (most : ℕ) (old new : BookData) (more : List ℕ) → IsBookKept old
+        → IsBookKept new → HasListsBeside t most old → header_sum u ≡ header_sum t
+        → new ≡ record old { firsts = old.firsts ++ more } → AreSizesNoted t most old → AreSizesNoted u most new }
     ensures parts { (t u : Table) (most : ℕ) (old new : BookData) (more : List ℕ)
         (ranges : List (List ℕ)) → IsBookKept old → IsBookKept new → HasListsBeside t most old
         → header_sum u ≡ header_sum t → new ≡ record old { firsts = old.firsts ++ more }

@@ -15,8 +15,9 @@
 //! the disk all memory is taken and all limits are tested, so a refusal but for a fault leaves disk
 //! and book as they were (`kept`). After a fault, which the disk's count tells, the fault is entered; a list
 //! that failed tears the book where the disk ends, one that was appended is noted (`fault`). With one cluster
-//! more the parts of the file so far go on by just what was appended (`appended_parts_go_on`), and columns that
-//! are added change none of them (`added_columns_change_no_part`). Nothing is only tested.
+//! more the parts of the file so far go on by just what was appended, and each page list is noted with its size
+//! (`appended_parts_go_on`); columns that are added change nothing of that (`added_columns_change_no_part`). Nothing is only
+//! tested.
 //!
 //! Neither proved nor promised: that a limit is named where memory is wanting for the page list that is
 //! due, since its length is known once it is made.

@@ -22,7 +22,7 @@ use Rattle.nt_plans.specs.Plan.{PlanData, PlansData, no_plans, plan, and_plan}
 use Rattle.nt_plans.specs.Types.{are_some}
 use Rattle.nt_trees.specs.Described.{AreDescribed}
 use Rattle.nt_file_meaning.specs.Headers.{header_text}
-use Rattle.nt_layout.specs.Headers.{header_object}
+use Rattle.nt_layout.specs.Headers.{header_object, header_sum}
 use Rattle.nt_fill.specs.Context.{HasKnownType}
 use Rattle.nt_seq.specs.Widening.{first_elements}
 use Rattle.nt_seq.specs.Written.{IsFirstSchema}
@@ -188,6 +188,10 @@ module _ (t : Table) (field : MemberData) (plain : Bool) (entries : ℕ) (new : 
   pub header-kept : IsDescribed t → header_object new ≡ header_object t
   unfolding header_object
   header-kept is = rw (header-text-kept is) refl
+
+  pub sum-kept : IsDescribed t → header_sum new ≡ header_sum t
+  unfolding header_sum
+  sum-kept is = rw (header-text-kept is) refl
 
   -- not all rows stand in the header
   pub not_first : IsDescribed t → IsFirstSchema new → ⊥

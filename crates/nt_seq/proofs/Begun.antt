@@ -18,9 +18,11 @@ use Rattle.nt_book.specs.declared.params.Params.{Params}
 use Rattle.nt_book.specs.Books.{BookData, book_clusters, book_end, entry_count}
 use Rattle.nt_schema.specs.Whole.{AreWhole}
 use Rattle.nt_pagelists.specs.Blobs.{blob_len}
+use Rattle.nt_lists.specs.Parts.{part_bytes}
+use Rattle.nt_layout.specs.Beside.{parts_so_far}
 use Rattle.nt_layout.specs.Headers.{header_blob, header_object, clusters_place}
 use Rattle.nt_layout.specs.Laid.{AreBlobsOf, none_left}
-use Rattle.nt_close.proofs.NewBooks.{new-ungrouped}
+use Rattle.nt_close.proofs.NewBooks.{new-noted, new-untorn}
 use Rattle.nt_close.specs.Beginning.{IsBegun}
 use Rattle.nt_close.specs.Closing.{IsClosable}
 use Rattle.nt_close.specs.Passing.{passed_by_begin}
@@ -65,18 +67,19 @@ module _ (fields : List MemberData) (p : Params) (given new : DiskState) (book :
   none-yet = ap book_clusters is.book_is
 
   -- no cluster is written
-  pub clusters-none : (page : ℕ) → HasClusters given new t page book []
-  clusters-none page = record {
+  pub clusters-none : HasClusters given new t p book []
+  clusters-none = record {
     ranges = [];
-    late = subst (λ (cs : List (Cluster ClusterMeta)). AreLateBlobs t page 0 [] [] cs) (sym none-yet) no_blob;
-    first = λ first. subst (λ (cs : List (Cluster ClusterMeta)). AreBlobsOf t page [] [] cs) (sym none-yet) none_left;
-    held = held-begun;
+    late = subst (λ (cs : List (Cluster ClusterMeta)). AreLateBlobs t p.page 0 [] [] cs) (sym none-yet) no_blob;
+    first = λ first. subst (λ (cs : List (Cluster ClusterMeta)). AreBlobsOf t p.page [] [] cs) (sym none-yet) none_left;
+    held = subst (λ (b : BookData). Becomes given.held new.held (λ h. file_so_far t (part_bytes (parts_so_far t b p.group []))))
+        (sym is.book_is) held-begun;
   }
 
-  pub closable-begun : given.out ≡ [] → AreWhole t → IsClosable new book t
+  pub closable-begun : given.out ≡ [] → AreWhole t → IsClosable new book t p
   closable-begun out whole = record {
     begin = ap (λ (b : BookData). b.begin) is.book_is;
-    ungrouped = new-ungrouped t p.limits book is.book_is;
+    noted = new-noted t p book is.book_is;
     end = let ends = ap book_end is.book_is in omega (arith, is.end, ends);
     out = is.out ∙ out;
     whole = whole;
@@ -118,10 +121,11 @@ pub writing-begun : {D : Type 0} (state : D → DiskState) (fields : List Member
       alive = true;
     })
 writing-begun state fields p disk new book t columns is empty out described ready = record {
-  ranges = [];
+  blobs = [];
   held = held-begun fields p (state disk) (state new) book t is empty;
   header = refl;
   closable = closable-begun fields p (state disk) (state new) book t is empty out ready.whole;
+  untorn = new-untorn t p book is.book_is;
   within = is.within;
   limits = ap (λ (b : BookData). b.limits) is.book_is;
   firsts = firsts-begun fields p (state disk) (state new) book t is empty;

@@ -76,6 +76,13 @@ late-length t page first clusters ranges cs no_blob = refl
 late-length t page first clusters ranges cs (late_blob {others = others} {ranges = left} {c = d} {cs = ds} head more) =
     let rest = late-length t page (first + d.meta.entries) others left ds more in omega (arith, rest)
 
+-- and as many ranges
+pub late-ranges : (t : Table) (page first : ℕ) (clusters : List (List TreesData)) (ranges : List (List ℕ)) (cs : List (Cluster ClusterMeta))
+    → AreLateBlobs t page first clusters ranges cs → length ranges ≡ length cs
+late-ranges t page first clusters ranges cs no_blob = refl
+late-ranges t page first clusters ranges cs (late_blob {others = others} {ranges = left} {c = d} {cs = ds} head more) =
+    let rest = late-ranges t page (first + d.meta.entries) others left ds more in omega (arith, rest)
+
 pub late-entries : (t : Table) (page first : ℕ) (clusters : List (List TreesData)) (ranges : List (List ℕ))
     (cs : List (Cluster ClusterMeta)) → AreLateBlobs t page first clusters ranges cs → entry_count cs ≡ entries_of_clusters clusters
 late-entries t page first clusters ranges cs no_blob = refl

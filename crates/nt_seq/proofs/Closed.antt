@@ -22,20 +22,24 @@ use Rattle.nt_book.specs.Kept.{IsBookKept}
 use Rattle.nt_file_meaning.specs.Files.{HasDefect}
 use Rattle.nt_pagelists.specs.Blobs.{blob_len}
 use Rattle.nt_layout.specs.Headers.{header_object, clusters_place}
-use Rattle.nt_layout.specs.Finished.{lists_behind, finished, tail, front}
+use Rattle.nt_lists.specs.Parts.{part_bytes}
+use Rattle.nt_layout.specs.Beside.{HasListsBeside, parts_so_far}
+use Rattle.nt_layout.specs.Finished.{finished}
 use Rattle.nt_close.specs.declared.error.CloseError.{CloseError}
-use Rattle.nt_close.specs.declared.error.CloseError.TheVariants.{Spoiled, Memory, RangeTooLarge, FileTooLarge, Fault}
+use Rattle.nt_close.specs.declared.error.CloseError.TheVariants.{Spoiled, Torn, Memory, RangeTooLarge, FileTooLarge, Fault}
 use Rattle.nt_cuts.specs.Cuts.{WritesFirst, LeavesUnfinished, LeavesUnfinishedOr}
 use Rattle.nt_close.specs.Closing.{HasCloseCause, LeavesClosed, AreRangesOf}
 use Rattle.nt_close.specs.Crashes.{LeavesByAnswer}
 use Rattle.nt_close.specs.Passing.{first_passed, passed_by_begin, passed_by_close, measures_of}
 use Rattle.nt_close.specs.Spoiled.{IsUnspoiled}
 use Rattle.nt_close.specs.Steps.{closed_on, IsClosedSoFar, closed_partly, closed_whole}
+use Rattle.nt_close.specs.Filled.{closing_tail, closing_front}
 use Rattle.nt_close.proofs.Finishing.{closed-is}
 use Rattle.nt_close.proofs.FirstByte.{cut_shut, closes_in_order}
-use Rattle.nt_close.proofs.Within.{within}
+use Rattle.nt_close.proofs.Within.{listed-beside, within}
 use Rattle.nt_finished.proofs.Lengths.{clusters_told}
-use Rattle.nt_finished.proofs.Staged.{all_behind, laid-staged, ranges-by_number}
+use Rattle.nt_finished.proofs.Beside.{all_beside, laid-beside}
+use Rattle.nt_finished.proofs.Staged.{ranges-by_number}
 use Rattle.nt_finished.specs.LateFiles.{AreLateBlobs}
 use Rattle.nt_finished.proofs.LaidLate.{lens-late}
 use Rattle.nt_seq.specs.Closing.{IsFileOf, IsShutOrWhole}
@@ -73,35 +77,41 @@ module _ {D : Type 0} (state : D → DiskState) (w : SeqState D) (is : IsWriting
     (reads : (h : Held) → (state w.disk).held ≡ Some h → Reads h.log h.image) (first : Held)
     (told : (state w.given).held ≡ Some first) where
   abbrev behind : List ℕ
-  behind = tail w.table w.book (lists_behind w.table w.book w.params.group)
+  behind = closing_tail w.table w.book w.params.group
 
   abbrev before : List ℕ
-  before = front w.table w.book (lists_behind w.table w.book w.params.group)
+  before = closing_front w.table w.book w.params.group
+
+  beside : HasListsBeside w.table w.params.group w.book
+  beside = listed-beside w.table w.params w.book is.closable.noted is.untorn
 
   abbrev h : Held
-  h = file_so_far w.table is.ranges
+  h = file_so_far w.table is.blobs
 
   held : (state w.disk).held ≡ Some h
   held = is.held first told
 
   unclosed : IsUnclosedOf w.table h
-  unclosed = record { ranges = is.ranges; steps = inl refl }
+  unclosed = record { blobs = is.blobs; steps = inl refl }
 
   lens : (clusters : List (List TreesData)) (has : HasWritten state w clusters) → AreRangesOf w.book has.ranges
   lens clusters has =
       lens-late w.table w.params.page 0 clusters has.ranges (book_clusters w.book) has.late (clusters_told w.book kept)
 
   image-is : (clusters : List (List TreesData)) (has : HasWritten state w clusters)
-      → (closed_on behind before h).image ≡ finished true w.table w.book w.params.group has.ranges
+      → (closed_on behind before h).image ≡ finished false w.table w.book w.params.group has.ranges
   image-is clusters has =
-      closed-is w.table w.book w.params.group has.ranges h is.closable.begin (lens clusters has)
-      (ap (λ (k : Held). k.image) (same_held (state w.disk).held h (file_so_far w.table has.ranges) held (has.held first told))
-      ∙ image-file w.table has.ranges)
+      let parts = part_bytes (parts_so_far w.table w.book w.params.group has.ranges) in
+      closed-is w.table w.book w.params.group has.ranges h
+      (record { kept = kept; beside = beside; begin = is.closable.begin; lens = lens clusters has })
+      (ap (λ (k : Held). k.image) (same_held (state w.disk).held h (file_so_far w.table parts) held (has.held first told))
+      ∙ image-file w.table parts)
 
   -- the finished file is that of the clusters
   pub whole : passed_by_close w.params w.table w.book ≡ None → IsFileOf state w (closed_on behind before h).image
   whole passed =
-      let stays = within w.table w.params w.book passed (header-within w.params.limits w.table is.within) in
+      let stays = within w.table w.params w.book kept is.closable.noted is.untorn passed
+      (header-within w.params.limits w.table is.within) in
       record {
         described = is.described;
         late = λ clusters has. record {
@@ -114,17 +124,17 @@ module _ {D : Type 0} (state : D → DiskState) (w : SeqState D) (is : IsWriting
           lens = lens clusters has;
           blobs_are = subst (λ (l : List (List ℕ)). AreLateBlobs w.table w.params.page 0 clusters l (book_clusters w.book))
               (sym (ranges-by_number w.book has.ranges kept (lens clusters has))) has.late;
-          behind = all_behind w.table w.params.group w.book has.ranges kept is.closable.ungrouped is.closable.begin (lens clusters has);
+          behind = all_beside w.table w.params.group w.book kept beside has.ranges is.closable.begin (lens clusters has);
           is = image-is clusters has;
         };
         short = λ clusters has. is.short;
         first = λ fields rows clusters has.
-            laid-staged (closed_on behind before h).image w.table clusters (measures_of w.params) has.ranges w.book refl (record {
+            laid-beside (closed_on behind before h).image w.table clusters (measures_of w.params) has.ranges w.book refl (record {
               kept = kept;
               begin = is.closable.begin;
               firsts = is.firsts;
               none_deferred = described-first fields w.params.plain w.table rows;
-            }) is.closable.ungrouped stays (has.first rows.fields_in_header) (image-is clusters has);
+            }) beside stays (has.first rows.fields_in_header) (image-is clusters has);
       }
 
   -- ---- the steps of a close
@@ -143,7 +153,7 @@ module _ {D : Type 0} (state : D → DiskState) (w : SeqState D) (is : IsWriting
   IsWhole = IsFileOf state w
 
   abbrev IsClosedFile : List ℕ → Type 0
-  IsClosedFile = IsClosedBy w.table is.ranges behind before
+  IsClosedFile = IsClosedBy w.table is.blobs behind before
 
   turn : passed_by_close w.params w.table w.book ≡ None → (bytes : List ℕ) → IsClosedFile bytes → IsWhole bytes
   turn passed bytes same = subst IsWhole (sym same) (whole passed)
@@ -170,6 +180,7 @@ module _ {D : Type 0} (state : D → DiskState) (w : SeqState D) (is : IsWriting
     pub left-open : (new : DiskState) (e : CloseError) → LeavesClosed behind before (state w.disk) new (Err e)
         → HasCloseCause w.book (passed_by_close w.params w.table w.book) (Err e) → IsLeft new (LeftOpen e)
     left-open new (Spoiled cluster faults) left cause = stays-open new left.place.held
+    left-open new (Torn group faults) left cause = stays-open new left.place.held
     left-open new Memory left cause = stays-open new left.place.held
     left-open new (RangeTooLarge len most) left cause = stays-open new left.place.held
     left-open new (FileTooLarge end most) left cause = stays-open new left.place.held
@@ -187,7 +198,7 @@ module _ {D : Type 0} (state : D → DiskState) (w : SeqState D) (is : IsWriting
           cut.0,
           cut.1,
           in-order cut.0 (closed_partly cut.2),
-          (image, turned cut.0.log (turn cause.1) (leave.closing w.table is.ranges behind before cut.0 (closed_partly cut.2))),
+          (image, turned cut.0.log (turn cause.1) (leave.closing w.table is.blobs behind before cut.0 (closed_partly cut.2))),
         )
 
     pub left-whole : (new : DiskState) → LeavesClosed behind before (state w.disk) new (Ok tt)
@@ -202,8 +213,8 @@ module _ {D : Type 0} (state : D → DiskState) (w : SeqState D) (is : IsWriting
             whole cause.1,
             (
               turned log (turn cause.1)
-                  (leave.closing w.table is.ranges behind before (closed_on behind before h) (closed_whole refl)),
-              λ bytes may. turn cause.1 bytes (leave.closed w.table is.ranges behind before bytes may),
+                  (leave.closing w.table is.blobs behind before (closed_on behind before h) (closed_whole refl)),
+              λ bytes may. turn cause.1 bytes (leave.closed w.table is.blobs behind before bytes may),
             ),
           ),
         )

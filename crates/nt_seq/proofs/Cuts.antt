@@ -1,4 +1,4 @@
--- What a crash leaves of a file whose ranges are appended, wherever it cuts the steps off.
+-- What a crash leaves of a file whose blobs are appended, wherever it cuts the steps off.
 use Rattle.std.proofs.Common.{◌≡◌, ◌⊎◌, ◌∙◌, inl, inr, ap, sym, subst, refl, ℕ, List, [], ◌∷◌, ◌++◌, length, take}
 use Rattle.std.proofs.Common.{drop, map, get_or, arith}
 use Rattle.std.specs.Prelude.{IsTrue}
@@ -41,7 +41,7 @@ TornLeaves =
     (log : List Step) (byte : ℕ) (left : List ℕ) → MayLeave (crash_of ((log ++ Sync ∷ []) ++ FailedWrite 0 (byte ∷ []) ∷ [])) left
     → Reads log left ⊎ ReadsButFirst log byte left
 
--- ---- a file that is begun, with ranges behind its header
+-- ---- a file that is begun, with blobs behind its header
 
 module _ (order : OrderedLeaves) where
   any-left : (log : List Step) → HasFirst log → FirstByteLast log → LeavesUnfinishedOr IsAny log
@@ -61,32 +61,32 @@ module _ (order : OrderedLeaves) where
   pub unclosed-left : (t : Table) (h : Held) → IsUnclosedOf t h → FirstByteLast h.log → LeavesUnfinished h.log
   unclosed-left t h is last = at is.steps
     where
-      plain : IsPlain (file_so_far t is.ranges)
-      plain = plain-file t is.ranges
+      plain : IsPlain (file_so_far t is.blobs)
+      plain = plain-file t is.blobs
 
-      at : (h ≡ file_so_far t is.ranges) ⊎ ((most : ℕ) × IsTornAppend most (file_so_far t is.ranges) h)
+      at : (h ≡ file_so_far t is.blobs) ⊎ ((most : ℕ) × IsTornAppend most (file_so_far t is.blobs) h)
           → LeavesUnfinished h.log
       at (inl same) =
           behind-left h.log (subst (λ (k : Held). HasFirst k.log) (sym same) plain.first) last
           (subst (λ (k : Held). AreBehind k.log) (sym same) plain.behind)
       at (inr torn) =
-          let log = (file_so_far t is.ranges).log in
+          let log = (file_so_far t is.blobs).log in
           let s = FailedAppend (length torn.1.junk) in
           behind-left h.log (subst HasFirst (sym torn.1.log) (first-push log s plain.first)) last
           (subst AreBehind (sym torn.1.log) (behind-push log s plain.behind (λ over. over)))
 
   -- ---- and is closed
 
-  module _ (writes : WrittenLeaves) (torn : TornLeaves) (t : Table) (ranges : List (List ℕ)) (tail front : List ℕ)
-      (shut : IsShut (file_so_far t ranges).image) (last : FirstByteLast (file_so_far t ranges).log) where
+  module _ (writes : WrittenLeaves) (torn : TornLeaves) (t : Table) (blobs : List (List ℕ)) (tail front : List ℕ)
+      (shut : IsShut (file_so_far t blobs).image) (last : FirstByteLast (file_so_far t blobs).log) where
     abbrev h : Held
-    h = file_so_far t ranges
+    h = file_so_far t blobs
 
     abbrev IsClosedFile : List ℕ → Type 0
-    IsClosedFile = IsClosedBy t ranges tail front
+    IsClosedFile = IsClosedBy t blobs tail front
 
     plain : IsPlain h
-    plain = plain-file t ranges
+    plain = plain-file t blobs
 
     abbrev shut_log : List Step
     shut_log = (shut_on tail front h).log
@@ -203,13 +203,13 @@ pub appends_leave : ((t : Table) (left : Held) → IsBegunSoFar (begun 0 0 0) (h
 appends_leave beginning order writes torn shut last = record {
   beginning = beginning;
   unclosed = λ t h is. unclosed-left order t h is (last t h is);
-  closing = λ t ranges tail front left so_far.
-      closing-left order writes torn t ranges tail front (shut t (file_so_far t ranges) (unclosed t ranges))
-      (last t (file_so_far t ranges) (unclosed t ranges)) left so_far;
-  closed = λ t ranges tail front.
-      closed-only order writes torn t ranges tail front (shut t (file_so_far t ranges) (unclosed t ranges))
-      (last t (file_so_far t ranges) (unclosed t ranges));
+  closing = λ t blobs tail front left so_far.
+      closing-left order writes torn t blobs tail front (shut t (file_so_far t blobs) (unclosed t blobs))
+      (last t (file_so_far t blobs) (unclosed t blobs)) left so_far;
+  closed = λ t blobs tail front.
+      closed-only order writes torn t blobs tail front (shut t (file_so_far t blobs) (unclosed t blobs))
+      (last t (file_so_far t blobs) (unclosed t blobs));
 }
   where
-    unclosed : (t : Table) (ranges : List (List ℕ)) → IsUnclosedOf t (file_so_far t ranges)
-    unclosed t ranges = record { ranges = ranges; steps = inl refl }
+    unclosed : (t : Table) (blobs : List (List ℕ)) → IsUnclosedOf t (file_so_far t blobs)
+    unclosed t blobs = record { blobs = blobs; steps = inl refl }

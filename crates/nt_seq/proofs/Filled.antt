@@ -12,10 +12,11 @@ pub writing-filled : {D : Type 0} (state : D → DiskState) (w : SeqState D) (co
     → Gives w.table columns (entries_given w.table columns entries) → entries ≤ w.params.cluster
     → IsWriting state (record w { columns = columns; entries = entries })
 writing-filled state w columns entries is gives full = record {
-  ranges = is.ranges;
+  blobs = is.blobs;
   held = is.held;
   header = is.header;
   closable = is.closable;
+  untorn = is.untorn;
   within = is.within;
   limits = is.limits;
   firsts = is.firsts;

@@ -11,20 +11,22 @@ use Rattle.nt_grammar.specs.Table.{Table}
 use Rattle.nt_machine.specs.History.{Cluster}
 use Rattle.nt_machine.proofs.Histories.{AllByRecursion-append}
 use Rattle.nt_book.specs.declared.limits.Limits.{Limits}
-use Rattle.nt_book.specs.declared.list.NotedList.{NotedList}
 use Rattle.nt_book.specs.declared.meta.ClusterMeta.{ClusterMeta}
-use Rattle.nt_book.specs.Books.{BookData, IsUngrouped, book_clusters, book_end, entry_count}
+use Rattle.nt_book.specs.declared.params.Params.{Params}
+use Rattle.nt_book.specs.Books.{BookData, book_clusters, book_end, entry_count}
 use Rattle.nt_book.specs.Limiting.{limit_error, limit_error_with}
 use Rattle.nt_book.proofs.Fitting.{limit_error-none}
-use Rattle.nt_book.proofs.Ungrouped.{due-ungrouped}
 use Rattle.nt_column.specs.Column.{Column}
 use Rattle.nt_pages.specs.declared.image.ClusterImage.{ClusterImage}
 use Rattle.nt_pages.specs.Image.{image}
 use Rattle.nt_pages.specs.Metas.{cluster_meta}
+use Rattle.nt_lists.specs.Parts.{part_bytes}
 use Rattle.nt_layout.specs.Headers.{header_blob}
+use Rattle.nt_layout.specs.Beside.{HasListsBeside, parts_so_far}
 use Rattle.nt_layout.specs.Laid.{Gives, IsBlobOfEntries, AreBlobsOf}
 use Rattle.nt_close.specs.Steps.{begun_on}
 use Rattle.nt_close.specs.Closing.{IsClosable}
+use Rattle.nt_close.proofs.Within.{listed-beside}
 use Rattle.nt_finished.specs.LateFiles.{IsLateBlob, AreLateBlobs}
 use Rattle.nt_fill.proofs.Entries.{entries_count}
 use Rattle.nt_fill.proofs.Images.{blob_of, image_for}
@@ -35,21 +37,27 @@ use Rattle.nt_plans.specs.Place.{open_plans}
 use Rattle.nt_plans.specs.Types.{AllHaveTypes}
 use Rattle.std.proofs.lemmas.List.{length-append, length-map}
 use Rattle.nt_append.specs.Appending.{AppendsImage, due_blobs, range_behind, settled_cluster, with_due_list}
-use Rattle.nt_append.proofs.Due.{blobs-ungrouped, end-with, lists-none}
+use Rattle.nt_append.proofs.Due.{end-with}
 use Rattle.nt_append.proofs.Entered.{end-gained}
 use Rattle.nt_append.proofs.Images.{appended-behind}
+use Rattle.nt_seq.specs.Beside.{AppendsNext}
 use Rattle.nt_seq.specs.Changing.{gathered_image}
 use Rattle.nt_seq.specs.Standing.{IsSettledCluster, IsShortCluster, IsWriting}
 use Rattle.nt_seq.specs.Writer.{SeqState, gathered_by}
 use Rattle.nt_seq.specs.Written.{file_so_far, HasClusters, IsUnclosedOf}
+use Rattle.nt_seq.proofs.Beside.{lists-sizes}
+use Rattle.nt_seq.proofs.Closable.{closable-more}
 use Rattle.nt_seq.proofs.Files.{unclosed-kept}
-use Rattle.nt_seq.proofs.Blobs.{late-push, blobs-push, late-blob-now}
+use Rattle.nt_seq.proofs.Blobs.{late-push, late-ranges, blobs-push, late-blob-now}
 
-module _ (given old new : DiskState) (t : Table) (page : ℕ) (book next : BookData) (columns : List Column) (entries : List TreesData)
-    (i : ClusterImage) (gives : Gives t columns entries) (bytes : i.bytes ≡ image page columns)
-    (meta : i.meta ≡ cluster_meta page 0 (length entries) columns)
+module _ (given old new : DiskState) (t : Table) (p : Params) (book next : BookData) (columns : List Column) (entries : List TreesData)
+    (i : ClusterImage) (gives : Gives t columns entries) (bytes : i.bytes ≡ image p.page columns)
+    (meta : i.meta ≡ cluster_meta p.page 0 (length entries) columns)
     (begun_are : AllByRecursion (λ (c : ColumnRow). c.first ≤ entry_count (book_clusters book)) t.columns)
-    (appends : AppendsImage i old new book next) where
+    (next_to : AppendsNext i old new book next) where
+  abbrev appends : AppendsImage i old new book next
+  appends = next_to.appends
+
   abbrev behind : BookData
   behind = with_due_list book
 
@@ -59,53 +67,40 @@ module _ (given old new : DiskState) (t : Table) (page : ℕ) (book next : BookD
   abbrev cluster : Cluster ClusterMeta
   cluster = settled_cluster (length (book_clusters book)) (book_end behind) i.meta
 
-  blob : IsBlobOfEntries t page entries (book_end behind) range i.meta
-  blob = blob_of t columns entries gives page 0 (book_end behind) i i.meta bytes meta refl
+  blob : IsBlobOfEntries t p.page entries (book_end behind) range i.meta
+  blob = blob_of t columns entries gives p.page 0 (book_end behind) i i.meta bytes meta refl
 
-  late : IsLateBlob t page (0 + entry_count (book_clusters book)) cluster range entries
+  late : IsLateBlob t p.page (0 + entry_count (book_clusters book)) cluster range entries
   late =
       let same : entry_count (book_clusters book) ≡ 0 + entry_count (book_clusters book) = omega arith in
-      subst (λ (n : ℕ). IsLateBlob t page n cluster range entries) same
-      (late-blob-now t page (entry_count (book_clusters book)) cluster range entries blob begun_are)
+      subst (λ (n : ℕ). IsLateBlob t p.page n cluster range entries) same
+      (late-blob-now t p.page (entry_count (book_clusters book)) cluster range entries blob begun_are)
 
-  pub held-more : (ranges : List (List ℕ)) → Becomes given.held old.held (λ h. file_so_far t ranges)
-      → Becomes given.held new.held (λ h. file_so_far t (ranges ++ (due_blobs book ++ range ∷ [])))
-  held-more ranges told h is =
-      appends.held (file_so_far t ranges) (told h is)
+  pub held-more : (blobs : List (List ℕ)) → Becomes given.held old.held (λ h. file_so_far t blobs)
+      → Becomes given.held new.held (λ h. file_so_far t (blobs ++ (due_blobs book ++ range ∷ [])))
+  held-more blobs told h is =
+      appends.held (file_so_far t blobs) (told h is)
       ∙ ap Some
-      (appended-behind ranges (due_blobs book ++ range ∷ []) (begun_on (begun 0 0 0) (header_blob t) nothing_held))
+      (appended-behind blobs (due_blobs book ++ range ∷ []) (begun_on (begun 0 0 0) (header_blob t) nothing_held))
 
   -- the entries are the next cluster
-  pub clusters-more : IsUngrouped book → (clusters : List (List TreesData)) → HasClusters given old t page book clusters
-      → HasClusters given new t page next (clusters ++ entries ∷ [])
-  clusters-more bare clusters has = record {
+  pub clusters-more : HasListsBeside t p.group book → (clusters : List (List TreesData)) → HasClusters given old t p book clusters
+      → HasClusters given new t p next (clusters ++ entries ∷ [])
+  clusters-more beside clusters has = record {
     ranges = has.ranges ++ range ∷ [];
-    late = subst (λ (cs : List (Cluster ClusterMeta)). AreLateBlobs t page 0 (clusters ++ entries ∷ []) (has.ranges ++ range ∷ []) cs)
+    late = subst (λ (cs : List (Cluster ClusterMeta)). AreLateBlobs t p.page 0 (clusters ++ entries ∷ []) (has.ranges ++ range ∷ []) cs)
         (sym appends.gains.clusters)
-        (late-push t page 0 clusters has.ranges (book_clusters book) entries range cluster has.late late);
-    first = λ is. subst (λ (cs : List (Cluster ClusterMeta)). AreBlobsOf t page (clusters ++ entries ∷ []) (has.ranges ++ range ∷ []) cs)
+        (late-push t p.page 0 clusters has.ranges (book_clusters book) entries range cluster has.late late);
+    first = λ is. subst (λ (cs : List (Cluster ClusterMeta)). AreBlobsOf t p.page (clusters ++ entries ∷ []) (has.ranges ++ range ∷ []) cs)
         (sym appends.gains.clusters)
-        (blobs-push t page clusters has.ranges (book_clusters book) entries range cluster (has.first is) blob);
-    held = subst (λ (bs : List (List ℕ)). Becomes given.held new.held (λ h. file_so_far t (has.ranges ++ (bs ++ range ∷ []))))
-        (blobs-ungrouped book bare) (held-more has.ranges has.held);
+        (blobs-push t p.page clusters has.ranges (book_clusters book) entries range cluster (has.first is) blob);
+    held = subst (λ (bs : List (List ℕ)). Becomes given.held new.held (λ h. file_so_far t bs))
+        (sym (next_to.parts t p.group has.ranges beside
+        (late-ranges t p.page 0 clusters has.ranges (book_clusters book) has.late)))
+        (held-more (part_bytes (parts_so_far t book p.group has.ranges)) has.held);
   }
 
   -- ---- what holds of the book
-
-  next-ungrouped : IsUngrouped book → IsUngrouped next
-  next-ungrouped bare =
-      subst IsUngrouped
-      (sym (appends.gains.same ∙ ap (λ (ls : List NotedList). record book { lists = ls; history = next.history; spare = next.spare })
-      (lists-none book (due-ungrouped book bare)))) (record { no_groups = bare.no_groups; between = bare.between })
-
-  pub closable-more : IsClosable old book t → IsClosable new next t
-  closable-more is = record {
-    begin = ap (λ (b : BookData). b.begin) appends.gains.same ∙ is.begin;
-    ungrouped = next-ungrouped is.ungrouped;
-    end = appends.end;
-    out = appends.out ∙ is.out;
-    whole = is.whole;
-  }
 
   more-entries : entry_count (book_clusters next) ≡ entry_count (book_clusters book) + entry_count (cluster ∷ [])
   more-entries =
@@ -129,7 +124,10 @@ module _ {D : Type 0} (state : D → DiskState) (w : SeqState D) (disk : D) (nex
     (is : IsWriting state w) (bytes : i.bytes ≡ image w.params.page w.columns)
     (meta : i.meta ≡ cluster_meta w.params.page 0 (length (gathered_by w)) w.columns)
     (fits : limit_error_with w.book.limits (book_end w.book) (length (book_clusters w.book)) i.meta.len (length (due_bytes w.book)) ≡ None)
-    (appends : AppendsImage i (state w.disk) (state disk) w.book next) (empty : Gives w.table columns []) where
+    (next_to : AppendsNext i (state w.disk) (state disk) w.book next) (empty : Gives w.table columns []) where
+  abbrev put_behind : AppendsImage i (state w.disk) (state disk) w.book next
+  put_behind = next_to.appends
+
   abbrev flushed : SeqState D
   flushed = record w { disk = disk; book = next; columns = columns; entries = 0 }
 
@@ -146,22 +144,32 @@ module _ {D : Type 0} (state : D → DiskState) (w : SeqState D) (disk : D) (nex
   due = length (due_bytes w.book)
 
   -- limits that the next cluster doesn't pass, behind the page list that is due
+  both : (limit_error w.book.limits (book_end w.book + due) (length (book_clusters w.book)) i.meta.len ≡ None)
+      × ((due ≤ w.book.limits.range) × (book_end w.book + due ≤ w.book.limits.file))
+  both = with-behind w.book.limits (book_end w.book) (length (book_clusters w.book)) i.meta.len due fits
+
   fitting : (i.meta.len ≤ w.book.limits.range) × (book_end w.book + due + i.meta.len ≤ w.book.limits.file)
       × (length (book_clusters w.book) ≡ w.book.limits.clusters → ⊥)
-  fitting =
-      limit_error-none w.book.limits (book_end w.book + due) (length (book_clusters w.book)) i.meta.len
-      (with-behind w.book.limits (book_end w.book) (length (book_clusters w.book)) i.meta.len due fits).0
+  fitting = limit_error-none w.book.limits (book_end w.book + due) (length (book_clusters w.book)) i.meta.len both.0
+
+  -- the file can be closed
+  can-close : IsClosable new_disk next w.table w.params
+  can-close =
+      let beside = listed-beside w.table w.params w.book is.closable.noted is.untorn in
+      closable-more old_disk new_disk w.table w.params w.book next is.closable i put_behind (next_to.beside w.table w.params.group beside)
+      (next_to.sizes w.table w.params.group beside (lists-sizes w.table w.params w.book is.closable.noted))
+      (subst (λ (l : Limits). due ≤ l.range) is.limits both.1.0)
 
   short-more : AllByRecursion (IsShortCluster w.params.limits) (book_clusters next)
   short-more =
-      subst (λ (cs : List (Cluster ClusterMeta)). AllByRecursion (IsShortCluster w.params.limits) cs) (sym appends.gains.clusters)
+      subst (λ (cs : List (Cluster ClusterMeta)). AllByRecursion (IsShortCluster w.params.limits) cs) (sym put_behind.gains.clusters)
       (AllByRecursion-append (IsShortCluster w.params.limits) (book_clusters w.book) (last ∷ []) is.short
       (subst (λ (l : Limits). i.meta.len ≤ l.range) is.limits fitting.0, tt))
 
   ends-more : book_end next ≤ w.params.limits.file
   ends-more =
       subst (λ (l : Limits). book_end next ≤ l.file) is.limits
-      (omega (arith, fitting.1, end-gained i.meta (with_due_list w.book) next appends.gains, end-with w.book))
+      (omega (arith, fitting.1, end-gained i.meta (with_due_list w.book) next put_behind.gains, end-with w.book))
 
   fewer : (n most : ℕ) → n ≤ most → (n ≡ most → ⊥) → n + 1 ≤ most
   fewer n most le apart = omega (arith, le, apart)
@@ -171,26 +179,25 @@ module _ {D : Type 0} (state : D → DiskState) (w : SeqState D) (disk : D) (nex
       let room : length (book_clusters w.book) + 1 ≤ w.params.limits.clusters =
       fewer (length (book_clusters w.book)) w.params.limits.clusters is.count
       (subst (λ (l : Limits). length (book_clusters w.book) ≡ l.clusters → ⊥) is.limits fitting.2) in
-      omega (arith, room, ap length appends.gains.clusters, length-append (book_clusters w.book) (last ∷ []))
+      omega (arith, room, ap length put_behind.gains.clusters, length-append (book_clusters w.book) (last ∷ []))
 
   pub writing-more : IsWriting state flushed
   writing-more =
-      let page = w.params.page in
+      let p = w.params in
       let es = gathered_by w in
-      let closable = closable-more (state w.given) old_disk new_disk w.table page w.book next w.columns es i is.gives bytes meta is.begun
-      appends is.closable in
       record {
-        ranges = is.ranges ++ (due_blobs w.book ++ range_behind i w.book ∷ []);
-        held = held-more (state w.given) old_disk new_disk w.table page w.book next w.columns es i is.gives bytes meta is.begun appends
-            is.ranges is.held;
+        blobs = is.blobs ++ (due_blobs w.book ++ range_behind i w.book ∷ []);
+        held = held-more (state w.given) old_disk new_disk w.table p w.book next w.columns es i is.gives bytes meta is.begun next_to
+            is.blobs is.held;
         header = is.header;
-        closable = closable;
+        closable = can-close;
+        untorn = ap (λ (b : BookData). b.torn) put_behind.gains.same ∙ is.untorn;
         within = is.within;
-        limits = ap (λ (b : BookData). b.limits) appends.gains.same ∙ is.limits;
-        firsts = is.firsts ∙ sym (ap (λ (b : BookData). b.firsts) appends.gains.same);
-        begun = begun-more (state w.given) old_disk new_disk w.table page w.book next w.columns es i is.gives bytes meta is.begun appends;
-        settled = settled-more (state w.given) old_disk new_disk w.table page w.book next w.columns es i is.gives bytes meta is.begun
-            appends is.settled;
+        limits = ap (λ (b : BookData). b.limits) put_behind.gains.same ∙ is.limits;
+        firsts = is.firsts ∙ sym (ap (λ (b : BookData). b.firsts) put_behind.gains.same);
+        begun = begun-more (state w.given) old_disk new_disk w.table p w.book next w.columns es i is.gives bytes meta is.begun next_to;
+        settled = settled-more (state w.given) old_disk new_disk w.table p w.book next w.columns es i is.gives bytes meta is.begun
+            next_to is.settled;
         short = short-more;
         ends = ends-more;
         count = count-more;
@@ -205,8 +212,8 @@ module _ {D : Type 0} (state : D → DiskState) (w : SeqState D) (disk : D) (nex
   pub unclosed-more : BecomesSome (state w.given).held (state disk).held (λ h h'. IsUnclosedOf w.begun h')
   unclosed-more h told =
       let held = writing-more.held h told in
-      let ranges = writing-more.ranges in
-      (_, held, unclosed-kept w.begun w.table is.header (file_so_far w.table ranges) (record { ranges = ranges; steps = inl refl }))
+      let blobs = writing-more.blobs in
+      (_, held, unclosed-kept w.begun w.table is.header (file_so_far w.table blobs) (record { blobs = blobs; steps = inl refl }))
 
 -- what is gathered makes an image that the book takes
 module _ {D : Type 0} (state : D → DiskState) (w : SeqState D) (is : IsWriting state w) (i : ClusterImage)

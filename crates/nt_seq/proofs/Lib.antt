@@ -1,3 +1,5 @@
+pub mod Beside
+pub mod Closable
 pub mod Blobs
 pub mod Grown
 pub mod Files

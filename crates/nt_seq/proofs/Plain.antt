@@ -1,4 +1,4 @@
--- The steps of a file whose ranges are appended: what they tell, that they leave the first byte, and where they are cut off.
+-- The steps of a file whose blobs are appended: what they tell, that they leave the first byte, and where they are cut off.
 use Rattle.std.proofs.Common.{◌≡◌, ◌⊎◌, ◌∙◌, inl, inr, ap, sym, subst, refl, ℕ, zero, suc, ◌+◌, List, [], ◌∷◌, ◌++◌}
 use Rattle.std.proofs.Common.{length, take, drop, map}
 use Rattle.std.specs.List.{AllByRecursion}
@@ -102,14 +102,14 @@ plain-appended h bytes plain = record {
   known = known-appended h bytes plain.known;
 }
 
-plain-ranges : (ranges : List (List ℕ)) (h : Held) → IsPlain h → IsPlain (all_appended ranges h)
-plain-ranges [] h plain = plain
-plain-ranges (r ∷ ranges) h plain = plain-ranges ranges (appended r h) (plain-appended h r plain)
+plain-blobs : (blobs : List (List ℕ)) (h : Held) → IsPlain h → IsPlain (all_appended blobs h)
+plain-blobs [] h plain = plain
+plain-blobs (r ∷ blobs) h plain = plain-blobs blobs (appended r h) (plain-appended h r plain)
 
-pub plain-file : (t : Table) (ranges : List (List ℕ)) → IsPlain (file_so_far t ranges)
-plain-file t ranges =
+pub plain-file : (t : Table) (blobs : List (List ℕ)) → IsPlain (file_so_far t blobs)
+plain-file t blobs =
     let head = first_and_others (begun 0 0 0) 225 (begin-len 0 0 0) in
-    plain-ranges ranges (begun_on (begun 0 0 0) (header_blob t) nothing_held) (record {
+    plain-blobs blobs (begun_on (begun 0 0 0) (header_blob t) nothing_held) (record {
       first = record {
         byte = head.0;
         bytes = head.1;

@@ -1,12 +1,13 @@
 -- A writer that was refused a flush.
-use Rattle.std.proofs.Common.{◌≡◌, ◌∙◌, ◌⊎◌, ap, sym, refl, subst, ℕ, ◌≤◌, List, ◌++◌, length, inl, inr}
+use Rattle.std.proofs.Common.{◌≡◌, ◌∙◌, ◌⊎◌, ap, sym, refl, subst, ℕ, ◌≤◌, List, ◌++◌, length, Some, inl, inr}
 use Rattle.std.specs.List.{AllByRecursion}
 use Rattle.nt_outside.specs.Held.{Held, Becomes, BecomesSome, IsTornAppend, nothing_held}
 use Rattle.nt_outside.specs.Disk.{DiskState}
 use Rattle.nt_grammar.specs.declared.rows.ColumnRow.{ColumnRow}
 use Rattle.nt_container.specs.Spelling.{begun}
 use Rattle.nt_grammar.specs.Table.{Table}
-use Rattle.nt_book.specs.Books.{BookData, IsUngrouped, book_clusters, book_end, entry_count}
+use Rattle.nt_book.specs.declared.params.Params.{Params}
+use Rattle.nt_book.specs.Books.{BookData, book_clusters, book_end, entry_count}
 use Rattle.nt_commit.specs.declared.error.CommitError.{CommitError}
 use Rattle.nt_commit.specs.declared.error.CommitError.TheVariants.{RangeTooLarge, FileTooLarge, TooManyClusters, Memory, Fault}
 use Rattle.std.proofs.lemmas.Bool.{false≢true}
@@ -18,6 +19,9 @@ use Rattle.nt_seq.specs.Standing.{IsSettledCluster, IsShortCluster, IsWriting, I
 use Rattle.nt_seq.specs.Writer.{SeqState}
 use Rattle.nt_seq.specs.Written.{file_so_far, HasClusters, IsUnclosedOf}
 use Rattle.nt_seq.specs.Changing.{StaysAsItWas}
+use Rattle.nt_lists.specs.Parts.{Part, part_bytes}
+use Rattle.nt_seq.proofs.Beside.{parts-kept}
+use Rattle.nt_seq.proofs.Closable.{closable-kept}
 use Rattle.nt_seq.proofs.Files.{unclosed-kept}
 use Rattle.nt_types.specs.TreeData.{TreesData}
 use Rattle.nt_pagelists.specs.Due.{due_len}
@@ -27,38 +31,38 @@ use Rattle.nt_close.specs.Steps.{begun_on}
 use Rattle.nt_finished.specs.LateFiles.{AreLateBlobs}
 
 -- a writer whose disk failed
-unclosed-cut : (given old new : DiskState) (t : Table) (ranges : List (List ℕ)) (len : ℕ)
-    → Becomes given.held old.held (λ h. file_so_far t ranges) → BecomesSome old.held new.held (IsTornAppend len)
+unclosed-cut : (given old new : DiskState) (t : Table) (blobs : List (List ℕ)) (len : ℕ)
+    → Becomes given.held old.held (λ h. file_so_far t blobs) → BecomesSome old.held new.held (IsTornAppend len)
     → BecomesSome given.held new.held (λ h h'. IsUnclosedOf t h')
-unclosed-cut given old new t ranges len told cut h is =
-    let left = cut (file_so_far t ranges) (told h is) in
-    (left.0, left.1, record { ranges = ranges; steps = inr (len, left.2) })
+unclosed-cut given old new t blobs len told cut h is =
+    let left = cut (file_so_far t blobs) (told h is) in
+    (left.0, left.1, record { blobs = blobs; steps = inr (len, left.2) })
 
 -- one that failed behind the page list that was due
-unclosed-behind : (given old new : DiskState) (t : Table) (ranges : List (List ℕ)) (i : ClusterImage) (book next : BookData)
-    → Becomes given.held old.held (λ h. file_so_far t ranges) → CutsImage i old new book next
+unclosed-behind : (given old new : DiskState) (t : Table) (blobs : List (List ℕ)) (i : ClusterImage) (book next : BookData)
+    → Becomes given.held old.held (λ h. file_so_far t blobs) → CutsImage i old new book next
     → BecomesSome given.held new.held (λ h h'. IsUnclosedOf t h')
-unclosed-behind given old new t ranges i book next told cut h is =
-    let left = cut.held (file_so_far t ranges) (told h is) in
-    let same = appended-behind ranges (due_blobs book) (begun_on (begun 0 0 0) (header_blob t) nothing_held) in (
+unclosed-behind given old new t blobs i book next told cut h is =
+    let left = cut.held (file_so_far t blobs) (told h is) in
+    let same = appended-behind blobs (due_blobs book) (begun_on (begun 0 0 0) (header_blob t) nothing_held) in (
       left.0,
       left.1,
       record {
-        ranges = ranges ++ due_blobs book;
+        blobs = blobs ++ due_blobs book;
         steps = inr (i.meta.len, subst (λ (k : Held). IsTornAppend i.meta.len k left.0) same left.2);
       },
     )
 
 -- or either
-unclosed-failed : (given old new : DiskState) (t : Table) (ranges : List (List ℕ)) (i : ClusterImage) (book next : BookData)
-    → Becomes given.held old.held (λ h. file_so_far t ranges) → FailsOnDisk i old new book next
+unclosed-failed : (given old new : DiskState) (t : Table) (blobs : List (List ℕ)) (i : ClusterImage) (book next : BookData)
+    → Becomes given.held old.held (λ h. file_so_far t blobs) → FailsOnDisk i old new book next
     → BecomesSome given.held new.held (λ h h'. IsUnclosedOf t h')
-unclosed-failed given old new t ranges i book next told fails = at fails.how
+unclosed-failed given old new t blobs i book next told fails = at fails.how
   where
     at : TearsList i.meta.context old new book next ⊎ CutsImage i old new book next
         → BecomesSome given.held new.held (λ h h'. IsUnclosedOf t h')
-    at (inl torn) = unclosed-cut given old new t ranges (due_len book) told torn.held
-    at (inr cut) = unclosed-behind given old new t ranges i book next told cut
+    at (inl torn) = unclosed-cut given old new t blobs (due_len book) told torn.held
+    at (inr cut) = unclosed-behind given old new t blobs i book next told cut
 
 -- a writer that stays as it was, but for memory
 module _ {D : Type 0} (state : D → DiskState) (w : SeqState D) (disk : D) (room : BookData) (is : IsWriting state w)
@@ -67,17 +71,11 @@ module _ {D : Type 0} (state : D → DiskState) (w : SeqState D) (disk : D) (roo
   writing-kept =
       let book = kept.book_is in
       record {
-        ranges = is.ranges;
+        blobs = is.blobs;
         held = λ h told. kept.held ∙ is.held h told;
         header = is.header;
-        closable = record {
-          begin = ap (λ (b : BookData). b.begin) book ∙ is.closable.begin;
-          ungrouped = subst IsUngrouped (sym book)
-              (record { no_groups = is.closable.ungrouped.no_groups; between = is.closable.ungrouped.between });
-          end = kept.end ∙ (is.closable.end ∙ sym (ap book_end book));
-          out = kept.out ∙ is.closable.out;
-          whole = is.closable.whole;
-        };
+        closable = closable-kept (state w.disk) (state disk) w.table w.params w.book room is.closable kept;
+        untorn = ap (λ (b : BookData). b.torn) book ∙ is.untorn;
         within = is.within;
         limits = ap (λ (b : BookData). b.limits) book ∙ is.limits;
         firsts = is.firsts ∙ sym (ap (λ (b : BookData). b.firsts) book);
@@ -98,10 +96,11 @@ module _ {D : Type 0} (state : D → DiskState) (w : SeqState D) (disk : D) (roo
 pub writing-alive : {D : Type 0} (state : D → DiskState) (w : SeqState D) (alive : Bool) → IsWriting state w
     → IsWriting state (record w { alive = alive })
 writing-alive state w alive is = record {
-  ranges = is.ranges;
+  blobs = is.blobs;
   held = is.held;
   header = is.header;
   closable = is.closable;
+  untorn = is.untorn;
   within = is.within;
   limits = is.limits;
   firsts = is.firsts;
@@ -128,7 +127,7 @@ module _ {D : Type 0} (state : D → DiskState) (w : SeqState D) (is : IsWriting
     unclosed = λ h told. (
       _,
       kept.held ∙ is.held h told,
-      unclosed-kept w.begun w.table is.header (file_so_far w.table is.ranges) (record { ranges = is.ranges; steps = inl refl }),
+      unclosed-kept w.begun w.table is.header (file_so_far w.table is.blobs) (record { blobs = is.blobs; steps = inl refl }),
     );
     writing = λ _. writing-alive state (record w { disk = disk; book = room }) alive (writing-kept state w disk room is kept);
   }
@@ -144,19 +143,20 @@ module _ {D : Type 0} (state : D → DiskState) (w : SeqState D) (is : IsWriting
       let torn = cut refl in
       record {
         unclosed = λ h told.
-            let cut = unclosed-failed (state w.given) (state w.disk) (state disk) w.table is.ranges i w.book room is.held torn.0 h told in
+            let cut = unclosed-failed (state w.given) (state w.disk) (state disk) w.table is.blobs i w.book room is.held torn.0 h told in
             (cut.0, cut.1, unclosed-kept w.begun w.table is.header cut.0 cut.2);
         writing = λ on. absurd (false≢true (sym torn.1 ∙ on));
       }
 
 -- clusters stay where a disk and its book do
-pub clusters-kept : (given old new : DiskState) (t : Table) (page : ℕ) (book room : BookData) → KeepsDiskAndBook old new book room
-    → (clusters : List (List TreesData)) → HasClusters given old t page book clusters → HasClusters given new t page room clusters
-clusters-kept given old new t page book room kept clusters has = record {
+pub clusters-kept : (given old new : DiskState) (t : Table) (p : Params) (book room : BookData) → KeepsDiskAndBook old new book room
+    → (clusters : List (List TreesData)) → HasClusters given old t p book clusters → HasClusters given new t p room clusters
+clusters-kept given old new t p book room kept clusters has = record {
   ranges = has.ranges;
-  late = subst (λ (b : BookData). AreLateBlobs t page 0 clusters has.ranges (book_clusters b)) (sym kept.book_is) has.late;
-  first = λ first. subst (λ (b : BookData). AreBlobsOf t page clusters has.ranges (book_clusters b)) (sym kept.book_is) (has.first first);
-  held = λ h told. kept.held ∙ has.held h told;
+  late = subst (λ (b : BookData). AreLateBlobs t p.page 0 clusters has.ranges (book_clusters b)) (sym kept.book_is) has.late;
+  first = λ first. subst (λ (b : BookData). AreBlobsOf t p.page clusters has.ranges (book_clusters b)) (sym kept.book_is) (has.first first);
+  held = λ h told. kept.held ∙ (has.held h told ∙ ap (λ (parts : List Part). Some (file_so_far t (part_bytes parts)))
+      (sym (parts-kept book room kept.book_is t p.group has.ranges)));
 }
 
 -- nothing changed

@@ -23,19 +23,27 @@ use Rattle.nt_machine.specs.History.{Cluster}
 use Rattle.nt_plans.specs.Plan.{PlanData}
 use Rattle.nt_book.specs.declared.limits.Limits.{Limits}
 use Rattle.nt_book.specs.declared.meta.ClusterMeta.{ClusterMeta}
-use Rattle.nt_book.specs.Books.{BookData, IsUngrouped, book_clusters, book_end, no_cluster, entry_count}
+use Rattle.nt_book.specs.declared.list.NotedList.{NotedList}
+use Rattle.nt_book.specs.declared.params.Params.{Params}
+use Rattle.nt_book.specs.Books.{BookData, book_clusters, book_end, no_cluster, entry_count}
 use Rattle.nt_book.specs.Kept.{IsKeptCluster, IsBookKept}
 use Rattle.nt_pagelists.specs.Blobs.{blob_len}
+use Rattle.nt_lists.specs.Parts.{Part, part_bytes}
+use Rattle.nt_layout.specs.Beside.{HasListsBeside, parts_so_far}
 use Rattle.nt_layout.specs.Headers.{header_object, clusters_place}
+use Rattle.nt_close.specs.Filled.{AreListsNoted}
+use Rattle.nt_close.proofs.Within.{listed-beside}
 use Rattle.nt_close.specs.Passing.{first_passed, passed_by_begin}
 use Rattle.nt_finished.specs.LateFiles.{AreLateBlobs}
 use Rattle.nt_finished.specs.LeftOut.{IsLeftOut, filled}
 use Rattle.nt_finished.specs.Zeros.{zero_of, zero_tree}
+use Rattle.nt_seq.specs.Beside.{KeepsParts}
 use Rattle.nt_seq.specs.Standing.{IsSettledCluster, IsShortCluster, IsWriting}
 use Rattle.nt_seq.specs.Widening.{first_elements}
 use Rattle.nt_seq.specs.Writer.{SeqState, gathered_by}
 use Rattle.nt_seq.specs.Written.{file_so_far, HasClusters, HasWritten, zero_behind}
-use Rattle.nt_seq.proofs.AddedRows.{header-kept, not_first, all-firsts, all-begun, some-more}
+use Rattle.nt_seq.proofs.AddedRows.{header-kept, sum-kept, not_first, all-firsts, all-begun, some-more}
+use Rattle.nt_seq.proofs.Beside.{lists-noted, lists-sizes}
 use Rattle.nt_seq.proofs.Files.{file-kept}
 use Rattle.nt_seq.proofs.Grown.{late-grown}
 
@@ -72,27 +80,30 @@ module _ (t new : Table) (same : header_object new ≡ header_object t) where
   within-kept limits within =
       ap (λ (object : List ℕ). first_passed limits (blob_len (length object) ∷ []) (begun_len + blob_len (length object))) same ∙ within
 
-  pub held-kept : (given disk : DiskState) (ranges : List (List ℕ)) → Becomes given.held disk.held (λ h. file_so_far t ranges)
-      → Becomes given.held disk.held (λ h. file_so_far new ranges)
-  held-kept given disk ranges told h is = told h is ∙ ap Some (sym (file-kept t new same ranges))
+  pub held-kept : (given disk : DiskState) (blobs : List (List ℕ)) → Becomes given.held disk.held (λ h. file_so_far t blobs)
+      → Becomes given.held disk.held (λ h. file_so_far new blobs)
+  held-kept given disk blobs told h is = told h is ∙ ap Some (sym (file-kept t new same blobs))
 
 -- the clusters have the zero of the field
-pub clusters-grown : (given disk : DiskState) (t new : Table) (page : ℕ) (book next : BookData) (field : MemberData) (p : PlanData)
+pub clusters-grown : (given disk : DiskState) (t new : Table) (p : Params) (book next : BookData) (field : MemberData) (q : PlanData)
     (plain : Bool) → book_clusters next ≡ book_clusters book → IsDescribed t → Added t field plain (entry_count (book_clusters book)) new
-    → IsLeftOut (entry_count (book_clusters book)) t new p → zero_of p ≡ zero_tree field.of
-    → (clusters : List (List TreesData)) → HasClusters given disk t page book clusters
-    → HasClusters given disk new page next (map (filled (zero_behind field)) clusters)
-clusters-grown given disk t new page book next field p plain same described added out none clusters has =
+    → IsLeftOut (entry_count (book_clusters book)) t new q → zero_of q ≡ zero_tree field.of → HasListsBeside t p.group book
+    → KeepsParts new book next → (clusters : List (List TreesData)) → HasClusters given disk t p book clusters
+    → HasClusters given disk new p next (map (filled (zero_behind field)) clusters)
+clusters-grown given disk t new p book next field q plain same described added out none beside keeps clusters has =
     let high = entry_count (book_clusters book) in
+    let header = header-kept t field plain high new added described in
     record {
       ranges = has.ranges;
-      late = subst (λ (z : TreesData). AreLateBlobs new page 0 (map (filled z) clusters) has.ranges (book_clusters next))
+      late = subst (λ (z : TreesData). AreLateBlobs new p.page 0 (map (filled z) clusters) has.ranges (book_clusters next))
           (ap (λ (z : TreeData). tree z no_trees) none)
-          (subst (λ (cs : List (Cluster ClusterMeta)). AreLateBlobs new page 0 (map (filled (tree (zero_of p) no_trees)) clusters)
+          (subst (λ (cs : List (Cluster ClusterMeta)). AreLateBlobs new p.page 0 (map (filled (tree (zero_of q) no_trees)) clusters)
           has.ranges cs) (sym same)
-          (late-grown t new p high out page 0 clusters has.ranges (book_clusters book) (omega arith) has.late));
+          (late-grown t new q high out p.page 0 clusters has.ranges (book_clusters book) (omega arith) has.late));
       first = λ is. absurd (not_first t field plain high new added described is);
-      held = held-kept t new (header-kept t field plain high new added described) given disk has.ranges has.held;
+      held = subst (λ (parts : List Part). Becomes given.held disk.held (λ h. file_so_far new (part_bytes parts)))
+          (sym (keeps.parts t p.group has.ranges beside (sum-kept t field plain high new added described)))
+          (held-kept t new header given disk (part_bytes (parts_so_far t book p.group has.ranges)) has.held);
     }
 
 -- the writer goes on
@@ -101,7 +112,8 @@ module _ {D : Type 0} (state : D → DiskState) (w : SeqState D) (next : BookDat
     (added : Added w.table field w.params.plain (entry_count (book_clusters w.book)) new)
     (out : IsLeftOut (entry_count (book_clusters w.book)) w.table new p)
     (next_is : next ≡ record w.book { firsts = w.book.firsts ++ first_elements (drop (length w.table.columns) new.columns) })
-    (described : IsDescribed new) (few : IsFew new) (whole : AreWhole new) (gives : Gives new columns []) where
+    (keeps : KeepsParts new w.book next) (described : IsDescribed new) (few : IsFew new) (whole : AreWhole new)
+    (gives : Gives new columns []) where
   abbrev widened : SeqState D
   widened = record w { book = next; table = new; columns = columns }
 
@@ -117,19 +129,30 @@ module _ {D : Type 0} (state : D → DiskState) (w : SeqState D) (next : BookDat
   pub none-gathered : gathered_by widened ≡ []
   none-gathered = ap (λ (n : ℕ). entries_given new columns n) none
 
+  beside : HasListsBeside w.table w.params.group w.book
+  beside = listed-beside w.table w.params w.book is.closable.noted is.untorn
+
+  noted-widened : AreListsNoted new w.params next
+  noted-widened =
+      let sum = sum-kept w.table field w.params.plain entries new added is.described in
+      lists-noted new w.params next (keeps.beside w.table w.params.group beside sum)
+      (keeps.sizes w.table w.params.group beside sum (lists-sizes w.table w.params w.book is.closable.noted))
+      (subst (λ (ls : List NotedList). AllByRecursion (λ (l : NotedList). l.len ≤ w.params.limits.range) ls)
+      (sym (ap (λ (b : BookData). b.lists) next_is)) is.closable.noted.short)
+
   pub writing-widened : IsWriting state widened
   writing-widened = record {
-    ranges = is.ranges;
-    held = held-kept w.table new same-header (state w.given) (state w.disk) is.ranges is.held;
+    blobs = is.blobs;
+    held = held-kept w.table new same-header (state w.given) (state w.disk) is.blobs is.held;
     header = same-header ∙ is.header;
     closable = record {
       begin = ap (λ (b : BookData). b.begin) next_is ∙ (is.closable.begin ∙ sym (place-kept w.table new same-header));
-      ungrouped = subst IsUngrouped (sym next_is)
-          (record { no_groups = is.closable.ungrouped.no_groups; between = is.closable.ungrouped.between });
+      noted = noted-widened;
       end = is.closable.end ∙ sym (ap book_end next_is);
       out = is.closable.out;
       whole = whole;
     };
+    untorn = ap (λ (b : BookData). b.torn) next_is ∙ is.untorn;
     within = within-kept w.table new same-header w.params.limits is.within;
     limits = ap (λ (b : BookData). b.limits) next_is ∙ is.limits;
     firsts = all-firsts w.table field w.params.plain entries new added w.book.firsts is.firsts
@@ -150,5 +173,5 @@ module _ {D : Type 0} (state : D → DiskState) (w : SeqState D) (next : BookDat
   pub written-widened : zero_of p ≡ zero_tree field.of → (clusters : List (List TreesData)) → HasWritten state w clusters
       → HasWritten state widened (map (filled (zero_behind field)) clusters)
   written-widened nothing clusters has =
-      clusters-grown (state w.given) (state w.disk) w.table new w.params.page w.book next field p w.params.plain same-clusters is.described
-      added out nothing clusters has
+      clusters-grown (state w.given) (state w.disk) w.table new w.params w.book next field p w.params.plain same-clusters is.described
+      added out nothing beside keeps clusters has

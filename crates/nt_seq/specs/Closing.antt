@@ -9,14 +9,14 @@ use Rattle.nt_outside.specs.Order.{FirstByteLast}
 use Rattle.nt_grammar.specs.ReadingBack.{IsDescribed}
 use Rattle.nt_grammar.specs.Rows.{Rows}
 use Rattle.nt_book.specs.Books.{book_clusters}
-use Rattle.nt_layout.specs.Finished.{lists_behind, tail, front}
 use Rattle.nt_layout.specs.Laid.{IsLaid}
 use Rattle.nt_close.specs.declared.error.CloseError.{CloseError}
 use Rattle.nt_close.specs.Closing.{HasCloseCause, LeavesClosed}
 use Rattle.nt_close.specs.Crashes.{LeavesByAnswer}
 use Rattle.nt_close.specs.Laws.{IsShut, EndsOverFirst}
 use Rattle.nt_close.specs.Passing.{passed_by_close, measures_of}
-use Rattle.nt_close.specs.Spoiled.{NoneSpoiled}
+use Rattle.nt_close.specs.Damage.{IsUndamaged}
+use Rattle.nt_close.specs.Filled.{closing_tail, closing_front}
 use Rattle.nt_finished.specs.LateFiles.{IsLaidLate}
 use Rattle.nt_seq.specs.Standing.{IsShortCluster}
 use Rattle.nt_seq.specs.Writer.{SeqState}
@@ -28,9 +28,9 @@ done_of (Ok counts) = Ok tt
 done_of (Err e) = Err e
 
 module _ {D : Type 0} (w : SeqState D) where
-  -- the cause of an answer: no range is spoiled, and so none is told
+  -- the cause of an answer: no range is spoiled and no page list failed, and so none is told
   pub record AnswersClosing (result : Result (ℕ × ℕ) CloseError) : Type 0 where
-    pub unspoiled : NoneSpoiled w.book
+    pub undamaged : IsUndamaged w.book
     pub cause : HasCloseCause w.book (passed_by_close w.params w.table w.book) (done_of result)
 
 module _ {D : Type 0} (state : D → DiskState) (w : SeqState D) where
@@ -54,8 +54,8 @@ module _ {D : Type 0} (state : D → DiskState) (w : SeqState D) where
   -- the steps of a close that were taken, and all of them after Ok
   abbrev pub EndsFile : D → Result (ℕ × ℕ) CloseError → Type 0
   EndsFile disk result =
-      LeavesClosed (tail w.table w.book (lists_behind w.table w.book w.params.group)) (front w.table w.book (lists_behind w.table w.book
-      w.params.group)) (state w.disk) (state disk) (done_of result)
+      LeavesClosed (closing_tail w.table w.book w.params.group) (closing_front w.table w.book w.params.group) (state w.disk) (state disk)
+      (done_of result)
 
   -- the file stands there whole, and the last step, which may have failed, was that of its first byte: no sync behind it was done
   pub record IsWholeUnsynced (left : Held) : Type 0 where

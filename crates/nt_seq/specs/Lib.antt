@@ -1,5 +1,6 @@
 pub mod Writer
 pub mod Written
+pub mod Beside
 pub mod Changing
 pub mod Closing
 pub mod Standing

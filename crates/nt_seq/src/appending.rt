@@ -7,17 +7,18 @@ ghost use Rattle.nt_commit.specs.declared.error.CommitError.{CommitError};
 ghost use Rattle.nt_commit.specs.declared.error.CommitError.TheVariants.{Memory, Fault};
 ghost use Rattle.nt_commit.specs.Appending.{due_bytes};
 ghost use Rattle.nt_commit.specs.Claims.{limit_answered};
-ghost use Rattle.nt_append.specs.Appending.{MayAppend, KeepsDiskAndBook, AppendsImage, FailsOnDisk};
+ghost use Rattle.nt_append.specs.Appending.{MayAppend, KeepsDiskAndBook, FailsOnDisk};
+ghost use Rattle.nt_seq.specs.Beside.{AppendsNext};
 
-use nt_append::append_image;
+use nt_append::{append_image, appended_parts_go_on};
 use nt_book::Book;
 use nt_commit::CommitError;
 use nt_outside::Disk;
 use nt_pages::ClusterImage;
 use std::alloc::Global;
 
-/// Writes an image as the next cluster, behind the page list that is due. Where the disk fails what
-/// was alive isn't any more.
+/// Writes an image as the next cluster, behind the page list that is due, so that the parts of the file go on by both. Where the disk
+/// fails what was alive isn't any more.
 pub(crate) fn append_next<D: Disk>(
     alloc: Global,
     disk: &mut D,
@@ -26,7 +27,7 @@ pub(crate) fn append_next<D: Disk>(
     alive: &mut bool,
 ) -> Result<(), CommitError>
     requires { MayAppend (D.state disk.old) book.old image.old }
-    ensures ok { OnOk result (AppendsImage image.old (D.state disk.old) (D.state disk.new) book.old book.new
+    ensures ok { OnOk result (AppendsNext image.old (D.state disk.old) (D.state disk.new) book.old book.new
         × (alive.new ≡ alive.old)) }
     ensures limits { result ≢ Err Memory → limit_error_with book.old.limits (book_end book.old)
         (length (book_clusters book.old)) image.old.meta.len (length (due_bytes book.old)) ≡ limit_answered result }
@@ -36,11 +37,17 @@ pub(crate) fn append_next<D: Disk>(
         → FailsOnDisk image.old (D.state disk.old) (D.state disk.new) book.old book.new
         × (alive.new ≡ false) }
 {
+    appended_parts_go_on();
+    book.keeps();
     match append_image(alloc, disk, book, image) {
+        Ok(()) => {
+            book.keeps();
+            Ok(())
+        }
         Err(CommitError::Fault) => {
             *alive = false;
             Err(CommitError::Fault)
         }
-        answer => answer,
+        Err(error) => Err(error),
     }
 }

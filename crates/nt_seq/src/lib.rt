@@ -23,9 +23,9 @@
 //! zero (`extend`). Once it is closed, the file is laid out for the clusters, none of them longer
 //! than a range may get, and as any other where no field was added; after a refusal its first byte
 //! is 0, or it stands there whole, its last step being over that byte; and its steps are in order in any case (`file`). The cause of
-//! each answer is that of nt_close, where no range is spoiled (`cause`). Whatever was done, the disk that
-//! `abandon` gives back holds the writer's own file: that of `begun`, not closed, with ranges, and perhaps a part of one more
-//! (`unclosed`). Of a file that isn't closed the first byte is 0 (`unclosed_files_are_shut`). Wherever a crash comes behind the first
+//! each answer is that of nt_close, where no range is spoiled and no page list failed (`cause`). Whatever was done, the disk that
+//! `abandon` gives back holds the writer's own file: that of `begun`, not closed, with ranges and page lists, and perhaps a part of one
+//! more (`unclosed`). Of a file that isn't closed the first byte is 0 (`unclosed_files_are_shut`). Wherever a crash comes behind the first
 //! sync, in `new`, `flush`, `extend` or `close`, it leaves a file that isn't finished, or, once the
 //! first byte was written over, the closed one; behind all steps of `close` just that: `crash` in what
 //! `new`, `flush` and `close` (`file`) say, by the law `crashes_leave_closed_or_unfinished` on
@@ -40,6 +40,8 @@
 //!   flush to flush; after a refused flush the next image takes its memory anew.
 //! - A range is neither reserved nor settled on the disk: there is no pen, so its image is
 //!   appended as it is (nt_append). In the book it is both, at once, for the context 0.
+//! - The file is begun with groups, so the page list of each full group stands right behind its last cluster, and `close` writes the
+//!   ones that are left.
 #![tactic(auto)]
 
 mod appending;

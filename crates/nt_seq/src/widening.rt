@@ -1,10 +1,12 @@
 //! Columns of a schema that got a field.
 
-ghost use Rattle.std.specs.Prelude.{◌≡◌, ◌≤◌, ◌++◌, [], drop, length, IfOk, OnErr};
+ghost use Rattle.std.specs.Prelude.{◌≡◌, ◌≤◌, ◌++◌, [], drop, length, IfOk, OnOk, OnErr};
 ghost use Rattle.nt_column.specs.Column.{columns_of};
 ghost use Rattle.nt_layout.specs.Laid.{Gives};
+ghost use Rattle.nt_seq.specs.Beside.{KeepsParts};
 ghost use Rattle.nt_seq.specs.Widening.{first_elements, MayWiden};
 
+use nt_append::added_columns_change_no_part;
 use nt_book::Book;
 use nt_column::ColumnSet;
 use nt_fill::empty_columns;
@@ -23,7 +25,7 @@ fn first_elements(alloc: Global, schema: &Schema, from: u32) -> Result<Vec<u64>,
     Ok(firsts)
 }
 
-/// Adds the columns from this one on to a book, and gives columns without elements for all.
+/// Adds the columns from this one on to a book, and gives columns without elements for all. The parts of the file stay.
 pub(crate) fn widen(
     alloc: Global,
     schema: &Schema,
@@ -34,10 +36,14 @@ pub(crate) fn widen(
     ensures ok { IfOk result (λ set. Gives schema.now (columns_of set) [] × (book.new ≡ record book.old {
       firsts = book.old.firsts ++ first_elements (drop from schema.now.columns);
     })) }
+    ensures parts { OnOk result (KeepsParts schema.now book.old book.new) }
     ensures err { OnErr result (book.new ≡ book.old) }
 {
+    added_columns_change_no_part();
+    book.keeps();
     let firsts = first_elements(alloc, schema, from)?;
     let columns = empty_columns(alloc, schema)?;
     book.widen(&firsts)?;
+    book.keeps();
     Ok(columns)
 }

@@ -27,7 +27,7 @@ returns-clause-cause g c =
     let alive = subst (λ s. s.alive ≡ true) (sym c.self.view_is) c.requires.alive in
     let was = c.self.invariant.writing alive in
     rw (← c.self.view_is) (record {
-      unspoiled = none-spoiled (book_clusters c.self.inside.book) was.settled;
+      undamaged = record { unspoiled = none-spoiled (book_clusters c.self.inside.book) was.settled; untorn = was.untorn };
       cause = c.in-Err.ensures.closes.cause;
     })
 

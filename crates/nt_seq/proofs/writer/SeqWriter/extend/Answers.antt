@@ -76,7 +76,7 @@ invariant_of-self-in-Ok-widen g c =
     record {
       unclosed = c.self.invariant.unclosed;
       writing = λ _. writing-widened g.D.Disk.state _ c.widen.new.book new (columns_of c.in-Ok-widen.columns) field
-          (place new.fields new.columns (as_read field.of) (length t.fields)) was none added out next
+          (place new.fields new.columns (as_read field.of) (length t.fields)) was none added out next c.in-Ok-widen.ensures.parts
           (c.late_fields_are_described.ensures t field plain count new was.described c.requires.rules few (omega (arith, short)) added)
           few (c.described_rows_are_whole.ensures.added t field plain count new added was.closable.whole) c.in-Ok-widen.ensures.ok.0;
     }
@@ -117,11 +117,12 @@ returns-in-Ok-widen g c =
       c.in-Ok.ensures.0,
       record {
         added = added;
-        written = written-widened g.D.Disk.state _ c.widen.new.book new columns field plan was none added out next described few whole
-            c.in-Ok-widen.ensures.ok.0 (c.added_fields_are_left_out.ensures.zero new.fields new.columns field.of (length t.fields));
+        written = written-widened g.D.Disk.state _ c.widen.new.book new columns field plan was none added out next
+            c.in-Ok-widen.ensures.parts described few whole c.in-Ok-widen.ensures.ok.0
+            (c.added_fields_are_left_out.ensures.zero new.fields new.columns field.of (length t.fields));
         clusters = ap book_clusters next;
-        none = none-gathered g.D.Disk.state _ c.widen.new.book new columns field plan was none added out next described few whole
-            c.in-Ok-widen.ensures.ok.0;
+        none = none-gathered g.D.Disk.state _ c.widen.new.book new columns field plan was none added out next
+            c.in-Ok-widen.ensures.parts described few whole c.in-Ok-widen.ensures.ok.0;
         now = refl;
       },
     )

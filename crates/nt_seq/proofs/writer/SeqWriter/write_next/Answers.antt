@@ -1,4 +1,4 @@
-use Rattle.std.proofs.Common.{◌≡◌, ◌∙◌, ap, sym, refl, subst, ℕ, true, Bool, List, [], length, arith, rules}
+use Rattle.std.proofs.Common.{◌≡◌, ◌∙◌, ap, sym, refl, subst, true, Bool, List, [], length, arith, rules}
 use Rattle.std.specs.Prelude.{Err}
 use Rattle.std.proofs.lemmas.Result.{err_from_is_err_and}
 use Rattle.nt_commit.specs.declared.error.CommitError.{CommitError}
@@ -7,6 +7,7 @@ use Rattle.nt_layout.specs.Laid.{Gives}
 use Rattle.nt_fill.proofs.Emptied.{emptied_gives}
 use Rattle.nt_fill.proofs.Entries.{entries_count}
 use Rattle.nt_seq.specs.Writer.{gathered_by}
+use Rattle.nt_close.proofs.Within.{listed-beside}
 use Rattle.nt_seq.proofs.Flushed.{image-fits, image-gathered, meta-gathered, clusters-more, writing-more, unclosed-more}
 use Rattle.nt_seq.proofs.Refused.{writing-alive, after-error, clusters-kept, stays}
 use Rattle.nt_append.specs.Appending.{FailsOnDisk, GainsCluster, with_due_list}
@@ -102,7 +103,7 @@ returns-in_err-append_next g c =
               };
               book = left.0.book_is;
               written = clusters-kept (g.D.Disk.state inside.given.value) (g.D.Disk.state inside.disk)
-                  (g.D.Disk.state c.append_next.new.disk) inside.schema inside.params.page inside.book c.append_next.new.book left.0;
+                  (g.D.Disk.state c.append_next.new.disk) inside.schema inside.params inside.book c.append_next.new.book left.0;
               now = ap (λ (a : Bool). record {
                 given = inside.given.value;
                 disk = c.append_next.new.disk;
@@ -153,12 +154,12 @@ returns g c =
           absurd (omega (arith, zero, c.if-self-eq0.false));
       ok = λ some. rw (← c.self.view_is) (record {
         gives = was.gives;
-        gains = subst (λ (m : ClusterMeta). GainsCluster m (with_due_list inside.book) c.append_next.new.book) meta appends.gains;
+        gains = subst (λ (m : ClusterMeta). GainsCluster m (with_due_list inside.book) c.append_next.new.book) meta appends.appends.gains;
         written = clusters-more (state inside.given.value) (state inside.disk) (state c.append_next.new.disk) inside.schema
-            inside.params.page inside.book c.append_next.new.book (columns_of inside.columns) _ i was.gives made.bytes meta was.begun
-            appends was.closable.ungrouped;
+            inside.params inside.book c.append_next.new.book (columns_of inside.columns) _ i was.gives made.bytes meta was.begun
+            appends (listed-beside inside.schema inside.params inside.book was.closable.noted was.untorn);
         none = refl;
-        later = appends.later;
+        later = appends.appends.later;
         now = ap (λ (a : Bool). record {
           given = inside.given.value;
           disk = c.append_next.new.disk;
