@@ -11,7 +11,7 @@ use Rattle.nt_grammar.specs.Table.{Table}
 use Rattle.nt_grammar.specs.Rows.{Rows}
 use Rattle.nt_book.specs.Books.{BookData}
 use Rattle.nt_book.specs.declared.params.Params.{Params}
-use Rattle.nt_layout.specs.Headers.{header_blob, clusters_place}
+use Rattle.nt_layout.specs.Headers.{header_blob, header_sum, clusters_place}
 use Rattle.nt_close.specs.Steps.{begun_on, IsBegunPartly, IsBegunWith}
 use Rattle.nt_close.specs.Passing.{passed_by_begin}
 use Rattle.nt_close.specs.Beginning.{new_book, IsHeaderBlob, IsBegun, IsBegunFor, IsBeginCut, IsBeginCutFor, IsNotBegun, IsNotBegunFor}
@@ -21,27 +21,28 @@ use Rattle.nt_close.proofs.Crashes.{begun-crash, cut-crash}
 
 module _ (p : Params) (t : Table) (within : passed_by_begin p.limits t ≡ None) where
   -- the new book
-  book_is : (len columns : ℕ) (book : BookData)
-      → book ≡ record (new_book t p.limits) { begin = 226 + len; firsts = replicate columns 0 }
-      → 226 + len ≡ clusters_place t → columns ≡ length t.columns → book ≡ new_book t p.limits
-  book_is len columns book is begins long =
+  book_is : (len columns sum : ℕ) (book : BookData)
+      → book ≡ record (new_book t p) { begin = 226 + len; firsts = replicate columns 0; group = Some (p.group, sum) }
+      → 226 + len ≡ clusters_place t → columns ≡ length t.columns → sum ≡ header_sum t → book ≡ new_book t p
+  book_is len columns sum book is begins long sums =
       is
-      ∙ (ap (λ (k : ℕ). record (new_book t p.limits) { begin = k; firsts = replicate columns 0 }) begins
-      ∙ ap (λ (k : ℕ). record (new_book t p.limits) { firsts = replicate k 0 }) long)
+      ∙ (ap (λ (k : ℕ). record (new_book t p) { begin = k; firsts = replicate columns 0; group = Some (p.group, sum) }) begins
+      ∙ (ap (λ (k : ℕ). record (new_book t p) { firsts = replicate k 0; group = Some (p.group, sum) }) long
+      ∙ ap (λ (k : ℕ). record (new_book t p) { group = Some (p.group, k) }) sums))
 
   -- all steps were taken on a disk for which there was room
-  pub begun-is : (bytes blob : List ℕ) (len columns steps more : ℕ) (book : BookData) (old mid new : DiskState)
+  pub begun-is : (bytes blob : List ℕ) (sum len columns steps more : ℕ) (book : BookData) (old mid new : DiskState)
       (room : Result (Unit {0}) AllocError)
-      → book ≡ record (new_book t p.limits) { begin = 226 + len; firsts = replicate columns 0 }
-      → len ≡ length bytes → columns ≡ length t.columns → blob ≡ bytes → IsHeaderBlob t bytes
+      → book ≡ record (new_book t p) { begin = 226 + len; firsts = replicate columns 0; group = Some (p.group, sum) }
+      → len ≡ length bytes → columns ≡ length t.columns → blob ≡ bytes → IsHeaderBlob t bytes sum
       → TakesRoom steps more old mid room → WhereHeld old.held (λ (h : Held). h ≡ nothing_held) → old.end ≡ 0
       → IsBegunWith (begun 0 0 0) blob mid new → new.out ≡ mid.out → mid.faults ≤ new.faults
       → IsBegunFor t p old new book
-  begun-is bytes blob len columns steps more book old mid new room is len-is long same header takes nothing empty ok out later =
+  begun-is bytes blob sum len columns steps more book old mid new room is len-is long same header takes nothing empty ok out later =
       let becomes : Becomes old.held new.held (begun_on (begun 0 0 0) (header_blob t)) =
       λ h was. ok.held h (takes.held ∙ was) ∙ ap (λ (l : List ℕ). Some (begun_on (begun 0 0 0) l h)) (same ∙ header.bytes_are) in
       record {
-        book_is = book_is len columns book is (omega (arith, len-is, header.place)) long;
+        book_is = book_is len columns sum book is (omega (arith, len-is, header.place)) long header.sum_is;
         within = within;
         held = becomes;
         crash = begun-crash t old.held new.held nothing becomes;
@@ -51,11 +52,11 @@ module _ (p : Params) (t : Table) (within : passed_by_begin p.limits t ≡ None)
       }
 
   -- a step failed
-  pub begin-cut : (bytes blob : List ℕ) (steps more : ℕ) (old mid new : DiskState) (room : Result (Unit {0}) AllocError)
-      → blob ≡ bytes → IsHeaderBlob t bytes → TakesRoom steps more old mid room → WhereHeld old.held (λ (h : Held). h ≡ nothing_held)
+  pub begin-cut : (bytes blob : List ℕ) (sum steps more : ℕ) (old mid new : DiskState) (room : Result (Unit {0}) AllocError)
+      → blob ≡ bytes → IsHeaderBlob t bytes sum → TakesRoom steps more old mid room → WhereHeld old.held (λ (h : Held). h ≡ nothing_held)
       → BecomesSome mid.held new.held (IsBegunPartly (begun 0 0 0) blob) → new.out ≡ mid.out → Rose mid.faults new.faults
       → IsBeginCutFor t p old new
-  begin-cut bytes blob steps more old mid new room same header takes nothing left out rose =
+  begin-cut bytes blob sum steps more old mid new room same header takes nothing left out rose =
       let so_far : BecomesSome old.held new.held (IsBegunPartly (begun 0 0 0) (header_blob t)) =
       λ h was.
       let stands = left h (takes.held ∙ was) in

@@ -1,7 +1,6 @@
 -- What a crash leaves of a file that is begun, and of one that is closed: the finished file.
-use Rattle.std.proofs.Common.{◌≡◌, ◌∙◌, ap, sym, refl, subst, ℕ, true, List, [], ◌∷◌, ◌++◌, length, map, get_or, arith, append_assoc}
+use Rattle.std.proofs.Common.{◌≡◌, ◌∙◌, ap, sym, refl, subst, ℕ, false, List, [], ◌∷◌, ◌++◌, length, map, get_or, arith, append_assoc}
 use Rattle.std.proofs.Common.{append-nil, Option, Result, Ok, Err}
-use Rattle.std.specs.List.{concat}
 use Rattle.nt_outside.specs.Log.{Append, Sync}
 use Rattle.nt_outside.specs.Held.{Held, Becomes, BecomesSome, WhereHeld, nothing_held}
 use Rattle.nt_outside.specs.Disk.{DiskState}
@@ -9,21 +8,27 @@ use Rattle.nt_outside.specs.Reads.{exactly, IsKnown}
 use Rattle.nt_container.specs.Spelling.{begun}
 use Rattle.nt_container.proofs.Gate.{begin-shut, begin-len}
 use Rattle.nt_grammar.specs.Table.{Table}
+use Rattle.nt_book.specs.declared.limits.LimitError.{LimitError}
+use Rattle.nt_book.specs.declared.params.Params.{Params}
 use Rattle.nt_book.specs.Books.{BookData}
-use Rattle.nt_layout.specs.Headers.{header_blob, file_begun, clusters_place}
-use Rattle.nt_layout.specs.Groups.{PlacedList}
-use Rattle.nt_layout.specs.Finished.{lists_behind, finished, tail, front}
+use Rattle.nt_book.specs.Kept.{IsBookKept}
+use Rattle.nt_layout.specs.Headers.{header_blob, clusters_place}
+use Rattle.nt_layout.specs.Finished.{finished}
+use Rattle.nt_finished.specs.Filled.{IsBesideBook}
 use Rattle.nt_cuts.specs.Cuts.{LeavesUnfinished, LeavesUnfinishedOr, LeavesOnly}
 use Rattle.nt_cuts.specs.Shut.{StaysShut}
 use Rattle.nt_cuts.proofs.Reading.{read-cut, read-shut, unsynced-leaves}
 use Rattle.nt_close.specs.declared.error.CloseError.{CloseError}
-use Rattle.nt_close.specs.declared.error.CloseError.TheVariants.{Spoiled, Memory, RangeTooLarge, FileTooLarge, Fault}
+use Rattle.nt_close.specs.declared.error.CloseError.TheVariants.{Spoiled, Torn, Memory, RangeTooLarge, FileTooLarge, Fault}
 use Rattle.nt_close.specs.Steps.{begun_on, IsBegunPartly, IsBegunSoFar, begun_partly, torn_head, torn_blob, not_kept, begun_whole}
 use Rattle.nt_close.specs.Steps.{closed_on, IsClosedSoFar, closed_partly, closed_whole}
-use Rattle.nt_close.specs.Closing.{AreRangesOf, LeavesClosed}
+use Rattle.nt_close.specs.Damage.{IsUndamaged}
+use Rattle.nt_close.specs.Filled.{AreListsNoted, filled_file, closing_tail, closing_front}
+use Rattle.nt_close.specs.Closing.{AreRangesOf, HasCloseCause, LeavesClosed}
 use Rattle.nt_close.specs.Crashes.{CrashesByAnswer}
 use Rattle.nt_close.proofs.Cutting.{closed-only, closed-cut}
-use Rattle.nt_close.proofs.Finishing.{front_len, finished-apart}
+use Rattle.nt_close.proofs.Finishing.{front_len, stands, finished-apart}
+use Rattle.nt_close.proofs.Within.{listed-beside}
 
 -- a room of 226 bytes whose first is 0
 pub record Room (head : List ℕ) : Type 0 where
@@ -84,59 +89,76 @@ module _ (t : Table) (old new : Option Held) (empty : WhereHeld old (λ (h : Hel
 
 -- ---- a file that is closed
 
-module _ (t : Table) (book : BookData) (most : ℕ) (begins : book.begin ≡ clusters_place t) where
-  -- where the page lists stand
-  abbrev ls : List PlacedList
-  ls = lists_behind t book most
+module _ (t : Table) (book : BookData) (most : ℕ) where
+  -- what closing writes
+  abbrev last : List ℕ
+  last = closing_tail t book most
 
-  module _ (ranges : List (List ℕ)) (are : AreRangesOf book ranges) (h : Held) (is : IsKnown h.log (file_begun t ++ concat ranges)) where
+  abbrev lead : List ℕ
+  lead = closing_front t book most
+
+  module _ (ranges : List (List ℕ)) (are : IsBesideBook t most book ranges) (h : Held)
+      (is : IsKnown h.log (filled_file t book most ranges)) where
+    -- what stands behind the front
     abbrev body : List ℕ
-    body = header_blob t ++ concat ranges
-
-    -- the finished file of these ranges
-    abbrev IsFinished : List ℕ → Type 0
-    IsFinished bytes = bytes ≡ finished true t book most ranges
+    body = header_blob t ++ stands t book most ranges
 
     known : IsKnown h.log (0 ∷ (room.rest ++ body))
     known =
         is
         ∙ ap (λ (l : List ℕ). map exactly l)
-        (append_assoc (begun 0 0 0) (header_blob t) (concat ranges) ∙ ap (λ (l : List ℕ). l ++ body) room.is)
+        (append_assoc (begun 0 0 0) (header_blob t) (stands t book most ranges) ∙ ap (λ (l : List ℕ). l ++ body) room.is)
 
-    whole-is : 0x72 ∷ (front t book ls ++ (body ++ tail t book ls)) ≡ finished true t book most ranges
+    whole-is : 0x72 ∷ (lead ++ (body ++ last)) ≡ finished false t book most ranges
     whole-is =
-        ap (λ (l : List ℕ). 0x72 ∷ (front t book ls ++ l)) (append_assoc (header_blob t) (concat ranges) (tail t book ls))
-        ∙ sym (finished-apart t book most ranges begins are)
+        ap (λ (l : List ℕ). 0x72 ∷ (lead ++ l)) (append_assoc (header_blob t) (stands t book most ranges) last)
+        ∙ sym (finished-apart t book most ranges are)
 
-    same : length room.rest ≡ length (front t book ls)
+    same : length room.rest ≡ length lead
     same = room.long ∙ sym (front_len t book most)
 
-    pub closed-leaves : LeavesOnly (λ (bytes : List ℕ). bytes ≡ finished true t book most ranges)
-        (closed_on (tail t book ls) (front t book ls) h).log
-    closed-leaves bytes may = closed-only room.rest body (tail t book ls) (front t book ls) h same known bytes may ∙ whole-is
+    pub closed-leaves : LeavesOnly (λ (bytes : List ℕ). bytes ≡ finished false t book most ranges) (closed_on last lead h).log
+    closed-leaves bytes may = closed-only room.rest body last lead h same known bytes may ∙ whole-is
 
-    pub closing-leaves : StaysShut h.log → (left : Held) → IsClosedSoFar (tail t book ls) (front t book ls) h left
-        → LeavesUnfinishedOr (λ (bytes : List ℕ). bytes ≡ finished true t book most ranges) left.log
+    pub closing-leaves : StaysShut h.log → (left : Held) → IsClosedSoFar last lead h left
+        → LeavesUnfinishedOr (λ (bytes : List ℕ). bytes ≡ finished false t book most ranges) left.log
     closing-leaves shut left closed =
         subst (λ (file : List ℕ). LeavesUnfinishedOr (λ (bytes : List ℕ). bytes ≡ file) left.log) whole-is
-        (read-cut (λ (bytes : List ℕ). bytes ≡ 0x72 ∷ (front t book ls ++ (body ++ tail t book ls))) left.log
-        (closed-cut room.rest body (tail t book ls) (front t book ls) h same known shut left closed))
+        (read-cut (λ (bytes : List ℕ). bytes ≡ 0x72 ∷ (lead ++ (body ++ last))) left.log
+        (closed-cut room.rest body last lead h same known shut left closed))
 
-  -- what is left after an answer
-  pub answered : (old new : DiskState) (result : Result Unit CloseError)
-      → LeavesClosed (tail t book (lists_behind t book most)) (front t book (lists_behind t book most)) old new result
-      → CrashesByAnswer t book most old.held new.held result
-  answered old new (Ok done) left h was = (
-    closed_on (tail t book ls) (front t book ls) h,
-    left.held h was,
-    λ shut ranges are is. (
-      closing-leaves ranges are h is shut (closed_on (tail t book ls) (front t book ls) h) (closed_whole refl),
-      closed-leaves ranges are h is,
-    ),
-  )
-  answered old new (Err (Spoiled cluster faults)) left h was = (h, left.place.held ∙ was, λ shut ranges are is. read-shut h.log shut)
-  answered old new (Err Memory) left h was = (h, left.place.held ∙ was, λ shut ranges are is. read-shut h.log shut)
-  answered old new (Err (RangeTooLarge len limit)) left h was = (h, left.place.held ∙ was, λ shut ranges are is. read-shut h.log shut)
-  answered old new (Err (FileTooLarge end limit)) left h was = (h, left.place.held ∙ was, λ shut ranges are is. read-shut h.log shut)
-  answered old new (Err Fault) left h was =
-      let cut = left.held h was in (cut.0, cut.1, λ shut ranges are is. closing-leaves ranges are h is shut cut.0 (closed_partly cut.2))
+-- what is left after an answer
+module _ (t : Table) (p : Params) (book : BookData) (kept : IsBookKept book) (begins : book.begin ≡ clusters_place t)
+    (noted : AreListsNoted t p book) where
+  -- that of a book which isn't torn
+  beside : IsUndamaged book → (ranges : List (List ℕ)) → AreRangesOf book ranges → IsBesideBook t p.group book ranges
+  beside whole ranges are =
+      record { kept = kept; beside = listed-beside t p book noted whole.untorn; begin = begins; lens = are }
+
+  pub answered : (passed : Option LimitError) (old new : DiskState) (result : Result Unit CloseError) → HasCloseCause book passed result
+      → LeavesClosed (closing_tail t book p.group) (closing_front t book p.group) old new result
+      → CrashesByAnswer t book p.group old.held new.held result
+  answered passed old new (Ok done) cause left h was =
+      let now = closed_on (closing_tail t book p.group) (closing_front t book p.group) h in (
+        now,
+        left.held h was,
+        λ shut ranges are is. (
+          closing-leaves t book p.group ranges (beside cause.0 ranges are) h is shut now (closed_whole refl),
+          closed-leaves t book p.group ranges (beside cause.0 ranges are) h is,
+        ),
+      )
+  answered passed old new (Err (Spoiled cluster faults)) cause left h was =
+      (h, left.place.held ∙ was, λ shut ranges are is. read-shut h.log shut)
+  answered passed old new (Err (Torn group faults)) cause left h was =
+      (h, left.place.held ∙ was, λ shut ranges are is. read-shut h.log shut)
+  answered passed old new (Err Memory) cause left h was = (h, left.place.held ∙ was, λ shut ranges are is. read-shut h.log shut)
+  answered passed old new (Err (RangeTooLarge len most)) cause left h was =
+      (h, left.place.held ∙ was, λ shut ranges are is. read-shut h.log shut)
+  answered passed old new (Err (FileTooLarge end most)) cause left h was =
+      (h, left.place.held ∙ was, λ shut ranges are is. read-shut h.log shut)
+  answered passed old new (Err Fault) cause left h was =
+      let cut = left.held h was in (
+        cut.0,
+        cut.1,
+        λ shut ranges are is. closing-leaves t book p.group ranges (beside cause.0 ranges are) h is shut cut.0 (closed_partly cut.2),
+      )

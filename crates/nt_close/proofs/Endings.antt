@@ -1,105 +1,98 @@
--- What stands behind the ranges, put together.
-use Rattle.std.proofs.Common.{◌≡◌, ◌∙◌, ℕ, ◌+◌, ◌<◌, ◌≤◌, List, [], ◌∷◌, ◌++◌, map, length, true, false, Some, None, refl, ap, sym, subst}
+-- What closing writes behind a file's clusters, put together.
+use Rattle.std.proofs.Common.{◌≡◌, ◌∙◌, ℕ, ◌+◌, ◌<◌, ◌≤◌, List, [], ◌∷◌, ◌++◌, map, length, take, false, Option}
+use Rattle.std.proofs.Common.{Some, None, refl, ap, sym, subst}
 use Rattle.std.proofs.Common.{arith, append_assoc}
-use Rattle.std.specs.Prelude.{nat_lt}
-use Rattle.std.specs.List.{concat}
-use Rattle.std.proofs.lemmas.Bool.Decides.{nat_tests}
-use Rattle.std.proofs.lemmas.List.{length-append, append-nil}
+use Rattle.std.specs.List.{concat, sum_by}
+use Rattle.std.proofs.lemmas.List.{length-append, map-append, take-append-drop}
+use Rattle.std.proofs.lemmas.List.Sums.{sum_by-append}
+use Rattle.nt_lists.specs.Parts.{part_bytes}
 use Rattle.nt_container.specs.declared.anchor.Anchor.{Anchor}
 use Rattle.nt_container.specs.declared.parts.FileFields.{FileFields}
 use Rattle.nt_tfile.specs.Places.{ArePlaces}
 use Rattle.nt_grammar.specs.Table.{Table}
-use Rattle.nt_book.specs.declared.limits.Limits.{Limits}
 use Rattle.nt_book.specs.declared.limits.LimitError.TheVariants.{FileTooLarge}
+use Rattle.nt_book.specs.declared.list.Tear.{Tear}
 use Rattle.nt_book.specs.declared.params.Params.{Params}
-use Rattle.nt_book.specs.Books.{BookData, IsUngrouped, book_end}
-use Rattle.nt_book.proofs.Ungrouped.{end-ungrouped}
-use Rattle.nt_machine.specs.History.{ranges_of}
-use Rattle.nt_machine.specs.Legal.{end_after}
+use Rattle.nt_book.specs.Books.{BookData, book_end, noted_at}
+use Rattle.nt_book.specs.Kept.{IsBookKept}
+use Rattle.nt_book.specs.Listing.{torn_bytes}
 use Rattle.nt_pagelists.specs.declared.group.Group.{Group}
 use Rattle.nt_pagelists.specs.Blobs.{blob, blob_len}
-use Rattle.nt_layout.specs.Headers.{header_sum}
 use Rattle.nt_pagelists.specs.Objects.{list_len}
-use Rattle.nt_layout.specs.Groups.{PlacedList, lists_from, groups_from}
+use Rattle.nt_layout.specs.Headers.{header_sum}
+use Rattle.nt_layout.specs.Groups.{PlacedList, list_parts, list_group, list_groups}
 use Rattle.nt_layout.proofs.Middles.{length-list_parts}
-use Rattle.nt_layout.specs.Finished.{ending, lists_behind, spans, list_blobs, footer_object, footer_place, footer_blob, anchor_of_file}
+use Rattle.nt_layout.specs.Finished.{ending, list_places, list_blobs, groups, footer_object, footer_place, footer_blob, anchor_of_file}
 use Rattle.nt_layout.specs.Finished.{anchor_start, file_len}
-use Rattle.nt_layout.specs.Finished.{tail}
-use Rattle.nt_close.specs.declared.error.CloseError.{CloseError}
-use Rattle.nt_close.specs.Passing.{first_passed, blobs_behind, passed_by_close}
-use Rattle.nt_close.specs.Making.{IsPassed, IsPassedBy, ArePassedBy, NonePassed, footer_with, anchor_to, AddsFooter, container_behind}
-use Rattle.nt_close.specs.Making.{fields_behind, AreBlobsBehind, IsEnding}
-use Rattle.nt_close.proofs.Groups.{blob_length, fitting-first}
+use Rattle.nt_layout.specs.Beside.{full_span, lists_left}
+use Rattle.nt_close.specs.Filled.{IsNotedOf, closing_tail}
+use Rattle.nt_close.specs.Passing.{blobs_left, passed_by_close}
+use Rattle.nt_close.specs.Making.{NonePassed, CanBeListed, CanBeEnded, noted_groups, left_beside, left_lens, footer_with, anchor_to}
+use Rattle.nt_close.specs.Making.{AddsFooter}
+use Rattle.nt_close.specs.Making.{container_behind, fields_behind, AreBlobsBehind, IsEnding}
+use Rattle.nt_close.proofs.Fitting.{blob_length, fit-all, file-fits, file-passed}
+use Rattle.nt_close.proofs.Left.{all-noted}
 
--- blobs that fit, and one more behind them
-pub fit-more : (limits : Limits) (lens : List ℕ) (len : ℕ) → NonePassed limits lens → len ≤ limits.range
-    → NonePassed limits (lens ++ len ∷ [])
-fit-more limits lens len fit fits more end =
-    ap (λ (l : List ℕ). first_passed limits l end) (append_assoc lens (len ∷ []) more)
-    ∙ (fit (len ∷ more) end ∙ fitting-first limits len more end fits)
+module _ (t : Table) (book : BookData) (p : Params) (kept : IsBookKept book) (can : CanBeEnded t p book) where
+  -- the most clusters of a group
+  abbrev most : ℕ
+  most = p.group
 
--- the last of blobs doesn't fit
-pub passed-last : (limits : Limits) (lens : List ℕ) (len : ℕ) (e : CloseError) → NonePassed limits lens → IsPassedBy limits len e
-    → ArePassedBy limits (lens ++ len ∷ []) e
-passed-last limits lens len e fit passed more end =
-    subst (λ p. IsPassed p e) (sym (ap (λ (l : List ℕ). first_passed limits l end) (append_assoc lens (len ∷ []) more)
-    ∙ fit (len ∷ more) end)) (passed more end)
-
--- one before the last doesn't
-pub passed-before : (limits : Limits) (lens : List ℕ) (len : ℕ) (e : CloseError) → ArePassedBy limits lens e
-    → ArePassedBy limits (lens ++ len ∷ []) e
-passed-before limits lens len e passed more end =
-    subst (λ p. IsPassed p e) (sym (ap (λ (l : List ℕ). first_passed limits l end) (append_assoc lens (len ∷ []) more)))
-    (passed (len ∷ more) end)
-
--- no blob passes a limit: the file does, or none
-pub fit-all : (limits : Limits) (lens : List ℕ) (end : ℕ) → NonePassed limits lens → first_passed limits lens end
-    ≡ first_passed limits [] end
-fit-all limits lens end fit =
-    ap (λ (l : List ℕ). first_passed limits l end) (sym (append-nil lens)) ∙ fit [] end
-
-pub passed-all : (limits : Limits) (lens : List ℕ) (end : ℕ) (e : CloseError) → ArePassedBy limits lens e
-    → IsPassed (first_passed limits lens end) e
-passed-all limits lens end e passed =
-    subst (λ p. IsPassed p e) (ap (λ (l : List ℕ). first_passed limits l end) (append-nil lens)) (passed [] end)
-
-pub file-fits : (limits : Limits) (end : ℕ) → end ≤ limits.file → first_passed limits [] end ≡ None
-file-fits limits end fits = let no : nat_lt limits.file end ≡ false = grind (arith, nat_tests, fits) in rw no refl
-
-pub file-passed : (limits : Limits) (end : ℕ) → limits.file < end → first_passed limits [] end ≡ Some (FileTooLarge end limits.file)
-file-passed limits end passed = let yes : nat_lt limits.file end ≡ true = grind (arith, nat_tests, passed) in rw yes refl
-
-module _ (t : Table) (book : BookData) (most : ℕ) (bare : IsUngrouped book) where
-  -- the ranges end the book
-  same : book_end book ≡ end_after book.begin (ranges_of book.history)
-  same = end-ungrouped book bare
-
-  -- the page lists, behind all ranges
+  -- all page lists, and those that are left
   abbrev ls : List PlacedList
-  ls = lists_behind t book most
+  ls = list_places false t book most
+
+  abbrev left : List PlacedList
+  left = lists_left t book most
+
+  listing : CanBeListed book most (header_sum t)
+  listing = record { group = can.noted.group; untorn = can.untorn }
+
+  -- the notes are those of the groups
+  notes : (j : ℕ) → j < length book.lists → IsNotedOf (header_sum t) book (full_span most (0 + j)) (noted_at book j)
+  notes j less =
+      let same : j ≡ 0 + j = omega arith in
+      subst (λ (k : ℕ). IsNotedOf (header_sum t) book (full_span most k) (noted_at book j)) same (can.noted.noted j less)
+
+  -- the groups of all page lists, those that are noted and those that are left
+  groups_of_all : noted_groups book most 0 book.lists ++ list_groups (header_sum t) book left ≡ groups t book ls
+  groups_of_all =
+      ap (λ (gs : List Group). gs ++ list_groups (header_sum t) book left) (all-noted (header_sum t) most book kept listing notes).0
+      ∙ (sym (map-append (list_group (header_sum t) book) (take (length book.lists) ls) left)
+      ∙ ap (list_groups (header_sum t) book) (take-append-drop (length book.lists) ls))
 
   -- the footer of all groups
-  footer_of_all : (sum : ℕ) (gs : List Group) → sum ≡ header_sum t → gs ≡ groups_from sum book (book_end book) (spans book most)
+  footer_of_all : (sum : ℕ) (gs : List Group) → sum ≡ header_sum t
+      → gs ≡ noted_groups book most 0 book.lists ++ list_groups sum book (left_beside book most)
       → footer_with t gs ≡ footer_object t book ls
   unfolding footer_object footer_with
   footer_of_all sum gs sum-is are =
-      ap (footer_with t) (are ∙ (ap (λ (k : ℕ). groups_from k book (book_end book) (spans book most)) sum-is
-      ∙ ap (λ (e : ℕ). groups_from (header_sum t) book e (spans book most)) same))
+      ap (footer_with t) (are ∙ (ap (λ (k : ℕ). noted_groups book most 0 book.lists ++ list_groups k book left) sum-is ∙ groups_of_all))
 
   lists_of_all : (sum : ℕ) (old : List ℕ) → sum ≡ header_sum t
-      → old ≡ concat (lists_from sum book (book_end book) (spans book most)) → old ≡ concat (list_blobs t book ls)
-  lists_of_all sum old sum-is are =
-      are ∙ (ap (λ (k : ℕ). concat (lists_from k book (book_end book) (spans book most))) sum-is
-      ∙ ap (λ (e : ℕ). concat (lists_from (header_sum t) book e (spans book most))) same)
+      → old ≡ concat (part_bytes (list_parts sum book (left_beside book most))) → old ≡ concat (list_blobs t book left)
+  lists_of_all sum old sum-is are = are ∙ ap (λ (k : ℕ). concat (part_bytes (list_parts k book left))) sum-is
 
-  place_of_footer : (start : ℕ) (old : List ℕ) → start ≡ book_end book → old ≡ concat (list_blobs t book ls)
+  place_of_footer : (start : ℕ) (old : List ℕ) → start ≡ book_end book → old ≡ concat (list_blobs t book left)
       → start + length old ≡ footer_place t book ls
   unfolding footer_place
-  place_of_footer start old start-is are = omega (arith, start-is, same, ap length are, length-list_parts (header_sum t) book ls)
+  place_of_footer start old start-is are =
+      let len = λ (l : PlacedList). list_len (header_sum t) book l.span in
+      omega (
+        arith,
+        start-is,
+        ap length are,
+        length-list_parts (header_sum t) book left,
+        (all-noted (header_sum t) most book kept listing notes).1,
+        sum_by-append len (take (length book.lists) ls) left,
+        ap (sum_by len) (take-append-drop (length book.lists) ls),
+        ap (λ (o : Option Tear). torn_bytes o) can.untorn,
+      )
 
-  -- behind the page lists of all groups
+  -- behind the page lists that are left
   pub footer-behind : (sum start : ℕ) (gs : List Group) (old new : List ℕ) (a : Anchor) → sum ≡ header_sum t → start ≡ book_end book
-      → gs ≡ groups_from sum book (book_end book) (spans book most) → old ≡ concat (lists_from sum book (book_end book) (spans book most))
+      → gs ≡ noted_groups book most 0 book.lists ++ list_groups sum book (left_beside book most)
+      → old ≡ concat (part_bytes (list_parts sum book (left_beside book most)))
       → AddsFooter t start gs old new a → AreBlobsBehind t book most new a
   footer-behind sum start gs old new a sum-is start-is gs-are old-is adds =
       let lists = lists_of_all sum old sum-is old-is in
@@ -108,38 +101,37 @@ module _ (t : Table) (book : BookData) (most : ℕ) (bare : IsUngrouped book) wh
       record {
         bytes_are = adds.bytes_are
             ∙ (ap (λ (l : List ℕ). l ++ blob (start + length old) (footer_with t gs)) lists
-            ∙ (ap (λ (k : ℕ). concat (list_blobs t book ls) ++ blob k (footer_with t gs)) place
-            ∙ ap (λ (l : List ℕ). concat (list_blobs t book ls) ++ blob (footer_place t book ls) l) object));
+            ∙ (ap (λ (k : ℕ). concat (list_blobs t book left) ++ blob k (footer_with t gs)) place
+            ∙ ap (λ (l : List ℕ). concat (list_blobs t book left) ++ blob (footer_place t book ls) l) object));
         anchor_is = adds.anchor_is
             ∙ (ap (λ (k : ℕ). anchor_to t k (footer_with t gs)) place ∙ ap (anchor_to t (footer_place t book ls)) object);
       }
 
   -- the lengths of the blobs, with the footer's last
-  pub footer_len_is : (sum : ℕ) (gs : List Group) → sum ≡ header_sum t → gs ≡ groups_from sum book (book_end book) (spans book most)
-      → map (list_len sum book) (spans book most) ++ blob_len (length (footer_with t gs)) ∷ [] ≡ blobs_behind t book most
+  pub footer_len_is : (sum : ℕ) (gs : List Group) → sum ≡ header_sum t
+      → gs ≡ noted_groups book most 0 book.lists ++ list_groups sum book (left_beside book most)
+      → left_lens sum book most ++ blob_len (length (footer_with t gs)) ∷ [] ≡ blobs_left t book most
   footer_len_is sum gs sum-is gs-are =
-      ap (λ (k : ℕ). map (list_len k book) (spans book most) ++ blob_len (length (footer_with t gs)) ∷ []) sum-is
-      ∙ ap (λ (l : List ℕ). map (list_len (header_sum t) book) (spans book most) ++ blob_len (length l) ∷ [])
-      (footer_of_all sum gs sum-is gs-are)
+      ap (λ (k : ℕ). left_lens k book most ++ blob_len (length (footer_with t gs)) ∷ []) sum-is
+      ∙ ap (λ (l : List ℕ). left_lens (header_sum t) book most ++ blob_len (length l) ∷ []) (footer_of_all sum gs sum-is gs-are)
 
   -- the anchor begins behind them
-  anchor_place_is : (bytes : List ℕ) → bytes ≡ concat (list_blobs t book ls) ++ footer_blob t book ls
+  anchor_place_is : (bytes : List ℕ) → bytes ≡ concat (list_blobs t book left) ++ footer_blob t book ls
       → book_end book + length bytes ≡ anchor_start t book ls
-  unfolding anchor_start footer_place
+  unfolding anchor_start
   anchor_place_is bytes are =
       omega (
         arith,
-        same,
         ap length are,
-        length-append (concat (list_blobs t book ls)) (footer_blob t book ls),
-        length-list_parts (header_sum t) book ls,
+        length-append (concat (list_blobs t book left)) (footer_blob t book ls),
+        place_of_footer (book_end book) (concat (list_blobs t book left)) refl refl,
         blob_length (footer_place t book ls) (footer_object t book ls),
       )
 
-  tail_is : concat (list_blobs t book ls) ++ footer_blob t book ls ++ container_behind (anchor_start t book ls)
-      (anchor_of_file t book ls) ≡ tail t book ls
+  tail_is : concat (list_blobs t book left) ++ footer_blob t book ls ++ container_behind (anchor_start t book ls)
+      (anchor_of_file t book ls) ≡ closing_tail t book most
   unfolding ending
-  tail_is = append_assoc (concat (list_blobs t book ls)) (footer_blob t book ls)
+  tail_is = append_assoc (concat (list_blobs t book left)) (footer_blob t book ls)
       (container_behind (anchor_start t book ls) (anchor_of_file t book ls))
 
   -- the container's parts behind the blobs end the file
@@ -164,18 +156,18 @@ module _ (t : Table) (book : BookData) (most : ℕ) (bare : IsUngrouped book) wh
 
 -- a file that may end there passes no limit
 pub passed-none : (t : Table) (book : BookData) (p : Params) (bytes : List ℕ) (f : FileFields) → IsEnding t book p.group bytes f
-    → NonePassed p.limits (blobs_behind t book p.group) → f.end ≤ p.limits.file → passed_by_close p t book ≡ None
+    → NonePassed p.limits (blobs_left t book p.group) → f.end ≤ p.limits.file → passed_by_close p t book ≡ None
 passed-none t book p bytes f is fit low =
-    fit-all p.limits (blobs_behind t book p.group) (file_len t book (lists_behind t book p.group)) fit
-    ∙ file-fits p.limits (file_len t book (lists_behind t book p.group))
+    fit-all p.limits (blobs_left t book p.group) (file_len t book (list_places false t book p.group)) fit
+    ∙ file-fits p.limits (file_len t book (list_places false t book p.group))
     (subst (λ (g : FileFields). g.end ≤ p.limits.file) is.fields_are low)
 
 -- one that may not passes that one
 pub passed-file : (t : Table) (book : BookData) (p : Params) (bytes : List ℕ) (f : FileFields) → IsEnding t book p.group bytes f
-    → NonePassed p.limits (blobs_behind t book p.group) → p.limits.file < f.end → passed_by_close p t book
+    → NonePassed p.limits (blobs_left t book p.group) → p.limits.file < f.end → passed_by_close p t book
     ≡ Some (FileTooLarge f.end p.limits.file)
 passed-file t book p bytes f is fit high =
-    fit-all p.limits (blobs_behind t book p.group) (file_len t book (lists_behind t book p.group)) fit
-    ∙ (file-passed p.limits (file_len t book (lists_behind t book p.group))
+    fit-all p.limits (blobs_left t book p.group) (file_len t book (list_places false t book p.group)) fit
+    ∙ (file-passed p.limits (file_len t book (list_places false t book p.group))
     (subst (λ (g : FileFields). p.limits.file < g.end) is.fields_are high)
     ∙ ap (λ (g : FileFields). Some (FileTooLarge g.end p.limits.file)) (sym is.fields_are))

@@ -1,12 +1,14 @@
 pub mod Apart
 pub mod Begun
+pub mod Fitting
 pub mod Crashes
 pub mod Cutting
 pub mod Endings
 pub mod Entries
 pub mod Finishing
 pub mod FirstByte
-pub mod Groups
 pub mod Leaving
-pub mod Within
+pub mod Left
+pub mod ListsLeft
 pub mod NewBooks
+pub mod Within

@@ -9,11 +9,10 @@ use Rattle.nt_container.specs.Spelling.{begun}
 use Rattle.nt_grammar.specs.Table.{Table}
 use Rattle.nt_grammar.specs.Rows.{Rows}
 use Rattle.nt_book.specs.Books.{BookData}
-use Rattle.nt_book.specs.declared.limits.Limits.{Limits}
 use Rattle.nt_book.specs.declared.limits.LimitError.{LimitError}
 use Rattle.nt_book.specs.declared.limits.LimitError.TheVariants as limit
 use Rattle.nt_book.specs.declared.params.Params.{Params}
-use Rattle.nt_layout.specs.Headers.{header_blob, clusters_place}
+use Rattle.nt_layout.specs.Headers.{header_blob, header_sum, clusters_place}
 use Rattle.nt_cuts.specs.Cuts.{LeavesUnfinished}
 use Rattle.nt_cuts.specs.Shut.{StaysShut}
 use Rattle.nt_close.specs.declared.error.BeginError.{BeginError}
@@ -26,22 +25,22 @@ pub record IsUntouched (old new : DiskState) : Type 0 where
   pub place : KeepsPlace old new
   pub faults : new.faults ≡ old.faults
 
--- a new book: its ranges begin behind the header, and no column is deferred
-abbrev pub new_book : Table → Limits → BookData
-new_book t limits = record {
+-- a new book: its ranges begin behind the header, no column is deferred, and page lists stand beside its clusters
+abbrev pub new_book : Table → Params → BookData
+new_book t p = record {
   begin = clusters_place t;
-  limits = limits;
+  limits = p.limits;
   firsts = replicate (length t.columns) 0;
   history = [];
   spare = 0;
-  group = None;
+  group = Some (p.group, header_sum t);
   lists = [];
   torn = None;
 }
 
 -- the file of this schema is begun with this book, within the limits; it is shut, and so a crash leaves what isn't finished
 pub record IsBegunFor (t : Table) (p : Params) (old new : DiskState) (book : BookData) : Type 0 where
-  pub book_is : book ≡ new_book t p.limits
+  pub book_is : book ≡ new_book t p
   pub within : passed_by_begin p.limits t ≡ None
   pub held : Becomes old.held new.held (begun_on (begun 0 0 0) (header_blob t))
   pub crash : BecomesSome old.held new.held (λ h h'. StaysShut h'.log × LeavesUnfinished h'.log)
@@ -52,7 +51,7 @@ pub record IsBegunFor (t : Table) (p : Params) (old new : DiskState) (book : Boo
 -- that of these fields is begun, with their schema
 pub record IsBegun (ps : List MemberData) (p : Params) (old new : DiskState) (book : BookData) (t : Table) : Type 0 where
   pub rows : Rows ps p.plain t
-  pub book_is : book ≡ new_book t p.limits
+  pub book_is : book ≡ new_book t p
   pub within : passed_by_begin p.limits t ≡ None
   pub held : Becomes old.held new.held (begun_on (begun 0 0 0) (header_blob t))
   pub crash : BecomesSome old.held new.held (λ h h'. StaysShut h'.log × LeavesUnfinished h'.log)
@@ -85,9 +84,10 @@ pub record IsBeginCut (ps : List MemberData) (p : Params) (old new : DiskState) 
   pub out : new.out ≡ old.out
   pub rose : Rose old.faults new.faults
 
--- the header's blob, behind which the clusters begin
-pub record IsHeaderBlob (t : Table) (bytes : List ℕ) : Type 0 where
+-- the header's blob, behind which the clusters begin, and the header's checksum
+pub record IsHeaderBlob (t : Table) (bytes : List ℕ) (sum : ℕ) : Type 0 where
   pub bytes_are : bytes ≡ header_blob t
+  pub sum_is : sum ≡ header_sum t
   pub place : begun_len + length bytes ≡ clusters_place t
 
 -- why the file of these fields isn't begun, and what is left then

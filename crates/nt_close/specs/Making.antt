@@ -1,6 +1,7 @@
--- What stands behind the ranges of a file's clusters, made part by part.
-use Rattle.std.specs.Prelude.{◌≡◌, ℕ, ◌+◌, ◌<◌, ◌≤◌, ◌^◌, List, [], ◌∷◌, ◌++◌, length, drop, Option, Some}
+-- What closing writes behind a file's clusters, made part by part.
+use Rattle.std.specs.Prelude.{◌≡◌, ℕ, ◌+◌, ◌-◌, ◌<◌, ◌≤◌, ◌^◌, false, List, [], ◌∷◌, ◌++◌, map, length, drop, Option, Some, None}
 use Rattle.std.specs.List.{concat}
+use Rattle.nt_lists.specs.Parts.{part_bytes}
 use Rattle.nt_format.specs.Envelopes.{envelope}
 use Rattle.nt_file_meaning.specs.Envelopes.{footer_kind}
 use Rattle.nt_container.specs.declared.anchor.Anchor.{Anchor}
@@ -12,23 +13,27 @@ use Rattle.nt_schema.specs.Whole.{AreWhole}
 use Rattle.nt_book.specs.declared.limits.Limits.{Limits}
 use Rattle.nt_book.specs.declared.limits.LimitError.{LimitError}
 use Rattle.nt_book.specs.declared.limits.LimitError.TheVariants as limit
-use Rattle.nt_book.specs.Books.{BookData, IsUngrouped, book_end}
+use Rattle.nt_book.specs.declared.list.NotedList.{NotedList}
+use Rattle.nt_book.specs.declared.params.Params.{Params}
+use Rattle.nt_book.specs.Books.{BookData, book_end, cluster_at, first_entry}
 use Rattle.nt_pagelists.specs.declared.group.Group.{Group}
 use Rattle.nt_pagelists.specs.FooterWriting.{footer_text}
 use Rattle.nt_pagelists.specs.Blobs.{blob, object_place}
 use Rattle.nt_layout.specs.Headers.{header_object, header_sum}
-use Rattle.nt_pagelists.specs.Objects.{ClusterSpan, list_object}
-use Rattle.nt_layout.specs.Groups.{span_group}
+use Rattle.nt_pagelists.specs.Objects.{ClusterSpan, list_object, list_len}
+use Rattle.nt_layout.specs.Groups.{PlacedList, range_end, span_group, places_beside, list_parts, list_groups}
 use Rattle.nt_tfile.specs.Places.{ArePlaces}
-use Rattle.nt_layout.specs.Finished.{lists_behind, list_blobs, footer_blob, anchor_of_file, keys_start, free_start, file_len, tail}
+use Rattle.nt_layout.specs.Finished.{spans, list_places, list_blobs, footer_blob, anchor_of_file, keys_start, free_start, file_len}
+use Rattle.nt_layout.specs.Beside.{lists_left}
 use Rattle.nt_close.specs.declared.error.CloseError.{CloseError}
-use Rattle.nt_close.specs.declared.error.CloseError.TheVariants.{Spoiled, Memory, RangeTooLarge, FileTooLarge, Fault}
-use Rattle.nt_close.specs.declared.headers.HeaderFacts.{HeaderFacts}
+use Rattle.nt_close.specs.declared.error.CloseError.TheVariants.{Spoiled, Torn, Memory, RangeTooLarge, FileTooLarge, Fault}
 use Rattle.nt_close.specs.Passing.{first_passed}
+use Rattle.nt_close.specs.Filled.{AreListsNoted, closing_tail}
 
 -- memory is wanting, or this limit is passed
 abbrev pub IsPassed : Option LimitError → CloseError → Type 0
 IsPassed passed (Spoiled cluster faults) = ⊥
+IsPassed passed (Torn group faults) = ⊥
 IsPassed passed Memory = Unit {0}
 IsPassed passed (RangeTooLarge len most) = passed ≡ Some (limit.RangeTooLarge len most)
 IsPassed passed (FileTooLarge end most) = passed ≡ Some (limit.FileTooLarge end most)
@@ -46,27 +51,64 @@ IsPassedBy limits len e = ArePassedBy limits (len ∷ []) e
 abbrev pub NonePassed : Limits → List ℕ → Type 0
 NonePassed limits lens = (more : List ℕ) (end : ℕ) → first_passed limits (lens ++ more) end ≡ first_passed limits more end
 
--- the checksum and the length of a schema's header
-pub record AreHeaderFacts (t : Table) (facts : HeaderFacts) : Type 0 where
-  pub sum : facts.sum ≡ header_sum t
-  pub len : facts.len ≡ length (header_object t)
+-- a schema's header, and its checksum
+pub record IsHeaderOf (t : Table) (bytes : List ℕ) (sum : ℕ) : Type 0 where
+  pub bytes_are : bytes ≡ header_object t
+  pub sum_is : sum ≡ header_sum t
 
--- the blob of the page list of these clusters stands behind the bytes that begin at the end of the ranges, and their group behind
--- the others
+-- a group of so many clusters from this one on, whose page list is noted with its size and stands behind the last range
+abbrev pub noted_group : BookData → ℕ → ℕ → NotedList → Group
+noted_group book most from l = record {
+  first = first_entry book from;
+  span = first_entry book (from + most) - first_entry book from;
+  clusters = most;
+  link = record {
+    length = l.at.size;
+    at = record { size = l.at.size; place = object_place (range_end (cluster_at book (from + most - 1))) };
+  };
+}
+
+-- the groups of these notes, one behind the other
+abbrev pub noted_groups : BookData → ℕ → ℕ → List NotedList → List Group
+noted_groups book most from [] = []
+noted_groups book most from (l ∷ ls) = noted_group book most from l ∷ noted_groups book most (from + most) ls
+
+-- the page lists of a book that aren't noted, each behind the last cluster of its group
+abbrev pub left_beside : BookData → ℕ → List PlacedList
+left_beside book most = drop (length book.lists) (places_beside book (spans book most))
+
+-- their blobs, and the groups of all page lists, which a footer can name
+pub record AreListsLeft (sum : ℕ) (book : BookData) (most : ℕ) (bytes : List ℕ) (groups : List Group) : Type 0 where
+  pub bytes_are : bytes ≡ concat (part_bytes (list_parts sum book (left_beside book most)))
+  pub groups_are : groups ≡ noted_groups book most 0 book.lists ++ list_groups sum book (left_beside book most)
+  pub few : length groups < 2 ^ 32
+
+-- the lengths of their blobs
+abbrev pub left_lens : ℕ → BookData → ℕ → List ℕ
+left_lens sum book most = map (λ (l : PlacedList). list_len sum book l.span) (left_beside book most)
+
+-- the blob of the page list of these clusters stands behind the bytes that begin at the end of the book, and their group behind the others
 pub record AddsList (sum : ℕ) (book : BookData) (s : ClusterSpan) (old new : List ℕ) (groups more : List Group) : Type 0 where
   pub bytes : new ≡ old ++ blob (book_end book + length old) (list_object sum book s)
   pub group : more ≡ groups ++ span_group sum book (book_end book + length old) s ∷ []
 
--- what stands behind the ranges of a book can be made: none of it stands between them, and a description holds the rows whole
-pub record CanBeEnded (t : Table) (book : BookData) : Type 0 where
-  pub whole : AreWhole t
-  pub ungrouped : IsUngrouped book
+-- the page lists that are left can be made: the book has groups of so many clusters under a header of this checksum, and none failed
+pub record CanBeListed (book : BookData) (most sum : ℕ) : Type 0 where
+  pub group : book.group ≡ Some (most, sum)
+  pub untorn : book.torn ≡ None
 
--- a footer of these groups can be written behind bytes that begin at a place, by what is said of the header
-pub record CanHaveFooter (t : Table) (start : ℕ) (gs : List Group) (facts : HeaderFacts) : Type 0 where
+-- what is left to be written behind a book's clusters can be made: what is noted is right, none failed, and a description holds the rows
+-- whole
+pub record CanBeEnded (t : Table) (p : Params) (book : BookData) : Type 0 where
+  pub whole : AreWhole t
+  pub noted : AreListsNoted t p book
+  pub untorn : book.torn ≡ None
+
+-- a footer of these groups can be written behind bytes that begin at a place, for this header
+pub record CanHaveFooter (t : Table) (start : ℕ) (gs : List Group) (header : List ℕ) (sum : ℕ) : Type 0 where
   pub low : start ≤ 2 ^ 56
   pub few : length gs < 2 ^ 32
-  pub header : AreHeaderFacts t facts
+  pub header_is : IsHeaderOf t header sum
   pub whole : AreWhole t
 
 -- the footer of these groups
@@ -107,19 +149,19 @@ fields_behind place = record {
 -- where the lists and the end of the finished file are
 abbrev pub fields_of : Table → BookData → ℕ → FileFields
 fields_of t book most = record {
-  end = file_len t book (lists_behind t book most);
-  keys = keys_start t book (lists_behind t book most);
-  free = free_start t book (lists_behind t book most);
+  end = file_len t book (list_places false t book most);
+  keys = keys_start t book (list_places false t book most);
+  free = free_start t book (list_places false t book most);
 }
 
--- page lists and footer stand behind the ranges, and the anchor leads to header and footer
+-- the page lists that are left and the footer stand behind the book's clusters, and the anchor leads to header and footer
 pub record AreBlobsBehind (t : Table) (book : BookData) (most : ℕ) (bytes : List ℕ) (a : Anchor) : Type 0 where
-  pub bytes_are : bytes ≡ concat (list_blobs t book (lists_behind t book most)) ++ footer_blob t book (lists_behind t book most)
-  pub anchor_is : a ≡ anchor_of_file t book (lists_behind t book most)
+  pub bytes_are : bytes ≡ concat (list_blobs t book (lists_left t book most)) ++ footer_blob t book (list_places false t book most)
+  pub anchor_is : a ≡ anchor_of_file t book (list_places false t book most)
 
--- all of it stands behind the ranges, where file header and directory say so; the file ends behind it
+-- all of it stands behind them, where file header and directory say so; the file ends behind it
 pub record IsEnding (t : Table) (book : BookData) (most : ℕ) (bytes : List ℕ) (f : FileFields) : Type 0 where
-  pub bytes_are : bytes ≡ tail t book (lists_behind t book most)
+  pub bytes_are : bytes ≡ closing_tail t book most
   pub fields_are : f ≡ fields_of t book most
   pub places : ArePlaces f
   pub end : f.end ≡ book_end book + length bytes

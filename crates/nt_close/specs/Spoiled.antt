@@ -2,8 +2,6 @@
 use Rattle.std.specs.Prelude.{◌≡◌, ℕ, ◌<◌, length}
 use Rattle.nt_machine.specs.History.{Fate, Out, Settled, Spoiled}
 use Rattle.nt_book.specs.Books.{BookData, book_clusters, cluster_at}
-use Rattle.nt_close.specs.declared.error.CloseError.{CloseError}
-use Rattle.nt_close.specs.declared.error.CloseError.TheVariants as error
 
 -- the range wasn't spoiled
 abbrev pub IsUnspoiled : Fate → Type 0
@@ -24,11 +22,3 @@ pub record IsFirstSpoiled (book : BookData) (cluster faults : ℕ) : Type 0 wher
   pub inside : cluster < length (book_clusters book)
   pub spoiled : (cluster_at book cluster).state ≡ Spoiled faults
   pub first : NoneSpoiledBefore book cluster
-
--- the error tells of that range
-abbrev pub IsSpoiledError : BookData → CloseError → Type 0
-IsSpoiledError book (error.Spoiled cluster faults) = IsFirstSpoiled book cluster faults
-IsSpoiledError book error.Memory = ⊥
-IsSpoiledError book (error.RangeTooLarge len most) = ⊥
-IsSpoiledError book (error.FileTooLarge end most) = ⊥
-IsSpoiledError book error.Fault = ⊥

@@ -16,9 +16,9 @@ ghost use Rattle.nt_close.specs.Beginning.{IsHeaderBlob, IsBeginPassed, IsBegunF
 
 use crate::blobs::{KEY, put_blob};
 use crate::error::BeginError;
+use crate::headers::{Header, header_of};
 use crate::steps::write_begin;
 use nt_book::{Book, Limits, Params};
-use nt_meta::write_header;
 use nt_outside::{Disk, Failed};
 use nt_schema::{Schema, describe};
 use nt_tfile::begin_bytes;
@@ -27,6 +27,13 @@ use std::alloc::Global;
 
 /// The bytes of file header and directory.
 const HEAD: u64 = 226;
+
+/// The blob of a header, and the header's checksum.
+#[derive(Drop)]
+struct HeaderBlob {
+    bytes: Vec<u8>,
+    sum: u64,
+}
 
 /// File header and directory that aren't written yet.
 fn empty_head() -> [u8; 226] {
@@ -63,19 +70,19 @@ fn check_header(header: &[u8], limits: &Limits) -> Result<(), BeginError>
 }
 
 /// The blob of the header of a schema.
-#[tactic(auto, using(crate::proofs::Groups::blob_length), unfolding(nt_layout::specs::Headers::header_object))]
-fn header_of(alloc: Global, schema: &Schema, limits: &Limits) -> Result<Vec<u8>, BeginError>
+#[tactic(auto, using(crate::proofs::Fitting::blob_length), unfolding(nt_layout::specs::Headers::header_object))]
+fn blob_of(alloc: Global, schema: &Schema, limits: &Limits) -> Result<HeaderBlob, BeginError>
     requires { AreWhole schema.now }
-    ensures ok { IfOk result (λ blob. IsHeaderBlob schema.now blob.items) }
+    ensures ok { IfOk result (λ blob. IsHeaderBlob schema.now blob.bytes.items blob.sum) }
     ensures within { OnOk result (passed_by_begin limits.now schema.now ≡ None) }
     ensures end { OnOk result (clusters_place schema.now ≤ limits.now.file) }
     ensures err { IfErr result (IsBeginPassed (passed_by_begin limits.now schema.now)) }
 {
-    let header = write_header(alloc, schema)?;
+    let Header { bytes: header, sum } = header_of(alloc, schema)?;
     check_header(&header, limits)?;
-    let mut blob = Vec::new(alloc);
-    put_blob(&mut blob, HEAD, &header)?;
-    Ok(blob)
+    let mut bytes = Vec::new(alloc);
+    put_blob(&mut bytes, HEAD, &header)?;
+    Ok(HeaderBlob { bytes, sum })
 }
 
 /// Writes what begins a file for which there is memory.
@@ -95,7 +102,7 @@ fn write_head<D: Disk>(disk: &mut D, blob: &[u8]) -> Result<(), Failed>
 
 /// Begins the file of a schema on an empty disk: the room of file header and directory, with 0 for
 /// the first byte, and the header, which stay. It gives the book of its clusters, of which there are
-/// none yet. After `Fault` the first byte is 0, or nothing is known of the file but that its first
+/// none yet, with page lists beside them. After `Fault` the first byte is 0, or nothing is known of the file but that its first
 /// append failed; after any other refusal the disk is still empty.
 pub fn begin_with<D: Disk>(
     alloc: Global,
@@ -111,11 +118,12 @@ pub fn begin_with<D: Disk>(
     ensures refused { IfErr result (IsNotBegunFor schema.now params.now
         (D.state disk.old) (D.state disk.new)) }
 {
-    let blob = header_of(alloc, schema, &params.limits)?;
-    let end = HEAD + blob.len() as u64;
-    let book = Book::new(alloc, end, schema.columns(), params.limits)?;
+    let header = blob_of(alloc, schema, &params.limits)?;
+    let end = HEAD + header.bytes.len() as u64;
+    let mut book = Book::new(alloc, end, schema.columns(), params.limits)?;
+    book.group_by(params.group, header.sum);
     disk.room(3, end)?;
-    write_head(disk, &blob)?;
+    write_head(disk, &header.bytes)?;
     Ok(book)
 }
 

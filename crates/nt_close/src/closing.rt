@@ -3,10 +3,10 @@
 ghost use Rattle.nt_close.specs.Closing.{IsClosable, ClosesOnDisk};
 ghost use Rattle.nt_close.specs.Crashes.{CrashesByAnswer};
 
+use crate::damage::refuse_damaged;
 use crate::ending::ending_of;
 use crate::error::CloseError;
 use crate::front::front_of;
-use crate::spoiled::refuse_spoiled;
 use crate::steps::write_end;
 use nt_book::{Book, Params};
 use nt_outside::Disk;
@@ -21,10 +21,11 @@ fn take_steps<D: Disk>(
     schema: &Schema,
     params: &Params,
 ) -> Result<(), CloseError>
-    requires { IsClosable (D.state disk.old) book.now schema.now }
+    requires { IsClosable (D.state disk.old) book.now schema.now params.now }
     ensures { ClosesOnDisk schema.now params.now book.now (D.state disk.old) (D.state disk.new) result }
 {
-    refuse_spoiled(book)?;
+    book.keeps();
+    refuse_damaged(book)?;
     let ending = ending_of(alloc, book, schema, params)?;
     disk.room(5, ending.tail.len() as u64 + 226)?;
     let front = front_of(&ending.fields);
@@ -32,11 +33,11 @@ fn take_steps<D: Disk>(
     Ok(())
 }
 
-/// ClosesOnDisk the file of a schema whose ranges are those of a book: page lists, footer, anchor and the
-/// lists of keys and of free pieces behind the ranges, file header and directory behind the first
-/// byte, and that byte once all the rest stays. All memory is taken, and all limits are tested,
-/// before the first of these steps. After a refusal the first byte is what it was, but for a fault
-/// of its own write or of the sync behind it.
+/// Closes the file of a schema whose ranges and page lists are those of a book: the page lists that
+/// aren't noted, footer, anchor and the lists of keys and of free pieces behind the ranges, file
+/// header and directory behind the first byte, and that byte once all the rest stays. All memory is
+/// taken, and all limits are tested, before the first of these steps. After a refusal the first byte
+/// is what it was, but for a fault of its own write or of the sync behind it.
 pub fn close<D: Disk>(
     alloc: Global,
     disk: &mut D,
@@ -44,10 +45,11 @@ pub fn close<D: Disk>(
     schema: &Schema,
     params: &Params,
 ) -> Result<(), CloseError>
-    requires { IsClosable (D.state disk.old) book.now schema.now }
+    requires { IsClosable (D.state disk.old) book.now schema.now params.now }
     ensures closes { ClosesOnDisk schema.now params.now book.now (D.state disk.old) (D.state disk.new) result }
     ensures crash { CrashesByAnswer schema.now book.now params.now.group
         (D.state disk.old).held (D.state disk.new).held result }
 {
+    book.keeps();
     take_steps(alloc, disk, book, schema, params)
 }

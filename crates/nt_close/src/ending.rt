@@ -3,12 +3,12 @@
 ghost use Rattle.std.specs.Prelude.{◌≡◌, ◌+◌, ◌<◌, ◌≤◌, ◌^◌, ◌++◌, None, length, OnOk, IfOk, IfErr};
 ghost use Rattle.nt_tfile.specs.Places.{ArePlaces};
 ghost use Rattle.nt_pagelists.specs.Blobs.{blob_len};
-ghost use Rattle.nt_close.specs.Passing.{blobs_behind, passed_by_close};
+ghost use Rattle.nt_close.specs.Passing.{blobs_left, passed_by_close};
 ghost use Rattle.nt_close.specs.Making.{CanBeEnded, IsPassed, IsPassedBy, ArePassedBy, NonePassed, CanHaveFooter, footer_with, AddsFooter, container_behind, fields_behind, AreBlobsBehind, IsEnding};
 
 use crate::blobs::{KEY, LAST_PLACE, put_blob};
 use crate::error::CloseError;
-use crate::headers::{HeaderFacts, header_facts};
+use crate::headers::{Header, header_of};
 use crate::lists::{Lists, check_range, lists_of};
 use nt_book::{Book, Limits, Params};
 use nt_container::{Anchor, FileFields};
@@ -90,9 +90,9 @@ fn put_footer(
     start: u64,
     schema: &Schema,
     limits: &Limits,
-    header: &HeaderFacts,
+    header: &Header,
 ) -> Result<Blobs, CloseError>
-    requires { CanHaveFooter schema.now start lists.groups.items header.now }
+    requires { CanHaveFooter schema.now start lists.groups.items header.now.bytes.items header.now.sum }
     ensures ok { IfOk result (λ blobs. AddsFooter schema.now start lists.groups.items
         lists.bytes.items blobs.bytes.items blobs.anchor) }
     ensures fits { OnOk result
@@ -104,13 +104,13 @@ fn put_footer(
     let footer = write_footer(alloc, schema, &groups, header.sum)?;
     check_range(&footer, limits)?;
     let place = put_blob(&mut bytes, start, &footer)?;
-    let len = footer.len() as u64;
+    let (len, header_len) = (footer.len() as u64, header.bytes.len() as u64);
     Ok(Blobs {
         bytes,
         anchor: Anchor {
             header: HEADER + KEY,
-            header_size: header.len,
-            header_len: header.len,
+            header_size: header_len,
+            header_len,
             footer: place + KEY,
             footer_size: len,
             footer_len: len,
@@ -125,16 +125,16 @@ fn blobs_of(
     schema: &Schema,
     params: &Params,
 ) -> Result<Blobs, CloseError>
-    requires { CanBeEnded schema.now book.now }
+    requires { CanBeEnded schema.now params.now book.now }
     ensures ok { IfOk result (λ blobs. AreBlobsBehind schema.now book.now params.now.group
         blobs.bytes.items blobs.anchor) }
     ensures fit { OnOk result (NonePassed params.now.limits
-        (blobs_behind schema.now book.now params.now.group)) }
+        (blobs_left schema.now book.now params.now.group)) }
     ensures err { IfErr result (ArePassedBy params.now.limits
-        (blobs_behind schema.now book.now params.now.group)) }
+        (blobs_left schema.now book.now params.now.group)) }
 {
     book.keeps();
-    let header = header_facts(alloc, schema)?;
+    let header = header_of(alloc, schema)?;
     let lists = lists_of(alloc, book, params, header.sum)?;
     put_footer(alloc, lists, book.end(), schema, &params.limits, &header)
 }
@@ -146,7 +146,7 @@ pub(crate) fn ending_of(
     schema: &Schema,
     params: &Params,
 ) -> Result<Ending, CloseError>
-    requires { CanBeEnded schema.now book.now }
+    requires { CanBeEnded schema.now params.now book.now }
     ensures ok { IfOk result (λ ending. IsEnding schema.now book.now params.now.group
         ending.tail.items ending.fields) }
     ensures within { OnOk result (passed_by_close params.now schema.now book.now ≡ None) }

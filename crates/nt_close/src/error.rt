@@ -30,9 +30,13 @@ pub enum CloseError {
     /// The range of this cluster was handed back after faults, of which the disk counted so many.
     #[error("the range of cluster {cluster} is spoiled")]
     Spoiled { cluster: u32, faults: u64 },
+    /// The page list of this group was to be written beside its clusters, and its append failed:
+    /// the disk counted so many faults then.
+    #[error("the page list of group {group} is torn")]
+    Torn { group: u32, faults: u64 },
     #[error("out of memory")]
     Memory,
-    /// A page list or the footer, with its key, is longer than a range may get.
+    /// A page list that isn't noted or the footer, with its key, is longer than a range may get.
     #[error("a range of {len} bytes is above the limit of {limit}")]
     RangeTooLarge { len: u64, limit: u64 },
     /// The file would end past the place where it may end.

@@ -1,13 +1,10 @@
-//! The page lists of a book, and the groups of clusters that they are of.
+//! The page lists of a book that are left to be written, and the groups of clusters of all.
 
-ghost use Rattle.std.specs.Prelude.{◌≡◌, ℕ, ◌+◌, ◌-◌, ◌<◌, ◌≤◌, ◌^◌, ◌++◌, List, length, map, OnOk, IfOk, IfErr};
-ghost use Rattle.std.specs.List.{concat};
-ghost use Rattle.nt_book.specs.Books.{book_clusters, book_end, first_entry};
+ghost use Rattle.std.specs.Prelude.{◌≡◌, ◌+◌, ◌-◌, ◌*◌, ◌<◌, ◌≤◌, ◌^◌, length, OnOk, IfOk, IfErr};
+ghost use Rattle.nt_book.specs.Books.{book_clusters, first_entry, noted_at};
 ghost use Rattle.nt_pagelists.specs.Blobs.{blob_len};
-ghost use Rattle.nt_pagelists.specs.Objects.{list_object, list_len};
-ghost use Rattle.nt_layout.specs.Groups.{lists_from, span_group, groups_from};
-ghost use Rattle.nt_layout.specs.Finished.{spans};
-ghost use Rattle.nt_close.specs.Making.{IsPassedBy, ArePassedBy, NonePassed, AddsList};
+ghost use Rattle.nt_pagelists.specs.Objects.{list_len};
+ghost use Rattle.nt_close.specs.Making.{IsPassedBy, ArePassedBy, NonePassed, AddsList, CanBeListed, noted_group, noted_groups, AreListsLeft, left_lens};
 
 use crate::blobs::{KEY, put_blob};
 use crate::error::CloseError;
@@ -17,7 +14,7 @@ use nt_meta::write_page_list;
 use nt_pagelists::Group;
 use std::alloc::{AllocError, Global};
 
-/// The blobs of page lists, one behind the other, and the groups that they are of.
+/// The blobs of the page lists that are left, and the groups of all page lists.
 #[derive(Drop)]
 pub(crate) struct Lists {
     pub(crate) bytes: Vec<u8>,
@@ -80,28 +77,55 @@ fn group_of(book: &Book, from: u32, to: u32, place: u64, len: u32) -> Group
     }
 }
 
-/// Appends the page list of the clusters from one number up to another, and their group.
+/// The group of so many clusters whose page list is noted, of this number. The list stands behind
+/// the last range of the group.
+fn group_noted(book: &Book, k: u32, most: u32) -> Group
+    requires some { 0 < most }
+    requires noted { k < length book.now.lists }
+    requires inside { k * most + most ≤ length (book_clusters book.now) }
+    ensures { result ≡ noted_group book.now most (k * most) (noted_at book.now k) }
+{
+    book.keeps();
+    let from = k * most;
+    let last = from + most - 1;
+    let place = book.start(last) + book.meta(last).len;
+    group_of(book, from, from + most, place, book.list(k).size)
+}
+
+/// The groups whose page lists are noted, each of so many clusters.
+fn groups_noted(alloc: Global, book: &Book, most: u32) -> Result<Vec<Group>, AllocError>
+    requires some { 0 < most }
+    requires inside { length book.now.lists * most ≤ length (book_clusters book.now) }
+    ensures { IfOk result (λ groups. groups.items ≡ noted_groups book.now most 0 book.now.lists) }
+{
+    let mut groups = Vec::new(alloc);
+    for k in 0..book.lists() {
+        groups.push(group_noted(book, k, most))?;
+    }
+    Ok(groups)
+}
+
+/// Appends the page list of the clusters from this one on, and their group.
 #[tactic(auto, unfolding(nt_pagelists::specs::Objects::list_object))]
 fn put_list(
-    alloc: Global,
     lists: &mut Lists,
     book: &Book,
     from: u32,
-    to: u32,
     limits: &Limits,
     header_sum: u64,
 ) -> Result<(), CloseError>
-    requires some { from < to }
-    requires inside { to ≤ length (book_clusters book.now) }
+    requires { from < length (book_clusters book.now) }
     ensures ok { OnOk result (AddsList header_sum book.now
-        (record { from = from; count = to - from })
+        (record { from = from; count = length (book_clusters book.now) - from })
         lists.old.bytes.items lists.new.bytes.items lists.old.groups.items lists.new.groups.items) }
     ensures fits { OnOk result (list_len header_sum book.now
-        (record { from = from; count = to - from }) ≤ limits.now.range) }
-    ensures err { IfErr result (IsPassedBy limits.now
-        (list_len header_sum book.now (record { from = from; count = to - from }))) }
+        (record { from = from; count = length (book_clusters book.now) - from }) ≤ limits.now.range) }
+    ensures err { IfErr result (IsPassedBy limits.now (list_len header_sum book.now
+        (record { from = from; count = length (book_clusters book.now) - from }))) }
 {
     book.keeps();
+    let alloc = *lists.bytes.allocator();
+    let to = book.clusters();
     let list = write_page_list(alloc, book, from, to, header_sum)?;
     check_range(&list, limits)?;
     let place = put_blob(&mut lists.bytes, book.end(), &list)?;
@@ -110,42 +134,32 @@ fn put_list(
     Ok(())
 }
 
-/// The page lists of all clusters of a book, in groups of the most clusters, as they stand behind
-/// the ranges of the clusters.
+/// The page lists of a book that isn't torn which are left to be written, as they stand behind all
+/// that stands already: that of the last group, if it isn't noted. And the groups of all.
 pub(crate) fn lists_of(
     alloc: Global,
     book: &Book,
     params: &Params,
     header_sum: u64,
 ) -> Result<Lists, CloseError>
-    ensures bytes { IfOk result (λ lists. lists.bytes.items
-        ≡ concat (lists_from header_sum book.now (book_end book.now)
-        (spans book.now params.now.group))) }
-    ensures groups { IfOk result (λ lists. lists.groups.items
-        ≡ groups_from header_sum book.now (book_end book.now) (spans book.now params.now.group)) }
-    ensures few { IfOk result (λ lists. length lists.groups.items < 2 ^ 32) }
+    requires { CanBeListed book.now params.now.group header_sum }
+    ensures ok { IfOk result (λ lists. AreListsLeft header_sum book.now params.now.group
+        lists.bytes.items lists.groups.items) }
     ensures fit { OnOk result (NonePassed params.now.limits
-        (map (list_len header_sum book.now) (spans book.now params.now.group))) }
+        (left_lens header_sum book.now params.now.group)) }
     ensures err { IfErr result (ArePassedBy params.now.limits
-        (map (list_len header_sum book.now) (spans book.now params.now.group))) }
+        (left_lens header_sum book.now params.now.group)) }
 {
+    book.keeps();
+    let groups = groups_noted(alloc, book, params.group)?;
     let mut lists = Lists {
         bytes: Vec::new(alloc),
-        groups: Vec::new(alloc),
+        groups,
     };
-    let clusters = book.clusters();
-    for group in 0..clusters.div_ceil(params.group) {
-        let from = group * params.group;
-        let to = from + params.group.min(clusters - from);
-        put_list(
-            alloc,
-            &mut lists,
-            book,
-            from,
-            to,
-            &params.limits,
-            header_sum,
-        )?;
+    let from = book.lists() * params.group;
+    if from >= book.clusters() {
+        return Ok(lists);
     }
+    put_list(&mut lists, book, from, &params.limits, header_sum)?;
     Ok(lists)
 }

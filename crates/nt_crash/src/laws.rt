@@ -1,7 +1,6 @@
 //! What a crash leaves of a file, wherever it cuts the steps off.
 
-ghost use Rattle.std.specs.Prelude.{◌≡◌, ℕ, List, ◌++◌, true};
-ghost use Rattle.std.specs.List.{concat};
+ghost use Rattle.std.specs.Prelude.{◌≡◌, ℕ, List, false};
 ghost use Rattle.nt_types.specs.TreeData.{TreesData};
 ghost use Rattle.nt_outside.specs.Log.{Step};
 ghost use Rattle.nt_outside.specs.Reads.{IsKnown};
@@ -11,17 +10,21 @@ ghost use Rattle.nt_grammar.specs.Table.{Table};
 ghost use Rattle.nt_grammar.specs.ReadingBack.{IsDescribed};
 ghost use Rattle.nt_book.specs.Books.{BookData};
 ghost use Rattle.nt_file_meaning.specs.Files.{Means};
-ghost use Rattle.nt_layout.specs.Headers.{header_blob, file_begun};
-ghost use Rattle.nt_layout.specs.Finished.{lists_behind, finished, tail, front};
+ghost use Rattle.nt_layout.specs.Headers.{header_blob};
+ghost use Rattle.nt_layout.specs.Finished.{finished};
 ghost use Rattle.nt_layout.specs.Laid.{Measures, AreMeasures};
+ghost use Rattle.nt_finished.specs.Filled.{IsBesideBook};
 ghost use Rattle.nt_close.specs.Steps.{IsBegunSoFar, closed_on, IsClosedSoFar};
+ghost use Rattle.nt_close.specs.Filled.{filled_file, closing_tail, closing_front};
 ghost use Rattle.nt_cuts.specs.Cuts.{LeavesUnfinished, LeavesUnfinishedOr, LeavesOnly};
 ghost use Rattle.nt_cuts.specs.Shut.{StaysShut};
-ghost use Rattle.nt_crash.specs.Fillings.{IsFilling, IsFilled, IsRangedAs, IsFilledWith, IsWrittenSoFar};
+ghost use Rattle.nt_crash.specs.Fillings.{IsFilling, IsFilled, IsFilledWith, IsWrittenSoFar};
 
 use nt_book::ClusterMeta;
-use nt_finished::{files_are_laid_behind, finished_files_mean_their_entries};
-use nt_logged::{settled_ranges_are_known, steps_stand};
+use nt_finished::{
+    files_are_laid_beside, filled_files_are_known, finished_files_mean_their_entries,
+};
+use nt_logged::steps_stand;
 
 /// While a file is begun, and while contexts fill it, whatever they do, a crash leaves what isn't
 /// finished.
@@ -33,26 +36,25 @@ pub fn filling_leaves_unfinished()
     steps_stand::<ClusterMeta>();
 }
 
-/// A file whose ranges are all settled is shut, and its log tells each byte of them: so what `close`
-/// of nt_close says of crashes holds of it. While it is closed, a crash leaves what isn't finished, or
-/// its first byte was written over before, whole or not, and it may leave the finished file. Once it
-/// is closed, a crash leaves just that.
+/// A file whose ranges are all settled is shut, and its log tells each byte of them and of the page
+/// lists beside them: so what `close` of nt_close says of crashes holds of it. While it is closed, a
+/// crash leaves what isn't finished, or its first byte was written over before, whole or not, and it
+/// may leave the finished file. Once it is closed, a crash leaves just that.
 pub fn closing_leaves_unfinished_or_finished()
-    ensures filled { (t : Table) (ranges : List (List ℕ)) (log : List Step) → IsFilled t ranges log
-        → StaysShut log × IsKnown log (file_begun t ++ concat ranges) }
+    ensures filled { (t : Table) (most : ℕ) (book : BookData) (ranges : List (List ℕ))
+        (log : List Step) → IsBesideBook t most book ranges → IsFilled t most book ranges log
+        → StaysShut log × IsKnown log (filled_file t book most ranges) }
     ensures closing { (t : Table) (book : BookData) (most : ℕ) (ranges : List (List ℕ))
-        (h left : Held) → IsRangedAs t book ranges → IsFilled t ranges h.log
-        → IsClosedSoFar (tail t book (lists_behind t book most))
-        (front t book (lists_behind t book most)) h left
-        → LeavesUnfinishedOr (λ bytes. bytes ≡ finished true t book most ranges) left.log }
+        (h left : Held) → IsBesideBook t most book ranges → IsFilled t most book ranges h.log
+        → IsClosedSoFar (closing_tail t book most) (closing_front t book most) h left
+        → LeavesUnfinishedOr (λ bytes. bytes ≡ finished false t book most ranges) left.log }
     ensures closed { (t : Table) (book : BookData) (most : ℕ) (ranges : List (List ℕ)) (h : Held)
-        → IsRangedAs t book ranges → IsFilled t ranges h.log
-        → LeavesOnly (λ bytes. bytes ≡ finished true t book most ranges)
-        (closed_on (tail t book (lists_behind t book most))
-        (front t book (lists_behind t book most)) h).log }
+        → IsBesideBook t most book ranges → IsFilled t most book ranges h.log
+        → LeavesOnly (λ bytes. bytes ≡ finished false t book most ranges)
+        (closed_on (closing_tail t book most) (closing_front t book most) h).log }
 {
     steps_stand::<ClusterMeta>();
-    settled_ranges_are_known::<ClusterMeta>();
+    filled_files_are_known();
 }
 
 /// So a crash never leaves a file that is read and lacks entries, however far it is written: it
@@ -66,11 +68,10 @@ pub fn crashes_leave_all_entries_or_none()
         (book : BookData) (h : Held)
         → IsDescribed t → AreMeasures m → IsFilledWith t clusters m book h.log
         → LeavesOnly (λ bytes. Means bytes t clusters)
-        (closed_on (tail t book (lists_behind t book m.group))
-        (front t book (lists_behind t book m.group)) h).log }
+        (closed_on (closing_tail t book m.group) (closing_front t book m.group) h).log }
 {
     steps_stand::<ClusterMeta>();
-    settled_ranges_are_known::<ClusterMeta>();
-    files_are_laid_behind();
+    filled_files_are_known();
+    files_are_laid_beside();
     finished_files_mean_their_entries();
 }

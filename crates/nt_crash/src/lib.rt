@@ -4,8 +4,9 @@
 //! Start with `src/laws.rt`; its words are those of nt_cuts (what is left of a log) and
 //! `specs/Fillings.antt` (how far a file is written).
 //!
-//! Words: a file is *filling* while the ranges of a history of contexts stand behind its header, and
-//! *filled* once each is settled with its bytes. Nothing is said of a crash before the first sync.
+//! Words: a file is *filling* while the ranges of a history of contexts stand behind its header, with
+//! page lists beside them, and *filled* once each range is settled with its bytes. Nothing is said of
+//! a crash before the first sync.
 //!
 //! Proved, each as the contract of a function, of a crash behind the first sync:
 //! - while a file is begun, and while contexts fill it, it is left unfinished, whatever the contexts

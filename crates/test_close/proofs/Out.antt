@@ -17,7 +17,7 @@ last_of xs x =
     slice_get-get_or (xs ++ x ∷ []) (length xs) x (omega (arith, length-append xs (x ∷ [])))
     ∙ ap (λ y. Some y) (get_or-append_seam xs x [] x)
 
-ranges_after : (h : List (Entry ClusterMeta)) (e : Entry ClusterMeta) → ranges_of (h ++ e ∷ []) ≡ after_entry (ranges_of h) e
+pub ranges_after : (h : List (Entry ClusterMeta)) (e : Entry ClusterMeta) → ranges_of (h ++ e ∷ []) ≡ after_entry (ranges_of h) e
 ranges_after h e = fold-append after_entry [] h (e ∷ [])
 
 -- the range of a cluster that a book just appended

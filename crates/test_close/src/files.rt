@@ -1,14 +1,17 @@
 //! Files of one field of numbers, with clusters of one page each.
 
-ghost use Rattle.std.specs.Prelude.{◌≡◌, ◌+◌, ◌*◌, ◌<◌, ◌≤◌, ◌^◌, [], length, OnOk, IfOk};
+ghost use Rattle.std.specs.Prelude.{◌≡◌, ◌+◌, ◌*◌, ◌<◌, ◌≤◌, ◌^◌, [], true, length, OnOk, IfOk};
 ghost use Rattle.nt_types.specs.Rules.{AreFields};
 ghost use Rattle.nt_types.specs.Views.{members_view};
 ghost use Rattle.nt_outside.specs.Held.{WhereHeld, nothing_held};
 ghost use Rattle.nt_memory.specs.Disk.{state_of};
+ghost use Rattle.nt_machine.specs.History.{ranges_of};
+ghost use Rattle.nt_machine.specs.Legal.{IsOut};
 ghost use Rattle.nt_book.specs.Pages.{IsPaged};
-ghost use Rattle.nt_layout.specs.Headers.{clusters_place};
 ghost use Rattle.nt_schema.specs.Whole.{AreWhole};
+ghost use Rattle.test_close.specs.Notes.{HasNotes, KeepsNotes};
 
+use crate::lists::{empty_key, make_room, put_due};
 use nt_book::{Book, ClusterMeta, Limits, PageList, PageLists, PageMeta, Params};
 use nt_close::{BeginError, CloseError, begin, close};
 use nt_memory::{MemDisk, MemHost};
@@ -64,11 +67,6 @@ fn meta_of(alloc: Global, count: u32) -> Result<ClusterMeta, AllocError>
     })
 }
 
-/// A key that isn't written yet.
-fn empty_key() -> [u8; 42] {
-    [0; 42]
-}
-
 /// The blob of a cluster of this one page: its key, the page, and the page's checksum.
 fn blob_of(alloc: Global, place: u64, page: &[u8]) -> Result<Vec<u8>, AllocError>
     requires place { place ≤ 2 ^ 56 }
@@ -84,8 +82,24 @@ fn blob_of(alloc: Global, place: u64, page: &[u8]) -> Result<Vec<u8>, AllocError
     Ok(blob)
 }
 
+/// Spoils the range of the last cluster after so many faults, if there are any; no page list is noted
+/// then.
+fn spoil_last(book: &mut Book, cluster: u32, faults: u64) -> Result<(), AllocError>
+    requires { IsOut (ranges_of book.old.history) 0 cluster }
+    ensures { OnOk result (KeepsNotes book.old book.new) }
+{
+    if faults == 0 {
+        return Ok(());
+    }
+    if book.lists() > 0 {
+        return Err(AllocError);
+    }
+    book.spoil(cluster, 0, faults);
+    Ok(())
+}
+
 /// Appends the cluster of a page of numbers, and enters it in the book; its range is spoiled after so
-/// many faults, if there are any.
+/// many faults, if there are any. To a torn book nothing is added.
 fn add(
     alloc: Global,
     disk: &mut MemDisk,
@@ -95,29 +109,30 @@ fn add(
 ) -> Result<(), AllocError>
     requires page { length page.now < 8000 }
     requires columns { length book.old.firsts ≡ 1 }
-    ensures columns { length book.new.firsts ≡ 1 }
-    ensures begin { book.new.begin ≡ book.old.begin }
+    ensures notes { OnOk result (KeepsNotes book.old book.new) }
     ensures out { (state_of disk.new).out ≡ (state_of disk.old).out }
 {
+    if book.torn().is_some() {
+        return Ok(());
+    }
+    make_room(book)?;
     book.keeps();
     let mut meta = meta_of(alloc, (page.len() / 8) as u32)?;
     if disk.end() != book.end() || book.check(meta.len).is_err() || book.due() {
         return Err(AllocError);
     }
-    book.room()?;
     let blob = blob_of(alloc, book.end(), page)?;
     disk.room(1, blob.len() as u64)?;
     if disk.append(&blob).is_err() {
         return Err(AllocError);
     }
     let cluster = book.append(&mut meta);
-    if faults > 0 {
-        book.spoil(cluster, 0, faults);
-    }
-    Ok(())
+    spoil_last(book, cluster, faults)
 }
 
-/// Adds a cluster for each page, whose ranges are spoiled from a number on, and closes the file.
+/// Adds a cluster for each page, whose ranges are spoiled from a number on, and in front of it the
+/// page list that is due, and closes the file. If a page list fails no more is added.
+#[tactic(auto, using(crate::proofs::Growing::closable))]
 fn fill(
     alloc: Global,
     disk: &mut MemDisk,
@@ -126,8 +141,7 @@ fn fill(
     params: &Params,
     clusters: (&[&[u8]], usize),
 ) -> Result<End, AllocError>
-    requires begin { book.old.begin ≡ clusters_place schema.now }
-    requires columns { length book.old.firsts ≡ 1 }
+    requires notes { HasNotes schema.now params.now book.old }
     requires out { (state_of disk.old).out ≡ [] }
     requires whole { AreWhole schema.now }
 {
@@ -137,11 +151,11 @@ fn fill(
         if count >= 1000 || page.len() != 8 * count {
             return Err(AllocError);
         }
+        put_due(alloc, disk, book)?;
         let faults = if k < spoiled { 0 } else { k as u64 };
         add(alloc, disk, book, page, faults)?;
     }
-    book.keeps();
-    if disk.end() != book.end() || book.group().is_some() {
+    if disk.end() != book.end() {
         return Err(AllocError);
     }
     match close(alloc, disk, book, schema, params) {
@@ -151,7 +165,6 @@ fn fill(
 }
 
 /// Begins a file, adds a cluster for each page, and closes it.
-#[tactic(auto, using(crate::proofs::Out::one_replicated))]
 fn write_on(
     alloc: Global,
     disk: &mut MemDisk,

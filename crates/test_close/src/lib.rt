@@ -6,4 +6,6 @@
 #[cfg(test)]
 mod files;
 #[cfg(test)]
+mod lists;
+#[cfg(test)]
 mod tests;

@@ -71,15 +71,31 @@ fn files_lie_as_they_are_laid_out(rt: HostRuntime) -> Result<(), Fail> {
                 (503, b"\x09\xab\xfb\xb1\x20\x74\xa8\xce"),
             ],
         ),
-        // two page lists, of two clusters and of one, and the footer with their groups
+        // a page list of two clusters behind them, one of the third behind it, and the footer with
+        // their groups; the first is written before the third cluster, and noted
         (
             true,
             &[ONE, ONE, ONE],
             1535,
             &[
-                (661, b"\x03\0\xc8\0"),
+                (487, ONE),
+                (545, ONE),
+                (603, b"\x03\0\xc8\0"),
+                (845, ONE),
                 (903, b"\x03\0\x7c\0"),
                 (1069, b"\x02\0\x94\0"),
+            ],
+        ),
+        // the list of a last group that is full is written by the closing
+        (
+            true,
+            &[ONE, ONE],
+            1263,
+            &[
+                (487, ONE),
+                (545, ONE),
+                (603, b"\x03\0\xc8\0"),
+                (845, b"\x02\0\x64\0"),
             ],
         ),
     ] {
@@ -107,13 +123,7 @@ fn limits_are_told(rt: HostRuntime) -> Result<(), Fail> {
                 limit: 218,
             }),
         ),
-        (
-            2,
-            241,
-            2000,
-            &[ONE, ONE, ONE],
-            End::NotClosed(large(242, 241)),
-        ),
+        (2, 241, 2000, &[ONE, ONE], End::NotClosed(large(242, 241))),
         (
             1,
             237,
@@ -164,7 +174,8 @@ fn limits_are_told(rt: HostRuntime) -> Result<(), Fail> {
 fn the_lowest_spoiled_range_is_told(rt: HostRuntime) -> Result<(), Fail> {
     let mut host = MemHost::new(rt.alloc());
     let pages = [ONE, ONE, ONE, ONE];
-    let end = write_file(rt.alloc(), &mut host, &WIDE, &pages, 2)?;
+    let shape = Shape { group: 5, ..WIDE };
+    let end = write_file(rt.alloc(), &mut host, &shape, &pages, 2)?;
     let told = CloseError::Spoiled {
         cluster: 2,
         faults: 2,
@@ -174,33 +185,58 @@ fn the_lowest_spoiled_range_is_told(rt: HostRuntime) -> Result<(), Fail> {
     Ok(())
 }
 
-/// The file of one cluster when this call of the disk fails, and its first byte.
-fn failing(alloc: Global, call: u64) -> Result<(End, Option<u8>), Fail> {
+/// The file of these pages, with so many clusters a group, when this call of the disk fails, and its
+/// first byte.
+fn failing(
+    alloc: Global,
+    call: u64,
+    group: u32,
+    pages: &[&[u8]],
+) -> Result<(End, Option<u8>), Fail> {
     let mut host = MemHost::new(alloc);
     host.fail(Object::Disk, call)?;
-    let end = write_file(alloc, &mut host, &WIDE, &[TWO], 1)?;
+    let shape = Shape { group, ..WIDE };
+    let end = write_file(alloc, &mut host, &shape, pages, pages.len())?;
     let first = host.file("o").and_then(|f| f.first().copied());
     Ok((end, first))
 }
 
 #[test]
+fn a_torn_book_is_told(rt: HostRuntime) -> Result<(), Fail> {
+    // three calls begin the file; then each cluster but the last has its page list in front of the next
+    for (group, call, torn) in [(2, 6, 0), (1, 5, 0), (1, 7, 1)] {
+        let (end, first) = failing(rt.alloc(), call, group, &[ONE, ONE, ONE])?;
+        let told = CloseError::Torn {
+            group: torn,
+            faults: 1,
+        };
+        assert_eq!(rt; end, End::NotClosed(told));
+        assert!(rt; first == Some(0));
+    }
+    Ok(())
+}
+
+#[test]
 fn each_call_fails_in_turn(rt: HostRuntime) -> Result<(), Fail> {
     let begun = End::NotBegun(BeginError::Fault);
-    let (end, _) = failing(rt.alloc(), 1)?; // of such a file nothing is known
+    let (end, _) = failing(rt.alloc(), 1, 2, &[TWO])?; // of such a file nothing is known
     assert_eq!(rt; end, begun);
     for call in [2, 3] {
-        assert_eq!(rt; failing(rt.alloc(), call)?, (begun, Some(0)));
+        assert_eq!(rt; failing(rt.alloc(), call, 2, &[TWO])?, (begun, Some(0)));
     }
     // the fourth call appends the cluster; then the tail, the front, and the sync before the first byte
     let closed = End::NotClosed(CloseError::Fault);
     for call in [5, 6, 7] {
-        assert_eq!(rt; failing(rt.alloc(), call)?, (closed, Some(0)));
+        assert_eq!(rt; failing(rt.alloc(), call, 2, &[TWO])?, (closed, Some(0)));
     }
     // that byte is the old one or the new one, and the new one when the sync behind it fails
-    let (end, first) = failing(rt.alloc(), 8)?;
+    let (end, first) = failing(rt.alloc(), 8, 2, &[TWO])?;
     assert_eq!(rt; end, closed);
     assert!(rt; first == Some(0) || first == Some(b'r'));
-    assert_eq!(rt; failing(rt.alloc(), 9)?, (closed, Some(b'r')));
-    assert_eq!(rt; failing(rt.alloc(), 10)?, (End::Closed, Some(b'r')));
+    assert_eq!(rt; failing(rt.alloc(), 9, 2, &[TWO])?, (closed, Some(b'r')));
+    assert_eq!(rt;
+        failing(rt.alloc(), 10, 2, &[TWO])?,
+        (End::Closed, Some(b'r'))
+    );
     Ok(())
 }

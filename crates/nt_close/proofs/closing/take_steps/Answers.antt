@@ -1,6 +1,6 @@
 use Rattle.std.proofs.Common.{rules}
 use Rattle.std.proofs.lemmas.Result.{err_from_is_err_and}
-use Rattle.nt_close.proofs.Within.{within}
+use Rattle.nt_close.proofs.Within.{within, listed-beside}
 use Rattle.nt_close.proofs.Leaving.{closed, cut, finished-there}
 use Rattle.nt_close.proofs.closing.take_steps.Goals as goal
 
@@ -24,7 +24,10 @@ returns g c =
       cause = search rules;
       left = done;
       finished = record {
-        file = finished-there _ _ _ (g.D.Disk.state c.args.disk.now) (g.D.Disk.state c.write_end.new.disk) c.requires.begin done;
-        within = within c.args.schema.now c.args.params.now c.args.book.now c.in_ok-ending.ensures.within;
+        file = finished-there _ _ _ (g.D.Disk.state c.args.disk.now) (g.D.Disk.state c.write_end.new.disk) c.keeps.ensures
+            (listed-beside c.args.schema.now c.args.params.now c.args.book.now c.requires.noted c.in_ok-refuse_damaged.ensures.ok.untorn)
+            c.requires.begin done;
+        within = within c.args.schema.now c.args.params.now c.args.book.now c.keeps.ensures c.requires.noted
+            c.in_ok-refuse_damaged.ensures.ok.untorn c.in_ok-ending.ensures.within;
       };
     }

@@ -14,10 +14,10 @@ measures p = record {
 }
 
 pub returns : goal.returns
-returns c = λ t p book clusters ranges old new h described of ungrouped low blobs held image ends.
+returns c = λ t p book clusters ranges old new h described of beside low blobs held image ends.
     let long = c.finished_files_are_as_long.ensures.ranges t p.page clusters ranges book of.kept blobs in
     let left = ends.file ranges long h held image in
-    let laid = c.files_are_laid_behind.ensures.laid left.0.image t clusters (measures_of p) ranges book refl of ungrouped
+    let laid = c.files_are_laid_beside.ensures.laid left.0.image t clusters (measures_of p) ranges book refl of beside
     (ends.within low) blobs left.2 in (
       left.0,
       left.1,

@@ -3,15 +3,15 @@ use Rattle.nt_crash.proofs.Finishing.{filled-known, closing-leaves, closed-leave
 use Rattle.nt_crash.proofs.laws.closing_leaves_unfinished_or_finished.Goals as goal
 
 pub returns-clause-filled : goal.returns-clause-filled
-returns-clause-filled c = λ t ranges log filled.
-    (filling-shut c.steps_stand.ensures.behind t log filled.filling, filled-known c.settled_ranges_are_known.ensures t ranges log filled)
+returns-clause-filled c = λ t most book ranges log beside filled. (
+  filling-shut c.steps_stand.ensures.behind t log filled.filling,
+  filled-known c.filled_files_are_known.ensures t most book ranges log beside filled,
+)
 
 pub returns-clause-closing : goal.returns-clause-closing
-returns-clause-closing c = λ t book most ranges h left ranged filled closed.
-    closing-leaves c.steps_stand.ensures.behind c.settled_ranges_are_known.ensures
-    t book most ranges ranged h filled left closed
+returns-clause-closing c = λ t book most ranges h left beside filled closed.
+    closing-leaves c.steps_stand.ensures.behind c.filled_files_are_known.ensures t book most ranges beside h filled left closed
 
 pub returns-clause-closed : goal.returns-clause-closed
-returns-clause-closed c = λ t book most ranges h ranged filled.
-    closed-leaves c.steps_stand.ensures.behind c.settled_ranges_are_known.ensures
-    t book most ranges ranged h filled
+returns-clause-closed c = λ t book most ranges h beside filled.
+    closed-leaves c.steps_stand.ensures.behind c.filled_files_are_known.ensures t book most ranges beside h filled

@@ -1,11 +1,10 @@
-use Rattle.std.proofs.Common.{◌≡◌, [], length}
+use Rattle.std.proofs.Common.{◌≡◌, []}
 use Rattle.nt_memory.specs.Disk.{state_of}
-use Rattle.nt_layout.specs.Headers.{clusters_place}
+use Rattle.test_close.specs.Notes.{HasNotes}
 use Rattle.test_close.proofs.files.fill.Given as goal
 
 abbrev pub invariant-loop-k : goal.invariant-loop-k
 invariant-loop-k l = record {
-  columns : length l.book.firsts ≡ 1;
-  begin : l.book.begin ≡ clusters_place l.schema;
+  notes : HasNotes l.schema l.params l.book;
   out : (state_of l.disk).out ≡ [];
 }
