@@ -1,6 +1,6 @@
 -- Disk and book of a committer that ended, by what its first pass keeps.
 use Rattle.std.proofs.Common.{◌≡◌, ◌⊎◌, inl, inr, ℕ, zero, suc, ◌-◌, ◌^◌, ◌<◌, ◌≤◌, List, [], ◌∷◌, length, map, Option, Some, None, refl}
-use Rattle.std.proofs.Common.{sym, ap, ◌∙◌, arith}
+use Rattle.std.proofs.Common.{sym, ap, ◌∙◌, subst, arith}
 use Rattle.std.specs.Prelude.{slice_get, slice_index_or}
 use Rattle.std.specs.List.{AllZip, AllByRecursion}
 use Rattle.nt_types.specs.TreeData.{TreesData}
@@ -14,18 +14,25 @@ use Rattle.nt_machine.specs.declared.entry.EntryKind.{EntryKind}
 use Rattle.nt_machine.specs.declared.entry.EntryKind.TheVariants as entry
 use Rattle.nt_machine.specs.Faults.{HasRisen, HasFaults, faults_after, FaultsRise}
 use Rattle.nt_machine.specs.History.{Fate, Out, Settled, Spoiled, Cluster, mine_of, ranges_of, IsSettledWith}
-use Rattle.nt_machine.specs.Legal.{end_after}
 use Rattle.nt_machine.specs.Untold.{untold, untold_fate}
 use Rattle.nt_machine.proofs.Dealing.{deals}
 use Rattle.nt_machine.proofs.Rising.{rose}
-use Rattle.nt_machine.proofs.Untelling.{same, same_end}
+use Rattle.nt_machine.proofs.Untelling.{same}
+use Rattle.nt_book.specs.declared.limits.Limits.{Limits}
+use Rattle.nt_book.specs.declared.list.NotedList.{NotedList}
 use Rattle.nt_book.specs.declared.meta.ClusterMeta.{ClusterMeta}
+use Rattle.nt_book.specs.declared.params.Params.{Params}
 use Rattle.nt_book.specs.Books.{BookData, book_clusters, book_end, no_cluster}
+use Rattle.nt_book.specs.Kept.{IsBookKept}
 use Rattle.nt_logged.specs.Steps.{told_history}
 use Rattle.nt_commit.specs.declared.locked.Birth.{Birth}
 use Rattle.nt_commit.specs.Locked.{IsInStep, birth_of, context_of, history_of_locked, locked_by}
+use Rattle.nt_layout.specs.Headers.{header_sum}
+use Rattle.nt_close.specs.Filled.{AreListsNoted}
 use Rattle.nt_close.specs.Spoiled.{IsUnspoiled, NoneSpoiled}
+use Rattle.nt_dealing.specs.Begun.{IsBornFor}
 use Rattle.nt_dealing.specs.Written.{IsChunkBlob, HaveWritten}
+use Rattle.nt_dealing.proofs.Noted.{each-noted}
 use Rattle.nt_dealing.proofs.Written.{each_wrote, others_idle}
 use Rattle.nt_contexts.specs.Filling.{HaveFaults}
 use Rattle.nt_contexts.specs.Seats.{DiskPass}
@@ -115,6 +122,19 @@ module _ {D : Type 0} (state : D → DiskState) (birth : Birth D) (disk : D) (bo
 
   pub end-is : (state disk).end ≡ book_end book
   end-is = step.end
+
+  -- each page list is noted as that of its group
+  pub noted-lists : IsBookKept book → (t : Table) (p : Params) → IsBornFor state birth t p → AreListsNoted t p book
+  noted-lists kept t p born =
+      let group : book.group ≡ Some (p.group, header_sum t) = step.group ∙ born.group in
+      let limits : book.limits ≡ p.limits = step.limits ∙ born.limits in
+      record {
+        group = group;
+        noted = λ k less.
+            let is = each-noted t p.group book kept group step.lists step.torn step.listed k less in
+            record { size = ap (λ (l : NotedList). l.at.size) is; len = ap (λ (l : NotedList). l.len) is };
+        short = subst (λ (l : Limits). AllByRecursion (λ (n : NotedList). n.len ≤ l.range) book.lists) limits step.listed.short;
+      }
 
   pub short-is : AllByRecursion (λ (c : Cluster ClusterMeta). c.len ≤ birth.limits.range) (book_clusters book)
   short-is =

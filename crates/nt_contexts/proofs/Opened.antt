@@ -13,12 +13,11 @@ use Rattle.nt_book.specs.Books.{BookData}
 use Rattle.nt_commit.specs.declared.locked.Birth.{Birth}
 use Rattle.nt_commit.specs.Locked.{birth_with}
 use Rattle.nt_close.specs.Beginning.{new_book}
+use Rattle.nt_dealing.specs.Begun.{IsBornFor}
 use Rattle.nt_contexts.specs.Seats.{DiskPass}
 use Rattle.nt_contexts.specs.declared.error.RunError.{RunError}
 use Rattle.nt_contexts.specs.Contexts.{IsReady, RunsContexts}
 use Rattle.nt_contexts.specs.Seating.{IsLettingIn, MayWork}
-use Rattle.nt_contexts.specs.Ending.{IsBornFor}
-use Rattle.nt_contexts.proofs.Told.{begun}
 
 module _ {D : Type 0} (state : D → DiskState) (fields : List MemberData) (t : Table) (p : Params) (committer : TurnState (Birth D)) where
   -- a new committer over a file that was begun
@@ -66,6 +65,7 @@ module _ {D : Type 0} (state : D → DiskState) (fields : List MemberData) (t : 
   born-for disk book n ready born = record {
     limits = ap (λ (b : Birth D). b.limits) born ∙ ap (λ (b : BookData). b.limits) ready.book_is;
     end = ap (λ (b : Birth D). (state b.begun).end) born ∙ ready.end;
+    group = ap (λ (b : Birth D). b.group) born ∙ ap (λ (b : BookData). b.group) ready.book_is;
   }
 
   pub born-firsts : (disk : D) (book : BookData) (n : ℕ) → IsReady fields p t book (state disk) n
@@ -78,9 +78,9 @@ module _ {D : Type 0} (state : D → DiskState) (fields : List MemberData) (t : 
       Unit RunError)
       → IsReady fields p t book (state disk) n
       → committer.birth ≡ birth_with disk book n
-      → RunsContexts t fields p (state committer.birth.begun) after (new_book t p.limits) book' sources sources' answer
+      → RunsContexts t fields p (state committer.birth.begun) after (new_book t p) book' sources sources' answer
       → RunsContexts t fields p (state disk) after book book' sources sources' answer
   runs-given disk after book book' n sources sources' answer ready born ran =
       subst (λ (b : BookData). RunsContexts t fields p (state disk) after b book' sources sources' answer) (sym ready.book_is)
-      (subst (λ (d : D). RunsContexts t fields p (state d) after (new_book t p.limits) book' sources sources' answer) (ap (λ (b : Birth
+      (subst (λ (d : D). RunsContexts t fields p (state d) after (new_book t p) book' sources sources' answer) (ap (λ (b : Birth
       D). b.begun) born) ran)

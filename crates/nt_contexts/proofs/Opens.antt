@@ -263,17 +263,22 @@ module _ {D : Type 0} (committer : TurnState (Birth D)) where
     -- contexts that all have their seats may run
     pub may-run : (fields : List MemberData) (t : Table) (p : Params) (all left : List S) (seats : List (Seat S (DiskPass D) P)) (first
         next : DiskPass D)
-        → MayWork committer fields t p (length all) first → HasOpened committer source all left seats next → left ≡ []
-        → All (IsFreshSeat source committer) seats
+        → MayWork committer fields t p (length all) first → HasOpened committer source all left seats next
+        → (left ≡ []) × (next.own ≡ []) → All (IsFreshSeat source committer) seats
         → CanRun committer source fields t p seats next
     may-run fields t p all left seats first next may opened none fresh =
         let count = opened-count all left seats next opened in
-        let empty : length left ≡ 0 = ap (λ (l : List S). length l) none in
+        let empty : length left ≡ 0 = ap (λ (l : List S). length l) none.0 in
         record {
           schema = may.schema;
           some = omega (arith, may.some, count, empty);
           few = omega (arith, may.few, count, empty);
           seated = omega (arith, may.seated, count, empty);
           fresh = fresh;
-          let_in = opened.let_in;
+          letting = record {
+            of = opened.let_in.of;
+            splits = opened.let_in.splits;
+            kept = opened.let_in.kept;
+            unused = none.1;
+          };
         }

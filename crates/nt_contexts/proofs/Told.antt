@@ -16,10 +16,7 @@ use Rattle.nt_outside.specs.Disk.{DiskState}
 use Rattle.nt_outside.specs.Faults.{Rose}
 use Rattle.nt_outside.specs.Source.{SourceState}
 use Rattle.nt_turn.specs.Pass.{TurnState}
-use Rattle.nt_machine.specs.declared.entry.Entry.{Entry}
 use Rattle.nt_machine.specs.History.{Cluster, ranges_of}
-use Rattle.nt_machine.specs.Legal.{end_after}
-use Rattle.nt_logged.specs.Logs.{IsLogOf}
 use Rattle.nt_logged.proofs.Growing.{log-fresh}
 use Rattle.nt_book.specs.declared.meta.ClusterMeta.{ClusterMeta}
 use Rattle.nt_book.specs.declared.params.Params.{Params}
@@ -27,10 +24,11 @@ use Rattle.nt_book.specs.declared.limits.Limits.{Limits}
 use Rattle.nt_book.specs.declared.limits.LimitError.{LimitError}
 use Rattle.nt_book.specs.declared.limits.LimitError.TheVariants as limit
 use Rattle.nt_book.specs.Books.{BookData, book_clusters, book_end}
-use Rattle.nt_close.proofs.NewBooks.{new-ungrouped}
 use Rattle.nt_commit.specs.declared.locked.Birth.{Birth}
 use Rattle.nt_layout.specs.Headers.{clusters_place}
 use Rattle.nt_close.specs.Beginning.{new_book}
+use Rattle.nt_close.proofs.NewBooks.{new-noted}
+use Rattle.nt_dealing.specs.Begun.{IsBornFor}
 use Rattle.nt_dealing.specs.Dealt.{FillsBehind}
 use Rattle.nt_dealing.specs.Texts.{text_chunks, chunks_of, joined_chunks, all_chunks}
 use Rattle.nt_dealing.specs.Limits.{IsOver, IsOverBy}
@@ -43,7 +41,7 @@ use Rattle.nt_contexts.specs.Answers.{limit_told}
 use Rattle.nt_contexts.specs.Contexts.{SomeRose, ContextsTold, IsReady, RunsContexts}
 use Rattle.nt_contexts.specs.Working.{KeepsFaults, CommittedBefore, WorkTold, HasWorked}
 use Rattle.nt_contexts.proofs.Opens.{same-later}
-use Rattle.nt_contexts.specs.Ending.{IsBornFor, HasEnded}
+use Rattle.nt_contexts.specs.Ending.{HasEnded}
 
 -- what holds of one pair of numbers holds of the same pair
 named : (t : Table) (p : Params) (chunks : List (List TreesData)) (chunk : List TreesData) (one two reached most : ℕ) → one ≡ reached
@@ -94,17 +92,20 @@ module _ {D : Type 0} (state : D → DiskState) (fields : List MemberData) (t : 
       → AreFields fields → Rows fields p.plain t → IsBornFor state committer.birth t p
       → committer.birth.firsts ≡ replicate (length t.columns) 0
       → HasWorked state fields t p committer sources sources' first answer → HasEnded state committer.birth first disk book
-      → RunsContexts t fields p begun (state disk) (new_book t p.limits) book sources sources' answer
+      → RunsContexts t fields p begun (state disk) (new_book t p) book sources sources' answer
   runs sources sources' first answer disk book rules rows born firsts work ended = record {
     told = λ texts tell. tell-all texts answer (work.told texts tell);
     failed = λ is. blame (work.blamed is);
-    unspoiled = λ is. let w = work.wrote is in (ended.dealt t p.page w.0 w.1).1;
+    undamaged = λ is.
+        let w = work.wrote is in
+        let dealt = ended.dealt t p w.0 born w.1 in
+        record { unspoiled = dealt.1; untorn = dealt.0.beside.untorn };
     later = ended.later;
     number = AllZip-long (λ (s s' : SourceState). s.faults ≤ s'.faults) sources sources' work.later;
     sources_later = work.later;
     held = ended.held;
     book_on = record { begin = ended.begin ∙ born.end; limits = ended.limits ∙ born.limits; firsts = ended.firsts ∙ firsts };
-    ungrouped = ended.ungrouped;
+    noted = ended.noted t p born;
     end = ended.end;
     out = ended.out;
     short = subst (λ (l : Limits). AllByRecursion (λ (c : Cluster ClusterMeta). c.len ≤ l.range) (book_clusters book)) born.limits
@@ -127,7 +128,7 @@ module _ {D : Type 0} (state : D → DiskState) (fields : List MemberData) (t : 
       tell-all texts (Ok done) w =
           let chunks = chunks_of p.cluster fields texts in (
             w.0,
-            (ended.dealt t p.page _ w.1).0,
+            (ended.dealt t p chunks born w.1).0,
             subst (λ (l : List (List TreesData)). CommitsFit t p l)
                 (all-before chunks (length texts) (length-map texts (text_chunks p.cluster fields)))
                 (fit-before texts (length texts) [] w.2),
@@ -165,16 +166,13 @@ take-whole (x ∷ l) = ap (λ (r : List ℕ). x ∷ r) (take-whole l)
 -- no range was reserved
 nothing-fills : (begin : ℕ) (h : Held) → FillsBehind begin h h
 nothing-fills begin h =
-    let none : List (Entry ClusterMeta) = [] in
-    let here : begin ≡ end_after begin (ranges_of none) = omega arith in
     record {
-      history = none;
+      history = [];
       legal = tt;
-      gains = record {
-        steps = [];
-        log = sym (append-nil h.log);
-        is_log = subst (λ (e : ℕ). IsLogOf begin e none [] [] []) here (log-fresh begin);
-      };
+      end = begin;
+      lists = [];
+      torn = [];
+      gains = record { steps = []; log = sym (append-nil h.log); is_log = log-fresh begin };
       front = λ known. take-whole h.image;
     }
 
@@ -184,13 +182,13 @@ pub runs-nothing : (fields : List MemberData) (t : Table) (p : Params) (disk : D
 runs-nothing fields t p disk book sources n ready = record {
   told = λ texts tell. tt;
   failed = λ is. cc;
-  unspoiled = λ is. cc;
+  undamaged = λ is. cc;
   later = omega arith;
   number = refl;
   sources_later = same-later sources;
   held = λ h is. (h, is, nothing-fills disk.end h);
   book_on = record { begin = refl; limits = refl; firsts = refl };
-  ungrouped = new-ungrouped t p.limits book ready.book_is;
+  noted = new-noted t p book ready.book_is;
   end = ready.end ∙ begins;
   out = ready.out;
   short = subst (λ (b : BookData). AllByRecursion (λ (c : Cluster ClusterMeta). c.len ≤ book.limits.range) (book_clusters b)) (sym

@@ -31,7 +31,7 @@ use Rattle.nt_contexts.specs.Answers.{refusal_told, answer_from}
 use Rattle.nt_contexts.specs.Seating.{kept_by, all_kept, seat_sources, HasBeenSeen, IsLettingIn, HasLetIn, LeaveAll, TurnsBack, AreNewSeats}
 use Rattle.nt_contexts.specs.Working.{KeepsFaults, CommittedBefore, StopsAtLine, WorkTold, HasWorked, HaveRun}
 use Rattle.nt_contexts.specs.Working.KeepsFaults.{of_first, of_kept}
-use Rattle.nt_contexts.proofs.Opens.{same-later}
+use Rattle.nt_contexts.proofs.Opens.{let-in-so-far, same-later}
 use Rattle.nt_contexts.proofs.Ran.{AreNumbered, Before, numbered-joined, SomeFaulty, run-numbered, run-none_out, run-later, run-count}
 use Rattle.nt_contexts.proofs.Ran.{run-blamed}
 use Rattle.nt_contexts.proofs.Ran.{run-wrote, run-committed, run-sound, run-bad, run-passes, new-numbered, new-none_out, new-later}
@@ -69,12 +69,15 @@ module _ {D : Type 0} (committer : TurnState (Birth D)) where
 
 module _ {D S P : Type 0} (state : D → DiskState) (fields : List MemberData) (t : Table) (p : Params) (committer : TurnState (Birth D))
     (source : S → SourceState) where
-  module _ (states : List SourceState) (seats : List (Seat S (DiskPass D) P)) (old new : DiskPass D) (n : ℕ) (let_in : HasLetIn
-      committer n old)
+  module _ (states : List SourceState) (seats : List (Seat S (DiskPass D) P)) (old new : DiskPass D) (n : ℕ)
+      (letting : IsLettingIn committer n old)
       (now : new ≡ record old { seen = new.seen; kept = all_kept seats }) (run : HaveRun state fields t p committer source 0 states seats)
       (few : length seats ≤ committer.birth.contexts) where
     number-is : new.number ≡ committer.birth.contexts
-    number-is = ap (λ (f : DiskPass D). f.number) now ∙ (let_in.of.first ∙ let_in.of.of.seats)
+    number-is = ap (λ (f : DiskPass D). f.number) now ∙ (letting.of.first ∙ letting.of.of.seats)
+
+    unused : new.own ≡ []
+    unused = ap (λ (f : DiskPass D). f.own) now ∙ letting.unused
 
     -- the first pass keeps what each context wrote
     have-written : (chunks : List (List (List TreesData))) → length chunks ≡ length seats
@@ -82,7 +85,7 @@ module _ {D S P : Type 0} (state : D → DiskState) (fields : List MemberData) (
         → HaveWritten (state committer.birth.begun).held t p.page chunks new.number new.own new.kept
     have-written chunks long each = record {
       behind = omega (arith, number-is, few, long);
-      idle = subst (λ (l : List (Entry ClusterMeta)). IsIdle l) (sym (ap (λ (f : DiskPass D). f.own) now)) let_in.idle;
+      unused = unused;
       each = subst (λ (l : Kept). AllWroteFrom (state committer.birth.begun).held t p.page 0 chunks l) (sym (ap (λ (f : DiskPass D).
           f.kept) now)) each;
     }
@@ -91,7 +94,7 @@ module _ {D S P : Type 0} (state : D → DiskState) (fields : List MemberData) (
         → AllCommittedFrom t p.page 0 chunks (all_kept seats) → HaveCommitted t p.page chunks new.number new.own new.kept
     have-committed chunks long each = record {
       behind = omega (arith, number-is, few, long);
-      idle = subst (λ (l : List (Entry ClusterMeta)). IsIdle l) (sym (ap (λ (f : DiskPass D). f.own) now)) let_in.idle;
+      idle = subst (λ (l : List (Entry ClusterMeta)). IsIdle l) (sym unused) tt;
       each = subst (λ (l : Kept). AllCommittedFrom t p.page 0 chunks l) (sym (ap (λ (f : DiskPass D). f.kept) now)) each;
     }
 
@@ -161,11 +164,12 @@ module _ {D S P : Type 0} (state : D → DiskState) (fields : List MemberData) (
   -- all ran and left
   pub worked : (n : ℕ) (states : List SourceState) (seats : List (Seat S (DiskPass D) P)) (old new : DiskPass D) (back back' : List S)
       (answer : Result Unit RunError)
-      → HasLetIn committer n old → n ≡ length seats → length seats ≤ committer.birth.contexts
+      → IsLettingIn committer n old → n ≡ length seats → length seats ≤ committer.birth.contexts
       → HaveRun state fields t p committer source 0 states seats
       → LeaveAll committer p.limits.clusters seats old new back back' answer → back ≡ []
       → HasWorked state fields t p committer states (map source back') new answer
-  worked n states seats old new back back' answer let_in long few run left empty =
+  worked n states seats old new back back' answer letting long few run left empty =
+      let let_in : HasLetIn committer n old = let-in-so-far committer n old letting in
       let now : new ≡ record old { seen = new.seen; kept = all_kept seats } = joined-as committer n old new (all_kept seats) let_in
       left.now in
       let count : n ≡ length (all_kept seats) = long ∙ sym (length-map seats (λ (seat : Seat S (DiskPass D) P). kept_by seat.pass)) in
@@ -182,12 +186,12 @@ module _ {D S P : Type 0} (state : D → DiskState) (fields : List MemberData) (
             states seats run);
         blamed = λ is.
             subst (λ (l : List S). SomeRose states (map source l) ⊎ KeepsFaults new) (sym sources)
-            (blames states seats old new n let_in now run few
+            (blames states seats old new n letting now run few
             (run-blamed state fields t p committer source p.limits.clusters 0 states seats run (sym left.answer ∙ is)));
         wrote = λ is.
             let w = run-wrote state fields t p committer source p.limits.clusters 0 states seats run (sym left.answer ∙ is) in
-            (w.0, have-written states seats old new n let_in now run few w.0 w.2 w.1);
-        told = λ texts tell. work-told states seats old new n let_in now run few texts tell left.told answer (sym left.answer);
+            (w.0, have-written states seats old new n letting now run few w.0 w.2 w.1);
+        told = λ texts tell. work-told states seats old new n letting now run few texts tell left.told answer (sym left.answer);
       }
 
   -- some were let in and left again, and then the answer is why the next wasn't

@@ -12,10 +12,11 @@ use Rattle.nt_outside.specs.Disk.{DiskState}
 use Rattle.nt_machine.specs.History.{Cluster}
 use Rattle.nt_book.specs.declared.meta.ClusterMeta.{ClusterMeta}
 use Rattle.nt_book.specs.declared.params.Params.{Params}
-use Rattle.nt_book.specs.Books.{BookData, IsUngrouped, book_clusters, book_end}
+use Rattle.nt_book.specs.Books.{BookData, book_clusters, book_end}
 use Rattle.nt_layout.specs.Headers.{clusters_place}
 use Rattle.nt_close.specs.Beginning.{new_book}
-use Rattle.nt_close.specs.Spoiled.{NoneSpoiled}
+use Rattle.nt_close.specs.Damage.{IsUndamaged}
+use Rattle.nt_close.specs.Filled.{AreListsNoted}
 use Rattle.nt_dealing.specs.Dealt.{IsDealtOut, FillsBehind}
 use Rattle.nt_dealing.specs.Texts.{AreSound, chunks_of, all_chunks}
 use Rattle.nt_dealing.specs.Failing.{CommitsFit, FailsByLine, FailsByChunk}
@@ -30,7 +31,7 @@ TellTexts sources texts = map (λ (s : SourceState). s.left) sources ≡ map (λ
 pub record IsReady (fields : List MemberData) (p : Params) (t : Table) (book : BookData) (disk : DiskState) (sources : ℕ) : Type 0 where
   pub rules : AreFields fields
   pub rows : Rows fields p.plain t
-  pub book_is : book ≡ new_book t p.limits
+  pub book_is : book ≡ new_book t p
   pub end : disk.end ≡ clusters_place t
   pub out : disk.out ≡ []
   pub some : 1 ≤ sources
@@ -57,7 +58,7 @@ AreLater sources sources' = AllZip (λ (s s' : SourceState). s.faults ≤ s'.fau
 abbrev pub ContextsTold : Table → List MemberData → Params → List (List ℕ) → DiskState → DiskState → BookData → Result Unit RunError
     → Type 0
 ContextsTold t fields p texts disk disk' book' (Ok done) =
-    AreSound fields texts × IsDealtOut t p.page (chunks_of p.cluster fields texts) book' disk.held disk'.held
+    AreSound fields texts × IsDealtOut t p (chunks_of p.cluster fields texts) book' disk.held disk'.held
     × CommitsFit t p (all_chunks p.cluster fields texts)
 ContextsTold t fields p texts disk disk' book' (Err (Line input line kind)) = FailsByLine t fields p texts input line kind
 ContextsTold t fields p texts disk disk' book' (Err (Limit reached limit)) = FailsByChunk t fields p texts reached limit
@@ -70,15 +71,16 @@ pub record RunsContexts (t : Table) (fields : List MemberData) (p : Params) (dis
   pub told : (texts : List (List ℕ)) → TellTexts sources texts → ContextsTold t fields p texts disk disk' book' result
   -- the outside is blamed only where it failed
   pub failed : result ≡ Err Outside → Rose disk.faults disk'.faults ⊎ SomeRose sources sources'
-  pub unspoiled : result ≡ Ok tt → NoneSpoiled book'
+  pub undamaged : result ≡ Ok tt → IsUndamaged book'
   pub later : disk.faults ≤ disk'.faults
   pub number : length sources' ≡ length sources
   -- the sources come back in their order, and no count fell
   pub sources_later : AreLater sources sources'
-  -- the disk tells the steps of a history of ranges behind what it held
+  -- the disk tells the steps of a history of ranges, with page lists between them, behind what it held
   pub held : BecomesSome disk.held disk'.held (FillsBehind disk.end)
   pub book_on : IsBookOn book book'
-  pub ungrouped : IsUngrouped book'
+  -- each page list is noted as that of its group
+  pub noted : AreListsNoted t p book'
   pub end : disk'.end ≡ book_end book'
   pub out : disk'.out ≡ []
   -- no cluster is longer than a range may get

@@ -130,4 +130,4 @@ module _ {D : Type 0} (committer : TurnState (Birth D)) where
         pub few : length seats ≤ 64
         pub seated : length seats ≤ committer.birth.contexts
         pub fresh : All (IsFreshSeat source committer) seats
-        pub let_in : HasLetIn (length seats) first
+        pub letting : IsLettingIn (length seats) first

@@ -1,6 +1,5 @@
 //! How a committer ends whose contexts were joined.
 
-ghost use Rattle.std.specs.Prelude.{◌≡◌, None};
 ghost use Rattle.nt_commit.specs.Holds.{IsFirstOf, HaveAllLeft};
 ghost use Rattle.nt_contexts.specs.Ending.{HasEnded};
 
@@ -16,7 +15,6 @@ use nt_turn::Pass;
 pub(crate) fn end<D: Disk>(committer: Committer<D>, first: Pass<Locked<D>>) -> (D, Book)
     requires first { IsFirstOf committer first }
     requires left { HaveAllLeft first }
-    requires ungrouped { committer.birth.group ≡ None }
     ensures { HasEnded D.state committer.birth first result.0 result.1 }
 {
     commits_are_dealt::<D>();
@@ -24,6 +22,7 @@ pub(crate) fn end<D: Disk>(committer: Committer<D>, first: Pass<Locked<D>>) -> (
     next_chunks_pass_limits_of_all::<D>();
     committed_chunks_fit::<D>();
     let (disk, book) = committer.finish(first);
+    book.keeps();
     let _faults = disk.faults();
     (disk, book)
 }

@@ -15,16 +15,18 @@
 //!
 //! Proved of `run_contexts`, by `RunsContexts` in `specs/Contexts.antt`: after `Ok` each text is sound, and the clusters of the book
 //! are the chunks of all texts, dealt out in the order of the commits, with their blobs on the disk (`told`), none of them spoiled
-//! (`unspoiled`); a bad line is the first of its text, and no text of a lower number has one; a limit is one that the file of all
+//! and no page list torn (`undamaged`); a bad line is the first of its text, and no text of a lower number has one; a limit is one that the file of all
 //! chunks passes, in whatever order they come; the outside is blamed only where the count of the disk or of a source rose
-//! (`failed`). Whatever the answer: the disk tells the steps of one legal history behind what it held (`held`), no range is out, no
-//! cluster is longer than a range may get (`short`), the book begins where it did, and the sources come back in their order.
+//! (`failed`). Whatever the answer: the disk tells the steps of one legal history behind what it held, with page lists between them
+//! (`held`), the book notes each of these as that of its group (`noted`), no range is out, no cluster is longer than a range may get
+//! (`short`), the book begins where it did, and the sources come back in their order.
 //!
 //! Proved of each seat (`Ran` in `specs/Seats.antt`): a context that ended well has written just the entries of its text, in clusters
 //! of so many, the last maybe shorter. However it ended, it has committed just the first of the chunks of the entries before the first
 //! bad line of its text, one after the other, whole, even where their ranges were spoiled. Each other end has its cause: the first bad
-//! line of the text, by its number from 1; a limit that the next chunk passes behind a history that its pass has seen; a fault that its
-//! source counted or that stands among its own entries; or want of memory. Its pass comes back with no range out.
+//! line of the text, by its number from 1; a limit that the next chunk, or the page list before it, passes behind a history that its
+//! pass has seen; a fault that its source counted or that stands among its own entries; or want of memory. Its pass comes back with
+//! no range out.
 //!
 //! Neither proved nor promised: that contexts run at the same time, or that one ever gets its turn.
 #![tactic(auto)]

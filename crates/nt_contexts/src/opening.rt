@@ -54,7 +54,7 @@ pub(crate) fn open_all<D: Disk, S: Source>(
     requires letting { IsLettingIn committer.now 0 first.old × (seats.old.items ≡ []) }
     requires room { (vec_len sources.old ≤ vec_capacity seats.old) × (vec_len sources.old ≤ committer.now.birth.contexts) }
     ensures opened { HasOpened committer.now S.state sources.old.items sources.new.items seats.new.items first.new }
-    ensures ok { OnOk result (sources.new.items ≡ []) }
+    ensures ok { OnOk result ((sources.new.items ≡ []) × (first.new.own ≡ [])) }
     ensures blamed { IsErrOf result refused.Failed → HaveFaults first.new.own }
 {
     while !sources.is_empty() {

@@ -1,5 +1,5 @@
 -- The limit that the next chunk of a context passes is one that the file of all chunks passes.
-use Rattle.std.proofs.Common.{◌≡◌, ◌≢◌, sym, refl, subst, ℕ, zero, suc, ◌+◌, ◌-◌, ◌<◌, ◌≤◌, ◌==◌, Bool, true, false, List, [], ◌∷◌}
+use Rattle.std.proofs.Common.{◌≡◌, ◌≢◌, sym, refl, subst, ℕ, zero, suc, ◌+◌, ◌<◌, ◌≤◌, ◌==◌, Bool, true, false, List, [], ◌∷◌}
 use Rattle.std.proofs.Common.{◌++◌, length, map, take, Some, None, if◌then◌else◌, sum_by, arith, inl, inr}
 use Rattle.std.specs.Prelude.{slice_get, slice_index_or, nat_lt}
 use Rattle.std.specs.List.{AllByRecursion, AllZip}
@@ -17,7 +17,7 @@ use Rattle.nt_book.specs.declared.meta.ClusterMeta.{ClusterMeta}
 use Rattle.nt_book.specs.declared.limits.Limits.{Limits}
 use Rattle.nt_book.specs.declared.limits.LimitError.{LimitError}
 use Rattle.nt_book.specs.declared.limits.LimitError.TheVariants as limit
-use Rattle.nt_book.specs.Limiting.{limit_error}
+use Rattle.nt_book.specs.Limiting.{limit_error_with}
 use Rattle.nt_dealing.specs.Written.{CommittedFirst, AllCommittedFrom, HaveCommitted}
 use Rattle.nt_dealing.specs.Limits.{IsKeptOf, AreKeptOf}
 use Rattle.nt_dealing.proofs.Fronts.{idle_ranges}
@@ -149,24 +149,25 @@ module _ (t : Table) (page : ℕ) (history : List (Entry ClusterMeta)) where
           (sym empty) tt
 
 -- an error by the limit that it names
-pub by_limit : (P : LimitError → Type 0) (limits : Limits) (end count len : ℕ) (error : LimitError)
-    → limit_error limits end count len ≡ Some error
+pub by_limit : (P : LimitError → Type 0) (limits : Limits) (end count len list : ℕ) (error : LimitError)
+    → limit_error_with limits end count len list ≡ Some error
     → (limits.range < len → P (limit.RangeTooLarge len limits.range))
-    → (limits.file < end + len → P (limit.FileTooLarge (end + len) limits.file))
+    → (limits.range < list → P (limit.RangeTooLarge list limits.range))
+    → (limits.file < end + list + len → P (limit.FileTooLarge (end + list + len) limits.file))
     → (count ≡ limits.clusters → P limit.TooManyClusters) → P error
-by_limit P limits end count len error is range file clusters =
-    first (nat_lt limits.range len) (nat_lt limits.file (end + len)) (count == limits.clusters) (ltb-true limits.range len)
-    (ltb-true limits.file (end + len)) (eqb-true count limits.clusters) is
+by_limit P limits end count len list error is range lists file clusters =
+    first (nat_lt limits.range len) (nat_lt limits.range list) (nat_lt limits.file (end + list + len)) (count == limits.clusters)
+    (ltb-true limits.range len) (ltb-true limits.range list) (ltb-true limits.file (end + list + len)) (eqb-true count limits.clusters) is
   where
-    first : (a b c : Bool) → (a ≡ true → limits.range < len) → (b ≡ true → limits.file < end + len) → (c ≡ true → count ≡ limits.clusters)
-        → (if a then Some (limit.RangeTooLarge len limits.range) else if b then Some (limit.FileTooLarge (end + len) limits.file)
-        else if c then Some limit.TooManyClusters else None)
+    first : (a b c d : Bool) → (a ≡ true → limits.range < len) → (b ≡ true → limits.range < list)
+        → (c ≡ true → limits.file < end + list + len) → (d ≡ true → count ≡ limits.clusters)
+        → (if a then Some (limit.RangeTooLarge len limits.range) else if b then Some (limit.RangeTooLarge list limits.range)
+        else if c then Some (limit.FileTooLarge (end + list + len) limits.file) else if d then Some limit.TooManyClusters else None)
         ≡ Some error
         → P error
-    first true b c one two three e = subst P (some_is (limit.RangeTooLarge len limits.range) error e) (range (one refl))
-    first false true c one two three e = subst P (some_is (limit.FileTooLarge (end + len) limits.file) error e) (file (two refl))
-    first false false true one two three e = subst P (some_is limit.TooManyClusters error e) (clusters (three refl))
-    first false false false one two three e = cc
-
-pub begins_whole : (reached a b c d e : ℕ) → reached ≡ a + b → reached ≤ a + b + c + d + e
-begins_whole reached a b c d e is = omega (arith, is)
+    first true b c d one two three four e = subst P (some_is (limit.RangeTooLarge len limits.range) error e) (range (one refl))
+    first false true c d one two three four e = subst P (some_is (limit.RangeTooLarge list limits.range) error e) (lists (two refl))
+    first false false true d one two three four e =
+        subst P (some_is (limit.FileTooLarge (end + list + len) limits.file) error e) (file (three refl))
+    first false false false true one two three four e = subst P (some_is limit.TooManyClusters error e) (clusters (four refl))
+    first false false false false one two three four e = cc

@@ -1,8 +1,8 @@
 -- Which limits the chunks of a history pass.
-use Rattle.std.proofs.Common.{◌≡◌, ◌∙◌, ap, sym, refl, subst, ℕ, ◌+◌, ◌-◌, ◌<◌, ◌≤◌, List, [], ◌∷◌}
-use Rattle.std.proofs.Common.{◌++◌, length, map, Some, None, append_assoc, sum_by, arith}
+use Rattle.std.proofs.Common.{◌≡◌, ◌∙◌, ap, sym, refl, subst, inl, inr, ℕ, ◌+◌, ◌-◌, ◌*◌, ◌<◌, ◌≤◌, List, [], ◌∷◌, ◌++◌, length, map}
+use Rattle.std.proofs.Common.{take, drop, Option, Some, append_assoc, sum_by, arith}
 use Rattle.std.specs.Prelude.{IsPermutation, slice_get, slice_index_or}
-use Rattle.std.proofs.lemmas.List.{length-append}
+use Rattle.std.proofs.lemmas.List.{length-append, length-drop}
 use Rattle.std.proofs.lemmas.List.Sums.{sum_by-cons, sum_by-append}
 use Rattle.std.proofs.lemmas.List.Sorted.{IsPermutation-sym, IsPermutation-trans, IsPermutation-middle, IsPermutation-append_right}
 use Rattle.std.proofs.lemmas.List.Sorted.{length_permutation}
@@ -26,24 +26,29 @@ use Rattle.nt_book.specs.declared.limits.Limits.{Limits}
 use Rattle.nt_book.specs.declared.limits.LimitError.{LimitError}
 use Rattle.nt_book.specs.Books.{BookData}
 use Rattle.nt_commit.specs.declared.locked.Birth.{Birth}
-use Rattle.nt_commit.proofs.Ungrouped.{limit-ungrouped}
+use Rattle.nt_commit.specs.Lists.{IsDueLen, IsLastList}
 use Rattle.nt_commit.specs.Locked.{book_of_birth, birth_of, context_of, history_of_locked, locked_by}
 use Rattle.nt_pages.specs.Image.{image}
 use Rattle.nt_pages.specs.Metas.{cluster_meta}
-use Rattle.nt_layout.specs.Headers.{clusters_place}
-use Rattle.nt_dealing.specs.Lengths.{page_lists_len, footer_len, group_count, whole_len}
+use Rattle.nt_layout.specs.Headers.{header_sum, clusters_place}
+use Rattle.nt_dealing.specs.Begun.{IsBornFor}
+use Rattle.nt_dealing.specs.Lengths.{page_list_len, page_lists_len, footer_len, group_count, whole_len}
 use Rattle.nt_dealing.specs.Texts.{joined_chunks}
 use Rattle.nt_dealing.specs.Written.{HaveCommitted}
-use Rattle.nt_dealing.specs.Limits.{IsKeptOf, of_chunk, IsOver, range_passed, file_passed, too_many, IsOverBy}
+use Rattle.nt_dealing.specs.Limits.{IsKeptOf, AreKeptOf, of_chunk, of_page_list, IsOver, range_passed, file_passed, too_many, IsOverBy}
 use Rattle.nt_dealing.specs.Limits.{NextPasses}
-use Rattle.nt_dealing.specs.Failing.{chunk_too_long, chunk_too_far, chunk_too_many, ChunkPassesBy}
+use Rattle.nt_dealing.specs.Failing.{chunk_too_long, list_too_long, chunk_too_far, chunk_too_many, ChunkPasses, ChunkPassesBy}
 use Rattle.nt_dealing.proofs.Takings.{Place, place_of_all, contained, get-drop}
-use Rattle.nt_dealing.proofs.Longest.{longest}
+use Rattle.nt_dealing.proofs.Grouped.{last-first, last-long, listed-within, zip-drop}
+use Rattle.nt_dealing.proofs.Longest.{lists-grow, longest}
 use Rattle.nt_dealing.proofs.Fronts.{Taken, taken, fronts_before, fewer_before}
-use Rattle.nt_dealing.proofs.Committed.{IsRangeOf, kept_are, lens_are, kept_more, by_limit, begins_whole, own_kept, IsFront, each_front}
+use Rattle.nt_dealing.proofs.Committed.{IsRangeOf, kept_are, lens_are, kept_more, by_limit, own_kept, IsFront, each_front}
+
+begins_whole : (reached end len a b old c d e : ℕ) → reached ≤ end + old + len → end + len ≡ a + b → old ≤ c → reached ≤ a + b + c + d + e
+begins_whole reached end len a b old c d e le is grows = omega (arith, le, is, grows)
 
 module _ (fields : List MemberData) (t : Table) (p : Params) (rows : Rows fields p.plain t) (chunks : List (List (List TreesData)))
-    (history : List (Entry ClusterMeta)) (begun : BookData) (none : begun.group ≡ None)
+    (history : List (Entry ClusterMeta)) (begun : BookData) (grouped : begun.group ≡ Some (p.group, header_sum t))
     (same : begun.limits ≡ p.limits) (begins : begun.begin ≡ clusters_place t)
     (each : (i : ℕ) → IsFront t p.page history chunks i) where
   abbrev limits : Limits
@@ -56,15 +61,31 @@ module _ (fields : List MemberData) (t : Table) (p : Params) (rows : Rows fields
       → (next : NextPasses begun t p.page (slice_index_or chunks i []) (mine_of history i) seen error)
       → IsOverBy t p (joined_chunks chunks) error × ChunkPassesBy t p next.chunk error
   passes_all i seen error first n =
-      by_limit (λ e. IsOverBy t p (joined_chunks chunks) e × ChunkPassesBy t p n.chunk e) limits (end_after begin cs) (length cs)
-      (length (image p.page n.columns)) error
-      (sym (limit-ungrouped (record begun { history = n.history }) n.place (length (image p.page n.columns)) none) ∙ n.passed)
-      (λ less. (range less, chunk_too_long meta kept refl (ap (λ (l : Limits). l.range) same)))
-      (λ less. (file less, chunk_too_far meta kept (omega (arith, begins)) (ap (λ (l : Limits). l.file) same)))
+      by_limit (λ e. IsOverBy t p (joined_chunks chunks) e × ChunkPassesBy t p n.chunk e) limits n.place.before (length cs) len
+      n.place.due error n.passed (λ less. (range less, chunk_too_long meta kept refl range_is)) lists
+      (λ less. (file less, chunk_too_far meta kept (omega (arith, begins, n.place.is.least)) file_is))
       (λ full. (clusters full, chunk_too_many refl refl))
     where
+      now : BookData
+      now = record begun { history = n.history }
+
       cs : List (Cluster ClusterMeta)
       cs = ranges_of n.history
+
+      len : ℕ
+      len = length (image p.page n.columns)
+
+      reached : ℕ
+      reached = n.place.before + n.place.due + len
+
+      range_is : limits.range ≡ p.limits.range
+      range_is = ap (λ (l : Limits). l.range) same
+
+      file_is : limits.file ≡ p.limits.file
+      file_is = ap (λ (l : Limits). l.file) same
+
+      some_group : 0 < p.group
+      some_group = let count = p.group_range.0 in omega (arith, count)
 
       before : IsPrefix n.history history
       before = subst (λ (l : List (Entry ClusterMeta)). IsPrefix n.history l) first.1 (prefix_more n.history seen first.0 n.before)
@@ -112,38 +133,60 @@ module _ (fields : List MemberData) (t : Table) (p : Params) (rows : Rows fields
       metas : List ClusterMeta
       metas = map (λ (c : Cluster ClusterMeta). c.meta) cs
 
-      range : limits.range < length (image p.page n.columns)
-          → IsOver t p (joined_chunks chunks) (length (image p.page n.columns)) limits.range
+      range : limits.range < len → IsOver t p (joined_chunks chunks) len limits.range
       range less =
           let at = place_of_all i (length (ranges_of (mine_of history i))) chunks n.chunk n.at in
-          range_passed (of_chunk n.chunk meta (contained (joined_chunks chunks) n.chunk at) kept refl)
-          (ap (λ (l : Limits). l.range) same) less
+          range_passed (of_chunk n.chunk meta (contained (joined_chunks chunks) n.chunk at) kept refl) range_is less
 
-      within : end_after begin cs + length (image p.page n.columns) ≤ whole_len t p.group (metas ++ meta ∷ [])
+      -- the page list of the last group, which is full
+      last_list : limits.range < n.place.due → IsLastList (header_sum t) p.group now n.place.due
+          → IsOver t p (joined_chunks chunks) n.place.due limits.range × ChunkPasses t p n.chunk n.place.due limits.range
+      last_list less last =
+          let k = last.groups * p.group in
+          let xs = taken_all.some in
+          let long : length xs ≡ length cs = sym (AllZip-long (IsRangeOf t p.page) xs cs taken_all.pairs) in
+          let count : length (drop k xs) ≡ p.group = omega (arith, length-drop k xs, long, last.full) in
+          let are : AreKeptOf t p.page (drop k xs) (drop k metas) =
+          zip-drop (IsKeptOf t p.page) k xs metas (kept_are t p.page xs cs taken_all.pairs) in
+          let is : n.place.due ≡ page_list_len (drop k metas) = last-long (header_sum t) p.group now n.place.due last in
+          let all = last-first k xs (joined_chunks taken_all.left) (joined_chunks chunks) taken_all.permuted in (
+            range_passed (of_page_list (drop k xs) (take k xs ++ joined_chunks taken_all.left) (drop k metas) all (omega (arith, count)) are
+                is) range_is less,
+            list_too_long (drop k xs) (drop k metas) count are is range_is,
+          )
+
+      lists : limits.range < n.place.due
+          → IsOver t p (joined_chunks chunks) n.place.due limits.range × ChunkPasses t p n.chunk n.place.due limits.range
+      lists less =
+          elim (subst (λ (g : Option (ℕ × ℕ)). IsDueLen g now n.place.due) grouped n.place.is.due_is) [
+            | inl none ↦ absurd (omega (arith, less, none))
+            | inr last ↦ last_list less last
+          ]
+
+      within : reached ≤ whole_len t p.group (metas ++ meta ∷ [])
       within =
           let ms : List ClusterMeta = metas ++ meta ∷ [] in
-          let len : ClusterMeta → ℕ = λ (m : ClusterMeta). m.len in
-          let reached = end_after begin cs + length (image p.page n.columns) in
-          let sums : reached ≡ clusters_place t + sum_by len ms =
+          let lens : ClusterMeta → ℕ = λ (m : ClusterMeta). m.len in
+          let sums : end_after begin cs + len ≡ clusters_place t + sum_by lens ms =
           omega (
             arith,
             begins,
-            sum_by-append len metas (meta ∷ []),
-            sum_by-cons len meta [],
+            sum_by-append lens metas (meta ∷ []),
+            sum_by-cons lens meta [],
             lens_are t p.page taken_all.some cs taken_all.pairs,
           ) in
-          begins_whole reached (clusters_place t) (sum_by len ms) (page_lists_len p.group ms)
-          (footer_len t (group_count p.group (length ms)))
-          (anchor_part_len + key_list_part_len + free_list_part_len) sums
+          begins_whole reached (end_after begin cs) len (clusters_place t) (sum_by lens ms) (page_lists_len p.group metas)
+          (page_lists_len p.group ms) (footer_len t (group_count p.group (length ms)))
+          (anchor_part_len + key_list_part_len + free_list_part_len)
+          (omega (arith, n.place.is.most, listed-within (header_sum t) p.group now some_group grouped)) sums
+          (lists-grow p.group metas (meta ∷ []) some_group)
 
-      file : limits.file < end_after begin cs + length (image p.page n.columns)
-          → IsOver t p (joined_chunks chunks) (end_after begin cs + length (image p.page n.columns)) limits.file
+      file : limits.file < reached → IsOver t p (joined_chunks chunks) reached limits.file
       file less =
-          let count = p.group_range.0 in
-          let all = longest fields p.plain t rows p.page p.group some others (metas ++ meta ∷ []) (omega (arith, count))
+          let all = longest fields p.plain t rows p.page p.group some others (metas ++ meta ∷ []) some_group
           (kept_more t p.page taken_all.some metas n.chunk meta (kept_are t p.page taken_all.some cs taken_all.pairs) kept) in
           file_passed all.0 (record { order = some ++ others; permuted = permuted; counted = all.1 }) (omega (arith, within, all.2))
-          (ap (λ (l : Limits). l.file) same) less
+          file_is less
 
       clusters : length cs ≡ limits.clusters → IsOver t p (joined_chunks chunks) (p.limits.clusters + 1) p.limits.clusters
       clusters full =
@@ -163,13 +206,12 @@ module _ {D : Type 0} (state : D → DiskState) where
   pub next_passes_all : (birth : Birth D) (disk : D) (book : BookData) (first : PassState (Entry ClusterMeta) (Birth D))
       (fields : List MemberData) (t : Table) (p : Params) (rows : Rows fields p.plain t) (chunks : List (List (List TreesData))) (i : ℕ)
       (own seen : List (Entry ClusterMeta)) (error : LimitError)
-      → Closes (history_of_locked state) birth_of context_of first (locked_by birth disk book) → birth.group ≡ None
-      → birth.limits ≡ p.limits
-      → (state birth.begun).end ≡ clusters_place t → HaveCommitted t p.page chunks first.number first.own first.kept
+      → Closes (history_of_locked state) birth_of context_of first (locked_by birth disk book) → IsBornFor state birth t p
+      → HaveCommitted t p.page chunks first.number first.own first.kept
       → slice_get first.kept i ≡ Some (i, own) → IsPrefix seen first.seen
       → (next : NextPasses (book_of_birth state birth []) t p.page (slice_index_or chunks i []) own seen error)
       → IsOverBy t p (joined_chunks chunks) error × ChunkPassesBy t p next.chunk error
-  next_passes_all birth disk book first fields t p rows chunks i own seen error closes none same begins have at before next =
+  next_passes_all birth disk book first fields t p rows chunks i own seen error closes born have at before next =
       let history : List (Entry ClusterMeta) = history_of_locked state (locked_by birth disk book) in
       let mine : own ≡ mine_of history i = own_kept t p.page history first.kept i i own closes.kept at in
       let begun : IsPrefix seen history =
@@ -179,6 +221,6 @@ module _ {D : Type 0} (state : D → DiskState) where
       error)
       → IsOverBy t p (joined_chunks chunks) error × ChunkPassesBy t p x.chunk error)
       (sym mine)
-      (passes_all fields t p rows chunks history (book_of_birth state birth []) none same begins
+      (passes_all fields t p rows chunks history (book_of_birth state birth []) born.group born.limits born.end
       (each_front t p.page history chunks first.number first.own first.kept have closes.kept closes.own closes.others) i seen error begun)
       next

@@ -19,7 +19,7 @@ use Rattle.nt_book.specs.declared.params.Params.{Params}
 use Rattle.nt_book.specs.Books.{BookData}
 use Rattle.nt_commit.specs.declared.locked.Birth.{Birth}
 use Rattle.nt_commit.specs.Locked.{IsInStep, birth_of, context_of, history_of_locked, locked_by}
-use Rattle.nt_layout.specs.Headers.{clusters_place}
+use Rattle.nt_dealing.specs.Begun.{IsBornFor}
 use Rattle.nt_dealing.specs.Limits.{IsKeptOf, AreKeptOf}
 use Rattle.nt_dealing.specs.Written.{AllCommittedFrom, HaveCommitted}
 use Rattle.nt_dealing.specs.Failing.{committed_chunks, CommitsFit}
@@ -181,13 +181,12 @@ module _ {D : Type 0} (state : D → DiskState) where
   pub committed-fit : (birth : Birth D) (disk : D) (book : BookData) (first : PassState (Entry ClusterMeta) (Birth D)) (t : Table)
       (p : Params) (chunks : List (List (List TreesData)))
       → Closes (history_of_locked state) birth_of context_of first (locked_by birth disk book)
-      → IsInStep state (locked_by birth disk book) → birth.limits ≡ p.limits
-      → (state birth.begun).end ≡ clusters_place t → HaveCommitted t p.page chunks first.number first.own first.kept
-      → CommitsFit t p (committed_chunks chunks first.kept)
-  committed-fit birth disk book first t p chunks closes step same begins have =
+      → IsInStep state (locked_by birth disk book) → IsBornFor state birth t p
+      → HaveCommitted t p.page chunks first.number first.own first.kept → CommitsFit t p (committed_chunks chunks first.kept)
+  committed-fit birth disk book first t p chunks closes step born have =
       let history : List (Entry ClusterMeta) = history_of_locked state (locked_by birth disk book) in
       let cs = ranges_of history in
-      let range : birth.limits.range ≡ p.limits.range = ap (λ (l : Limits). l.range) same in
+      let range : birth.limits.range ≡ p.limits.range = ap (λ (l : Limits). l.range) born.limits in
       let short = subst (λ (n : ℕ). AllByRecursion (λ (c : Range). c.len ≤ n) cs) range step.short in
       let c = committed-from t p.page p.limits.range history short 0 chunks first.kept have.each closes.kept in
       let lens = parts-are t p.page p.limits.range history short (λ (c : Range). c.len) (length first.kept) in
@@ -199,8 +198,8 @@ module _ {D : Type 0} (state : D → DiskState) where
         short = c.low;
         file = λ some.
             let end = step.within.file (omega (arith, some, c.count, ones, all)) in
-            omega (arith, end, begins, c.long, lens, ap (λ (l : Limits). l.file) same);
-        few = omega (arith, step.within.few, c.count, ones, all, ap (λ (l : Limits). l.clusters) same);
+            omega (arith, end, born.end, c.long, lens, ap (λ (l : Limits). l.file) born.limits);
+        few = omega (arith, step.within.few, c.count, ones, all, ap (λ (l : Limits). l.clusters) born.limits);
       }
 
 -- the first of chunks that pass no limit pass none

@@ -1,5 +1,7 @@
+mod Faultless
 pub mod Written
 mod Filled
+pub mod Noted
 mod Dealt
 pub mod EventLines
 mod Lists
@@ -12,6 +14,7 @@ mod Undealt
 mod Permuted
 mod Fronts
 mod Longest
+mod Grouped
 pub mod Whole
 mod Committed
 mod CommittedLimits

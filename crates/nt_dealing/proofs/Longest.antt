@@ -25,7 +25,7 @@ use Rattle.nt_plans.specs.Place.{open_plans}
 use Rattle.nt_trees.specs.Columns.{Cols}
 use Rattle.nt_trees.specs.Described.{are_stored}
 use Rattle.nt_layout.specs.Headers.{clusters_place}
-use Rattle.nt_dealing.specs.Lengths.{page_list_len, listed_cluster_len, group_count, footer_len, whole_len}
+use Rattle.nt_dealing.specs.Lengths.{page_list_len, page_lists_len, listed_cluster_len, group_count, footer_len, whole_len}
 use Rattle.nt_dealing.specs.Limits.{AreKeptOf, put_entries, WouldBeKeptOf, IsCountedOf}
 
 -- more clusters make no fewer groups
@@ -48,22 +48,29 @@ groups-grow n a b some le = at (nat_lt (div_ceil b n) (div_ceil a n)) refl
 footer-grows : (t : Table) (g h : ℕ) → g ≤ h → footer_len t g ≤ footer_len t h
 footer-grows t g h le = let listed : 48 * g ≤ 48 * h = mul-le-mul_left 48 le in omega (arith, listed)
 
-parts-grow : (a b b' c c' d d' e e' f : ℕ) → b ≤ b' → c ≤ c' → d ≤ d' → e ≤ e' → a + b + (c + d) + e + f ≤ a + b' + (c' + d') + e' + f
-parts-grow a b b' c c' d d' e e' f one two three four = omega (arith, one, two, three, four)
+-- more clusters have no shorter page lists
+pub lists-grow : (most : ℕ) (xs ys : List ClusterMeta) → 0 < most → page_lists_len most xs ≤ page_lists_len most (xs ++ ys)
+lists-grow most xs ys some =
+    both-grow (page_list_len [] * group_count most (length xs)) (page_list_len [] * group_count most (length (xs ++ ys)))
+    (sum_by listed_cluster_len xs) (sum_by listed_cluster_len (xs ++ ys))
+    (mul-le-mul_left (page_list_len []) (groups-grow most (length xs) (length (xs ++ ys)) some (omega (arith, length-append xs ys))))
+    (omega (arith, sum_by-append listed_cluster_len xs ys))
+  where
+    both-grow : (a b c d : ℕ) → a ≤ b → c ≤ d → a + c ≤ b + d
+    both-grow a b c d one two = omega (arith, one, two)
+
+parts-grow : (a b b' c c' e e' f : ℕ) → b ≤ b' → c ≤ c' → e ≤ e' → a + b + c + e + f ≤ a + b' + c' + e' + f
+parts-grow a b b' c c' e e' f one two three = omega (arith, one, two, three)
 
 -- a file of more clusters is no shorter
 pub whole-grows : (t : Table) (most : ℕ) (xs ys : List ClusterMeta) → 0 < most → whole_len t most xs ≤ whole_len t most (xs ++ ys)
 whole-grows t most xs ys some =
     let len : ClusterMeta → ℕ = λ (m : ClusterMeta). m.len in
-    let groups : group_count most (length xs) ≤ group_count most (length (xs ++ ys)) =
-    groups-grow most (length xs) (length (xs ++ ys)) some (omega (arith, length-append xs ys)) in
-    parts-grow (clusters_place t) (sum_by len xs) (sum_by len (xs ++ ys)) (page_list_len [] * group_count most (length xs))
-    (page_list_len [] * group_count most (length (xs ++ ys))) (sum_by listed_cluster_len xs) (sum_by listed_cluster_len (xs ++ ys))
+    parts-grow (clusters_place t) (sum_by len xs) (sum_by len (xs ++ ys)) (page_lists_len most xs) (page_lists_len most (xs ++ ys))
     (footer_len t (group_count most (length xs))) (footer_len t (group_count most (length (xs ++ ys))))
-    (anchor_part_len + key_list_part_len + free_list_part_len)
-    (omega (arith, sum_by-append len xs ys)) (mul-le-mul_left (page_list_len []) groups)
-    (omega (arith, sum_by-append listed_cluster_len xs ys))
-    (footer-grows t (group_count most (length xs)) (group_count most (length (xs ++ ys))) groups)
+    (anchor_part_len + key_list_part_len + free_list_part_len) (omega (arith, sum_by-append len xs ys)) (lists-grow most xs ys some)
+    (footer-grows t (group_count most (length xs)) (group_count most (length (xs ++ ys)))
+    (groups-grow most (length xs) (length (xs ++ ys)) some (omega (arith, length-append xs ys))))
 
 -- the types of the columns of fields
 abbrev types_of : Bool → List NodeData → List ColumnType

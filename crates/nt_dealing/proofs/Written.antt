@@ -1,9 +1,9 @@
 -- What a history has of each context, where a first pass keeps what the contexts wrote.
 use Rattle.std.proofs.Common.{◌≡◌, ◌≢◌, ℕ, zero, suc, ◌+◌, ◌<◌, ◌≤◌, ◌==◌, Bool, true, false, List, [], ◌∷◌, length, Option, refl, sym}
-use Rattle.std.proofs.Common.{subst, arith}
+use Rattle.std.proofs.Common.{◌∙◌, inl, inr, subst, arith}
 use Rattle.std.specs.Prelude.{slice_index_or}
 use Rattle.std.specs.List.{AllByRecursion}
-use Rattle.std.proofs.lemmas.Bool.{eq-eqb}
+use Rattle.std.proofs.lemmas.Bool.{cases_lt, eq-eqb}
 use borrow.Author.Tests.{eqb-true}
 use Rattle.nt_types.specs.TreeData.{TreesData}
 use Rattle.nt_grammar.specs.Table.{Table}
@@ -12,7 +12,9 @@ use Rattle.nt_turn.specs.History.{HasNone}
 use Rattle.nt_machine.specs.declared.entry.Entry.{Entry}
 use Rattle.nt_machine.specs.History.{mine_of, IsIdle}
 use Rattle.nt_book.specs.declared.meta.ClusterMeta.{ClusterMeta}
+use Rattle.nt_commit.specs.Lists.{HasNoFault}
 use Rattle.nt_dealing.specs.Written.{WroteChunks, AllWroteFrom, HaveWritten}
+use Rattle.nt_dealing.proofs.Faultless.{wrote-no_fault, none-of_each}
 
 module _ (begun : Option Held) (t : Table) (page : ℕ) (history : List (Entry ClusterMeta)) where
   -- what is kept of each context is its entries of the history
@@ -44,17 +46,15 @@ module _ (begun : Option Held) (t : Table) (page : ℕ) (history : List (Entry C
       let not : k.0 ≢ n = λ is. omega (arith, is, h.0, behind) in
       (not, none_kept (i + 1) css ks h.2 n (omega arith))
 
-  idle_from : (number n : ℕ) (own : List (Entry ClusterMeta)) → own ≡ mine_of history number → IsIdle own
-      → (n ≢ number → mine_of history n ≡ []) → IsIdle (mine_of history n)
-  idle_from number n own is idle others = at (n == number) refl
+  none_from : (number n : ℕ) (own : List (Entry ClusterMeta)) → own ≡ mine_of history number → own ≡ []
+      → (n ≢ number → mine_of history n ≡ []) → mine_of history n ≡ []
+  none_from number n own is unused others = at (n == number) refl
     where
-      at : (b : Bool) → (n == number) ≡ b → IsIdle (mine_of history n)
+      at : (b : Bool) → (n == number) ≡ b → mine_of history n ≡ []
       at true e =
           let same : number ≡ n = sym (eqb-true n number e) in
-          subst (λ (m : ℕ). IsIdle (mine_of history m)) same (subst (λ (l : List (Entry ClusterMeta)). IsIdle l) is idle)
-      at false e =
-          let differ : n ≢ number = λ same. let yes : (n == number) ≡ true = eq-eqb n number same in cc in
-          subst (λ (l : List (Entry ClusterMeta)). IsIdle l) (sym (others differ)) tt
+          subst (λ (m : ℕ). mine_of history m ≡ []) same (sym is ∙ unused)
+      at false e = others (λ same. let yes : (n == number) ≡ true = eq-eqb n number same in cc)
 
   -- each context wrote its chunks in the history
   pub each_wrote : (chunks : List (List (List TreesData))) (number : ℕ) (own : List (Entry ClusterMeta))
@@ -65,10 +65,35 @@ module _ (begun : Option Held) (t : Table) (page : ℕ) (history : List (Entry C
       subst (λ (n : ℕ). WroteChunks begun t page n (slice_index_or chunks i []) (mine_of history n)) (omega arith)
       (wrote_at 0 chunks kept have.each are i less)
 
-  -- and no other pass wrote
+  -- and no other pass entered anything
+  others_none : (chunks : List (List (List TreesData))) (number : ℕ) (own : List (Entry ClusterMeta))
+      (kept : List (ℕ × List (Entry ClusterMeta)))
+      → HaveWritten begun t page chunks number own kept → own ≡ mine_of history number
+      → ((n : ℕ) → n ≢ number → HasNone kept n → mine_of history n ≡ []) → (i : ℕ) → length chunks ≤ i → mine_of history i ≡ []
+  others_none chunks number own kept have is others i behind =
+      none_from number i own is have.unused (λ differ. others i differ (none_kept 0 chunks kept have.each i (omega arith)))
+
   pub others_idle : (chunks : List (List (List TreesData))) (number : ℕ) (own : List (Entry ClusterMeta))
       (kept : List (ℕ × List (Entry ClusterMeta)))
       → HaveWritten begun t page chunks number own kept → own ≡ mine_of history number
       → ((n : ℕ) → n ≢ number → HasNone kept n → mine_of history n ≡ []) → (i : ℕ) → length chunks ≤ i → IsIdle (mine_of history i)
   others_idle chunks number own kept have is others i behind =
-      idle_from number i own is have.idle (λ differ. others i differ (none_kept 0 chunks kept have.each i (omega arith)))
+      subst (λ (l : List (Entry ClusterMeta)). IsIdle l) (sym (others_none chunks number own kept have is others i behind)) tt
+
+  -- so no fault was entered
+  pub none_failed : (chunks : List (List (List TreesData))) (number : ℕ) (own : List (Entry ClusterMeta))
+      (kept : List (ℕ × List (Entry ClusterMeta)))
+      → HaveWritten begun t page chunks number own kept → AreKept kept → own ≡ mine_of history number
+      → ((n : ℕ) → n ≢ number → HasNone kept n → mine_of history n ≡ []) → HasNoFault history
+  none_failed chunks number own kept have are is others = none-of_each history (λ i. at i)
+    where
+      below : (i : ℕ) → WroteChunks begun t page i (slice_index_or chunks i []) (mine_of history i) → HasNoFault (mine_of history i)
+      below i wrote =
+          subst (λ (l : List (Entry ClusterMeta)). HasNoFault l) (sym wrote.are) (wrote-no_fault i wrote.writes)
+
+      at : (i : ℕ) → HasNoFault (mine_of history i)
+      at i = elim (cases_lt i (length chunks)) [
+        | inl low ↦ below i (each_wrote chunks number own kept have are i low)
+        | inr high ↦
+            subst (λ (l : List (Entry ClusterMeta)). HasNoFault l) (sym (others_none chunks number own kept have is others i high)) tt
+      ]

@@ -1,18 +1,22 @@
 -- The clusters of a file, dealt out: in the order of their commits, each context's chunks whole, once, and in their own order.
-use Rattle.std.specs.Prelude.{◌≡◌, ℕ, List, ◌++◌, take, length, Option, Some}
-use Rattle.std.specs.List.{AllZip, concat}
+use Rattle.std.specs.Prelude.{◌≡◌, ℕ, List, ◌++◌, take, length, Option}
+use Rattle.std.specs.List.{concat}
+use Rattle.nt_lists.specs.Parts.{Part, part_bytes}
 use Rattle.nt_types.specs.TreeData.{TreesData}
 use Rattle.nt_grammar.specs.Table.{Table}
 use Rattle.nt_outside.specs.Held.{Held, BecomesSome}
 use Rattle.nt_outside.specs.Reads.{IsKnown}
 use Rattle.nt_machine.specs.Deal.{Uses, IsDeal}
 use Rattle.nt_machine.specs.declared.entry.Entry.{Entry}
-use Rattle.nt_machine.specs.History.{Cluster, Settled, order_of, ranges_of}
-use Rattle.nt_machine.specs.Legal.{IsLegal, end_after}
+use Rattle.nt_machine.specs.History.{order_of}
+use Rattle.nt_machine.specs.Legal.{IsLegal}
 use Rattle.nt_book.specs.declared.meta.ClusterMeta.{ClusterMeta}
+use Rattle.nt_book.specs.declared.params.Params.{Params}
 use Rattle.nt_book.specs.Books.{BookData, book_clusters}
-use Rattle.nt_commit.specs.Locked.{GainsSteps}
+use Rattle.nt_commit.specs.Locked.{GainsLists}
+use Rattle.nt_layout.specs.Beside.{HasListsBeside, parts_so_far}
 use Rattle.nt_layout.specs.Laid.{AreBlobsOf}
+use Rattle.nt_finished.specs.Filled.{FillsBook}
 
 -- the commit order of a book: the context of each cluster
 abbrev pub commit_order : BookData → List ℕ
@@ -26,23 +30,27 @@ pub record AreChunksDealt (t : Table) (page : ℕ) (chunks : List (List (List Tr
   pub is_deal : IsDeal chunks (commit_order book) dealt
   pub blobs_are : AreBlobsOf t page dealt ranges (book_clusters book)
 
--- behind what a disk held at the beginning, where the first range begins there, come the steps of a history of ranges, one behind the
--- other, and what stood there stays where each byte of it was told
+-- behind what a disk held at the beginning, where the first range begins there, come the steps of a history of ranges, page lists between
+-- them, and what is left of one that failed; and what stood there stays where each byte of it was told
 pub record FillsBehind (begin : ℕ) (old new : Held) : Type 0 where
   pub history : List (Entry ClusterMeta)
   pub legal : IsLegal begin history
-  pub gains : GainsSteps begin (end_after begin (ranges_of history)) history old new
+  pub end : ℕ
+  pub lists : List Part
+  pub torn : List ℕ
+  pub gains : GainsLists begin end history lists torn old new
   pub front : IsKnown old.log old.image → take (length old.image) new.image ≡ old.image
 
--- each range was settled with its bytes, and just these stand behind what stood there
-pub record FillsWith (begin : ℕ) (ranges : List (List ℕ)) (old new : Held) : Type 0 where
-  pub fills : FillsBehind begin old new
-  pub settled : AllZip (λ range (c : Cluster ClusterMeta). c.state ≡ Settled (Some range)) ranges (ranges_of fills.history)
-  pub stand : IsKnown old.log old.image → new.image ≡ old.image ++ concat ranges
+-- each range was settled with its bytes, the page lists are those that the book notes, and just these stand behind what stood there
+pub record FillsWith (t : Table) (most : ℕ) (book : BookData) (ranges : List (List ℕ)) (old new : Held) : Type 0 where
+  pub fills : FillsBehind book.begin old new
+  pub fills_book : FillsBook t most book ranges fills.history fills.end fills.lists
+  pub stand : IsKnown old.log old.image → new.image ≡ old.image ++ concat (part_bytes (parts_so_far t book most ranges))
 
--- the chunks were dealt out, and the disk holds their blobs
-pub record IsDealtOut (t : Table) (page : ℕ) (chunks : List (List (List TreesData))) (book : BookData)
+-- the chunks were dealt out, the page lists of their full groups stand beside them, none of which failed, and the disk holds all this
+pub record IsDealtOut (t : Table) (p : Params) (chunks : List (List (List TreesData))) (book : BookData)
     (begun now : Option Held) : Type 0 where
   pub ranges : List (List ℕ)
-  pub are : AreChunksDealt t page chunks book ranges
-  pub stand : BecomesSome begun now (FillsWith book.begin ranges)
+  pub are : AreChunksDealt t p.page chunks book ranges
+  pub beside : HasListsBeside t p.group book
+  pub stand : BecomesSome begun now (FillsWith t p.group book ranges)

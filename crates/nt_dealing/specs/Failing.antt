@@ -12,6 +12,7 @@ use Rattle.nt_book.specs.declared.params.Params.{Params}
 use Rattle.nt_book.specs.declared.limits.LimitError.{LimitError}
 use Rattle.nt_book.specs.declared.limits.LimitError.TheVariants as limit
 use Rattle.nt_layout.specs.Headers.{clusters_place}
+use Rattle.nt_dealing.specs.Lengths.{page_list_len}
 use Rattle.nt_dealing.specs.Texts.{events_of, text_chunks, chunks_of, all_chunks, joined_chunks, IsFirstBad}
 use Rattle.nt_dealing.specs.Limits.{IsKeptOf, AreKeptOf, IsOver}
 
@@ -42,6 +43,9 @@ pub record CommitsFit (t : Table) (p : Params) (chunks : List (List TreesData)) 
 pub data ChunkPasses (t : Table) (p : Params) (chunk : List TreesData) (reached limit : ℕ) : Type 0 where
   chunk_too_long : (m : ClusterMeta) → IsKeptOf t p.page chunk m → reached ≡ m.len → limit ≡ p.limits.range
       → ChunkPasses t p chunk reached limit
+  -- the page list that comes before it, of others that fill a group
+  list_too_long : (others : List (List TreesData)) (metas : List ClusterMeta) → length others ≡ p.group
+      → AreKeptOf t p.page others metas → reached ≡ page_list_len metas → limit ≡ p.limits.range → ChunkPasses t p chunk reached limit
   chunk_too_far : (m : ClusterMeta) → IsKeptOf t p.page chunk m → clusters_place t + m.len ≤ reached → limit ≡ p.limits.file
       → ChunkPasses t p chunk reached limit
   chunk_too_many : reached ≡ p.limits.clusters + 1 → limit ≡ p.limits.clusters → ChunkPasses t p chunk reached limit

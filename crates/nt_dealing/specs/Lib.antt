@@ -1,3 +1,4 @@
+pub mod Begun
 pub mod EventText
 pub mod Texts
 pub mod Lengths

@@ -72,7 +72,7 @@ pub data IsBlobLen (t : Table) (p : Params) (chunks : List (List TreesData)) (le
 pub data IsOver (t : Table) (p : Params) (chunks : List (List TreesData)) (reached limit : ℕ) : Type 0 where
   -- a blob is longer than a range may get
   range_passed : IsBlobLen t p chunks reached → limit ≡ p.limits.range → limit < reached → IsOver t p chunks reached limit
-  -- the file ends too far on, at the latest where it is whole
+  -- the file ends too far on, at the latest where it is whole, with all its page lists
   file_passed : (metas : List ClusterMeta) → AreCountedOf t p.page chunks metas → reached ≤ whole_len t p.group metas
       → limit ≡ p.limits.file → limit < reached → IsOver t p chunks reached limit
   -- there are more chunks than a file may have clusters

@@ -30,11 +30,11 @@ AllWroteFrom begun t page i (chunks ∷ others) [] = ⊥
 AllWroteFrom begun t page i (chunks ∷ others) (k ∷ kept) =
     (k.0 ≡ i) × WroteChunks begun t page i chunks k.1 × AllWroteFrom begun t page (i + 1) others kept
 
--- a first pass keeps what each context wrote, and wrote nothing itself; its number is behind theirs
+-- a first pass keeps what each context wrote, and entered nothing itself, not even a fault; its number is behind theirs
 pub record HaveWritten (begun : Option Held) (t : Table) (page : ℕ) (chunks : List (List (List TreesData))) (number : ℕ)
     (own : List (Entry ClusterMeta)) (kept : List (ℕ × List (Entry ClusterMeta))) : Type 0 where
   pub behind : length chunks ≤ number
-  pub idle : IsIdle own
+  pub unused : own ≡ []
   pub each : AllWroteFrom begun t page 0 chunks kept
 
 -- a context committed the first of these chunks, one after the other, and no other

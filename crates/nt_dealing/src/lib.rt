@@ -2,16 +2,18 @@
 //! read, to the clusters of the file. Definitions and laws alone; no code runs.
 //!
 //! Start at `specs/Dealt.antt`: the clusters of a file are the chunks of its contexts, *dealt out*
-//! in the commit order. `specs/Written.antt` says when a context has written its chunks, each as the
-//! blob of its entries, or committed the first of them, `specs/EventText.antt` which entries an event
-//! text gives, up to its first bad line, `specs/Texts.antt` which chunks texts make,
-//! `specs/Lengths.antt` how long a file of such clusters is, and `specs/Limits.antt` which limits the
-//! file of some chunks passes, in whatever order they are committed.
+//! in the commit order. `specs/Begun.antt` says which file was begun, `specs/Written.antt` when a
+//! context has written its chunks, each as the blob of its entries, or committed the first of them,
+//! `specs/EventText.antt` which entries an event text gives, up to its first bad line,
+//! `specs/Texts.antt` which chunks texts make, `specs/Lengths.antt` how long a file of such clusters
+//! is, and `specs/Limits.antt` which limits the file of some chunks passes, in whatever order they
+//! are committed.
 //!
-//! Proved: whatever contexts did, the disk has the steps of one history behind those that it had, and
-//! what it held stays (`histories_fill`). However they interleave, where each wrote its chunks, the
-//! book that their committer hands back has these chunks, dealt out, each range was settled with its
-//! blob, and the disk holds the blobs behind what it held before (`commits_are_dealt`). Such chunks
+//! Proved: whatever contexts did, the disk has the steps of one history behind those that it had,
+//! with page lists between them, and what it held stays (`histories_fill`). However they interleave,
+//! where each wrote its chunks, the book that their committer hands back has these chunks, dealt out,
+//! each range was settled with its blob, no page list failed, and the disk holds blobs and lists
+//! behind what it held before (`commits_are_dealt`). Such chunks
 //! are all chunks in another order (`dealt_chunks_are_all_chunks`), and where the next chunk of a
 //! context passes a limit, the file of all chunks passes it (`next_chunks_pass_limits_of_all`), since
 //! the file of some chunks is no longer than that of all (`whole_files_are_longest`). Chunks that fit

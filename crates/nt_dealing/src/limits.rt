@@ -1,6 +1,6 @@
 //! Which limit the file of all chunks passes, and what it has of them.
 
-ghost use Rattle.std.specs.Prelude.{◌≡◌, ◌<◌, ◌≤◌, ℕ, Bool, List, [], ◌++◌, Some, None, map, slice_get, slice_index_or, IsPermutation};
+ghost use Rattle.std.specs.Prelude.{◌≡◌, ◌<◌, ◌≤◌, ℕ, Bool, List, [], ◌++◌, Some, map, slice_get, slice_index_or, IsPermutation};
 ghost use mathlib.Core.List.{IsPrefix};
 ghost use Rattle.nt_types.specs.ShapeData.{MemberData};
 ghost use Rattle.nt_types.specs.TreeData.{TreesData};
@@ -17,7 +17,7 @@ ghost use Rattle.nt_book.specs.Books.{BookData, book_clusters};
 ghost use Rattle.nt_book.specs.Kept.{IsBookKept};
 ghost use Rattle.nt_commit.specs.declared.locked.Birth.{Birth};
 ghost use Rattle.nt_commit.specs.Locked.{IsInStep, birth_of, book_of_birth, context_of, history_of_locked, locked_by};
-ghost use Rattle.nt_layout.specs.Headers.{clusters_place};
+ghost use Rattle.nt_dealing.specs.Begun.{IsBornFor};
 ghost use Rattle.nt_dealing.specs.Lengths.{whole_len};
 ghost use Rattle.nt_dealing.specs.Texts.{joined_chunks, chunks_of, all_chunks};
 ghost use Rattle.nt_dealing.specs.Written.{HaveCommitted};
@@ -57,16 +57,16 @@ pub fn whole_files_pass_no_limit()
         → WholeFits t p chunks → IsOver t p chunks reached limit → ⊥ }
 {}
 
-/// Where the next chunk of a context passes a limit behind what others have committed, the file of
-/// all chunks passes it, in whatever order they are committed, and that chunk passes it.
+/// Where the next chunk of a context passes a limit behind what others have committed, or the page
+/// list does that comes before it, the file of all chunks passes it, in whatever order they are
+/// committed, and that chunk passes it.
 pub fn next_chunks_pass_limits_of_all<D: Disk>()
     ensures { (birth : Birth D) (disk : D) (book : BookData)
         (first : PassState (Entry ClusterMeta) (Birth D)) (fields : List MemberData) (t : Table)
         (p : Params) (texts : List (List ℕ)) (i : ℕ) (own seen : List (Entry ClusterMeta))
         (error : LimitError) → AreFields fields → Rows fields p.plain t
         → Closes (history_of_locked D.state) birth_of context_of first (locked_by birth disk book)
-        → IsInStep D.state (locked_by birth disk book) → birth.group ≡ None → birth.limits ≡ p.limits
-        → (D.state birth.begun).end ≡ clusters_place t
+        → IsInStep D.state (locked_by birth disk book) → IsBornFor D.state birth t p
         → HaveCommitted t p.page (chunks_of p.cluster fields texts) first.number first.own first.kept
         → slice_get first.kept i ≡ Some (i, own) → IsPrefix seen first.seen
         → (next : NextPasses (book_of_birth D.state birth []) t p.page
@@ -81,8 +81,7 @@ pub fn committed_chunks_fit<D: Disk>()
         (first : PassState (Entry ClusterMeta) (Birth D)) (t : Table) (p : Params)
         (chunks : List (List (List TreesData)))
         → Closes (history_of_locked D.state) birth_of context_of first (locked_by birth disk book)
-        → IsInStep D.state (locked_by birth disk book) → birth.limits ≡ p.limits
-        → (D.state birth.begun).end ≡ clusters_place t
+        → IsInStep D.state (locked_by birth disk book) → IsBornFor D.state birth t p
         → HaveCommitted t p.page chunks first.number first.own first.kept
         → CommitsFit t p (committed_chunks chunks first.kept) }
     ensures front { (t : Table) (p : Params) (some others : List (List TreesData))

@@ -27,7 +27,7 @@ fn close_made<D: Disk>(
     schema: &Schema,
     params: &Params,
 ) -> Result<Vec<u32>, GenerateError>
-    requires { MayClose (D.state disk.old) book.now schema.now }
+    requires { MayClose (D.state disk.old) book.now schema.now params.now }
     ensures { (m : MakingData) → ClosesMade (λ order. order.items) schema.now params.now m book.now
         (D.state disk.old) (D.state disk.new) result }
 {

@@ -9,17 +9,16 @@ use Rattle.nt_grammar.specs.Table.{Table}
 use Rattle.nt_book.specs.declared.params.Params.{Params}
 use Rattle.nt_book.specs.declared.limits.LimitError.{LimitError}
 use Rattle.nt_book.specs.Books.{BookData}
-use Rattle.nt_layout.specs.Headers.{clusters_place}
-use Rattle.nt_layout.specs.Finished.{lists_behind, tail, front}
+use Rattle.nt_close.specs.Filled.{closing_tail, closing_front}
 use Rattle.nt_close.specs.declared.error.CloseError.{CloseError}
 use Rattle.nt_close.specs.declared.error.CloseError.TheVariants as close
 use Rattle.nt_close.specs.Steps.{closed_on, closed_partly, closed_whole}
-use Rattle.nt_close.specs.Laws.{EndsOverFirst}
+use Rattle.nt_close.specs.Laws.{ClosedIsFinished, EndsOverFirst}
 use Rattle.nt_close.specs.Passing.{passed_by_close}
-use Rattle.nt_close.specs.Spoiled.{NoneSpoiled, IsUnspoiled, IsFirstSpoiled}
-use Rattle.nt_close.specs.Closing.{HasCloseCause, LeavesClosed, IsCloseCut, BecomesFinished, StaysWithin}
+use Rattle.nt_close.specs.Damage.{IsTornAt, IsUndamaged}
+use Rattle.nt_close.specs.Spoiled.{IsUnspoiled, IsFirstSpoiled}
+use Rattle.nt_close.specs.Closing.{HasCloseCause, LeavesClosed, IsCloseCut, StaysWithin}
 use Rattle.nt_close.proofs.FirstByte.{cut_shut, closes_in_order}
-use Rattle.nt_close.proofs.Finishing.{closed-is}
 use Rattle.nt_close.proofs.Within.{within}
 use Rattle.nt_dealing.specs.Dealt.{commit_order}
 use Rattle.nt_store.specs.declared.error.StoreError.TheVariants.{Outside}
@@ -30,34 +29,37 @@ use Rattle.nt_store.specs.Writing.{HoldsNow, by_end, KeepsOrder}
 use Rattle.nt_store.specs.Crashes.{CrashLeaves}
 use Rattle.nt_store.specs.Filling.{IsFilledFile, IsOfNoText, CloseLeaves}
 use Rattle.nt_store.proofs.Begun.{shut_open, some_shut}
-use Rattle.nt_store.proofs.Crashing.{leaves_open}
+use Rattle.nt_store.proofs.Crashing.{leaves_open, ranged}
 
-none_spoiled : (book : BookData) (cluster faults : ℕ) → NoneSpoiled book → IsFirstSpoiled book cluster faults → ⊥
-none_spoiled book cluster faults none first = subst IsUnspoiled first.spoiled (none cluster first.inside)
+none_spoiled : (book : BookData) (cluster faults : ℕ) → IsUndamaged book → IsFirstSpoiled book cluster faults → ⊥
+none_spoiled book cluster faults none first = subst IsUnspoiled first.spoiled (none.unspoiled cluster first.inside)
+
+none_torn : (book : BookData) (group faults : ℕ) → IsUndamaged book → IsTornAt book group faults → ⊥
+none_torn book group faults none torn = cc (none.untorn, torn.torn)
 
 -- a closing that fails names no text
 pub of_no_text : (e : CloseError) → IsOfNoText (error_of_close e)
 of_no_text (close.Spoiled cluster faults) = tt
+of_no_text (close.Torn group faults) = tt
 of_no_text close.Memory = tt
 of_no_text (close.RangeTooLarge len most) = tt
 of_no_text (close.FileTooLarge end most) = tt
 of_no_text close.Fault = tt
 
-module _ (long : RangesAreAsLong) (stored : FinishedAreStored) (over : PassedAreOver) (t : Table) (p : Params) (book : BookData)
-    (begin : book.begin ≡ clusters_place t) (fields : List MemberData) (texts : List (List ℕ)) (h : Held)
-    (filled : IsFilledFile fields p texts t book h) where
+module _ (long : RangesAreAsLong) (stored : FinishedAreStored) (over : PassedAreOver) (finish : ClosedIsFinished) (t : Table) (p : Params)
+    (book : BookData) (fields : List MemberData) (texts : List (List ℕ)) (h : Held) (filled : IsFilledFile fields p texts t book h) where
   abbrev ends : List ℕ
-  ends = tail t book (lists_behind t book p.group)
+  ends = closing_tail t book p.group
 
   abbrev begins : List ℕ
-  begins = front t book (lists_behind t book p.group)
+  begins = closing_front t book p.group
 
   -- a file that stands there whole is stored
   stands : (left : Held) → StaysWithin t p book → left.image ≡ (closed_on ends begins h).image
       → IsStored p fields texts (commit_order book) left.image
   stands left stays whole =
       stored fields p texts t book filled.ranges left.image filled.holds stays
-      (whole ∙ closed-is t book p.group filled.ranges h begin (long fields p texts t book filled.ranges filled.holds) filled.image)
+      (whole ∙ finish t book p.group filled.ranges h (ranged long fields p texts t book filled.ranges filled.holds) filled.image)
 
   -- it is closed
   pub closed_leaves : (new : Option Held) → new ≡ Some (closed_on ends begins h) → StaysWithin t p book
@@ -74,7 +76,7 @@ module _ (long : RangesAreAsLong) (stored : FinishedAreStored) (over : PassedAre
         left.1,
         elim (cut_shut ends begins h left.0 filled.shut left.2) [
           | inl still ↦ inl (shut_open left.0.image still)
-          | inr whole ↦ inr (stands left.0 (within t p book none) whole.0, whole.1)
+          | inr whole ↦ inr (stands left.0 (within t p book filled.holds.kept filled.holds.noted filled.holds.untorn none) whole.0, whole.1)
         ],
       )
 
@@ -82,12 +84,13 @@ module _ (long : RangesAreAsLong) (stored : FinishedAreStored) (over : PassedAre
   still new is = (h, is, shut_open h.image filled.shut)
 
   -- or why it isn't
-  pub unclosed_leaves : (e : CloseError) (old new : DiskState) → old.held ≡ Some h → NoneSpoiled book
+  pub unclosed_leaves : (e : CloseError) (old new : DiskState) → old.held ≡ Some h → IsUndamaged book
       → HasCloseCause book (passed_by_close p t book) (Err e) → LeavesClosed ends begins old new (Err e)
       → CloseLeaves fields p texts (commit_order book) new.held (Err (error_of_close e))
-  unclosed_leaves (close.Spoiled cluster faults) old new is unspoiled cause left = absurd (none_spoiled book cluster faults unspoiled cause)
-  unclosed_leaves close.Memory old new is unspoiled cause left = still new.held (left.place.held ∙ is)
-  unclosed_leaves (close.RangeTooLarge len most) old new is unspoiled cause left = (
+  unclosed_leaves (close.Spoiled cluster faults) old new is undamaged cause left = absurd (none_spoiled book cluster faults undamaged cause)
+  unclosed_leaves (close.Torn group faults) old new is undamaged cause left = absurd (none_torn book group faults undamaged cause)
+  unclosed_leaves close.Memory old new is undamaged cause left = still new.held (left.place.held ∙ is)
+  unclosed_leaves (close.RangeTooLarge len most) old new is undamaged cause left = (
     record {
       table = t;
       rows = filled.holds.rows;
@@ -96,7 +99,7 @@ module _ (long : RangesAreAsLong) (stored : FinishedAreStored) (over : PassedAre
     },
     still new.held (left.place.held ∙ is),
   )
-  unclosed_leaves (close.FileTooLarge end most) old new is unspoiled cause left = (
+  unclosed_leaves (close.FileTooLarge end most) old new is undamaged cause left = (
     record {
       table = t;
       rows = filled.holds.rows;
@@ -105,20 +108,20 @@ module _ (long : RangesAreAsLong) (stored : FinishedAreStored) (over : PassedAre
     },
     still new.held (left.place.held ∙ is),
   )
-  unclosed_leaves close.Fault old new is unspoiled cause left = cut_leaves old new is cause.1 left
+  unclosed_leaves close.Fault old new is undamaged cause left = cut_leaves old new is cause.1 left
 
 module _ (leave : CrashesLeave) (t : Table) (p : Params) (book : BookData) (fields : List MemberData) (texts : List (List ℕ)) (h : Held)
     (filled : IsFilledFile fields p texts t book h) where
   -- what a crash leaves of one that is closed
   pub closed_crash : (new : Option Held) → StaysWithin t p book
-      → new ≡ Some (closed_on (tail t book (lists_behind t book p.group)) (front t book (lists_behind t book p.group)) h)
+      → new ≡ Some (closed_on (closing_tail t book p.group) (closing_front t book p.group) h)
       → HoldsNow new (λ left. CrashLeaves (IsStored p fields texts (commit_order book)) left.log (Ok tt))
   closed_crash new stays is = (
-    closed_on (tail t book (lists_behind t book p.group)) (front t book (lists_behind t book p.group)) h,
+    closed_on (closing_tail t book p.group) (closing_front t book p.group) h,
     is,
     (
       leave.closing fields p texts t book filled.ranges h
-          (closed_on (tail t book (lists_behind t book p.group)) (front t book (lists_behind t book p.group)) h) filled.holds stays
+          (closed_on (closing_tail t book p.group) (closing_front t book p.group) h) filled.holds stays
           filled.filled (closed_whole refl),
       leave.closed fields p texts t book filled.ranges h filled.holds stays filled.filled,
     ),
@@ -129,21 +132,23 @@ module _ (leave : CrashesLeave) (t : Table) (p : Params) (book : BookData) (fiel
   untouched e new is = (h, is, leaves_open (IsStored p fields texts (commit_order book)) h.log (error_of_close e) filled.unfinished)
 
   -- and of one that isn't
-  pub unclosed_crash : (e : CloseError) (old new : DiskState) → old.held ≡ Some h → NoneSpoiled book
+  pub unclosed_crash : (e : CloseError) (old new : DiskState) → old.held ≡ Some h → IsUndamaged book
       → HasCloseCause book (passed_by_close p t book) (Err e)
-      → LeavesClosed (tail t book (lists_behind t book p.group)) (front t book (lists_behind t book p.group)) old new (Err e)
+      → LeavesClosed (closing_tail t book p.group) (closing_front t book p.group) old new (Err e)
       → HoldsNow new.held (λ left. CrashLeaves (IsStored p fields texts (commit_order book)) left.log (Err (error_of_close e)))
-  unclosed_crash (close.Spoiled cluster faults) old new is unspoiled cause left = absurd (none_spoiled book cluster faults unspoiled cause)
-  unclosed_crash close.Memory old new is unspoiled cause left = untouched close.Memory new.held (left.place.held ∙ is)
-  unclosed_crash (close.RangeTooLarge len most) old new is unspoiled cause left =
+  unclosed_crash (close.Spoiled cluster faults) old new is undamaged cause left = absurd (none_spoiled book cluster faults undamaged cause)
+  unclosed_crash (close.Torn group faults) old new is undamaged cause left = absurd (none_torn book group faults undamaged cause)
+  unclosed_crash close.Memory old new is undamaged cause left = untouched close.Memory new.held (left.place.held ∙ is)
+  unclosed_crash (close.RangeTooLarge len most) old new is undamaged cause left =
       untouched (close.RangeTooLarge len most) new.held (left.place.held ∙ is)
-  unclosed_crash (close.FileTooLarge end most) old new is unspoiled cause left =
+  unclosed_crash (close.FileTooLarge end most) old new is undamaged cause left =
       untouched (close.FileTooLarge end most) new.held (left.place.held ∙ is)
-  unclosed_crash close.Fault old new is unspoiled cause left =
+  unclosed_crash close.Fault old new is undamaged cause left =
       let some = left.held h is in (
         some.0,
         some.1,
-        leave.closing fields p texts t book filled.ranges h some.0 filled.holds (within t p book cause.1) filled.filled
+        leave.closing fields p texts t book filled.ranges h some.0 filled.holds
+            (within t p book filled.holds.kept filled.holds.noted filled.holds.untorn cause.1) filled.filled
             (closed_partly some.2),
       )
 
@@ -154,6 +159,7 @@ pub close_order : (tail front : List ℕ) (old new : DiskState) (result : Result
 close_order tail front old new (Ok value) reads left h is =
     (_, left.held h is, λ shut order. closes_in_order tail front h (some_shut h.image shut) (reads h is) order _ (closed_whole refl))
 close_order tail front old new (Err (close.Spoiled cluster faults)) reads left h is = (h, left.place.held ∙ is, λ shut order. order)
+close_order tail front old new (Err (close.Torn group faults)) reads left h is = (h, left.place.held ∙ is, λ shut order. order)
 close_order tail front old new (Err close.Memory) reads left h is = (h, left.place.held ∙ is, λ shut order. order)
 close_order tail front old new (Err (close.RangeTooLarge len most)) reads left h is = (h, left.place.held ∙ is, λ shut order. order)
 close_order tail front old new (Err (close.FileTooLarge end most)) reads left h is = (h, left.place.held ∙ is, λ shut order. order)
@@ -163,11 +169,13 @@ close_order tail front old new (Err close.Fault) reads left h is =
 
 -- the disk has failed where the closing did
 pub close_fails : (book : BookData) (passed : Option LimitError) (tail front : List ℕ) (old new : DiskState) (e : CloseError)
-    → NoneSpoiled book → HasCloseCause book passed (Err e)
+    → IsUndamaged book → HasCloseCause book passed (Err e)
     → LeavesClosed tail front old new (Err e) → error_of_close e ≡ Outside → 0 < new.faults
-close_fails book passed tail front old new (close.Spoiled cluster faults) unspoiled cause left is = absurd (none_spoiled book cluster
-    faults unspoiled cause)
-close_fails book passed tail front old new close.Memory unspoiled cause left is = absurd (cc is)
-close_fails book passed tail front old new (close.RangeTooLarge len most) unspoiled cause left is = absurd (cc is)
-close_fails book passed tail front old new (close.FileTooLarge end most) unspoiled cause left is = absurd (cc is)
-close_fails book passed tail front old new close.Fault unspoiled cause left is = omega (arith, left.rose)
+close_fails book passed tail front old new (close.Spoiled cluster faults) undamaged cause left is = absurd (none_spoiled book cluster
+    faults undamaged cause)
+close_fails book passed tail front old new (close.Torn group faults) undamaged cause left is = absurd (none_torn book group faults undamaged
+    cause)
+close_fails book passed tail front old new close.Memory undamaged cause left is = absurd (cc is)
+close_fails book passed tail front old new (close.RangeTooLarge len most) undamaged cause left is = absurd (cc is)
+close_fails book passed tail front old new (close.FileTooLarge end most) undamaged cause left is = absurd (cc is)
+close_fails book passed tail front old new close.Fault undamaged cause left is = omega (arith, left.rose)

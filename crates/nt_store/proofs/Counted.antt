@@ -1,9 +1,9 @@
 -- What is kept of chunks is counted, and passes the limits of the whole.
-use Rattle.std.proofs.Common.{◌≡◌, ◌∙◌, inl, inr, ap, sym, subst, refl, ℕ, ◌+◌, ◌<◌, ◌≤◌, true, List, [], ◌∷◌}
+use Rattle.std.proofs.Common.{◌≡◌, ◌∙◌, inl, inr, ap, sym, subst, refl, ℕ, zero, suc, ◌+◌, ◌<◌, ◌≤◌, false, List, [], ◌∷◌}
 use Rattle.std.proofs.Common.{◌++◌, length, take, drop, Some, arith}
 use Rattle.std.specs.Prelude.{IsPermutation}
 use Rattle.std.specs.Int.{div_ceil}
-use Rattle.std.specs.List.{AllZip}
+use Rattle.std.specs.List.{AllByRecursion, AllZip}
 use Rattle.std.proofs.lemmas.List.{length-take, length-map, take-map, drop-map}
 use Rattle.std.proofs.lemmas.List.Sorted.{IsPermutation-trans}
 use Rattle.std.proofs.lemmas.List.Sorted.{length_permutation}
@@ -19,7 +19,9 @@ use Rattle.nt_book.specs.Books.{BookData, book_clusters}
 use Rattle.nt_pagelists.specs.Blobs.{blob_len}
 use Rattle.nt_layout.specs.Headers.{header_sum}
 use Rattle.nt_pagelists.specs.Objects.{ClusterSpan, list_len}
-use Rattle.nt_layout.specs.Finished.{lists_behind, spans, footer_object, file_len}
+use Rattle.nt_layout.specs.Groups.{PlacedList, places_beside}
+use Rattle.nt_layout.specs.Beside.{lists_left}
+use Rattle.nt_layout.specs.Finished.{list_places, spans, footer_object, file_len}
 use Rattle.nt_finished.proofs.Spans.{spans_in_order}
 use Rattle.nt_close.specs.Passing.{passed_by_close}
 use Rattle.nt_dealing.specs.Texts.{joined_chunks, chunks_of, all_chunks}
@@ -38,6 +40,14 @@ counted t page [] [] kept = tt
 counted t page [] (m ∷ ms) kept = absurd kept
 counted t page (x ∷ xs) [] kept = absurd kept
 counted t page (x ∷ xs) (m ∷ ms) kept = (inl kept.0, counted t page xs ms kept.1)
+
+-- what holds of all groups holds of those whose page lists are left
+all-left : (P : ClusterSpan → Type 0) (book : BookData) (k : ℕ) (ss : List ClusterSpan) → AllByRecursion P ss
+    → AllByRecursion (λ (l : PlacedList). P l.span) (drop k (places_beside book ss))
+all-left P book zero [] all = tt
+all-left P book zero (s ∷ ss) all = (all.0, all-left P book zero ss all.1)
+all-left P book (suc k) [] all = tt
+all-left P book (suc k) (s ∷ ss) all = all-left P book k ss all.1
 
 module _ (lists : ListsAreAsLong) (footers : FootersAreAsLong) (files : FilesAreAsLong) (dealt_all : DealtAreAll) (books : BooksAreOf) where
   module _ (fields : List MemberData) (p : Params) (texts : List (List ℕ)) (t : Table) (book : BookData) (ranges : List (List ℕ)) (holds
@@ -72,28 +82,32 @@ module _ (lists : ListsAreAsLong) (footers : FootersAreAsLong) (files : FilesAre
         let contexts = length-map (book_clusters book) (λ (c : Cluster ClusterMeta). c.context) in
         omega (arith, length_permutation holds.are.dealt chunks all-dealt.0, holds.are.is_deal.long, contexts)
 
-    footer_written : IsBlobLen t p chunks (blob_len (length (footer_object t book (lists_behind t book p.group))))
-    footer_written = of_footer (footers true t book p.group ∙ ap (λ (n : ℕ). footer_len t (group_count p.group n)) counts)
+    footer_written : IsBlobLen t p chunks (blob_len (length (footer_object t book (list_places false t book p.group))))
+    footer_written = of_footer (footers false t book p.group ∙ ap (λ (n : ℕ). footer_len t (group_count p.group n)) counts)
 
     closed_over : (e : LimitError) (reached most : ℕ) → passed_by_close p t book ≡ Some e → Names e reached most
         → IsOver t p chunks reached most
     closed_over e reached most passed names =
         let n = length (book_clusters book) in
-        let foot = blob_len (length (footer_object t book (lists_behind t book p.group))) in
+        let foot = blob_len (length (footer_object t book (list_places false t book p.group))) in
         let some : 0 < p.group = omega (arith, p.group_range.0) in
-        elim (blobs_or (list_len (header_sum t) book) (λ (s : ClusterSpan). s.from + s.count ≤ n) (λ (s : ClusterSpan). s.count ≤
-        p.group) p.limits (spans book p.group) (foot ∷ []) (file_len t book (lists_behind t book p.group)) e
-        (inside 0 n (spans book p.group) (spans_in_order p.group n some)) (small p.group n 0 (div_ceil n p.group)) passed) [
-          | inl list ↦ blob_over t p chunks reached most _ (list_written list.x list.first list.second) list.above (range_named e reached
-              most _ p.limits.range names list.is)
+        elim (blobs_or (λ (l : PlacedList). list_len (header_sum t) book l.span) (λ (l : PlacedList). l.span.from + l.span.count ≤ n)
+        (λ (l : PlacedList). l.span.count ≤ p.group) p.limits (lists_left t book p.group) (foot ∷ [])
+        (file_len t book (list_places false t book p.group)) e
+        (all-left (λ (s : ClusterSpan). s.from + s.count ≤ n) book (length book.lists) (spans book p.group)
+        (inside 0 n (spans book p.group) (spans_in_order p.group n some)))
+        (all-left (λ (s : ClusterSpan). s.count ≤ p.group) book (length book.lists) (spans book p.group)
+        (small p.group n 0 (div_ceil n p.group))) passed) [
+          | inl list ↦ blob_over t p chunks reached most _ (list_written list.x.span list.first list.second) list.above
+              (range_named e reached most _ p.limits.range names list.is)
           | inr rest ↦ elim (blobs_or (λ (m : ℕ). m) (λ (m : ℕ). m ≡ foot) (λ (m : ℕ). Unit {0}) p.limits (foot ∷ []) [] (file_len t book
-              (lists_behind t book p.group)) e (refl, tt) (tt, tt) rest) [
+              (list_places false t book p.group)) e (refl, tt) (tt, tt) rest) [
                 | inl blob ↦ blob_over t p chunks reached most blob.x (subst (IsBlobLen t p chunks) (sym blob.first) footer_written)
                     blob.above (range_named e reached most blob.x p.limits.range names blob.is)
                 | inr last ↦
-                    let end = ends p.limits (file_len t book (lists_behind t book p.group)) e last in
-                    let named = file_named e reached most (file_len t book (lists_behind t book p.group)) p.limits.file names end.1 in
-                    let long = files true t book p.group (book_of books fields p texts t book ranges holds) some in
+                    let end = ends p.limits (file_len t book (list_places false t book p.group)) e last in
+                    let named = file_named e reached most (file_len t book (list_places false t book p.group)) p.limits.file names end.1 in
+                    let long = files false t book p.group (book_of books fields p texts t book ranges holds) some in
                     let ms = metas (book_clusters book) in
                     file_passed ms
                     (record {

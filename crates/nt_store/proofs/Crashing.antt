@@ -1,5 +1,5 @@
 -- What a crash leaves of a file on its disk, by what the parts of its writing say.
-use Rattle.std.proofs.Common.{◌≡◌, ◌⊎◌, ◌∙◌, inl, inr, subst, true, ℕ, zero, suc, List, [], ◌∷◌, ◌++◌, take, Some, Result, Ok, Err}
+use Rattle.std.proofs.Common.{◌≡◌, ◌⊎◌, ◌∙◌, inl, inr, subst, false, ℕ, zero, suc, List, [], ◌∷◌, ◌++◌, take, Some, Result, Ok, Err}
 use Rattle.nt_types.specs.ShapeData.{MemberData}
 use Rattle.nt_num.specs.Codes.{unfinished}
 use Rattle.nt_num.specs.Faults.{fault}
@@ -7,28 +7,30 @@ use Rattle.nt_outside.specs.Log.{Step, Sync}
 use Rattle.nt_outside.specs.Held.{Held, nothing_held}
 use Rattle.nt_outside.specs.Disk.{DiskState}
 use Rattle.nt_grammar.specs.Table.{Table}
-use Rattle.nt_machine.specs.History.{ranges_of}
-use Rattle.nt_machine.specs.Legal.{IsLegal, end_after}
+use Rattle.nt_machine.specs.Legal.{IsLegal}
 use Rattle.nt_logged.specs.Logs.{IsLogOf}
 use Rattle.nt_book.specs.declared.params.Params.{Params}
 use Rattle.nt_book.specs.Books.{BookData}
 use Rattle.nt_container.specs.Spelling.{begun}
 use Rattle.nt_file_meaning.specs.Files.{HasDefect}
 use Rattle.nt_layout.specs.Headers.{header_blob, clusters_place}
-use Rattle.nt_layout.specs.Finished.{lists_behind, finished, tail, front}
+use Rattle.nt_layout.specs.Finished.{finished}
+use Rattle.nt_finished.specs.Filled.{IsBesideBook}
 use Rattle.nt_close.specs.declared.error.BeginError.{BeginError}
 use Rattle.nt_close.specs.declared.error.BeginError.TheVariants as begin
 use Rattle.nt_close.specs.Beginning.{IsNotBegun}
+use Rattle.nt_close.specs.Filled.{closing_tail, closing_front}
 use Rattle.nt_close.specs.Steps.{closed_on, IsBegunSoFar, begun_partly, IsClosedSoFar}
 use Rattle.nt_dealing.specs.Dealt.{FillsBehind, commit_order}
 use Rattle.nt_cuts.specs.Cuts.{WritesFirst, HasSync, LeavesUnfinished, LeavesUnfinishedOr, LeavesOnly}
-use Rattle.nt_crash.specs.Fillings.{IsFilling, IsFilled, IsRangedAs}
+use Rattle.nt_crash.specs.Fillings.{IsFilling, IsFilled}
 use Rattle.nt_store.specs.declared.error.StoreError.{StoreError}
 use Rattle.nt_store.specs.declared.error.StoreError.TheVariants.{Outside, Memory, Schema, Line, Limit}
 use Rattle.nt_store.specs.Whole.{IsStored}
 use Rattle.nt_store.specs.Writing.{as_begun, HoldsNow}
 use Rattle.nt_store.specs.Crashes.{CrashLeaves}
 use Rattle.nt_store.specs.Laws.{HoldsChunks, RangesAreAsLong, FinishedAreStored, CrashesLeave}
+use Rattle.nt_store.proofs.Whole.{beside_of}
 
 -- what is whole in one sense is so in another
 pub or_as : (P Q : List ℕ → Type 0) (log : List Step) → ((bytes : List ℕ) → P bytes → Q bytes) → LeavesUnfinishedOr P log
@@ -76,20 +78,26 @@ nothing_leaves k bytes has may = absurd (no_sync k has)
 -- the laws of crashes that are cited here
 abbrev pub ClosingLeaves : Type 0
 ClosingLeaves =
-    (t : Table) (book : BookData) (most : ℕ) (ranges : List (List ℕ)) (h left : Held) → IsRangedAs t book ranges → IsFilled t ranges h.log
-    → IsClosedSoFar (tail t book (lists_behind t book most)) (front t book (lists_behind t book most)) h left
-    → LeavesUnfinishedOr (λ (bytes : List ℕ). bytes ≡ finished true t book most ranges) left.log
+    (t : Table) (book : BookData) (most : ℕ) (ranges : List (List ℕ)) (h left : Held) → IsBesideBook t most book ranges
+    → IsFilled t most book ranges h.log
+    → IsClosedSoFar (closing_tail t book most) (closing_front t book most) h left
+    → LeavesUnfinishedOr (λ (bytes : List ℕ). bytes ≡ finished false t book most ranges) left.log
 
 abbrev pub ClosedLeaves : Type 0
 ClosedLeaves =
-    (t : Table) (book : BookData) (most : ℕ) (ranges : List (List ℕ)) (h : Held) → IsRangedAs t book ranges → IsFilled t ranges h.log
-    → LeavesOnly (λ (bytes : List ℕ). bytes ≡ finished true t book most ranges)
-    (closed_on (tail t book (lists_behind t book most)) (front t book (lists_behind t book most)) h).log
+    (t : Table) (book : BookData) (most : ℕ) (ranges : List (List ℕ)) (h : Held) → IsBesideBook t most book ranges
+    → IsFilled t most book ranges h.log
+    → LeavesOnly (λ (bytes : List ℕ). bytes ≡ finished false t book most ranges)
+    (closed_on (closing_tail t book most) (closing_front t book most) h).log
 
-ranged : RangesAreAsLong → (fields : List MemberData) (p : Params) (texts : List (List ℕ)) (t : Table) (book : BookData)
-    (ranges : List (List ℕ)) → HoldsChunks fields p texts t book ranges → IsRangedAs t book ranges
-ranged long fields p texts t book ranges holds =
-    record { begin = holds.book_on.begin; lengths = long fields p texts t book ranges holds }
+pub ranged : RangesAreAsLong → (fields : List MemberData) (p : Params) (texts : List (List ℕ)) (t : Table) (book : BookData)
+    (ranges : List (List ℕ)) → HoldsChunks fields p texts t book ranges → IsBesideBook t p.group book ranges
+ranged long fields p texts t book ranges holds = record {
+  kept = holds.kept;
+  beside = beside_of fields p texts t book ranges holds;
+  begin = holds.book_on.begin;
+  lens = long fields p texts t book ranges holds;
+}
 
 -- a file whose clusters are the chunks of texts
 pub chunks_leave : RangesAreAsLong → FinishedAreStored
@@ -99,7 +107,7 @@ chunks_leave long stored beginning filling closing closed = record {
   beginning = beginning;
   filling = filling;
   closing = λ fields p texts t book ranges h left holds stays filled so_far.
-      or_as (λ (bytes : List ℕ). bytes ≡ finished true t book p.group ranges) (IsStored p fields texts (commit_order book)) left.log
+      or_as (λ (bytes : List ℕ). bytes ≡ finished false t book p.group ranges) (IsStored p fields texts (commit_order book)) left.log
       (λ bytes is. stored fields p texts t book ranges bytes holds stays is)
       (closing t book p.group ranges h left (ranged long fields p texts t book ranges holds) filled so_far);
   closed = λ fields p texts t book ranges h holds stays filled bytes may.
@@ -114,10 +122,12 @@ run_crash leave t begin left place fills =
     leave.filling t left.log (record {
       history = fills.history;
       legal = subst (λ (n : ℕ). IsLegal n fills.history) place fills.legal;
+      end = fills.end;
+      lists = fills.lists;
+      torn = fills.torn;
       steps = fills.gains.steps;
       is = fills.gains.log;
-      is_log = subst (λ (n : ℕ). IsLogOf n (end_after n (ranges_of fills.history)) fills.history [] [] fills.gains.steps) place
-          fills.gains.is_log;
+      is_log = subst (λ (n : ℕ). IsLogOf n fills.end fills.history fills.lists fills.torn fills.gains.steps) place fills.gains.is_log;
     })
 
 -- and of one that isn't begun

@@ -1,7 +1,7 @@
 -- What the filling of a file leaves on its disk, by what its parts say.
-use Rattle.std.proofs.Common.{◌≡◌, ◌⊎◌, ◌∙◌, inl, inr, sym, subst, refl, ℕ, ◌<◌, List, [], ◌∷◌, ◌++◌, Option, Some, None, Result, Ok, Err}
+use Rattle.std.proofs.Common.{◌≡◌, ◌⊎◌, ◌∙◌, inl, inr, sym, subst, refl, ℕ, ◌<◌, List, [], ◌∷◌, Option, Some, None, Result, Ok, Err}
 use Rattle.std.proofs.Common.{◌≤◌, arith}
-use Rattle.std.specs.List.{AllByRecursion, concat}
+use Rattle.std.specs.List.{AllByRecursion}
 use Rattle.nt_types.specs.ShapeData.{MemberData}
 use Rattle.nt_types.specs.Rules.{AreFields}
 use Rattle.nt_outside.specs.Faults.{Rose}
@@ -11,20 +11,21 @@ use Rattle.nt_outside.specs.Order.{FirstByteLast}
 use Rattle.nt_outside.specs.Source.{SourceState}
 use Rattle.nt_grammar.specs.Table.{Table}
 use Rattle.nt_grammar.specs.Rows.{Rows}
-use Rattle.nt_machine.specs.History.{Cluster, ranges_of}
+use Rattle.nt_machine.specs.History.{Cluster}
 use Rattle.nt_book.specs.declared.meta.ClusterMeta.{ClusterMeta}
 use Rattle.nt_book.specs.declared.params.Params.{Params}
 use Rattle.nt_book.specs.declared.limits.LimitError.TheVariants as limit
-use Rattle.nt_book.specs.Books.{BookData, IsUngrouped, book_clusters}
+use Rattle.nt_book.specs.Books.{BookData, book_clusters}
 use Rattle.nt_book.specs.Kept.{IsBookKept}
-use Rattle.nt_machine.specs.Legal.{IsLegal, end_after}
+use Rattle.nt_machine.specs.Legal.{IsLegal}
 use Rattle.nt_logged.specs.Logs.{IsLogOf}
-use Rattle.nt_layout.specs.Headers.{header_blob, file_begun, clusters_place}
+use Rattle.nt_layout.specs.Headers.{header_blob, clusters_place}
 use Rattle.nt_cuts.specs.Cuts.{LeavesUnfinished}
 use Rattle.nt_crash.specs.Fillings.{IsFilled}
 use Rattle.nt_close.specs.declared.error.BeginError.{BeginError}
 use Rattle.nt_close.specs.declared.error.BeginError.TheVariants as begin
 use Rattle.nt_close.specs.Beginning.{new_book, IsNotBegun}
+use Rattle.nt_close.specs.Filled.{AreListsNoted, filled_file}
 use Rattle.nt_close.specs.Passing.{passed_by_begin}
 use Rattle.nt_close.specs.Steps.{begun_partly, begun_whole}
 use Rattle.nt_close.specs.Laws.{IsShut}
@@ -41,7 +42,7 @@ use Rattle.nt_store.specs.Worlds.{SomeFailed}
 use Rattle.nt_store.specs.Writing.{as_begun, IsInOrderFrom, by_header, by_chunk}
 use Rattle.nt_store.specs.Laws.{CrashesLeave}
 use Rattle.nt_store.specs.Filling.{IsFilledFile, WhyUnfilled, FillLeaves}
-use Rattle.nt_store.proofs.Begun.{begun_known, shut_open, filled_shut, filled_order}
+use Rattle.nt_store.proofs.Begun.{begun_known, begun_some, shut_open, filled_shut, filled_order}
 use Rattle.nt_store.proofs.Crashing.{run_crash}
 use Rattle.nt_store.proofs.Passing.{WholeAreLongest, begun_over}
 
@@ -64,7 +65,7 @@ filled_from leave t begin old new place some is fills =
       h = left.0;
       is = left.1;
       shut = filled_shut t begin left.0 left.2;
-      order = filled_order begin (as_begun t) left.0 some left.2 (begun_order t);
+      order = filled_order begin (as_begun t) left.0 some (begun_some t) left.2 (begun_order t);
       unfinished = run_crash leave t begin left.0 place left.2;
     }
 
@@ -97,7 +98,7 @@ run_leaves (run.Limit reached most) t fields p texts held filled = (filled.h, fi
 pub run_ok : (r : Result Unit RunError) (t : Table) (fields : List MemberData) (p : Params) (texts : List (List ℕ)) (disk disk' :
     DiskState) (book : BookData) → r ≡ Ok tt
     → ContextsTold t fields p texts disk disk' book r
-    → AreSound fields texts × IsDealtOut t p.page (chunks_of p.cluster fields texts) book disk.held disk'.held
+    → AreSound fields texts × IsDealtOut t p (chunks_of p.cluster fields texts) book disk.held disk'.held
     × CommitsFit t p (all_chunks p.cluster fields texts)
 run_ok r t fields p texts disk disk' book is told = subst (λ (o : Result Unit RunError). ContextsTold t fields p texts disk disk' book o)
     is told
@@ -118,14 +119,14 @@ rose_failed (s ∷ old) (s' ∷ new) (inr rose) = inr (rose_failed old new rose)
 
 -- once all ended well, the file is filled
 pub dealt_from : (fields : List MemberData) (p : Params) (texts : List (List ℕ)) (t : Table) (given book : BookData) (old new : Option Held)
-    (h : Held) → AreFields fields → Rows fields p.plain t → passed_by_begin p.limits t ≡ None → given ≡ new_book t p.limits
-    → IsBookKept book → IsUngrouped book → IsBookOn given book
+    (h : Held) → AreFields fields → Rows fields p.plain t → passed_by_begin p.limits t ≡ None → given ≡ new_book t p
+    → IsBookKept book → AreListsNoted t p book → IsBookOn given book
     → AllByRecursion (λ (c : Cluster ClusterMeta). c.len ≤ given.limits.range) (book_clusters book) → AreSound fields texts
-    → IsDealtOut t p.page (chunks_of p.cluster fields texts) book old new → CommitsFit t p (all_chunks p.cluster fields texts)
+    → IsDealtOut t p (chunks_of p.cluster fields texts) book old new → CommitsFit t p (all_chunks p.cluster fields texts)
     → old ≡ Some (as_begun t) → new ≡ Some h → IsShut h.image
     → LeavesUnfinished h.log → IsFilledFile fields p texts t book h
-dealt_from fields p texts t given book old new h rules rows within given_is kept bare on short sound dealt fit begun is shut unfinished =
-    let book_on : IsBookOn (new_book t p.limits) book = subst (λ (b : BookData). IsBookOn b book) given_is on in
+dealt_from fields p texts t given book old new h rules rows within given_is kept noted on short sound dealt fit begun is shut unfinished =
+    let book_on : IsBookOn (new_book t p) book = subst (λ (b : BookData). IsBookOn b book) given_is on in
     let left = dealt.stand (as_begun t) begun in
     let same : left.0 ≡ h = held_is left.0 h (sym left.1 ∙ is) in
     record {
@@ -135,7 +136,8 @@ dealt_from fields p texts t given book old new h rules rows within given_is kept
         rows = rows;
         within = within;
         kept = kept;
-        ungrouped = bare;
+        noted = noted;
+        untorn = dealt.beside.untorn;
         book_on = book_on;
         short = subst (λ (b : BookData). AllByRecursion (λ (c : Cluster ClusterMeta). c.len ≤ b.limits.range) (book_clusters book)) given_is
             short;
@@ -143,17 +145,20 @@ dealt_from fields p texts t given book old new h rules rows within given_is kept
         are = dealt.are;
         fit = fit;
       };
-      image = subst (λ (k : Held). k.image ≡ file_begun t ++ concat dealt.ranges) same (left.2.stand (begun_known t));
-      filled = subst (λ (k : Held). IsFilled t dealt.ranges k.log) same (record {
+      image = subst (λ (k : Held). k.image ≡ filled_file t book p.group dealt.ranges) same (left.2.stand (begun_known t));
+      filled = subst (λ (k : Held). IsFilled t p.group book dealt.ranges k.log) same (record {
         filling = record {
           history = left.2.fills.history;
           legal = subst (λ (n : ℕ). IsLegal n left.2.fills.history) book_on.begin left.2.fills.legal;
+          end = left.2.fills.end;
+          lists = left.2.fills.lists;
+          torn = left.2.fills.torn;
           steps = left.2.fills.gains.steps;
           is = left.2.fills.gains.log;
-          is_log = subst (λ (n : ℕ). IsLogOf n (end_after n (ranges_of left.2.fills.history)) left.2.fills.history [] []
+          is_log = subst (λ (n : ℕ). IsLogOf n left.2.fills.end left.2.fills.history left.2.fills.lists left.2.fills.torn
               left.2.fills.gains.steps) book_on.begin left.2.fills.gains.is_log;
         };
-        settled = left.2.settled;
+        fills = left.2.fills_book;
       });
       shut = shut;
       unfinished = unfinished;

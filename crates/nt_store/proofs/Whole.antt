@@ -19,7 +19,9 @@ use Rattle.nt_pagelists.specs.Blobs.{blob_len}
 use Rattle.nt_layout.specs.Headers.{header_object, clusters_place}
 use Rattle.nt_layout.specs.Laid.{AreBlobsOf, Measures, AreMeasures, IsBookOf, IsLaid}
 use Rattle.nt_finished.proofs.Lengths.{clusters_told, ranges-len}
-use Rattle.nt_finished.proofs.Staged.{all_behind, ranges-by_number}
+use Rattle.nt_layout.specs.Beside.{HasListsBeside}
+use Rattle.nt_finished.proofs.Beside.{all_beside}
+use Rattle.nt_finished.proofs.Staged.{ranges-by_number}
 use Rattle.nt_close.specs.Passing.{first_passed, passed_by_begin, measures_of}
 use Rattle.nt_store.specs.Laws.{HoldsChunks, RangesAreAsLong, FinishedAreStored}
 
@@ -67,6 +69,15 @@ pub book_of : BooksAreOf
 book_of books fields p texts t book ranges holds =
     books fields p.plain t book holds.rows holds.kept holds.book_on.begin holds.book_on.firsts
 
+-- page lists stand beside its clusters
+pub beside_of : (fields : List MemberData) (p : Params) (texts : List (List ℕ)) (t : Table) (book : BookData) (ranges : List (List ℕ))
+    → HoldsChunks fields p texts t book ranges → HasListsBeside t p.group book
+beside_of fields p texts t book ranges holds = record {
+  group = holds.noted.group;
+  untorn = holds.untorn;
+  noted = λ k less. (holds.noted.noted k less).len;
+}
+
 pub as_long : AreAsLong → RangesAreAsLong
 as_long long fields p texts t book ranges holds = long t p.page holds.are.dealt ranges book holds.kept holds.are.blobs_are
 
@@ -83,7 +94,7 @@ stored_whole books mean fields p texts t book ranges bytes holds stays is =
       lens = lens;
       blobs_are = subst (λ (l : List (List ℕ)). AreBlobsOf t p.page holds.are.dealt l cs)
           (sym (ranges-by_number book ranges holds.kept lens)) holds.are.blobs_are;
-      behind = all_behind t p.group book ranges holds.kept holds.ungrouped of.begin lens;
+      behind = all_beside t p.group book holds.kept (beside_of fields p texts t book ranges holds) ranges of.begin lens;
       is = is;
     } in
     record {

@@ -1,6 +1,5 @@
 -- What the filling of a file leaves of its disk, and the closing of a file that is filled.
-use Rattle.std.specs.Prelude.{⊤, ◌≡◌, ◌⊎◌, ℕ, ◌<◌, List, ◌++◌, length, Option, Some, Result, Ok, Err, IfOk, IfErr, IsErrOf}
-use Rattle.std.specs.List.{concat}
+use Rattle.std.specs.Prelude.{⊤, ◌≡◌, ◌⊎◌, ℕ, ◌<◌, List, length, Option, Some, Result, Ok, Err, IfOk, IfErr, IsErrOf}
 use Rattle.nt_types.specs.ShapeData.{MemberData}
 use Rattle.nt_outside.specs.Order.{FirstByteLast, BeginsOpen, EndsInSync}
 use Rattle.nt_outside.specs.Held.{Held}
@@ -9,10 +8,10 @@ use Rattle.nt_outside.specs.Source.{SourceState}
 use Rattle.nt_grammar.specs.Table.{Table}
 use Rattle.nt_book.specs.declared.params.Params.{Params}
 use Rattle.nt_book.specs.Books.{BookData}
-use Rattle.nt_layout.specs.Headers.{file_begun}
 use Rattle.nt_close.specs.Laws.{IsShut, EndsOverFirst}
 use Rattle.nt_close.specs.Closing.{IsClosable}
-use Rattle.nt_close.specs.Spoiled.{NoneSpoiled}
+use Rattle.nt_close.specs.Damage.{IsUndamaged}
+use Rattle.nt_close.specs.Filled.{filled_file}
 use Rattle.nt_cuts.specs.Cuts.{LeavesUnfinished}
 use Rattle.nt_crash.specs.Fillings.{IsFilled}
 use Rattle.nt_dealing.specs.Dealt.{commit_order}
@@ -30,8 +29,8 @@ pub record IsFilledFile (fields : List MemberData) (p : Params) (texts : List (L
   where
     pub ranges : List (List ℕ)
     pub holds : HoldsChunks fields p texts t book ranges
-    pub image : h.image ≡ file_begun t ++ concat ranges
-    pub filled : IsFilled t ranges h.log
+    pub image : h.image ≡ filled_file t book p.group ranges
+    pub filled : IsFilled t p.group book ranges h.log
     pub shut : IsShut h.image
     pub unfinished : LeavesUnfinished h.log
 
@@ -53,17 +52,17 @@ FillLeaves fields p texts held (Err (Limit reached most)) = HoldsNow held (λ h.
 FillLeaves fields p texts held (Err (Line input line kind)) = HoldsNow held (λ h. BeginsOpen h.image)
 FillLeaves fields p texts held (Err (Schema line kind)) = ⊥
 
--- a file can be closed, and none of its ranges is spoiled
-pub record MayClose (disk : DiskState) (book : BookData) (t : Table) : Type 0 where
-  pub closable : IsClosable disk book t
-  pub unspoiled : NoneSpoiled book
+-- a file can be closed, none of its ranges is spoiled, and none of its page lists failed
+pub record MayClose (disk : DiskState) (book : BookData) (t : Table) (p : Params) : Type 0 where
+  pub closable : IsClosable disk book t p
+  pub undamaged : IsUndamaged book
 
 -- a file was filled on a disk that held this, or why not
 pub record FillsFile (fields : List MemberData) (p : Params) (begun : Held) (sources sources' : List SourceState) (old new : DiskState)
     (result : Result (BookData × Table) StoreError) : Type 0 where
   pub why : (texts : List (List ℕ)) → TellTexts sources texts → WhyUnfilled fields p texts result
   pub left : (texts : List (List ℕ)) → TellTexts sources texts → old.held ≡ Some begun → FillLeaves fields p texts new.held result
-  pub may_close : IfOk result (λ made. MayClose new made.0 made.1)
+  pub may_close : IfOk result (λ made. MayClose new made.0 made.1 p)
   pub order : IsInOrderFrom begun old.held new.held
   pub shut : IfOk result (λ made. old.held ≡ Some begun → HoldsNow new.held (λ h. IsShut h.image × FirstByteLast h.log))
   -- a crash leaves what is unfinished

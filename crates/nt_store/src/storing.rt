@@ -40,7 +40,7 @@ fn finish<H: Host>(
     schema: &Schema,
     params: &Params,
 ) -> Result<(), StoreError>
-    requires may { MayClose (H.Out.state disk.old) book.now schema.now }
+    requires may { MayClose (H.Out.state disk.old) book.now schema.now params.now }
     ensures file { FinishesFile schema.now params.now book.now (H.state host.old) (H.state host.new)
         (H.Out.state disk.old) (H.Out.state disk.new) result }
     ensures cause { FailsOnEither (H.Out.state disk.new) (H.state host.old) (H.state host.new) result }

@@ -1,6 +1,5 @@
 use Rattle.std.proofs.Common.{◌<◌, ◌^◌, arith}
-use Rattle.nt_commit.proofs.Ungrouped.{bare}
-use Rattle.nt_contexts.proofs.Finished.{faults-later, faults-rose, end-is, short-is, unspoiled}
+use Rattle.nt_contexts.proofs.Finished.{faults-later, faults-rose, end-is, noted-lists, short-is, unspoiled}
 use Rattle.nt_contexts.proofs.ending.end.Goals as goal
 
 pub returns : goal.returns
@@ -16,21 +15,21 @@ returns g c =
     record {
       later = faults-later state birth disk book first closes step;
       blamed = faults-rose state birth disk book first closes step last;
-      dealt = λ t page chunks have. (
-        c.commits_are_dealt.ensures birth disk book first t page chunks closes step c.requires.ungrouped have,
+      dealt = λ t p chunks born have. (
+        c.commits_are_dealt.ensures birth disk book first t p chunks closes step c.keeps.ensures born have,
         unspoiled state birth disk book first
-            closes step t page chunks have,
+            closes step t p.page chunks have,
       );
       over = λ fields t p texts i own seen error rules rows born committed at before passes.
           c.next_chunks_pass_limits_of_all.ensures birth disk book first fields t p texts i own seen error rules rows closes step
-          c.requires.ungrouped born.limits born.end committed at before passes;
+          born committed at before passes;
       fit = λ t p chunks born committed.
-          c.committed_chunks_fit.ensures.fit birth disk book first t p chunks closes step born.limits born.end committed;
-      held = c.histories_fill.ensures birth disk book step c.requires.ungrouped;
+          c.committed_chunks_fit.ensures.fit birth disk book first t p chunks closes step born committed;
+      held = c.histories_fill.ensures birth disk book step;
       begin = step.begin;
       limits = step.limits;
       firsts = step.firsts;
-      ungrouped = bare state birth disk book step c.requires.ungrouped;
+      noted = λ t p born. noted-lists state birth disk book first closes step c.keeps.ensures t p born;
       end = end-is state birth disk book first closes step;
       out = c.finish-disk.ensures.disk.out;
       short = short-is state birth disk book first closes step;

@@ -1,8 +1,6 @@
 use Rattle.std.proofs.Common.{◌≡◌, ◌∙◌, ap, sym, subst, map, length, ℕ, arith, Err}
 use Rattle.nt_types.specs.Views.{members_view}
 use Rattle.nt_book.specs.Books.{BookData}
-use Rattle.nt_commit.specs.declared.locked.Birth.{Birth}
-use Rattle.nt_close.proofs.NewBooks.{new-ungrouped}
 use Rattle.nt_contexts.specs.declared.error.RunError.TheVariants.{Memory}
 use Rattle.nt_contexts.specs.Contexts.{IsReady, RunsContexts}
 use Rattle.nt_contexts.specs.Seating.{MayWork}
@@ -17,7 +15,7 @@ new-requires g c =
       contexts = (omega (arith, ready.some), omega (arith, ready.few));
       book = record {
         history = ap (λ b. b.history) ready.book_is;
-        unlisted = (new-ungrouped c.args.shared.now.schema.now c.args.shared.now.params.now.limits c.args.book ready.book_is).between;
+        unlisted = record { none_noted = ap (λ b. b.lists) ready.book_is; none_torn = ap (λ b. b.torn) ready.book_is };
         end = ap (λ b. b.begin) ready.book_is ∙ sym ready.end;
         out = ready.out;
       };
@@ -33,10 +31,6 @@ work-sources-requires-clause-may g c lifetimes outlive =
     let new = c.in-Ok.ensures.ok in
     subst (λ (n : ℕ). MayWork c.in-Ok.committer fields t p n c.in-Ok.first) c.len-contexts.ensures
     (newly g.D.Disk.state fields t p c.in-Ok.committer c.in-Ok.first c.args.disk c.args.book c.len-contexts.result ready new.0 new.1 new.2)
-
-pub end-disk-requires-clause-ungrouped : goal.end-disk-requires-clause-ungrouped
-end-disk-requires-clause-ungrouped g c =
-    ap (λ (b : Birth _). b.group) c.in-Ok.ensures.ok.1 ∙ ap (λ (b : BookData). b.group) c.requires.ready.book_is
 
 pub returns-in-Ok : goal.returns-in-Ok
 returns-in-Ok g c =

@@ -6,6 +6,7 @@ use Rattle.nt_contexts.specs.Seating.{HasLetIn, CanLeave, AreNewSeats, TurnsBack
 use Rattle.std.specs.List.{AllByRecursion}
 use Rattle.nt_contexts.specs.declared.error.RunError.TheVariants.{Memory}
 use Rattle.nt_contexts.specs.Working.{HasWorked}
+use Rattle.nt_contexts.proofs.Opens.{let-in-so-far}
 use Rattle.nt_contexts.proofs.Ran.{ran-all, ran-can-leave, fresh-can-leave}
 use Rattle.nt_contexts.proofs.Worked.{worked, turned-back}
 use Rattle.nt_contexts.proofs.working.run_and_leave.Goals as goal
@@ -16,7 +17,7 @@ leave_all-answer-requires g c =
     let ran = c.in-Ok.ensures.ok in
     let long : length c.in-Ok.seats.items ≡ length c.args.seats.items = sym c.in-Ok.seats.ok.0 ∙ (ran.0 ∙ c.args.seats.ok.0) in
     record {
-      first = run.let_in.of;
+      first = run.letting.of;
       seats = (
         ran-can-leave g.D.Disk.state (members_view c.args.shared.now.fields.now) c.args.shared.now.schema.now
             c.args.shared.now.params.now c.args.committer.now g.S.Source.state c.args.seats.items c.in-Ok.seats.items long
@@ -33,7 +34,7 @@ returns-in-Ok g c states fresh =
     let long : length c.in-Ok.seats.items ≡ length c.args.seats.items = sym c.in-Ok.seats.ok.0 ∙ (ran.0 ∙ c.args.seats.ok.0) in
     worked g.D.Disk.state (members_view c.args.shared.now.fields.now) c.args.shared.now.schema.now c.args.shared.now.params.now
     c.args.committer.now g.S.Source.state (length c.args.seats.items) states c.in-Ok.seats.items c.args.first.now
-    c.leave_all-answer.new.first c.args.back.items c.leave_all-answer.new.back.items c.leave_all-answer.result run.let_in (sym long)
+    c.leave_all-answer.new.first c.args.back.items c.leave_all-answer.new.back.items c.leave_all-answer.result run.letting (sym long)
     (omega (arith, long, run.seated))
     (ran-all g.D.Disk.state (members_view c.args.shared.now.fields.now) c.args.shared.now.schema.now c.args.shared.now.params.now
     c.args.committer.now g.S.Source.state 0 states c.args.seats.items c.in-Ok.seats.items fresh long
@@ -46,7 +47,8 @@ turn_back-back-requires g c =
     let back = c.in-Err.ensures.err in
     let long : length c.in-Err.seats.items ≡ length c.args.seats.items = ap length back in
     record {
-      first = subst (λ n. HasLetIn c.args.committer.now n c.args.first.now) (sym long ∙ sym c.in-Err.seats.ok.0) run.let_in;
+      first = subst (λ n. HasLetIn c.args.committer.now n c.args.first.now) (sym long ∙ sym c.in-Err.seats.ok.0)
+          (let-in-so-far c.args.committer.now (length c.args.seats.items) c.args.first.now run.letting);
       seats = (
         subst (λ l. AllByRecursion (CanLeave c.args.committer.now) l) (sym back)
             (fresh-can-leave c.args.committer.now g.S.Source.state c.args.seats.items run.fresh),
@@ -69,7 +71,8 @@ returns-in-Err g c states fresh =
     subst (λ (l : List SourceState). HasWorked g.D.Disk.state fields t p committer l (map g.S.Source.state c.turn_back-back.result.items)
     c.turn_back-back.new.first (Err Memory)) (append-nil states)
     (turned-back g.D.Disk.state fields t p committer g.S.Source.state (length c.args.seats.items) states [] c.in-Err.seats.items []
-    c.turn_back-back.result.items c.args.first.now c.turn_back-back.new.first refused.Memory run.let_in (sym (ap length back))
+    c.turn_back-back.result.items c.args.first.now c.turn_back-back.new.first refused.Memory
+    (let-in-so-far committer (length c.args.seats.items) c.args.first.now run.letting) (sym (ap length back))
     (subst (λ l. AreNewSeats committer g.S.Source.state 0 states l) (sym back) fresh) tt
     (subst (λ l. TurnsBack committer c.in-Err.seats.items c.args.first.now c.turn_back-back.new.first l c.turn_back-back.result.items)
     c.new-none.ensures.items c.turn_back-back.ensures) (λ e. cc))

@@ -45,7 +45,7 @@ returns-in-Ok-open_all g c =
     let opened = c.open_all.ensures.opened in
     let states : map g.S.Source.state c.args.sources.items ≡ opened.states =
     opened-all c.args.committer.now g.S.Source.state c.args.sources.items c.open_all.new.sources.items c.open_all.new.seats.items
-    c.open_all.new.first opened c.in-Ok-open_all.ensures.ok in
+    c.open_all.new.first opened c.in-Ok-open_all.ensures.ok.0 in
     subst (λ (l : List SourceState). HasWorked g.D.Disk.state fields t p c.args.committer.now l
     (map g.S.Source.state c.run_and_leave.result.0.items) c.run_and_leave.new.first c.run_and_leave.result.1) (sym states)
     (c.run_and_leave.ensures opened.states opened.seats_are)

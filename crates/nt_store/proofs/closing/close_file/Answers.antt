@@ -12,13 +12,13 @@ returns-in_err-close g c =
     rw (p.1, p.2) (record {
       left = λ fields texts h is filled.
           unclosed_leaves c.chunks_in_files.ensures.lengths c.chunks_in_files.ensures.stored c.chunks_in_files.ensures.over
-          c.args.schema.now c.args.params.now c.args.book.now may.closable.begin fields texts h filled e disk disk' is may.unspoiled
-          c.in_err-close.ensures.closes.cause c.in_err-close.ensures.closes.left;
+          c.closed_is_finished.ensures c.args.schema.now c.args.params.now c.args.book.now fields texts h filled e disk disk' is
+          may.undamaged c.in_err-close.ensures.closes.cause c.in_err-close.ensures.closes.left;
       order = close_order _ _ disk disk' _ (λ h is. (g.met.D.Disk.told c.args.disk.now h is).1) c.close.ensures.closes.left;
       crash = λ fields texts h is filled.
           unclosed_crash c.crashes_leave_chunks_or_none.ensures c.args.schema.now c.args.params.now c.args.book.now fields texts h filled
-          e disk disk' is may.unspoiled c.in_err-close.ensures.closes.cause c.in_err-close.ensures.closes.left;
-      failed = λ is. close_fails c.args.book.now _ _ _ disk disk' e may.unspoiled c.in_err-close.ensures.closes.cause
+          e disk disk' is may.undamaged c.in_err-close.ensures.closes.cause c.in_err-close.ensures.closes.left;
+      failed = λ is. close_fails c.args.book.now _ _ _ disk disk' e may.undamaged c.in_err-close.ensures.closes.cause
           c.in_err-close.ensures.closes.left (cc is);
       no_text = of_no_text e;
     })
@@ -30,7 +30,7 @@ returns g c =
     record {
       left = λ fields texts h is filled.
           closed_leaves c.chunks_in_files.ensures.lengths c.chunks_in_files.ensures.stored c.chunks_in_files.ensures.over
-          c.args.schema.now c.args.params.now c.args.book.now c.requires.may.closable.begin fields texts h filled disk'.held
+          c.closed_is_finished.ensures c.args.schema.now c.args.params.now c.args.book.now fields texts h filled disk'.held
           (c.in_ok-close.ensures.closes.left.held h is) c.in_ok-close.ensures.closes.finished.within;
       order = close_order _ _ disk disk' _ (λ h is. (g.met.D.Disk.told c.args.disk.now h is).1) c.close.ensures.closes.left;
       crash = λ fields texts h is filled.

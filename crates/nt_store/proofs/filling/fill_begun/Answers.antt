@@ -24,17 +24,17 @@ returns-in-Ok g c =
             dealt_from (members_view c.args.fields.now) c.args.settings.now.params.now ts c.args.begun.1 c.args.begun.0
                 c.run_contexts-disk.result.book (g.D.Disk.state c.args.disk).held (g.D.Disk.state c.run_contexts-disk.result.disk).held
                 filled.h c.requires.ready.rules c.requires.ready.rows c.requires.within c.requires.ready.book_is c.keeps.ensures
-                run.ungrouped run.book_on run.short told.0 told.1 told.2 held filled.is filled.shut filled.unfinished,
+                run.noted run.book_on run.short told.0 told.1 told.2 held filled.is filled.shut filled.unfinished,
           );
       may_close = record {
         closable = record {
           begin = run.book_on.begin ∙ ap (λ (b : BookData). b.begin) c.requires.ready.book_is;
-          ungrouped = run.ungrouped;
+          noted = run.noted;
           end = run.end;
           out = run.out;
           whole = described_whole _ _ _ c.requires.ready.rows;
         };
-        unspoiled = run.unspoiled c.in-Ok.is;
+        undamaged = run.undamaged c.in-Ok.is;
       };
       order = λ held. let filled = from held run.held in (filled.h, filled.is, filled.order);
       shut = λ held. let filled = from held run.held in (filled.h, filled.is, (filled.shut, filled.order));
