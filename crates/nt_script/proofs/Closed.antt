@@ -6,25 +6,26 @@ use Rattle.nt_types.specs.ShapeData.{MemberData}
 use Rattle.nt_outside.specs.Disk.{DiskState}
 use Rattle.nt_outside.specs.Held.{Held, BecomesSome, nothing_held}
 use Rattle.nt_outside.specs.Order.{BeginsOpen}
-use Rattle.nt_outside.specs.Reads.{Reads}
 use Rattle.nt_grammar.specs.Rows.{Rows}
 use Rattle.nt_grammar.specs.Table.{Table}
 use Rattle.nt_book.specs.declared.limits.LimitError.TheVariants as limit
+use Rattle.nt_book.specs.declared.list.Tear.{Tear}
 use Rattle.nt_book.specs.declared.params.Params.{Params}
 use Rattle.nt_book.specs.Books.{BookData}
 use Rattle.nt_book.specs.Kept.{IsBookKept}
-use Rattle.nt_layout.specs.Finished.{lists_behind, tail, front}
+use Rattle.nt_book.specs.Listing.{torn_group}
 use Rattle.nt_close.specs.declared.error.CloseError.{CloseError}
 use Rattle.nt_close.specs.declared.error.CloseError.TheVariants as close
 use Rattle.nt_close.specs.Closing.{HasCloseCause, LeavesClosed}
+use Rattle.nt_close.specs.Damage.{IsUndamaged, IsTornAt}
+use Rattle.nt_close.specs.Filled.{closing_tail, closing_front}
 use Rattle.nt_close.specs.Passing.{passed_by_close}
-use Rattle.nt_close.specs.Spoiled.{NoneSpoiled, IsUnspoiled, IsFirstSpoiled}
-use Rattle.nt_close.specs.Steps.{closed_on, closed_partly, closed_whole}
+use Rattle.nt_close.specs.Spoiled.{IsUnspoiled, IsFirstSpoiled}
+use Rattle.nt_close.specs.Steps.{closed_on}
 use Rattle.nt_seq.specs.Standing.{IsWriting}
 use Rattle.nt_seq.specs.Writer.{SeqState}
 use Rattle.nt_seq.specs.Written.{IsUnclosedOf, file_so_far}
-use Rattle.nt_seq.specs.Closing.{IsFileOf, AreCounts, AnswersClosing, EndsFile, IsShutOrWhole, LeavesFile}
-use Rattle.nt_seq.proofs.Closed.{whole}
+use Rattle.nt_seq.specs.Closing.{IsFileOf, AreCounts, AnswersClosing, EndsFile, LeavesFile}
 use Rattle.nt_seq.proofs.Files.{shut-unclosed}
 use Rattle.nt_store.specs.Writing.{HoldsNow}
 use Rattle.nt_store.proofs.Begun.{shut_open}
@@ -35,75 +36,61 @@ use Rattle.nt_script.specs.declared.store_error.ScriptStoreError.TheVariants.{Ou
 use Rattle.nt_script.specs.StoreErrors.{script_error_of_close}
 use Rattle.nt_script.specs.Running.{IsDoneScript}
 use Rattle.nt_script.specs.Whole.{IsScriptFile}
-use Rattle.nt_seq.specs.Crashes.{IsClosedBy, AppendsLeave}
 use Rattle.nt_script.specs.Filing.{ScriptFileTold, LeavesScriptFile, FinishesScript}
 use Rattle.nt_script.proofs.Wholes.{LateFilesMean, file_here, numbers_here, over_here}
 
-none_spoiled : (book : BookData) (cluster faults : ℕ) → NoneSpoiled book → IsFirstSpoiled book cluster faults → ⊥
-none_spoiled book cluster faults none first = subst IsUnspoiled first.spoiled (none cluster first.inside)
+-- no range is spoiled, and no page list failed
+pub none_spoiled : (book : BookData) (cluster faults : ℕ) → IsUndamaged book → IsFirstSpoiled book cluster faults → ⊥
+none_spoiled book cluster faults none first = subst IsUnspoiled first.spoiled (none.unspoiled cluster first.inside)
+
+pub none_torn : (book : BookData) (group faults : ℕ) → IsUndamaged book → IsTornAt book group faults → ⊥
+none_torn book group faults none at = cc (sym (ap (λ (x : Option Tear). torn_group x) none.untorn) ∙ at.torn)
 
 held_is : (held : Option Held) (h k : Held) → held ≡ Some h → held ≡ Some k → h ≡ k
 held_is held h k one two = cc (one, two)
 
--- the disks of a kind read as they were written
-abbrev pub ReadAsWritten : {D : Type 0} → (D → DiskState) → Type 0
-ReadAsWritten {D} state = (disk : D) (h : Held) → (state disk).held ≡ Some h → Reads h.log h.image
-
 module _ {D : Type 0} (state : D → DiskState) (w : SeqState D) (F : List MemberData) (text : List ℕ) (first : Table)
     (rows : Rows F w.params.plain first) (done : IsDoneScript state F (Some text) first w.params w) where
-  module _ (law : LateFilesMean) (leave : AppendsLeave) (is : IsWriting state w) (kept : IsBookKept w.book) (reads : ReadAsWritten state)
-      (empty : (state w.given).held ≡ Some nothing_held) (disk : D) where
+  module _ (law : LateFilesMean) (is : IsWriting state w) (kept : IsBookKept w.book) (empty : (state w.given).held ≡ Some nothing_held)
+      (disk : D) where
     abbrev behind : List ℕ
-    behind = tail w.table w.book (lists_behind w.table w.book w.params.group)
+    behind = closing_tail w.table w.book w.params.group
 
     abbrev before : List ℕ
-    before = front w.table w.book (lists_behind w.table w.book w.params.group)
+    before = closing_front w.table w.book w.params.group
 
     -- what is held before it is closed
     abbrev h : Held
-    h = file_so_far w.table is.ranges
+    h = file_so_far w.table is.blobs
 
     held : (state w.disk).held ≡ Some h
     held = is.held nothing_held empty
 
     unclosed : IsUnclosedOf w.table h
-    unclosed = record { ranges = is.ranges; steps = inl refl }
+    unclosed = record { blobs = is.blobs; steps = inl refl }
 
     -- the closed file is that of the script
-    whole_file : IsFileOf state w (closed_on behind before h).image → (bytes : List ℕ) → IsClosedBy w.table is.ranges behind before bytes
-        → IsScriptFile w.params F text bytes
-    whole_file file bytes same =
-        subst (IsScriptFile w.params F text) (sym same)
-        (file_here state w F text first rows done law (closed_on behind before h).image file)
+    turn : (bytes : List ℕ) → IsFileOf state w bytes → IsScriptFile w.params F text bytes
+    turn bytes file = file_here state w F text first rows done law bytes file
 
     -- after Ok
     pub closed_here : (n : ℕ × ℕ) → EndsFile state w disk (Ok n) → AreCounts state w n.0 n.1
         → HoldsNow (state disk).held (λ left. LeavesFile state w left (Ok n))
         → LeavesScriptFile F w.params text (state disk) (Ok (record { clusters = n.0; entries = n.1 }))
     closed_here n ends are left =
-        let now : (state disk).held ≡ Some (closed_on behind before h) = ends.held h held in
-        let same : left.0 ≡ closed_on behind before h = held_is (state disk).held left.0 (closed_on behind before h) left.1 now in
-        let file = subst (λ (k : Held). IsFileOf state w k.image) same left.2.whole in
-        let turn = whole_file file in
+        let same : left.0 ≡ closed_on behind before h =
+        held_is (state disk).held left.0 (closed_on behind before h) left.1 (ends.held h held) in
         record {
           told = (
-            (
-              left.0,
-              left.1,
-              (
-                file_here state w F text first rows done law left.0.image left.2.whole,
-                (_, ap (λ (k : Held). k.log) same),
-              ),
-            ),
+            (left.0, left.1, (turn left.0.image left.2.whole, (_, ap (λ (k : Held). k.log) same))),
             numbers_here state w F text first rows done (record { clusters = n.0; entries = n.1 }) are,
           );
           crash = (
-            closed_on behind before h,
-            now,
+            left.0,
+            left.1,
             (
-              or_as (IsClosedBy w.table is.ranges behind before) (IsScriptFile w.params F text) (closed_on behind before h).log turn
-                  (leave.closing w.table is.ranges behind before (closed_on behind before h) (closed_whole refl)),
-              λ bytes may. turn bytes (leave.closed w.table is.ranges behind before bytes may),
+              or_as (IsFileOf state w) (IsScriptFile w.params F text) left.0.log turn left.2.crash.0,
+              λ bytes may. turn bytes (left.2.crash.1 bytes may),
             ),
           );
         }
@@ -115,62 +102,53 @@ module _ {D : Type 0} (state : D → DiskState) (w : SeqState D) (F : List Membe
     Ends e = LeavesScriptFile F w.params text (state disk) (Err (script_error_of_close e))
 
     -- or why not
-    pub unclosed_here : (e : CloseError) → NoneSpoiled w.book → HasCloseCause w.book (passed_by_close w.params w.table w.book) (Err e)
+    pub unclosed_here : (e : CloseError) → IsUndamaged w.book → HasCloseCause w.book (passed_by_close w.params w.table w.book) (Err e)
         → LeavesClosed behind before (state w.disk) (state disk) (Err e)
-        → HoldsNow (state disk).held (λ left. IsShutOrWhole state w left) → Ends e
+        → HoldsNow (state disk).held (λ left. LeavesFile state w left (Err e)) → Ends e
     unclosed_here (close.Spoiled cluster faults) none cause left ends = absurd (none_spoiled w.book cluster faults none cause)
-    unclosed_here close.Memory none cause left ends = record {
-      told = still left.place.held;
-      crash = (h, left.place.held ∙ held, leave.unclosed w.table h unclosed);
-    }
+    unclosed_here (close.Torn group faults) none cause left ends = absurd (none_torn w.book group faults none cause)
+    unclosed_here close.Memory none cause left ends =
+        record { told = still left.place.held; crash = (ends.0, ends.1, ends.2.crash) }
     unclosed_here (close.RangeTooLarge len most) none cause left ends = record {
       told = (
         over_here state w F text first rows done is kept len most (limit.RangeTooLarge len most) cause.1 (inl refl),
         still left.place.held,
       );
-      crash = (h, left.place.held ∙ held, leave.unclosed w.table h unclosed);
+      crash = (ends.0, ends.1, ends.2.crash);
     }
     unclosed_here (close.FileTooLarge end most) none cause left ends = record {
       told = (
         over_here state w F text first rows done is kept end most (limit.FileTooLarge end most) cause.1 (inr refl),
         still left.place.held,
       );
-      crash = (h, left.place.held ∙ held, leave.unclosed w.table h unclosed);
+      crash = (ends.0, ends.1, ends.2.crash);
     }
-    unclosed_here close.Fault none cause left ends =
-        let cut = left.held h held in
-        record {
-          told = elim ends.2 as (λ _. ScriptFileTold F w.params text (state disk) (Err Outside)) [
-            | inl shut ↦ inl (ends.0, ends.1, inl (shut_open ends.0.image shut))
-            | inr file ↦ inr (
-              ends.0,
-              ends.1,
-              (file_here state w F text first rows done law ends.0.image file.whole, file.last),
-            )
-          ];
-          crash = (
-            cut.0,
-            cut.1,
-            or_as (IsClosedBy w.table is.ranges behind before) (IsScriptFile w.params F text) cut.0.log
-                (whole_file (whole state w is kept (reads w.disk) nothing_held empty cause.1))
-                (leave.closing w.table is.ranges behind before cut.0 (closed_partly cut.2)),
-          );
-        }
+    unclosed_here close.Fault none cause left ends = record {
+      told = elim ends.2.shut as (λ _. ScriptFileTold F w.params text (state disk) (Err Outside)) [
+        | inl shut ↦ inl (ends.0, ends.1, inl (shut_open ends.0.image shut))
+        | inr file ↦ inr (ends.0, ends.1, (turn ends.0.image file.whole, file.last))
+      ];
+      crash = (
+        ends.0,
+        ends.1,
+        or_as (IsFileOf state w) (IsScriptFile w.params F text) ends.0.log turn ends.2.crash,
+      );
+    }
 
 -- the disk has failed where the closing did
-closing_failed : {D : Type 0} (state : D → DiskState) (w : SeqState D) (disk : D) (e : CloseError) → NoneSpoiled w.book
+closing_failed : {D : Type 0} (state : D → DiskState) (w : SeqState D) (disk : D) (e : CloseError) → IsUndamaged w.book
     → HasCloseCause w.book (passed_by_close w.params w.table w.book) (Err e)
-    → LeavesClosed (tail w.table w.book (lists_behind w.table w.book w.params.group))
-    (front w.table w.book (lists_behind w.table w.book w.params.group)) (state w.disk) (state disk) (Err e)
-    → script_error_of_close e ≡ Outside → 0 < (state disk).faults
+    → LeavesClosed (closing_tail w.table w.book w.params.group) (closing_front w.table w.book w.params.group) (state w.disk) (state disk)
+    (Err e) → script_error_of_close e ≡ Outside → 0 < (state disk).faults
 closing_failed state w disk (close.Spoiled cluster faults) none cause left is = absurd (none_spoiled w.book cluster faults none cause)
+closing_failed state w disk (close.Torn group faults) none cause left is = absurd (none_torn w.book group faults none cause)
 closing_failed state w disk close.Memory none cause left is = absurd (cc is)
 closing_failed state w disk (close.RangeTooLarge len most) none cause left is = absurd (cc is)
 closing_failed state w disk (close.FileTooLarge end most) none cause left is = absurd (cc is)
 closing_failed state w disk close.Fault none cause left is = omega (arith, left.rose)
 
-module _ {D : Type 0} (state : D → DiskState) (w : SeqState D) (law : LateFilesMean) (leave : AppendsLeave) (is : IsWriting state w)
-    (kept : IsBookKept w.book) (reads : ReadAsWritten state) (disk : D) where
+module _ {D : Type 0} (state : D → DiskState) (w : SeqState D) (law : LateFilesMean) (is : IsWriting state w) (kept : IsBookKept w.book)
+    (disk : D) where
   -- what is said by the parameters of the writer is said by these
   by_params : (result : Result Counts ScriptStoreError) (F : List MemberData) (text : List ℕ) (first : Table) (p : Params)
       → w.params ≡ p
@@ -187,7 +165,7 @@ module _ {D : Type 0} (state : D → DiskState) (w : SeqState D) (law : LateFile
   closed_ok n ends are file = record {
     left = λ F text first p rows done empty.
         by_params (Ok (record { clusters = n.0; entries = n.1 })) F text first p done.params
-        (λ r d. closed_here state w F text first r d law leave is kept reads empty disk n ends are (file nothing_held empty)) rows done;
+        (λ r d. closed_here state w F text first r d law is kept empty disk n ends are (file nothing_held empty)) rows done;
     order = λ empty. let left = file nothing_held empty in (left.0, left.1, left.2.order);
     failed = λ bad. absurd (cc bad);
   }
@@ -197,12 +175,11 @@ module _ {D : Type 0} (state : D → DiskState) (w : SeqState D) (law : LateFile
       → FinishesScript state w disk (Err (script_error_of_close e))
   closed_not e answers ends file = record {
     left = λ F text first p rows done empty.
-        let left = file nothing_held empty in
         by_params (Err (script_error_of_close e)) F text first p done.params
-        (λ r d. unclosed_here state w F text first r d law leave is kept reads empty disk e answers.unspoiled answers.cause ends
-        (left.0, left.1, left.2.shut)) rows done;
+        (λ r d. unclosed_here state w F text first r d law is kept empty disk e answers.undamaged answers.cause ends
+        (file nothing_held empty)) rows done;
     order = λ empty. let left = file nothing_held empty in (left.0, left.1, left.2.order);
-    failed = λ bad. closing_failed state w disk e answers.unspoiled answers.cause ends (cc bad);
+    failed = λ bad. closing_failed state w disk e answers.undamaged answers.cause ends (cc bad);
   }
 
   module _ (r : Result (ℕ × ℕ) CloseError) (ends : EndsFile state w disk r)

@@ -1,5 +1,5 @@
 -- What is kept of all clusters of a script, of which the first ones are written.
-use Rattle.std.proofs.Common.{◌≡◌, ◌∙◌, ap, sym, refl, subst, inl, ℕ, ◌+◌, Bool, List, [], ◌∷◌, ◌++◌, length, map, Option, append_assoc}
+use Rattle.std.proofs.Common.{◌≡◌, ◌∙◌, sym, refl, subst, inl, ℕ, ◌+◌, Bool, List, [], ◌∷◌, ◌++◌, length, map, Option, append_assoc}
 use Rattle.std.specs.List.{AllZip}
 use Rattle.nt_lists.specs.Chunks.{chunks}
 use Rattle.nt_types.specs.TreeData.{TreesData}

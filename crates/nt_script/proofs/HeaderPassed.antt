@@ -1,5 +1,5 @@
 -- A limit that a script passes where its file is begun, and one that it passes nowhere.
-use Rattle.std.proofs.Common.{◌≡◌, ◌∙◌, sym, refl, subst, ℕ, ◌≤◌, Bool, true, false, List, [], ◌∷◌, length, Some, None, if◌then◌else◌}
+use Rattle.std.proofs.Common.{◌≡◌, sym, refl, subst, ℕ, ◌≤◌, Bool, true, false, List, length, Some, None, if◌then◌else◌}
 use Rattle.std.proofs.Common.{arith}
 use Rattle.std.specs.Prelude.{nat_lt}
 use Rattle.std.proofs.lemmas.Bool.Decides.{nat_tests}

@@ -3,12 +3,10 @@ use Rattle.std.proofs.Common.{◌≡◌, ◌∙◌, ap, refl, ℕ, ◌+◌, ◌�
 use Rattle.std.specs.Prelude.{take}
 use Rattle.std.proofs.lemmas.List.{length-append, take-append-le}
 use Rattle.nt_types.specs.ShapeData.{MemberData}
-use Rattle.nt_container.specs.Lengths.{begun_len}
 use Rattle.nt_grammar.specs.Added.{nodes_of, added_rows, Added}
 use Rattle.nt_grammar.specs.Rows.{Rows, field_row}
 use Rattle.nt_grammar.specs.Table.{Table}
 use Rattle.nt_file_meaning.specs.Headers.{header_text}
-use Rattle.nt_pagelists.specs.Blobs.{blob_len}
 use Rattle.nt_layout.specs.Headers.{header_object, clusters_place}
 use Rattle.nt_script.specs.Script.{Script, last_entries, and_field}
 use Rattle.nt_script.specs.Clusters.{GrowsByScript}

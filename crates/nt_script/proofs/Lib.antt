@@ -4,6 +4,7 @@ pub mod FieldNames
 pub mod LastTrees
 pub mod Tables
 pub mod Segments
+pub mod Between
 pub mod Passed
 pub mod NextCluster
 pub mod Flushed
@@ -18,6 +19,7 @@ pub mod Headers
 pub mod HeaderPassed
 pub mod WouldBe
 pub mod Counted
+pub mod Fronts
 pub mod WholePassed
 pub mod Closed
 pub mod Early

@@ -13,24 +13,24 @@ use Rattle.nt_book.specs.declared.limits.Limits.{Limits}
 use Rattle.nt_book.specs.declared.params.Params.{Params}
 use Rattle.nt_book.specs.Books.{book_clusters, book_end}
 use Rattle.nt_book.specs.Kept.{IsBookKept}
-use Rattle.nt_book.specs.Limiting.{limit_error, limit_error_with}
+use Rattle.nt_book.specs.Limiting.{limit_error_with}
 use Rattle.nt_pages.specs.Image.{image}
 use Rattle.nt_pages.specs.Metas.{cluster_meta}
 use Rattle.nt_commit.specs.declared.error.CommitError.{CommitError}
 use Rattle.nt_commit.specs.declared.error.CommitError.TheVariants as commit
+use Rattle.nt_commit.specs.Appending.{due_bytes}
 use Rattle.nt_commit.specs.Claims.{limit_in}
-use Rattle.nt_commit.proofs.Ungrouped.{with-none}
 use Rattle.nt_dealing.specs.Limits.{IsKeptOf, AreKeptOf}
 use Rattle.nt_append.specs.Appending.{settled_cluster, with_due_list}
-use Rattle.nt_append.proofs.Due.{bytes-ungrouped}
 use Rattle.nt_seq.specs.Standing.{IsWriting}
 use Rattle.nt_seq.specs.Writer.{SeqState, gathered_by}
 use Rattle.nt_seq.specs.Changing.{WritesNext, FailsToAppend, NamesPassed}
 use Rattle.nt_script.specs.Reading.{Segment, segment_metas}
-use Rattle.nt_script.specs.Limits.{clusters_end, StandsWithin, PassesHere}
+use Rattle.nt_script.specs.Limits.{clusters_end, due_list_len, limit_behind, PassesHere}
 use Rattle.nt_script.specs.Taking.{KeepsClusters, HasTakenLines, HaltsAt}
 use Rattle.nt_script.specs.Running.{error_of_commit}
-use Rattle.nt_script.proofs.Passed.{ends-are, stands_within}
+use Rattle.nt_script.proofs.Between.{end-between, due-between}
+use Rattle.nt_script.proofs.Passed.{beside-writing, stands_as}
 
 abbrev pub refusal : CommitError → Result (Unit {0}) CommitError
 refusal e = Err e
@@ -95,13 +95,20 @@ module _ {D : Type 0} (state : D → DiskState) where
           → PassesHere old.table old.params segments es (gathered_by old) error
       over error f limit_is passed =
           let own = segment_metas segments ++ taken.keeps.own in
-          let stands = stands_within state old is kept in
+          let lists = length old.book.lists in
+          let most = old.params.group in
+          let book = beside-writing state old is kept in
+          let stands = stands_as state old own taken.keeps.metas is kept in
           let len = length (image old.params.page old.columns) in
-          let end : book_end old.book ≡ clusters_end old.table own =
-          ends-are old.table old.book kept is.closable.ungrouped is.closable.begin ∙ ap (clusters_end old.table) taken.keeps.metas in
+          let end : book_end old.book ≡ clusters_end old.table most own lists =
+          end-between old.table old.params old.book book
+          ∙ ap (λ (l : List ClusterMeta). clusters_end old.table most l lists) taken.keeps.metas in
           let count : length (book_clusters old.book) ≡ length own =
           sym (length-map (book_clusters old.book) (λ (c : Cluster ClusterMeta). c.meta))
           ∙ ap (λ (l : List ClusterMeta). length l) taken.keeps.metas in
+          let due : due_list_len most own lists ≡ length (due_bytes old.book) =
+          sym (ap (λ (l : List ClusterMeta). due_list_len most l lists) taken.keeps.metas)
+          ∙ due-between old.table old.params old.book book in
           record {
             full = taken.full;
             sizes = taken.sizes;
@@ -110,15 +117,16 @@ module _ {D : Type 0} (state : D → DiskState) where
             few = few;
             own = taken.keeps.own;
             kept = taken.keeps.kept;
-            within = subst (StandsWithin old.table old.params) taken.keeps.metas stands;
+            within = stands.0;
             meta = next_meta old;
             next_kept = record { columns = old.columns; gives = passed.gives; meta_is = refl };
-            passed = ap (λ (l : Limits). limit_error l (clusters_end old.table own) (length own) len) (sym passed.limits_are)
-                ∙ (ap (λ (n : ℕ). limit_error old.book.limits n (length own) len) (sym end)
-                ∙ (ap (λ (n : ℕ). limit_error old.book.limits (book_end old.book) n len) (sym count)
-                ∙ (sym (with-none old.book.limits (book_end old.book) (length (book_clusters old.book)) len)
-                ∙ (ap (λ (n : ℕ). limit_error_with old.book.limits (book_end old.book) (length (book_clusters old.book)) len n)
-                (sym (bytes-ungrouped old.book is.closable.ungrouped)) ∙ (passed.names ∙ limit_is)))));
+            passed = ap (λ (n : ℕ). limit_behind old.table old.params own n len) stands.1
+                ∙ (ap (λ (l : Limits). limit_error_with l (clusters_end old.table most own lists) (length own) len
+                (due_list_len most own lists)) (sym passed.limits_are)
+                ∙ (ap (λ (n : ℕ). limit_error_with old.book.limits n (length own) len (due_list_len most own lists)) (sym end)
+                ∙ (ap (λ (n : ℕ). limit_error_with old.book.limits (book_end old.book) n len (due_list_len most own lists)) (sym count)
+                ∙ (ap (λ (n : ℕ). limit_error_with old.book.limits (book_end old.book) (length (book_clusters old.book)) len n) due
+                ∙ (passed.names ∙ limit_is)))));
           }
 
       at : (f : CommitError) → (refusal f ≢ refusal commit.Memory → NamesPassed old (Err f))

@@ -1,6 +1,6 @@
 -- The limits that the clusters of a sequential writer pass, or don't.
-use Rattle.std.proofs.Common.{◌≡◌, ◌∙◌, sym, ap, subst, ℕ, suc, ◌+◌, ◌<◌, ◌≤◌, List, [], ◌∷◌, length, take, drop, map, Some, refl}
-use Rattle.std.proofs.Common.{inl, inr, true, arith}
+use Rattle.std.proofs.Common.{◌≡◌, ◌∙◌, sym, ap, subst, ℕ, zero, suc, ◌+◌, ◌<◌, ◌≤◌, List, [], ◌∷◌, length, take, drop, map, Some, refl}
+use Rattle.std.proofs.Common.{inl, inr, false, arith}
 use Rattle.std.specs.Prelude.{slice_index_or}
 use Rattle.std.specs.Int.{div_ceil}
 use Rattle.std.specs.List.{AllByRecursion}
@@ -12,31 +12,40 @@ use Rattle.nt_book.specs.declared.meta.ClusterMeta.{ClusterMeta}
 use Rattle.nt_book.specs.declared.params.Params.{Params}
 use Rattle.nt_book.specs.declared.limits.Limits.{Limits}
 use Rattle.nt_book.specs.declared.limits.LimitError.{LimitError}
-use Rattle.nt_book.specs.Books.{BookData, IsUngrouped, book_clusters, book_end, no_cluster}
-use Rattle.nt_book.proofs.Ungrouped.{end-ungrouped}
+use Rattle.nt_book.specs.Books.{BookData, book_clusters, no_cluster}
 use Rattle.nt_book.specs.Kept.{IsBookKept}
 use Rattle.nt_pagelists.specs.Blobs.{blob_len}
 use Rattle.nt_pagelists.specs.Objects.{ClusterSpan, list_len}
 use Rattle.nt_layout.specs.Headers.{header_sum, clusters_place}
-use Rattle.nt_layout.specs.Finished.{lists_behind, spans, footer_object, file_len}
+use Rattle.nt_layout.specs.Beside.{lists_left}
+use Rattle.nt_layout.specs.Finished.{list_places, spans, footer_object, file_len}
+use Rattle.nt_layout.specs.Groups.{PlacedList, places_beside}
 use Rattle.nt_finished.proofs.Spans.{spans_in_order}
 use Rattle.nt_close.specs.Passing.{passed_by_close}
+use Rattle.nt_close.proofs.Within.{listed-beside}
 use Rattle.nt_dealing.specs.Lengths.{page_list_len, group_count, footer_len}
 use Rattle.nt_dealing.proofs.Lengths.{length-list_object}
-use Rattle.nt_dealing.proofs.Files.{length-footer_object, length-file_of, ranges-told}
+use Rattle.nt_dealing.proofs.Files.{length-footer_object, length-file_of}
+use Rattle.nt_merge_limits.specs.Limits.{IsBookBeside}
 use Rattle.nt_seq.specs.Standing.{IsShortCluster, IsWriting}
 use Rattle.nt_seq.specs.Writer.{SeqState}
 use Rattle.nt_store.proofs.Passing.{inside, small, blobs_or, ends, Names, range_named, file_named}
-use Rattle.nt_script.specs.Limits.{clusters_end, StandsWithin, IsOverEnd, list_passed, footer_passed, end_passed}
+use Rattle.nt_script.specs.Limits.{AreListsBetween, next_list_len, clusters_end, StandsWithin, IsOverEnd, list_passed, footer_passed}
+use Rattle.nt_script.specs.Limits.{end_passed}
 use Rattle.nt_script.specs.Taking.{metas_of}
+use Rattle.nt_script.proofs.Between.{end-between, between, short-between}
 
 -- ---- what is written
 
--- where the clusters of a book end
-pub ends-are : (t : Table) (book : BookData) → IsBookKept book → IsUngrouped book → book.begin ≡ clusters_place t
-    → book_end book ≡ clusters_end t (metas_of book)
-ends-are t book kept bare begin =
-    omega (arith, begin, end-ungrouped book bare, ranges-told (book_clusters book) (λ k less. (kept.clusters k less).len))
+-- the book of a writer that is alive, with the page lists beside its clusters
+pub beside-writing : {D : Type 0} (state : D → DiskState) (w : SeqState D) → IsWriting state w → IsBookKept w.book
+    → IsBookBeside w.table w.params w.book
+beside-writing state w is kept = record {
+  kept = kept;
+  begin = is.closable.begin;
+  limits = is.limits;
+  beside = listed-beside w.table w.params w.book is.closable.noted is.untorn;
+}
 
 -- none of them is longer than a range may get
 metas-short : (limits : Limits) (cs : List (Cluster ClusterMeta))
@@ -48,17 +57,46 @@ metas-short limits (c ∷ cs) lens short =
     let others = metas-short limits cs (λ k less. lens (suc k) (omega (arith, less))) short.1 in
     (subst (λ (n : ℕ). n ≤ limits.range) (lens 0 (omega arith)) short.0, others)
 
--- what a writer that is alive has written stands within its limits
+-- what a writer that is alive has written stands within its limits, with as many page lists as its book notes
+pub stands_as : {D : Type 0} (state : D → DiskState) (w : SeqState D) (ms : List ClusterMeta) → metas_of w.book ≡ ms → IsWriting state w
+    → IsBookKept w.book → (s : StandsWithin w.table w.params ms) × (s.lists ≡ length w.book.lists)
+stands_as state w ms same is kept =
+    let book = beside-writing state w is kept in
+    let most = w.params.group in
+    let lists = length w.book.lists in
+    let ends : clusters_end w.table most (metas_of w.book) lists ≤ w.params.limits.file =
+    omega (arith, is.ends, end-between w.table w.params w.book book) in
+    let few : length (metas_of w.book) ≤ w.params.limits.clusters =
+    omega (arith, is.count, length-map (book_clusters w.book) (λ (c : Cluster ClusterMeta). c.meta)) in (
+      record {
+        header = is.within;
+        short = subst (λ (l : List ClusterMeta). AllByRecursion (λ (m : ClusterMeta). m.len ≤ w.params.limits.range) l) same
+            (metas-short w.params.limits (book_clusters w.book) (λ k less. (kept.clusters k less).len) is.short);
+        lists = lists;
+        between = subst (λ (l : List ClusterMeta). AreListsBetween most lists (length l)) same (between w.table w.params w.book book);
+        lists_short = λ k less. subst (λ (l : List ClusterMeta). next_list_len most l k ≤ w.params.limits.range) same
+            (short-between w.table w.params w.book book is.closable.noted.short k less);
+        end = subst (λ (l : List ClusterMeta). clusters_end w.table most l lists ≤ w.params.limits.file) same ends;
+        few = subst (λ (l : List ClusterMeta). length l ≤ w.params.limits.clusters) same few;
+      },
+      refl,
+    )
+
 pub stands_within : {D : Type 0} (state : D → DiskState) (w : SeqState D) → IsWriting state w → IsBookKept w.book
     → StandsWithin w.table w.params (metas_of w.book)
-stands_within state w is kept = record {
-  header = is.within;
-  short = metas-short w.params.limits (book_clusters w.book) (λ k less. (kept.clusters k less).len) is.short;
-  end = omega (arith, is.ends, ends-are w.table w.book kept is.closable.ungrouped is.closable.begin);
-  few = omega (arith, is.count, length-map (book_clusters w.book) (λ (c : Cluster ClusterMeta). c.meta));
-}
+stands_within state w is kept = (stands_as state w (metas_of w.book) refl is kept).0
 
 -- ---- what is written behind it
+
+all-placed : (P : ClusterSpan → Type 0) (book : BookData) (ss : List ClusterSpan) → AllByRecursion P ss
+    → AllByRecursion (λ (l : PlacedList). P l.span) (places_beside book ss)
+all-placed P book [] all = tt
+all-placed P book (s ∷ ss) all = (all.0, all-placed P book ss all.1)
+
+all-drop : (P : PlacedList → Type 0) (n : ℕ) (ls : List PlacedList) → AllByRecursion P ls → AllByRecursion P (drop n ls)
+all-drop P zero ls all = all
+all-drop P (suc n) [] all = tt
+all-drop P (suc n) (l ∷ ls) all = all-drop P n ls all.1
 
 module _ (t : Table) (p : Params) (book : BookData) (kept : IsBookKept book) (begin : book.begin ≡ clusters_place t) where
   abbrev book_metas : List ClusterMeta
@@ -80,15 +118,22 @@ module _ (t : Table) (p : Params) (book : BookData) (kept : IsBookKept book) (be
       (omega (arith, above, is, limit-is))
 
   abbrev foot : ℕ
-  foot = blob_len (length (footer_object t book (lists_behind t book p.group)))
+  foot = blob_len (length (footer_object t book (list_places false t book p.group)))
 
   foot-is : foot ≡ footer_len t (group_count p.group (length book_metas))
-  foot-is = length-footer_object true t book p.group ∙ ap (λ (n : ℕ). footer_len t (group_count p.group n)) (sym counts)
+  foot-is = length-footer_object false t book p.group ∙ ap (λ (n : ℕ). footer_len t (group_count p.group n)) (sym counts)
 
   footer_over : (reached most len : ℕ) → len ≡ foot → p.limits.range < len → (reached ≡ len) × (most ≡ p.limits.range)
       → IsOverEnd t p book_metas reached most
   footer_over reached most len same above (is, limit-is) =
       footer_passed (is ∙ (same ∙ foot-is)) limit-is (omega (arith, above, is, limit-is))
+
+  -- the page lists that are left are of groups among the clusters, none of which is too large
+  left-all : (P : ClusterSpan → Type 0) → AllByRecursion P (spans book p.group)
+      → AllByRecursion (λ (l : PlacedList). P l.span) (lists_left t book p.group)
+  left-all P all =
+      all-drop (λ (l : PlacedList). P l.span) (length book.lists) (places_beside book (spans book p.group))
+      (all-placed P book (spans book p.group) all)
 
   -- a limit that the closing passes
   pub closed_over : (e : LimitError) (reached most : ℕ) → passed_by_close p t book ≡ Some e → Names e reached most
@@ -96,19 +141,21 @@ module _ (t : Table) (p : Params) (book : BookData) (kept : IsBookKept book) (be
   closed_over e reached most passed names =
       let n = length (book_clusters book) in
       let some : 0 < p.group = omega (arith, p.group_range.0) in
-      elim (blobs_or (list_len (header_sum t) book) (λ (s : ClusterSpan). s.from + s.count ≤ n) (λ (s : ClusterSpan). s.count ≤
-      p.group) p.limits (spans book p.group) (foot ∷ []) (file_len t book (lists_behind t book p.group)) e
-      (inside 0 n (spans book p.group) (spans_in_order p.group n some)) (small p.group n 0 (div_ceil n p.group)) passed) [
-        | inl list ↦ list_over reached most list.x list.first list.second list.above
+      let end = file_len t book (list_places false t book p.group) in
+      elim (blobs_or (λ (l : PlacedList). list_len (header_sum t) book l.span) (λ (l : PlacedList). l.span.from + l.span.count ≤ n)
+      (λ (l : PlacedList). l.span.count ≤ p.group) p.limits (lists_left t book p.group) (foot ∷ []) end e
+      (left-all (λ (s : ClusterSpan). s.from + s.count ≤ n) (inside 0 n (spans book p.group) (spans_in_order p.group n some)))
+      (left-all (λ (s : ClusterSpan). s.count ≤ p.group) (small p.group n 0 (div_ceil n p.group))) passed) [
+        | inl list ↦ list_over reached most list.x.span list.first list.second list.above
             (range_named e reached most _ p.limits.range names list.is)
-        | inr rest ↦ elim (blobs_or (λ (m : ℕ). m) (λ (m : ℕ). m ≡ foot) (λ (m : ℕ). Unit {0}) p.limits (foot ∷ []) []
-            (file_len t book (lists_behind t book p.group)) e (refl, tt) (tt, tt) rest) [
+        | inr rest ↦ elim (blobs_or (λ (m : ℕ). m) (λ (m : ℕ). m ≡ foot) (λ (m : ℕ). Unit {0}) p.limits (foot ∷ []) [] end e
+            (refl, tt) (tt, tt) rest) [
               | inl blob ↦ footer_over reached most blob.x blob.first blob.above
                   (range_named e reached most blob.x p.limits.range names blob.is)
               | inr last ↦
-                  let end = ends p.limits (file_len t book (lists_behind t book p.group)) e last in
-                  let named = file_named e reached most (file_len t book (lists_behind t book p.group)) p.limits.file names end.1 in
-                  end_passed (named.0 ∙ length-file_of true t book p.group kept begin some) named.1
-                  (omega (arith, end.0, named.0, named.1))
+                  let over = ends p.limits end e last in
+                  let named = file_named e reached most end p.limits.file names over.1 in
+                  end_passed (named.0 ∙ length-file_of false t book p.group kept begin some) named.1
+                  (omega (arith, over.0, named.0, named.1))
             ]
       ]

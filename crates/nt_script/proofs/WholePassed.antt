@@ -1,93 +1,42 @@
 -- A limit that a script passes where it is written line by line is passed by its whole file.
-use Rattle.std.proofs.Common.{◌≡◌, ◌∙◌, ap, sym, refl, subst, inl, inr, ℕ, zero, suc, ◌+◌, ◌<◌, ◌≤◌, ◌==◌, Bool, true, false, List, []}
-use Rattle.std.proofs.Common.{◌∷◌, ◌++◌, length, get_or, Some, None, if◌then◌else◌, append_assoc, append-nil, sum_by, arith}
+use Rattle.std.proofs.Common.{◌≡◌, ◌∙◌, ap, sym, refl, subst, ℕ, zero, suc, ◌+◌, ◌*◌, ◌<◌, ◌≤◌, ◌==◌, Bool, true, false, List, []}
+use Rattle.std.proofs.Common.{◌∷◌, ◌++◌, length, get_or, Some, None, if◌then◌else◌, append_assoc, sum_by, arith}
 use Rattle.std.specs.Prelude.{nat_lt}
-use Rattle.std.specs.List.{AllByRecursion, AllZip, Contains, flat_map}
+use Rattle.std.specs.List.{AllByRecursion, Contains}
 use Rattle.std.proofs.lemmas.Bool.Decides.{nat_tests}
-use Rattle.std.proofs.lemmas.Grind.{flat_map-append}
 use Rattle.std.proofs.lemmas.List.{length-append}
 use Rattle.std.proofs.lemmas.List.Elements.{Contains-push, Contains-append_left, Contains-append_right}
 use Rattle.std.proofs.lemmas.List.Sums.{sum_by-append, sum_by-cons}
-use Rattle.nt_lists.specs.Chunks.{chunks}
 use Rattle.nt_lists.proofs.Variants.{some_is}
 use Rattle.nt_types.specs.ShapeData.{MemberData}
-use Rattle.nt_types.specs.TreeData.{TreesData}
 use Rattle.nt_grammar.specs.Rows.{Rows}
 use Rattle.nt_grammar.specs.Table.{Table}
 use Rattle.nt_grammar.proofs.Listing.{Rows-one}
-use Rattle.nt_machine.proofs.Histories.{AllByRecursion-append}
 use Rattle.nt_book.specs.declared.limits.LimitError.{LimitError}
 use Rattle.nt_book.specs.declared.limits.LimitError.TheVariants as limit
 use Rattle.nt_book.specs.declared.meta.ClusterMeta.{ClusterMeta}
 use Rattle.nt_book.specs.declared.params.Params.{Params}
-use Rattle.nt_book.specs.Limiting.{limit_error}
 use Rattle.nt_layout.specs.Headers.{clusters_place}
 use Rattle.nt_close.specs.Passing.{passed_by_begin}
 use Rattle.nt_dealing.specs.Lengths.{whole_len}
-use Rattle.nt_dealing.specs.Limits.{IsCountedOf}
-use Rattle.nt_contexts.proofs.Chunking.{chunks-full, chunks-none, chunks-last}
-use Rattle.nt_script.specs.Script.{Script, last_entries, and_field}
+use Rattle.nt_script.specs.Script.{Script, last_entries}
 use Rattle.nt_script.specs.Clusters.{GrowsByScript}
-use Rattle.nt_script.specs.Reading.{Segment, segment_metas, behind_segments}
-use Rattle.nt_script.specs.Limits.{TellsLimit, clusters_end, PassesHere, IsOverEnd, list_passed, footer_passed, end_passed}
+use Rattle.nt_script.specs.Reading.{segment_metas, behind_segments}
+use Rattle.nt_script.specs.Limits.{TellsLimit, next_list_len, clusters_end, due_list_len, PassesHere, IsOverEnd, list_passed}
+use Rattle.nt_script.specs.Limits.{footer_passed, end_passed}
 use Rattle.nt_script.specs.Taking.{GrowsBySegments}
-use Rattle.nt_script.specs.Passing.{EndsSegment, IsDue, PassesWriting, PassesClosing, PassesLimit, passes_begun, passes_writing}
+use Rattle.nt_script.specs.Passing.{PassesWriting, PassesClosing, PassesLimit, passes_begun, passes_writing}
 use Rattle.nt_script.specs.Passing.{passes_closing}
 use Rattle.nt_script.specs.Fitting.{CountsScript, FitsWhole, WholePasses, whole_begun, whole_cluster, whole_file, whole_count, whole_end}
+use Rattle.nt_merge_limits.proofs.Lists.{AreFullLists}
+use Rattle.nt_merge_limits.proofs.Fronts.{front-within}
+use Rattle.nt_script.proofs.Between.{next-stays, due-list, with-due}
 use Rattle.nt_script.proofs.Segments.{grows-script}
-use Rattle.nt_script.proofs.Headers.{HasHeader, header-described, place-grown}
-use Rattle.nt_script.proofs.WouldBe.{HasTypes, types-described}
+use Rattle.nt_script.proofs.Headers.{header-described, place-grown}
+use Rattle.nt_script.proofs.WouldBe.{types-described}
 use Rattle.nt_script.proofs.HeaderPassed.{begun_passed, header_fits}
-use Rattle.nt_script.proofs.Counted.{kept-counts, zip_more, grows-one, first_entries, counts-from, counts-written}
-
--- ---- the clusters of entries in front of others
-
-none_first : (behind : Script) → EndsSegment behind → first_entries behind ≡ []
-none_first (last_entries [] bad) ends = refl
-none_first (last_entries (e ∷ es) bad) ends = absurd ends
-none_first (and_field [] m rest) ends = refl
-none_first (and_field (e ∷ es) m rest) ends = absurd ends
-
-module _ (t : Table) (p : Params) (segments : List Segment) (es next : List TreesData) (error : LimitError)
-    (passes : PassesHere t p segments es next error) where
-  abbrev all_full : List (List TreesData)
-  all_full = passes.full ++ next ∷ []
-
-  full-is : es ≡ flat_map (λ (c : List TreesData). c) all_full
-  full-is =
-      passes.whole
-      ∙ (ap (λ (l : List TreesData). flat_map (λ (c : List TreesData). c) passes.full ++ l) (sym (append-nil next))
-      ∙ sym (flat_map-append (λ (c : List TreesData). c) passes.full (next ∷ [])))
-
-  some : 0 < p.cluster
-  some = omega (arith, passes.some, passes.few)
-
-  split-whole : length next ≡ p.cluster → (fs : List TreesData) → chunks p.cluster (es ++ fs) ≡ all_full ++ chunks p.cluster fs
-  split-whole whole fs =
-      ap (λ (l : List TreesData). chunks p.cluster (l ++ fs)) full-is
-      ∙ chunks-full p.cluster some all_full fs
-      (AllByRecursion-append (λ (c : List TreesData). length c ≡ p.cluster) passes.full (next ∷ []) passes.sizes (whole, tt))
-
-  split-last : chunks p.cluster (es ++ []) ≡ all_full ++ chunks p.cluster []
-  split-last =
-      ap (chunks p.cluster) (append-nil es ∙ passes.whole)
-      ∙ (chunks-full p.cluster some passes.full next passes.sizes
-      ∙ (ap (λ (l : List (List TreesData)). passes.full ++ l) (chunks-last p.cluster some next passes.some passes.few)
-      ∙ (sym (append-nil all_full)
-      ∙ ap (λ (l : List (List TreesData)). all_full ++ l) (sym (chunks-none p.cluster some [] refl)))))
-
-  split : (behind : Script) → IsDue p next behind
-      → chunks p.cluster (es ++ first_entries behind) ≡ all_full ++ chunks p.cluster (first_entries behind)
-  split behind (inl whole) = split-whole whole (first_entries behind)
-  split behind (inr ends) =
-      subst (λ (fs : List TreesData). chunks p.cluster (es ++ fs) ≡ all_full ++ chunks p.cluster fs) (sym (none_first behind ends))
-      split-last
-
-  -- with the cluster that passes the limit
-  counted : AllZip (IsCountedOf t p.page) all_full (passes.own ++ passes.meta ∷ [])
-  counted =
-      zip_more (IsCountedOf t p.page) passes.full (next ∷ []) passes.own (passes.meta ∷ [])
-      (kept-counts t p.page passes.full passes.own passes.kept) (inl passes.next_kept, tt)
+use Rattle.nt_script.proofs.Counted.{grows-one, counts-from, counts-written}
+use Rattle.nt_script.proofs.Fronts.{all_full, split, counted}
 
 module _ (fields : List MemberData) (p : Params) (s : Script) (reached most : ℕ) (first table : Table) (rows : Rows fields p.plain first)
     (grows : GrowsByScript p.plain first 0 s table) where
@@ -120,6 +69,20 @@ module _ (fields : List MemberData) (p : Params) (s : Script) (reached most : �
     abbrev metas : List ClusterMeta
     metas = segment_metas w.segments ++ ((here.own ++ here.meta ∷ []) ++ all.0)
 
+    abbrev g : ℕ
+    g = p.group
+
+    abbrev lists : ℕ
+    lists = here.within.lists
+
+    abbrev due : ℕ
+    due = due_list_len g before lists
+
+    metas-are : metas ≡ before ++ (here.meta ∷ all.0)
+    metas-are =
+        ap (λ (l : List ClusterMeta). segment_metas w.segments ++ l) (append_assoc here.own (here.meta ∷ []) all.0)
+        ∙ sym (append_assoc (segment_metas w.segments) here.own (here.meta ∷ all.0))
+
     among : Contains metas here.meta
     among =
         Contains-append_right (segment_metas w.segments) ((here.own ++ here.meta ∷ []) ++ all.0) here.meta
@@ -137,46 +100,53 @@ module _ (fields : List MemberData) (p : Params) (s : Script) (reached most : �
 
     sums : sum_by len metas ≡ sum_by len before + here.meta.len + sum_by len all.0
     sums =
-        let one = sum_by-append len (segment_metas w.segments) ((here.own ++ here.meta ∷ []) ++ all.0) in
-        let two = sum_by-append len (here.own ++ here.meta ∷ []) all.0 in
-        let three = sum_by-append len here.own (here.meta ∷ []) in
-        let four = sum_by-append len (segment_metas w.segments) here.own in
-        let five = sum_by-cons len here.meta [] in
-        omega (arith, one, two, three, four, five)
+        let one = sum_by-append len before (here.meta ∷ all.0) in
+        let two = sum_by-cons len here.meta all.0 in
+        omega (arith, one, two, ap (λ (l : List ClusterMeta). sum_by len l) metas-are)
 
-    no_shorter : clusters_end w.table before + here.meta.len ≤ whole_len table p.group metas
-    no_shorter = omega (arith, places, sums)
+    no_shorter : clusters_end w.table g before lists + due + here.meta.len ≤ whole_len table g metas
+    no_shorter =
+        let lens = with-due g before (here.meta ∷ all.0) lists here.within.between.full in
+        let within = front-within table g metas lens.0 (omega (arith, p.group_range.0))
+        (subst (λ (l : List ClusterMeta). AreFullLists g l lens.0) (sym metas-are) lens.2) in
+        omega (arith, places, sums, within, lens.1)
 
     counts-are : length before < length metas
     counts-are =
-        let one = length-append (segment_metas w.segments) ((here.own ++ here.meta ∷ []) ++ all.0) in
-        let two = length-append (here.own ++ here.meta ∷ []) all.0 in
-        let three = length-append here.own (here.meta ∷ []) in
-        let four = length-append (segment_metas w.segments) here.own in
-        omega (arith, one, two, three, four)
+        let one = length-append before (here.meta ∷ all.0) in
+        omega (arith, one, ap (λ (l : List ClusterMeta). length l) metas-are)
 
     writing_passed : WholePasses first table p s reached most
     writing_passed =
-        at (nat_lt p.limits.range here.meta.len) (nat_lt p.limits.file (clusters_end w.table before + here.meta.len))
-        (length before == p.limits.clusters) error refl refl refl here.passed tells
+        at (nat_lt p.limits.range here.meta.len) (nat_lt p.limits.range due)
+        (nat_lt p.limits.file (clusters_end w.table g before lists + due + here.meta.len)) (length before == p.limits.clusters) error refl
+        refl refl refl here.passed tells
       where
-        at : (a b c : Bool) (e : LimitError) → nat_lt p.limits.range here.meta.len ≡ a
-            → nat_lt p.limits.file (clusters_end w.table before + here.meta.len) ≡ b
-            → (length before == p.limits.clusters) ≡ c
-            → (if a then Some (limit.RangeTooLarge here.meta.len p.limits.range) else (if b then Some (limit.FileTooLarge
-            (clusters_end w.table before + here.meta.len) p.limits.file) else (if c then Some limit.TooManyClusters else None))) ≡ Some e
+        at : (a b c d : Bool) (e : LimitError) → nat_lt p.limits.range here.meta.len ≡ a → nat_lt p.limits.range due ≡ b
+            → nat_lt p.limits.file (clusters_end w.table g before lists + due + here.meta.len) ≡ c
+            → (length before == p.limits.clusters) ≡ d
+            → (if a then Some (limit.RangeTooLarge here.meta.len p.limits.range) else (if b then Some (limit.RangeTooLarge due
+            p.limits.range) else (if c then Some (limit.FileTooLarge (clusters_end w.table g before lists + due + here.meta.len)
+            p.limits.file) else (if d then Some limit.TooManyClusters else None)))) ≡ Some e
             → TellsLimit p e reached most → WholePasses first table p s reached most
-        at true b c e x y z named told =
+        at true b c d e x y z u named told =
             let is = subst (λ (f : LimitError). TellsLimit p f reached most) (sym (some_is _ _ named)) told in
             whole_cluster metas here.meta all.1 among is.0 is.1 (grind (arith, nat_tests, x, is.0, is.1))
-        at false true c e x y z named told =
+        at false true c d e x y z u named told =
             let is = subst (λ (f : LimitError). TellsLimit p f reached most) (sym (some_is _ _ named)) told in
-            whole_file metas all.1 (omega (arith, is.0, no_shorter)) is.1 (grind (arith, nat_tests, y, is.0, is.1))
-        at false false true e x y z named told =
+            let above : p.limits.range < due = grind (arith, nat_tests, y) in
+            let list = due-list g before lists (omega (arith, above)) in
+            whole_end metas all.1 (list_passed (lists * g) g (omega arith)
+            (is.0 ∙ (list.1 ∙ sym (ap (λ (l : List ClusterMeta). next_list_len g l lists) metas-are
+            ∙ next-stays g before (here.meta ∷ all.0) lists (omega (arith, list.0))))) is.1 (omega (arith, above, is.0, is.1)))
+        at false false true d e x y z u named told =
             let is = subst (λ (f : LimitError). TellsLimit p f reached most) (sym (some_is _ _ named)) told in
-            let full : length before ≡ p.limits.clusters = grind (arith, nat_tests, z) in
+            whole_file metas all.1 (omega (arith, is.0, no_shorter)) is.1 (grind (arith, nat_tests, z, is.0, is.1))
+        at false false false true e x y z u named told =
+            let is = subst (λ (f : LimitError). TellsLimit p f reached most) (sym (some_is _ _ named)) told in
+            let full : length before ≡ p.limits.clusters = grind (arith, nat_tests, u) in
             whole_count metas all.1 is.1 (omega (arith, is.0, is.1)) (omega (arith, is.1, full, counts-are))
-        at false false false e x y z named told = absurd (cc named)
+        at false false false false e x y z u named told = absurd (cc named)
 
   -- ---- what closes the file
 

@@ -1,5 +1,5 @@
 -- When the whole file of a script passes no limit, and which one it passes.
-use Rattle.std.specs.Prelude.{◌≡◌, ℕ, ◌+◌, ◌<◌, ◌≤◌, List, [], ◌∷◌, ◌++◌, length, take, drop, None}
+use Rattle.std.specs.Prelude.{◌≡◌, ℕ, ◌+◌, ◌<◌, ◌≤◌, List, ◌++◌, length, take, drop, None}
 use Rattle.std.specs.List.{AllByRecursion, AllZip, Contains}
 use Rattle.nt_lists.specs.Chunks.{chunks}
 use Rattle.nt_types.specs.ShapeData.{MemberData}

@@ -40,8 +40,8 @@ fn counts_line(counts: Counts) -> ArrayString<64>
     line
 }
 
-/// Tells these numbers on out.
-fn print_counts<H: Host>(host: &mut H, counts: Counts) -> Result<(), Failed>
+/// Tells these numbers on out, in one line.
+pub fn print_counts<H: Host>(host: &mut H, counts: Counts) -> Result<(), Failed>
     ensures { PrintsAll ToOut (counts_line counts.clusters counts.entries) (H.state host.old) (H.state host.new) result }
 {
     let line = counts_line(counts);

@@ -14,13 +14,14 @@
 //! Proved of `write_script` (`ended`): after `Ok` no line of the text is bad, its fields stand in the schema, each added
 //! behind all entries before it, and the writer has written just its clusters: those of each segment, each entry with the
 //! zeros of the fields that were added behind it. A line that is told is the first bad one, and what is written in front of
-//! it passes no limit; a limit is one that a cluster passes where it is written, and those before it don't (`specs/Passing.antt`).
+//! it passes no limit; a limit is one that a cluster passes where it is written, or the page list in front of it, and those
+//! before it don't (`specs/Passing.antt`, with the lists of all full groups counted in `specs/Limits.antt`).
 //! `Outside` comes only where a count of faults rose. What is gathered is written before a line adds its field, whatever that
 //! line says (`done` of `add_field`). A table that describes fields has just these (`tables_have_just_their_fields`).
 //!
 //! Proved of `store_script` (`StoresScript`): after `Ok` the file is the whole one of the script, and exactly the line of
 //! its numbers was printed; a schema fault is the text's first one, a bad line the script's first one, and a limit one that
-//! is passed where the file is begun, where a cluster is written or where it is closed; after these and after `Memory` the file is
+//! is passed where the file is begun, where a cluster or the page list in front of it is written, or where the file is closed; after these and after `Memory` the file is
 //! left open, and after `Outside` too, unless it is whole or its first append failed; of a file that is whole then, either the step of
 //! its first byte failed or the sync behind it, and nothing is printed, or the print of its numbers failed. The first byte is written over only when all the rest
 //! stays. So wherever a crash comes behind the first sync, it leaves a file that is refused as unfinished, or, where the
@@ -39,7 +40,7 @@ mod storing;
 mod taking;
 
 pub use error::{LineFault, ScriptError};
-pub use hosting::{ScriptNames, store_script};
+pub use hosting::{ScriptNames, print_counts, store_script};
 pub use laws::{tables_have_just_their_fields, whole_files_pass_what_scripts_pass};
 pub use running::write_script;
 pub use store_error::ScriptStoreError;

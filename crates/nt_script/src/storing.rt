@@ -59,7 +59,6 @@ fn finish<D: Disk>(writer: SeqWriter<D>) -> (D, Result<Counts, ScriptStoreError>
     ensures { FinishesScript D.state writer result.0 result.1 }
 {
     late_files_mean_their_entries();
-    crashes_leave_closed_or_unfinished();
     writer.keeps();
     let (disk, closed) = writer.close();
     match closed {

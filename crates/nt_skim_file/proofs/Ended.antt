@@ -12,12 +12,10 @@ use Rattle.nt_grammar.specs.Rows.{Rows}
 use Rattle.nt_book.specs.declared.limits.LimitError.{LimitError}
 use Rattle.nt_book.specs.declared.limits.LimitError.TheVariants as limit
 use Rattle.nt_book.specs.declared.meta.ClusterMeta.{ClusterMeta}
-use Rattle.nt_book.specs.Books.{BookData}
 use Rattle.nt_book.specs.Kept.{IsBookKept}
 use Rattle.nt_close.specs.declared.error.CloseError.{CloseError}
 use Rattle.nt_close.specs.declared.error.CloseError.TheVariants as close
 use Rattle.nt_close.specs.Passing.{passed_by_close, measures_of}
-use Rattle.nt_close.specs.Spoiled.{NoneSpoiled, IsUnspoiled, IsFirstSpoiled}
 use Rattle.nt_seq.specs.Standing.{IsWriting, IsSequential}
 use Rattle.nt_seq.specs.Writer.{SeqState}
 use Rattle.nt_seq.specs.Written.{HasWritten, IsUnclosedOf}
@@ -31,6 +29,7 @@ use Rattle.nt_script.specs.declared.storing.Counts.{Counts}
 use Rattle.nt_script.specs.Limits.{StandsWithin, IsOverEnd}
 use Rattle.nt_script.specs.Passing.{passes_closing}
 use Rattle.nt_script.specs.Taking.{HasWrittenLines}
+use Rattle.nt_script.proofs.Closed.{none_spoiled, none_torn}
 use Rattle.nt_script.proofs.Passed.{stands_within, closed_over}
 use Rattle.nt_script.proofs.Wholes.{LateFilesMean}
 use Rattle.nt_skim_file.specs.declared.error.SkimStoreError.TheVariants.{Outside}
@@ -38,9 +37,6 @@ use Rattle.nt_skim_file.specs.Errors.{skim_of_close}
 use Rattle.nt_skim_file.specs.Whole.{IsSelectedFile, AreSelectedNumbers, PassesSelected}
 use Rattle.nt_skim_file.specs.Filing.{EntriesTold, LeavesEntries, EndsEntries}
 use Rattle.nt_skim_file.proofs.Early.{UnclosedAreShut}
-
-none_spoiled : (book : BookData) (cluster faults : ℕ) → NoneSpoiled book → IsFirstSpoiled book cluster faults → ⊥
-none_spoiled book cluster faults none first = subst IsUnspoiled first.spoiled (none cluster first.inside)
 
 pub held_is : (held : Option Held) (h k : Held) → held ≡ Some h → held ≡ Some k → h ≡ k
 held_is held h k one two = cc (one, two)
@@ -121,7 +117,8 @@ module _ {D : Type 0} (state : D → DiskState) (w : SeqState D) (F : List Membe
         → HoldsNow (state disk).held (λ left. LeavesFile state w left (Err e))
         → LeavesEntries w.params F es (state disk) (Err (skim_of_close e))
     unclosed_here (close.Spoiled cluster faults) answers ends left =
-        absurd (none_spoiled w.book cluster faults answers.unspoiled answers.cause)
+        absurd (none_spoiled w.book cluster faults answers.undamaged answers.cause)
+    unclosed_here (close.Torn group faults) answers ends left = absurd (none_torn w.book group faults answers.undamaged answers.cause)
     unclosed_here close.Memory answers ends left =
         record { told = still ends.place.held; crash = (left.0, left.1, left.2.crash) }
     unclosed_here (close.RangeTooLarge len most) answers ends left = record {
@@ -144,7 +141,9 @@ module _ {D : Type 0} (state : D → DiskState) (w : SeqState D) (F : List Membe
 closing_failed : {D : Type 0} (state : D → DiskState) (w : SeqState D) (disk : D) (e : CloseError) → AnswersClosing w (Err e)
     → EndsFile state w disk (Err e) → skim_of_close e ≡ Outside → 0 < (state disk).faults
 closing_failed state w disk (close.Spoiled cluster faults) answers ends is =
-    absurd (none_spoiled w.book cluster faults answers.unspoiled answers.cause)
+    absurd (none_spoiled w.book cluster faults answers.undamaged answers.cause)
+closing_failed state w disk (close.Torn group faults) answers ends is =
+    absurd (none_torn w.book group faults answers.undamaged answers.cause)
 closing_failed state w disk close.Memory answers ends is = absurd (cc is)
 closing_failed state w disk (close.RangeTooLarge len most) answers ends is = absurd (cc is)
 closing_failed state w disk (close.FileTooLarge end most) answers ends is = absurd (cc is)

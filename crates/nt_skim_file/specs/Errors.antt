@@ -61,6 +61,7 @@ skim_of_early clusters skim.Memory = Memory
 -- a file that isn't closed
 abbrev pub skim_of_close : CloseError → SkimStoreError
 skim_of_close (close.Spoiled cluster faults) = Outside
+skim_of_close (close.Torn group faults) = Outside
 skim_of_close close.Memory = Memory
 skim_of_close (close.RangeTooLarge len most) = Limit len most
 skim_of_close (close.FileTooLarge end most) = Limit end most

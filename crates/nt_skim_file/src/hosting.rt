@@ -2,9 +2,6 @@
 
 ghost use Rattle.std.specs.Prelude.{◌≡◌, ◌<◌, length};
 ghost use Rattle.std.specs.Option.{option_map};
-ghost use Rattle.nt_outside.specs.World.{PrintsAll};
-ghost use Rattle.nt_outside.specs.declared.stream.Stream.TheVariants.{ToOut};
-ghost use Rattle.nt_script.specs.Whole.{counts_line};
 ghost use Rattle.nt_skim.specs.Select.{selection_of};
 ghost use Rattle.nt_skim.specs.Tests.{test_view};
 ghost use Rattle.nt_skim_file.specs.Choosing.{IsFitPlan};
@@ -13,11 +10,9 @@ ghost use Rattle.nt_skim_file.specs.Storing.{FilesSelection, SkimsOpen, SkimsNam
 use crate::choosing::{Chosen, SkimChoice, choose};
 use crate::error::SkimStoreError;
 use crate::writing::write_selection;
-use arrayvec::ArrayString;
-use itoa::Buffer;
 use nt_book::Params;
-use nt_outside::{Failed, Host, Stream, print_all};
-use nt_script::Counts;
+use nt_outside::Host;
+use nt_script::{Counts, print_counts};
 use std::alloc::Global;
 
 /// The names of the file that is written and of the one that is read.
@@ -25,28 +20,6 @@ use std::alloc::Global;
 pub struct SkimNames<'a> {
     pub out: &'a str,
     pub file: &'a str,
-}
-
-/// The line of these numbers, without memory.
-fn counts_line(counts: Counts) -> ArrayString<64>
-    ensures { result.bytes ≡ counts_line counts.clusters counts.entries }
-{
-    let mut line = ArrayString::<64>::new();
-    let mut digits = Buffer::new();
-    line.push_str("clusters ");
-    line.push_str(digits.format(counts.clusters));
-    line.push_str(" entries ");
-    line.push_str(digits.format(counts.entries));
-    line.push_str("\n");
-    line
-}
-
-/// Tells these numbers on out.
-fn print_counts<H: Host>(host: &mut H, counts: Counts) -> Result<(), Failed>
-    ensures { PrintsAll ToOut (counts_line counts.clusters counts.entries) (H.state host.old) (H.state host.new) result }
-{
-    let line = counts_line(counts);
-    print_all(host, Stream::ToOut, line.as_str().as_bytes())
 }
 
 /// Makes the disk of this name, writes the file of what is selected, and gives the disk back.

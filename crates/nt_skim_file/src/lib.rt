@@ -1,4 +1,4 @@
-//! Writes what is selected of a file of a host as another file. No command stands on it yet.
+//! Writes what is selected of a file of a host as another file: the work of the command `skim`.
 //!
 //! Start at `store_selected` in `hosting.rt`. `choosing.rt` attaches to the file that is read and makes the plan of its schema;
 //! `writing.rt` writes the file of what is selected on a disk, through the sink of `sink.rt`, whose entries are the clusters of a
