@@ -28,7 +28,7 @@ use Rattle.nt_view.proofs.Places.{count-more, count-le}
 use Rattle.nt_view.specs.Pages.{bytes_of_page, elements_of_page, elements_of_pages, count_of, Follow, IsIn, ArePages}
 
 -- a page has as many elements as it says
-length-page_elements : (kind : ColumnType) (n : ℕ) (bytes : List ℕ) → length (page_elements kind n bytes) ≡ n
+pub length-page_elements : (kind : ColumnType) (n : ℕ) (bytes : List ℕ) → length (page_elements kind n bytes) ≡ n
 length-page_elements Switch n bytes =
     length-pairs (switch_indices n bytes) (switch_tags n bytes)
     (length-list_of n (switch_tag bytes) ∙ sym (length-list_of n (switch_index bytes)))

@@ -10,3 +10,4 @@ pub mod Places
 pub mod Elements
 pub mod InTable
 pub mod Answered
+pub mod Viewed

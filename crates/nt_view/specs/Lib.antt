@@ -6,3 +6,4 @@ pub mod Stores
 pub mod Pages
 pub mod Table
 pub mod Searching
+pub mod Views

@@ -70,10 +70,14 @@ AreLent l k from to = (from ≡ to) ⊎ ((kind : ColumnType) × (loaded_kind l k
 abbrev pub MayStandBehind : PagePlace → PagePlace → Type 0
 MayStandBehind p q = (p.column < q.column) ⊎ ((p.column ≡ q.column) × (p.kind ≡ q.kind))
 
+-- pages stand by column, and all of a column are of one type
+abbrev pub StandInOrder : List PagePlace → Type 0
+StandInOrder ps = (i : ℕ) (d : PagePlace) → i + 1 < length ps → MayStandBehind (slice_index_or ps i d) (slice_index_or ps (i + 1) d)
+
 -- pages as they can be loaded: each of the size of its elements, by column, and none of a column of zeros
 pub record AreLoadable (ps : List PagePlace) (zs : List ZeroColumn) : Type 0 where
   pub sized : All (λ (p : PagePlace). p.size ≡ page_size p.kind p.count) ps
-  pub order : (i : ℕ) (d : PagePlace) → i + 1 < length ps → MayStandBehind (slice_index_or ps i d) (slice_index_or ps (i + 1) d)
+  pub order : StandInOrder ps
   pub apart : All (λ (z : ZeroColumn). All (λ (p : PagePlace). (p.column ≡ z.column) → ⊥) ps) zs
 
 -- no page, and no column

@@ -15,7 +15,7 @@ use Rattle.nt_view.specs.declared.table.Held.{Held}
 use Rattle.nt_view.specs.declared.table.Held.TheVariants.{Zeros, Pages, Sums}
 use Rattle.nt_view.specs.Pages.{elements_of_pages, count_of, ArePages, AreOwnPages, IsSplitIndex, LieInOne}
 use Rattle.nt_view.specs.Loads.{loaded_len}
-use Rattle.nt_view.specs.Loaded.{elements_with, counts_with, kind_with, pages_with, zeros_listed}
+use Rattle.nt_view.specs.Loaded.{elements_with, counts_with, kind_with, pages_with, zeros_listed, StandInOrder}
 use Rattle.nt_view.specs.Stores.{lens_of, cut_up}
 
 -- what is held of a column; of one that isn't there no zeros
@@ -88,6 +88,7 @@ pub record IsClusterLaid (store : List ℕ) (pages : List PagePlace) (zeros : Li
   pub len : length store ≡ lens_of pages
   pub few : length pages < 2 ^ 32
   pub sized : All (λ (p : PagePlace). p.size ≡ page_size p.kind p.count) pages
+  pub order : StandInOrder pages
 
 -- pages of one column stand in the store from a place on
 pub record IsColumnAt (store : List ℕ) (ps : List PagePlace) (at : ℕ) : Type 0 where
@@ -175,3 +176,7 @@ IsLent places (Sums s) from to = ⊥
 pub record HasColumnRange (store : List ℕ) (t : Table) (k from to : ℕ) : Type 0 where
   pub order : from ≤ to
   pub within : to ≤ length (elements_in_table store t k)
+
+-- the numbers of a column were added up in this buffer
+abbrev pub HasSums : Table → ℕ → Buffer → Type 0
+HasSums t k b = (s : ℕ) × (held_at t.columns.items k ≡ Sums s) × (b ≡ slice_index_or t.sums.items s b)

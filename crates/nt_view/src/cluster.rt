@@ -5,6 +5,7 @@ ghost use Rattle.nt_view.specs.declared.page_place.PagePlace.{PagePlace};
 ghost use Rattle.nt_view.specs.Loads.{loaded_len, load_of, LoadsFile, ServesView};
 ghost use Rattle.nt_view.specs.Loaded.{AreLoadable, nothing_loaded, loaded_with};
 ghost use Rattle.nt_view.specs.Stores.{cut_up, lens_of};
+ghost use Rattle.nt_view.specs.Views.{page_seen};
 
 use crate::fault::ViewFault;
 use crate::lookup;
@@ -12,6 +13,7 @@ use crate::page_place::{PagePlace, ZeroColumn};
 use crate::place::{are_bytes, part_of};
 use crate::reading::{read_pages, stored_len};
 use crate::table::{Table, add_columns, set_zeros};
+use crate::view::{PageView, count_before};
 use crate::wanting::Wanting;
 use nt_column::{Columns, CowSlice, WordSlice};
 use nt_outside::ReadAt;
@@ -122,6 +124,35 @@ impl ClusterBytes {
     {
         let at = self.table.places[i as usize].at;
         part_of(&self.store, at, self.pages[i as usize].size as usize)
+    }
+
+    /// A page seen by itself.
+    pub fn view(&self, page: u32) -> PageView<'_>
+        requires { page < length self.now.pages }
+        ensures { (d : PagePlace) → result
+            ≡ page_seen (slice_index_or self.now.pages page d) (slice_index_or self.now.stored page []) }
+    {
+        let place = self.pages[page as usize];
+        let bytes = self.page_bytes(page);
+        match lookup::sums_of(&self.table, &self.store, place.column) {
+            None => PageView {
+                kind: place.kind,
+                count: place.count,
+                bytes,
+                sums: None,
+                first: 0,
+            },
+            Some(sums) => {
+                let _all = sums.len();
+                PageView {
+                    kind: place.kind,
+                    count: place.count,
+                    bytes,
+                    sums: Some(sums),
+                    first: count_before(&self.pages, place.column, page as usize),
+                }
+            }
+        }
     }
 
     /// The bytes of a page as they are stored, with its checksum behind them where it has one.

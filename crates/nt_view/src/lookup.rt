@@ -1,15 +1,16 @@
 //! The elements of a column, by what is held of it.
 
-ghost use Rattle.std.specs.Prelude.{◌≡◌, ◌+◌, ◌<◌, ◌≤◌, ◌⊎◌, ◌↔◌, length, map, take, replicate, slice_index, IfSome, IfOk, IsSome, IsOkAnd, IsTrue};
+ghost use Rattle.std.specs.Prelude.{◌≡◌, ◌+◌, ◌<◌, ◌≤◌, ◌⊎◌, ◌↔◌, ℕ, length, map, take, replicate, slice_index, None, IfSome, IfOk, IsSome, IsOkAnd, IsTrue};
 ghost use Rattle.std.specs.List.{slice_range};
 ghost use Rattle.nt_column.specs.Elements.{plain, numbers, tags, text_of};
 ghost use Rattle.nt_column.specs.Cow.{cow_items, is_borrowed};
 ghost use Rattle.nt_column.specs.Words.{lent_elements};
-ghost use Rattle.nt_view.specs.Table.{held_at, elements_in_table, IsColumnOf, IsLent, HasColumnRange};
+ghost use Rattle.nt_view.specs.Table.{held_at, elements_in_table, IsColumnOf, IsLent, HasColumnRange, HasSums};
+ghost use Rattle.nt_view.specs.declared.table.Held.TheVariants.{Sums};
 
 use crate::column;
 use crate::table::{Held, Table};
-use nt_column::{CowSlice, WordSlice};
+use nt_column::{ColumnBuf, CowSlice, WordSlice};
 use std::alloc::{AllocError, Global};
 
 impl Table {
@@ -22,6 +23,19 @@ impl Table {
             Some(held) => *held,
             None => Held::Zeros(0),
         }
+    }
+}
+
+/// The buffer of a column whose numbers were added up.
+pub fn sums_of<'a>(table: &'a Table, store: &[u8], column: u32) -> Option<&'a ColumnBuf>
+    requires { IsColumnOf store.now table.now column }
+    ensures some { IfSome result (λ b. HasSums table.now column b.now) }
+    ensures none { result ≡ None → (s : ℕ) → held_at table.now.columns.items column ≡ Sums s → ⊥ }
+{
+    let _store = store;
+    match table.held(column) {
+        Held::Sums(place) => Some(&table.sums[place]),
+        _ => None,
     }
 }
 

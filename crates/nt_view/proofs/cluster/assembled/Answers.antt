@@ -23,6 +23,7 @@ invariant_of-result c =
       len = c.requires.len.0 ∙ ap (λ (ps : List PagePlace). lens_of ps) (sym copy);
       few = omega (arith, c.requires.len.1, ap (λ (ps : List PagePlace). length ps) copy);
       sized = rw copy c.requires.listed.sized;
+      order = rw copy c.requires.listed.order;
     }
 
 pub returns : goal.returns
