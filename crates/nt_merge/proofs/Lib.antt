@@ -3,3 +3,17 @@ pub mod Lists
 pub mod Kept
 pub mod Mergeable
 pub mod LoadedValues
+pub mod Numbering
+pub mod GoingOn
+pub mod Started
+pub mod Closed
+pub mod Left
+pub mod Read
+pub mod Positions
+pub mod Unfinished
+pub mod CopiedOn
+pub mod AllFiles
+pub mod Ended
+pub mod Refused
+pub mod Target
+pub mod Merged

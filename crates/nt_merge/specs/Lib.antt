@@ -3,3 +3,6 @@ pub mod Files
 pub mod Planning
 pub mod Mergeable
 pub mod Loading
+pub mod Merging
+pub mod Copying
+pub mod Joining

@@ -5,7 +5,8 @@
 //! columns begin with the first entry, and their rows are the same but for flags (`specs/Comparing.antt`,
 //! `schema_error`). That a file whose clusters are copies of theirs means the same is said in nt_copied.
 //! `load_cluster` in `loading.rt` loads the pages of one of their clusters, of which nt_copying makes the
-//! image of another.
+//! image of another. `merge` in `merging.rt` begins a file under the schema of the first one, copies all clusters
+//! into it, file by file (`copying.rt`), and closes it.
 //!
 //! Proved of `plan`: after `Ok` the outlines are those of the files, and nothing stands against merging
 //! them; a defect is the first fault of the first file that has no outline, and else the
@@ -15,20 +16,31 @@
 //! (`rose`). Schemas that nothing stands against have open fields alone, no deferred column, and are
 //! alike the first one (`schemas_without_error_are_mergeable`). Of `load_cluster`: wherever the file tells its bytes, the entries of the pages are those that
 //! nt_file_meaning reads, or the fault is the first one (`read`), and the pages are all those of the open
-//! columns (`loaded`). Nothing is only tested.
+//! columns (`loaded`). Of `merge`, wherever all files tell their bytes (`told`, by `MergesTold` in
+//! `specs/Merging.antt`): after `Ok` the file is the finished one of copies of all their clusters in order, as
+//! nt_copied says, and so many clusters and entries are told; a defect is the first fault of a cluster; a limit is
+//! one that the file of the clusters before the first fault passes; after each refusal the file isn't finished,
+//! but that after `DiskFault` it may stand there whole; wherever a crash came, it left what isn't finished or,
+//! once the first byte was written over, the whole file. Each file keeps its bytes, `ReadFault` comes only where the
+//! count of one of them rose, and `DiskFault` only where the disk's did (`served`). Nothing is only tested.
 //!
-//! Choices that bind nobody else: a file without fields is told as one whose field 0 is closed.
+//! Choices that bind nobody else: a file without fields is told as one whose field 0 is closed; a schema that a
+//! description can't hold whole, which no file has, is want of memory.
 #![tactic(auto)]
 
 mod comparing;
+mod copy_error;
+mod copying;
 mod error;
 mod laws;
 mod loading;
+mod merging;
 mod place;
 mod planning;
 
 pub use error::MergeError;
 pub use laws::schemas_without_error_are_mergeable;
 pub use loading::load_cluster;
+pub use merging::merge;
 pub use place::SchemaPlace;
 pub use planning::{MergePlan, plan};

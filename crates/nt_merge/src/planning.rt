@@ -20,7 +20,7 @@ use std::marker::Model;
 /// are alike.
 #[derive(Drop)]
 pub struct MergePlan {
-    readers: Vec<Reader>,
+    pub(crate) readers: Vec<Reader>,
 }
 
 impl Model for MergePlan {
