@@ -1,4 +1,5 @@
 pub mod Joined
+pub mod Messages
 pub mod Reported
 pub mod Writing
 pub mod Scripting
@@ -7,5 +8,7 @@ pub mod Shown
 pub mod ScanPrinted
 pub mod ScanEnds
 pub mod Scanned
+pub mod SkimEnds
+pub mod Skimming
 pub mod Running
 pub mod Obeying

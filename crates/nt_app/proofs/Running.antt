@@ -10,10 +10,12 @@ use Rattle.nt_app.specs.declared.status.Status.{Status}
 use Rattle.nt_app.specs.declared.status.Status.TheVariants as status
 use Rattle.nt_app.specs.Statuses.{message_of}
 use Rattle.nt_app.specs.Reports.{Reports}
+use Rattle.nt_app.specs.Skims.{choice_said}
 use Rattle.nt_app.specs.Runs.{RefusesWords, range_said, Obeys, TellsFiles, Runs}
 use Rattle.nt_app.proofs.Joined.{either_after}
 use Rattle.nt_app.proofs.Writing.{memory_writes, run_write}
 use Rattle.nt_app.proofs.Scripting.{memory_scripts, run_seq}
+use Rattle.nt_app.proofs.Skimming.{memory_skims, run_skim}
 use Rattle.nt_app.proofs.Generating.{memory_makes, run_gen}
 use Rattle.nt_app.proofs.Shown.{memory_shows, run_shows}
 use Rattle.nt_app.proofs.Scanned.{memory_scans, run_scan}
@@ -56,6 +58,7 @@ pub runs : (words : List (List ℕ)) (old mid new : HostState) (answer : Status)
 runs words old mid new answer obeys reports bytes = record {
   write = λ o s is p said. run_write o s is p old mid new answer (obeys.write o s is p said) reports;
   seq = λ o s i p said. run_seq o s i p old mid new answer (obeys.seq o s i p said) reports;
+  skim = λ o f ns t p said. run_skim o f (choice_said ns t) p old mid new answer (obeys.skim o f ns t p said) reports;
   gen = λ o m said. run_gen o m old mid new answer (obeys.gen o m said) reports;
   entries = λ from count name said. run_shows (entries_shown (range_said from count)) name old mid new answer
       (obeys.entries from count name said) reports;
@@ -86,6 +89,7 @@ pub no_memory : (words : List (List ℕ)) (state : HostState) → Obeys words st
 no_memory words state = record {
   write = λ o s is p said. memory_writes o s is p state;
   seq = λ o s i p said. memory_scripts o s i p state;
+  skim = λ o f ns t p said. memory_skims o f (choice_said ns t) p state;
   gen = λ o m said. memory_makes o m state;
   entries = λ from count name said. memory_shows (entries_shown (range_said from count)) name state;
   schema = λ name said. memory_shows fields_shown name state;
@@ -101,6 +105,7 @@ wrong_words words state wrong =
     record {
       write = λ o s is p said. absurd (none.no_write o s is p said);
       seq = λ o s i p said. absurd (none.no_seq o s i p said);
+      skim = λ o f ns t p said. absurd (none.no_skim o f ns t p said);
       gen = λ o m said. absurd (none.no_gen m o said);
       entries = λ from count name said. absurd (none.no_entries from count name said);
       schema = λ name said. absurd (none.no_schema name said);

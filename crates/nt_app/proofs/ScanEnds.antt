@@ -1,5 +1,5 @@
 -- How `scan` ends where the outside serves.
-use Rattle.std.proofs.Common.{◌≡◌, ◌⊎◌, ◌∙◌, inl, inr, ap, ap₂, sym, refl, ℕ, List, Option, Some, None, Result, Ok, Err}
+use Rattle.std.proofs.Common.{◌≡◌, ◌⊎◌, ◌∙◌, inl, inr, ap, ap₂, sym, refl, ℕ, List, Option, Some, None, Ok, Err}
 use Rattle.nt_num.specs.declared.fault.ReadError.{ReadError}
 use Rattle.nt_outside.specs.World.{World}
 use Rattle.nt_types.specs.TreeData.{TreesData}
@@ -30,6 +30,7 @@ ends_done (Some bytes) w v status.Outside told can served = absurd (served refl)
 ends_done (Some bytes) w v (status.Limit reached limit) told can served = absurd (few-not_over bytes told.0.0 reached can.few told.0.1)
 ends_done (Some bytes) w v (status.Text input line kind) told can served = absurd told
 ends_done (Some bytes) w v status.Memory told can served = inr refl
+ends_done (Some bytes) w v (status.Schema place) told can served = absurd told
 
 -- of one with too many elements
 pub ends_over : (found : Option (List ℕ)) (w v : World) (reached : ℕ) (answer : Status) → ScanTold found w v answer
@@ -45,6 +46,7 @@ ends_over (Some bytes) w v reached (status.Limit r limit) told over served =
     inl (ap₂ (λ (m n : ℕ). status.Limit m n) (over-once bytes told.0.0 r over.0 reached told.0.1 over.1) told.1)
 ends_over (Some bytes) w v reached (status.Text input line kind) told over served = absurd told
 ends_over (Some bytes) w v reached status.Memory told over served = inr refl
+ends_over (Some bytes) w v reached (status.Schema place) told over served = absurd told
 
 -- of one with a fault
 pub ends_faulty : (found : Option (List ℕ)) (w v : World) (e : ReadError) (answer : Status) → ScanTold found w v answer
@@ -60,3 +62,4 @@ ends_faulty (Some bytes) w v e (status.Limit reached limit) told faulty served =
     absurd (defect-not_over bytes e told.0.0 reached faulty told.0.1)
 ends_faulty (Some bytes) w v e (status.Text input line kind) told faulty served = absurd told
 ends_faulty (Some bytes) w v e status.Memory told faulty served = inr refl
+ends_faulty (Some bytes) w v e (status.Schema place) told faulty served = absurd told

@@ -1,9 +1,8 @@
 -- The command `scan`, and the message after it.
-use Rattle.std.proofs.Common.{◌≡◌, ◌⊎◌, ◌∙◌, inl, inr, ap, sym, subst, refl, ℕ, ◌≤◌, List, [], ◌∷◌, ◌++◌, take, Option, Some, None}
+use Rattle.std.proofs.Common.{◌≡◌, ◌⊎◌, ◌∙◌, inl, inr, ap, sym, subst, refl, ℕ, ◌≤◌, List, [], ◌∷◌, ◌++◌, take, Option, Some}
 use Rattle.std.proofs.Common.{Result, Ok, Err, arith}
 use Rattle.std.specs.Prelude.{IsErrOf, ◌+◌, ◌-◌}
 use Rattle.std.proofs.lemmas.List.{append-nil}
-use Rattle.nt_num.specs.declared.fault.ReadError.{ReadError}
 use Rattle.nt_outside.specs.declared.fault.Refused.{Refused}
 use Rattle.nt_outside.specs.declared.fault.Refused.TheVariants as refused
 use Rattle.nt_outside.specs.Faults.{Rose}
@@ -13,11 +12,10 @@ use Rattle.nt_scan.specs.declared.error.ScanError.{ScanError}
 use Rattle.nt_scan.specs.declared.error.ScanError.TheVariants.{TooMany, Defect, Fault, Memory}
 use Rattle.nt_scan.specs.Scans.{ServesScan, ScansAs}
 use Rattle.nt_scan.proofs.Alone.{lines-mean}
-use Rattle.nt_store.specs.Worlds.{IsThereWith, KeepsFiles}
 use Rattle.nt_app.specs.Statuses.{message_of}
 use Rattle.nt_app.specs.Reports.{Reports}
 use Rattle.nt_app.specs.Shows.{AsksAsDone, status_of_refusal}
-use Rattle.nt_app.specs.Scans.{status_of_scan_error, AnswersScan, IsPrintedOfScan, PrintsScan, HasLines, HasTooMany, CanBeTotalled}
+use Rattle.nt_app.specs.Scans.{status_of_scan_error, AnswersScan, IsPrintedOfScan, PrintsScan, HasLines, HasTooMany}
 use Rattle.nt_app.specs.Scans.{GainsLinesFront, ScanTold, IsAnswerOfScan, ScansNamed, RunsScan}
 use Rattle.nt_app.specs.declared.status.Status.{Status}
 use Rattle.nt_app.specs.declared.status.Status.TheVariants as status
@@ -91,6 +89,7 @@ asks_one status.Outside a old new is = (1, is)
 asks_one (status.Limit reached limit) a old new is = (1, is)
 asks_one (status.Text input line kind) a old new is = (1, is)
 asks_one status.Memory a old new is = (1, is)
+asks_one (status.Schema place) a old new is = (1, is)
 
 -- a file was opened, scanned and put back
 pub scans_named : (name : List ℕ) (old opened printed new : HostState) (f f' : FileState) (scanned : Result (List ℕ) ScanError)
@@ -176,6 +175,7 @@ told_after found w v err status.Outside told = told
 told_after found w v err (status.Limit reached limit) told = told
 told_after found w v err (status.Text input line kind) told = told
 told_after found w v err status.Memory told = told
+told_after found w v err (status.Schema place) told = told
 
 -- the command, and then its message
 pub run_scan : (name : List ℕ) (old mid new : HostState) (answer : Status) → ScansNamed name old mid answer

@@ -11,7 +11,7 @@ use Rattle.nt_outside.specs.Order.{EndsInSync}
 use Rattle.nt_outside.specs.World.{World, Asked, HostState, file}
 use Rattle.nt_book.specs.declared.params.Params.{Params}
 use Rattle.nt_close.specs.Laws.{EndsOverFirst}
-use Rattle.nt_store.specs.Worlds.{IsThereWith, AsksFor, IsLeftAfter}
+use Rattle.nt_store.specs.Worlds.{IsThereWith, AsksFor}
 use Rattle.nt_store.specs.Stored.{asked_for}
 use Rattle.nt_store.proofs.Refused.{none_made, nothing_made}
 use Rattle.nt_script.specs.declared.error.LineFault.{LineFault}

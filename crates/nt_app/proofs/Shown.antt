@@ -158,6 +158,7 @@ told_after s found w v err status.Outside told = told
 told_after s found w v err (status.Limit reached limit) told = told
 told_after s found w v err (status.Text input line kind) told = told
 told_after s found w v err status.Memory told = told
+told_after s found w v err (status.Schema place) told = told
 
 ends_done : {V : Type 0} (s : Shown V) (found : Option (List ℕ)) (w v : World) (read : V) (answer : Status) → ShownTold s found w v answer
     → IsThereWith (λ bytes. s.reading bytes ≡ Ok read) found → (answer ≡ status.Outside → ⊥)
@@ -177,6 +178,7 @@ ends_done s found w v read status.Outside told reads served = absurd (served ref
 ends_done s found w v read (status.Limit reached limit) told reads served = absurd told
 ends_done s found w v read (status.Text input line kind) told reads served = absurd told
 ends_done s found w v read status.Memory told reads served = inr refl
+ends_done s found w v read (status.Schema place) told reads served = absurd told
 
 ends_faulty : {V : Type 0} (s : Shown V) (found : Option (List ℕ)) (w v : World) (e : ReadError) (answer : Status)
     → ShownTold s found w v answer → IsThereWith (λ bytes. s.reading bytes ≡ Err e) found → (answer ≡ status.Outside → ⊥)
@@ -198,6 +200,7 @@ ends_faulty {V} s (Some bytes) w v e status.Outside told reads served = absurd (
 ends_faulty {V} s (Some bytes) w v e (status.Limit reached limit) told reads served = absurd told
 ends_faulty {V} s (Some bytes) w v e (status.Text input line kind) told reads served = absurd told
 ends_faulty {V} s (Some bytes) w v e status.Memory told reads served = inr refl
+ends_faulty {V} s (Some bytes) w v e (status.Schema place) told reads served = absurd told
 
 -- the command, and then its message
 pub run_shows : {V : Type 0} (s : Shown V) (name : List ℕ) (old mid new : HostState) (answer : Status) → ShowsNamed s name old mid answer

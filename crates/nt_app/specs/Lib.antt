@@ -5,4 +5,5 @@ pub mod Writes
 pub mod Seqs
 pub mod Gens
 pub mod Scans
+pub mod Skims
 pub mod Runs

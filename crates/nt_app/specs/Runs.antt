@@ -9,6 +9,7 @@ use Rattle.nt_show.specs.Shown.{entries_shown, fields_shown}
 use Rattle.nt_command_line.specs.CommandLine.{IsEntries, IsSchemaCommand, IsScan}
 use Rattle.nt_command_line.specs.WriteWords.{IsWrite}
 use Rattle.nt_command_line.specs.SeqWords.{IsSeq}
+use Rattle.nt_command_line.specs.SkimWords.{SaidTest, IsSkim}
 use Rattle.nt_command_line.specs.GenWords.{IsGen}
 use Rattle.nt_command_line.specs.Commands.{IsNoCommand, IsWrong}
 use Rattle.nt_store.specs.Worlds.{KeepsFiles}
@@ -21,6 +22,7 @@ use Rattle.nt_app.specs.Writes.{WritesNamed, RunsWrite}
 use Rattle.nt_app.specs.Seqs.{SeqNamed, RunsSeq}
 use Rattle.nt_app.specs.Gens.{GenNamed, RunsGen}
 use Rattle.nt_app.specs.Scans.{ScansNamed, RunsScan}
+use Rattle.nt_app.specs.Skims.{choice_said, SkimNamed, RunsSkim}
 
 -- the words were no command, which is said unless memory runs out: nothing was asked for, no disk was made, and no file changed
 pub record RefusesWords (old new : HostState) (answer : Status) : Type 0 where
@@ -62,21 +64,29 @@ SayReading words =
 abbrev pub SayScanning : List (List ℕ) → Type 0
 SayScanning words = (name : List ℕ) × IsScan words name
 
+-- the words are `skim ..`
+abbrev pub SaySkimming : List (List ℕ) → Type 0
+SaySkimming words =
+    (out file : List ℕ) × (names : List (List ℕ)) × (test : Option SaidTest) × (p : Params) × IsSkim words out file names test p
+
 -- each answer comes of some commands alone, and `Usage` of words that are wrong
 abbrev pub IsAnswerTo : List (List ℕ) → Status → Type 0
-IsAnswerTo words status.Done = SayWriting words ⊎ SayMaking words ⊎ SayReading words ⊎ SayScanning words
+IsAnswerTo words status.Done = SayWriting words ⊎ SayMaking words ⊎ SayReading words ⊎ SayScanning words ⊎ SaySkimming words
 IsAnswerTo words status.Usage = IsWrong words
-IsAnswerTo words (status.File fault) = SayMaking words ⊎ SayReading words ⊎ SayScanning words
-IsAnswerTo words status.Outside = SayWriting words ⊎ SayMaking words ⊎ SayReading words ⊎ SayScanning words
-IsAnswerTo words (status.Limit reached limit) = SayWriting words ⊎ SayMaking words ⊎ SayScanning words
+IsAnswerTo words (status.File fault) = SayMaking words ⊎ SayReading words ⊎ SayScanning words ⊎ SaySkimming words
+IsAnswerTo words status.Outside = SayWriting words ⊎ SayMaking words ⊎ SayReading words ⊎ SayScanning words ⊎ SaySkimming words
+IsAnswerTo words (status.Limit reached limit) = SayWriting words ⊎ SayMaking words ⊎ SayScanning words ⊎ SaySkimming words
 IsAnswerTo words (status.Text input number kind) = SayWriting words
 IsAnswerTo words status.Memory = ⊤
+IsAnswerTo words (status.Schema place) = SaySkimming words
 
 -- what the words say was done, before a message is printed
 pub record Obeys (words : List (List ℕ)) (old new : HostState) (answer : Status) : Type 0 where
   pub write : (out schema : List ℕ) (inputs : List (List ℕ)) (p : Params) → IsWrite words out schema inputs p
       → WritesNamed out schema inputs p old new answer
   pub seq : (out schema input : List ℕ) (p : Params) → IsSeq words out schema input p → SeqNamed out schema input p old new answer
+  pub skim : (out file : List ℕ) (names : List (List ℕ)) (test : Option SaidTest) (p : Params) → IsSkim words out file names test p
+      → SkimNamed out file (choice_said names test) p old new answer
   pub gen : (out : List ℕ) (m : Making) → IsGen words m out → GenNamed out m old new answer
   pub entries : (from count : Option ℕ) (name : List ℕ) → IsEntries words from count name
       → ShowsNamed (entries_shown (range_said from count)) name old new answer
@@ -95,6 +105,8 @@ pub record Runs (words : List (List ℕ)) (old new : HostState) (answer : Status
   pub write : (out schema : List ℕ) (inputs : List (List ℕ)) (p : Params) → IsWrite words out schema inputs p
       → RunsWrite out schema inputs p old new answer
   pub seq : (out schema input : List ℕ) (p : Params) → IsSeq words out schema input p → RunsSeq out schema input p old new answer
+  pub skim : (out file : List ℕ) (names : List (List ℕ)) (test : Option SaidTest) (p : Params) → IsSkim words out file names test p
+      → RunsSkim out file (choice_said names test) p old new answer
   pub gen : (out : List ℕ) (m : Making) → IsGen words m out → RunsGen out m old new answer
   pub entries : (from count : Option ℕ) (name : List ℕ) → IsEntries words from count name → RunsEntries from count name old new answer
   pub schema : (name : List ℕ) → IsSchemaCommand words name → RunsSchema name old new answer

@@ -4,6 +4,8 @@ use Rattle.nt_num.specs.Faults.{name_of}
 use Rattle.nt_num.specs.declared.fault.ReadError.{ReadError}
 use Rattle.nt_app.specs.declared.status.Status.{Status}
 use Rattle.nt_app.specs.declared.status.Status.TheVariants as status
+use Rattle.nt_app.specs.declared.status.SchemaPlace.{SchemaPlace}
+use Rattle.nt_app.specs.declared.status.SchemaPlace.TheVariants as unmet
 use Rattle.nt_app.specs.declared.status.TextFault.{TextFault}
 use Rattle.nt_app.specs.declared.status.TextFault.TheVariants.{Schema, Line}
 use Rattle.nt_types.specs.declared.fault.SchemaKind.{SchemaKind}
@@ -20,6 +22,7 @@ status_code status.Outside = 4
 status_code (status.Limit reached limit) = 5
 status_code (status.Text input number kind) = 6
 status_code status.Memory = 7
+status_code (status.Schema place) = 8
 
 -- the name of a schema text's fault
 abbrev pub schema_fault_name : SchemaKind → List ℕ
@@ -63,6 +66,32 @@ abbrev pub text_message : Option ℕ → ℕ → TextFault → List ℕ
 text_message input number kind =
     codes "ntuple: text: " ++ text_name input ++ codes " line " ++ decimal number ++ codes ": " ++ fault_name kind ++ codes "\n"
 
+-- what stands against the field of a name
+abbrev pub place_text : SchemaPlace → List ℕ
+place_text (unmet.UnknownField name) = codes "unknown "
+place_text (unmet.Twice name) = codes "twice "
+place_text (unmet.NotWritable name) = codes "not writable "
+place_text (unmet.NotANumber name) = codes "not a number "
+
+-- that name
+abbrev pub name_of_place : SchemaPlace → List ℕ
+name_of_place (unmet.UnknownField name) = name
+name_of_place (unmet.Twice name) = name
+name_of_place (unmet.NotWritable name) = name
+name_of_place (unmet.NotANumber name) = name
+
+-- the line of a place in front of the name
+abbrev pub place_front : SchemaPlace → List ℕ
+place_front place = codes "ntuple: schema: " ++ place_text place
+
+-- the name at the end of a line
+abbrev pub name_line : List ℕ → List ℕ
+name_line name = name ++ codes "\n"
+
+-- where the schema of a file doesn't meet the words
+abbrev pub schema_message : SchemaPlace → List ℕ
+schema_message place = place_front place ++ name_line (name_of_place place)
+
 -- what is printed on err
 abbrev pub message_of : Status → List ℕ
 message_of status.Done = []
@@ -72,3 +101,14 @@ message_of status.Outside = codes "ntuple: outside\n"
 message_of (status.Limit reached limit) = limit_message reached limit
 message_of (status.Text input number kind) = text_message input number kind
 message_of status.Memory = codes "ntuple: memory\n"
+message_of (status.Schema place) = schema_message place
+
+-- the line of an answer; where it has the name of a field, its front
+abbrev pub message_front : Status → List ℕ
+message_front (status.Schema place) = place_front place
+message_front other = message_of other
+
+-- that name at the end of the line, if it has one
+abbrev pub message_end : Status → List ℕ
+message_end (status.Schema place) = name_line (name_of_place place)
+message_end other = []

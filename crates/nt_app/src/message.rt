@@ -2,9 +2,10 @@
 
 ghost use Rattle.std.specs.Prelude.{◌≡◌, ◌+◌, ◌≤◌, ◌<◌, ◌++◌, length, decimal};
 ghost use Rattle.arrayvec.specs.ArrayString.{array_string_len};
-ghost use Rattle.nt_app.specs.Statuses.{message_of, file_message, limit_message, text_name, text_message, fault_name, schema_fault_name, line_fault_name};
+ghost use Rattle.nt_app.specs.Statuses.{message_front, place_text, place_front, file_message, limit_message, text_name};
+ghost use Rattle.nt_app.specs.Statuses.{text_message, fault_name, schema_fault_name, line_fault_name};
 
-use crate::status::{Status, TextFault};
+use crate::status::{SchemaPlace, Status, TextFault};
 use arrayvec::ArrayString;
 use itoa::Buffer;
 use nt_event::TextKind;
@@ -17,9 +18,9 @@ const MOST: usize = 96;
 /// A line, without memory.
 pub type Line = ArrayString<MOST>;
 
-/// The line of an answer; none for `Done`.
-pub fn message_of(status: &Status) -> Line
-    ensures { result.bytes ≡ message_of status.now }
+/// The line of an answer, none for `Done`; where a name ends it, the line in front of that.
+pub fn message_front(status: &Status) -> Line
+    ensures { result.bytes ≡ message_front status.now }
 {
     match status {
         Status::Done => Line::new(),
@@ -29,6 +30,7 @@ pub fn message_of(status: &Status) -> Line
         Status::Limit { reached, limit } => limit_message(*reached, *limit),
         Status::Text { input, line, kind } => text_message(*input, *line, *kind),
         Status::Memory => line("ntuple: memory\n"),
+        Status::Schema { place } => place_front(place),
     }
 }
 
@@ -145,5 +147,27 @@ fn text_message(input: Option<u32>, number: u64, kind: TextFault) -> Line
     line.push_str(": ");
     line.push_str(fault_name(kind));
     line.push_str("\n");
+    line
+}
+
+/// What stands against the field of a name.
+fn place_text(place: &SchemaPlace) -> &'static str
+    ensures text { result.now ≡ place_text place.now }
+    ensures len { length result.now ≤ 13 }
+{
+    match place {
+        SchemaPlace::UnknownField { .. } => "unknown ",
+        SchemaPlace::Twice { .. } => "twice ",
+        SchemaPlace::NotWritable { .. } => "not writable ",
+        SchemaPlace::NotANumber { .. } => "not a number ",
+    }
+}
+
+/// The line of a place in front of its name.
+fn place_front(place: &SchemaPlace) -> Line
+    ensures { result.bytes ≡ place_front place.now }
+{
+    let mut line = line("ntuple: schema: ");
+    line.push_str(place_text(place));
     line
 }

@@ -2,16 +2,17 @@
 
 ghost use Rattle.std.specs.Prelude.{◌≡◌, None, IfSome};
 ghost use Rattle.nt_command_line.specs.CommandLine.{texts};
-ghost use Rattle.nt_app.specs.Statuses.{message_of};
+ghost use Rattle.nt_app.specs.Statuses.{message_of, message_end, name_line};
 ghost use Rattle.nt_app.specs.Reports.{Reports};
 ghost use Rattle.nt_command_line.specs.Commands.{NeedsThreads};
 ghost use Rattle.nt_app.specs.Runs.{Obeys, Runs};
 
 use crate::generate::make;
-use crate::message::message_of;
+use crate::message::message_front;
 use crate::scan::scan;
 use crate::seq::seq;
 use crate::show::{entries, schema};
+use crate::skim::skim;
 use crate::status::Status;
 use crate::write::write;
 use nt_command_line::{Alone, Parallel, alone_of, needs_threads, parallel_of};
@@ -21,12 +22,36 @@ use std::alloc::Global;
 use std::sync::Wait;
 use std::thread::Threads;
 
-/// Prints the message of an answer on err. A failure there changes nothing else.
+/// Prints a name at the end of a line on err.
+fn report_name<H: Host>(host: &mut H, name: &[u8])
+    ensures { Reports (name_line name.now) (H.state host.old) (H.state host.new) }
+{
+    match print_all(host, Stream::ToErr, name) {
+        Ok(()) => {
+            let _ = print_all(host, Stream::ToErr, b"\n");
+        }
+        Err(_) => {}
+    }
+}
+
+/// Prints the name that ends the message of an answer, if one does.
+fn report_end<H: Host>(host: &mut H, status: &Status)
+    ensures { Reports (message_end status.now) (H.state host.old) (H.state host.new) }
+{
+    if let Status::Schema { place } = status {
+        report_name(host, place.name());
+    }
+}
+
+/// Prints the message of an answer on err, as far as err takes it. A failure there changes nothing else.
 fn report<H: Host>(host: &mut H, status: &Status)
     ensures { Reports (message_of status.now) (H.state host.old) (H.state host.new) }
 {
-    let line = message_of(status);
-    let _ = print_all(host, Stream::ToErr, line.as_str().as_bytes());
+    let front = message_front(status);
+    match print_all(host, Stream::ToErr, front.as_str().as_bytes()) {
+        Ok(()) => report_end(host, status),
+        Err(_) => {}
+    }
 }
 
 /// Does what words say whose command waits for nobody.
@@ -42,6 +67,7 @@ fn do_alone<H: Host>(alloc: Global, words: &[String], host: &mut H) -> Status
     };
     match command {
         Alone::Seq(said) => seq(alloc, host, &said),
+        Alone::Skim(said) => skim(alloc, host, &said),
         Alone::Entries { from, count, file } => {
             let from = from.unwrap_or(0);
             entries(alloc, host, EntryRange { from, count }, file)
@@ -101,6 +127,7 @@ pub fn run_alone<H: Host>(alloc: Global, words: &[String], host: &mut H) -> Opti
 ///
 /// Commands are `write` and `seq` with `[--cluster N] [--page P] [--group G] [--plain] [--max-range B] [--max-file B] OUT SCHEMA IN`,
 /// for `write` of 1 to 64 inputs and with `[--contexts K]`, where OUT is another name than those that are read, `gen C E SEED OUT`,
+/// `skim [--where NAME] [--least A] [--greatest B] OUT FILE NAME...` with the options of `seq`, where OUT is another name than FILE,
 /// `entries [--from A] [--count C] FILE`, `schema FILE` and `scan FILE`; clap reads the words after the first.
 /// `rt` is the runtime of `write`, which has a context for each input and K workers that run them, of `gen`, and of `scan`; `gate` is told the
 /// steps of each context's clusters.

@@ -4,7 +4,7 @@ ghost use Rattle.std.specs.Prelude.{◌≡◌};
 
 use nt_event::TextKind;
 use nt_num::ReadError;
-use nt_types::SchemaKind;
+use nt_types::{Bytes, SchemaKind};
 
 /// What is wrong with a text.
 #[derive(Clone, Copy, Debug, PartialEq, Eq)]
@@ -15,8 +15,37 @@ pub enum TextFault {
     Line(TextKind),
 }
 
+/// Where the schema of a file doesn't meet the words.
+#[derive(Drop)]
+pub enum SchemaPlace {
+    /// No field at the top level has this name.
+    UnknownField { name: Bytes },
+    /// The field of this name was chosen before.
+    Twice { name: Bytes },
+    /// The field of this name isn't open, its name or its type can't stand in a schema text, or there are too many fields with it.
+    NotWritable { name: Bytes },
+    /// The field of this name isn't an open one of numbers.
+    NotANumber { name: Bytes },
+}
+
+impl SchemaPlace {
+    ghost use Rattle.nt_app.specs.Statuses.{name_of_place};
+
+    /// The name that the words say.
+    pub(crate) fn name(&self) -> &[u8]
+        ensures { result.now ≡ name_of_place self.now }
+    {
+        match self {
+            SchemaPlace::UnknownField { name }
+            | SchemaPlace::Twice { name }
+            | SchemaPlace::NotWritable { name }
+            | SchemaPlace::NotANumber { name } => name.as_slice(),
+        }
+    }
+}
+
 /// How a command ended.
-#[derive(Clone, Copy, Debug, PartialEq, Eq)]
+#[derive(Drop)]
 pub enum Status {
     Done,
     /// The words are no command.
@@ -38,6 +67,10 @@ pub enum Status {
     },
     /// Memory ran out.
     Memory,
+    /// The schema of the file doesn't meet the words.
+    Schema {
+        place: SchemaPlace,
+    },
 }
 
 impl Status {
@@ -55,6 +88,7 @@ impl Status {
             Status::Limit { .. } => 5,
             Status::Text { .. } => 6,
             Status::Memory => 7,
+            Status::Schema { .. } => 8,
         }
     }
 }

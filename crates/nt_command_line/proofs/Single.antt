@@ -11,7 +11,9 @@ use Rattle.clap.specs.Words.{App}
 use Rattle.nt_command_line.specs.Options.{AreParamsSaid}
 use Rattle.nt_command_line.specs.WriteWords.{write_app, IsWrite}
 use Rattle.nt_command_line.specs.SeqWords.{seq_app, IsSeq}
+use Rattle.nt_command_line.specs.SkimWords.{skim_app, SaidTest, IsSkim}
 use Rattle.nt_command_line.specs.GenWords.{IsGen}
+use Rattle.nt_command_line.proofs.Bounds.{same_test}
 
 some_is : (x y : List ℕ) → Some x ≡ Some y → x ≡ y
 some_is x y e = cc
@@ -84,6 +86,20 @@ same_seq P words o s i o' s' i' p p' one other holds =
     let params : p ≡ p' = same_params seq_app words p p' one.params other.params in
     subst (λ (l : List ℕ). P l s' i' p') out (subst (λ (l : List ℕ). P o l i' p') schema
     (subst (λ (l : List ℕ). P o s l p') input (subst (P o s i) params holds)))
+
+-- and so of `skim`
+pub same_skim : (P : List ℕ → List ℕ → List (List ℕ) → Option SaidTest → Params → Type 0) (words : List (List ℕ)) (o f o' f' : List ℕ)
+    (ns ns' : List (List ℕ)) (t t' : Option SaidTest) (p p' : Params) → IsSkim words o f ns t p → IsSkim words o' f' ns' t' p'
+    → P o f ns t p → P o' f' ns' t' p'
+same_skim P words o f o' f' ns ns' t t' p p' one other holds =
+    let out : o ≡ o' = some_is o o' (sym one.names_are.out_is ∙ other.names_are.out_is) in
+    let file : f ≡ f' = some_is f f' (sym one.names_are.file_is ∙ other.names_are.file_is) in
+    let names : ns ≡ ns' = one.names_are.names_are ∙ sym other.names_are.names_are in
+    let test : t ≡ t' = same_test _ _ _ t t' one.test_is other.test_is in
+    let params : p ≡ p' = same_params skim_app words p p' one.params other.params in
+    subst (λ (l : List ℕ). P l f' ns' t' p') out (subst (λ (l : List ℕ). P o l ns' t' p') file
+    (subst (λ (l : List (List ℕ)). P o f l t' p') names (subst (λ (u : Option SaidTest). P o f ns u p') test
+    (subst (P o f ns t) params holds))))
 
 some_number_is : (m n : ℕ) → Some m ≡ Some n → m ≡ n
 some_number_is m n e = cc

@@ -16,6 +16,7 @@ use Rattle.nt_command_line.specs.CommandLine.{schema_app, scan_app, is_true_word
 use Rattle.nt_command_line.specs.CommandLine.{is_flag_found, Begins, IsTaken, word_found, words_found, is_among}
 use Rattle.nt_command_line.specs.WriteWords.{write_rules, write_app, NamesOfWrite}
 use Rattle.nt_command_line.specs.SeqWords.{seq_rules, seq_app, NamesOfSeq}
+use Rattle.nt_command_line.specs.SkimWords.{skim_rules, skim_app, NamesOfSkim, SaidTest, IsTestSaid, IsTestOfSkim}
 use Rattle.nt_command_line.specs.GenWords.{gen_rules, gen_app}
 use Rattle.nt_command_line.specs.Commands.{names_of}
 use Rattle.nt_command_line.specs.Arguments.{ReadsWords}
@@ -116,6 +117,50 @@ seq_names_by words m out schema input rows out-is schema-is input-is = record {
   schema_is = found_by seq_app words m (codes "SCHEMA") schema rows schema-is;
   input_is = found_by seq_app words m (codes "IN") input rows input-is;
 }
+
+pub skim_is : app (codes "skim") skim_rules ≡ skim_app
+unfolding skim_app
+skim_is = refl
+
+-- the names of `skim`
+pub skim_names_by : (words : List (List ℕ)) (m : ArgMatches) (out file : List ℕ) (names : List (List ℕ))
+    → rows_of (found_of m) ≡ matches_of skim_app words
+    → first_value (found_of m) (codes "OUT") ≡ Some out → first_value (found_of m) (codes "FILE") ≡ Some file
+    → names ≡ unwrap_or (option_map raw_values (matched_of (found_of m) (codes "NAME"))) [] → NamesOfSkim words out file names
+skim_names_by words m out file names rows out-is file-is names-are = record {
+  out_is = found_by skim_app words m (codes "OUT") out rows out-is;
+  file_is = found_by skim_app words m (codes "FILE") file rows file-is;
+  names_are = all_by skim_app words m (codes "NAME") names rows names-are;
+}
+
+-- what stands under a name is what clap finds
+word_by : (m : ArgMatches) (words : List (List ℕ)) (id : List ℕ) → rows_of (found_of m) ≡ matches_of skim_app words
+    → first_value (found_of m) id ≡ word_found skim_app words id
+word_by m words id rows = first_value-rows (found_of m) id ∙ ap (first_of id) rows
+
+-- and so is the test
+pub test_by : (words : List (List ℕ)) (m : ArgMatches) (test : Option SaidTest) → rows_of (found_of m) ≡ matches_of skim_app words
+    → IsTestSaid (first_value (found_of m) (codes "where")) (first_value (found_of m) (codes "least"))
+    (first_value (found_of m) (codes "greatest")) test → IsTestOfSkim words test
+test_by words m test rows is =
+    subst (λ (n : Option (List ℕ)). IsTestSaid n (word_found skim_app words (codes "least"))
+    (word_found skim_app words (codes "greatest")) test) (word_by m words (codes "where") rows)
+    (subst (λ (l : Option (List ℕ)). IsTestSaid (first_value (found_of m) (codes "where")) l
+    (word_found skim_app words (codes "greatest")) test) (word_by m words (codes "least") rows)
+    (subst (λ (g : Option (List ℕ)). IsTestSaid (first_value (found_of m) (codes "where")) (first_value (found_of m) (codes "least")) g
+    test) (word_by m words (codes "greatest") rows) is))
+
+-- back
+pub test_found : (words : List (List ℕ)) (m : ArgMatches) (test : Option SaidTest) → rows_of (found_of m) ≡ matches_of skim_app words
+    → IsTestOfSkim words test → IsTestSaid (first_value (found_of m) (codes "where")) (first_value (found_of m) (codes "least"))
+    (first_value (found_of m) (codes "greatest")) test
+test_found words m test rows is =
+    subst (λ (n : Option (List ℕ)). IsTestSaid n (first_value (found_of m) (codes "least"))
+    (first_value (found_of m) (codes "greatest")) test) (sym (word_by m words (codes "where") rows))
+    (subst (λ (l : Option (List ℕ)). IsTestSaid (word_found skim_app words (codes "where")) l
+    (first_value (found_of m) (codes "greatest")) test) (sym (word_by m words (codes "least") rows))
+    (subst (λ (g : Option (List ℕ)). IsTestSaid (word_found skim_app words (codes "where")) (word_found skim_app words (codes "least")) g
+    test) (sym (word_by m words (codes "greatest") rows)) is))
 
 pub gen_is : app (codes "gen") gen_rules ≡ gen_app
 unfolding gen_app

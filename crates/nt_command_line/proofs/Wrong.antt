@@ -5,6 +5,7 @@ use Rattle.std.specs.Str.{bytes_eq}
 use Rattle.nt_command_line.specs.CommandLine.{entries_app, schema_app, scan_app, Begins, IsTaken, is_among}
 use Rattle.nt_command_line.specs.WriteWords.{AreApart, IsWrongWrite}
 use Rattle.nt_command_line.specs.SeqWords.{IsWrongSeq}
+use Rattle.nt_command_line.specs.SkimWords.{CanBeSkimmed, IsWrongSkim}
 use Rattle.nt_command_line.specs.GenWords.{gen_app}
 use Rattle.nt_command_line.specs.Commands.{IsNoCommand, IsWrong}
 use Rattle.nt_command_line.proofs.Found.{differs}
@@ -21,6 +22,7 @@ pub wrong_write : (words : List (List ℕ)) → Begins words (codes "write") →
 wrong_write words begins why = record {
   write = λ auto. why;
   seq = λ other. absurd (begins_once words _ _ refl begins other);
+  skim = λ other. absurd (begins_once words _ _ refl begins other);
   gen = λ other taken. begins_once words _ _ refl begins other;
   entries = λ other taken. begins_once words _ _ refl begins other;
   schema = λ other taken. begins_once words _ _ refl begins other;
@@ -32,6 +34,19 @@ pub wrong_seq : (words : List (List ℕ)) → Begins words (codes "seq") → IsW
 wrong_seq words begins why = record {
   write = λ other. absurd (begins_once words _ _ refl begins other);
   seq = λ auto. why;
+  skim = λ other. absurd (begins_once words _ _ refl begins other);
+  gen = λ other taken. begins_once words _ _ refl begins other;
+  entries = λ other taken. begins_once words _ _ refl begins other;
+  schema = λ other taken. begins_once words _ _ refl begins other;
+  scan = λ other taken. begins_once words _ _ refl begins other;
+}
+
+-- words that begin with `skim` and are wrong
+pub wrong_skim : (words : List (List ℕ)) → Begins words (codes "skim") → IsWrongSkim words → IsWrong words
+wrong_skim words begins why = record {
+  write = λ other. absurd (begins_once words _ _ refl begins other);
+  seq = λ other. absurd (begins_once words _ _ refl begins other);
+  skim = λ auto. why;
   gen = λ other taken. begins_once words _ _ refl begins other;
   entries = λ other taken. begins_once words _ _ refl begins other;
   schema = λ other taken. begins_once words _ _ refl begins other;
@@ -43,6 +58,7 @@ pub wrong_gen : (words : List (List ℕ)) → Begins words (codes "gen") → (Is
 wrong_gen words begins why = record {
   write = λ other. absurd (begins_once words _ _ refl begins other);
   seq = λ other. absurd (begins_once words _ _ refl begins other);
+  skim = λ other. absurd (begins_once words _ _ refl begins other);
   gen = λ auto. why;
   entries = λ other taken. begins_once words _ _ refl begins other;
   schema = λ other taken. begins_once words _ _ refl begins other;
@@ -54,6 +70,7 @@ pub wrong_entries : (words : List (List ℕ)) → Begins words (codes "entries")
 wrong_entries words begins why = record {
   write = λ other. absurd (begins_once words _ _ refl begins other);
   seq = λ other. absurd (begins_once words _ _ refl begins other);
+  skim = λ other. absurd (begins_once words _ _ refl begins other);
   gen = λ other taken. begins_once words _ _ refl begins other;
   entries = λ auto. why;
   schema = λ other taken. begins_once words _ _ refl begins other;
@@ -65,6 +82,7 @@ pub wrong_schema : (words : List (List ℕ)) → Begins words (codes "schema") �
 wrong_schema words begins why = record {
   write = λ other. absurd (begins_once words _ _ refl begins other);
   seq = λ other. absurd (begins_once words _ _ refl begins other);
+  skim = λ other. absurd (begins_once words _ _ refl begins other);
   gen = λ other taken. begins_once words _ _ refl begins other;
   entries = λ other taken. begins_once words _ _ refl begins other;
   schema = λ auto. why;
@@ -76,6 +94,7 @@ pub wrong_scan : (words : List (List ℕ)) → Begins words (codes "scan") → (
 wrong_scan words begins why = record {
   write = λ other. absurd (begins_once words _ _ refl begins other);
   seq = λ other. absurd (begins_once words _ _ refl begins other);
+  skim = λ other. absurd (begins_once words _ _ refl begins other);
   gen = λ other taken. begins_once words _ _ refl begins other;
   entries = λ other taken. begins_once words _ _ refl begins other;
   schema = λ other taken. begins_once words _ _ refl begins other;
@@ -109,6 +128,18 @@ wrong_is_none words wrong = record {
             (subst (λ (i : List ℕ). is_among clash.out (clash.schema ∷ i ∷ []) ≡ true) input-is clash.clash)) in
             let bad : true ≡ false = sym among ∙ is.apart in
             cc
+      ];
+  no_skim = λ out file names test p is.
+      elim (wrong.skim is.begins) [
+        | inl refuses ↦ refuses is.taken
+        | inr (inl none) ↦ none test is.test_is
+        | inr (inr clash) ↦
+            let out-is = same_some _ _ _ clash.names_are.out_is is.names_are.out_is in
+            let file-is = same_some _ _ _ clash.names_are.file_is is.names_are.file_is in
+            let names-are = clash.names_are.names_are ∙ sym is.names_are.names_are in
+            clash.clash (subst (λ (o : List ℕ). CanBeSkimmed o clash.file clash.names) (sym out-is)
+            (subst (λ (f : List ℕ). CanBeSkimmed out f clash.names) (sym file-is)
+            (subst (λ (l : List (List ℕ)). CanBeSkimmed out file l) (sym names-are) is.can)))
       ];
   no_gen = λ m out is. wrong.gen is.begins is.taken;
   no_entries = λ from count file is. wrong.entries is.begins is.taken;

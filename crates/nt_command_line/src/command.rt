@@ -7,6 +7,7 @@ ghost use Rattle.nt_command_line.specs.Commands.{NeedsThreads, SaysParallel, Say
 use crate::generate::{GenWords, gen_of};
 use crate::seq::{SeqWords, seq_of};
 use crate::show::{entries_of, scan_of, schema_of};
+use crate::skim::{SkimWords, skim_of};
 use crate::write::{WriteWords, write_of};
 use std::alloc::{AllocError, Global};
 
@@ -22,6 +23,7 @@ pub enum Parallel<'a> {
 #[derive(Drop)]
 pub enum Alone<'a> {
     Seq(SeqWords<'a>),
+    Skim(SkimWords<'a>),
     /// The entries from `from` on, and at most `count` of them, where the words say so.
     Entries {
         from: Option<u64>,
@@ -70,6 +72,7 @@ pub fn alone_of<'a>(alloc: Global, words: &'a [String]) -> Result<Option<Alone<'
         [first, ..] if first.as_str() == "seq" => seq_of(alloc, words),
         [first, ..] if first.as_str() == "entries" => entries_of(alloc, words),
         [first, ..] if first.as_str() == "schema" => schema_of(alloc, words),
+        [first, ..] if first.as_str() == "skim" => skim_of(alloc, words),
         _ => Ok(None),
     }
 }

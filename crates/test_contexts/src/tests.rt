@@ -1,7 +1,7 @@
 //! Contexts really run beside each other, and hold nothing from the filling of a range on.
 
 use crate::gates::{Counting, HoldsFirst, Meeting};
-use nt_app::{Status, run};
+use nt_app::run;
 use nt_memory::MemHost;
 use nt_outside::Gate;
 use std::alloc::{AllocError, Global};
@@ -39,7 +39,7 @@ fn is_written<R: Threads + Wait + Sync, G: Gate + Sync>(
         host.add(name, text)?;
         words.push(String::from_str(alloc, name)?)?;
     }
-    Ok(run(rt, alloc, words, &mut host, gate) == Status::Done)
+    Ok(run(rt, alloc, words, &mut host, gate).code() == 0)
 }
 
 #[test]

@@ -1,11 +1,13 @@
-use Rattle.std.proofs.Common.{◌∙◌, ap, subst, Some}
+use Rattle.std.proofs.Common.{◌∙◌, ap, subst, Some, option_map}
 use Rattle.nt_show.specs.Shown.{entries_shown}
 use Rattle.nt_command_line.specs.declared.command.Alone.{Alone}
 use Rattle.nt_command_line.specs.CommandLine.{texts}
-use Rattle.nt_command_line.specs.Commands.{SaysAlone}
+use Rattle.nt_command_line.specs.Commands.{names_of, SaysAlone}
+use Rattle.nt_command_line.specs.SkimWords.{said_test}
+use Rattle.nt_command_line.specs.declared.command.Alone.TheVariants.{Skim}
 use Rattle.nt_app.specs.Shows.{ShowsNamed}
 use Rattle.nt_app.proofs.Running.{no_memory, wrong_words}
-use Rattle.nt_app.proofs.Obeying.{scripted_words, listed_words, outlined_words}
+use Rattle.nt_app.proofs.Obeying.{scripted_words, skimmed_words, listed_words, outlined_words}
 use Rattle.nt_app.proofs.program.do_alone.Goals as goal
 
 pub returns-in_default : goal.returns-in_default
@@ -20,6 +22,20 @@ returns-in-Seq g c =
     let is = c.in-Some.is ∙ ap (λ (a : Alone). Some a) c.in-Seq.is in
     scripted_words _ said.out.now said.schema.now said.input.now said.params _ _ _
     (subst (SaysAlone (texts c.args.words.now)) is c.in-Ok.ensures) c.seq.ensures
+
+pub skim-requires : goal.skim-requires
+skim-requires g c =
+    let is = c.in-Some.is ∙ ap (λ (a : Alone). Some a) c.in-Skim.is in
+    let says : SaysAlone (texts c.args.words.now) (Some (Skim c.in-Skim.said)) =
+    subst (SaysAlone (texts c.args.words.now)) is c.in-Ok.ensures in
+    says.can.some
+
+pub returns-in-Skim : goal.returns-in-Skim
+returns-in-Skim g c =
+    let said = c.in-Skim.said in
+    let is = c.in-Some.is ∙ ap (λ (a : Alone). Some a) c.in-Skim.is in
+    skimmed_words _ said.out.now said.file.now (names_of said.names.items) (option_map said_test said.test) said.params _ _ _
+    (subst (SaysAlone (texts c.args.words.now)) is c.in-Ok.ensures) c.skim.ensures
 
 pub returns-in-Entries : goal.returns-in-Entries
 returns-in-Entries g c =

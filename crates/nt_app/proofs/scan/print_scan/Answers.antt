@@ -1,4 +1,4 @@
-use Rattle.std.proofs.Common.{ℕ, List, Result, Ok, Err, sym, subst}
+use Rattle.std.proofs.Common.{ℕ, List, Result, Ok, sym, subst}
 use Rattle.nt_scan.specs.declared.error.ScanError.{ScanError}
 use Rattle.nt_app.specs.Scans.{PrintsScan}
 use Rattle.nt_app.proofs.ScanPrinted.{prints_none}

@@ -19,3 +19,9 @@ schema_of-requires c =
     let same : c.as_str-3.result.now ≡ codes "schema" = search rules in
     begins_by c.args.words.now c.first-item-3.result (codes "schema") c.in-len1-up.len_at_least c.first-item-3.is
     (sym c.as_str-3.ensures.value ∙ same)
+
+pub skim_of-requires : goal.skim_of-requires
+skim_of-requires c =
+    let same : c.as_str-4.result.now ≡ codes "skim" = search rules in
+    begins_by c.args.words.now c.first-item-4.result (codes "skim") c.in-len1-up.len_at_least c.first-item-4.is
+    (sym c.as_str-4.ensures.value ∙ same)
