@@ -94,6 +94,7 @@ struct Node {
     string name, type;
     vector<Node> inside;
     size_t column = 0;  // its first one
+    size_t row = 0;     // of a file that was read
 };
 
 struct FieldRow {

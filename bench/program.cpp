@@ -1,19 +1,23 @@
 // What plain C++ takes for the work of the program: it reads lines of events into columns, writes them as the same file, byte for byte,
-// and prints the entries of such a file. For comparison only; see program.sh.
+// and prints the entries or the totals of such a file. For comparison only; see program.sh.
 //   program write [--plain] [--cluster N] [--page P] [--group G] [--order LINE] OUT SCHEMA IN...
 //   program entries FILE
-// Each input has a thread. LINE is an order line of the program, in which the clusters are then written too. Texts are taken to be UTF-8,
+//   program scan [--threads T] FILE
+// Each input has a thread, and `scan` four or as many as is said. LINE is an order line of the program, in which the clusters are then written too. Texts are taken to be UTF-8,
 // files to be of the program, and whatever is wrong ends it. For little-endian machines.
 #include <algorithm>
 #include <sstream>
 
 #include "reading.h"
+#include "scanning.h"
 #include "writing.h"
 
 int main(int count, char** words) {
     vector<char*> rest(words + std::min(count, 2), words + count);
     const string command = count > 1 ? words[1] : "";
     if (command == "entries" && rest.size() == 1) return print_entries(rest[0]);
+    if (command == "scan" && rest.size() == 1) return print_totals(rest[0], 4);
+    if (command == "scan" && rest.size() == 3 && rest[0] == string("--threads")) return print_totals(rest[2], std::stoul(rest[1]));
     check(command == "write", "no such command");
     Writer w;
     bool plain = false;

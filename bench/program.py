@@ -101,6 +101,19 @@ class Bench:
         self.show("entries " + case, events, size, printed)
         return written["ours"][0] / events, printed["ours"][0] / events
 
+    def total(self, case, inputs):
+        """Totals the file of the inputs that was measured last by both, the C++ with four threads and with one, and compares."""
+        paths, file = [self.input(name) for name in inputs], f"{self.folder}/ours.root"
+        size = sum(os.path.getsize(path) for path in paths)
+        events = sum(open(path, "rb").read().count(b"\n") for path in paths)
+        for threads in ("4", "1"):
+            rates = self.rate(lambda name: ["scan", *(["--threads", threads] if name == "plain" else []), file])
+            if rates is None:
+                return
+            if not is_same(f"{self.folder}/ours.out", f"{self.folder}/plain.out"):
+                self.fail(f"{case}: the totals differ")
+            self.show(f"scan {case}, C++ by {threads}", events, size, rates)
+
 
 def main():
     parser = argparse.ArgumentParser()
@@ -115,7 +128,9 @@ def main():
     print(TITLES)
     for count in (1, 2, 4, 8):
         bench.measure(f"of {count} small", "small.schema", [f"small-{i}" for i in range(count)])
+    bench.total("of 8 small", [f"small-{i}" for i in range(8)])
     bench.measure("of 1 wide", "wide.schema", ["wide"])
+    bench.total("of 1 wide", ["wide"])
     each = {many: bench.measure(f"of {many} events", "small.schema", [f"many-{many}"]) for many in (10000, 100000, 1000000)}
     if all(each.values()):
         for k, command in enumerate(("write", "entries")):

@@ -1,9 +1,10 @@
-// A file to lines: its entries, printed. For program.cpp.
+// A file to columns, and to lines: its entries, printed. For program.cpp and skim.cpp.
 #pragma once
 #include <fcntl.h>
 #include <unistd.h>
 
 #include <charconv>
+#include <memory>
 
 #include "layout.h"
 
@@ -82,6 +83,7 @@ static void read_header(const string& header, Schema& s) {
         const FieldRow& row = s.rows[id];
         const Kind kinds[] = {NUMBER, LIST, RECORD, CHOICE};
         node.kind = row.type == "std::string" ? TEXT : kinds[row.role & 3], node.column = first[id];
+        node.row = id, node.name = row.name, node.type = row.type;
         for (const Leaf& leaf : LEAVES)
             if (row.type == leaf.type) node.leaf = &leaf, node.kind = leaf.bits == 1 ? FLAG : NUMBER;
         for (uint32_t part : inside[id]) node.inside.push_back(self(self, part));
@@ -157,11 +159,14 @@ struct Printer {
     }
 };
 
-static void print_cluster(int fd, const Schema& s, uint64_t entries, Cursor pages, vector<Column>& columns, string& out) {
-    for (Column& c : columns) {
+// The pages of a cluster into its columns, or of those alone that are needed.
+static void read_cluster(int fd, Cursor pages, vector<Column>& columns, const vector<bool>* needed = nullptr) {
+    for (size_t id = 0; id < columns.size(); id++) {
+        Column& c = columns[id];
         size_t count;
         Cursor inner = pages.list(count);
         c.used = c.count = 0;
+        if (needed && !(*needed)[id]) continue;
         for (; count > 0; count--) {
             int32_t n = inner.low<int32_t>();
             uint32_t size = inner.low<uint32_t>();
@@ -171,29 +176,32 @@ static void print_cluster(int fd, const Schema& s, uint64_t entries, Cursor page
             take_page(&page[0], c, size_t(-n));
         }
     }
-    for (size_t i = 0; i < entries; i++) {
-        Printer{columns, out}.values(s.fields, i);
-        out += '\n';
-        if (out.size() >= 65536) fwrite(out.data(), 1, out.size(), stdout), out.clear();
-    }
 }
 
-static int print_entries(const char* name) {
-    int fd = open(name, O_RDONLY);
-    check(fd >= 0, name);
-    string front = read_at(fd, 0, 226);
+// What is told of a file before its pages: its schema, and of each cluster how many entries it has and where its pages lie.
+struct Outline {
+    int fd;
+    Schema schema;
+    vector<Column> columns;
+    vector<std::unique_ptr<string>> page_lists;
+    vector<std::pair<uint64_t, Cursor>> clusters;
+};
+
+static Outline attach(const char* name) {
+    Outline o;
+    o.fd = open(name, O_RDONLY);
+    check(o.fd >= 0, name);
+    string front = read_at(o.fd, 0, 226);
     check(front.compare(0, 4, "root") == 0, "the file is unfinished");
-    string key = read_at(fd, __builtin_bswap64(word_at(&front[200], 0)), 113);
-    string anchor = read_at(fd, __builtin_bswap64(word_at(&key[57 + 18], 0)) + 56, 78);
+    string key = read_at(o.fd, __builtin_bswap64(word_at(&front[200], 0)), 113);
+    string anchor = read_at(o.fd, __builtin_bswap64(word_at(&key[57 + 18], 0)) + 56, 78);
     check(sum(&anchor[6], 64) == __builtin_bswap64(word_at(&anchor[70], 0)), "the checksum of the anchor differs");
     Cursor places{&anchor[14], &anchor[70]};
     uint64_t header_at = places.high(), header_size = places.high();
     uint64_t footer_at = (places.high(), places.high()), footer_size = places.high();
-    Schema s;
-    read_header(envelope_at(fd, header_at, header_size, HEADER), s);
-    vector<Column> columns;
-    for (const ColumnRow& row : s.columns) columns.push_back({row, {}});
-    string footer = envelope_at(fd, footer_at, footer_size, FOOTER), out;
+    read_header(envelope_at(o.fd, header_at, header_size, HEADER), o.schema);
+    for (const ColumnRow& row : o.schema.columns) o.columns.push_back({row, {}});
+    string footer = envelope_at(o.fd, footer_at, footer_size, FOOTER);
     Cursor payload = payload_of(footer);
     payload.low<uint64_t>(), payload.low<uint64_t>(), payload.frame();
     size_t groups, clusters;
@@ -202,15 +210,30 @@ static int print_entries(const char* name) {
         Cursor group = list.frame();
         group.low<uint64_t>(), group.low<uint64_t>(), group.low<uint32_t>();
         uint64_t size = group.low<uint64_t>(), place = (group.low<uint32_t>(), group.low<uint64_t>());
-        string page_list = envelope_at(fd, place, size, PAGE_LIST);
-        Cursor inside = payload_of(page_list);
+        o.page_lists.push_back(std::make_unique<string>(envelope_at(o.fd, place, size, PAGE_LIST)));
+        Cursor inside = payload_of(*o.page_lists.back());
         inside.low<uint64_t>();
         Cursor summaries = inside.list(clusters), pages = inside.list(clusters);
         for (; clusters > 0; clusters--) {
             Cursor summary = summaries.frame();
             size_t count;
             summary.low<uint64_t>();
-            print_cluster(fd, s, summary.low<uint64_t>(), pages.list(count), columns, out);
+            uint64_t entries = summary.low<uint64_t>();
+            o.clusters.push_back({entries, pages.list(count)});
+        }
+    }
+    return o;
+}
+
+static int print_entries(const char* name) {
+    Outline o = attach(name);
+    string out;
+    for (auto& [entries, pages] : o.clusters) {
+        read_cluster(o.fd, pages, o.columns);
+        for (size_t i = 0; i < entries; i++) {
+            Printer{o.columns, out}.values(o.schema.fields, i);
+            out += '\n';
+            if (out.size() >= 65536) fwrite(out.data(), 1, out.size(), stdout), out.clear();
         }
     }
     fwrite(out.data(), 1, out.size(), stdout);

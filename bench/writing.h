@@ -279,15 +279,20 @@ static void close_file(Writer& w, const Bytes& header) {
     put_at(w.fd, "r", 0, 0), fsync(w.fd);
 }
 
+static void begin_file(Writer& w, const Bytes& header) {
+    Bytes begun = front_of(0, 0, 0);
+    add_blob(begun, 226, header);
+    put_at(w.fd, begun, 0, 0), fsync(w.fd);
+    w.end = begun.size();
+}
+
 static int write_file(Writer& w, bool plain, const vector<char*>& words) {
     check(words.size() >= 3, "words are missing");
     w.schema = schema_of(words[1], plain);
     w.fd = open(words[0], O_RDWR | O_CREAT | O_TRUNC, 0666);
     check(w.fd >= 0, words[0]);
-    Bytes header = header_of(w.schema), begun = front_of(0, 0, 0);
-    add_blob(begun, 226, header);
-    put_at(w.fd, begun, 0, 0), fsync(w.fd);
-    w.end = begun.size();
+    Bytes header = header_of(w.schema);
+    begin_file(w, header);
     vector<std::thread> threads;
     for (size_t i = 2; i < words.size(); i++) threads.emplace_back(write_input, std::ref(w), i - 2, words[i]);
     for (std::thread& thread : threads) thread.join();
