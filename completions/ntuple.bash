@@ -6,6 +6,7 @@ _ntuple_options() {
     case $1 in
         write) echo --cluster --page --group --plain --max-range --max-file --contexts ;;
         seq) echo --cluster --page --group --plain --max-range --max-file ;;
+        skim) echo --cluster --page --group --plain --max-range --max-file --where --least --greatest ;;
         entries) echo --from --count ;;
     esac
 }
@@ -22,12 +23,13 @@ _ntuple() {
     local word=${COMP_WORDS[COMP_CWORD]} before=${COMP_WORDS[COMP_CWORD - 1]}
     COMPREPLY=()
     if [ "$COMP_CWORD" -eq 1 ]; then
-        COMPREPLY=($(compgen -W 'write seq gen entries schema scan' -- "$word"))
+        COMPREPLY=($(compgen -W 'write seq skim gen entries schema scan' -- "$word"))
         return
     fi
     if [[ " ${COMP_WORDS[*]:2:COMP_CWORD-2} " != *' -- '* ]]; then
         case $before in
             --cluster | --page | --group | --max-range | --max-file | --contexts | --from | --count) return ;; # a number follows
+            --where | --least | --greatest) return ;; # and the name of a field, or a number
         esac
         case $word in
             -*)

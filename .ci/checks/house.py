@@ -30,7 +30,7 @@ SHARED = set("state_of".split())
 KNOWN_TWICE = set()
 
 # How many there may be at most, which is how many there were: who mends one lowers the number.
-LIMITS = {"wide": 8, "long lemmas": 18}
+LIMITS = {"wide": 7, "long lemmas": 18}
 
 DOCUMENTS = ["README.md"] + sorted("docs/" + name for name in os.listdir("docs") if name.endswith(".md"))
 

@@ -29,20 +29,23 @@ def number(text):
 
 def range_in(text):
     """The first `A to B` of a text; nothing where there is none."""
-    found = re.search(r"(\d+) to (\d+)", text)
+    found = re.search(r"(-?\d+) to (\d+)", text)
     return (int(found[1]), int(found[2])) if found else None
 
 
 class Manual:
-    """What the manual names: commands, the options of each with their ranges, the numbers of `gen`, exit codes and examples."""
+    """What the manual names: commands, the options of each with their ranges, those that take a name, the numbers of `gen`, exit codes
+    and examples."""
 
     def __init__(self, path):
         text = text_of(path).replace("\\-", "-")
         self.commands = re.findall(r"^\.B ntuple (\w+)$", text, re.M)
         self.options = {command: {} for command in self.commands}
-        for heading, body in re.findall(r"^\.SS Options of ([\w ]+)\n(.*?)(?=^\.S)", text, re.M | re.S):
+        self.texts = set()
+        for heading, body in re.findall(r"^\.SS Options of ([\w, ]+)\n(.*?)(?=^\.S)", text, re.M | re.S):
             rows = re.findall(r"^\.TP\n\.BI? (--[\w-]+)[^\n]*\n(.*?)(?=^\.TP|\Z)", body, re.M | re.S)
-            for command in heading.split(" and "):
+            self.texts |= {name for name in re.findall(r"^\.BI (--[\w-]+) \" NAME\"$", body, re.M)}
+            for command in re.split(", | and ", heading):
                 self.options[command].update({name: range_in(row) for name, row in rows})
         numbers = re.search(r"^\.SS Numbers of gen\n(.*?)(?=^\.S)", text, re.M | re.S)[1]
         self.numbers = [range_in(row) for row in numbers.split(".TP\n")[1:]]
@@ -63,7 +66,7 @@ def against_readme(manual):
                 yield f"the manual has no {name} of {command}"
     for name, low, high, sets in re.findall(r"^\| `(--[\w-]+)[^`]*` \|[^|]*\| ([^|]*) \| ([^|]*) \| ([^|]*) \|", text, re.M):
         found = (number(low), number(high)) if low.strip() else None
-        for command in ["write"] if sets.startswith("of `write` alone") else ["write", "seq"]:
+        for command in ["write"] if sets.startswith("of `write` alone") else ["write", "seq", "skim"]:
             if manual.options[command].get(name, ()) != found:
                 yield f"the manual has another range of {name} of {command} than the README: {found}"
     codes = re.findall(r"^\| (\d+) \|", re.search(r"^## Exit codes\n(.*?)^## ", text, re.M | re.S)[1], re.M)
@@ -121,12 +124,14 @@ class Program:
         for name, text in (("schema", "x u64\n"), ("events", "[1]\n")):
             with open(name, "w", encoding="utf-8") as file:
                 file.write(text)
-        self.names = {"write": ["out.root", "schema", "events"], "seq": ["out.root", "schema", "events"], "gen": ["1", "1", "1", "out.root"]}
+        self.names = {"write": ["out.root", "schema", "events"], "seq": ["out.root", "schema", "events"], "gen": ["1", "1", "1", "out.root"],
+                      "skim": ["out.root", "file.root", "x"]}
         subprocess.run([path, "write", "file.root", "schema", "events"], check=True, stdout=subprocess.DEVNULL)
 
     def takes(self, command, *options):
         words = self.names.get(command, ["file.root"])
-        return self.takes_words(command, *options, *words)
+        beside = ["--where", "x"] if command == "skim" and options and options[0].startswith(("--least", "--greatest")) else []
+        return self.takes_words(command, *beside, *options, *words)
 
     def takes_words(self, *words):
         done = subprocess.run([self.path, *words], capture_output=True, text=True, timeout=120)
@@ -138,7 +143,7 @@ class Program:
 def at_ends(found):
     """Numbers, and whether they lie in the range: its ends, and those outside of it."""
     low, high = found
-    return [(low, True), (high, True), (high + 1, False)] + [(low - 1, False)] * (low > 0)
+    return [(low, True), (high, True), (high + 1, False)] + [(low - 1, False)] * (low != 0)
 
 
 def against_program(manual, program):
@@ -147,9 +152,9 @@ def against_program(manual, program):
             yield f"the program doesn't take {command}"
         for name in {name for options in manual.options.values() for name in options}:
             found, has = manual.options[command].get(name), name in manual.options[command]
-            for value, fits in at_ends(found) if found else [(1 << 20, has)]:
-                words = [f"{name}={value}"] if not has or found else [name]
-                for spelled in (words, [name, str(value)]) if found else (words,):
+            for value, fits in at_ends(found) if found else [("x" if name in manual.texts else 1 << 20, has)]:
+                words = [f"{name}={value}"] if not has or found or name in manual.texts else [name]
+                for spelled in (words, [name, str(value)]) if found and value >= 0 else (words,):
                     if program.takes(command, *spelled) != (has and fits):
                         yield f"the manual is wrong on {command} {' '.join(spelled)}"
     for place, found in enumerate(manual.numbers):

@@ -79,6 +79,22 @@ printf '[0,"x",2,18446744073709551616,1,18446744073709551615]\n' | cmp - out || 
 expect 0 '' scan example.root
 [ "$(wc -l <out)" -eq 4 ] || fail 'the example has not four fields of numbers'
 
+# chosen fields of chosen entries: one of two numbers, and one entry of the example
+expect 0 '' skim --where x --least 2 few.root two.root x
+printf 'clusters 1 entries 1\n' | cmp - out || fail 'other numbers of what is chosen'
+expect 0 '' entries few.root
+printf '[18446744073709551615]\n' | cmp - out || fail 'another entry than the chosen one'
+expect 0 '' skim --where run --least 4712 few.root example.root trigger run
+expect 0 '' entries few.root
+printf '["one electron",4712]\n' | cmp - out || fail 'other values than the chosen ones'
+expect 8 'ntuple: schema: unknown z' skim few.root two.root z
+expect 8 'ntuple: schema: not a number trigger' skim --where trigger few.root example.root run
+expect 2 'ntuple: usage' skim two.root two.root x
+expect 2 'ntuple: usage' skim --where x --least -5 few.root two.root x
+cp two.root kept.root
+expect 4 'ntuple: outside' skim ./two.root two.root x
+cmp -s two.root kept.root || fail 'a file that is read was written over'
+
 # inputs without entries, and more than one
 : >nothing.txt
 expect 0 '' write none.root schema.txt nothing.txt
