@@ -91,7 +91,7 @@ asks_one (status.Text input line kind) a old new is = (1, is)
 asks_one status.Memory a old new is = (1, is)
 asks_one (status.Schema place) a old new is = (1, is)
 
--- a file was opened, scanned and put back
+-- a file was opened, scanned and returned
 pub scans_named : (name : List ℕ) (old opened printed new : HostState) (f f' : FileState) (scanned : Result (List ℕ) ScanError)
     (answer : Status)
     → opened.asked ≡ old.asked ++ File name ∷ [] → opened.err_faults ≡ old.err_faults → opened.opened ≡ old.opened + 1

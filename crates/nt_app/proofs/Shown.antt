@@ -76,7 +76,7 @@ pub rose_either : (before opened printed now one one' : ℕ) → before ≤ open
 rose_either before opened printed now one one' first second none taken (inl rose) = omega (arith, rose, first, taken.later)
 rose_either before opened printed now one one' first second none taken (inr rose) = omega (arith, rose, none, first, second, taken.sum)
 
--- a file was opened, shown and put back
+-- a file was opened, shown and returned
 pub shows_named : {V : Type 0} (s : Shown V) (name : List ℕ) (old opened printed new : HostState) (f f' : FileState)
     (result : Result Unit ReadFailure) (answer : Status)
     → answer ≡ status_of_shown result

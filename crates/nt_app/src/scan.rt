@@ -55,7 +55,7 @@ pub fn scan<H: Host>(rt: &(impl Threads + Sync), alloc: Global, host: &mut H, na
             let mut file = file;
             let scanned = scan_file(rt, alloc, &mut file);
             let status = print_scan(host, scanned);
-            host.put_file(file);
+            host.return_file(file);
             status
         }
         Err(refused) => status_of_refusal(refused),

@@ -40,7 +40,7 @@ pub fn entries<H: Host>(alloc: Global, host: &mut H, range: EntryRange, name: &s
         Ok(file) => {
             let mut file = file;
             let shown = show_entries(alloc, host, &mut file, range);
-            host.put_file(file);
+            host.return_file(file);
             status_of_shown(shown)
         }
         Err(refused) => status_of_refusal(refused),
@@ -55,7 +55,7 @@ pub fn schema<H: Host>(alloc: Global, host: &mut H, name: &str) -> Status
         Ok(file) => {
             let mut file = file;
             let shown = show_fields(alloc, host, &mut file);
-            host.put_file(file);
+            host.return_file(file);
             status_of_shown(shown)
         }
         Err(refused) => status_of_refusal(refused),

@@ -32,6 +32,6 @@ impl<D: Disk> Locked<D> {
         ensures step { IsLater D.state self.old self.new }
         ensures keeps { KeepsHistory D.state self.old self.new }
     {
-        self.disk.put_back(pen);
+        self.disk.return_pen(pen);
     }
 }

@@ -38,7 +38,7 @@ impl<D: Disk> Locked<D> {
         self.book.keeps();
         let Claim { cluster, ext } = claim;
         self.disk.settle(ext);
-        self.disk.put_back(pen);
+        self.disk.return_pen(pen);
         let faults = self.disk.faults();
         self.book.spoil(cluster, context, faults);
     }

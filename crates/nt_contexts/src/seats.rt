@@ -46,7 +46,7 @@ pub(crate) struct Context<'a, C, T, G> {
 pub(crate) type ContextOf<'a, D, S, G> = Context<'a, Committer<D>, SeatOf<D, S>, G>;
 
 /// Puts back what was taken out.
-fn put_back<T>(place: &mut Option<T>, value: Option<T>)
+fn restore<T>(place: &mut Option<T>, value: Option<T>)
     requires { place.old ≡ None }
     ensures { place.new ≡ value }
 {
@@ -111,8 +111,8 @@ fn run_one<D: Disk, S: Source, G: Gate>(
     match (seat.pass.take(), seat.pen.take()) {
         (Some(pass), Some(pen)) => {
             let (pass, pen, ended) = run_context(rt, committer, shared, &mut seat.lines, pass, pen);
-            put_back(&mut seat.pass, Some(pass));
-            put_back(&mut seat.pen, pen);
+            restore(&mut seat.pass, Some(pass));
+            restore(&mut seat.pen, pen);
             seat.ended = ended;
         }
         (_pass, _pen) => unreachable!(),

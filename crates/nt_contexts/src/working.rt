@@ -37,8 +37,8 @@ fn turn_back<D: Disk, S: Source>(
     let mut back = back;
     // none of them ran, so none passes a limit
     let _ = leave_all(rt, committer, 0, first, seats, &mut back);
-    let put = back.append(&mut sources);
-    let Ok(()) = put else { unreachable!() };
+    let joined = back.append(&mut sources);
+    let Ok(()) = joined else { unreachable!() };
     sources.destroy_empty();
     back
 }

@@ -112,7 +112,7 @@ pub refused_told : {V : Type 0} (totals : V → List Total) (contexts : ℕ) (or
 refused_told totals contexts order found refused.Failed = tt
 refused_told totals contexts order found refused.Memory = tt
 
--- a file was opened, read and put back
+-- a file was opened, read and returned
 pub read_back : {V T : Type 0} (totals : V → List Total) (name : List ℕ) (contexts : ℕ) (order : List ℕ) (old mid new : HostState)
     (opened : T) (f : FileState) (faults : ℕ) (r : Result V ReadFailure) (value : V) → r ≡ Ok value → Opens (File name) old mid (Ok opened)
     → IsOpenFile old.world name f → ReadsFile totals (totals_in contexts order) f r → TakesBack faults mid new → new.world ≡ mid.world

@@ -38,7 +38,7 @@ where
     match host.create(name) {
         Ok(disk) => {
             let (disk, written) = write_made(rt, disk, &fields, making, sources, settings);
-            host.put_disk(disk);
+            host.return_disk(disk);
             written
         }
         Err(refused) => Err(GenerateError::from(refused)),

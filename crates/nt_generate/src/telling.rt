@@ -23,7 +23,7 @@ fn read_totals<H: Host>(
         Ok(file) => {
             let mut file = file;
             let totals = tell_totals(alloc, &mut file, order, contexts);
-            host.put_file(file);
+            host.return_file(file);
             match totals {
                 Ok(totals) => Ok(totals),
                 Err(failure) => Err(GenerateError::from(failure)),

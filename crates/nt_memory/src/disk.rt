@@ -73,7 +73,7 @@ impl Disk for MemDisk {
         Ok(MemPen::new(fails, trip))
     }
 
-    fn put_back(&mut self, pen: MemPen)
+    fn return_pen(&mut self, pen: MemPen)
         ensures back { TakesPen (mem_pen.state_of pen).faults (state_of self.old) (state_of self.new) }
         ensures exact { tally_of self.new ≡ takes_in (mem_pen.state_of pen).faults (tally_of self.old) }
         ensures pens { pens_of self.new ≡ pens_of self.old }

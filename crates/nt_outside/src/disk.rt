@@ -32,7 +32,7 @@ pub trait Disk {
         ensures new { IfOk result (λ p. (Self.Pen.state p).faults ≡ 0) };
 
     /// Takes a pen back, and its faults in.
-    fn put_back(&mut self, pen: Self::Pen)
+    fn return_pen(&mut self, pen: Self::Pen)
         ensures { TakesPen (Self.Pen.state pen).faults (state self.old) (state self.new) };
 
     /// Takes the memory for so many calls of `append`, `write_at` and `sync`, with so many bytes together.

@@ -9,7 +9,7 @@ use crate::file::ReadAt;
 use crate::source::Source;
 use crate::stream::Stream;
 
-/// What the program runs over. Each object that a host opened is to be put back: its type can't be dropped here.
+/// What the program runs over. Each object that a host opened is to be returned: its type can't be dropped here.
 pub trait Host {
     type Text: Source;
 
@@ -24,7 +24,7 @@ pub trait Host {
         ensures opens { Opens (asked_text name.now) (state self.old) (state self.new) result }
         ensures text { IfOk result (λ t. IsOpenText (state self.old).world name.now (Self.Text.state t)) };
 
-    fn put_text(&mut self, text: Self::Text)
+    fn return_text(&mut self, text: Self::Text)
         ensures back { TakesBack (Self.Text.state text).faults (state self.old) (state self.new) }
         ensures world { (state self.new).world ≡ (state self.old).world };
 
@@ -33,16 +33,16 @@ pub trait Host {
         ensures opens { Opens (asked_file name.now) (state self.old) (state self.new) result }
         ensures opened { IfOk result (λ f. IsOpenFile (state self.old).world name.now (Self.File.state f)) };
 
-    fn put_file(&mut self, file: Self::File)
+    fn return_file(&mut self, file: Self::File)
         ensures back { TakesBack (Self.File.state file).faults (state self.old) (state self.new) }
         ensures world { (state self.new).world ≡ (state self.old).world };
 
-    /// An empty disk, whose bytes the name gets when it is put back. One disk is out at a time.
+    /// An empty disk, whose bytes the name gets when it is returned. One disk is out at a time.
     fn create(&mut self, name: &str) -> Result<Self::Out, Refused>
         ensures creates { Creates name.now (state self.old) (state self.new) result }
         ensures disk { IfOk result (λ d. IsNewDisk (state self.old).world (Self.Out.state d)) };
 
-    fn put_disk(&mut self, disk: Self::Out)
+    fn return_disk(&mut self, disk: Self::Out)
         ensures { KeepsDisk (Self.Out.state disk) (state self.old) (state self.new) };
 
     /// Prints the front of a piece, and says how many bytes. A stream that takes nothing counts a fault.

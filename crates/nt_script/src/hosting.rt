@@ -63,12 +63,12 @@ fn file_text<H: Host>(
     match host.create(out) {
         Ok(disk) => {
             let (disk, text, written) = write_file(alloc, disk, fields, text, params);
-            host.put_text(text);
-            host.put_disk(disk);
+            host.return_text(text);
+            host.return_disk(disk);
             written
         }
         Err(refused) => {
-            host.put_text(text);
+            host.return_text(text);
             Err(ScriptStoreError::from(refused))
         }
     }

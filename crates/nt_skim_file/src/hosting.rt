@@ -38,7 +38,7 @@ fn file_selection<H: Host>(
     match host.create(out) {
         Ok(disk) => {
             let (disk, written) = write_selection(alloc, chosen, file, disk, params);
-            host.put_disk(disk);
+            host.return_disk(disk);
             written
         }
         Err(refused) => Err(SkimStoreError::from(refused)),
@@ -81,7 +81,7 @@ fn skim_named<H: Host>(
         Ok(file) => {
             let mut file = file;
             let written = skim_open(alloc, host, names.out, choice, &mut file, params);
-            host.put_file(file);
+            host.return_file(file);
             written
         }
         Err(refused) => Err(SkimStoreError::from(refused)),

@@ -14,7 +14,7 @@ use crate::error::StoreError;
 use crate::filling::fill_file;
 use crate::orders::order_line;
 use crate::settings::Settings;
-use crate::texts::{open_texts, put_texts, read_schema};
+use crate::texts::{open_texts, read_schema, return_texts};
 use nt_book::{Book, Params};
 use nt_outside::{Gate, Host, Stream, print_all};
 use nt_schema::Schema;
@@ -77,7 +77,7 @@ where
     ensures rest { TakesTextsBack (length texts.items) (H.state host.old) (H.state host.new) }
 {
     let (disk, texts, filled) = fill_file(rt, disk, fields, texts, settings);
-    put_texts(host, texts);
+    return_texts(host, texts);
     match filled {
         Ok((book, schema)) => {
             let mut disk = disk;
@@ -121,11 +121,11 @@ where
     match host.create(names.out) {
         Ok(disk) => {
             let (disk, written) = write_file(rt, host, disk, &fields, texts, settings);
-            host.put_disk(disk);
+            host.return_disk(disk);
             written
         }
         Err(refused) => {
-            put_texts(host, texts);
+            return_texts(host, texts);
             Err(StoreError::from(refused))
         }
     }

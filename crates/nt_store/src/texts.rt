@@ -35,18 +35,18 @@ pub fn read_schema<H: Host>(alloc: Global, host: &mut H, name: &str) -> Result<F
 {
     let mut text = host.open_text(name)?;
     let read = read_front(alloc, &mut text, MOST_OF_SCHEMA);
-    host.put_text(text);
+    host.return_text(text);
     let bytes = read?;
     fields_of(alloc, &bytes)
 }
 
 /// Gives texts back to the host.
-pub(crate) fn put_texts<H: Host>(host: &mut H, texts: Vec<H::Text>)
+pub(crate) fn return_texts<H: Host>(host: &mut H, texts: Vec<H::Text>)
     ensures { PutsTexts (map H.Text.state texts.items) (H.state host.old) (H.state host.new) }
 {
     let mut texts = texts;
     while !texts.is_empty() {
-        host.put_text(texts.remove(0));
+        host.return_text(texts.remove(0));
     }
     texts.destroy_empty();
 }
@@ -71,7 +71,7 @@ pub(crate) fn open_texts<H: Host>(
         match host.open_text(name) {
             Ok(text) => texts.push_reserved(text),
             Err(refused) => {
-                put_texts(host, texts);
+                return_texts(host, texts);
                 return Err(StoreError::from(refused));
             }
         }

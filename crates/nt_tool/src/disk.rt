@@ -51,7 +51,7 @@ impl<F: FileExt + OpenFile> Disk for RealDisk<F> {
         }
     }
 
-    fn put_back(&mut self, pen: RealPen<File>) {
+    fn return_pen(&mut self, pen: RealPen<File>) {
         self.faults.take_in(pen.faults);
     }
 

@@ -122,7 +122,7 @@ impl Host for RealHost {
         })
     }
 
-    fn put_text(&mut self, text: RealText<File>) {
+    fn return_text(&mut self, text: RealText<File>) {
         self.take_back(text.faults);
     }
 
@@ -134,7 +134,7 @@ impl Host for RealHost {
         })
     }
 
-    fn put_file(&mut self, file: RealFile<File>) {
+    fn return_file(&mut self, file: RealFile<File>) {
         self.take_back(file.faults);
     }
 
@@ -161,7 +161,7 @@ impl Host for RealHost {
         })
     }
 
-    fn put_disk(&mut self, disk: RealDisk<File>) {
+    fn return_disk(&mut self, disk: RealDisk<File>) {
         self.take_back(disk.faults);
     }
 

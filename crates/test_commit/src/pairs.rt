@@ -179,7 +179,7 @@ pub fn file_written(
 ) -> Result<(Book, Refusals), Fail> {
     let disk = host.create("f")?;
     let (disk, told) = written(rt, alloc, disk, limits, way, b_leads);
-    host.put_disk(disk);
+    host.return_disk(disk);
     let Some(told) = told else {
         return Err(Fail::new("out of memory"));
     };

@@ -44,7 +44,7 @@ fn a_failed_append_leaves_nothing(rt: HostRuntime) -> Result<(), Fail> {
     disk.room(3, 9)?;
     assert_eq!(rt; disk.append(b"abc"), Ok(()));
     assert_eq!(rt; disk.append(b"def"), Err(Failed));
-    host.put_disk(disk);
+    host.return_disk(disk);
     assert!(rt; host.file("out") == Some(b"abc".as_slice()));
     Ok(())
 }
@@ -58,7 +58,7 @@ fn a_failed_write_leaves_what_was_there(rt: HostRuntime) -> Result<(), Fail> {
     assert_eq!(rt; disk.append(b"abcd"), Ok(()));
     assert_eq!(rt; disk.write_at(1, b"XY"), Ok(()));
     assert_eq!(rt; disk.write_at(0, b"Z"), Err(Failed));
-    host.put_disk(disk);
+    host.return_disk(disk);
     assert!(rt; host.file("out") == Some(b"aXYd".as_slice()));
     Ok(())
 }
@@ -91,9 +91,9 @@ fn ranges_are_settled_in_any_order(rt: HostRuntime) -> Result<(), Fail> {
     disk.settle(second);
     assert_eq!(rt; pen.fill(&mut first, &[5, 6, 7, 8]), Ok(()));
     disk.settle(first);
-    disk.put_back(pen);
+    disk.return_pen(pen);
     assert_eq!(rt; disk.faults(), 0);
-    host.put_disk(disk);
+    host.return_disk(disk);
     assert!(rt;
         host.file("out") == Some(b"0123456789\x05\x06\x07\x08\x01\x02\x03\xaa\xbb".as_slice())
     );
@@ -121,7 +121,7 @@ fn a_disk_replaces_the_older_file(rt: HostRuntime) -> Result<(), Fail> {
     assert!(rt; host.file("out") == Some(b"older".as_slice()));
     let disk = host.create("out")?;
     assert!(rt; host.file("out") == Some(b"older".as_slice()));
-    host.put_disk(disk);
+    host.return_disk(disk);
     assert!(rt; host.file("out") == Some(b"".as_slice()));
     Ok(())
 }
@@ -134,6 +134,6 @@ fn a_file_fails_by_its_number(rt: HostRuntime) -> Result<(), Fail> {
     let mut file = host.open_file("in")?;
     assert_eq!(rt; file.size(), Ok(4));
     assert_eq!(rt; file.size(), Err(Failed));
-    host.put_file(file);
+    host.return_file(file);
     Ok(())
 }

@@ -37,7 +37,7 @@ fn appended(host: &mut MemHost) -> Result<u64, Refused> {
     let _ = disk.sync();
     let _ = disk.append(b"efgh");
     let faults = disk.faults();
-    host.put_disk(disk);
+    host.return_disk(disk);
     Ok(faults)
 }
 
@@ -80,12 +80,12 @@ fn a_pen_fails_by_its_number(rt: HostRuntime) -> Result<(), Fail> {
     assert_eq!(rt; first.fill(&mut whole, b"ab"), Ok(()));
     assert_eq!(rt; second.fill(&mut torn, b"cd"), Err(Failed));
     assert_eq!(rt; (torn.filled(), second.faults()), (false, 1));
-    disk.put_back(second);
+    disk.return_pen(second);
     assert_eq!(rt; disk.faults(), 1);
     disk.settle(torn);
     disk.settle(whole);
-    disk.put_back(first);
-    host.put_disk(disk);
+    disk.return_pen(first);
+    host.return_disk(disk);
     assert!(rt; host.file("out") == Some(b"ab\0\0".as_slice()));
     Ok(())
 }
@@ -94,7 +94,7 @@ fn a_pen_fails_by_its_number(rt: HostRuntime) -> Result<(), Fail> {
 fn text_of(alloc: Global, host: &mut MemHost, name: &str) -> Result<Vec<u8>, Refused> {
     let mut text = host.open_text(name)?;
     let front = read_front(alloc, &mut text, 9);
-    host.put_text(text);
+    host.return_text(text);
     front
 }
 

@@ -78,7 +78,7 @@ pub fn add_firsts(alloc: Global, file: &[u8], told: &mut Vec<u8>) -> Result<(), 
         return Ok(());
     };
     let attached = Reader::attach(alloc, &mut opened);
-    host.put_file(opened);
+    host.return_file(opened);
     let Ok(reader) = attached else {
         return Ok(());
     };

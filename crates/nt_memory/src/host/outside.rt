@@ -53,7 +53,7 @@ impl Host for MemHost {
         }
     }
 
-    fn put_text(&mut self, text: MemSource)
+    fn return_text(&mut self, text: MemSource)
         ensures back { TakesBack (mem_text.state_of text).faults (state_of self.old) (state_of self.new) }
         ensures world { (state_of self.new).world ≡ (state_of self.old).world }
         ensures exact { tally_of self.new ≡ takes_in (mem_text.state_of text).faults (tally_of self.old) }
@@ -84,7 +84,7 @@ impl Host for MemHost {
         }
     }
 
-    fn put_file(&mut self, file: MemFile)
+    fn return_file(&mut self, file: MemFile)
         ensures back { TakesBack (mem_file.state_of file).faults (state_of self.old) (state_of self.new) }
         ensures world { (state_of self.new).world ≡ (state_of self.old).world }
         ensures exact { tally_of self.new ≡ takes_in (mem_file.state_of file).faults (tally_of self.old) }
@@ -121,7 +121,7 @@ impl Host for MemHost {
         }
     }
 
-    fn put_disk(&mut self, disk: MemDisk)
+    fn return_disk(&mut self, disk: MemDisk)
         ensures keeps { KeepsDisk (mem_disk.state_of disk) (state_of self.old) (state_of self.new) }
         ensures idle { (world_of self.old).creating ≡ None → world_of self.new ≡ world_of self.old }
         ensures exact { tally_of self.new ≡ takes_in (mem_disk.state_of disk).faults (tally_of self.old) }

@@ -138,7 +138,7 @@ fn sixty_four_contexts_write_ten_clusters_each(rt: HostRuntime) -> Result<(), Fa
     let mut host = MemHost::new(alloc);
     let disk = host.create("f")?;
     let (disk, left) = written(&rt, alloc, disk, limits, 64, 10);
-    host.put_disk(disk);
+    host.return_disk(disk);
     let Some(book) = left else {
         return Err(Fail::new("out of memory"));
     };

@@ -8,7 +8,7 @@ returns-in-Ok g c =
     shows_named (entries_shown c.args.range) c.args.name.now _ _ _ _ _ _ c.show_entries-shown.result _ c.status_of_shown.ensures
     opened.opens.asks.ok opened.opens.asks.err_faults opened.opens.asks.opened opened.opens.asks.cause.later
     opened.opens.world opened.opened
-    c.show_entries-shown.ensures c.put_file.ensures.back c.put_file.ensures.world
+    c.show_entries-shown.ensures c.return_file.ensures.back c.return_file.ensures.world
 
 pub returns-in-Err : goal.returns-in-Err
 returns-in-Err g c = refuses_named (entries_shown c.args.range) c.args.name.now _ _ c.in-Err.refused _ c.status_of_refusal.ensures

@@ -13,4 +13,4 @@ pub returns : goal.returns
 returns g c =
     turned c.args.committer.now 0 c.args.seats.items c.args.first.now c.leave_all.new.first
     c.args.back.items c.leave_all.new.back.items
-    c.args.sources.items c.append-put.new.self.items c.leave_all.result c.leave_all.ensures.leave c.requires.room.0 c.in-Ok.ensures.items
+    c.args.sources.items c.append-joined.new.self.items c.leave_all.result c.leave_all.ensures.leave c.requires.room.0 c.in-Ok.ensures.items

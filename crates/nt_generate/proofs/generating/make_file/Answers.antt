@@ -24,7 +24,7 @@ write_made-disk-requires-clause-may g c κs within =
 pub returns-in-Ok : goal.returns-in-Ok
 returns-in-Ok g c =
     made_back _ c.args.settings.now.params.now c.args.making.now c.args.name.now _ _ _ _ _ _ _ c.in-Ok.ensures.creates c.in-Ok.ensures.disk
-    c.write_made-disk.ensures c.put_disk.ensures
+    c.write_made-disk.ensures c.return_disk.ensures
 
 pub returns : goal.returns
 returns g c =

@@ -9,7 +9,7 @@ write_selection-disk-requires-clause-empty g c =
 pub returns-in-Ok : goal.returns-in-Ok
 returns-in-Ok g c =
     files_back c.args.out.now c.args.params.now (selection_of c.args.chosen.now.plan) c.args.chosen.now.reader _ _ _ _ _ _ _ _
-    c.write_selection-disk.result.1 c.in-Ok.ensures.creates c.in-Ok.ensures.disk c.write_selection-disk.ensures c.put_disk.ensures
+    c.write_selection-disk.result.1 c.in-Ok.ensures.creates c.in-Ok.ensures.disk c.write_selection-disk.ensures c.return_disk.ensures
 
 pub returns-in-Err : goal.returns-in-Err
 returns-in-Err g c =

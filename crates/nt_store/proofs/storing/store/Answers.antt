@@ -67,7 +67,7 @@ returns-in-Ok g c =
           let open_at = c.read_schema.ensures.asks.world ∙ is in
           let tell = texts_told w _ names (map st c.in_ok-texts.texts.items) open_at c.in_ok-texts.ensures.texts in
           out_told c.args.names.out.now c.args.names.schema.now names c.args.settings.now.params.now _ tell.texts w
-          (record { schema_is = c.in_ok-fields.ensures.told w is; inputs_are = tell.are }) _ _ _ c.put_disk.ensures.world
+          (record { schema_is = c.in_ok-fields.ensures.told w is; inputs_are = tell.are }) _ _ _ c.return_disk.ensures.world
           c.write_file-disk.result.1
           (wrote.file.told (creates c.args.names.out.now w) tell.texts (made.ok w at_texts) tell.tell
           (c.in-Ok.ensures.disk.held w at_texts));
@@ -77,7 +77,7 @@ returns-in-Ok g c =
           let tell = texts_told w _ names (map st c.in_ok-texts.texts.items) open_at c.in_ok-texts.ensures.texts in
           let empty = c.in-Ok.ensures.disk.held w at_texts in
           back_in_order c.args.names.out.now c.args.names.schema.now names c.args.settings.now.params.now _ tell.texts w
-          (record { schema_is = c.in_ok-fields.ensures.told w is; inputs_are = tell.are }) _ _ _ c.put_disk.ensures.world _ _
+          (record { schema_is = c.in_ok-fields.ensures.told w is; inputs_are = tell.are }) _ _ _ c.return_disk.ensures.world _ _
           c.write_file-disk.result.1 empty wrote.file.order
           (wrote.file.told (creates c.args.names.out.now w) tell.texts (made.ok w at_texts) tell.tell empty) w w' is is';
       crash = λ w w' is is' made-disk.
@@ -86,25 +86,25 @@ returns-in-Ok g c =
           let tell = texts_told w _ names (map st c.in_ok-texts.texts.items) open_at c.in_ok-texts.ensures.texts in
           let empty = c.in-Ok.ensures.disk.held w at_texts in
           back_safe c.args.names.out.now c.args.names.schema.now names c.args.settings.now.params.now _ tell.texts w
-          (record { schema_is = c.in_ok-fields.ensures.told w is; inputs_are = tell.are }) _ _ _ c.put_disk.ensures.world
+          (record { schema_is = c.in_ok-fields.ensures.told w is; inputs_are = tell.are }) _ _ _ c.return_disk.ensures.world
           c.write_file-disk.result.1 (wrote.file.told (creates c.args.names.out.now w) tell.texts (made.ok w at_texts) tell.tell empty)
           (wrote.file.crash (creates c.args.names.out.now w) tell.texts (made.ok w at_texts) tell.tell empty) w' is';
       asked = all_asked _ _ _ _ c.write_file-disk.result.1 _ _ _ _ c.in_ok-fields.ensures.asks.asked c.in_ok-texts.ensures.asks.asked
           made.asks.ok
-          (c.put_disk.ensures.back.asked ∙ wrote.rest.asked);
+          (c.return_disk.ensures.back.asked ∙ wrote.rest.asked);
       cause = cause_back _ _ _ _ _ c.write_file-disk.result.1 (omega (
         arith,
         c.read_schema.ensures.cause.later,
         c.open_texts.ensures.cause.later,
         made.asks.cause.later,
       )) wrote.cause.later
-          c.put_disk.ensures.back.faults_taken wrote.cause.failed;
+          c.return_disk.ensures.back.faults_taken wrote.cause.failed;
       back = record {
-        err_faults = c.put_disk.ensures.back.err_faults ∙ (wrote.rest.err_faults ∙ (made.asks.err_faults
+        err_faults = c.return_disk.ensures.back.err_faults ∙ (wrote.rest.err_faults ∙ (made.asks.err_faults
             ∙ (c.in_ok-texts.ensures.rest.0.err_faults ∙ c.read_schema.ensures.rest.err_faults)));
         opened = omega (
           arith,
-          c.put_disk.ensures.back.opened,
+          c.return_disk.ensures.back.opened,
           wrote.rest.opened,
           made.asks.opened,
           c.in_ok-texts.ensures.rest.0.opened,
@@ -123,7 +123,7 @@ returns g c =
     let count = texts_counted _ names (map st c.in_ok-texts.texts.items) c.in_ok-texts.ensures.texts in
     let asked = map_length (λ name. name.now) c.args.names.inputs.now in
     let made = c.in-Err.ensures.creates in
-    let back = c.put_texts.ensures in
+    let back = c.return_texts.ensures in
     let stays = back.world ∙ (made.err ∙ (c.open_texts.ensures.asks.world ∙ c.read_schema.ensures.asks.world)) in
     record {
       told = λ w is. rw c.from.ensures (refused_told _ _ _ _ w _ _ (refusal_is c.in-Err.refused) (stays ∙ is));

@@ -14,14 +14,14 @@ returns-in-Ok-clause-file g c =
     record {
       told = λ w ts is tell held.
           let left = ok_filled _ c.args.settings.now.params.now ts _ _ _ c.in-Ok.is (fills.left ts tell held) in
-          finishes.told _ ts w left.0 (c.put_texts.ensures.world ∙ is) left.1 left.2;
+          finishes.told _ ts w left.0 (c.return_texts.ensures.world ∙ is) left.1 left.2;
       order = λ held.
           let left = ok_holds _ _ _ c.in-Ok.is fills.shut held in
           let ordered = finishes.order left.0 left.1 in
           (ordered.0, ordered.1, ordered.2 left.2.0 left.2.1);
       crash = λ w ts is tell held.
           let left = ok_filled _ c.args.settings.now.params.now ts _ _ _ c.in-Ok.is (fills.left ts tell held) in
-          finishes.crash _ ts w left.0 (c.put_texts.ensures.world ∙ is) left.1 left.2;
+          finishes.crash _ ts w left.0 (c.return_texts.ensures.world ∙ is) left.1 left.2;
     }
 
 pub returns-in-Err-clause-file : goal.returns-in-Err-clause-file
@@ -29,7 +29,7 @@ returns-in-Err-clause-file g c =
     let fills = c.fill_file-disk.ensures in
     record {
       told = λ w ts is tell held.
-          unfilled_told _ c.args.settings.now.params.now ts w _ _ c.in-Err.error (c.put_texts.ensures.world ∙ is)
+          unfilled_told _ c.args.settings.now.params.now ts w _ _ c.in-Err.error (c.return_texts.ensures.world ∙ is)
           (err_why _ c.args.settings.now.params.now ts _ _ c.in-Err.is (fills.why ts tell))
           (err_left _ c.args.settings.now.params.now ts _ _ _ c.in-Err.is (fills.left ts tell held));
       order = fills.order;
@@ -40,6 +40,6 @@ returns-in-Err-clause-file g c =
 
 pub returns-in-Err-clause-cause : goal.returns-in-Err-clause-cause
 returns-in-Err-clause-cause g c = record {
-  later = c.put_texts.ensures.later;
-  failed = λ is. either_failed _ _ _ _ _ _ c.in-Err.is c.fill_file-disk.ensures.failed c.put_texts.ensures.failed (cc is);
+  later = c.return_texts.ensures.later;
+  failed = λ is. either_failed _ _ _ _ _ _ c.in-Err.is c.fill_file-disk.ensures.failed c.return_texts.ensures.failed (cc is);
 }

@@ -36,8 +36,8 @@ loop-name-preserved g c =
 pub returns-in-Err-clause-asks : goal.returns-in-Err-clause-asks
 returns-in-Err-clause-asks g c = record {
   asked = asked_refused _ c.in-Err.refused c.args.names.now c.loop-name.name-index _ _ _ _ _ c.loop-name-test.true
-      c.loop-name.invariant.0.asked c.in-Err.ensures.opens.asks.failed c.in-Err.ensures.opens.asks.memory c.put_texts.ensures.asked;
-  world = c.put_texts.ensures.world ∙ (c.in-Err.ensures.opens.world ∙ c.loop-name.invariant.0.world);
+      c.loop-name.invariant.0.asked c.in-Err.ensures.opens.asks.failed c.in-Err.ensures.opens.asks.memory c.return_texts.ensures.asked;
+  world = c.return_texts.ensures.world ∙ (c.in-Err.ensures.opens.world ∙ c.loop-name.invariant.0.world);
 }
 
 pub returns-in-Err-clause-rest : goal.returns-in-Err-clause-rest
@@ -45,7 +45,7 @@ returns-in-Err-clause-rest g c =
     let so-far = c.loop-name.invariant in (
       tt,
       record {
-        err_faults = c.put_texts.ensures.err_faults ∙ (c.in-Err.ensures.opens.asks.err_faults ∙ so-far.0.err_faults);
-        opened = omega (arith, c.put_texts.ensures.opened, c.in-Err.ensures.opens.asks.refused, so-far.0.opened, so-far.0.count);
+        err_faults = c.return_texts.ensures.err_faults ∙ (c.in-Err.ensures.opens.asks.err_faults ∙ so-far.0.err_faults);
+        opened = omega (arith, c.return_texts.ensures.opened, c.in-Err.ensures.opens.asks.refused, so-far.0.opened, so-far.0.count);
       },
     )

@@ -29,7 +29,7 @@ invariant_of-self g c =
     let context : c.args.context ≤ c.self.inside.contexts = omega (arith, ap (λ v. v.birth.contexts) c.self.view_is, c.requires.context) in
     (claim_spoiled g.D.Disk.state _ _ _ _ c.self.invariant c.keeps.ensures _ _ g.D.Ext.Ext.state c.args.context c.args.claim own context
     (g.met.D.Ext.Ext.sized c.args.claim.ext)
-    c.faults-faults.result _ _ c.spoil.ensures.book c.requires.failed.0 c.requires.failed.1 c.settle.ensures c.put_back.ensures
+    c.faults-faults.result _ _ c.spoil.ensures.book c.requires.failed.0 c.requires.failed.1 c.settle.ensures c.return_pen.ensures
     c.faults-faults.ensures c.faults-faults.type_inv).0.after
 
 pub returns-clause-step : goal.returns-clause-step
@@ -41,7 +41,7 @@ returns-clause-step g c =
     step_from g.D.Disk.state _ _ _ c.self.view_is
     (claim_spoiled g.D.Disk.state _ _ _ _ c.self.invariant c.keeps.ensures _ _ g.D.Ext.Ext.state c.args.context c.args.claim own context
     (g.met.D.Ext.Ext.sized c.args.claim.ext)
-    c.faults-faults.result _ _ c.spoil.ensures.book c.requires.failed.0 c.requires.failed.1 c.settle.ensures c.put_back.ensures
+    c.faults-faults.result _ _ c.spoil.ensures.book c.requires.failed.0 c.requires.failed.1 c.settle.ensures c.return_pen.ensures
     c.faults-faults.ensures c.faults-faults.type_inv).0
 
 pub returns-clause-spoils : goal.returns-clause-spoils
@@ -53,5 +53,5 @@ returns-clause-spoils g c =
     spoils_from g.D.Disk.state _ _ _ c.self.view_is c.args.context c.args.claim.cluster
     (claim_spoiled g.D.Disk.state _ _ _ _ c.self.invariant c.keeps.ensures _ _ g.D.Ext.Ext.state c.args.context c.args.claim own context
     (g.met.D.Ext.Ext.sized c.args.claim.ext)
-    c.faults-faults.result _ _ c.spoil.ensures.book c.requires.failed.0 c.requires.failed.1 c.settle.ensures c.put_back.ensures
+    c.faults-faults.result _ _ c.spoil.ensures.book c.requires.failed.0 c.requires.failed.1 c.settle.ensures c.return_pen.ensures
     c.faults-faults.ensures c.faults-faults.type_inv).1

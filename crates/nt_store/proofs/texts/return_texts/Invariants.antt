@@ -1,7 +1,7 @@
 use Rattle.std.proofs.Common.{map, length}
 use Rattle.nt_outside.specs.World.{HostState}
 use Rattle.nt_store.specs.Worlds.{PutsTexts}
-use Rattle.nt_store.proofs.texts.put_texts.Given as goal
+use Rattle.nt_store.proofs.texts.return_texts.Given as goal
 
 abbrev pub invariant-loop-host : goal.invariant-loop-host
 invariant-loop-host g l = (new : HostState) → PutsTexts (map g.H.Text.Source.state l.texts.items) (g.H.Host.state l.host) new
