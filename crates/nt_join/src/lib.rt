@@ -27,7 +27,7 @@ mod counting;
 mod ends;
 mod fault;
 mod join;
-mod number;
+pub mod number;
 mod open;
 pub mod reading;
 mod steps;

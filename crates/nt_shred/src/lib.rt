@@ -41,17 +41,17 @@
 #![tactic(auto)]
 
 mod ascii;
-mod counting;
+pub mod counting;
 mod entry;
-mod growing;
+pub mod growing;
 mod integer_items;
-mod integers;
+pub mod integers;
 mod leaves;
 mod line;
 mod most;
 mod optional;
 mod parts;
-mod pushing;
+pub mod pushing;
 mod putting;
 mod room;
 mod values;
