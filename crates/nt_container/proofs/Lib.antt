@@ -3,6 +3,7 @@ pub mod HeaderBack
 pub mod KeysBack
 pub mod AnchorBack
 pub mod Lengths
+pub mod OutlineBack
 pub mod FinishedBack
 pub mod Gate
 pub mod Texts

@@ -24,8 +24,8 @@ use Rattle.nt_event.specs.Entry.{entry_of, or_misfit, parts_len}
 use Rattle.nt_types.specs.Spelling.{deepest_kind, deepest_part}
 use Rattle.nt_types.specs.Spelling as spelling
 use Rattle.nt_event.specs.declared.fault.TextKind.TheVariants.{Count}
-use Rattle.nt_event.proofs.Texts.{parts-fit, each-range, each-shallow}
-use Rattle.nt_event.proofs.Steps.{data_is}
+use Rattle.nt_event.proofs.GoodValues.{parts-fit, each-range, each-shallow}
+use Rattle.nt_event.proofs.Entries.{data_is}
 
 text_deep : (b : Bool) (s : List ℕ) → depth (outline (if b then string s else hex_data s)) ≤ 1
 text_deep true s = omega arith

@@ -7,9 +7,11 @@ pub mod WordNumber
 pub mod Plain
 pub mod Lexing
 pub mod InStrings
+pub mod GoodValues
 pub mod Texts
 pub mod ViewLemmas
 pub mod Steps
+pub mod Entries
 pub mod Fast
 pub mod Prints
 pub mod LineSteps

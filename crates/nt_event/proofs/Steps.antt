@@ -1,22 +1,22 @@
 -- The slow reading, a step at a time.
 use Rattle.std.proofs.Common.{◌≡◌, ℕ, zero, suc, ◌+◌, ◌^◌, ◌/◌, ◌<◌, ◌≤◌, nat_lt, nat_eq, ◌⊎◌, inl, inr, List, [], ◌∷◌, ◌++◌, length, map}
-use Rattle.std.proofs.Common.{drop, get_or, Bool, true, false, Option, Some, None, option_map, option_and_then, codes, refl, sym, ap, ◌∙◌}
+use Rattle.std.proofs.Common.{drop, get_or, true, Option, Some, None, option_map, option_and_then, codes, refl, sym, ap, ◌∙◌}
 use Rattle.std.proofs.Common.{arith, if◌then◌else◌, rules}
 use Rattle.std.proofs.lemmas.Bool.{lt-ltb, le-ltb, ne_eqb, eq-eqb, cases_lt}
 use Rattle.std.proofs.lemmas.List.{drop_more}
 use Rattle.std.proofs.lemmas.Nat.{pow_pos, le-div}
 use Rattle.std.proofs.Math.Pow.{pow_mono}
 use Rattle.std.proofs.Math.Nat.{div-eq_of_lt}
-use Rattle.serde_json.specs.Data.{Data, null, boolean, number, string, array, object, Items, Members}
+use Rattle.serde_json.specs.Data.{Data, object, Items, Members}
 use Rattle.serde_json.specs.Find.{as_object, as_array, as_str, get, get_member}
-use Rattle.serde_json.specs.Events.{members_len, items_len}
+use Rattle.serde_json.specs.Events.{members_len}
 use Rattle.serde_json.specs.View.{view, items_view, members_view}
 use Rattle.serde_json.specs.declared.value.Value.{Value}
 use Rattle.nt_types.specs.ShapeData.{ShapeData}
 use Rattle.nt_types.specs.ShapeData as kinds
 use Rattle.nt_types.specs.TreeData as trees
 use Rattle.nt_types.specs.TreeData.{TreesData, tree, no_trees, pick}
-use Rattle.nt_event.specs.Line.{tree_read, all_read, next_read, none_read, ok_of, one_read, pick_read, tag_read, text_read, hex_read}
+use Rattle.nt_event.specs.Line.{tree_read, all_read, ok_of, one_read, pick_read, tag_read, text_read, hex_read}
 use Rattle.nt_event.specs.Line as lines
 use Rattle.nt_types.specs.TreeData.{trees_of}
 use Rattle.nt_types.specs.ShapeData.{kinds_of, parts_of}
@@ -24,14 +24,10 @@ use Rattle.nt_types.specs.Views as views
 use Rattle.nt_types.specs.declared.shape.Shape.{Shape}
 use Rattle.nt_types.specs.declared.shape.Member.{Member}
 use Rattle.nt_types.proofs.ShapeViews.{member_view-of}
-use Rattle.nt_event.specs.Entry.{trees_then, entry_of, data_entry, json_entry, items_entry, or_misfit, parts_len}
-use Rattle.nt_event.specs.declared.fault.TextKind.TheVariants.{TooLong, NotJson, NotArray, Count}
-use Rattle.std.specs.Str.{IsUtf8, is_utf8}
-use Rattle.std.specs.Prelude.{Ok, Err, String}
+use Rattle.nt_event.specs.Entry.{trees_then}
+use Rattle.std.specs.Prelude.{Ok, String}
 use Rattle.std.proofs.Common.{Global}
 use Rattle.hex.specs.Hex.{decode_of}
-use Rattle.std.proofs.lemmas.Str.{IsUtf8-from_is_utf8, is_utf8-from_IsUtf8}
-use Rattle.serde_json.specs.Read.{read}
 
 -- ---- widths
 
@@ -164,61 +160,6 @@ high_bits n bits = go (cases_lt n (2 ^ bits))
     go (inl h) = ap (λ q. nat_eq q 0) (div-eq_of_lt h) ∙ sym (lt-ltb n (2 ^ bits) h)
     go (inr h) = let big : 1 ≤ n / 2 ^ bits = le-div 1 n (2 ^ bits) (pow_pos bits) (omega (arith, h)) in
         ne_eqb (n / 2 ^ bits) 0 (λ e. omega (arith, e, big)) ∙ sym (le-ltb n (2 ^ bits) h)
-
--- ---- lines
-
-pub data_is : (F : kinds.MembersData) (bytes : List ℕ) (d : Data) → length bytes ≤ 2 ^ 24 → IsUtf8 bytes → read bytes ≡ Some d
-    → entry_of F bytes ≡ data_entry F d
-data_is F bytes d few utf8 is =
-    ap (λ b. if b then Err TooLong else (if is_utf8 bytes then json_entry F (read bytes) else Err NotJson))
-    (le-ltb (2 ^ 24) (length bytes) few)
-    ∙ ap (λ b. if b then json_entry F (read bytes) else Err NotJson) (is_utf8-from_IsUtf8 bytes utf8)
-    ∙ ap (json_entry F) is
-
-pub no_data : (F : kinds.MembersData) (bytes : List ℕ) → length bytes ≤ 2 ^ 24 → (IsUtf8 bytes → read bytes ≡ None)
-    → entry_of F bytes ≡ Err NotJson
-no_data F bytes few none =
-    ap (λ b. if b then Err TooLong else (if is_utf8 bytes then json_entry F (read bytes) else Err NotJson))
-    (le-ltb (2 ^ 24) (length bytes) few)
-    ∙ go (is_utf8 bytes) refl
-  where
-    go : (b : Bool) → is_utf8 bytes ≡ b → (if b then json_entry F (read bytes) else Err NotJson) ≡ Err NotJson
-    go true e = ap (json_entry F) (none (IsUtf8-from_is_utf8 bytes e))
-    go false e = refl
-
-pub no_array : (F : kinds.MembersData) (d : Data) → None ≡ as_array d → data_entry F d ≡ Err NotArray
-no_array F (array ds) h = search (rules, h)
-no_array F null h = refl
-no_array F (boolean b) h = refl
-no_array F (number n) h = refl
-no_array F (string s) h = refl
-no_array F (object ms) h = refl
-
-pub an_array : (F : kinds.MembersData) (d : Data) (ds : Items) → Some ds ≡ as_array d → data_entry F d ≡ items_entry F ds
-an_array F (array es) ds h = search (rules, h)
-an_array F null ds h = search (rules, h)
-an_array F (boolean b) ds h = search (rules, h)
-an_array F (number n) ds h = search (rules, h)
-an_array F (string s) ds h = search (rules, h)
-an_array F (object ms) ds h = search (rules, h)
-
-count_items : (xs : List Value) → items_len (items_view xs) ≡ length xs
-count_items [] = refl
-count_items (x ∷ xs) = ap suc (count_items xs)
-
-count_parts : (ps : List kinds.MemberData) → parts_len (parts_of ps) ≡ length ps
-count_parts [] = refl
-count_parts (p ∷ ps) = ap suc (count_parts ps)
-
-pub other_count : (ps : List kinds.MemberData) (xs : List Value) → (length xs ≡ length ps → ⊥)
-    → items_entry (parts_of ps) (items_view xs) ≡ Err Count
-other_count ps xs h = ap (λ b. if b then or_misfit (lines.parts_read (parts_of ps) (items_view xs)) else Err Count)
-    (ne_eqb (items_len (items_view xs)) (parts_len (parts_of ps)) (λ e. h (sym (count_items xs) ∙ e ∙ count_parts ps)))
-
-pub same_count : (ps : List kinds.MemberData) (xs : List Value) → length xs ≡ length ps
-    → items_entry (parts_of ps) (items_view xs) ≡ or_misfit (lines.parts_read (parts_of ps) (items_view xs))
-same_count ps xs h = ap (λ b. if b then or_misfit (lines.parts_read (parts_of ps) (items_view xs)) else Err Count)
-    (eq-eqb (items_len (items_view xs)) (parts_len (parts_of ps)) (count_items xs ∙ h ∙ sym (count_parts ps)))
 
 -- ---- choices and lists
 

@@ -1,27 +1,27 @@
 -- Values that stand one after the other.
-use Rattle.std.proofs.Common.{arith, ◌≡◌, ℕ, zero, suc, ◌+◌, ◌^◌, ◌≤◌, ◌<◌, List, [], ◌∷◌, ◌++◌, length, drop, get_or, Bool, true, false}
+use Rattle.std.proofs.Common.{arith, ◌≡◌, ℕ, suc, ◌+◌, ◌^◌, ◌≤◌, ◌<◌, List, [], ◌∷◌, ◌++◌, length, drop, get_or, Bool, true, false}
 use Rattle.std.proofs.Common.{refl, sym, ap, ◌∙◌, append_assoc, append-nil, decimal, ℤ}
-use Rattle.std.proofs.Math.Nat.{max-le}
 use Rattle.std.proofs.lemmas.List.{drop_all}
 use Rattle.json.specs.Token.{Token, begin_array, end_array}
 use Rattle.json.specs.Lex.{lex, between, fresh, after_value, after_comma, begins_colon, punctuate, tokens}
 use Rattle.json.specs.Json as json
 use Rattle.json.specs.Word.{ends_word}
-use Rattle.json.specs.Tree.{json_tokens, items_tokens, items_depth}
+use Rattle.json.specs.Tree.{json_tokens, items_tokens}
 use Rattle.json.proofs.Printed.Decimals.{IsNumber-decimal}
-use Rattle.nt_types.specs.ShapeData.{ShapeData, ShapesData, MemberData, parts_of, no_kinds, kind}
+use Rattle.nt_types.specs.ShapeData.{ShapeData, ShapesData, MemberData, parts_of}
 use Rattle.nt_types.specs.ShapeData as kinds
 use Rattle.nt_types.specs.TreeData.{TreeData, flag, num, text, items, parts, pick, nothing}
-use Rattle.nt_types.specs.Fits.{fits, fit_kinds, fit_parts, fits_one, all_trees, is_int}
+use Rattle.nt_types.specs.Fits.{fits, fits_one, is_int}
 use Rattle.hex.specs.Hex.{IsBytes}
 use Rattle.serde_json.specs.Written.{compact_text, number_text}
-use Rattle.nt_event.specs.Json.{data_of, num_data, InWord, AllInRange}
+use Rattle.nt_event.specs.Json.{data_of, num_data, InWord}
 use Rattle.nt_types.specs.TreeData.{trees_of}
 use Rattle.nt_types.specs.ShapeData.{kinds_of}
 use Rattle.nt_event.specs.Standing.{StandsFrom, tokens_from, EndsValue, ValueStands, ItemsStand, CommaStands, MayStand, BlanksStand}
-use Rattle.nt_event.specs.Standing.{json_of, jsons_of, Good, ReadsValue, AllGood, EachGood, kinds_in}
+use Rattle.nt_event.specs.Standing.{json_of, jsons_of, ReadsValue, AllGood, EachGood, kinds_in}
 use Rattle.nt_event.proofs.Lexing.{opens, closes-fresh, closes-value, ends-at, number-stands, true-stands, false-stands, null-stands}
 use Rattle.nt_event.proofs.ReadBack.{number_is}
+use Rattle.nt_event.proofs.GoodValues.{all-fit, all-range, all-shallow, each-fit, each-range, each-shallow, one-fits, parts-fit}
 
 -- ---- items without their brackets
 
@@ -88,62 +88,6 @@ array-stands js t at first end begin rest = record {
   within = rest.within;
   some = omega (arith, begin.some, rest.some);
 }
-
--- ---- values of a list, and of several kinds
-
-pub all-next : (n : ℕ) (k : ShapeData) (vs : List TreeData) (w : TreeData) → AllGood n k vs → Good n k w → AllGood n k (vs ++ w ∷ [])
-all-next n k [] w h g = (g, tt)
-all-next n k (v ∷ vs) w h g = (h.0, all-next n k vs w h.1 g)
-
-pub each-next : (n : ℕ) (ks : List ShapeData) (k : ShapeData) (vs : List TreeData) (w : TreeData) → EachGood n ks vs → Good n k w
-    → EachGood n (ks ++ k ∷ []) (vs ++ w ∷ [])
-each-next n [] k [] w h g = (g, tt)
-each-next n (j ∷ ks) k (v ∷ vs) w h g = (h.0, each-next n ks k vs w h.1 g)
-each-next n [] k (v ∷ vs) w h g = absurd h
-each-next n (j ∷ ks) k [] w h g = absurd h
-
-all-fit : (n : ℕ) (k : ShapeData) (vs : List TreeData) → AllGood n k vs → all_trees (fits k) (trees_of vs) ≡ true
-all-fit n k [] h = refl
-all-fit n k (v ∷ vs) h = rw (h.0.fit, all-fit n k vs h.1) refl
-
-all-range : (n : ℕ) (k : ShapeData) (vs : List TreeData) → AllGood n k vs → AllInRange (trees_of vs)
-all-range n k [] h = tt
-all-range n k (v ∷ vs) h = (h.0.range, all-range n k vs h.1)
-
-all-shallow : (n : ℕ) (k : ShapeData) (vs : List TreeData) → AllGood n k vs → items_depth (jsons_of (trees_of vs)) ≤ n
-all-shallow n k [] h = omega arith
-all-shallow n k (v ∷ vs) h = max-le h.0.shallow (all-shallow n k vs h.1)
-
-pub each-fit : (n : ℕ) (ks : List ShapeData) (vs : List TreeData) → EachGood n ks vs → fit_kinds (kinds_of ks) (trees_of vs) ≡ true
-each-fit n [] [] h = refl
-each-fit n (k ∷ ks) (v ∷ vs) h = rw (h.0.fit, each-fit n ks vs h.1) refl
-each-fit n [] (v ∷ vs) h = absurd h
-each-fit n (k ∷ ks) [] h = absurd h
-
-pub each-range : (n : ℕ) (ks : List ShapeData) (vs : List TreeData) → EachGood n ks vs → AllInRange (trees_of vs)
-each-range n [] [] h = tt
-each-range n (k ∷ ks) (v ∷ vs) h = (h.0.range, each-range n ks vs h.1)
-each-range n [] (v ∷ vs) h = absurd h
-each-range n (k ∷ ks) [] h = absurd h
-
-pub each-shallow : (n : ℕ) (ks : List ShapeData) (vs : List TreeData) → EachGood n ks vs → items_depth (jsons_of (trees_of vs)) ≤ n
-each-shallow n [] [] h = omega arith
-each-shallow n (k ∷ ks) (v ∷ vs) h = max-le h.0.shallow (each-shallow n ks vs h.1)
-each-shallow n [] (v ∷ vs) h = absurd h
-each-shallow n (k ∷ ks) [] h = absurd h
-
-pub parts-fit : (n : ℕ) (ps : List MemberData) (vs : List TreeData) → EachGood n (kinds_in ps) vs
-    → fit_parts (parts_of ps) (trees_of vs) ≡ true
-parts-fit n [] [] h = refl
-parts-fit n (p ∷ ps) (v ∷ vs) h = rw (h.0.fit, parts-fit n ps vs h.1) refl
-parts-fit n [] (v ∷ vs) h = absurd h
-parts-fit n (p ∷ ps) [] h = absurd h
-
-one-fits : (ks : List ShapeData) (i : ℕ) (k : ShapeData) (v : TreeData) → i < length ks → fits (get_or ks i k) v ≡ true
-    → fits_one (kinds_of ks) (suc i) v ≡ true
-one-fits [] i k v lt h = absurd (omega arith)
-one-fits (j ∷ ks) zero k v lt h = h
-one-fits (j ∷ ks) (suc i) k v lt h = one-fits ks i k v (omega arith) h
 
 -- ---- the cases
 

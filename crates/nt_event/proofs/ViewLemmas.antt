@@ -1,10 +1,10 @@
 -- What is seen of trees and shapes.
 use Rattle.std.proofs.Common.{rules, Vec, Box, Global, ◌≡◌, ℕ, List, map, not, length, nat_eq, get_or, take, ◌<◌, ◌+◌, ◌++◌, zero, suc}
-use Rattle.std.proofs.Common.{refl, sym, ap, ◌∙◌, arith, [], ◌∷◌}
+use Rattle.std.proofs.Common.{refl, sym, ap, subst, ◌∙◌, arith, [], ◌∷◌}
 use Rattle.std.proofs.lemmas.Bool.{ne_eqb}
-use Rattle.nt_types.specs.TreeData.{trees_of, items, parts}
+use Rattle.nt_types.specs.TreeData.{TreeData, trees_of, items, parts}
 use Rattle.nt_types.specs.TreeViews.{tree_view}
-use Rattle.nt_types.specs.ShapeData.{kinds_of, parts_of}
+use Rattle.nt_types.specs.ShapeData.{ShapeData, kinds_of, parts_of}
 use Rattle.nt_types.specs.ShapeData as kinds
 use Rattle.nt_types.specs.Views.{shape_view, member_view, members_view}
 use Rattle.nt_types.specs.declared.tree.Tree.{Tree, the_lemmas as tree_lemmas}
@@ -15,7 +15,7 @@ use Rattle.nt_types.specs.declared.shape.Shapes.{Shapes}
 use Rattle.nt_types.specs.declared.shape.Member.{Member}
 use Rattle.nt_types.specs.declared.shape.Members.{Members}
 use Rattle.nt_types.proofs.ShapeViews.{member_view-of}
-use Rattle.nt_event.specs.Standing.{kinds_in}
+use Rattle.nt_event.specs.Standing.{ReadsValue, kinds_in}
 use Rattle.nt_event.proofs.Texts.{are_some}
 
 pub some_views : (ts : List Tree) → are_some (map tree_view ts) ≡ not (nat_eq (length ts) 0)
@@ -63,3 +63,11 @@ pub nth-shape : (ks : List Shape) (i : ℕ) (k : Shape) → i < length ks → k 
 nth-shape [] i k lt is = absurd (omega arith)
 nth-shape (j ∷ ks) zero k lt is = ap shape_view is
 nth-shape (j ∷ ks) (suc i) k lt is = nth-shape ks i k (omega arith) is
+
+-- what stands is read as a shape and a tree that are seen so
+pub seen-as : (n m : ℕ) (k j : ShapeData) (v w : TreeData) (text : List ℕ) (at end : ℕ) → n ≡ m → k ≡ j → v ≡ w
+    → ReadsValue m j w text at end → ReadsValue n k v text at end
+seen-as n m k j v w text at end deep shape tree read =
+    subst (λ (l : ℕ). ReadsValue l k v text at end) (sym deep)
+    (subst (λ (i : ShapeData). ReadsValue m i v text at end) (sym shape)
+    (subst (λ (u : TreeData). ReadsValue m j u text at end) (sym tree) read))

@@ -4,4 +4,5 @@ pub mod Emptied
 pub mod Entries
 pub mod Images
 pub mod Passes
+pub mod Gains
 mod Ranges

@@ -1,12 +1,12 @@
 -- What a pass knows after its holds of the turn.
 use Rattle.std.proofs.Common.{◌≡◌, ◌∙◌, ap, sym, refl, ℕ, ◌+◌, ◌-◌, ◌≤◌, true, List, [], ◌∷◌, ◌++◌, length, drop, Option, Some, None, subst}
-use Rattle.std.proofs.Common.{append_assoc, append-nil, arith, inl, inr}
+use Rattle.std.proofs.Common.{append-nil, arith, inl, inr}
 use Rattle.std.proofs.lemmas.Bool.{false≢true}
 use Rattle.std.proofs.lemmas.List.{length-append, length-drop}
 use Rattle.std.specs.Prelude.{◌≢◌, Result, Ok, Err, OnOk, is_ok, slice_get}
 use mathlib.Core.List.{IsPrefix}
 use Rattle.nt_lists.proofs.Variants.{some_is}
-use Rattle.nt_turn.specs.Pass.{TurnState, PassState}
+use Rattle.nt_turn.specs.Pass.{TurnState}
 use Rattle.nt_turn.proofs.Prefixes.{prefix_more}
 use Rattle.nt_outside.specs.Range.{ExtState, PenState}
 use Rattle.nt_outside.specs.declared.range.Range.{Range}
@@ -30,14 +30,9 @@ use Rattle.nt_commit.specs.Claims.{HasLooked, IsClaimOf, RefusalAdds, CommitAdds
 use Rattle.nt_commit.specs.Holds.{IsPassOf, HasNoneOut, IsHold, AddsInHold, CommitsInHold, SpoilsInHold}
 use Rattle.nt_commit.specs.Lists.{NextPlace, limit_at}
 use Rattle.nt_commit.specs.Locked.{LockedState, book_of_birth, history_of_locked}
-use Rattle.nt_fill.specs.Passes.{KeepsCount, gained, Gains, MeetsFault, SpoilsRange, NamesLimit, WritesImage}
-use Rattle.nt_fill.proofs.Ranges.{last_got, new_range, ranges-committed, settled_in, spoiled_in, faulted_in}
-
-abbrev Pass : Type 0 → Type 0
-Pass D = PassState (Entry ClusterMeta) (Birth D)
-
-pub prefix_then : (xs ys zs : List (Entry ClusterMeta)) → IsPrefix xs ys → IsPrefix ys zs → IsPrefix xs zs
-prefix_then xs ys zs p q = subst (λ (l : List (Entry ClusterMeta)). IsPrefix xs l) q.1 (prefix_more xs ys q.0 p)
+use Rattle.nt_fill.specs.Passes.{KeepsCount, Gains, MeetsFault, SpoilsRange, NamesLimit, WritesImage}
+use Rattle.nt_fill.proofs.Ranges.{last_got, new_range, ranges-committed, settled_in}
+use Rattle.nt_fill.proofs.Gains.{Pass, gains_twice, none_after, number_after, own_after, prefix_then}
 
 -- the bytes that an extent tells, where the disk told what it held
 pub told_bytes : (held : Option Held) (content : Option (List ℕ)) (bytes : List ℕ) → WhereHeld held (λ h. content ≡ Some bytes)
@@ -84,38 +79,6 @@ limit_nothing tell held was is n start meta (Err (FileTooLarge end most)) l name
 limit_nothing tell held was is n start meta (Err TooManyClusters) l named added adds = adds
 limit_nothing tell held was is n start meta (Err Memory) l named added adds = absurd (cc named)
 limit_nothing tell held was is n start meta (Err Fault) l named added adds = absurd (cc named)
-
-module _ {D : Type 0} where
-  -- two gains are one
-  pub gains_twice : (one two : List (Entry ClusterMeta)) (old mid new : Pass D) → Gains one old mid → Gains two mid new
-      → Gains (one ++ two) old new
-  gains_twice one two old mid new g h = record {
-    seen = prefix_then old.seen mid.seen new.seen g.seen h.seen;
-    now = h.now ∙ (ap (λ (p : Pass D). gained p new.seen two) g.now ∙ ap (λ (l : List (Entry ClusterMeta)). record old {
-      seen = new.seen;
-      own = l;
-    }) (append_assoc old.own one two));
-  }
-
-  pub own_after : (added : List (Entry ClusterMeta)) (old new : Pass D) → Gains added old new → new.own ≡ old.own ++ added
-  own_after added old new g = ap (λ (p : Pass D). p.own) g.now
-
-  pub number_after : (added : List (Entry ClusterMeta)) (old new : Pass D) → Gains added old new → new.number ≡ old.number
-  number_after added old new g = ap (λ (p : Pass D). p.number) g.now
-
-  pub none_after : (added : List (Entry ClusterMeta)) (old new : Pass D) → Gains added old new → HasNoneOut (old.own ++ added)
-      → HasNoneOut new.own
-  none_after added old new g none = subst (λ (l : List (Entry ClusterMeta)). HasNoneOut l) (sym (own_after added old new g)) none
-
-  -- a fault leaves no range out
-  pub fault_in : (old new : Pass D) → HasNoneOut old.own → MeetsFault old new → HasNoneOut new.own
-  fault_in old new none f = none_after _ old new f.gains (faulted_in old.own old.number f.faults none)
-
-  pub spoil_in : (meta : ClusterMeta) (old new : Pass D) → HasNoneOut old.own → SpoilsRange meta old new → HasNoneOut new.own
-  spoil_in meta old new none s = none_after _ old new s.gains (spoiled_in old.own old.number s.cluster s.start meta.len meta s.faults none)
-
-  pub kept_in : (old new : Pass D) → HasNoneOut old.own → Gains [] old new → HasNoneOut new.own
-  kept_in old new none g = none_after [] old new g (subst (λ (l : List (Entry ClusterMeta)). HasNoneOut l) (sym (append-nil old.own)) none)
 
 module _ {D : Type 0} (state : D → DiskState) (committer : TurnState (Birth D)) where
   pub gains_by : (taken given : LockedState D) (added : List (Entry ClusterMeta)) (old new : Pass D)
@@ -185,7 +148,7 @@ module _ {D : Type 0} (state : D → DiskState) (committer : TurnState (Birth D)
     }
 
     module _ (claim : Claim X) (c : CommitsInHold state tell committer meta old mid (Ok claim)) (is : meta.context ≡ old.number) where
-      abbrev start : ℕ
+      abbrev pub start : ℕ
       start = c.commits.place.before + c.commits.place.due
 
       -- the pass gained the claim's cluster

@@ -1,9 +1,8 @@
 -- What a pass knows after a cluster was written, or wasn't.
-use Rattle.std.specs.Prelude.{ℕ, ◌≡◌, ◌≢◌, ◌-◌, ◌⊎◌, false, true, List, [], ◌∷◌, ◌++◌, length, drop, Option, Some, None, IsSome}
+use Rattle.std.specs.Prelude.{ℕ, ◌≡◌, ◌≢◌, ◌-◌, ◌⊎◌, false, List, [], ◌∷◌, ◌++◌, length, drop, Option, Some, None, IsSome}
 use Rattle.std.specs.Prelude.{Result, Err, IsErrOf}
 use mathlib.Core.List.{IsPrefix}
 use Rattle.nt_turn.specs.Pass.{TurnState, PassState}
-use Rattle.nt_outside.specs.Held.{Held, WhereHeld}
 use Rattle.nt_outside.specs.Range.{ExtState, PenState}
 use Rattle.nt_outside.specs.Disk.{DiskState}
 use Rattle.nt_container.specs.Spelling.{blob_key}

@@ -10,4 +10,5 @@ pub mod Stored
 pub mod Written
 pub mod Back
 pub mod Told
+pub mod Printed
 pub mod Joined

@@ -1,6 +1,7 @@
 pub mod Parts
 pub mod PagesBack
 pub mod ColumnsBack
+pub mod SummariesBack
 pub mod ClustersBack
 pub mod GroupsBack
 pub mod FootersBack

@@ -7,13 +7,16 @@ pub mod Indices
 pub mod Columns
 pub mod ColumnLists
 pub mod Clusters
+pub mod SummaryFrames
 pub mod Summaries
 pub mod Conditions
 pub mod PageLists
+pub mod Links
 pub mod Groups
 pub mod Words
 pub mod FieldRows
 pub mod ColumnRows
+pub mod RowLists
 pub mod Descriptions
 pub mod Headers
 pub mod Footers

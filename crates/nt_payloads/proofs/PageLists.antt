@@ -19,7 +19,8 @@ use Rattle.nt_payloads.specs.Conditions.{with_lists, IsPageList}
 use Rattle.nt_payloads.proofs.Texts.{Opens, Both, part_bytes, seq_open}
 use Rattle.nt_payloads.proofs.Tests.{tested, map_open, Word64, word64}
 use Rattle.nt_payloads.proofs.Clusters.{AllFit, InClusters, clusters_are}
-use Rattle.nt_payloads.proofs.Summaries.{SummaryIs, InSummaries, summaries}
+use Rattle.nt_payloads.proofs.Summaries.{InSummaries, summaries}
+use Rattle.nt_payloads.proofs.SummaryFrames.{SummaryIs}
 use Rattle.nt_payloads.proofs.Conditions.{behind, summaries_from, all_fit, len_fit, sum_fit}
 
 -- the checksum of the header

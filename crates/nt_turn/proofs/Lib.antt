@@ -5,6 +5,8 @@ pub mod Stages
 pub mod Histories
 pub mod Members
 pub mod Moves
+pub mod Allowed
+pub mod Splits
 pub mod Passes
 pub mod Opening
 pub mod Closing

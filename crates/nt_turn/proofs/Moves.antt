@@ -10,7 +10,7 @@ use mathlib.Core.Option.{Option as Maybe, some, none, some-injective, some-ne-no
 use mathlib.Core.List.{IsPrefix}
 use lib.ListN.{get_elem?}
 use prog.Atomic.{either}
-use Rattle.atomic_table.specs.Table.{State, Me, Act, Valid, Allows, Splits, Joins, step, keeps, takes, gives, homes_after, carried_after}
+use Rattle.atomic_table.specs.Table.{State, Me, Act, Valid, Allows, step, keeps, takes, gives, homes_after, carried_after}
 use Rattle.atomic_table.specs.Table.{rest}
 use Rattle.atomic_table.proofs.Lists.{set_again}
 use Rattle.nt_turn.specs.declared.view.Stage.{Stage}
@@ -18,16 +18,13 @@ use Rattle.nt_turn.specs.declared.view.Stage.TheVariants.{Idle, Waiting, Holding
 use Rattle.nt_turn.specs.declared.view.View.{View}
 use Rattle.nt_turn.specs.Tickets.{ticket_of, IsHome, Ordered}
 use Rattle.nt_turn.specs.History.{entries_of, longer}
-use Rattle.nt_turn.specs.View.{spent, split_off, after_split, joined, IsAt, stages}
-use Rattle.nt_turn.specs.Steps.{Drew, Looked, Holds, Gave, Learned, HoldsNothing, IsWaiting, IsHolding}
-use Rattle.nt_turn.specs.Pass.{Adds, pass_state}
-use Rattle.atomic_table.specs.Seated.{TableId}
+use Rattle.nt_turn.specs.View.{IsAt, stages}
+use Rattle.nt_turn.specs.Steps.{Drew, Looked, Holds, Gave, Learned}
 use Rattle.nt_turn.specs.Rule.{Knows, Histories, InTurn}
-use Rattle.nt_turn.proofs.Tickets.{drawn, taken, given, widened}
-use Rattle.nt_turn.proofs.Stages.{stages_set, stages_snoc, stage_at}
+use Rattle.nt_turn.proofs.Tickets.{drawn, taken, given}
+use Rattle.nt_turn.proofs.Stages.{stages_set, stage_at}
 use Rattle.nt_turn.proofs.Prefixes.{prefix_longer, prefix_none}
 use Rattle.nt_turn.proofs.Histories.{moved, gave}
-use Rattle.nt_turn.proofs.Members.{split, join}
 
 -- the slot of a pass that took one
 pub one_slot : {A : Type 0} (l : List (ℕ × A)) (y : A) → l ≡ (0, y) ∷ [] → l ≡ (0, y) ∷ rest l
@@ -228,83 +225,3 @@ module _ {V E B : Type 0} (history : V → List E) (born : V → B) (context : E
   learns slots id v live idle s kept len at fits =
       subst (Goes id (v, []) 1 (λ n. n) (Learned (step slots 1 0 0 none) (v, [])) s.homes s.views) (sym kept.2)
       (learn_goes slots id kept.0 kept.1 s.homes s.views kept.3 kept.4 v (at, live) Idle idle (λ t e. cc e))
-
-  -- a change that keeps the stage keeps the stages
-  same_stages : (views : List (View E B)) (id : ℕ) (v w : View E B) → get_elem? views id ≡ some v → w.stage ≡ v.stage
-      → stages (set views id w) ≡ stages views
-  same_stages views id v w at same = stages_set views id w
-      ∙ (ap (λ (t : Stage). set (stages views) id t) same ∙ set_again (stages views) id v.stage (stage_at views id v at))
-
-  pub splits : (id : ℕ) (v : View E B) → v.live ≡ true → v.number ≡ seats → v.splits < seats
-      → Splits Rule id v (after_split v) (split_off v)
-  splits id v live one room s kept at =
-      let there : stages (set s.views id (after_split v)) ≡ stages s.views = same_stages s.views id v (after_split v) at refl in
-      let all : stages s.views ++ Idle ∷ [] ≡ stages (set s.views id (after_split v) ++ split_off v ∷ []) =
-      ap (λ (l : List Stage). l ++ Idle ∷ []) (sym there) ∙ sym (stages_snoc (set s.views id (after_split v)) (split_off v)) in
-      let tickets = subst (λ (l : List Stage). Ordered kept.0 kept.1 s.homes l) all
-      (widened kept.0 kept.1 s.homes (stages s.views) kept.3 0) in
-      (kept.0, kept.1, kept.2, tickets, split history born context birth seats s.homes s.views kept.4 id v (at, live) one room)
-
-  pub joins : (id other : ℕ) (v w : View E B) → v.live ≡ true → w.live ≡ true → v.number ≡ seats → w.stage ≡ Idle
-      → Joins Rule id v other w (joined v w) spent
-  joins id other v w live hers one idle s kept at off there =
-      let first : stages (set s.views id (joined v w)) ≡ stages s.views = same_stages s.views id v (joined v w) at refl in
-      let all : stages (set (set s.views id (joined v w)) other spent) ≡ stages s.views =
-      same_stages (set s.views id (joined v w)) other w spent there (sym idle) ∙ first in
-      let tickets = subst (λ (l : List Stage). Ordered kept.0 kept.1 s.homes l) (sym all) kept.3 in (
-        kept.0,
-        kept.1,
-        kept.2,
-        tickets,
-        join history born context birth seats s.homes s.views kept.4 id v (at, live) one other w
-            off (there, hers),
-      )
-
-  pub me_draws : (slots id old : ℕ) (me : Me (Option V) (View E B)) → HoldsNothing me → old + 1 < 2 ^ 64
-      → Allows Rule slots id me 0 (λ n. either (n == old) (old + 1) n) (Drew (step slots 0 old (old + 1) none) me)
-  me_draws slots id old me idle room =
-      subst (λ (m : Me (Option V) (View E B)). Allows Rule slots id m 0 (λ n. either (n == old) (old + 1) n)
-      (Drew (step slots 0 old (old + 1) none) m))
-      (ap (λ (l : List (ℕ × Option V)). (me.0, l)) (sym idle.none)) (draws slots id old me.0 idle.live idle.stage room)
-
-  pub me_looks : (slots id t : ℕ) (me : Me (Option V) (View E B)) → IsWaiting t me
-      → Allows Rule slots id me 1 (λ n. n) (Looked history born context (step slots 1 0 0 none) me)
-  me_looks slots id t me waits =
-      subst (λ (m : Me (Option V) (View E B)). Allows Rule slots id m 1 (λ n. n) (Looked history born context (step slots 1 0 0 none) m))
-      (ap (λ (l : List (ℕ × Option V)). (me.0, l)) (sym waits.none)) (looks slots id t me.0 waits.live waits.stage)
-
-  pub me_learns : (slots id : ℕ) (me : Me (Option V) (View E B)) → HoldsNothing me
-      → Allows Rule slots id me 1 (λ n. n) (Learned (step slots 1 0 0 none) me)
-  me_learns slots id me idle =
-      subst (λ (m : Me (Option V) (View E B)). Allows Rule slots id m 1 (λ n. n) (Learned (step slots 1 0 0 none) m))
-      (ap (λ (l : List (ℕ × Option V)). (me.0, l)) (sym idle.none)) (learns slots id me.0 idle.live idle.stage)
-
-  -- what is asked of a pass that has put a value into its slot
-  pub put_gives : (slots id : ℕ) (turn : TableId) (old me : Me (Option V) (View E B)) (x : V) → IsHolding old
-      → Adds context (pass_state turn old.0) (history x) → old.0.birth ≡ Some (born x)
-      → me ≡ (old.0, (0, Some x) ∷ rest old.1)
-      → Allows Rule slots id me 1 (λ n. (n + 1) % 2 ^ 64) (Gave history context (step slots 1 1 0 none) me)
-  put_gives slots id turn old me x holding adds birth_is is =
-      let none_more : rest old.1 ≡ [] = ap rest holding.out in
-      let at : me ≡ (old.0, (0, Some x) ∷ []) = is ∙ ap (λ (l : List (ℕ × Option V)). (old.0, (0, Some x) ∷ l)) none_more in
-      subst (λ (m : Me (Option V) (View E B)). Allows Rule slots id m 1 (λ n. (n + 1) % 2 ^ 64)
-      (Gave history context (step slots 1 1 0 none) m)) (sym at)
-      (gives_back slots id holding.ticket old.0 x adds.more holding.live holding.stage adds.whole adds.ours birth_is)
-
-  pub me_splits : (id : ℕ) (me : Me (Option V) (View E B)) → HoldsNothing me → me.0.number ≡ seats → me.0.splits < seats
-      → Splits Rule id me.0 (after_split me.0) (split_off me.0)
-  me_splits id me idle one room = splits id me.0 idle.live one room
-
-  pub me_joins : (id other : ℕ) (me her : Me (Option V) (View E B)) → HoldsNothing me → HoldsNothing her → me.0.number ≡ seats
-      → Joins Rule id me.0 other her.0 (joined me.0 her.0) spent
-  me_joins id other me her idle hers one = joins id other me.0 her.0 idle.live hers.live one hers.stage
-
-  pub me_learns_joined : (slots id : ℕ) (old : Me (Option V) (View E B)) (w : View E B) (me : Me (Option V) (View E B)) → HoldsNothing old
-      → me ≡ (joined old.0 w, old.1)
-      → Allows Rule slots id me 1 (λ n. n) (Learned (step slots 1 0 0 none) me)
-  me_learns_joined slots id old w me idle is =
-      me_learns slots id me (subst (λ (m : Me (Option V) (View E B)). HoldsNothing m) (sym is) (record {
-        live = idle.live;
-        stage = idle.stage;
-        none = idle.none;
-      }))

@@ -7,7 +7,7 @@ use Rattle.nt_types.specs.TreeViews.{tree_view}
 use Rattle.nt_types.specs.TreeData.{TreeData, trees_of}
 use Rattle.nt_event.specs.Line as lines
 use Rattle.nt_event.specs.Entry.{or_misfit}
-use Rattle.nt_event.proofs.Steps.{data_is, no_data, no_array, an_array, other_count, same_count}
+use Rattle.nt_event.proofs.Entries.{data_is, no_data, no_array, an_array, other_count, same_count}
 use Rattle.nt_event.proofs.entry.read_value.Goals as goal
 
 pub returns-in_default : goal.returns-in_default

@@ -11,10 +11,11 @@ use Rattle.nt_types.specs.declared.shape.Shape.{the_lemmas as shape_lemmas}
 use Rattle.nt_types.specs.declared.tree.Tree.{Tree, the_lemmas as tree_lemmas}
 use Rattle.nt_types.specs.declared.tree.Tree as trees
 use Rattle.nt_event.specs.Standing.{StandsFrom, MayStand, ItemsStand, ReadsValue, AllGood, EachGood, jsons_of, kinds_in}
-use Rattle.nt_event.proofs.Texts.{OpenStands, are_some, open-next, open-end, comma-some, all-next, each-next, reads-list, reads-record}
+use Rattle.nt_event.proofs.Texts.{OpenStands, are_some, open-next, open-end, comma-some, reads-list, reads-record}
+use Rattle.nt_event.proofs.GoodValues.{all-next, each-next}
 use Rattle.nt_event.proofs.Texts.{reads-tuple, reads-pick, reads-null, reads-no_value, may-past}
 use Rattle.nt_event.proofs.ViewLemmas.{some_views, next-shapes, nth-shape, view-Items, view-Parts, view-List, view-Rec, view-Tuple}
-use Rattle.nt_event.proofs.ViewLemmas.{next-members, length-kinds_in}
+use Rattle.nt_event.proofs.ViewLemmas.{next-members, length-kinds_in, seen-as}
 use Rattle.nt_types.proofs.TreeViews.{view-Pick}
 use Rattle.nt_event.proofs.scan.+value.Goals as goal
 
@@ -64,10 +65,8 @@ items-loop-next-init t c =
 
 pub items-returns-in-Some-clause-stands : goal.items-returns-in-Some-clause-stands
 items-returns-in-Some-clause-stands t c =
-    let text = c.args.text.now in
-    let at = c.args.at in
-    subst (λ (vs : List Tree). ItemsStand (jsons_of (trees_of (map tree_view vs))) text at c.in-Some.end) (sym c.new.ensures.items)
-    (open-end text at at c.in-Some.end [] (omega arith) refl c.in-Some.ensures)
+    subst (λ (vs : List Tree). ItemsStand (jsons_of (trees_of (map tree_view vs))) c.args.text.now c.args.at c.in-Some.end)
+    (sym c.new.ensures.items) (open-end c.args.text.now c.args.at c.args.at c.in-Some.end [] (omega arith) refl c.in-Some.ensures)
 
 pub items-returns-in-Some-after-clause-stands : goal.items-returns-in-Some-after-clause-stands
 items-returns-in-Some-after-clause-stands t c =
@@ -168,12 +167,9 @@ value-returns-in-Some-2 t c =
     let good : AllGood deep (shape_view k.value) (map tree_view vs.items) = search (rules, e.good, c.in-Some-2.is, c.deref.ensures) in
     let read = reads-list deep (shape_view k.value) (map tree_view vs.items) text c.args.at c.in-Some.first end c.in-Some.ensures.bracket
     so good in
-    subst (λ n. ReadsValue n (shape_view c.args.shape.now) (tree_view (trees.Items (record { list = vs }))) text c.args.at end)
-    (sym c.in-Some.ensures.deep)
-    (subst (λ j. ReadsValue (deep + 1) (shape_view j) (tree_view (trees.Items (record { list = vs }))) text c.args.at end)
-    (sym c.in-List.is)
-    (subst (λ j. ReadsValue (deep + 1) j (tree_view (trees.Items (record { list = vs }))) text c.args.at end) (sym (view-List k))
-    (subst (λ v. ReadsValue (deep + 1) (kinds.list (shape_view k.value)) v text c.args.at end) (sym (view-Items vs)) read)))
+    seen-as c.args.deep (deep + 1) (shape_view c.args.shape.now) (kinds.list (shape_view k.value))
+    (tree_view (trees.Items (record { list = vs }))) _ text c.args.at end c.in-Some.ensures.deep
+    (ap shape_view c.in-List.is ∙ view-List k) (view-Items vs) read
 
 pub value-returns-in-Some-3 : goal.value-returns-in-Some-3
 value-returns-in-Some-3 t c =
@@ -189,11 +185,9 @@ value-returns-in-Some-3 t c =
     search (rules, shape_lemmas, e.good, c.in-Some-3.is, c.deref-in-Rec.ensures.value) in
     let read = reads-record deep (members_view ms) (map tree_view vs.items) text c.args.at c.in-Some-open.first end
     c.in-Some-open.ensures.bracket so good in
-    subst (λ n. ReadsValue n (shape_view c.args.shape.now) (tree_view (trees.Parts (record { list = vs }))) text c.args.at end)
-    (sym c.in-Some-open.ensures.deep)
-    (subst (λ j. ReadsValue (deep + 1) (shape_view j) (tree_view (trees.Parts (record { list = vs }))) text c.args.at end) (sym c.in-Rec.is)
-    (subst (λ j. ReadsValue (deep + 1) j (tree_view (trees.Parts (record { list = vs }))) text c.args.at end) (sym (view-Rec ms))
-    (subst (λ v. ReadsValue (deep + 1) (kinds.fields (parts_of (members_view ms))) v text c.args.at end) (sym (view-Parts vs)) read)))
+    seen-as c.args.deep (deep + 1) (shape_view c.args.shape.now) (kinds.fields (parts_of (members_view ms)))
+    (tree_view (trees.Parts (record { list = vs }))) _ text c.args.at end c.in-Some-open.ensures.deep
+    (ap shape_view c.in-Rec.is ∙ view-Rec ms) (view-Parts vs) read
 
 pub value-returns-in-Some-4 : goal.value-returns-in-Some-4
 value-returns-in-Some-4 t c =
@@ -209,13 +203,9 @@ value-returns-in-Some-4 t c =
     search (rules, e.good, c.in-Some-4.is, c.deref-in-Tuple.ensures.value) in
     let read = reads-tuple deep (map shape_view ks.list.items) (map tree_view vs.items) text c.args.at c.in-Some-open-2.first end
     c.in-Some-open-2.ensures.bracket so good in
-    subst (λ n. ReadsValue n (shape_view c.args.shape.now) (tree_view (trees.Parts (record { list = vs }))) text c.args.at end)
-    (sym c.in-Some-open-2.ensures.deep)
-    (subst (λ j. ReadsValue (deep + 1) (shape_view j) (tree_view (trees.Parts (record { list = vs }))) text c.args.at end)
-    (sym c.in-Tuple.is)
-    (subst (λ j. ReadsValue (deep + 1) j (tree_view (trees.Parts (record { list = vs }))) text c.args.at end) (sym (view-Tuple ks))
-    (subst (λ v. ReadsValue (deep + 1) (kinds.tuple (kinds_of (map shape_view ks.list.items))) v text c.args.at end) (sym (view-Parts vs))
-    read)))
+    seen-as c.args.deep (deep + 1) (shape_view c.args.shape.now) (kinds.tuple (kinds_of (map shape_view ks.list.items)))
+    (tree_view (trees.Parts (record { list = vs }))) _ text c.args.at end c.in-Some-open-2.ensures.deep
+    (ap shape_view c.in-Tuple.is ∙ view-Tuple ks) (view-Parts vs) read
 
 pub value-returns-in-Some-null : goal.value-returns-in-Some-null
 value-returns-in-Some-null t c =
@@ -255,7 +245,6 @@ picked-returns t c =
     let read = reads-pick deep ks tag i (shape_view of) (tree_view c.in-Some-2.tree) text c.args.at first c.in-Some-number.i next last end
     (omega (arith, some)) (omega (arith, lt, length-map c.args.shapes.now shape_view)) (nth-shape c.args.shapes.now i of lt nth) small
     c.in-Some.ensures.bracket number c.in-Some-comma.ensures value c.in-Some-after.ensures in
-    subst (λ n. ReadsValue n (kinds.choice (kinds_of ks)) (tree_view (trees.Pick tag c.in_ok-new.field-0)) text c.args.at end)
-    (sym c.in-Some.ensures.deep)
-    (subst (λ v. ReadsValue (deep + 1) (kinds.choice (kinds_of ks)) v text c.args.at end)
-    (sym (view-Pick tag c.in_ok-new.field-0 ∙ ap (λ (u : Tree). pick tag (tree_view u)) c.in_ok-new.ensures.ok)) read)
+    seen-as c.args.deep (deep + 1) (kinds.choice (kinds_of ks)) (kinds.choice (kinds_of ks))
+    (tree_view (trees.Pick tag c.in_ok-new.field-0)) _ text c.args.at end c.in-Some.ensures.deep refl
+    (view-Pick tag c.in_ok-new.field-0 ∙ ap (λ (u : Tree). pick tag (tree_view u)) c.in_ok-new.ensures.ok) read

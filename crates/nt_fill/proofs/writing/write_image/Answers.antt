@@ -1,15 +1,14 @@
-use Rattle.std.proofs.Common.{◌≡◌, ◌∙◌, ◌≤◌, ap, sym, refl, subst, true, length, inl, inr, Option, Some, None, [], append-nil}
+use Rattle.std.proofs.Common.{◌≡◌, ◌∙◌, ◌≤◌, ap, sym, refl, subst, length, inl, inr, Option, Some, None, [], append-nil}
 use Rattle.std.proofs.lemmas.Result.{err_from_is_err_and}
 use Rattle.std.specs.Prelude.{Ok, Err}
-use Rattle.nt_outside.specs.Held.{WhereHeld}
 use Rattle.nt_pages.specs.declared.image.ClusterImage.{ClusterImage}
 use Rattle.nt_book.specs.declared.limits.LimitError.{LimitError}
-use Rattle.nt_commit.specs.declared.locked.Birth.{Birth}
 use Rattle.nt_commit.specs.declared.error.CommitError.{CommitError}
 use Rattle.nt_commit.specs.declared.error.CommitError.TheVariants.{Fault, Memory}
 use Rattle.nt_commit.specs.Claims.{limit_answered}
 use Rattle.nt_commit.specs.Holds.{CommitsInHold}
-use Rattle.nt_fill.proofs.Passes.{claim_is, writes, spoils, names, kept_by, fault_by, pass_after, writes_in, spoil_in, adds_seen}
+use Rattle.nt_fill.proofs.Passes.{claim_is, writes, spoils, names, kept_by, fault_by, pass_after, writes_in, adds_seen}
+use Rattle.nt_fill.proofs.Gains.{spoil_in}
 use Rattle.nt_fill.proofs.Passes.{spoils_seen, keyed_length}
 use Rattle.nt_fill.proofs.writing.write_image.Goals as goal
 

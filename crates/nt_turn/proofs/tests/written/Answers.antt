@@ -1,4 +1,4 @@
-use Rattle.std.proofs.Common.{◌≡◌, ap}
+use Rattle.std.proofs.Common.{ap}
 use Rattle.nt_turn.proofs.Joining.{all_joined}
 use Rattle.nt_turn.proofs.tests.written.Goals as goal
 

@@ -1,5 +1,5 @@
 use Rattle.std.proofs.Common.{arith, ◌<◌}
-use Rattle.nt_turn.proofs.Moves.{me_draws}
+use Rattle.nt_turn.proofs.Allowed.{me_draws}
 use Rattle.nt_turn.proofs.wait.try_draw.Goals as goal
 
 pub compare_exchange-found-requires : goal.compare_exchange-found-requires

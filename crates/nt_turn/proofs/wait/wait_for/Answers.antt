@@ -1,6 +1,6 @@
 use Rattle.std.proofs.Common.{arith, ◌<◌, ◌∙◌, sym, subst}
 use Rattle.nt_turn.specs.Steps.{IsWaiting}
-use Rattle.nt_turn.proofs.Moves.{me_looks}
+use Rattle.nt_turn.proofs.Allowed.{me_looks}
 use Rattle.nt_turn.proofs.wait.wait_for.Goals as goal
 
 pub load-served-requires : goal.load-served-requires

@@ -1,4 +1,4 @@
-use Rattle.std.proofs.Common.{◌≡◌, ◌∙◌, ◌+◌, ◌<◌, ap, sym, refl, subst, suc, true, [], length, append-nil, arith, MatchBool}
+use Rattle.std.proofs.Common.{◌≡◌, ◌∙◌, ◌+◌, ◌<◌, ap, sym, refl, subst, suc, [], length, append-nil, arith, MatchBool}
 use Rattle.nt_types.specs.TreeData.{trees_of}
 use Rattle.nt_grammar.specs.Open.{open_shapes}
 use Rattle.nt_column.specs.Column.{columns_of}

@@ -1,6 +1,6 @@
 use Rattle.std.proofs.Common.{arith, ◌<◌, ◌∙◌, ap, sym, subst}
 use Rattle.nt_turn.specs.Pass.{Adds}
-use Rattle.nt_turn.proofs.Moves.{put_gives}
+use Rattle.nt_turn.proofs.Allowed.{put_gives}
 use Rattle.nt_turn.proofs.Passes.{holder_of}
 use Rattle.nt_turn.proofs.turn.Turn.give.Goals as goal
 

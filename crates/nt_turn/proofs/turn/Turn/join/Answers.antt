@@ -1,5 +1,5 @@
 use Rattle.std.proofs.Common.{arith, ◌<◌, ◌∙◌}
-use Rattle.nt_turn.proofs.Moves.{me_joins, me_learns_joined}
+use Rattle.nt_turn.proofs.Allowed.{me_joins, me_learns_joined}
 use Rattle.nt_turn.proofs.Passes.{free_of, first_of}
 use Rattle.nt_turn.proofs.turn.Turn.join.Goals as goal
 

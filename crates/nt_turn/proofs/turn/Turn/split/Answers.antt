@@ -1,5 +1,5 @@
 use Rattle.std.proofs.Common.{arith, ◌<◌}
-use Rattle.nt_turn.proofs.Moves.{me_splits}
+use Rattle.nt_turn.proofs.Allowed.{me_splits}
 use Rattle.nt_turn.proofs.Passes.{first_of, room_of}
 use Rattle.nt_turn.proofs.turn.Turn.split.Goals as goal
 
