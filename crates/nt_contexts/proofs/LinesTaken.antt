@@ -27,7 +27,8 @@ use Rattle.nt_contexts.proofs.Reading.{read-end}
 use Rattle.nt_contexts.proofs.BadLines.{read-nothing}
 use Rattle.nt_contexts.proofs.Chunking.{chunks-full, chunks-none, chunks-last}
 use Rattle.nt_contexts.proofs.Committing.{committed-none}
-use Rattle.nt_contexts.proofs.Writing.{written_by, is_written, same_context, committed_written, halts-such}
+use Rattle.nt_contexts.proofs.Writing.{written_by, is_written, same_context, committed_written}
+use Rattle.nt_contexts.proofs.Unwritten.{halts-such}
 use Rattle.nt_contexts.proofs.TakenLines.{same-trans}
 use Rattle.nt_contexts.proofs.Lines.{ends_halted}
 

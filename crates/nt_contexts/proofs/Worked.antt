@@ -31,13 +31,12 @@ use Rattle.nt_contexts.specs.Answers.{refusal_told, answer_from}
 use Rattle.nt_contexts.specs.Seating.{kept_by, all_kept, seat_sources, HasBeenSeen, IsLettingIn, HasLetIn, LeaveAll, TurnsBack, AreNewSeats}
 use Rattle.nt_contexts.specs.Working.{KeepsFaults, CommittedBefore, StopsAtLine, WorkTold, HasWorked, HaveRun}
 use Rattle.nt_contexts.specs.Working.KeepsFaults.{of_first, of_kept}
-use Rattle.nt_contexts.proofs.Opens.{let-in-so-far, same-later}
-use Rattle.nt_contexts.proofs.Ran.{AreNumbered, Before, numbered-joined, SomeFaulty, run-numbered, run-none_out, run-later, run-count}
-use Rattle.nt_contexts.proofs.Ran.{run-blamed}
-use Rattle.nt_contexts.proofs.Ran.{run-wrote, run-committed, run-sound, run-bad, run-passes, new-numbered, new-none_out, new-later}
-
-abbrev Kept : Type 0
-Kept = List (ℕ × List (Entry ClusterMeta))
+use Rattle.nt_contexts.proofs.Opens.{same-later}
+use Rattle.nt_contexts.proofs.LettingIn.{let-in-so-far}
+use Rattle.nt_contexts.proofs.Kept.{Kept, AreNumbered, Before, numbered-joined, SomeFaulty}
+use Rattle.nt_contexts.proofs.Ran.{run-numbered, run-none_out, run-later, run-count, run-blamed, run-wrote, run-committed}
+use Rattle.nt_contexts.proofs.RanTexts.{run-sound, run-bad, run-passes}
+use Rattle.nt_contexts.proofs.NewSeats.{new-numbered, new-none_out, new-later}
 
 module _ {D : Type 0} (committer : TurnState (Birth D)) where
   -- a first pass that gained these lists

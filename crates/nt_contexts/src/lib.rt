@@ -3,9 +3,9 @@
 //! Start at `run_contexts` in `run.rt`. It makes a committer over the disk and the book, lets a context in for each source
 //! (`opening.rt`), runs them (`run_all` in `seats.rt`), lets them go (`leaving.rt`), and ends the committer (`ending.rt`).
 //! Each seat has the lines of one input, a pass and a pen, and is the job of a worker (nt_pool), which makes a fill context of the last
-//! two, runs it to its end and takes it apart again, so that no fill context goes to another thread. A context takes line by line
-//! (`running.rt`, `taking.rt`): a line's entry is gathered, and written as a cluster with those before it once they are enough; the
-//! rest is written at the end. It goes on to its own end, whatever the others do.
+//! two, runs it to its end and takes it apart again (`run` of the job in `seats.rt`), so that no fill context goes to another thread.
+//! A context takes line by line (`running.rt`, `taking.rt`): a line's entry is gathered, and written as a cluster with those before it
+//! once they are enough; the rest is written at the end. It goes on to its own end, whatever the others do.
 //!
 //! Words: a context is *let in* when it gets its seat, with the lines of its source, a pass and a pen; it *leaves* when its pass is
 //! joined, its pen goes back and its source is taken out; the *first pass* is that of the committer, to which all others are joined.

@@ -1,11 +1,9 @@
 //! Contexts that run beside each other.
 
-ghost use Rattle.std.specs.Prelude.{◌≡◌, ◌<◌, ◌≤◌, ◌+◌, ℕ, [], Some, None, All, IfOk, IfErr, map, vec_len, vec_capacity, slice_index_or};
+ghost use Rattle.std.specs.Prelude.{◌≡◌, ◌<◌, ◌≤◌, ℕ, [], All, IfOk, IfErr, vec_len, vec_capacity, slice_index_or};
 ghost use Rattle.std.specs.List.{AllByRecursion};
 ghost use Rattle.nt_types.specs.Views.{members_view};
-ghost use Rattle.nt_commit.specs.Holds.{IsPassOf};
 ghost use Rattle.nt_pool.specs.Pool.{AreNumbered};
-ghost use Rattle.nt_contexts.specs.Reading.{left_of};
 ghost use Rattle.nt_contexts.specs.Seats.{IsSchemaFor, IsFreshSeat, Ran};
 ghost use Rattle.nt_contexts.specs.Jobs.{seats_in, IsContextOf};
 
@@ -19,7 +17,6 @@ use nt_fill::FillContext;
 use nt_outside::{Disk, Gate, Source};
 use nt_pool::{Job, run_pool};
 use nt_turn::Pass;
-use std::mem;
 use std::sync::Wait;
 use std::thread::Threads;
 
@@ -45,80 +42,6 @@ pub(crate) struct Context<'a, C, T, G> {
 /// A context over a disk.
 pub(crate) type ContextOf<'a, D, S, G> = Context<'a, Committer<D>, SeatOf<D, S>, G>;
 
-/// Puts back what was taken out.
-fn restore<T>(place: &mut Option<T>, value: Option<T>)
-    requires { place.old ≡ None }
-    ensures { place.new ≡ value }
-{
-    match mem::replace(place, value) {
-        None => {}
-        Some(_other) => unreachable!(),
-    }
-}
-
-/// A context from its first line to its last. Its pass comes back, and its pen unless that failed.
-fn run_context<D: Disk, S: Source, G: Gate>(
-    rt: &impl Wait,
-    committer: &Committer<D>,
-    shared: &Shared<'_, G>,
-    lines: &mut LineReader<S>,
-    pass: Pass<Locked<D>>,
-    pen: D::Pen,
-) -> (Pass<Locked<D>>, Option<D::Pen>, Result<(), ContextError>)
-    requires schema { IsSchemaFor committer.now (members_view shared.now.fields.now) shared.now.params.now.plain shared.now.schema.now }
-    requires pass { IsPassOf committer.now pass × (pass.own ≡ []) }
-    requires first { (left_of S.state lines.old).number ≡ 0 }
-    ensures { Ran D.state S.state (members_view shared.now.fields.now) shared.now.schema.now shared.now.params.now committer.now
-        record { lines = lines.old; pass = Some pass; pen = Some pen; ended = result.2 }
-        record { lines = lines.new; pass = Some result.0; pen = result.1; ended = result.2 } }
-{
-    match FillContext::new(
-        shared.alloc,
-        committer,
-        shared.schema,
-        shared.params,
-        pass,
-        pen,
-    ) {
-        Ok(mut fill) => {
-            let ended = read_all(
-                rt,
-                shared.alloc,
-                shared.gate,
-                shared.fields,
-                lines,
-                &mut fill,
-            );
-            let (pass, pen) = fill.end();
-            (pass, pen, ended)
-        }
-        Err((pass, pen, _)) => (pass, Some(pen), Err(ContextError::Memory)),
-    }
-}
-
-/// Runs the context of a seat.
-fn run_one<D: Disk, S: Source, G: Gate>(
-    rt: &impl Wait,
-    committer: &Committer<D>,
-    shared: &Shared<'_, G>,
-    seat: &mut SeatOf<D, S>,
-)
-    requires schema { IsSchemaFor committer.now (members_view shared.now.fields.now) shared.now.params.now.plain shared.now.schema.now }
-    requires fresh { IsFreshSeat S.state committer.now seat.old }
-    ensures { Ran D.state S.state (members_view shared.now.fields.now) shared.now.schema.now shared.now.params.now committer.now
-        seat.old seat.new }
-{
-    match (seat.pass.take(), seat.pen.take()) {
-        (Some(pass), Some(pen)) => {
-            let (pass, pen, ended) = run_context(rt, committer, shared, &mut seat.lines, pass, pen);
-            restore(&mut seat.pass, Some(pass));
-            restore(&mut seat.pen, pen);
-            seat.ended = ended;
-        }
-        (_pass, _pen) => unreachable!(),
-    }
-}
-
 impl<'a, D: Disk, S: Source, G: Gate> Job for Context<'a, Committer<D>, SeatOf<D, S>, G> {
     ghost use Rattle.nt_types.specs.Views.{members_view};
     ghost use Rattle.nt_contexts.specs.Seats.{IsSchemaFor, IsFreshSeat, Ran};
@@ -137,15 +60,43 @@ impl<'a, D: Disk, S: Source, G: Gate> Job for Context<'a, Committer<D>, SeatOf<D
         self.number
     }
 
+    /// A context from its first line to its last. Its pass comes back, and its pen unless that failed.
     fn run<R: Wait>(self, rt: &R) -> SeatOf<D, S> {
         let Context {
             number: _,
-            mut seat,
+            seat,
             committer,
             shared,
         } = self;
-        run_one(rt, committer, shared, &mut seat);
-        seat
+        let Seat {
+            mut lines,
+            pass,
+            pen,
+            ended: _,
+        } = seat;
+        let (pass, pen) = match (pass, pen) {
+            (Some(pass), Some(pen)) => (pass, pen),
+            (_pass, _pen) => unreachable!(),
+        };
+        let (alloc, schema, params) = (shared.alloc, shared.schema, shared.params);
+        match FillContext::new(alloc, committer, schema, params, pass, pen) {
+            Ok(mut fill) => {
+                let ended = read_all(rt, shared, &mut lines, &mut fill);
+                let (pass, pen) = fill.end();
+                Seat {
+                    lines,
+                    pass: Some(pass),
+                    pen,
+                    ended,
+                }
+            }
+            Err((pass, pen, _)) => Seat {
+                lines,
+                pass: Some(pass),
+                pen: Some(pen),
+                ended: Err(ContextError::Memory),
+            },
+        }
     }
 }
 

@@ -11,6 +11,7 @@ ghost use Rattle.nt_contexts.specs.Filling.{IsFor, IsOpen, HasTaken};
 ghost use Rattle.nt_contexts.specs.Taking.{IsEntryError, WritesChunk, WritesFull, TakesTextLine};
 
 use crate::error::ContextError;
+use crate::shared::Shared;
 use nt_event::{Line, TextError, blank, read_line, spelled_trees_are_read};
 use nt_fill::FillContext;
 use nt_outside::{Disk, Gate};
@@ -72,25 +73,23 @@ fn write_full<D: Disk, G: Gate>(
 /// gathered once that is a whole cluster.
 pub(crate) fn take_line<D: Disk, G: Gate>(
     rt: &impl Wait,
-    alloc: Global,
-    gate: &G,
-    fields: &Fields,
+    shared: &Shared<'_, G>,
     fill: &mut FillContext<'_, D>,
     line: &Line,
 ) -> Result<(), ContextError>
-    requires fields { IsFor (members_view fields.now) fill.old }
+    requires fields { IsFor (members_view shared.now.fields.now) fill.old }
     requires is_open { IsOpen fill.old }
     ensures { (entries : List TreesData) → HasTaken D.state entries fill.old
-        → TakesTextLine D.state (parts_of (members_view fields.now)) entries line.now fill.old fill.new result }
+        → TakesTextLine D.state (parts_of (members_view shared.now.fields.now)) entries line.now fill.old fill.new result }
 {
     if blank(line.bytes.as_slice()) {
         return Ok(());
     }
     if fill.fill_line(line.bytes.as_slice()) {
         spelled_trees_are_read();
-        return write_full(rt, gate, fill);
+        return write_full(rt, shared.gate, fill);
     }
-    let trees = entry_of(alloc, fields, line)?;
+    let trees = entry_of(shared.alloc, shared.fields, line)?;
     fill.fill(&trees)?;
-    write_full(rt, gate, fill)
+    write_full(rt, shared.gate, fill)
 }

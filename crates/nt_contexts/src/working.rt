@@ -1,10 +1,9 @@
 //! Contexts that come in, run beside each other and leave.
 
-ghost use Rattle.std.specs.Prelude.{◌≡◌, ◌+◌, ◌≤◌, ◌<◌, List, [], map, vec_len, vec_capacity};
+ghost use Rattle.std.specs.Prelude.{◌≡◌, ◌+◌, ◌≤◌, ◌<◌, [], map, vec_len, vec_capacity};
 ghost use Rattle.std.specs.List.{AllByRecursion};
 ghost use Rattle.nt_types.specs.Views.{members_view};
-ghost use Rattle.nt_outside.specs.Source.{SourceState};
-ghost use Rattle.nt_contexts.specs.Seating.{HasLetIn, CanLeave, TurnsBack, AreNewSeats, CanRun, MayWork};
+ghost use Rattle.nt_contexts.specs.Seating.{HasLetIn, CanLeave, TurnsBack, MayWork};
 ghost use Rattle.nt_contexts.specs.Working.{HasWorked};
 
 use crate::error::{RunError, refusal_of};
@@ -43,45 +42,6 @@ fn turn_back<D: Disk, S: Source>(
     back
 }
 
-/// Runs the contexts in these seats to their ends, and lets them go.
-fn run_and_leave<R, D, S, G>(
-    rt: &R,
-    committer: &Committer<D>,
-    first: &mut Pass<Locked<D>>,
-    shared: &Shared<'_, G>,
-    seats: Vec<SeatOf<D, S>>,
-    back: Vec<S>,
-) -> (Vec<S>, Result<(), RunError>)
-where
-    R: Threads + Wait + Sync,
-    D: Disk + Send,
-    D::Pen: Send,
-    D::Ext: Send,
-    S: Source + Send,
-    G: Gate + Sync,
-    requires workers { (0 < shared.now.workers) × (shared.now.workers ≤ 64) }
-    requires run { CanRun committer.now S.state (members_view shared.now.fields.now) shared.now.schema.now shared.now.params.now
-        seats.items first.old }
-    requires room { (back.items ≡ []) × (vec_len seats ≤ vec_capacity back) }
-    ensures { (states : List SourceState) → AreNewSeats committer.now S.state 0 states seats.items
-        → HasWorked D.state (members_view shared.now.fields.now) shared.now.schema.now shared.now.params.now committer.now
-        states (map S.state result.0.items) first.new result.1 }
-{
-    match run_all(rt, committer, shared, seats) {
-        Ok(seats) => {
-            let mut back = back;
-            let clusters = shared.params.limits.clusters;
-            let answer = leave_all(rt, committer, clusters, first, seats, &mut back);
-            (back, answer)
-        }
-        Err(seats) => {
-            let none = Vec::new(shared.alloc);
-            let back = turn_back(rt, committer, first, seats, none, back);
-            (back, Err(RunError::Memory))
-        }
-    }
-}
-
 /// Lets a context in for each source, runs them beside each other and lets them go. The sources come back in their order.
 pub(crate) fn work<R, D, S, G>(
     rt: &R,
@@ -110,13 +70,23 @@ where
     };
     let mut sources = sources;
     match open_all(rt, alloc, committer, first, &mut sources, &mut seats) {
-        Ok(()) => {
-            sources.destroy_empty();
-            run_and_leave(rt, committer, first, shared, seats, back)
-        }
+        Ok(()) => {}
         Err(refused) => {
             let back = turn_back(rt, committer, first, seats, sources, back);
-            (back, Err(refusal_of(refused)))
+            return (back, Err(refusal_of(refused)));
+        }
+    }
+    match run_all(rt, committer, shared, seats) {
+        Ok(seats) => {
+            sources.destroy_empty();
+            let mut back = back;
+            let clusters = shared.params.limits.clusters;
+            let answer = leave_all(rt, committer, clusters, first, seats, &mut back);
+            (back, answer)
+        }
+        Err(seats) => {
+            let back = turn_back(rt, committer, first, seats, sources, back);
+            (back, Err(RunError::Memory))
         }
     }
 }

@@ -6,11 +6,11 @@ ghost use Rattle.std.specs.List.{AllByRecursion};
 ghost use Rattle.crossbeam_queue.specs.Passes.{view, IsPassOf, ruled_capacity};
 ghost use Rattle.nt_pool.specs.Rule.{hand, all_parts};
 ghost use Rattle.nt_pool.specs.Done.{Works, IsSameWorker};
-ghost use Rattle.nt_pool.specs.Pool.{AreNumbered, AreDone, IsWorker, IsRoomFor, IsRoom};
+ghost use Rattle.nt_pool.specs.Pool.{AreNumbered, AreDone, IsWorker, IsRoomFor};
 
 use crate::job::Job;
 use crate::placing::in_order;
-use crate::room::{Room, RoomOf, take_room};
+use crate::room::{Room, take_room};
 use crate::rule::{Cuts, Line, LinePass, Puts, Takes};
 use crate::work::{Answer, Worker, WorkerOf, work};
 use std::alloc::{AllocError, Global};
@@ -131,42 +131,6 @@ fn join_all<J: Job>(line: &Line<J>, own: &mut WorkerOf<J>, seats: Vec<WorkerOf<J
     seats.destroy_empty();
 }
 
-/// Runs the jobs, once all memory is there.
-fn run_in<R: Threads + Wait + Sync, J: Job + Send>(
-    rt: &R,
-    room: RoomOf<J>,
-    jobs: Vec<J>,
-) -> Vec<J::Done>
-where
-    J::Done: Send,
-    requires room { IsRoom (vec_len room.lists) (vec_len jobs) room }
-    requires workers { (0 < vec_len room.lists) × (vec_len room.lists < all_parts) }
-    requires numbered { AreNumbered J.number jobs.items }
-    requires ready { AllByRecursion J.ready jobs.items }
-    ensures { AreDone J.does jobs.items result.items }
-{
-    let Room {
-        line,
-        mut pass,
-        lists,
-        own,
-        mut seats,
-        done,
-    } = room;
-    let all = Snapshot::of(&jobs);
-    put_all(rt, &line, &mut pass, jobs);
-    seat_all(&line, &mut pass, lists, &mut seats);
-    run_all(rt, &line, &mut seats);
-    let mut own = Worker { pass, answers: own };
-    join_all(&line, &mut own, seats);
-    work(rt, &line, &mut own);
-    let Worker {
-        pass: _pass,
-        answers,
-    } = own;
-    in_order(all, answers, done)
-}
-
 /// Runs each job once, by so many workers, from 1 to 64, beside each other. The answers stand in the order of the jobs. The i-th job has
 /// the number i, from 0.
 ///
@@ -187,8 +151,28 @@ where
     ensures ok { IfOk result (λ done. AreDone J.does jobs.items done.items) }
     ensures err { IfErr result (λ e. e.0.items ≡ jobs.items) }
 {
-    match take_room(alloc, workers as usize, jobs.len()) {
-        Ok(room) => Ok(run_in(rt, room, jobs)),
-        Err(error) => Err((jobs, error)),
-    }
+    let room = match take_room::<J>(alloc, workers as usize, jobs.len()) {
+        Ok(room) => room,
+        Err(error) => return Err((jobs, error)),
+    };
+    let Room {
+        line,
+        mut pass,
+        lists,
+        own,
+        mut seats,
+        done,
+    } = room;
+    let all = Snapshot::of(&jobs);
+    put_all(rt, &line, &mut pass, jobs);
+    seat_all(&line, &mut pass, lists, &mut seats);
+    run_all(rt, &line, &mut seats);
+    let mut own = Worker { pass, answers: own };
+    join_all(&line, &mut own, seats);
+    work(rt, &line, &mut own);
+    let Worker {
+        pass: _pass,
+        answers,
+    } = own;
+    Ok(in_order(all, answers, done))
 }

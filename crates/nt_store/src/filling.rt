@@ -1,11 +1,8 @@
 //! A file that is begun, and filled by contexts.
 
-ghost use Rattle.std.specs.Prelude.{◌≡◌, ◌<◌, ◌≤◌, None, length, map};
+ghost use Rattle.std.specs.Prelude.{◌<◌, ◌≤◌, length, map};
 ghost use Rattle.nt_types.specs.Views.{members_view};
 ghost use Rattle.nt_outside.specs.Held.{nothing_held};
-ghost use Rattle.nt_close.specs.Passing.{passed_by_begin};
-ghost use Rattle.nt_contexts.specs.Contexts.{IsReady};
-ghost use Rattle.nt_store.specs.Writing.{as_begun};
 ghost use Rattle.nt_store.specs.Leaving.{MayWriteFile};
 ghost use Rattle.nt_store.specs.Filling.{FillsFile};
 
@@ -21,51 +18,6 @@ use nt_schema::Schema;
 use nt_types::Fields;
 use std::sync::Wait;
 use std::thread::Threads;
-
-/// Runs a context for each source on the disk of a file that was begun, which has this book and schema.
-fn fill_begun<R, D, S, G>(
-    rt: &R,
-    disk: D,
-    begun: (Book, Schema),
-    fields: &Fields,
-    sources: Vec<S>,
-    settings: &Settings<'_, G>,
-) -> (D, Vec<S>, Result<(Book, Schema), StoreError>)
-where
-    R: Threads + Wait + Sync,
-    D: Disk + Send,
-    D::Pen: Send,
-    D::Ext: Send,
-    S: Source + Send,
-    G: Gate + Sync,
-    requires ready { IsReady (members_view fields.now) settings.now.params.now begun.1 begun.0 (D.state disk) (length sources.items) }
-    requires within { passed_by_begin settings.now.params.now.limits begun.1 ≡ None }
-    requires workers { (0 < settings.now.workers) × (settings.now.workers ≤ 64) }
-    ensures { FillsFile (members_view fields.now) settings.now.params.now (as_begun begun.1) (map S.state sources.items)
-        (map S.state result.1.items) (D.state disk) (D.state result.0) result.2 }
-{
-    let (book, schema) = begun;
-    let shared = Shared {
-        alloc: settings.alloc,
-        schema: &schema,
-        fields,
-        params: settings.params,
-        gate: settings.gate,
-        workers: settings.workers,
-    };
-    let Ended {
-        disk,
-        book,
-        sources,
-        ended,
-    } = run_contexts(rt, disk, book, sources, &shared);
-    book.keeps();
-    crashes_leave_chunks_or_none();
-    match ended {
-        Ok(()) => (disk, sources, Ok((book, schema))),
-        Err(error) => (disk, sources, Err(StoreError::from(error))),
-    }
-}
 
 /// Begins the file of these fields on an empty disk, and runs a context for each source beside the others, which writes the chunks of its
 /// text. The file is still to be closed, by the book and the schema that are given. The sources come back in their order.
@@ -96,8 +48,27 @@ where
     let mut disk = disk;
     crashes_leave_chunks_or_none();
     whole_files_are_longest();
-    match begin(settings.alloc, &mut disk, fields, settings.params) {
-        Ok(begun) => fill_begun(rt, disk, begun, fields, sources, settings),
+    let (book, schema) = match begin(settings.alloc, &mut disk, fields, settings.params) {
+        Ok(begun) => begun,
+        Err(error) => return (disk, sources, Err(StoreError::from(error))),
+    };
+    let shared = Shared {
+        alloc: settings.alloc,
+        schema: &schema,
+        fields,
+        params: settings.params,
+        gate: settings.gate,
+        workers: settings.workers,
+    };
+    let Ended {
+        disk,
+        book,
+        sources,
+        ended,
+    } = run_contexts(rt, disk, book, sources, &shared);
+    book.keeps();
+    match ended {
+        Ok(()) => (disk, sources, Ok((book, schema))),
         Err(error) => (disk, sources, Err(StoreError::from(error))),
     }
 }

@@ -1,5 +1,6 @@
 use Rattle.std.proofs.Common.{refl, ap, ◌∙◌}
-use Rattle.nt_contexts.proofs.Opens.{enters, entered, new-seat, refuses}
+use Rattle.nt_contexts.proofs.Opens.{new-seat}
+use Rattle.nt_contexts.proofs.LettingIn.{enters, entered, refuses}
 use Rattle.nt_contexts.proofs.opening.open_seat.Goals as goal
 
 pub returns-in-Ok-enter-clause-ok : goal.returns-in-Ok-enter-clause-ok

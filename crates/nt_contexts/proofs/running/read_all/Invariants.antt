@@ -8,7 +8,8 @@ use Rattle.nt_contexts.proofs.running.read_all.Given as goal
 
 abbrev pub invariant-loop-count : goal.invariant-loop-count
 invariant-loop-count g l = record {
-  on : GoesOn g.D.Disk.state (parts_of (members_view l.fields)) (left_of g.S.Source.state l.initial.lines).left l.initial.fill l.fill
+  on : GoesOn g.D.Disk.state (parts_of (members_view l.shared.fields.now))
+      (left_of g.S.Source.state l.initial.lines).left l.initial.fill l.fill
       (left_of g.S.Source.state l.lines);
   counted : (left_of g.S.Source.state l.lines).number ≡ l.count;
   low : (left_of g.S.Source.state l.lines).number ≤ max_number;

@@ -15,7 +15,7 @@ use Rattle.nt_contexts.proofs.taking.take_line.Goals as goal
 
 pub fill-requires-clause-fits : goal.fill-requires-clause-fits
 fill-requires-clause-fits g c =
-    let fields = members_view c.args.fields.now in
+    let fields = members_view c.args.shared.now.fields.now in
     let table = c.args.fill.now.table in
     let entry : TreesData = trees_of (trees_view c.in_ok-trees.trees) in
     let is = c.requires.fields in
@@ -28,7 +28,7 @@ fill-requires-clause-fits g c =
 
 pub returns-then-fill_line : goal.returns-then-fill_line
 returns-then-fill_line g c entries taken =
-    let fields = members_view c.args.fields.now in
+    let fields = members_view c.args.shared.now.fields.now in
     let F = parts_of fields in
     let table = c.args.fill.now.table in
     let is = c.requires.fields in
@@ -47,7 +47,7 @@ returns-then-fill_line g c entries taken =
 
 pub returns : goal.returns
 returns g c entries taken =
-    let F = parts_of (members_view c.args.fields.now) in
+    let F = parts_of (members_view c.args.shared.now.fields.now) in
     let entry : TreesData = trees_of (trees_view c.in_ok-trees.trees) in
     let full : is_blank_line c.args.line.now.bytes ≡ false = cc in
     let same : c.fill_line.new.self ≡ c.args.fill.now =

@@ -1,7 +1,7 @@
 use Rattle.std.proofs.Common.{sym, subst, Err}
 use Rattle.nt_contexts.specs.declared.error.ContextError.{ContextError}
 use Rattle.nt_contexts.specs.Taking.{WritesChunk}
-use Rattle.nt_contexts.proofs.Writing.{write_refused}
+use Rattle.nt_contexts.proofs.Unwritten.{write_refused}
 use Rattle.nt_contexts.proofs.taking.write_gathered.Goals as goal
 
 pub returns-in-Err : goal.returns-in-Err

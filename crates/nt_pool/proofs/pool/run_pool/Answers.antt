@@ -6,11 +6,11 @@ use Rattle.nt_pool.specs.Rule.{all_parts}
 use Rattle.nt_pool.specs.Pool.{IsWorker}
 use Rattle.nt_pool.proofs.Working.{ran-workers, has-all}
 use Rattle.nt_pool.proofs.Placed.{all-count}
-use Rattle.nt_pool.proofs.pool.run_in.Goals as goal
+use Rattle.nt_pool.proofs.pool.run_pool.Goals as goal
 
 pub join_all-requires-clause-seats : goal.join_all-requires-clause-seats
 join_all-requires-clause-seats g c =
-    let line = c.args.room.line in
+    let line = c.in-Ok.room.line in
     let jobs = (view c.put_all.new.pass).put in
     subst (λ l. AllByRecursion (IsWorker g.J.Job.does g.J.Job.number line l) c.run_all.new.seats.items) (sym c.seat_all.ensures.pass.1)
     (ran-workers g.J.Job.number g.J.Job.does line jobs c.seat_all.new.seats.items c.run_all.new.seats.items
@@ -30,11 +30,11 @@ in_order-requires-clause-all g c =
     let put : (view w.pass).put ≡ c.of-all.result.value.items = c.work.ensures.same.1
     ∙ (c.join_all.ensures.put ∙ (c.seat_all.ensures.pass.1 ∙ (ap (λ (v : Hand _). v.put) c.put_all.ensures.put
     ∙ sym (ap (λ (v : Vec _ _). v.items) c.of-all.ensures)))) in
-    has-all g.J.Job.number g.J.Job.does c.args.room.line c.of-all.result.value.items w c.work.ensures.works c.work.ensures.all parts put
+    has-all g.J.Job.number g.J.Job.does c.in-Ok.room.line c.of-all.result.value.items w c.work.ensures.works c.work.ensures.all parts put
 
 pub in_order-requires-clause-room : goal.in_order-requires-clause-room
 in_order-requires-clause-room g c =
     let all = in_order-requires-clause-all g c in
     let count = all-count g.J.Job.does g.J.Job.number c.of-all.result.value.items c.work.new.worker.answers.items all in
     let same = ap (λ (v : Vec _ _). length v.items) c.of-all.ensures in
-    (c.requires.room.done.0, omega (arith, count, same, c.requires.room.done.1))
+    (c.in-Ok.ensures.done.0, omega (arith, count, same, c.in-Ok.ensures.done.1))
