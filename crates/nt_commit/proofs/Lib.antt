@@ -19,4 +19,3 @@ mod Short
 mod Standing
 mod Stepping
 mod Telling
-pub mod Ungrouped

@@ -181,7 +181,6 @@ module _ (b B : BookData) (kept : IsBookKept b) (lists : List Part) (torn : List
         least = omega (arith, here);
         most = omega (arith, here, nothing, all);
         exact = λ sound. omega (arith, here, nothing, all);
-        ungrouped = λ un. here;
       }
 
   module _ (g : ℕ × ℕ) (is : b.group ≡ Some g) where
@@ -228,11 +227,7 @@ module _ (b B : BookData) (kept : IsBookKept b) (lists : List Part) (torn : List
                 owed-is ∙ ap (λ (t : Option Tear). due_or_none (is_due_after (Some g) b.lists t clusters) (next_len g b b.lists)) none,
                 ap torn_bytes none,
               );
-          ungrouped = λ none. absurd (some_not_none (sym is ∙ (sym group ∙ none)));
         }
-      where
-        some_not_none : Some g ≡ None → ⊥
-        some_not_none p = cc p
 
   by-group : (o : Option (ℕ × ℕ)) → b.group ≡ o → IsNextPlace B (book_end b) due
   by-group None is = bare-place is

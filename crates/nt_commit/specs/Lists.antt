@@ -96,7 +96,6 @@ pub record IsNextPlace (book : BookData) (before due : ℕ) : Type 0 where
   pub least : end_after book.begin (ranges_of book.history) ≤ before
   pub most : before + due ≤ listed_end book
   pub exact : HasNoFault book.history → before + due ≡ listed_end book
-  pub ungrouped : book.group ≡ None → before ≡ end_after book.begin (ranges_of book.history)
 
 -- such a place, for the next cluster of a book
 pub record NextPlace (book : BookData) : Type 0 where

@@ -30,7 +30,7 @@ use Rattle.nt_script.specs.Reading.{Segment, segment_metas, behind_segments, Giv
 use Rattle.nt_script.specs.Limits.{StandsWithin, PassesHere}
 use Rattle.nt_script.specs.Taking.{clusters_of_segments, GrowsBySegments, HasGrownBy, HasTakenLines, KeepsClusters, IsOpenWriter}
 use Rattle.nt_script.specs.Taking.{StaysInLimits, MakesWhole, HaltsAt, WritesGathered}
-use Rattle.nt_script.specs.Passing.{IsDue, PassesWriting, IsScriptWritten, whole_clusters, PassesNoneBefore}
+use Rattle.nt_script.specs.Passing.{IsWrittenNext, PassesWriting, IsScriptWritten, whole_clusters, PassesNoneBefore}
 use Rattle.nt_script.specs.Events.{IsEventError, IsFieldError, TakesEvent, WritesBeforeField, TakesField}
 use Rattle.nt_script.specs.Running.{error_of_lines, GoesOnScript, HasAllLines, EndsEarlyFor}
 use Rattle.nt_script.specs.Running.{EndedScript}
@@ -43,9 +43,9 @@ use Rattle.nt_script.proofs.Goes.{grown_same}
 module _ {D : Type 0} (state : D → DiskState) (F : List MemberData) (text : Option (List ℕ)) (first : Table) (p : Params) where
   -- a limit that the next cluster passes is passed by the script
   writing_passed : (rows : Rows F p.plain first) (segments : List Segment) (es next : List TreesData) (behind : Script) (t : Table)
-      (error : LimitError) → GrowsBySegments p first 0 segments t → PassesHere t p segments es next error → IsDue p next behind
+      (error : LimitError) → GrowsBySegments p first 0 segments t → PassesHere t p segments es next error → IsWrittenNext p next behind
       → PassesWriting F p (behind_segments segments es behind) error
-  writing_passed rows segments es next behind t error grows passes due = record {
+  writing_passed rows segments es next behind t error grows passes written = record {
     first = first;
     rows = rows;
     segments = segments;
@@ -56,7 +56,7 @@ module _ {D : Type 0} (state : D → DiskState) (F : List MemberData) (text : Op
     passes = passes;
     behind = behind;
     script_is = refl;
-    due = due;
+    written_next = written;
   }
 
   -- by the parameters of a writer
@@ -117,17 +117,17 @@ module _ {D : Type 0} (state : D → DiskState) (F : List MemberData) (text : Op
     pub halted_ends : (IsNext : List TreesData → Type 0) (G : List MemberData) (segments : List Segment) (es : List TreesData)
         (old new : SeqState D) (was is : LinesState) (error : ScriptError) → HasGrownBy first G segments old → old.params ≡ p
         → (behind : Script) → GivesScript F text (behind_segments segments es behind)
-        → ((next : List TreesData) → IsNext next → IsDue p next behind)
+        → ((next : List TreesData) → IsNext next → IsWrittenNext p next behind)
         → HaltsAt state IsNext old.table old.params segments es new error → EndsEarlyFor state F text first p was is new error
-    halted_ends IsNext G segments es old new was is (Line line kind) grown same behind gives due h = absurd h
-    halted_ends IsNext G segments es old new was is (Limit error) grown same behind gives due h = (
+    halted_ends IsNext G segments es old new was is (Line line kind) grown same behind gives written h = absurd h
+    halted_ends IsNext G segments es old new was is (Limit error) grown same behind gives written h = (
       behind_segments segments es behind,
       gives,
       writing_passed rows segments es h.0 behind old.table error (grown_by G segments old grown same)
-          (subst (λ (q : Params). PassesHere old.table q segments es h.0 error) same h.2) (due h.0 h.1),
+          (subst (λ (q : Params). PassesHere old.table q segments es h.0 error) same h.2) (written h.0 h.1),
     )
-    halted_ends IsNext G segments es old new was is Outside grown same behind gives due h = inr h
-    halted_ends IsNext G segments es old new was is Memory grown same behind gives due h = tt
+    halted_ends IsNext G segments es old new was is Outside grown same behind gives written h = inr h
+    halted_ends IsNext G segments es old new was is Memory grown same behind gives written h = tt
 
     -- a line of events was not taken
     pub event_ends : (G : List MemberData) (old new : SeqState D) (was is : LinesState) (line : given.Line) (error : ScriptError)

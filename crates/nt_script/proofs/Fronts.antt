@@ -13,7 +13,7 @@ use Rattle.nt_contexts.proofs.Chunking.{chunks-full, chunks-none, chunks-last}
 use Rattle.nt_script.specs.Script.{Script, last_entries, and_field}
 use Rattle.nt_script.specs.Reading.{Segment}
 use Rattle.nt_script.specs.Limits.{PassesHere}
-use Rattle.nt_script.specs.Passing.{EndsSegment, IsDue}
+use Rattle.nt_script.specs.Passing.{EndsSegment, IsWrittenNext}
 use Rattle.nt_script.proofs.Counted.{kept-counts, zip_more, first_entries}
 
 none_first : (behind : Script) → EndsSegment behind → first_entries behind ≡ []
@@ -50,7 +50,7 @@ module _ (t : Table) (p : Params) (segments : List Segment) (es next : List Tree
       ∙ (sym (append-nil all_full)
       ∙ ap (λ (l : List (List TreesData)). all_full ++ l) (sym (chunks-none p.cluster some [] refl)))))
 
-  pub split : (behind : Script) → IsDue p next behind
+  pub split : (behind : Script) → IsWrittenNext p next behind
       → chunks p.cluster (es ++ first_entries behind) ≡ all_full ++ chunks p.cluster (first_entries behind)
   split behind (inl whole) = split-whole whole (first_entries behind)
   split behind (inr ends) =

@@ -59,7 +59,7 @@ module _ (fields : List MemberData) (p : Params) (s : Script) (reached most : �
         (all_full w.table p w.segments w.entries w.next error here) (here.own ++ here.meta ∷ []) w.behind
         (types-described fields p.plain first rows) grown
         (subst (λ (x : Script). GrowsByScript p.plain first 0 x table) w.script_is grows)
-        (split w.table p w.segments w.entries w.next error here w.behind w.due)
+        (split w.table p w.segments w.entries w.next error here w.behind w.written_next)
         (counted w.table p w.segments w.entries w.next error here) in (
           counts.0,
           subst (λ (x : Script). CountsScript p first 0 x (segment_metas w.segments ++ ((here.own ++ here.meta ∷ []) ++ counts.0)))

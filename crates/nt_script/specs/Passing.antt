@@ -35,8 +35,8 @@ EndsSegment (and_field [] m rest) = Unit {0}
 EndsSegment (and_field (e ∷ es) m rest) = ⊥
 
 -- these entries are written before what is read behind them: they make a whole cluster, or the last one of their segment
-abbrev pub IsDue : Params → List TreesData → Script → Type 0
-IsDue p next behind = MakesWhole p next ⊎ EndsSegment behind
+abbrev pub IsWrittenNext : Params → List TreesData → Script → Type 0
+IsWrittenNext p next behind = MakesWhole p next ⊎ EndsSegment behind
 
 -- a cluster of a script passes the limit that an error names, where it is written: all clusters before it pass none
 pub record PassesWriting (fields : List MemberData) (p : Params) (s : Script) (error : LimitError) : Type 0 where
@@ -50,7 +50,7 @@ pub record PassesWriting (fields : List MemberData) (p : Params) (s : Script) (e
   pub passes : PassesHere table p segments entries next error
   pub behind : Script
   pub script_is : s ≡ behind_segments segments entries behind
-  pub due : IsDue p next behind
+  pub written_next : IsWrittenNext p next behind
 
 -- these segments of a script are written, and of the last one these clusters; they pass no limit
 pub record IsScriptWritten (fields : List MemberData) (p : Params) (segments : List Segment) (clusters : List (List TreesData)) : Type 0

@@ -6,8 +6,8 @@
 //! writer, `taking.rt` takes a line of events, `adding.rt` the field of a line; `error.rt` and `store_error.rt` are why that
 //! ends early, and `laws.rt` says which fields a table has.
 //!
-//! Words: a *segment* is the lines of events up to the next one that adds a field; entries are *due* where they are written next: as a
-//! whole cluster, or as the last of their segment; a table has *just* some fields where their names, their number and what fits them are
+//! Words: a *segment* is the lines of events up to the next one that adds a field; entries are *written next* as a whole
+//! cluster, or as the last of their segment; a table has *just* some fields where their names, their number and what fits them are
 //! those of its rows; the *whole* file of a script means the schema with all its fields and just its clusters, and is laid
 //! out for them (`specs/Whole.antt`). What is *left open*, and what a crash *leaves*, is as in nt_store.
 //!
