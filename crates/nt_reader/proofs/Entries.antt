@@ -42,3 +42,9 @@ entry-is c seen i is lt =
     let there = given-at c.table c.columns c.entries i below in
     let same : get_or (given_entries c) i no_trees ≡ x = cc (here, there) in
     subst (λ (d : ClusterData). get_or (given_entries d) i no_trees ≡ x) is same
+
+-- the same, told by what is seen alone
+pub entry-given : (c seen : ClusterData) (i : ℕ) → c ≡ seen → i < seen.entries
+    → get_or (given_entries seen) i no_trees ≡ each_at (open_plans seen.table) (columns_by_id seen.columns) i
+entry-given c seen i is lt =
+    entry-is c seen i is lt ∙ ap (λ (d : ClusterData). each_at (open_plans d.table) (columns_by_id d.columns) i) is

@@ -1,5 +1,5 @@
--- The entries of a cluster fit its schema.
-use Rattle.std.proofs.Common.{◌≡◌, ℕ, ◌<◌, List, true, sym, ap, subst, ◌∙◌}
+-- The entries of a cluster can be read, and fit its schema.
+use Rattle.std.proofs.Common.{◌≡◌, ℕ, ◌<◌, List, true, sym, ap, subst, ◌∙◌, arith}
 use Rattle.std.specs.Prelude.{slice_index_or, Option}
 use Rattle.nt_types.specs.ShapeData.{ShapeData}
 use Rattle.nt_types.specs.TreeData.{TreesData, no_trees}
@@ -16,6 +16,7 @@ use Rattle.nt_trees.specs.Fits.{fits_entry, fit_plans, some_shapes}
 use Rattle.nt_trees.specs.Sound.{AllSound}
 use Rattle.nt_trees.specs.TreeAt.{each_at}
 use Rattle.nt_fitting.specs.Fitting.{AreOfRows}
+use Rattle.nt_join.specs.Readable.{ReadableEach}
 use Rattle.nt_file_meaning.specs.Clusters.{columns_by_id}
 use Rattle.nt_reader.specs.Columns.{ClusterData, given_entries, AreClusterColumns}
 use Rattle.nt_reader.proofs.Entries.{entry-is}
@@ -39,3 +40,10 @@ entry-fits laws c seen i is are less =
     ∙ laws.fit t.columns (open_plans t) (columns_by_id c.columns) c.entries i (laws.typed t) are.typed are.sound in
     ap (λ (e : TreesData). fits_entry seen.table e) (entry-is c seen i is less)
     ∙ ap (λ (d : ClusterData). fits_entry d.table ts) (sym is) ∙ own
+
+-- sound columns can be read at each entry
+pub entry-readable : (c seen : ClusterData) (i : ℕ) → c ≡ seen → AreClusterColumns c.table (columns_by_id c.columns) c.entries
+    → i < seen.entries → ReadableEach (open_plans seen.table) (columns_by_id seen.columns) i
+entry-readable c seen i is are less =
+    subst (λ (d : ClusterData). ReadableEach (open_plans d.table) (columns_by_id d.columns) i) is
+    (record { size = c.entries; sound = are.sound; within = omega (arith, ap (λ (d : ClusterData). d.entries) is, less) })

@@ -27,9 +27,9 @@ column_with_page number id p c file = page_of_column file number id c.kind p >>=
 abbrev pub column_with_pages : ℕ → ℕ → List PageItem → Column → List ℕ → Result Column ReadError
 column_with_pages number id ps c file = pages_of_column file number id c.kind ps >>= λ es. Ok (with_more c es)
 
--- a file of this size is seen through the window, and the column keeps no count of zeros
-pub record CanRead (file : FileState) (size : ℕ) (w : Window) (c : Column) : Type 0 where
-  pub seen : IsSeenBy file size w
+-- a file is seen through the window, and the column keeps no count of zeros
+pub record CanRead (file : FileState) (w : Window) (c : Column) : Type 0 where
+  pub seen : IsSeenBy file w
   pub kept : c.zeros ≡ 0
 
 -- the page lies in the window and has the size of its elements, and the column keeps no count of zeros

@@ -13,9 +13,9 @@ use Rattle.nt_reader.specs.declared.window.Window.{Window}
 abbrev pub IsWindowOf : FileState → Window → Type 0
 IsWindowOf file w = (told : List ℕ) → file.bytes ≡ Some told → piece told w.at (length w.bytes.items) ≡ Some w.bytes.items
 
--- a file of this size is read through the window
-pub record IsSeenBy (file : FileState) (size : ℕ) (w : Window) : Type 0 where
-  pub sized : HasSize file size
+-- a file is read through the window, which knows its size
+pub record IsSeenBy (file : FileState) (w : Window) : Type 0 where
+  pub sized : HasSize file w.size
   pub has : IsWindowOf file w
 
 -- the page lies in the window, with its checksum

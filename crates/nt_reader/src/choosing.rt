@@ -1,6 +1,12 @@
 //! Some trees of an entry of a cluster that was read, and single numbers of it.
 
 ghost use Rattle.std.specs.Prelude.{◌≡◌, ◌<◌, ℕ, true, slice_index_or, IfOk};
+ghost use Rattle.nt_plans.specs.Plan.{plans_of};
+ghost use Rattle.nt_plans.specs.PlanViews.{plans_view};
+ghost use Rattle.nt_plans.specs.Place.{open_plans};
+ghost use Rattle.nt_trees.specs.TreeAt.{each_at};
+ghost use Rattle.nt_join.specs.Readable.{ReadableEach};
+ghost use Rattle.nt_file_meaning.specs.Clusters.{columns_by_id};
 ghost use Rattle.nt_types.specs.TreeData.{trees_of, no_trees};
 ghost use Rattle.nt_types.specs.TreeViews.{trees_view};
 ghost use Rattle.nt_trees.specs.Fits.{fits_entry};
@@ -10,12 +16,31 @@ ghost use Rattle.nt_reader.specs.Columns.{given_entries};
 use crate::cluster::ClusterRead;
 use nt_fitting::entries_fit_their_plans;
 use nt_join::{chosen_by, number_by};
-use nt_plans::columns_have_types;
+use nt_plans::{Plans, columns_have_types};
 use nt_trees::plans_take_what_fits;
 use nt_types::Trees;
 use std::alloc::{AllocError, Global};
 
 impl<'a> ClusterRead<'a> {
+    /// The plans of the open fields at the top level, in order: by these its columns are read.
+    pub fn plans(&self) -> &Plans
+        ensures { plans_of (plans_view result.now) ≡ open_plans self.now.table }
+    {
+        self.schema.plans()
+    }
+
+    /// Its columns can be read by its plans at each entry, and what is read there are the entry's trees. It is a
+    /// law, and does nothing.
+    pub fn readable(&self)
+        ensures readable { (i : ℕ) → i < self.now.entries
+            → ReadableEach (open_plans self.now.table) (columns_by_id self.now.columns) i }
+        ensures given { (i : ℕ) → i < self.now.entries
+            → slice_index_or (given_entries self.now) i no_trees
+            ≡ each_at (open_plans self.now.table) (columns_by_id self.now.columns) i }
+    {
+        let _entries = self.entries;
+    }
+
     /// Each entry fits the open fields of the schema. It is a law, and does nothing.
     pub fn entries_fit(&self)
         ensures { (i : ℕ) → i < self.now.entries

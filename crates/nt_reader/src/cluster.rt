@@ -13,7 +13,7 @@ ghost use Rattle.nt_file_meaning.specs.Clusters.{columns_by_id, frame_of, value_
 ghost use Rattle.nt_tfile.specs.Calls.{Serves, IsReadAs, ReadsFile};
 ghost use Rattle.nt_reader.specs.Columns.{held_elements, given_entries};
 
-use crate::columns::read_columns;
+use crate::columns::{NumberedCluster, read_columns};
 use crate::faults::{BAD_VALUE, fault_with, in_column};
 use nt_column::{ColumnSet, Columns};
 use nt_join::{ValueFault, check_values};
@@ -156,7 +156,11 @@ pub fn read_cluster<'a, F: ReadAt>(
     ensures table { IfOk result (λ c. c.table ≡ schema.now) }
 {
     let size = file.size()?;
-    let columns = read_columns(alloc, file, size, number, cluster, schema, kept)?;
+    let listed = NumberedCluster {
+        number,
+        list: cluster,
+    };
+    let columns = read_columns(alloc, file, size, &listed, schema, kept)?;
     columns.in_range();
     check(&columns, schema, number, cluster)?;
     Ok(ClusterRead {

@@ -5,12 +5,14 @@ ghost use Rattle.nt_grammar.specs.declared.rows.ColumnRow.{ColumnRow};
 ghost use Rattle.nt_column.specs.Column.{columns_of, elements_at};
 ghost use Rattle.nt_file_meaning.specs.Clusters.{kind_of_code, pages_of_column, pages_listed, begins_behind, columns_from};
 ghost use Rattle.nt_tfile.specs.Calls.{Serves, HasSize, ReadsFile};
+ghost use Rattle.nt_reader.specs.Windows.{IsSeenBy};
 ghost use Rattle.nt_reader.specs.Columns.{kind_or_bit, kept_empty, elements_in, held_elements, held_column, IsNextColumn, IsEmptyAt, FillsOne, AreOfTypes};
 
 use crate::known::known_column;
-use crate::pages::push_pages;
+use crate::pages::{ColumnOf, push_pages};
 use crate::reuse::reused_columns;
 use crate::wanting::Wanting;
+use crate::window::Window;
 use nt_column::ColumnSet;
 use nt_grammar::ColumnRow;
 use nt_outside::ReadAt;
@@ -19,6 +21,13 @@ use nt_schema::Schema;
 use nt_tfile::ReadFailure;
 use nt_types::ColumnType;
 use std::alloc::Global;
+
+/// A cluster by its number, with what its page list tells of it.
+#[derive(Drop)]
+pub struct NumberedCluster<'a> {
+    pub number: u32,
+    pub list: &'a ClusterList,
+}
 
 /// The type of a column, if it is one of those whose values can be read.
 fn kind_of_row(row: &ColumnRow) -> Option<ColumnType>
@@ -68,62 +77,54 @@ pub fn begins_behind(cluster: &ClusterList, known: &KnownColumn) -> bool
 
 /// Fills an empty column with the elements of its pages.
 fn fill<F: ReadAt>(
-    alloc: Global,
     file: &mut F,
-    size: u64,
-    number: u32,
-    id: u32,
+    of: &ColumnOf,
     pages: &[PageItem],
+    window: &mut Window,
     columns: &mut ColumnSet,
 ) -> Result<(), ReadFailure>
-    requires size { HasSize (F.state file.old) size }
-    requires empty { IsEmptyAt (columns_of columns.old) id }
+    requires { IsSeenBy (F.state file.old) window.old × IsEmptyAt (columns_of columns.old) of.now.id }
     ensures file { Serves (F.state file.old) (F.state file.new) result }
-    ensures read { let kind = (held_column (columns_of columns.old) id).kind in
-        ReadsFile (λ _. elements_at (columns_of columns.new) id)
-        (λ told. pages_of_column told number id kind pages.now) (F.state file.old) result }
-    ensures others { FillsOne id (columns_of columns.old) (columns_of columns.new) result }
+    ensures window { IsSeenBy (F.state file.new) window.new }
+    ensures read { let kind = (held_column (columns_of columns.old) of.now.id).kind in
+        ReadsFile (λ _. elements_at (columns_of columns.new) of.now.id)
+        (λ told. pages_of_column told of.now.cluster of.now.id kind pages.now) (F.state file.old) result }
+    ensures others { FillsOne of.now.id (columns_of columns.old) (columns_of columns.new) result }
 {
-    push_pages(alloc, file, size, number, id, pages, columns.buffer(id))
+    push_pages(file, of, pages, window, columns.buffer(of.id))
 }
 
 /// Reads the column with this id, of those that are still empty.
 fn read_column<F: ReadAt>(
-    alloc: Global,
     file: &mut F,
-    size: u64,
-    number: u32,
-    cluster: &ClusterList,
+    cluster: &NumberedCluster<'_>,
     schema: &Schema,
     id: u32,
+    window: &mut Window,
     columns: &mut ColumnSet,
 ) -> Result<(), ReadFailure>
-    requires size { HasSize (F.state file.old) size }
-    requires next { IsNextColumn schema.now.columns id (columns_of columns.old) }
+    requires { IsSeenBy (F.state file.old) window.old × IsNextColumn schema.now.columns id (columns_of columns.old) }
     ensures file { Serves (F.state file.old) (F.state file.new) result }
+    ensures window { IsSeenBy (F.state file.new) window.new }
     ensures read { (row : ColumnRow) → slice_get schema.now.columns id ≡ Some row
         → ReadsFile (λ _. elements_at (columns_of columns.new) id)
-        (elements_in number cluster.now schema.now id row) (F.state file.old) result }
+        (elements_in cluster.now.number cluster.now.list.now schema.now id row) (F.state file.old) result }
     ensures others { FillsOne id (columns_of columns.old) (columns_of columns.new) result }
 {
     let known = known_column(schema, id);
     if !known.is_open {
         return Ok(());
     }
-    if begins_behind(cluster, &known) {
-        columns.zeros(id, cluster.entries);
+    if begins_behind(cluster.list, &known) {
+        columns.zeros(id, cluster.list.entries);
         return Ok(());
     }
+    let of = ColumnOf {
+        cluster: cluster.number,
+        id,
+    };
     match kind_of_row(schema.column(id)) {
-        Some(_) => fill(
-            alloc,
-            file,
-            size,
-            number,
-            id,
-            pages_listed(cluster, id),
-            columns,
-        ),
+        Some(_) => fill(file, &of, pages_listed(cluster.list, id), window, columns),
         None => Ok(()),
     }
 }
@@ -133,20 +134,20 @@ pub fn read_columns<F: ReadAt>(
     alloc: Global,
     file: &mut F,
     size: u64,
-    number: u32,
-    cluster: &ClusterList,
+    cluster: &NumberedCluster<'_>,
     schema: &Schema,
     kept: Option<ColumnSet>,
 ) -> Result<ColumnSet, ReadFailure>
     requires { HasSize (F.state file.old) size }
     ensures file { Serves (F.state file.old) (F.state file.new) result }
     ensures read { let rows = schema.now.columns in ReadsFile (λ set. held_elements set)
-        (λ told. columns_from told number cluster.now schema.now 0 rows) (F.state file.old) result }
+        (λ told. columns_from told cluster.now.number cluster.now.list.now schema.now 0 rows) (F.state file.old) result }
     ensures types { IfOk result (λ set. AreOfTypes schema.now.columns (columns_of set)) }
 {
     let mut columns = reused_columns(alloc, schema, kept)?;
+    let mut window = Window::new(alloc, size);
     for id in 0..schema.columns() {
-        read_column(alloc, file, size, number, cluster, schema, id, &mut columns)?;
+        read_column(file, cluster, schema, id, &mut window, &mut columns)?;
     }
     Ok(columns)
 }

@@ -19,6 +19,20 @@ use nt_pagelists::{ClusterList, Group};
 use nt_tfile::ReadFailure;
 use std::alloc::Global;
 
+/// What is known of a schema before page lists are read: the checksum of its header, and its columns.
+#[derive(Drop)]
+struct KnownSchema<'a> {
+    sum: u64,
+    columns: &'a KnownColumns,
+}
+
+/// What was read of page lists so far: their clusters, and how far these go.
+#[derive(Drop)]
+struct SoFar {
+    progress: Progress,
+    clusters: Vec<ClusterList>,
+}
+
 /// The kind of a page list's envelope.
 const PAGE_LIST: u16 = 3;
 
@@ -37,26 +51,32 @@ fn push_group<F: ReadAt>(
     alloc: Global,
     file: &mut F,
     size: u64,
-    sum: u64,
-    columns: &KnownColumns,
+    known: &KnownSchema<'_>,
     group: &Group,
-    so_far: &mut Progress,
-    clusters: &mut Vec<ClusterList>,
+    so_far: &mut SoFar,
 ) -> Result<(), ReadFailure>
     requires size { HasSize (F.state file.old) size }
-    requires room { CanFollow columns.now so_far.old group.now }
+    requires room { CanFollow known.now.columns.now so_far.old.progress group.now }
     ensures file { Serves (F.state file.old) (F.state file.new) result }
-    ensures read { ReadsFile (λ _. (clusters.new.items, so_far.new))
-        (clusters_with sum columns.now group.now so_far.old clusters.old.items)
+    ensures read { ReadsFile (λ _. (so_far.new.clusters.items, so_far.new.progress))
+        (clusters_with known.now.sum known.now.columns.now group.now so_far.old.progress so_far.old.clusters.items)
         (F.state file.old) result }
     ensures counted { OnOk result
-        (IsGroupCounted group.now so_far.old clusters.old.items so_far.new clusters.new.items) }
+        (IsGroupCounted group.now so_far.old.progress so_far.old.clusters.items so_far.new.progress so_far.new.clusters.items) }
 {
     let block = list_block(&group.link);
     let list = read_sealed(alloc, file, size, PAGE_LIST, block)?;
-    match read_page_list(alloc, list.payload(), sum, group, columns, so_far) {
+    let payload = list.payload();
+    match read_page_list(
+        alloc,
+        payload,
+        known.sum,
+        group,
+        known.columns,
+        &mut so_far.progress,
+    ) {
         Ok(lists) => {
-            push_moved(alloc, block.place, lists.as_slice(), clusters)?;
+            push_moved(alloc, block.place, lists.as_slice(), &mut so_far.clusters)?;
             Ok(())
         }
         Err(error) => Err(failure_inside(block.place, error)),
@@ -68,33 +88,25 @@ fn read_groups<F: ReadAt>(
     alloc: Global,
     file: &mut F,
     size: u64,
-    sum: u64,
-    columns: &KnownColumns,
+    known: &KnownSchema<'_>,
     groups: &[Group],
 ) -> Result<Vec<ClusterList>, ReadFailure>
     requires size { HasSize (F.state file.old) size }
     requires counted { AreCounted 0 0 groups.now }
     ensures file { Serves (F.state file.old) (F.state file.new) result }
-    ensures read { let none = no_progress (length columns.now) in
+    ensures read { let none = no_progress (length known.now.columns.now) in
         ReadsFile (λ clusters. clusters.items)
-        (λ told. groups_clusters told sum columns.now groups.now none) (F.state file.old) result }
+        (λ told. groups_clusters told known.now.sum known.now.columns.now groups.now none) (F.state file.old) result }
     ensures few { IfOk result (λ clusters. length clusters.items < 2 ^ 32) }
 {
-    let mut so_far = progress(alloc, columns)?;
-    let mut clusters = Vec::new(alloc);
+    let mut so_far = SoFar {
+        progress: progress(alloc, known.columns)?,
+        clusters: Vec::new(alloc),
+    };
     for i in 0..groups.len() {
-        push_group(
-            alloc,
-            file,
-            size,
-            sum,
-            columns,
-            &groups[i],
-            &mut so_far,
-            &mut clusters,
-        )?;
+        push_group(alloc, file, size, known, &groups[i], &mut so_far)?;
     }
-    Ok(clusters)
+    Ok(so_far.clusters)
 }
 
 /// Nothing was read of these columns.
@@ -121,12 +133,9 @@ pub fn read_clusters<F: ReadAt>(
     ensures few { IfOk result (λ clusters. length clusters.items < 2 ^ 32) }
 {
     let columns = known_columns(alloc, &said.schema)?;
-    read_groups(
-        alloc,
-        file,
-        size,
-        said.sum,
-        &columns,
-        said.groups.as_slice(),
-    )
+    let known = KnownSchema {
+        sum: said.sum,
+        columns: &columns,
+    };
+    read_groups(alloc, file, size, &known, said.groups.as_slice())
 }

@@ -5,7 +5,8 @@
 //! cluster's open columns and looks at their values (`columns`, `pages`, `cluster`), or
 //! `Reader::cluster_in`, which does that in the memory of columns of before (`reuse`);
 //! `ClusterRead::entry` gives the trees of an entry, `ClusterRead::write_entry` its line, and
-//! `ClusterRead::columns` all elements; `choosing` has some of the trees, and a number of an entry. Before
+//! `ClusterRead::columns` all elements; `choosing` has some of the trees, a number of an entry, and by which
+//! plans its columns are read. Before
 //! any page is read, `Reader::pages_of`, `count_of` and `zeros_of` say how many elements a column has
 //! (`listed`). What they answer is said in nt_file_meaning.
 //!
@@ -16,8 +17,8 @@
 //! `cluster_in` exactly `cluster_of` of nt_file_meaning, the first fault and its place included (`read`), and
 //! the elements of a cluster's columns are those of its pages (`columns`); a fault of the outside comes
 //! only where the file's count rose (`file`); an entry is that of the cluster (`entry`), and its line is
-//! that of event text (`write_entry`); each entry fits the schema (`entries_fit`), also of a file that
-//! doesn't tell its bytes.
+//! that of event text (`write_entry`); each entry fits the schema (`entries_fit`), and is what the plans read
+//! in its columns (`readable`), also of a file that doesn't tell its bytes.
 //!
 //! Not proved: that pages which follow one another in the file are read by one call, at most 128 KiB at
 //! once (only tested); that memory is that of the page lists and of one cluster, the largest of those

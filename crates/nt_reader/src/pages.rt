@@ -10,8 +10,8 @@ ghost use Rattle.nt_column.specs.Column.{with_more};
 ghost use Rattle.nt_pagelists.specs.Columns.{in_column};
 ghost use Rattle.nt_file_meaning.specs.Clusters.{stored_len, is_checked, sum_fault};
 ghost use Rattle.nt_tfile.specs.declared.failure.ReadFailure.TheVariants.{Fault};
-ghost use Rattle.nt_tfile.specs.Calls.{Serves, HasSize, IsReadAs, IsReadOrFails, ReadsFile};
-ghost use Rattle.nt_reader.specs.Windows.{IsWindowOf, window_bytes};
+ghost use Rattle.nt_tfile.specs.Calls.{Serves, IsReadAs, IsReadOrFails, ReadsFile};
+ghost use Rattle.nt_reader.specs.Windows.{IsSeenBy, window_bytes};
 ghost use Rattle.nt_reader.specs.Pages.{column_with_bytes, column_with_page, column_with_pages, CanRead, IsAtHand, KeepsKind};
 
 use crate::faults::{BAD_PAGE, COMPRESSED, OUT_OF_FILE, fault_with, in_column};
@@ -25,28 +25,34 @@ use nt_outside::ReadAt;
 use nt_pagelists::PageItem;
 use nt_tfile::ReadFailure;
 use nt_types::ColumnType;
-use std::alloc::Global;
+
+/// A column of a cluster, by their numbers, as a fault tells them.
+#[derive(Drop)]
+pub struct ColumnOf {
+    pub cluster: u32,
+    pub id: u32,
+}
 
 /// Whether a page has the size of its elements; a compressed one has another.
-fn check_size(number: u32, id: u32, kind: ColumnType, page: &PageItem) -> Result<(), ReadError>
+fn check_size(of: &ColumnOf, kind: ColumnType, page: &PageItem) -> Result<(), ReadError>
     ensures plain { let size = page_size kind page.now.count in let found = page.now.size in
         IsReadAs (λ _. tt) result (demand (nat_eq found size)
-        (in_column number id (with_values size found (fault compressed page.now.place)))) }
+        (in_column of.now.cluster of.now.id (with_values size found (fault compressed page.now.place)))) }
     ensures same { OnOk result (page.now.size ≡ page_size kind page.now.count) }
 {
     let size = size_of(kind, u64::from(page.count));
     if u64::from(page.size) != size {
         let error = fault_with(COMPRESSED, page.place, size, u64::from(page.size));
-        return Err(in_column(number, id, error));
+        return Err(in_column(of.cluster, of.id, error));
     }
     Ok(())
 }
 
 /// Whether a page has the checksum that stands behind it, if one does.
-fn check_sum(number: u32, id: u32, page: &PageItem, stored: &[u8]) -> Result<(), ReadError>
+fn check_sum(of: &ColumnOf, page: &PageItem, stored: &[u8]) -> Result<(), ReadError>
     requires { length stored.now ≡ stored_len page.now }
     ensures { IsReadAs (λ _. tt) result (demand (is_checked page.now stored.now)
-        (in_column number id (sum_fault page.now stored.now))) }
+        (in_column of.now.cluster of.now.id (sum_fault page.now stored.now))) }
 {
     if !page.checked {
         return Ok(());
@@ -56,7 +62,7 @@ fn check_sum(number: u32, id: u32, page: &PageItem, stored: &[u8]) -> Result<(),
     let found = nt_xxh3::sum(bytes);
     if kept != found {
         let error = fault_with(BAD_PAGE, page.place, kept, found);
-        return Err(in_column(number, id, error));
+        return Err(in_column(of.cluster, of.id, error));
     }
     Ok(())
 }
@@ -78,20 +84,19 @@ fn push_elements(page: &PageItem, stored: &[u8], column: &mut ColumnBuf) -> Resu
 
 /// Adds the elements of a page that lies in the window and has the size of its elements.
 fn push_stored(
-    number: u32,
-    id: u32,
+    of: &ColumnOf,
     page: &PageItem,
     window: &Window,
     column: &mut ColumnBuf,
 ) -> Result<(), ReadFailure>
     requires { IsAtHand page.now window.now column.old.column }
     ensures read { IsReadOrFails (λ _. column.new.column) result
-        (column_with_bytes number id page.now column.old.column (window_bytes window.now page.now)) }
+        (column_with_bytes of.now.cluster of.now.id page.now column.old.column (window_bytes window.now page.now)) }
     ensures grown { OnOk result (KeepsKind column.old.column column.new.column) }
     ensures inside { IsErrOf result Fault → ⊥ }
 {
     let stored = window.stored(page);
-    check_sum(number, id, page, stored)?;
+    check_sum(of, page, stored)?;
     push_elements(page, stored, column)?;
     Ok(())
 }
@@ -99,59 +104,43 @@ fn push_stored(
 /// Adds the elements of a page of a column in a cluster. The pages behind it are read with it where
 /// they follow it closely in the file.
 fn push_page<F: ReadAt>(
-    alloc: Global,
     file: &mut F,
-    size: u64,
-    number: u32,
-    id: u32,
+    of: &ColumnOf,
     page: &PageItem,
     behind: &[PageItem],
     window: &mut Window,
     column: &mut ColumnBuf,
 ) -> Result<(), ReadFailure>
-    requires { CanRead (F.state file.old) size window.old column.old.column }
+    requires { CanRead (F.state file.old) window.old column.old.column }
     ensures file { Serves (F.state file.old) (F.state file.new) result }
     ensures read { ReadsFile (λ _. column.new.column)
-        (column_with_page number id page.now column.old.column) (F.state file.old) result }
-    ensures window { IsWindowOf (F.state file.old) window.new }
+        (column_with_page of.now.cluster of.now.id page.now column.old.column) (F.state file.old) result }
+    ensures window { IsSeenBy (F.state file.new) window.new }
     ensures grown { OnOk result (KeepsKind column.old.column column.new.column) }
 {
-    check_size(number, id, column.kind(), page)?;
-    let outside = in_column(number, id, fault_with(OUT_OF_FILE, page.place, 0, 0));
-    move_to(alloc, file, size, page, behind, outside, window)?;
-    push_stored(number, id, page, window, column)
+    check_size(of, column.kind(), page)?;
+    let outside = in_column(of.cluster, of.id, fault_with(OUT_OF_FILE, page.place, 0, 0));
+    move_to(file, page, behind, outside, window)?;
+    push_stored(of, page, window, column)
 }
 
 /// Adds the elements of pages of a column in a cluster, one page behind the other.
 pub fn push_pages<F: ReadAt>(
-    alloc: Global,
     file: &mut F,
-    size: u64,
-    number: u32,
-    id: u32,
+    of: &ColumnOf,
     pages: &[PageItem],
+    window: &mut Window,
     column: &mut ColumnBuf,
 ) -> Result<(), ReadFailure>
-    requires size { HasSize (F.state file.old) size }
-    requires kept { column.old.column.zeros ≡ 0 }
+    requires { CanRead (F.state file.old) window.old column.old.column }
     ensures file { Serves (F.state file.old) (F.state file.new) result }
     ensures read { ReadsFile (λ _. column.new.column)
-        (column_with_pages number id pages.now column.old.column) (F.state file.old) result }
+        (column_with_pages of.now.cluster of.now.id pages.now column.old.column) (F.state file.old) result }
+    ensures window { IsSeenBy (F.state file.new) window.new }
     ensures grown { OnOk result (KeepsKind column.old.column column.new.column) }
 {
-    let mut window = Window::new(alloc);
     for i in 0..pages.len() {
-        push_page(
-            alloc,
-            file,
-            size,
-            number,
-            id,
-            &pages[i],
-            &pages[i + 1..],
-            &mut window,
-            column,
-        )?;
+        push_page(file, of, &pages[i], &pages[i + 1..], window, column)?;
     }
     Ok(())
 }

@@ -4,7 +4,7 @@ ghost use Rattle.std.specs.Prelude.{◌≡◌, ◌<◌, ◌^◌, IsTrue, IfOk, O
 ghost use Rattle.nt_outside.specs.File.{FileState};
 ghost use Rattle.nt_file_meaning.specs.Clusters.{stored_len};
 ghost use Rattle.nt_tfile.specs.Calls.{Serves, HasSize, ReadsFile};
-ghost use Rattle.nt_reader.specs.Windows.{IsWindowOf, IsSeenBy, LiesIn, IsReadAtOnce, window_bytes, found_page};
+ghost use Rattle.nt_reader.specs.Windows.{IsSeenBy, LiesIn, IsReadAtOnce, window_bytes, found_page};
 
 use nt_num::ReadError;
 use nt_outside::ReadAt;
@@ -21,6 +21,9 @@ const SUM_LEN: u64 = 8;
 /// Bytes of a file from a place on.
 #[derive(Drop)]
 pub struct Window {
+    alloc: Global,
+    /// The size of the file.
+    size: u64,
     at: u64,
     bytes: Vec<u8>,
 }
@@ -55,11 +58,13 @@ fn run_len(page: &PageItem, behind: &[PageItem], size: u64) -> u64
 }
 
 impl Window {
-    /// No bytes, which are some of any file.
-    pub fn new(alloc: Global) -> Window
-        ensures { (file : FileState) → IsWindowOf file result }
+    /// No bytes, which are some of any file of this size.
+    pub fn new(alloc: Global, size: u64) -> Window
+        ensures { (file : FileState) → HasSize file size → IsSeenBy file result }
     {
         Window {
+            alloc,
+            size,
             at: 0,
             bytes: Vec::new(alloc),
         }
@@ -102,35 +107,38 @@ fn read_window<F: ReadAt>(
     ensures file { Serves (F.state file.old) (F.state file.new) result }
     ensures read { ReadsFile (λ w. window_bytes w page.now)
         (found_page outside page.now) (F.state file.old) result }
-    ensures window { IfOk result (λ w. IsWindowOf (F.state file.old) w) }
+    ensures window { IfOk result (λ w. IsSeenBy (F.state file.new) w) }
     ensures lies { IfOk result (λ w. LiesIn page.now w) }
 {
     let at = page.place;
     let len = run_len(page, behind, size);
     let bytes = read_block(alloc, file, size, at, len, outside)?;
-    Ok(Window { at, bytes })
+    Ok(Window {
+        alloc,
+        size,
+        at,
+        bytes,
+    })
 }
 
 /// Moves the window to a page, unless the page lies there already.
 pub fn move_to<F: ReadAt>(
-    alloc: Global,
     file: &mut F,
-    size: u64,
     page: &PageItem,
     behind: &[PageItem],
     outside: ReadError,
     window: &mut Window,
 ) -> Result<(), ReadFailure>
-    requires { IsSeenBy (F.state file.old) size window.old }
+    requires { IsSeenBy (F.state file.old) window.old }
     ensures file { Serves (F.state file.old) (F.state file.new) result }
     ensures read { ReadsFile (λ _. window_bytes window.new page.now)
         (found_page outside page.now) (F.state file.old) result }
-    ensures window { IsWindowOf (F.state file.old) window.new }
+    ensures window { IsSeenBy (F.state file.new) window.new }
     ensures lies { OnOk result (LiesIn page.now window.new) }
 {
     if window.has(page) {
         return Ok(());
     }
-    *window = read_window(alloc, file, size, page, behind, outside)?;
+    *window = read_window(window.alloc, file, window.size, page, behind, outside)?;
     Ok(())
 }

@@ -10,17 +10,17 @@ use Rattle.nt_reader.proofs.columns.fill.Goals as goal
 
 pub returns-clause-read : goal.returns-clause-read
 returns-clause-read g c told is =
-    let seen = buffer-column c.args.columns.now c.args.id c.buffer.result.now c.buffer.ensures.value in
-    filled-reads told c.args.number c.args.id _ c.args.pages.now c.buffer.result.now.column c.push_pages.new.column.column _
-    c.push_pages.result (sym seen ∙ c.requires.empty.none)
-    (set-elements c.args.columns.now c.args.id c.push_pages.new.column
-    (omega (arith, c.requires.empty.there, length-map c.args.columns.now (λ (b : Buffer). b.column)))) (c.push_pages.ensures.read told is)
+    let seen = buffer-column c.args.columns.now c.args.of.now.id c.buffer.result.now c.buffer.ensures.value in
+    filled-reads told c.args.of.now.cluster c.args.of.now.id _ c.args.pages.now c.buffer.result.now.column c.push_pages.new.column.column _
+    c.push_pages.result (sym seen ∙ c.requires.1.none)
+    (set-elements c.args.columns.now c.args.of.now.id c.push_pages.new.column
+    (omega (arith, c.requires.1.there, length-map c.args.columns.now (λ (b : Buffer). b.column)))) (c.push_pages.ensures.read told is)
 
 pub returns-clause-others : goal.returns-clause-others
 returns-clause-others g c = record {
-  one = set-changes c.args.columns.now c.args.id c.push_pages.new.column;
+  one = set-changes c.args.columns.now c.args.of.now.id c.push_pages.new.column;
   types = on_ok_weaker c.push_pages.result
       (λ (k : KeepsKind c.buffer.result.now.column c.push_pages.new.column.column).
-      set-types c.args.columns.now c.args.id c.push_pages.new.column c.buffer.result.now c.buffer.ensures.value k.kind)
+      set-types c.args.columns.now c.args.of.now.id c.push_pages.new.column c.buffer.result.now c.buffer.ensures.value k.kind)
       c.push_pages.ensures.grown;
 }

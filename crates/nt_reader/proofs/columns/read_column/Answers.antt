@@ -9,28 +9,28 @@ use Rattle.nt_reader.proofs.columns.read_column.Goals as goal
 
 pub returns-then-not-known-clause-read : goal.returns-then-not-known-clause-read
 returns-then-not-known-clause-read g c row there told is =
-    closed-read told c.args.number c.args.cluster.now c.args.schema.now c.args.id row c.known_column-known.result
+    closed-read told c.args.cluster.now.number c.args.cluster.now.list.now c.args.schema.now c.args.id row c.known_column-known.result
     (c.known_column-known.ensures row there) c.if-not-known.true
     ∙ ap (λ (l : List Element). Ok l) (sym (next-elements c.args.schema.now.columns (columns_of c.args.columns.now) c.args.id row
-    c.requires.next.before there c.requires.next.there))
+    c.requires.1.before there c.requires.1.there))
 
 pub zeros-requires-clause-empty : goal.zeros-requires-clause-empty
 zeros-requires-clause-empty g c =
-    next-elements c.args.schema.now.columns (columns_of c.args.columns.now) c.args.id _ c.requires.next.before
-    (row-there c.args.schema.now.columns c.args.id c.requires.next.there) c.requires.next.there
+    next-elements c.args.schema.now.columns (columns_of c.args.columns.now) c.args.id _ c.requires.1.before
+    (row-there c.args.schema.now.columns c.args.id c.requires.1.there) c.requires.1.there
 
 pub returns-then-begins_behind-clause-read : goal.returns-then-begins_behind-clause-read
 returns-then-begins_behind-clause-read g c row there told is =
-    zeros-read told c.args.number c.args.cluster.now c.args.schema.now c.args.id row c.known_column-known.result
+    zeros-read told c.args.cluster.now.number c.args.cluster.now.list.now c.args.schema.now c.args.id row c.known_column-known.result
     (c.known_column-known.ensures row there) c.if-not-known.false
     (sym c.begins_behind.ensures ∙ c.if-begins_behind.true)
-    ∙ ap (λ (l : List Element). Ok l) (sym (zeroed-elements c.args.id c.args.cluster.now.entries (columns_of c.args.columns.now) _
-    (inside c.args.schema.now.columns (columns_of c.args.columns.now) c.args.id c.requires.next.before.all c.requires.next.there)
+    ∙ ap (λ (l : List Element). Ok l) (sym (zeroed-elements c.args.id c.args.cluster.now.list.now.entries (columns_of c.args.columns.now) _
+    (inside c.args.schema.now.columns (columns_of c.args.columns.now) c.args.id c.requires.1.before.all c.requires.1.there)
     c.zeros.ensures))
 
 pub returns-then-begins_behind-clause-others : goal.returns-then-begins_behind-clause-others
 returns-then-begins_behind-clause-others g c =
-    let zeros = λ (x : Column). zeroed x.kind c.args.cluster.now.entries in
+    let zeros = λ (x : Column). zeroed x.kind c.args.cluster.now.list.now.entries in
     record {
       one = changed-changes zeros c.args.id (columns_of c.args.columns.now) _ c.zeros.ensures;
       types = changed-keeps zeros c.args.id (columns_of c.args.columns.now) _ (λ x. refl) c.zeros.ensures;
@@ -42,29 +42,34 @@ returns-then-not-known-clause-others g c = record { one = record { all = refl; b
 pub returns-in-None-clause-others : goal.returns-in-None-clause-others
 returns-in-None-clause-others g c = record { one = record { all = refl; before = refl; behind = refl }; types = refl }
 
-pub fill-requires-clause-empty : goal.fill-requires-clause-empty
-fill-requires-clause-empty g c = record {
-  there = inside c.args.schema.now.columns (columns_of c.args.columns.now) c.args.id c.requires.next.before.all c.requires.next.there;
-  none = next-kind c.args.schema.now.columns (columns_of c.args.columns.now) c.args.id _ c.requires.next.before
-      (row-there c.args.schema.now.columns c.args.id c.requires.next.there) c.requires.next.there;
-}
+pub fill-requires : goal.fill-requires
+fill-requires g c = (
+  c.requires.0,
+  record {
+    there = inside c.args.schema.now.columns (columns_of c.args.columns.now) c.args.id c.requires.1.before.all c.requires.1.there;
+    none = next-kind c.args.schema.now.columns (columns_of c.args.columns.now) c.args.id _ c.requires.1.before
+        (row-there c.args.schema.now.columns c.args.id c.requires.1.there) c.requires.1.there;
+  },
+)
 
 pub returns-in-Some-clause-read : goal.returns-in-Some-clause-read
 returns-in-Some-clause-read g c row there told is =
     reads-as _ c.fill.result _ _
-    (paged-read told c.args.number c.args.cluster.now c.args.schema.now c.args.id row c.column.result.now c.known_column-known.result
+    (paged-read told c.args.cluster.now.number c.args.cluster.now.list.now c.args.schema.now c.args.id row c.column.result.now
+    c.known_column-known.result
     c.in-Some.field-0 c.kind_of_row.result (columns_of c.args.columns.now)
     c.pages_listed.result.now (c.known_column-known.ensures row there) c.if-not-known.false (sym c.begins_behind.ensures
     ∙ c.if-begins_behind.false) there c.column.ensures c.in-Some.is c.kind_of_row.ensures
-    (next-empty c.args.schema.now.columns (columns_of c.args.columns.now) c.args.id row c.requires.next.before there
-    c.requires.next.there) c.pages_listed.ensures)
+    (next-empty c.args.schema.now.columns (columns_of c.args.columns.now) c.args.id row c.requires.1.before there
+    c.requires.1.there) c.pages_listed.ensures)
     (c.fill.ensures.read told is)
 
 pub returns-in-None-clause-read : goal.returns-in-None-clause-read
 returns-in-None-clause-read g c row there told is =
-    untyped-read told c.args.number c.args.cluster.now c.args.schema.now c.args.id row c.column.result.now c.known_column-known.result
+    untyped-read told c.args.cluster.now.number c.args.cluster.now.list.now c.args.schema.now c.args.id row c.column.result.now
+    c.known_column-known.result
     c.kind_of_row.result (c.known_column-known.ensures row there)
     c.if-not-known.false (sym c.begins_behind.ensures ∙ c.if-begins_behind.false) there c.column.ensures c.in-None.is
     c.kind_of_row.ensures
     ∙ ap (λ (l : List Element). Ok l) (sym (next-elements c.args.schema.now.columns (columns_of c.args.columns.now) c.args.id row
-    c.requires.next.before there c.requires.next.there))
+    c.requires.1.before there c.requires.1.there))

@@ -18,10 +18,11 @@ pub loop-id-init : goal.loop-id-init
 loop-id-init g c = record {
   same = refl;
   later = omega arith;
+  window = c.new-window.ensures (g.F.ReadAt.state c.args.file.now) c.requires;
   types = types-of_empty c.args.schema.now.columns _ c.in_ok-columns.ensures;
   done = none-read c.args.schema.now.columns c.in_ok-columns.columns c.in_ok-columns.ensures;
   read = λ told is.
-      behind-none (columns_from told c.args.number c.args.cluster.now c.args.schema.now 0 c.args.schema.now.columns);
+      behind-none (columns_from told c.args.cluster.now.number c.args.cluster.now.list.now c.args.schema.now 0 c.args.schema.now.columns);
 }
 
 pub returns-in_err-read_column-clause-read : goal.returns-in_err-read_column-clause-read
@@ -29,7 +30,8 @@ returns-in_err-read_column-clause-read g c told is =
     let p = err_from_is_err_and c.from_residual-in_err-read_column.result c.from_residual-in_err-read_column.ensures.1 in
     rw (p.1, p.2)
     (fails-as (λ (l : List (List Element)). l) (λ (l : List (List Element)). l) _ _ _ (c.loop-id.invariant.read told is)
-    (columns-fail (λ (l : List Element). l) (λ (l : List (List Element)). l) told c.args.number c.args.cluster.now c.args.schema.now
+    (columns-fail (λ (l : List Element). l) (λ (l : List
+    (List Element)). l) told c.args.cluster.now.number c.args.cluster.now.list.now c.args.schema.now
     c.loop-id.id _ _ _ (omega arith)
     (row-there c.args.schema.now.columns c.loop-id.id (omega arith))
     (c.in_err-read_column.ensures.read _ (row-there c.args.schema.now.columns c.loop-id.id (omega arith)) told (c.loop-id.invariant.same
@@ -39,11 +41,12 @@ pub loop-id-preserved : goal.loop-id-preserved
 loop-id-preserved g c = record {
   same = c.in_ok-read_column.ensures.file.same ∙ c.loop-id.invariant.same;
   later = omega (arith, c.in_ok-read_column.ensures.file.later, c.loop-id.invariant.later);
+  window = c.in_ok-read_column.ensures.window;
   types = c.in_ok-read_column.ensures.others.types ∙ c.loop-id.invariant.types;
   done = read-more c.args.schema.now.columns _ _ c.loop-id.id c.loop-id.invariant.done c.in_ok-read_column.ensures.others.one;
   read = λ told is.
       c.loop-id.invariant.read told is
-      ∙ columns-more told c.args.number c.args.cluster.now c.args.schema.now c.loop-id.id _ _ _ _ (omega arith)
+      ∙ columns-more told c.args.cluster.now.number c.args.cluster.now.list.now c.args.schema.now c.loop-id.id _ _ _ _ (omega arith)
       (row-there c.args.schema.now.columns c.loop-id.id (omega arith))
       (c.in_ok-read_column.ensures.read _ (row-there c.args.schema.now.columns c.loop-id.id (omega arith)) told (c.loop-id.invariant.same
       ∙ is))

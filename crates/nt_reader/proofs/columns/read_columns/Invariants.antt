@@ -1,6 +1,7 @@
 use Rattle.std.proofs.Common.{◌≡◌, ◌≤◌, ℕ, List, take, drop, Some}
 use Rattle.nt_column.specs.Column.{columns_of}
 use Rattle.nt_file_meaning.specs.Clusters.{columns_from}
+use Rattle.nt_reader.specs.Windows.{IsSeenBy}
 use Rattle.nt_reader.specs.Columns.{held_elements, AreReadTo, AreOfTypes}
 use Rattle.nt_reader.proofs.ColumnSteps.{columns_behind}
 use Rattle.nt_reader.proofs.columns.read_columns.Given as goal
@@ -12,9 +13,11 @@ invariant-loop-id g l =
     record {
       same : (state l.file).bytes ≡ (state l.initial.file).bytes;
       later : (state l.initial.file).faults ≤ (state l.file).faults;
+      window : IsSeenBy (state l.file) l.window;
       types : AreOfTypes l.schema.columns (columns_of l.columns);
       done : AreReadTo l.schema.columns l.id (columns_of l.columns);
       read : (told : List ℕ) → (state l.initial.file).bytes ≡ Some told
-          → columns_from told l.number l.cluster l.schema 0 l.schema.columns
-          ≡ columns_behind l.number l.cluster l.schema l.id (drop l.id l.schema.columns) (take l.id (held_elements l.columns)) told;
+          → columns_from told l.cluster.number l.cluster.list.now l.schema 0 l.schema.columns
+          ≡ columns_behind l.cluster.number l.cluster.list.now l.schema l.id (drop l.id l.schema.columns) (take l.id
+          (held_elements l.columns)) told;
     }

@@ -10,11 +10,11 @@ invariant-loop-i g l =
     record {
       same : (state l.file).bytes ≡ (state l.initial.file).bytes;
       later : (state l.initial.file).faults ≤ (state l.file).faults;
-      columns : length l.so_far.elements ≡ length l.columns;
-      counted : AreCounted l.so_far.entries l.so_far.clusters (drop l.i l.groups);
-      listed : length l.clusters.items ≡ l.so_far.clusters;
-      few : l.so_far.clusters < 2 ^ 32;
+      columns : length l.so_far.progress.elements ≡ length l.known.columns.now;
+      counted : AreCounted l.so_far.progress.entries l.so_far.progress.clusters (drop l.i l.groups);
+      listed : length l.so_far.clusters.items ≡ l.so_far.progress.clusters;
+      few : l.so_far.progress.clusters < 2 ^ 32;
       read : (told : List ℕ) → (state l.initial.file).bytes ≡ Some told
-          → groups_clusters told l.sum l.columns l.groups (no_progress (length l.columns))
-          ≡ clusters_behind l.sum l.columns (drop l.i l.groups) l.so_far l.clusters.items told;
+          → groups_clusters told l.known.sum l.known.columns.now l.groups (no_progress (length l.known.columns.now))
+          ≡ clusters_behind l.known.sum l.known.columns.now (drop l.i l.groups) l.so_far.progress l.so_far.clusters.items told;
     }

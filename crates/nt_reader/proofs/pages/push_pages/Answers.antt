@@ -1,4 +1,4 @@
-use Rattle.std.proofs.Common.{◌∙◌, refl, sym, arith}
+use Rattle.std.proofs.Common.{◌∙◌, refl, arith}
 use Rattle.std.proofs.lemmas.Result.{err_from_is_err_and}
 use Rattle.nt_column.specs.Column.{Column}
 use Rattle.nt_reader.proofs.Chains.{fails-as}
@@ -9,7 +9,7 @@ pub loop-i-init : goal.loop-i-init
 loop-i-init g c = record {
   same = refl;
   later = omega arith;
-  window = λ told is. c.new-window.ensures (g.F.ReadAt.state c.args.file.now) told is;
+  window = c.requires.seen;
   grown = record { kind = refl; zeros = refl };
   read = λ told is. refl;
 }
@@ -19,20 +19,20 @@ returns-in_err-push_page-clause-read g c told is =
     let p = err_from_is_err_and c.from_residual.result c.from_residual.ensures.1 in
     rw (p.1, p.2)
     (fails-as (λ (d : Column). d) (λ (d : Column). d) _ _ _ (c.loop-i.invariant.read told is)
-    (pages-fail told c.args.number c.args.id c.loop-i.i c.args.pages.now _ c.loop-i.column.column _ (omega arith)
+    (pages-fail told c.args.of.now.cluster c.args.of.now.id c.loop-i.i c.args.pages.now _ c.loop-i.column.column _ (omega arith)
     (c.in_err-push_page.ensures.read told (c.loop-i.invariant.same ∙ is))))
 
 pub loop-i-preserved : goal.loop-i-preserved
 loop-i-preserved g c = record {
   same = c.in_ok-push_page.ensures.file.same ∙ c.loop-i.invariant.same;
   later = omega (arith, c.in_ok-push_page.ensures.file.later, c.loop-i.invariant.later);
-  window = λ told is. c.in_ok-push_page.ensures.window told (sym c.in_ok-push_page.ensures.file.same ∙ is);
+  window = c.in_ok-push_page.ensures.window;
   grown = record {
     kind = c.in_ok-push_page.ensures.grown.kind ∙ c.loop-i.invariant.grown.kind;
     zeros = c.in_ok-push_page.ensures.grown.zeros ∙ c.loop-i.invariant.grown.zeros;
   };
   read = λ told is.
       c.loop-i.invariant.read told is
-      ∙ pages-more told c.args.number c.args.id c.loop-i.i c.args.pages.now _ c.loop-i.column.column _ (omega arith)
+      ∙ pages-more told c.args.of.now.cluster c.args.of.now.id c.loop-i.i c.args.pages.now _ c.loop-i.column.column _ (omega arith)
       (c.in_ok-push_page.ensures.read told (c.loop-i.invariant.same ∙ is));
 }

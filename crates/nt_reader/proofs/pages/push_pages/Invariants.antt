@@ -1,5 +1,5 @@
 use Rattle.std.proofs.Common.{◌≡◌, ◌≤◌, ℕ, List, drop, Some}
-use Rattle.nt_reader.specs.Windows.{IsWindowOf}
+use Rattle.nt_reader.specs.Windows.{IsSeenBy}
 use Rattle.nt_reader.specs.Pages.{column_with_pages, KeepsKind}
 use Rattle.nt_reader.proofs.pages.push_pages.Given as goal
 
@@ -10,9 +10,10 @@ invariant-loop-i g l =
     record {
       same : (state l.file).bytes ≡ (state l.initial.file).bytes;
       later : (state l.initial.file).faults ≤ (state l.file).faults;
-      window : IsWindowOf (state l.file) l.window;
+      window : IsSeenBy (state l.file) l.window;
       grown : KeepsKind l.initial.column.column l.column.column;
       read : (told : List ℕ) → (state l.initial.file).bytes ≡ Some told
-          → column_with_pages l.number l.id l.pages l.initial.column.column told ≡ column_with_pages l.number l.id (drop l.i l.pages)
+          → column_with_pages l.of.cluster l.of.id l.pages l.initial.column.column told ≡ column_with_pages l.of.cluster l.of.id
+          (drop l.i l.pages)
           l.column.column told;
     }

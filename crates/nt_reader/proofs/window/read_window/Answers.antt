@@ -13,7 +13,8 @@ returns-in_err-bytes-clause-read g c told is =
 
 pub returns-clause-read : goal.returns-clause-read
 returns-clause-read g c told is =
-    page-found told c.args.outside c.args.page.now (record { at = c.args.page.now.place; bytes = c.in_ok-bytes.bytes })
+    page-found told c.args.outside c.args.page.now
+    (record { alloc = c.args.alloc; size = c.args.size; at = c.args.page.now.place; bytes = c.in_ok-bytes.bytes })
     (record {
       behind = omega arith;
       before = omega (
