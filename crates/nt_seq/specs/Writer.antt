@@ -1,5 +1,5 @@
 -- A sequential writer, as its users see it.
-use Rattle.std.specs.Prelude.{ℕ, ◌≡◌, ◌+◌, Bool, true, List, [], ◌∷◌, ◌++◌}
+use Rattle.std.specs.Prelude.{ℕ, ◌≡◌, ◌+◌, ◌<◌, Bool, true, List, [], ◌∷◌, ◌++◌, length}
 use Rattle.nt_types.specs.TreeData.{TreeData, TreesData, trees_of}
 use Rattle.nt_event.specs.Standing.{SpellsTrees}
 use Rattle.nt_column.specs.Column.{Column}
@@ -31,6 +31,11 @@ module _ {D : Type 0} where
   pub record IsClear (w : SeqState D) : Type 0 where
     pub alive : w.alive ≡ true
     pub none : gathered_by w ≡ []
+
+  -- it is alive, and what it has gathered isn't a whole cluster
+  pub record HasEntryRoom (w : SeqState D) : Type 0 where
+    pub alive : w.alive ≡ true
+    pub room : length (gathered_by w) < w.params.cluster
 
   -- one entry more is gathered, and nothing else changed
   pub record GathersEntry (entry : TreesData) (old new : SeqState D) : Type 0 where

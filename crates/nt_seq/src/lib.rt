@@ -3,7 +3,8 @@
 //!
 //! Start at `SeqWriter` in `writer.rt`. `new` begins the file; `fill` gathers an entry, and
 //! `fill_line` that of a line of event text: it does what nt_event's `read_line` and then `fill`
-//! do, without a tree in between, or refuses the line, whose trees are then to be read. `flush` writes
+//! do, without a tree in between, or refuses the line, whose trees are then to be read. `fill_from` gathers
+//! what is chosen of an entry of other columns, also without trees. `flush` writes
 //! what is gathered as the next cluster, in one append, and before it the page list that is due; `extend` adds a field behind all entries
 //! so far; `close` closes the file, and `abandon` gives the disk back as it is.
 //!
@@ -15,7 +16,7 @@
 //! header stands in it whatever was added since.
 //!
 //! Proved, as a relation of what the writer is before and after each call (`specs/Changing`): an
-//! entry is gathered whole or not at all (`fill`, `fill_line`); a flush makes the gathered
+//! entry is gathered whole or not at all (`fill`, `fill_line`, `fill_from`); a flush makes the gathered
 //! entries the next cluster, behind the page list that its book is due (`ok` of `FlushesNext`), names exactly the limit of its
 //! book that they or that list pass (`limits`), leaves all as it was where it is refused, and fails only where the disk's count of
 //! faults rose, with a part of their image or of that list behind its ranges (`refused`); a field is added exactly where none at the top level has its name and
@@ -52,6 +53,7 @@ mod filling;
 mod flushing;
 mod keeping;
 mod laws;
+mod moving;
 mod widening;
 mod writer;
 

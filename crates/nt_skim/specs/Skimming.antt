@@ -8,6 +8,8 @@ use Rattle.nt_outside.specs.Faults.{Rose}
 use Rattle.nt_outside.specs.File.{FileState}
 use Rattle.nt_skim.specs.declared.error.SkimError.{SkimError}
 use Rattle.nt_skim.specs.declared.error.SkimError.TheVariants.{Defect, Fault, Sink, Memory}
+use Rattle.nt_skim.specs.declared.error.PutError.{PutError}
+use Rattle.nt_skim.specs.declared.error.PutError.TheVariants as unput
 use Rattle.nt_skim.specs.Select.{Selection, FitsFields, selected, entries_read, before_fault}
 
 -- a sink: the fields of its entries; which entries were put, as it tells; the answer of a put that it refused; and what no put changes
@@ -56,14 +58,28 @@ pub record LeavesSink {F B V : Type 0} (old new : SinkState F B) (result : Resul
   pub fields : new.fields ≡ old.fields
   pub birth : new.birth ≡ old.birth
 
--- a sink took an entry, or refused it and then has as many as before
-pub record AnswersPut {F B : Type 0} (entry : TreesData) (old new : SinkState F B) (result : Result Unit F) : Type 0 where
+-- a sink took an entry, or it has as many as before; then this is what it answered, if it was asked
+pub record AnswersEntry {F B E : Type 0} (refusal : E → Option F) (entry : TreesData) (old new : SinkState F B)
+    (result : Result Unit E) : Type 0 where
   pub fields : new.fields ≡ old.fields
   pub birth : new.birth ≡ old.birth
   pub ok : OnOk result (new.refused ≡ None)
   pub added : OnOk result (GainsEntries (entry ∷ []) old.entries new.entries)
-  pub err : IfErr result (λ f. new.refused ≡ Some f)
+  pub err : IfErr result (λ e. new.refused ≡ refusal e)
   pub kept : OnErr result (KeepsPut old.entries new.entries)
+
+-- a sink took an entry, or refused it
+abbrev pub AnswersPut : {F B : Type 0} → TreesData → SinkState F B → SinkState F B → Result Unit F → Type 0
+AnswersPut entry old new result = AnswersEntry (λ f. Some f) entry old new result
+
+-- what a sink answered, where it was asked
+abbrev pub refusal_of : {F : Type 0} → PutError F → Option F
+refusal_of (unput.Refused f) = Some f
+refusal_of unput.Memory = None
+
+-- a sink took what is chosen of an entry of a cluster, or refused it, or wasn't asked
+abbrev pub AnswersPutFrom : {F B : Type 0} → TreesData → SinkState F B → SinkState F B → Result Unit (PutError F) → Type 0
+AnswersPutFrom entry old new result = AnswersEntry refusal_of entry old new result
 
 -- entries of a file of this schema can be put into a sink by a plan: it has refused none, what is chosen fits, and its fields are those
 -- of the plan

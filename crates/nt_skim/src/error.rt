@@ -15,6 +15,14 @@ pub enum SkimError<S> {
     Memory,
 }
 
+/// Why an entry of a cluster wasn't put.
+pub enum PutError<S> {
+    /// What the sink answered.
+    Refused(S),
+    /// There was no memory for the trees that the sink would have been given.
+    Memory,
+}
+
 /// What came in place of a plan.
 #[derive(Drop)]
 pub enum PlanError {

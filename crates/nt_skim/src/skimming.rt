@@ -10,7 +10,7 @@ ghost use Rattle.nt_reader.specs.Outlines.{entries_in};
 ghost use Rattle.nt_skim.specs.Select.{selection_of, selected, passes, cluster_readings};
 ghost use Rattle.nt_skim.specs.Skimming.{TakesSelected, IsClusterSkimmed, IsSkimmed, LeavesSink, CanSkim, ServesSkim};
 
-use crate::error::SkimError;
+use crate::error::{PutError, SkimError};
 use crate::selection::{PlaceTest, SkimPlan};
 use crate::sink::EntrySink;
 use nt_outside::ReadAt;
@@ -52,12 +52,10 @@ fn put_entry<E: EntrySink>(
     if !passes(cluster, &plan.test, i) {
         return Ok(0);
     }
-    match cluster.chosen(alloc, &plan.places, i) {
-        Ok(trees) => match out.put(&trees) {
-            Ok(()) => Ok(1),
-            Err(fault) => Err(SkimError::Sink(fault)),
-        },
-        Err(_) => Err(SkimError::Memory),
+    match out.put_from(alloc, cluster, &plan.places, i) {
+        Ok(()) => Ok(1),
+        Err(PutError::Refused(fault)) => Err(SkimError::Sink(fault)),
+        Err(PutError::Memory) => Err(SkimError::Memory),
     }
 }
 

@@ -25,7 +25,7 @@ use Rattle.nt_store.proofs.Begun.{shut_open}
 use Rattle.nt_script.specs.declared.storing.Counts.{Counts}
 use Rattle.nt_script.specs.Script.{last_entries}
 use Rattle.nt_script.specs.Limits.{TellsLimit, PassesHere}
-use Rattle.nt_script.specs.Passing.{IsDue, passes_writing}
+use Rattle.nt_script.specs.Passing.{IsWrittenNext, passes_writing}
 use Rattle.nt_script.specs.Taking.{HasTakenLines, HasWrittenLines, HaltsAt}
 use Rattle.nt_script.specs.Running.{error_of_commit}
 use Rattle.nt_script.proofs.Flushed.{gathered_written, gathered_refused, given_flushed, given_refused}
@@ -49,9 +49,9 @@ UnclosedLeave = (t : Table) (h : Held) → IsUnclosedOf t h → LeavesUnfinished
 
 module _ (F : List MemberData) (t : Table) (p : Params) (rows : Rows F p.plain t) (front rest : List TreesData) where
   -- a cluster behind the first entries passes a limit
-  pub passes_there : (next : List TreesData) (error : LimitError) (reached most : ℕ) → IsDue p next (last_entries rest None)
+  pub passes_there : (next : List TreesData) (error : LimitError) (reached most : ℕ) → IsWrittenNext p next (last_entries rest None)
       → PassesHere t p [] front next error → TellsLimit p error reached most → PassesSelected p F (front ++ rest) reached most
-  passes_there next error reached most due passes tells = passes_writing error (record {
+  passes_there next error reached most written passes tells = passes_writing error (record {
     first = t;
     rows = rows;
     segments = [];
@@ -62,31 +62,31 @@ module _ (F : List MemberData) (t : Table) (p : Params) (rows : Rows F p.plain t
     passes = passes;
     behind = last_entries rest None;
     script_is = refl;
-    due = due;
+    written_next = written;
   }) tells
 
   module _ {D : Type 0} (state : D → DiskState) (w : SeqState D) (disk : DiskState) (h : Held) (held : disk.held ≡ Some h)
       (shut : IsShut h.image) (leaves : LeavesUnfinished h.log) (IsNext : List TreesData → Type 0)
-      (due : (next : List TreesData) → IsNext next → IsDue p next (last_entries rest None)) where
+      (written : (next : List TreesData) → IsNext next → IsWrittenNext p next (last_entries rest None)) where
     pub early_left : (e : CommitError) → HaltsAt state IsNext t p [] front w (error_of_commit e)
         → LeavesEntries p F (front ++ rest) disk (Err (skim_of_commit p.limits.clusters e))
     early_left (commit.RangeTooLarge len most) (next, is, passes) = record {
       told = (
-        passes_there next (limit.RangeTooLarge len most) len most (due next is) passes (refl, refl),
+        passes_there next (limit.RangeTooLarge len most) len most (written next is) passes (refl, refl),
         (h, held, shut_open h.image shut),
       );
       crash = (h, held, leaves);
     }
     early_left (commit.FileTooLarge end most) (next, is, passes) = record {
       told = (
-        passes_there next (limit.FileTooLarge end most) end most (due next is) passes (refl, refl),
+        passes_there next (limit.FileTooLarge end most) end most (written next is) passes (refl, refl),
         (h, held, shut_open h.image shut),
       );
       crash = (h, held, leaves);
     }
     early_left commit.TooManyClusters (next, is, passes) = record {
       told = (
-        passes_there next limit.TooManyClusters (p.limits.clusters + 1) p.limits.clusters (due next is) passes (refl, refl),
+        passes_there next limit.TooManyClusters (p.limits.clusters + 1) p.limits.clusters (written next is) passes (refl, refl),
         (h, held, shut_open h.image shut),
       );
       crash = (h, held, leaves);

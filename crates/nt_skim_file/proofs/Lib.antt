@@ -1,6 +1,7 @@
 pub mod Meanings
 pub mod Takings
 pub mod Puts
+pub mod Gathered
 pub mod Ended
 pub mod Early
 pub mod Selected

@@ -8,6 +8,11 @@ use Rattle.nt_seq.specs.Writer.{SeqState, gathered_by}
 use Rattle.nt_script.specs.Taking.{HasTakenLines, HaltsAt, MakesWhole}
 use Rattle.nt_script.specs.Running.{error_of_commit}
 
+-- a writer that can take entries: it is alive, and no more than one cluster is gathered
+pub record IsTaking {D : Type 0} (w : SeqState D) : Type 0 where
+  pub alive : w.alive ≡ true
+  pub few : length (gathered_by w) ≤ w.params.cluster
+
 -- the disk as it was given, the schema and the parameters are as before, and no more than one cluster is gathered; the writer is alive
 -- after Ok, and a fault comes only where the disk has failed
 pub record StaysWriter {D : Type 0} (state : D → DiskState) (old new : SeqState D) (result : Result Unit CommitError) : Type 0 where

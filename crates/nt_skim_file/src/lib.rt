@@ -20,6 +20,8 @@
 //! comes back.
 //!
 //! Choices that bind nobody else:
+//! - An entry is put by elements: what is chosen of it goes from the columns of the cluster that was read into those of the
+//!   writer, and no tree is made. `put` takes trees, and does the same with them.
 //! - A put writes the gathered cluster first, where it is whole, and then gathers its entry; so the last cluster, whole or not, is
 //!   written once all is put.
 #![tactic(auto)]

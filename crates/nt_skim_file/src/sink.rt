@@ -1,22 +1,25 @@
 //! A sink that writes what is put as the clusters of a file.
 
-ghost use Rattle.std.specs.Prelude.{◌≡◌, ◌≤◌, ◌<◌, [], true, None, List, length, OnOk};
-ghost use Rattle.nt_types.specs.TreeData.{TreesData, trees_of};
+ghost use Rattle.std.specs.Prelude.{◌≡◌, ◌≤◌, ◌<◌, [], true, None, List, length, slice_index_or, OnOk, OnErr};
+ghost use Rattle.nt_types.specs.TreeData.{TreesData, trees_of, no_trees};
 ghost use Rattle.nt_types.specs.TreeViews.{trees_view};
 ghost use Rattle.nt_types.specs.Views.{members_view};
 ghost use Rattle.nt_trees.specs.Fits.{fits_entry};
-ghost use Rattle.nt_seq.specs.Writer.{gathered_by};
+ghost use Rattle.nt_join.specs.Chosen.{chosen};
+ghost use Rattle.nt_reader.specs.Columns.{given_entries};
+ghost use Rattle.nt_seq.specs.Writer.{gathered_by, HasEntryRoom, GathersEntry};
 ghost use Rattle.nt_script.specs.Taking.{HasJustFields, HasTakenLines};
 ghost use Rattle.nt_skim_file.specs.Sinks.{IsFileSink};
-ghost use Rattle.nt_skim_file.specs.Taking.{StaysWriter, MakesEntryRoom, TakesPut};
+ghost use Rattle.nt_skim_file.specs.Taking.{IsTaking, StaysWriter, MakesEntryRoom, TakesPut};
 
 use crate::birth::SinkBirth;
 use nt_commit::CommitError;
 use nt_outside::Disk;
+use nt_reader::ClusterRead;
 use nt_seq::SeqWriter;
-use nt_skim::EntrySink;
+use nt_skim::{EntrySink, PutError};
 use nt_types::{Fields, Trees};
-use std::alloc::AllocError;
+use std::alloc::{AllocError, Global};
 use std::marker::Model;
 use std::snapshot::Snapshot;
 
@@ -50,6 +53,51 @@ fn take<D: Disk>(writer: &mut SeqWriter<D>, trees: &Trees) -> Result<(), CommitE
         Err(error) => return Err(error),
     }
     match writer.fill(trees) {
+        Ok(()) => Ok(()),
+        Err(AllocError) => Err(CommitError::Memory),
+    }
+}
+
+/// Gathers what is chosen of an entry of a cluster, whose columns have its elements.
+fn gather<D: Disk>(
+    writer: &mut SeqWriter<D>,
+    cluster: &ClusterRead<'_>,
+    places: &[u32],
+    i: u64,
+) -> Result<(), AllocError>
+    requires there { i < cluster.now.entries }
+    requires room { HasEntryRoom writer.old }
+    requires fits { fits_entry writer.old.table
+        (chosen places.now (slice_index_or (given_entries cluster.now) i no_trees)) ≡ true }
+    ensures ok { OnOk result (GathersEntry
+        (chosen places.now (slice_index_or (given_entries cluster.now) i no_trees)) writer.old writer.new) }
+    ensures err { OnErr result (writer.new ≡ writer.old) }
+{
+    cluster.readable();
+    writer.fill_from(cluster.columns(), cluster.plans(), places, i)
+}
+
+/// Takes what is chosen of an entry of a cluster, without trees, as `take` takes its trees.
+fn take_from<D: Disk>(
+    writer: &mut SeqWriter<D>,
+    cluster: &ClusterRead<'_>,
+    places: &[u32],
+    i: u64,
+) -> Result<(), CommitError>
+    requires there { i < cluster.now.entries }
+    requires going { IsTaking writer.old }
+    requires fits { fits_entry writer.old.table
+        (chosen places.now (slice_index_or (given_entries cluster.now) i no_trees)) ≡ true }
+    ensures takes { (es : List TreesData) → HasTakenLines D.state [] es writer.old
+        → TakesPut D.state es (chosen places.now (slice_index_or (given_entries cluster.now) i no_trees))
+        writer.old writer.new result }
+    ensures stays { StaysWriter D.state writer.old writer.new result }
+{
+    match make_room(writer) {
+        Ok(()) => {}
+        Err(error) => return Err(error),
+    }
+    match gather(writer, cluster, places, i) {
         Ok(()) => Ok(()),
         Err(AllocError) => Err(CommitError::Memory),
     }
@@ -122,6 +170,23 @@ impl<D: Disk> EntrySink for FileSink<D> {
             Err(error) => {
                 self.refused = Some(error);
                 Err(error)
+            }
+        }
+    }
+
+    /// By elements: they go from the columns of the cluster into those of the writer, and no tree is made.
+    fn put_from(
+        &mut self,
+        _: Global,
+        cluster: &ClusterRead<'_>,
+        places: &[u32],
+        i: u64,
+    ) -> Result<(), PutError<CommitError>> {
+        match take_from(&mut self.writer, cluster, places, i) {
+            Ok(()) => Ok(()),
+            Err(refusal) => {
+                self.refused = Some(refusal);
+                Err(PutError::Refused(refusal))
             }
         }
     }

@@ -1,18 +1,10 @@
-use Rattle.std.proofs.Common.{◌≡◌, ◌∙◌, ◌+◌, ◌<◌, ap, sym, refl, subst, suc, true, [], length, append-nil, arith, MatchBool}
+use Rattle.std.proofs.Common.{◌≡◌, ◌+◌, ◌<◌, sym, refl, subst, true, length, arith, MatchBool}
 use Rattle.nt_types.specs.TreeData.{trees_of}
-use Rattle.nt_grammar.specs.Open.{open_shapes}
 use Rattle.nt_column.specs.Column.{columns_of}
-use Rattle.nt_plans.specs.Place.{open_plans}
-use Rattle.nt_trees.specs.Sound.{AllSound}
-use Rattle.nt_trees.specs.Views.{cols_of}
-use Rattle.nt_trees.proofs.FitPlans.{fit-open}
-use Rattle.nt_shred.specs.Frame.{set_frame}
-use Rattle.nt_shred.proofs.Typed.{all-typed-take}
 use Rattle.nt_shred.specs.Lines.{PutsEntry}
-use Rattle.nt_fill.proofs.Bytes.{all_bytes, small_of}
-use Rattle.nt_fill.proofs.Entries.{entries_more, entries_count, nones_more, gives_of}
+use Rattle.nt_fill.proofs.Entries.{entries_count}
 use Rattle.nt_seq.specs.Writer.{gathered_by}
-use Rattle.nt_seq.proofs.Filled.{writing-filled}
+use Rattle.nt_seq.proofs.Filled.{added-line, writing-filled, entries-added, gives-added}
 use Rattle.nt_seq.proofs.writer.SeqWriter.fill_line.Goals as goal
 
 pub overflow_add-self : goal.overflow_add-self
@@ -30,20 +22,15 @@ invariant_of-self-2 g c =
     let new = c.put_line.new.out in
     let room = subst (λ s. length (gathered_by s) < s.params.cluster) (sym c.self.view_is) c.requires.room in
     let count = entries_count t (columns_of old) n in
-    let alive = subst (λ s. s.alive ≡ true) (sym c.self.view_is) c.requires.alive in
-    let was = c.self.invariant.writing alive in
-    let sound = subst (λ m. AllSound (open_plans t) (cols_of old) m) count was.gives.sound in
+    let was = c.self.invariant.writing (subst (λ s. s.alive ≡ true) (sym c.self.view_is) c.requires.alive) in
     let taken : PutsEntry t c.args.line.now old new =
     subst (λ b. MatchBool b (PutsEntry t c.args.line.now old new) (columns_of new ≡ columns_of old)) c.if-not-put_line.false
     c.put_line.ensures in
-    let last = taken.last n sound in
-    let more : suc n ≡ n + 1 = omega arith in
+    let is = added-line t c.args.line.now old new c.in_range.ensures (c.columns_have_types.ensures t) taken in
     record {
       unclosed = c.self.invariant.unclosed;
       writing = λ _. writing-filled g.D.Disk.state _ (columns_of new) (n + 1) was
-          (gives_of t (columns_of new) (n + 1) taken.set c.in_range.ensures
-          (subst (λ m. AllSound (open_plans t) (cols_of new) m) more last.sound)
-          (nones_more t (trees_of taken.found) old new taken.added taken.fitting was.gives.nones)) (omega (arith, room, count));
+          (gives-added t (trees_of taken.found) old new n is was.gives) (omega (arith, room, count));
     }
 
 pub returns : goal.returns
@@ -52,23 +39,14 @@ returns g c =
     let n = c.self.inside.entries in
     let old = c.self.inside.columns in
     let new = c.put_line.new.out in
+    let was = c.self.invariant.writing (subst (λ s. s.alive ≡ true) (sym c.self.view_is) c.requires.alive) in
     let taken : PutsEntry t c.args.line.now old new =
     subst (λ b. MatchBool b (PutsEntry t c.args.line.now old new) (columns_of new ≡ columns_of old)) c.if-not-put_line.false
     c.put_line.ensures in
-    let ts = trees_of taken.found in
-    let count = entries_count t (columns_of old) n in
-    let alive = subst (λ s. s.alive ≡ true) (sym c.self.view_is) c.requires.alive in
-    let sound = subst (λ m. AllSound (open_plans t) (cols_of old) m) count (c.self.invariant.writing alive).gives.sound in
-    let bytes = all_bytes (set_frame new) (cols_of new) (small_of new c.in_range.ensures) (open_plans t) ts (cols_of old)
-    (all-typed-take new t.columns taken.set.described taken.set.stored (open_plans t) (c.columns_have_types.ensures t))
-    (fit-open t.fields t.columns 0 (open_shapes t.fields t.columns 0 t.fields) ts ∙ taken.fitting)
-    (λ j. ([], ap (λ cols. cols j) taken.added ∙ sym (append-nil _))) in
+    let is = added-line t c.args.line.now old new c.in_range.ensures (c.columns_have_types.ensures t) taken in
     rw (← c.self.view_is) (record {
       found = taken.found;
       spells = taken.spells;
       fits = taken.fitting;
-      gathers = record {
-        entries = entries_more t ts old new n taken.added sound (taken.last n sound) bytes;
-        now = refl;
-      };
+      gathers = record { entries = entries-added t (trees_of taken.found) old new n is was.gives; now = refl };
     })
