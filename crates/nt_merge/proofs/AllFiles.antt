@@ -1,6 +1,6 @@
 -- The clusters of all files that are copied, by their places.
-use Rattle.std.proofs.Common.{◌≡◌, ◌∙◌, ap, sym, refl, subst, ℕ, zero, suc, ◌+◌, ◌<◌, List, [], ◌∷◌}
-use Rattle.std.proofs.Common.{◌++◌, length, drop, take, Some, Ok, Err}
+use Rattle.std.proofs.Common.{◌≡◌, ◌∙◌, ap, sym, refl, subst, ℕ, zero, suc, ◌+◌, List, [], ◌∷◌}
+use Rattle.std.proofs.Common.{◌++◌, length, drop, Some, Err}
 use Rattle.std.proofs.Common.{arith}
 use Rattle.std.specs.Prelude.{slice_get, slice_index_or}
 use Rattle.std.specs.List.{AllByRecursion}
@@ -16,11 +16,10 @@ use Rattle.nt_tfile.specs.declared.failure.ReadFailure.TheVariants as failure
 use Rattle.nt_file_meaning.specs.Outlines.{Outline}
 use Rattle.nt_merge.specs.declared.copy_error.CopyError.{CopyError}
 use Rattle.nt_merge.specs.declared.copy_error.CopyError.TheVariants.{Read, Commit}
-use Rattle.nt_merge.specs.declared.error.MergeError.{MergeError}
 use Rattle.nt_merge.specs.declared.error.MergeError.TheVariants.{ReadFault, DiskFault}
-use Rattle.nt_merge.specs.Copying.{AreOfFile, ToldUpTo, CopyGoesOn}
-use Rattle.nt_merge.specs.Joining.{ToldOfAll, MergeGoesOn, error_of_copy}
-use Rattle.nt_merge.specs.Merging.{Numbered, numbered_from, all_numbered, IsLeftUnfinished}
+use Rattle.nt_merge.specs.Copying.{AreOfFile, ToldUpTo}
+use Rattle.nt_merge.specs.Joining.{ToldOfAll, error_of_copy}
+use Rattle.nt_merge.specs.Merging.{Numbered, numbered_from, all_numbered}
 use Rattle.nt_merge.proofs.Positions.{drop-more, numbered-long}
 
 -- how many clusters stand before those of the file of this number

@@ -1,7 +1,8 @@
 -- A file of copies that was closed.
-use Rattle.std.proofs.Common.{◌≡◌, ◌∙◌, ap, sym, refl, subst, ℕ, ◌<◌, ◌≤◌, inl, inr, List, [], ◌∷◌, map, length, take, Option, Some}
+use Rattle.std.proofs.Common.{◌≡◌, ◌∙◌, ap, sym, refl, subst, ℕ, ◌<◌, ◌≤◌, inl, inr, List, [], ◌∷◌, length, take, Option, Some}
 use Rattle.std.proofs.Common.{None, Bool, true, false, arith}
-use Rattle.std.specs.Prelude.{◌⊎◌, Ok, Err, nat_lt, if◌then◌else◌}
+use Rattle.std.specs.Prelude.{◌⊎◌, Ok, nat_lt, if◌then◌else◌}
+use Rattle.std.specs.List.{AllByRecursion}
 use Rattle.std.proofs.lemmas.Bool.Decides.{nat_tests}
 use Rattle.nt_lists.specs.Parts.{part_bytes}
 use Rattle.nt_types.specs.TreeData.{TreesData}
@@ -10,9 +11,12 @@ use Rattle.nt_num.specs.Faults.{fault}
 use Rattle.nt_outside.specs.Log.{Step}
 use Rattle.nt_outside.specs.Held.{Held}
 use Rattle.nt_outside.specs.Disk.{DiskState}
+use Rattle.nt_outside.specs.Order.{FirstByteLast}
+use Rattle.nt_outside.proofs.Known.{known_reads}
 use Rattle.nt_grammar.specs.Table.{Table}
 use Rattle.nt_book.specs.declared.limits.Limits.{Limits}
 use Rattle.nt_book.specs.declared.limits.LimitError.{LimitError}
+use Rattle.nt_book.specs.declared.meta.ClusterMeta.{ClusterMeta}
 use Rattle.nt_book.specs.declared.params.Params.{Params}
 use Rattle.nt_book.specs.Books.{BookData, book_clusters}
 use Rattle.nt_book.specs.Kept.{IsBookKept}
@@ -22,24 +26,31 @@ use Rattle.nt_layout.specs.Headers.{header_object, clusters_place}
 use Rattle.nt_layout.specs.Beside.{HasListsBeside, parts_so_far}
 use Rattle.nt_layout.specs.Finished.{finished}
 use Rattle.nt_layout.specs.Laid.{IsBookOf, IsWithin, Measures}
-use Rattle.nt_cuts.specs.Cuts.{WritesFirst, LeavesUnfinished, LeavesUnfinishedOr, LeavesOnly}
-use Rattle.nt_close.specs.Closing.{HasCloseCause, LeavesClosed, AreRangesOf}
+use Rattle.nt_cuts.specs.Cuts.{WritesFirst, LeavesUnfinishedOr, LeavesOnly}
 use Rattle.nt_close.specs.Filled.{closing_tail, closing_front}
-use Rattle.nt_close.specs.Laws.{ClosedIsFinished, IsShut, EndsOverFirst}
+use Rattle.nt_close.specs.Laws.{ClosedIsFinished}
 use Rattle.nt_close.specs.Passing.{first_passed, passed_by_begin, passed_by_close, measures_of}
-use Rattle.nt_close.specs.Steps.{closed_on, IsClosedPartly, closed_partly, closed_whole}
-use Rattle.nt_close.proofs.FirstByte.{cut_shut}
+use Rattle.nt_close.specs.Steps.{closed_on, IsClosedPartly, IsClosedSoFar, closed_partly, closed_whole}
+use Rattle.nt_close.proofs.FirstByte.{closes_in_order, cut_shut}
 use Rattle.nt_close.proofs.Within.{listed-beside, within}
 use Rattle.nt_copied.specs.Copies.{Source, AreCopies, IsCopied}
 use Rattle.nt_copied.proofs.CopiedFiles.{lens-copies}
 use Rattle.nt_finished.proofs.Lengths.{clusters_told}
 use Rattle.nt_seq.specs.Crashes.{IsClosedBy, AppendsLeave}
 use Rattle.nt_seq.specs.Written.{file_so_far, IsUnclosedOf}
-use Rattle.nt_seq.proofs.Files.{image-file, shut-unclosed}
+use Rattle.nt_merge_limits.specs.Limits.{kept_metas, MergeFits, IsBookBeside}
+use Rattle.nt_seq.proofs.Files.{image-file, order-unclosed, shut-unclosed}
+use Rattle.nt_seq.proofs.Plain.{plain-file}
 use Rattle.nt_merge.specs.Copying.{HasMerged}
-use Rattle.nt_merge.specs.Merging.{Numbered, sources, readings, IsMerging, HasCopies, IsMerged}
-use Rattle.nt_merge.specs.Merging.{IsMergedFile, IsUnclosed, IsUnfinished, IsCutFile}
-use Rattle.nt_merge.specs.Merging.{shut}
+use Rattle.nt_merge.specs.Merging.{Numbered, sources, readings, copied_metas, IsMerging, IsMerged, IsMergedFile, IsUnfinished}
+use Rattle.nt_merge.specs.Merging.{IsCutAt, IsCutFile, shut, cut_unclosed, cut_whole}
+
+-- what nt_merge_limits says of a file within the limits
+abbrev pub FitsWithin : Type 0
+FitsWithin =
+    (t : Table) (p : Params) (book : BookData) → IsBookBeside t p book → IsWithin t (measures_of p) book
+    → AllByRecursion (λ (m : ClusterMeta). m.len ≤ p.limits.range) (kept_metas book) → length (book_clusters book) ≤ p.limits.clusters
+    → MergeFits t p (kept_metas book)
 
 -- what nt_copied says of a finished file of copies with page lists beside its clusters
 abbrev pub MadeOfCopies : Type 0
@@ -68,7 +79,7 @@ take-whole (n ∷ ns) = ap (λ (l : List Numbered). n ∷ l) (take-whole ns)
 
 module _ (t : Table) (p : Params) (given old : DiskState) (book : BookData) (ns : List Numbered) (is : IsMerging t p given old book)
     (kept : IsBookKept book) (first : Held) (told : given.held ≡ Some first) (finishes : ClosedIsFinished) (made : MadeOfCopies)
-    (has : HasMerged t p given old book ns (length ns)) where
+    (fit : FitsWithin) (has : HasMerged t p given old book ns (length ns)) where
   abbrev behind : List ℕ
   behind = closing_tail t book p.group
 
@@ -108,15 +119,19 @@ module _ (t : Table) (p : Params) (given old : DiskState) (book : BookData) (ns 
 
   -- the finished file is that of the copies
   pub merged : passed_by_close p t book ≡ None → IsMerged t p ns has.lists (closed_on behind before h).image
-  merged passed = record {
-    read = all-read;
-    copied = made (closed_on behind before h).image t (sources ns) has.lists (measures_of p) ranges book refl
-        (record { kept = kept; begin = is.closable.begin; firsts = is.firsts; none_deferred = is.none_deferred })
-        beside
-        (within t p book kept is.closable.noted is.untorn passed (header-within p.limits t is.within))
-        (subst (λ (l : List Numbered). AreCopies t (sources l) has.lists ranges (book_clusters book)) (take-whole ns) has.copies.copies)
-        image-is;
-  }
+  merged passed =
+      let stays = within t p book kept is.closable.noted is.untorn passed (header-within p.limits t is.within) in
+      record {
+        read = all-read;
+        copied = made (closed_on behind before h).image t (sources ns) has.lists (measures_of p) ranges book refl
+            (record { kept = kept; begin = is.closable.begin; firsts = is.firsts; none_deferred = is.none_deferred })
+            beside stays
+            (subst (λ (l : List Numbered). AreCopies t (sources l) has.lists ranges (book_clusters book)) (take-whole ns) has.copies.copies)
+            image-is;
+        fits = subst (λ (ms : List ClusterMeta). MergeFits t p ms)
+            (has.copies.metas ∙ ap (λ (l : List Numbered). copied_metas l) (take-whole ns))
+            (fit t p book (record { kept = kept; begin = is.closable.begin; limits = is.limits; beside = beside }) stays is.short is.few);
+      }
 
   pub whole : passed_by_close p t book ≡ None → IsMergedFile t p ns (closed_on behind before h).image
   whole passed = (has.lists, merged passed)
@@ -140,19 +155,33 @@ module _ (t : Table) (p : Params) (given old : DiskState) (book : BookData) (ns 
       at (inl none) = inl none
       at (inr closed) = inr (closed.0, into bytes closed.1)
 
+  -- its steps are in order, wherever closing came
+  pub in-order : (left : Held) → IsClosedSoFar behind before h left → FirstByteLast left.log
+  in-order left so_far =
+      let some : 0 < length h.image = let zero = shut-unclosed t h unclosed in omega (arith, ap length zero.1) in
+      closes_in_order behind before h some (known_reads h.log h.image (plain-file t is.blobs).known) (order-unclosed t h unclosed) left
+      so_far
+
   module _ (leave : AppendsLeave) where
     pub stays-open : (new : DiskState) → new.held ≡ old.held → (left : Held) × (new.held ≡ Some left) × IsUnfinished first left
     stays-open new same =
-        (h, same ∙ held, record { unclosed = shut (shut-unclosed t h unclosed); crash = leave.unclosed t h unclosed })
+        let left : IsUnfinished first h =
+        record {
+          unclosed = shut (shut-unclosed t h unclosed);
+          order = order-unclosed t h unclosed;
+          crash = leave.unclosed t h unclosed;
+        } in
+        (h, same ∙ held, left)
 
     pub cut-open : (cut : Held) → passed_by_close p t book ≡ None → IsClosedPartly behind before h cut → IsCutFile t p ns first cut
     cut-open cut passed partly =
         let shown = cut_shut behind before h cut (shut-unclosed t h unclosed) partly in
         record {
-          how = elim shown as (λ _. IsUnclosed first cut ⊎ (IsMergedFile t p ns cut.image × EndsOverFirst cut.log)) [
-            | inl is_shut ↦ inl (shut is_shut)
-            | inr same ↦ inr (subst (λ (file : List ℕ). IsMergedFile t p ns file) (sym same.0) (whole passed), same.1)
+          how = elim shown as (λ _. IsCutAt t p ns first cut) [
+            | inl is_shut ↦ cut_unclosed (shut is_shut)
+            | inr same ↦ cut_whole (subst (λ (file : List ℕ). IsMergedFile t p ns file) (sym same.0) (whole passed)) same.1
           ];
+          order = in-order cut (closed_partly partly);
           crash = turned cut.log (turn passed) (leave.closing t is.blobs behind before cut (closed_partly partly));
         }
 

@@ -1,13 +1,12 @@
 -- The next cluster of a file, copied behind those before it.
-use Rattle.std.proofs.Common.{◌≡◌, ◌∙◌, ap, sym, refl, subst, ℕ, ◌+◌, ◌<◌, ◌≤◌, List, [], ◌∷◌, ◌++◌, map, length, take, drop, Option, Some}
-use Rattle.std.proofs.Common.{None, Ok, Err, arith}
+use Rattle.std.proofs.Common.{◌≡◌, ◌∙◌, ap, sym, subst, ℕ, ◌+◌, ◌<◌, List, [], ◌∷◌, ◌++◌, length, take, drop, Option, Some}
+use Rattle.std.proofs.Common.{Ok, Err, arith}
 use Rattle.nt_num.specs.declared.fault.ReadError.{ReadError}
 use Rattle.nt_types.specs.TreeData.{TreesData}
 use Rattle.std.proofs.lemmas.List.{length-map}
 use Rattle.nt_outside.specs.Disk.{DiskState}
 use Rattle.nt_grammar.specs.Table.{Table}
 use Rattle.nt_grammar.specs.declared.rows.ColumnRow.{ColumnRow}
-use Rattle.nt_book.specs.declared.limits.Limits.{Limits}
 use Rattle.nt_book.specs.declared.limits.LimitError.{LimitError}
 use Rattle.nt_book.specs.declared.limits.LimitError.TheVariants as limit
 use Rattle.nt_book.specs.declared.meta.ClusterMeta.{ClusterMeta}
@@ -28,7 +27,7 @@ use Rattle.nt_merge.specs.declared.copy_error.CopyError.TheVariants.{Read, Commi
 use Rattle.nt_merge.specs.Copying.{AreOfFile, IsJoinable, HasMerged, CopiesCluster, IsReadOver, LeavesCluster, ToldUpTo, source_at}
 use Rattle.nt_merge.specs.Merging.{Numbered, reading_of, readings, sound_numbered, copied_meta, copied_metas, IsMerging, HasCopies}
 use Rattle.nt_merge.specs.Planning.{of_file}
-use Rattle.nt_merge.proofs.GoingOn.{merging-more, copies-more}
+use Rattle.nt_merge.proofs.GoingOn.{copies-more}
 use Rattle.nt_merge.proofs.Numbering.{read-more, read-fault, sound-next}
 use Rattle.nt_merge.proofs.Positions.{here, behind, next-here, take-next, metas-append}
 

@@ -1,18 +1,17 @@
 -- What a close leaves of a file of copies, by its answer.
-use Rattle.std.proofs.Common.{◌≡◌, ◌∙◌, ap, sym, refl, subst, ℕ, zero, suc, ◌+◌, ◌<◌, List, [], ◌∷◌}
-use Rattle.std.proofs.Common.{◌++◌, map, length, take, drop, Option, Some}
+use Rattle.std.proofs.Common.{◌≡◌, ◌∙◌, ap, sym, refl, subst, ℕ, zero, suc, ◌<◌, List, [], ◌∷◌}
+use Rattle.std.proofs.Common.{◌++◌, map, length, take, drop, Some}
 use Rattle.std.proofs.Common.{None, arith}
-use Rattle.std.specs.Prelude.{Ok, Bool, false, Contains, slice_index_or, sum_by}
+use Rattle.std.specs.Prelude.{Ok, Bool, false, Contains, slice_index_or}
 use Rattle.std.specs.List.{AllByRecursion, range_with_len}
 use Rattle.std.proofs.lemmas.List.{length-map}
 use Rattle.std.proofs.lemmas.List.FromFn.{length-range_with_len}
 use Rattle.std.proofs.lemmas.List.Sums.{sum_by-cons}
 use Rattle.nt_types.specs.TreeData.{TreesData}
-use Rattle.nt_outside.specs.Held.{Held, Becomes, BecomesSome}
+use Rattle.nt_outside.specs.Held.{Held, BecomesSome}
 use Rattle.nt_outside.specs.Disk.{DiskState}
 use Rattle.nt_grammar.specs.Table.{Table}
-use Rattle.nt_machine.specs.History.{Cluster, Settled}
-use Rattle.nt_plans.specs.Place.{open_plans}
+use Rattle.nt_machine.specs.History.{Cluster}
 use Rattle.nt_book.specs.declared.limits.LimitError.{LimitError}
 use Rattle.nt_book.specs.declared.meta.ClusterMeta.{ClusterMeta}
 use Rattle.nt_book.specs.declared.params.Params.{Params}
@@ -29,7 +28,7 @@ use Rattle.nt_close.specs.Filled.{closing_tail, closing_front}
 use Rattle.nt_close.specs.Laws.{ClosedIsFinished}
 use Rattle.nt_close.specs.Passing.{first_passed, passed_by_close}
 use Rattle.nt_close.specs.Spoiled.{IsUnspoiled}
-use Rattle.nt_close.specs.Steps.{closed_on}
+use Rattle.nt_close.specs.Steps.{closed_on, closed_whole}
 use Rattle.nt_close.proofs.Within.{listed-beside}
 use Rattle.nt_copied.specs.Copies.{Source, IsCopyOf, AreCopies, no_copy, and_copy}
 use Rattle.nt_merge_limits.specs.Limits.{kept_metas, IsBookBeside, MergeOverBy}
@@ -39,7 +38,7 @@ use Rattle.nt_seq.specs.Written.{file_so_far}
 use Rattle.nt_merge.specs.Copying.{HasMerged}
 use Rattle.nt_merge.specs.Merging.{Numbered, sources, readings, sound_numbered, copied_metas, IsMerging}
 use Rattle.nt_merge.specs.Merging.{EndsMerge, IsCutFile, merged_entries}
-use Rattle.nt_merge.proofs.Closed.{MadeOfCopies, merged, closed-crash, cut-open, take-whole}
+use Rattle.nt_merge.proofs.Closed.{MadeOfCopies, FitsWithin, merged, in-order, closed-crash, cut-open, take-whole}
 use Rattle.nt_merge.proofs.Numbering.{sound-all}
 
 -- ---- how many clusters and entries
@@ -133,7 +132,7 @@ module _ (t : Table) (p : Params) (given old : DiskState) (book : BookData) (ns 
       }) false left error (λ s. in-drop (length book.lists) (spans book p.group) s)
       (subst (λ (l : List ℕ). first_passed p.limits (l ++ foot ∷ []) end ≡ Some error) lens passed))
 
-  module _ (finishes : ClosedIsFinished) (made : MadeOfCopies) (leave : AppendsLeave) (new : DiskState)
+  module _ (finishes : ClosedIsFinished) (made : MadeOfCopies) (fit : FitsWithin) (leave : AppendsLeave) (new : DiskState)
       (passed : passed_by_close p t book ≡ None) where
     abbrev tail : List ℕ
     tail = closing_tail t book p.group
@@ -156,12 +155,20 @@ module _ (t : Table) (p : Params) (given old : DiskState) (book : BookData) (ns 
           file = λ first told. (
             closed_on tail front h,
             left.held h (is.held first told),
-            merged t p given old book ns is kept first told finishes made has passed,
+            (
+              merged t p given old book ns is kept first told finishes made fit has passed,
+              (_, refl),
+            ),
+          );
+          order = λ first told. (
+            closed_on tail front h,
+            left.held h (is.held first told),
+            in-order t p given old book ns is kept first told finishes made fit has (closed_on tail front h) (closed_whole refl),
           );
           crash = λ first told. (
             closed_on tail front h,
             left.held h (is.held first told),
-            closed-crash t p given old book ns is kept first told finishes made has leave passed,
+            closed-crash t p given old book ns is kept first told finishes made fit has leave passed,
           );
         }
 
@@ -170,5 +177,5 @@ module _ (t : Table) (p : Params) (given old : DiskState) (book : BookData) (ns 
         let cut = left.held h (is.held first told) in (
           cut.0,
           cut.1,
-          cut-open t p given old book ns is kept first told finishes made has leave cut.0 passed cut.2,
+          cut-open t p given old book ns is kept first told finishes made fit has leave cut.0 passed cut.2,
         )

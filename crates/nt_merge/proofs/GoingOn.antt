@@ -1,7 +1,9 @@
 -- A file that a copy was put into.
-use Rattle.std.proofs.Common.{◌≡◌, ◌∙◌, ap, sym, refl, subst, ℕ, suc, ◌+◌, ◌≤◌, List, [], ◌∷◌, ◌++◌, map, length, Some, None, arith}
+use Rattle.std.proofs.Common.{◌≡◌, ◌∙◌, inl, inr, ap, sym, refl, subst, ℕ, suc, ◌+◌, ◌<◌, ◌≤◌, List, [], ◌∷◌, ◌++◌, map, length, Some}
+use Rattle.std.proofs.Common.{None, arith}
 use Rattle.std.specs.List.{AllByRecursion}
-use Rattle.std.proofs.lemmas.List.{map-append}
+use Rattle.std.proofs.lemmas.Bool.{cases_lt}
+use Rattle.std.proofs.lemmas.List.{length-append, map-append}
 use Rattle.nt_lists.specs.Parts.{part_bytes}
 use Rattle.nt_types.specs.TreeData.{TreesData}
 use Rattle.nt_outside.specs.Held.{Becomes, nothing_held}
@@ -15,6 +17,7 @@ use Rattle.nt_book.specs.declared.meta.ClusterMeta.{ClusterMeta}
 use Rattle.nt_book.specs.declared.params.Params.{Params}
 use Rattle.nt_book.specs.Books.{BookData, book_clusters, book_end}
 use Rattle.nt_book.specs.Limiting.{limit_error, limit_error_with}
+use Rattle.nt_book.proofs.Fitting.{limit_error-none}
 use Rattle.nt_pages.specs.declared.image.ClusterImage.{ClusterImage}
 use Rattle.nt_layout.specs.Headers.{header_blob}
 use Rattle.nt_layout.specs.Beside.{HasListsBeside, parts_so_far}
@@ -33,6 +36,12 @@ use Rattle.nt_seq.specs.Written.{file_so_far}
 use Rattle.nt_seq.proofs.Beside.{lists-sizes}
 use Rattle.nt_seq.proofs.Closable.{closable-more}
 use Rattle.nt_merge.specs.Merging.{Numbered, sources, copied_meta, copied_metas, IsMerging, HasCopies}
+
+not-equal : (n most : ℕ) → n ≤ most → (n ≡ most → ⊥) → n < most
+not-equal n most le not = elim (cases_lt n most) [
+  | inl less ↦ less
+  | inr more ↦ absurd (not (omega (arith, le, more)))
+]
 
 -- one copy more
 copies-push : (t : Table) (ss : List Source) (lists : List (List TreesData)) (ranges : List (List ℕ)) (cs : List (Cluster ClusterMeta))
@@ -86,6 +95,31 @@ module _ (t : Table) (p : Params) (given old new : DiskState) (book next : BookD
   settled-more = subst (λ (cs : List (Cluster ClusterMeta)). AllByRecursion IsSettledCluster cs) (sym appends.gains.clusters)
       (AllByRecursion-append IsSettledCluster (book_clusters book) (cluster ∷ []) is.settled (refl, tt))
 
+  -- what is kept of its clusters
+  metas-more : kept_metas next ≡ kept_metas book ++ i.meta ∷ []
+  metas-more =
+      ap (λ (cs : List (Cluster ClusterMeta)). map (λ (c : Cluster ClusterMeta). c.meta) cs) appends.gains.clusters
+      ∙ map-append (λ (c : Cluster ClusterMeta). c.meta) (book_clusters book) (cluster ∷ [])
+
+  -- the range is no longer than it may get, and there was room for one more
+  none-passed : (i.meta.len ≤ p.limits.range) × (length (book_clusters book) ≡ p.limits.clusters → ⊥)
+  none-passed =
+      let fits =
+      limit_error-none p.limits (book_end book + due) (length (book_clusters book)) i.meta.len
+      (subst (λ (l : Limits). limit_error l (book_end book + due) (length (book_clusters book)) i.meta.len ≡ None) is.limits both.0) in
+      (fits.0, fits.2)
+
+  short-more : AllByRecursion (λ (m : ClusterMeta). m.len ≤ p.limits.range) (kept_metas next)
+  short-more = subst (λ (ms : List ClusterMeta). AllByRecursion (λ (m : ClusterMeta). m.len ≤ p.limits.range) ms) (sym metas-more)
+      (AllByRecursion-append (λ (m : ClusterMeta). m.len ≤ p.limits.range) (kept_metas book) (i.meta ∷ []) is.short (none-passed.0, tt))
+
+  few-more : length (book_clusters next) ≤ p.limits.clusters
+  few-more =
+      let more = ap length appends.gains.clusters ∙ length-append (book_clusters book) (cluster ∷ []) in
+      let room : length (book_clusters book) < p.limits.clusters =
+      not-equal (length (book_clusters book)) p.limits.clusters is.few none-passed.1 in
+      omega (arith, more, room)
+
   pub merging-more : IsMerging t p given new next
   merging-more = record {
     blobs = is.blobs ++ (due_blobs book ++ range ∷ []);
@@ -97,6 +131,8 @@ module _ (t : Table) (p : Params) (given old new : DiskState) (book next : BookD
     settled = settled-more;
     untorn = ap (λ (b : BookData). b.torn) appends.gains.same ∙ is.untorn;
     within = is.within;
+    short = short-more;
+    few = few-more;
   }
 
   -- and the copy of a cluster stands in it
@@ -114,11 +150,10 @@ module _ (t : Table) (p : Params) (given old new : DiskState) (book next : BookD
             (sym more)
             (subst (λ (cs : List (Cluster ClusterMeta)). AreCopies t (sources ns ++ n.source ∷ []) (lists ++ entries ∷ [])
             (has.ranges ++ range ∷ []) cs) (sym appends.gains.clusters) copies);
-        metas = ap (λ (cs : List (Cluster ClusterMeta)). map (λ (c : Cluster ClusterMeta). c.meta) cs) appends.gains.clusters
-            ∙ (map-append (λ (c : Cluster ClusterMeta). c.meta) (book_clusters book) (cluster ∷ [])
+        metas = metas-more
             ∙ (ap (λ (ms : List ClusterMeta). ms ++ i.meta ∷ []) has.metas
             ∙ (ap (λ (m : ClusterMeta). copied_metas ns ++ m ∷ []) meta
-            ∙ sym (ap (map copied_meta) more ∙ map-append copied_meta (sources ns) (n.source ∷ [])))));
+            ∙ sym (ap (map copied_meta) more ∙ map-append copied_meta (sources ns) (n.source ∷ []))));
         held = subst (λ (bs : List (List ℕ)). Becomes given.held new.held (λ h. file_so_far t bs))
             (sym (next_to.parts t p.group has.ranges beside
             (copies-long t (sources ns) lists has.ranges (book_clusters book) has.copies)))

@@ -15,7 +15,7 @@ use Rattle.nt_merge.specs.Files.{TellBytes, KeepFiles, OneRose}
 use Rattle.nt_tfile.specs.Calls.{IsReadOrFails}
 use Rattle.nt_tfile.specs.declared.failure.ReadFailure.{ReadFailure}
 use Rattle.nt_tfile.specs.declared.failure.ReadFailure.TheVariants as failure
-use Rattle.nt_merge.specs.declared.error.MergeError.TheVariants.{ReadFault}
+use Rattle.nt_merge.specs.declared.error.MergeError.TheVariants.{DiskFault, ReadFault}
 use Rattle.nt_merge.specs.Planning.{outlines_from, AreAttached, error_of_read}
 use Rattle.nt_merge.proofs.Lists.{drop-next, found-more}
 
@@ -181,3 +181,8 @@ pub fault-read : (n : ℕ) (e : ReadFailure) → error_of_read n e ≡ ReadFault
 fault-read n (failure.Defect e) is = absurd (cc is)
 fault-read n failure.Fault is = refl
 fault-read n failure.Memory is = absurd (cc is)
+
+pub none-disk : (n : ℕ) (e : ReadFailure) → error_of_read n e ≡ DiskFault → ⊥
+none-disk n (failure.Defect e) is = cc is
+none-disk n failure.Fault is = cc is
+none-disk n failure.Memory is = cc is

@@ -1,15 +1,13 @@
 -- What is left of a cluster that is copied, by the answer of each step.
-use Rattle.std.proofs.Common.{◌≡◌, ◌≢◌, ◌∙◌, ap, sym, refl, ℕ, ◌+◌, List, [], ◌∷◌, map, length, Option, Some, Result, Ok, Err}
-use Rattle.std.proofs.Common.{suc, None}
+use Rattle.std.proofs.Common.{◌≡◌, ◌≢◌, ◌∙◌, ap, sym, refl, ℕ, ◌+◌, List, [], ◌∷◌, length, Option, Some, Result, Err}
+use Rattle.std.proofs.Common.{suc}
 use Rattle.std.specs.List.{range_with_len}
 use Rattle.std.proofs.lemmas.List.{length-map}
 use Rattle.std.proofs.lemmas.List.FromFn.{length-range_with_len}
-use Rattle.nt_num.specs.declared.fault.ReadError.{ReadError}
 use Rattle.nt_types.specs.TreeData.{TreesData}
 use Rattle.nt_outside.specs.Faults.{Rose}
 use Rattle.nt_outside.specs.Disk.{DiskState}
 use Rattle.nt_book.specs.declared.meta.ClusterMeta.{ClusterMeta}
-use Rattle.nt_book.specs.declared.meta.PageMeta.{PageMeta}
 use Rattle.nt_book.specs.Books.{BookData, book_clusters, book_end}
 use Rattle.nt_book.specs.Limiting.{limit_error_with}
 use Rattle.nt_commit.specs.declared.error.CommitError.{CommitError}
@@ -28,10 +26,9 @@ use Rattle.nt_book.specs.declared.limits.LimitError.{LimitError}
 use Rattle.nt_copied.specs.Stored.{StoredPage, stored_metas, stored_column, stored_meta}
 use Rattle.nt_copying.specs.Copied.{copied_columns, copied_pages}
 use Rattle.nt_append.specs.Appending.{FailsOnDisk, KeepsDiskAndBook}
-use Rattle.nt_merge.specs.declared.copy_error.CopyError.{CopyError}
 use Rattle.nt_merge.specs.declared.copy_error.CopyError.TheVariants.{Read, Commit}
-use Rattle.nt_merge.specs.Copying.{LeavesLoaded, LeavesCluster, CopiesLoaded, CopiesCluster, RefusesLoaded}
-use Rattle.nt_merge.specs.Copying.{HasClusterFault, IsReadOver, source_at}
+use Rattle.nt_merge.specs.Copying.{LeavesLoaded, LeavesCluster}
+use Rattle.nt_merge.specs.Copying.{IsReadOver, source_at}
 use Rattle.nt_merge.specs.Copying.{limit_of_copy}
 
 -- a list of pages for each column

@@ -1,5 +1,5 @@
 -- Schemas that nothing stands against are alike, with open fields alone.
-use Rattle.std.proofs.Common.{◌≡◌, ◌∙◌, ap, sym, refl, subst, ℕ, zero, ◌+◌, ◌<◌, cond, Bool, true, false, not, ◌&&◌, ◌||◌, List, [], ◌∷◌}
+use Rattle.std.proofs.Common.{◌≡◌, ◌∙◌, ap, sym, refl, subst, ℕ, ◌+◌, ◌<◌, cond, Bool, true, false, not, ◌&&◌, ◌||◌, List, [], ◌∷◌}
 use Rattle.std.proofs.Common.{length, map, Option, Some, None, arith, eqb}
 use Rattle.std.specs.Prelude.{option_map, is_some}
 use Rattle.std.specs.List.{AllByRecursion}
@@ -19,7 +19,6 @@ use Rattle.nt_plans.specs.Types.{are_some}
 use Rattle.nt_plans.specs.Place.{open_plans, place_from}
 use Rattle.nt_copied.specs.Alike.{without_flags, plain_column, Alike, all_open, AllOpen}
 use Rattle.nt_copied.specs.Copies.{NoneDeferred}
-use Rattle.nt_merge.specs.declared.place.SchemaPlace.{SchemaPlace}
 use Rattle.nt_merge.specs.declared.place.SchemaPlace.TheVariants.{Closed, Deferred, Field, Column}
 use Rattle.nt_merge.specs.Comparing.{closed_from, first_closed, deferred_from, first_deferred, like_field, like_column, unlike_from}
 use Rattle.nt_merge.specs.Comparing.{first_unlike, closed_in, deferred_in, unlike_in, schema_error}

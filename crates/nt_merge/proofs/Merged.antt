@@ -1,6 +1,6 @@
 -- The steps of a merge, one behind the other.
-use Rattle.std.proofs.Common.{◌≡◌, ◌∙◌, ap, sym, refl, subst, ℕ, ◌+◌, ◌≤◌, List, [], length, replicate, Some, Ok, Err, Result, arith}
-use Rattle.std.specs.Prelude.{OnOk, IsErrOf}
+use Rattle.std.proofs.Common.{◌∙◌, ap, sym, ℕ, ◌≤◌, List, length, Ok, Err, Result, arith}
+use Rattle.std.specs.Prelude.{OnOk}
 use Rattle.std.proofs.lemmas.List.{length-replicate}
 use Rattle.nt_lists.proofs.Variants.{err_is}
 use Rattle.nt_outside.specs.Faults.{Rose}
@@ -14,7 +14,7 @@ use Rattle.nt_seq.specs.Standing.{IsBlankDisk}
 use Rattle.nt_merge.specs.declared.error.MergeError.{MergeError}
 use Rattle.nt_merge.specs.declared.error.MergeError.TheVariants.{ReadFault, DiskFault}
 use Rattle.nt_merge.specs.Copying.{MayCopyInto}
-use Rattle.nt_merge.specs.Files.{KeepFiles, OneRose}
+use Rattle.nt_merge.specs.Files.{KeepFiles}
 use Rattle.nt_merge.specs.Joining.{BeginsTarget, IsClosableCopy, IsMergeSchema, RefusesTarget, ServesClose, ServesMerge}
 use Rattle.nt_merge.specs.Merging.{IsMerging}
 use Rattle.nt_merge.proofs.Ended.{undamaged}

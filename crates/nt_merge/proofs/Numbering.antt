@@ -1,5 +1,5 @@
 -- Clusters that are read one after the other.
-use Rattle.std.proofs.Common.{◌≡◌, ◌∙◌, ap, sym, refl, subst, ℕ, ◌+◌, List, [], ◌∷◌, ◌++◌, take, drop, Result, Ok, Err, append_assoc}
+use Rattle.std.proofs.Common.{◌≡◌, ◌∙◌, ap, sym, refl, subst, ℕ, List, [], ◌∷◌, ◌++◌, take, drop, Result, Ok, Err}
 use Rattle.std.proofs.lemmas.List.{append-nil, take-append-drop}
 use Rattle.nt_lists.specs.Chaining.{◌>>=◌}
 use Rattle.nt_lists.proofs.Variants.{ok_is}
@@ -22,14 +22,14 @@ none-read (Ok others) = refl
 none-read (Err e) = refl
 
 -- the first of those that were read, and the others
-record ReadsFirst (n : Numbered) (ns : List Numbered) (lists : List (List TreesData)) : Type 0 where
+pub record ReadsFirst (n : Numbered) (ns : List Numbered) (lists : List (List TreesData)) : Type 0 where
   pub first : List TreesData
   pub others : List (List TreesData)
   pub reads : reading_of n ≡ Ok first
   pub rest : readings ns ≡ Ok others
   pub is : lists ≡ first ∷ others
 
-reads-first : (n : Numbered) (ns : List Numbered) (lists : List (List TreesData)) → readings (n ∷ ns) ≡ Ok lists → ReadsFirst n ns lists
+pub reads-first : (n : Numbered) (ns : List Numbered) (lists : List (List TreesData)) → readings (n ∷ ns) ≡ Ok lists → ReadsFirst n ns lists
 reads-first n ns lists is = at (reading_of n) (readings ns) refl refl is
   where
     at : (a : Result (List TreesData) (ℕ × ReadError)) (b : Result (List (List TreesData)) (ℕ × ReadError)) → reading_of n ≡ a

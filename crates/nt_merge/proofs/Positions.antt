@@ -2,7 +2,6 @@
 use Rattle.std.proofs.Common.{◌≡◌, ◌∙◌, ap, sym, refl, ℕ, zero, suc, ◌+◌, ◌<◌, ◌≤◌, List, [], ◌∷◌, ◌++◌, map, length, take, drop, arith}
 use Rattle.std.proofs.lemmas.List.{map-append}
 use Rattle.nt_grammar.specs.Table.{Table}
-use Rattle.nt_book.specs.declared.meta.ClusterMeta.{ClusterMeta}
 use Rattle.nt_pagelists.specs.declared.cluster.ClusterList.{ClusterList}
 use Rattle.nt_file_meaning.specs.Outlines.{Outline}
 use Rattle.nt_reader.specs.Outlines.{unlisted_cluster}

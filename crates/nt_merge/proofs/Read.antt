@@ -23,8 +23,8 @@ use Rattle.nt_listing.proofs.ColumnsRead.{listed-loadable}
 use Rattle.nt_copied.specs.Copies.{Source, ReadAlike, NoneDeferred, IsCopyOf, stored_columns}
 use Rattle.nt_copied.specs.Stored.{StoredPage, stored_payload, stored_meta}
 use Rattle.nt_container.specs.Spelling.{blob_key}
-use Rattle.nt_copying.specs.Copied.{copied_columns, all_loaded, HaveTheirSums, IsImageOf}
-use Rattle.nt_append.specs.Appending.{range_behind, settled_cluster, with_due_list}
+use Rattle.nt_copying.specs.Copied.{copied_columns, IsImageOf}
+use Rattle.nt_append.specs.Appending.{settled_cluster, with_due_list}
 use Rattle.std.specs.Prelude.{◌-◌, drop}
 use Rattle.nt_merge.specs.Loading.{loaded_entries, IsLoadedCluster}
 use Rattle.nt_outside.specs.Disk.{DiskState}

@@ -1,10 +1,10 @@
 -- A merge that is refused.
-use Rattle.std.proofs.Common.{◌≡◌, ◌∙◌, ap, sym, refl, subst, ◌⊎◌, inl, inr, ℕ, zero, suc, ◌+◌, ◌<◌}
-use Rattle.std.proofs.Common.{List, [], ◌∷◌, ◌++◌, length, take, Some, Err}
-use Rattle.std.proofs.Common.{arith}
+use Rattle.std.proofs.Common.{◌≡◌, ◌∙◌, ap, sym, refl, subst, ◌⊎◌, inl, inr, ℕ, zero, suc}
+use Rattle.std.proofs.Common.{List, [], ◌∷◌, ◌++◌, take, Some, Err}
 use Rattle.nt_outside.specs.Log.{Step, Sync, FailedAppend}
 use Rattle.nt_outside.specs.Held.{Held, BecomesSome, WhereHeld, nothing_held}
 use Rattle.nt_outside.specs.Disk.{DiskState}
+use Rattle.nt_outside.specs.Order.{FirstByteLast}
 use Rattle.nt_container.specs.Spelling.{begun}
 use Rattle.nt_grammar.specs.Table.{Table}
 use Rattle.nt_book.specs.declared.limits.LimitError.{LimitError}
@@ -13,20 +13,19 @@ use Rattle.nt_book.specs.declared.meta.ClusterMeta.{ClusterMeta}
 use Rattle.nt_book.specs.declared.params.Params.{Params}
 use Rattle.nt_book.specs.Books.{BookData}
 use Rattle.nt_layout.specs.Headers.{header_blob}
-use Rattle.nt_cuts.specs.Cuts.{HasSync, LeavesUnfinished}
+use Rattle.nt_cuts.specs.Cuts.{LeavesUnfinished}
 use Rattle.nt_close.specs.Beginning.{IsBeginCutFor}
 use Rattle.nt_close.specs.Laws.{IsShut}
 use Rattle.nt_close.specs.Passing.{passed_by_begin}
-use Rattle.nt_close.specs.Steps.{IsBegunPartly, IsBegunSoFar, begun_partly}
-use Rattle.nt_close.proofs.FirstByte.{begins_shut}
+use Rattle.nt_close.specs.Steps.{IsBegunPartly, begun_partly}
+use Rattle.nt_close.proofs.FirstByte.{begins_shut, begins_in_order}
 use Rattle.nt_merge_limits.specs.Limits.{MergeOverBy}
 use Rattle.nt_merge.specs.declared.error.MergeError.{MergeError}
 use Rattle.nt_merge.specs.declared.error.MergeError.TheVariants.{Defect, Schema, RangeTooLarge, FileTooLarge, TooManyClusters, ReadFault}
 use Rattle.nt_merge.specs.declared.error.MergeError.TheVariants.{DiskFault, Memory}
 use Rattle.nt_merge.specs.Joining.{RefusesTarget, ToldOfAll}
-use Rattle.nt_merge.specs.Merging.{Numbered, sound_numbered, copied_metas, IsUnclosed, IsUnfinished}
-use Rattle.nt_merge.specs.Merging.{IsCutFile, IsLeftUnfinished, MergesTold}
-use Rattle.nt_merge.specs.Merging.{nothing_written, torn_at_once, shut}
+use Rattle.nt_merge.specs.Merging.{Numbered, sound_numbered, copied_metas, IsCutAt, IsCutFile, IsLeftUnfinished, MergesTold}
+use Rattle.nt_merge.specs.Merging.{nothing_written, shut, cut_unclosed, torn_at_once}
 
 no-sync : (before after : List Step) → [] ≡ before ++ Sync ∷ after → ⊥
 no-sync [] after is = cc is
@@ -46,7 +45,11 @@ module _ (old new : DiskState) (empty : WhereHeld old.held (λ (h : Held). h ≡
   untouched-unfinished same h told = (
     h,
     same ∙ told,
-    record { unclosed = nothing_written refl; crash = none-leaves h.log (ap (λ (k : Held). k.log) (empty h told)) },
+    record {
+      unclosed = nothing_written refl;
+      order = subst FirstByteLast (sym (ap (λ (k : Held). k.log) (empty h told))) tt;
+      crash = none-leaves h.log (ap (λ (k : Held). k.log) (empty h told));
+    },
   )
 
   -- the beginning was cut off
@@ -61,13 +64,14 @@ module _ (old new : DiskState) (empty : WhereHeld old.held (λ (h : Held). h ≡
         left.0,
         left.1,
         record {
-          how = inl (opened (begins_shut (header_blob t) left.0 (begun_partly partly)));
+          how = opened (begins_shut (header_blob t) left.0 (begun_partly partly));
+          order = begins_in_order (header_blob t) left.0 (begun_partly partly);
           crash = λ k bytes has may. inl (leaves k bytes has may);
         },
       )
     where
-      opened : {h left : Held} → IsShut left.image ⊎ ((n : ℕ) × (left.log ≡ FailedAppend n ∷ [])) → IsUnclosed h left
-      opened (inl is) = shut is
+      opened : {h left : Held} → IsShut left.image ⊎ ((n : ℕ) × (left.log ≡ FailedAppend n ∷ [])) → IsCutAt t p ns h left
+      opened (inl is) = cut_unclosed (shut is)
       opened (inr (n, is)) = torn_at_once n is
 
   -- the file wasn't begun
@@ -94,7 +98,9 @@ unfinished-cut : (t : Table) (p : Params) (ns : List Numbered) (old new : DiskSt
     → BecomesSome old.held new.held (IsCutFile t p ns)
 unfinished-cut t p ns old new left h told =
     let is = left h told in
-    (is.0, is.1, record { how = inl is.2.unclosed; crash = λ k bytes has may. inl (is.2.crash k bytes has may) })
+    let cut : IsCutFile t p ns h is.0 =
+    record { how = cut_unclosed is.2.unclosed; order = is.2.order; crash = λ k bytes has may. inl (is.2.crash k bytes has may) } in
+    (is.0, is.1, cut)
 
 pub copies-refused : (t : Table) (p : Params) (given new : DiskState) (book : BookData) (ns : List Numbered) (e : MergeError)
     → IsLeftUnfinished given new → ToldOfAll t p given new book ns (Err e) → MergesTold t p ns given new (Err e)

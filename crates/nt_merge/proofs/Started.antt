@@ -1,5 +1,5 @@
 -- A file that is begun, into which nothing was copied yet.
-use Rattle.std.proofs.Common.{◌≡◌, ◌∙◌, ap, sym, refl, subst, ℕ, List, [], ◌∷◌, map, length, replicate, Some, arith}
+use Rattle.std.proofs.Common.{◌≡◌, ◌∙◌, ap, sym, refl, subst, ℕ, ◌≤◌, List, [], ◌∷◌, map, length, replicate, Some, arith}
 use Rattle.std.specs.List.{AllByRecursion}
 use Rattle.nt_lists.specs.Parts.{part_bytes}
 use Rattle.nt_outside.specs.Held.{Held, Becomes, WhereHeld, nothing_held}
@@ -19,7 +19,6 @@ use Rattle.nt_close.specs.Closing.{IsClosable}
 use Rattle.nt_close.specs.Filled.{AreListsNoted}
 use Rattle.nt_close.specs.Steps.{begun_on}
 use Rattle.nt_copied.specs.Copies.{AreCopies, NoneDeferred, no_copy}
-use Rattle.nt_merge_limits.specs.Limits.{kept_metas}
 use Rattle.nt_seq.specs.Standing.{IsSettledCluster}
 use Rattle.nt_seq.specs.Written.{file_so_far}
 use Rattle.nt_merge.specs.Copying.{HasMerged}
@@ -64,6 +63,9 @@ module _ (t : Table) (p : Params) (given new : DiskState) (book : BookData) (is 
     settled = subst (λ (cs : List (Cluster ClusterMeta)). AllByRecursion IsSettledCluster cs) (sym none-yet) tt;
     untorn = ap (λ (b : BookData). b.torn) is.book_is;
     within = is.within;
+    short = subst (λ (cs : List (Cluster ClusterMeta)). AllByRecursion (λ (m : ClusterMeta). m.len ≤ p.limits.range) (map (λ (c : Cluster
+        ClusterMeta). c.meta) cs)) (sym none-yet) tt;
+    few = omega (arith, ap length none-yet);
   }
 
   -- none was yet

@@ -1,12 +1,11 @@
 -- The schema that files are merged under.
-use Rattle.std.proofs.Common.{◌≡◌, ◌∙◌, ap, sym, refl, subst, ℕ, ◌<◌, List, [], ◌∷◌, map, length, Some, None, arith}
+use Rattle.std.proofs.Common.{◌≡◌, ◌∙◌, ap, sym, subst, List, [], ◌∷◌, length, Some, None, arith}
 use Rattle.std.specs.Prelude.{slice_get}
 use Rattle.std.specs.List.{AllByRecursion}
 use Rattle.std.proofs.lemmas.List.{length-map}
 use Rattle.nt_lists.proofs.Variants.{some_is}
 use Rattle.nt_outside.specs.Faults.{Rose}
 use Rattle.nt_outside.specs.Disk.{DiskState}
-use Rattle.nt_grammar.specs.declared.rows.ColumnRow.{ColumnRow}
 use Rattle.nt_grammar.specs.Table.{Table}
 use Rattle.nt_schema.specs.Whole.{AreWhole}
 use Rattle.nt_book.specs.declared.params.Params.{Params}

@@ -1,6 +1,6 @@
 -- A file that copies went to, and isn't finished.
-use Rattle.std.proofs.Common.{◌≡◌, ◌∙◌, ap, sym, refl, subst, ◌⊎◌, inl, inr, ℕ, List, ◌++◌, Some, Option, Err}
-use Rattle.nt_outside.specs.Held.{Held, Becomes, BecomesSome, IsTornAppend, nothing_held}
+use Rattle.std.proofs.Common.{◌≡◌, ◌∙◌, refl, subst, ◌⊎◌, inl, inr, ℕ, List, ◌++◌, Option, Err}
+use Rattle.nt_outside.specs.Held.{Held, BecomesSome, IsTornAppend, nothing_held}
 use Rattle.nt_outside.specs.Disk.{DiskState}
 use Rattle.nt_container.specs.Spelling.{begun}
 use Rattle.nt_grammar.specs.Table.{Table}
@@ -12,12 +12,12 @@ use Rattle.nt_pagelists.specs.Due.{due_len}
 use Rattle.nt_layout.specs.Headers.{header_blob}
 use Rattle.nt_tfile.specs.declared.failure.ReadFailure.TheVariants as failure
 use Rattle.nt_file_meaning.specs.Outlines.{Outline}
-use Rattle.nt_append.specs.Appending.{CutsImage, FailsOnDisk, KeepsDiskAndBook, TearsList, due_blobs}
+use Rattle.nt_append.specs.Appending.{CutsImage, FailsOnDisk, TearsList, due_blobs}
 use Rattle.nt_append.proofs.Images.{appended-behind}
 use Rattle.nt_close.specs.Steps.{begun_on}
 use Rattle.nt_seq.specs.Crashes.{AppendsLeave}
 use Rattle.nt_seq.specs.Written.{file_so_far, IsUnclosedOf}
-use Rattle.nt_seq.proofs.Files.{shut-unclosed}
+use Rattle.nt_seq.proofs.Files.{order-unclosed, shut-unclosed}
 use Rattle.nt_merge.specs.declared.copy_error.CopyError.{CopyError}
 use Rattle.nt_merge.specs.declared.copy_error.CopyError.TheVariants.{Read, Commit}
 use Rattle.nt_merge.specs.Copying.{LeavesCluster}
@@ -25,7 +25,11 @@ use Rattle.nt_merge.specs.Merging.{IsMerging, IsUnfinished, IsLeftUnfinished, sh
 
 module _ (leave : AppendsLeave) where
   pub unfinished : (t : Table) (h left : Held) → IsUnclosedOf t left → IsUnfinished h left
-  unfinished t h left unclosed = record { unclosed = shut (shut-unclosed t left unclosed); crash = leave.unclosed t left unclosed }
+  unfinished t h left unclosed = record {
+    unclosed = shut (shut-unclosed t left unclosed);
+    order = order-unclosed t left unclosed;
+    crash = leave.unclosed t left unclosed;
+  }
 
   module _ (t : Table) (p : Params) (given old new : DiskState) (book : BookData) (is : IsMerging t p given old book) where
     -- nothing was written

@@ -1,5 +1,5 @@
 -- What is left of one cluster that is copied into a file, and of all those of one file.
-use Rattle.std.specs.Prelude.{ℕ, ◌≡◌, ◌+◌, ◌≤◌, ◌++◌, List, IsErrOf, OnOk, map, length, replicate, drop}
+use Rattle.std.specs.Prelude.{ℕ, ◌≡◌, ◌+◌, ◌≤◌, ◌++◌, List, IsErrOf, OnOk, length, replicate, drop}
 use Rattle.std.specs.Prelude.{take, Option, Some, None, Result, Ok, Err}
 use Rattle.nt_num.specs.declared.fault.ReadError.{ReadError}
 use Rattle.nt_types.specs.TreeData.{TreesData}
@@ -18,7 +18,6 @@ use Rattle.nt_commit.specs.Appending.{due_bytes}
 use Rattle.nt_commit.specs.Claims.{limit_in}
 use Rattle.nt_pages.specs.declared.image.ClusterImage.{ClusterImage}
 use Rattle.nt_pages.specs.Image.{key_room}
-use Rattle.nt_tfile.specs.declared.failure.ReadFailure.{ReadFailure}
 use Rattle.nt_tfile.specs.declared.failure.ReadFailure.TheVariants as failure
 use Rattle.nt_file_meaning.specs.Clusters.{cluster_of}
 use Rattle.nt_file_meaning.specs.Outlines.{Outline}

@@ -1,5 +1,5 @@
 -- What is left of all files that are copied into one, one behind the other.
-use Rattle.std.specs.Prelude.{ℕ, ◌≡◌, ◌≤◌, List, length, slice_get, Option, Some, Result, Ok, Err, IsErrOf, OnOk}
+use Rattle.std.specs.Prelude.{ℕ, ◌≡◌, ◌≤◌, List, length, slice_get, Some, Result, Ok, Err, IsErrOf, OnOk}
 use Rattle.std.specs.List.{AllByRecursion}
 use Rattle.nt_outside.specs.Faults.{Rose}
 use Rattle.nt_outside.specs.File.{FileState}

@@ -1,6 +1,6 @@
 -- What is left of clusters that are copied from several files into one, one behind the other (RNTuple Binary Format Specification 1.0.0.0,
 -- sections Pages, Page Locations and Page List Envelope).
-use Rattle.std.specs.Prelude.{ℕ, ◌≡◌, ◌⊎◌, ◌+◌, ◌++◌, List, [], ◌∷◌, map, length, Option, Some, None, Result, Ok, Err, sum_by}
+use Rattle.std.specs.Prelude.{ℕ, ◌≡◌, ◌≤◌, ◌+◌, ◌++◌, List, [], ◌∷◌, map, length, None, Result, Ok, Err, sum_by}
 use Rattle.std.specs.List.{AllByRecursion}
 use Rattle.nt_lists.specs.Chaining.{◌>>=◌}
 use Rattle.nt_lists.specs.Parts.{part_bytes}
@@ -8,6 +8,7 @@ use Rattle.nt_num.specs.declared.fault.ReadError.{ReadError}
 use Rattle.nt_types.specs.TreeData.{TreesData}
 use Rattle.nt_outside.specs.Log.{FailedAppend}
 use Rattle.nt_outside.specs.Held.{Held, Becomes, BecomesSome}
+use Rattle.nt_outside.specs.Order.{FirstByteLast, EndsInSync}
 use Rattle.nt_outside.specs.Disk.{DiskState}
 use Rattle.nt_grammar.specs.declared.rows.ColumnRow.{ColumnRow}
 use Rattle.nt_grammar.specs.Table.{Table, in_header}
@@ -25,10 +26,10 @@ use Rattle.nt_cuts.specs.Cuts.{LeavesUnfinished, LeavesUnfinishedOr, LeavesOnly}
 use Rattle.nt_close.specs.Closing.{IsClosable}
 use Rattle.nt_close.specs.Laws.{IsShut, EndsOverFirst}
 use Rattle.nt_close.specs.Passing.{measures_of, passed_by_begin}
-use Rattle.nt_merge_limits.specs.Limits.{MergeOver, kept_metas}
+use Rattle.nt_merge_limits.specs.Limits.{MergeOver, MergeFits, kept_metas}
 use Rattle.nt_seq.specs.Standing.{IsSettledCluster}
 use Rattle.nt_seq.specs.Written.{file_so_far}
-use Rattle.nt_merge.specs.Planning.{of_file, tables_of}
+use Rattle.nt_merge.specs.Planning.{of_file}
 use Rattle.nt_merge.specs.declared.error.MergeError.{MergeError}
 use Rattle.nt_merge.specs.declared.error.MergeError.TheVariants.{Defect, Schema, RangeTooLarge, FileTooLarge, TooManyClusters, ReadFault}
 use Rattle.nt_merge.specs.declared.error.MergeError.TheVariants.{DiskFault, Memory}
@@ -91,7 +92,8 @@ merged_table (o ∷ os) = bare o.table
 
 -- ---- the file that they are copied into
 
--- it can go on, and be closed: it is begun, each range of its book is settled, and no page list failed
+-- it can go on, and be closed: it is begun, each range of its book is settled and no longer than a range may get, there are no more of
+-- them than there may be, and no page list failed
 pub record IsMerging (t : Table) (p : Params) (given disk : DiskState) (book : BookData) : Type 0 where
   pub blobs : List (List ℕ)
   pub held : Becomes given.held disk.held (λ h. file_so_far t blobs)
@@ -102,6 +104,8 @@ pub record IsMerging (t : Table) (p : Params) (given disk : DiskState) (book : B
   pub settled : AllByRecursion IsSettledCluster (book_clusters book)
   pub untorn : book.torn ≡ None
   pub within : passed_by_begin p.limits t ≡ None
+  pub short : AllByRecursion (λ (m : ClusterMeta). m.len ≤ p.limits.range) (kept_metas book)
+  pub few : length (book_clusters book) ≤ p.limits.clusters
 
 -- copies of these clusters, which have these entries, stand in it, one behind the other, with the page lists of full groups between them
 pub record HasCopies (t : Table) (p : Params) (given disk : DiskState) (book : BookData) (ns : List Numbered)
@@ -117,44 +121,55 @@ pub record HasCopies (t : Table) (p : Params) (given disk : DiskState) (book : B
 abbrev pub merged_entries : List (List TreesData) → ℕ
 merged_entries lists = sum_by (λ (entries : List TreesData). length entries) lists
 
--- a file is the finished one of copies of these clusters, all of which were read
+-- a file is the finished one of copies of these clusters, all of which were read, and passes no limit
 pub record IsMerged (t : Table) (p : Params) (ns : List Numbered) (lists : List (List TreesData)) (file : List ℕ) : Type 0 where
   pub read : readings ns ≡ Ok lists
   pub copied : IsCopied file t (sources ns) lists (measures_of p)
+  pub fits : MergeFits t p (copied_metas ns)
 
 -- a file of copies of all of them
 abbrev pub IsMergedFile : Table → Params → List Numbered → List ℕ → Type 0
 IsMergedFile t p ns file = (lists : List (List TreesData)) × IsMerged t p ns lists file
 
--- the file stands there whole, and so many clusters and entries are told; wherever a crash came, it left what isn't finished or, once the
--- first byte was written over, the whole file, and behind all steps only that
+-- the file stands there whole, all of it stays, and so many clusters and entries are told; its first byte was written over only when all
+-- the rest stayed: wherever a crash came, it left what isn't finished or, once that byte was written over, the whole file, and behind all
+-- steps only that
 pub record EndsMerge (t : Table) (p : Params) (ns : List Numbered) (old new : DiskState) (clusters entries : ℕ) : Type 0 where
   pub lists : List (List TreesData)
   pub clusters_are : clusters ≡ length lists
   pub entries_are : entries ≡ merged_entries lists
-  pub file : BecomesSome old.held new.held (λ h h'. IsMerged t p ns lists h'.image)
+  pub file : BecomesSome old.held new.held (λ h h'. IsMerged t p ns lists h'.image × EndsInSync h'.log)
+  pub order : BecomesSome old.held new.held (λ h h'. FirstByteLast h'.log)
   pub crash : BecomesSome old.held new.held (λ h h'. LeavesUnfinishedOr (IsMergedFile t p ns) h'.log
       × LeavesOnly (IsMergedFile t p ns) h'.log)
 
--- a file that isn't finished: nothing was written; its first append failed, and nothing else is known of it; or its first byte is 0
+-- a file that isn't finished: nothing was written, or its first byte is 0
 pub data IsUnclosed (h left : Held) : Type 0 where
   nothing_written : left ≡ h → IsUnclosed h left
-  torn_at_once : (n : ℕ) → left.log ≡ FailedAppend n ∷ [] → IsUnclosed h left
   shut : IsShut left.image → IsUnclosed h left
 
--- it is such, and no crash left what is finished
+-- it is such, its steps are in order, and no crash left what is finished
 pub record IsUnfinished (h left : Held) : Type 0 where
   pub unclosed : IsUnclosed h left
+  pub order : FirstByteLast left.log
   pub crash : LeavesUnfinished left.log
 
 -- of a disk
 abbrev pub IsLeftUnfinished : DiskState → DiskState → Type 0
 IsLeftUnfinished old new = BecomesSome old.held new.held IsUnfinished
 
--- a step of the disk failed: the file isn't finished, or it stands there whole, and the last step was that of its first byte; wherever a
--- crash came, it left what isn't finished or, once that byte was written over, the whole file
+-- where a step of the disk failed: the file isn't finished; its first append failed, and nothing else is known of it; or it stands there
+-- whole, and the last step was that of its first byte
+pub data IsCutAt (t : Table) (p : Params) (ns : List Numbered) (h left : Held) : Type 0 where
+  cut_unclosed : IsUnclosed h left → IsCutAt t p ns h left
+  torn_at_once : (n : ℕ) → left.log ≡ FailedAppend n ∷ [] → IsCutAt t p ns h left
+  cut_whole : IsMergedFile t p ns left.image → EndsOverFirst left.log → IsCutAt t p ns h left
+
+-- a step of the disk failed there; the steps are in order, and wherever a crash came, it left what isn't finished or, once the first byte
+-- was written over, the whole file
 pub record IsCutFile (t : Table) (p : Params) (ns : List Numbered) (h left : Held) : Type 0 where
-  pub how : IsUnclosed h left ⊎ (IsMergedFile t p ns left.image × EndsOverFirst left.log)
+  pub how : IsCutAt t p ns h left
+  pub order : FirstByteLast left.log
   pub crash : LeavesUnfinishedOr (IsMergedFile t p ns) left.log
 
 -- a limit that the file of the clusters before the first fault passes

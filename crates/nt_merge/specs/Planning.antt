@@ -1,13 +1,15 @@
 -- What is read of files before they are merged: the outline of each, or what stands against it first.
-use Rattle.std.specs.Prelude.{ℕ, ◌≡◌, ◌+◌, ◌<◌, ◌^◌, length, List, [], ◌∷◌, map, Some, None, Result, Ok, Err, Vec}
+use Rattle.std.specs.Prelude.{ℕ, ◌≡◌, ◌+◌, ◌<◌, ◌^◌, length, List, [], ◌∷◌, map, Some, None, Result, Ok, Err, Vec, IsErrOf}
 use Rattle.std.specs.declared.alloc.Global.{Global}
 use Rattle.nt_lists.specs.Chaining.{◌>>=◌}
 use Rattle.nt_num.specs.declared.fault.ReadError.{ReadError}
+use Rattle.nt_outside.specs.File.{FileState}
 use Rattle.nt_grammar.specs.Table.{Table}
 use Rattle.nt_file_meaning.specs.Outlines.{Outline, outline_of}
 use Rattle.nt_tfile.specs.declared.failure.ReadFailure.{ReadFailure}
 use Rattle.nt_tfile.specs.declared.failure.ReadFailure.TheVariants as failure
 use Rattle.nt_merge.specs.Comparing.{schema_error}
+use Rattle.nt_merge.specs.Files.{OneRose}
 use Rattle.nt_merge.specs.declared.error.MergeError.{MergeError}
 use Rattle.nt_merge.specs.declared.error.MergeError.TheVariants.{Defect, Schema, RangeTooLarge, FileTooLarge, TooManyClusters, ReadFault}
 use Rattle.nt_merge.specs.declared.error.MergeError.TheVariants.{DiskFault, Memory}
@@ -47,6 +49,11 @@ IsPlanError bytes TooManyClusters = ⊥
 IsPlanError bytes ReadFault = Unit {0}
 IsPlanError bytes DiskFault = ⊥
 IsPlanError bytes Memory = Unit {0}
+
+-- a file is blamed only where the count of one of them rose, and no disk is
+pub record BlamesFiles {F A : Type 0} (state : F → FileState) (files files' : List F) (result : Result A MergeError) : Type 0 where
+  pub rose : IsErrOf result ReadFault → OneRose state files files'
+  pub no_disk : IsErrOf result DiskFault → ⊥
 
 -- what attaching to all files answers: their outlines, or the first fault
 abbrev pub AreAttached : List (List ℕ) → Result (Vec Outline Global) MergeError → Type 0

@@ -13,14 +13,15 @@
 //! place that is named is the first one of the schemas that stands against it: of all files first the
 //! closed fields, then the deferred columns, then rows unlike those of the first file (`told`); each file
 //! has the bytes that it had (`kept`), and `ReadFault` comes only where the count of one of them rose
-//! (`rose`). Schemas that nothing stands against have open fields alone, no deferred column, and are
+//! (`blamed`). Schemas that nothing stands against have open fields alone, no deferred column, and are
 //! alike the first one (`schemas_without_error_are_mergeable`). Of `load_cluster`: wherever the file tells its bytes, the entries of the pages are those that
 //! nt_file_meaning reads, or the fault is the first one (`read`), and the pages are all those of the open
 //! columns (`loaded`). Of `merge`, wherever all files tell their bytes (`told`, by `MergesTold` in
 //! `specs/Merging.antt`): after `Ok` the file is the finished one of copies of all their clusters in order, as
-//! nt_copied says, and so many clusters and entries are told; a defect is the first fault of a cluster; a limit is
-//! one that the file of the clusters before the first fault passes; after each refusal the file isn't finished,
-//! but that after `DiskFault` it may stand there whole; wherever a crash came, it left what isn't finished or,
+//! nt_copied says, and passes no limit, and so many clusters and entries are told; a defect is the first fault of a
+//! cluster; a limit is one that the file of the clusters before the first fault passes; after each refusal the file
+//! isn't finished, but that after `DiskFault` it may stand there whole, or its first append failed; the first byte is
+//! written over only when all the rest stays; wherever a crash came, it left what isn't finished or,
 //! once the first byte was written over, the whole file. Each file keeps its bytes, `ReadFault` comes only where the
 //! count of one of them rose, and `DiskFault` only where the disk's did (`served`). Nothing is only tested.
 //!

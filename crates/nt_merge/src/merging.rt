@@ -23,7 +23,7 @@ use nt_book::{Book, Params};
 use nt_close::{BeginError, CloseError, begin_with, close, closed_is_finished};
 use nt_commit::CommitError;
 use nt_copied::{alike_schemas_are_read_alike, finished_files_are_made_of_copies};
-use nt_merge_limits::merges_pass_what_their_fronts_pass;
+use nt_merge_limits::{merges_pass_what_their_fronts_pass, merges_within_limits_fit};
 use nt_outside::{Disk, ReadAt};
 use nt_schema::Schema;
 use nt_seq::crashes_leave_closed_or_unfinished;
@@ -158,6 +158,7 @@ fn close_target<D: Disk>(
     finished_files_are_made_of_copies();
     crashes_leave_closed_or_unfinished();
     merges_pass_what_their_fronts_pass();
+    merges_within_limits_fit();
     book.keeps();
     match close(alloc, disk, book, schema, params) {
         Ok(()) => Ok((book.clusters(), book.entries())),

@@ -4,9 +4,8 @@ ghost use Rattle.std.specs.Prelude.{◌≡◌, ◌<◌, ◌≤◌, ◌^◌, ℕ,
 ghost use Rattle.nt_file_meaning.specs.Outlines.{outline_of};
 ghost use Rattle.nt_tfile.specs.declared.failure.ReadFailure.TheVariants as failure;
 ghost use Rattle.nt_tfile.specs.Calls.{ReadsFile};
-ghost use Rattle.nt_merge.specs.declared.error.MergeError.TheVariants.{ReadFault};
 ghost use Rattle.nt_merge.specs.Files.{TellBytes, KeepFiles, OneRose};
-ghost use Rattle.nt_merge.specs.Planning.{AreAttached, ArePlanned, IsPlanError};
+ghost use Rattle.nt_merge.specs.Planning.{AreAttached, ArePlanned, BlamesFiles, IsPlanError};
 
 use crate::comparing::schema_error;
 use crate::error::{MergeError, merge_error};
@@ -53,7 +52,7 @@ fn attach_all<F: ReadAt>(alloc: Global, files: &mut Vec<F>) -> Result<Vec<Reader
         → AreAttached bytes result }
     ensures all { IfOk result (λ readers. length readers.items ≡ length files.old.items) }
     ensures kept { KeepFiles F.state files.old.items files.new.items }
-    ensures rose { IsErrOf result ReadFault → OneRose F.state files.old.items files.new.items }
+    ensures blamed { BlamesFiles F.state files.old.items files.new.items result }
 {
     let mut readers = Vec::new(alloc);
     for at in 0..files.len() {
@@ -78,7 +77,7 @@ pub fn plan<F: ReadAt>(alloc: Global, files: &mut Vec<F>) -> Result<MergePlan, M
         → IfOk result (ArePlanned bytes) × IfErr result (IsPlanError bytes) }
     ensures all { IfOk result (λ plan. length plan ≡ length files.old.items) }
     ensures kept { KeepFiles F.state files.old.items files.new.items }
-    ensures rose { IsErrOf result ReadFault → OneRose F.state files.old.items files.new.items }
+    ensures blamed { BlamesFiles F.state files.old.items files.new.items result }
 {
     let readers = attach_all(alloc, files)?;
     if let Some(place) = schema_error(&readers) {

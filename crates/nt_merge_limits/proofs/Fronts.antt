@@ -1,5 +1,5 @@
 -- How far a front of a file reaches, with the page lists of its full groups: no further than the whole.
-use Rattle.std.proofs.Common.{◌≡◌, ◌∙◌, ap, sym, subst, refl, ℕ, zero, suc, ◌+◌, ◌*◌, ◌<◌, ◌≤◌, ◌==◌, Bool, true, false, cond, List, []}
+use Rattle.std.proofs.Common.{◌≡◌, ◌∙◌, ap, sym, subst, refl, ℕ, suc, ◌+◌, ◌*◌, ◌<◌, ◌≤◌, Bool, true, false, cond, List, []}
 use Rattle.std.proofs.Common.{◌∷◌, ◌++◌, length, map, take, drop, sum_by, Option, None, Some, replicate, arith}
 use Rattle.std.specs.Prelude.{IfSome, slice_index_or}
 use Rattle.std.proofs.Math.Nat.{mul-le-mul_left, mul-le-mul_right, zero-mul}
@@ -8,13 +8,12 @@ use Rattle.std.proofs.lemmas.List.{length-append, length-map, length-drop, lengt
 use Rattle.std.proofs.lemmas.List.Sums.{sum_by-append, sum_by-cons}
 use Rattle.nt_container.specs.Lengths.{blob_key_len, anchor_part_len, key_list_part_len, free_list_part_len}
 use Rattle.nt_grammar.specs.Table.{Table}
-use Rattle.nt_machine.specs.History.{Cluster, ranges_of}
-use Rattle.nt_machine.specs.Legal.{end_after}
+use Rattle.nt_machine.specs.History.{Cluster}
 use Rattle.nt_book.specs.declared.list.NotedList.{NotedList}
 use Rattle.nt_book.specs.declared.list.Tear.{Tear}
 use Rattle.nt_book.specs.declared.meta.ClusterMeta.{ClusterMeta}
 use Rattle.nt_book.specs.declared.params.Params.{Params}
-use Rattle.nt_book.specs.Books.{BookData, book_clusters, book_end, noted_at, is_due}
+use Rattle.nt_book.specs.Books.{BookData, book_clusters, book_end, is_due}
 use Rattle.nt_book.specs.Listing.{clusters_listed, group_size, is_due_after, lists_bytes, torn_bytes, no_noted}
 use Rattle.nt_pagelists.specs.Due.{due_object, due_len, group_sum}
 use Rattle.nt_pagelists.specs.Objects.{list_len}
@@ -24,7 +23,7 @@ use Rattle.nt_layout.specs.Beside.{full_span}
 use Rattle.nt_dealing.specs.Lengths.{page_list_len, listed_cluster_len, group_count, footer_len, whole_len}
 use Rattle.nt_dealing.proofs.Lengths.{length-list_object}
 use Rattle.nt_dealing.proofs.Files.{ranges-told}
-use Rattle.nt_merge_limits.specs.Limits.{kept_metas, group_metas, IsBookBeside}
+use Rattle.nt_merge_limits.specs.Limits.{kept_metas, IsBookBeside}
 use Rattle.nt_merge_limits.proofs.Lists.{total, total-snoc, AreFullLists, times-suc, lists-short, lists-few, lists-more, lists-snoc}
 use Rattle.nt_merge_limits.proofs.Lists.{groups-enough}
 

@@ -1,6 +1,6 @@
 -- The limits that a file passes where it is begun, where a cluster is appended and where it is closed are limits of the whole.
 use Rattle.std.proofs.Common.{◌≡◌, ◌∙◌, ap, sym, subst, refl, ℕ, zero, suc, ◌+◌, ◌*◌, ◌<◌, ◌≤◌, ◌==◌, Bool, true, false, cond, List, []}
-use Rattle.std.proofs.Common.{◌∷◌, ◌++◌, length, map, take, drop, sum_by, Option, None, Some, append_assoc, arith}
+use Rattle.std.proofs.Common.{◌∷◌, ◌++◌, length, take, drop, None, Some, append_assoc, arith}
 use Rattle.std.specs.Prelude.{Contains, nat_lt}
 use Rattle.std.proofs.lemmas.Bool.{ltb-true, eqb-true}
 use Rattle.std.proofs.lemmas.Option.{none-some}
@@ -20,7 +20,7 @@ use Rattle.nt_commit.specs.Appending.{due_bytes}
 use Rattle.nt_layout.specs.Headers.{header_object, clusters_place}
 use Rattle.nt_close.specs.Passing.{first_passed, passed_by_begin}
 use Rattle.nt_dealing.specs.Lengths.{page_list_len, group_count, whole_len}
-use Rattle.nt_merge_limits.specs.Limits.{kept_metas, group_metas, IsMergeBlob, of_header, of_cluster, of_list, MergeOver}
+use Rattle.nt_merge_limits.specs.Limits.{kept_metas, IsMergeBlob, of_header, of_cluster, of_list, MergeOver}
 use Rattle.nt_merge_limits.specs.Limits.{range_passed, file_passed, too_many, MergeFits, MergeOverBy, IsBookBeside}
 use Rattle.nt_merge_limits.proofs.Lists.{times-suc, groups-enough}
 use Rattle.nt_merge_limits.proofs.Fronts.{front-within, lens, counts, some-group, due-is, due-none, next-within}

@@ -1,6 +1,7 @@
 //! The laws of the limits that a file of given clusters passes.
 
-ghost use Rattle.std.specs.Prelude.{◌≡◌, ◌<◌, ℕ, Bool, List, [], ◌∷◌, ◌++◌, map, length, Some, Contains};
+ghost use Rattle.std.specs.Prelude.{◌≡◌, ◌<◌, ◌≤◌, ℕ, Bool, List, [], ◌∷◌, ◌++◌, map, length, Some, Contains};
+ghost use Rattle.std.specs.List.{AllByRecursion};
 ghost use Rattle.nt_grammar.specs.Table.{Table};
 ghost use Rattle.nt_book.specs.declared.limits.LimitError.{LimitError};
 ghost use Rattle.nt_book.specs.declared.meta.ClusterMeta.{ClusterMeta};
@@ -8,9 +9,10 @@ ghost use Rattle.nt_book.specs.declared.params.Params.{Params};
 ghost use Rattle.nt_book.specs.Books.{BookData, book_clusters, book_end};
 ghost use Rattle.nt_book.specs.Limiting.{limit_error_with};
 ghost use Rattle.nt_commit.specs.Appending.{due_bytes};
-ghost use Rattle.nt_close.specs.Passing.{first_passed, passed_by_begin};
+ghost use Rattle.nt_close.specs.Passing.{first_passed, measures_of, passed_by_begin};
 ghost use Rattle.nt_layout.specs.Headers.{header_sum};
 ghost use Rattle.nt_layout.specs.Finished.{spans, list_places, footer_object, file_len};
+ghost use Rattle.nt_layout.specs.Laid.{IsWithin};
 ghost use Rattle.nt_pagelists.specs.Blobs.{blob_len};
 ghost use Rattle.nt_pagelists.specs.Objects.{ClusterSpan, list_len};
 ghost use Rattle.nt_merge_limits.specs.Limits.{kept_metas, MergeOver, MergeFits, MergeOverBy, IsBookBeside};
@@ -37,6 +39,14 @@ pub fn merges_pass_what_their_fronts_pass()
 {
     whole_files_are_longest();
 }
+
+/// A file that is within the limits, with page lists beside its clusters, fits, where its clusters are
+/// no longer than a range may get and not too many.
+pub fn merges_within_limits_fit()
+    ensures { (t : Table) (p : Params) (book : BookData) → IsBookBeside t p book → IsWithin t (measures_of p) book
+        → AllByRecursion (λ (m : ClusterMeta). m.len ≤ p.limits.range) (kept_metas book)
+        → length (book_clusters book) ≤ p.limits.clusters → MergeFits t p (kept_metas book) }
+{}
 
 /// A file that fits passes no limit.
 pub fn merges_that_fit_pass_none()

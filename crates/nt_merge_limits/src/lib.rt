@@ -10,9 +10,12 @@
 //! Proved, each as the contract of a function with an empty body: a limit that is passed where the file
 //! is begun, where a cluster is appended behind a front, with the page list that is due, or where it is
 //! closed, is one that the whole file passes, with the number that was reached (`merges_pass_what_their_fronts_pass`); a
-//! file that fits passes none (`merges_that_fit_pass_none`).
+//! file that fits passes none (`merges_that_fit_pass_none`), and one that was closed within the limits fits
+//! (`merges_within_limits_fit`).
 #![tactic(auto)]
 
 mod laws;
 
-pub use laws::{merges_pass_what_their_fronts_pass, merges_that_fit_pass_none};
+pub use laws::{
+    merges_pass_what_their_fronts_pass, merges_that_fit_pass_none, merges_within_limits_fit,
+};

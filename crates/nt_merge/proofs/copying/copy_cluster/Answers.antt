@@ -1,4 +1,4 @@
-use Rattle.std.proofs.Common.{◌≡◌, subst, ℕ, Err}
+use Rattle.std.proofs.Common.{subst, ℕ, Err}
 use Rattle.nt_merge.specs.Copying.{CopiesLoaded, LeavesLoaded}
 use Rattle.nt_merge.proofs.Left.{left-refused}
 use Rattle.nt_merge.proofs.Read.{can-load, from-listed, read-listed, over-left, copies-left}

@@ -1,7 +1,7 @@
-use Rattle.std.proofs.Common.{◌≡◌, ◌∙◌, ap, sym, refl, length, arith}
+use Rattle.std.proofs.Common.{◌∙◌, ap, sym, refl, length, arith}
 use Rattle.nt_book.specs.declared.meta.ClusterMeta.{ClusterMeta}
 use Rattle.nt_append.specs.Appending.{range_behind}
-use Rattle.nt_merge.proofs.Left.{lists-copied, keeps-all, same-limit, after-refusal}
+use Rattle.nt_merge.proofs.Left.{lists-copied, same-limit, after-refusal}
 use Rattle.nt_merge.proofs.copying.put_copy.Goals as goal
 
 pub append_image-requires : goal.append_image-requires

@@ -1,4 +1,4 @@
-use Rattle.std.proofs.Common.{◌≡◌, Err}
+use Rattle.std.proofs.Common.{Err}
 use Rattle.nt_close.specs.declared.error.CloseError.TheVariants as close
 use Rattle.nt_close.specs.Closing.{ClosesOnDisk}
 use Rattle.nt_book.specs.declared.limits.LimitError.TheVariants as limit
@@ -10,7 +10,8 @@ pub returns-in-Ok-clause-told : goal.returns-in-Ok-clause-told
 returns-in-Ok-clause-told g c = λ given is ns has.
     let closes = c.in-Ok.ensures.closes in
     ends c.args.schema.now c.args.params.now given (g.D.Disk.state c.args.disk.now) c.args.book.now ns is c.keeps.ensures has
-    c.closed_is_finished.ensures c.finished_files_are_made_of_copies.ensures.beside c.crashes_leave_closed_or_unfinished.ensures
+    c.closed_is_finished.ensures c.finished_files_are_made_of_copies.ensures.beside c.merges_within_limits_fit.ensures
+    c.crashes_leave_closed_or_unfinished.ensures
     (g.D.Disk.state c.close.new.disk) closes.cause.1 closes.left c.clusters.result c.entries.result c.clusters.ensures c.entries.ensures
 
 pub returns-in-Err-RangeTooLarge-clause-told : goal.returns-in-Err-RangeTooLarge-clause-told
@@ -62,5 +63,6 @@ returns-in-Err-Fault-clause-told g c = λ given is ns has.
     c.close.new.disk) (Err close.Fault) =
     rw c.in-Err-Fault.field-0-is at c.in-Err-Fault.ensures.closes in
     cuts c.args.schema.now c.args.params.now given (g.D.Disk.state c.args.disk.now) c.args.book.now ns is c.keeps.ensures has
-    c.closed_is_finished.ensures c.finished_files_are_made_of_copies.ensures.beside c.crashes_leave_closed_or_unfinished.ensures
+    c.closed_is_finished.ensures c.finished_files_are_made_of_copies.ensures.beside c.merges_within_limits_fit.ensures
+    c.crashes_leave_closed_or_unfinished.ensures
     (g.D.Disk.state c.close.new.disk) closes.cause.1 closes.left

@@ -1,11 +1,10 @@
-use Rattle.std.proofs.Common.{◌≡◌, ◌∙◌, ap, sym, subst, ℕ, ◌+◌, ◌<◌, List, [], Err, length, arith}
+use Rattle.std.proofs.Common.{◌≡◌, ◌∙◌, ap, sym, subst, ℕ, ◌+◌, ◌<◌, [], Err, length, arith}
 use Rattle.std.specs.Prelude.{slice_index_or}
 use Rattle.nt_lists.proofs.Variants.{err_is}
 use Rattle.nt_file_meaning.specs.Outlines.{Outline}
-use Rattle.nt_merge.specs.declared.error.MergeError.TheVariants.{ReadFault, DiskFault}
 use Rattle.nt_merge.specs.Files.{TellBytes}
 use Rattle.nt_merge.specs.Copying.{HasMerged, IsJoinable}
-use Rattle.nt_merge.specs.Joining.{ToldOfAll, error_of_copy}
+use Rattle.nt_merge.specs.Joining.{ToldOfAll}
 use Rattle.nt_merge.specs.Merging.{all_numbered}
 use Rattle.nt_merge.proofs.Kept.{keep-more, rose-more, tell-kept, tell-long, tell-at, file-at, keep-long}
 use Rattle.nt_merge.proofs.AllFiles.{before, of-number, before-more, before-all, all-get, refused-all, fault-copy, disk-copy}

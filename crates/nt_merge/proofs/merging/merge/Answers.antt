@@ -1,4 +1,4 @@
-use Rattle.std.proofs.Common.{◌≡◌, ◌<◌, subst, List, ℕ, length, Err, arith}
+use Rattle.std.proofs.Common.{◌<◌, subst, Err, arith}
 use Rattle.nt_grammar.specs.Table.{Table}
 use Rattle.nt_merge.specs.Merging.{all_numbered, MergesTold}
 use Rattle.nt_merge.proofs.Merged.{begun-merging, closable-copy, serves-close}

@@ -7,7 +7,7 @@ use Rattle.nt_merge.specs.declared.error.MergeError.TheVariants.{ReadFault}
 use Rattle.nt_merge.specs.Files.{TellBytes}
 use Rattle.nt_merge.specs.Planning.{outlines_from, AreAttached, error_of_read}
 use Rattle.nt_merge.proofs.Kept.{keep-more, rose-more, tell-kept, tell-long, tell-at, file-at, keep-long, outlined-next, attached-err}
-use Rattle.nt_merge.proofs.Kept.{fault-read}
+use Rattle.nt_merge.proofs.Kept.{fault-read, none-disk}
 use Rattle.nt_merge.proofs.planning.attach_all.Goals as goal
 
 pub returns-in_err-push-in-Ok-clause-kept : goal.returns-in_err-push-in-Ok-clause-kept
@@ -30,11 +30,14 @@ returns-in-Err-clause-told g c = λ bytes tells.
 pub returns-in-Err-clause-kept : goal.returns-in-Err-clause-kept
 returns-in-Err-clause-kept g c = keep-more g.F.ReadAt.state _ _ _ c.loop-at.invariant.kept c.attach_at.ensures.kept
 
-pub returns-in-Err-clause-rose : goal.returns-in-Err-clause-rose
-returns-in-Err-clause-rose g c = λ is.
-    let read : error_of_read c.loop-at.at c.in-Err.failure ≡ ReadFault = sym c.merge_error.ensures ∙ err_is _ _ is in
-    rose-more g.F.ReadAt.state _ _ _ c.loop-at.invariant.kept
-    (c.in-Err.ensures.rose (ap (λ e. Err e) (fault-read c.loop-at.at c.in-Err.failure read)))
+pub returns-in-Err-clause-blamed : goal.returns-in-Err-clause-blamed
+returns-in-Err-clause-blamed g c = record {
+  rose = λ is.
+      let read : error_of_read c.loop-at.at c.in-Err.failure ≡ ReadFault = sym c.merge_error.ensures ∙ err_is _ _ is in
+      rose-more g.F.ReadAt.state _ _ _ c.loop-at.invariant.kept
+      (c.in-Err.ensures.rose (ap (λ e. Err e) (fault-read c.loop-at.at c.in-Err.failure read)));
+  no_disk = λ is. none-disk c.loop-at.at c.in-Err.failure (sym c.merge_error.ensures ∙ err_is _ _ is);
+}
 
 pub loop-at-preserved : goal.loop-at-preserved
 loop-at-preserved g c =

@@ -1,0 +1,9 @@
+pub mod Files
+pub mod Meanings
+pub mod Whole
+pub mod Crashes
+pub mod Disks
+pub mod Planned
+pub mod Opened
+pub mod Named
+pub mod Stored

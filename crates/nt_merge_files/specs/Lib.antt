@@ -1,0 +1,5 @@
+pub mod Files
+pub mod Errors
+pub mod Whole
+pub mod Crashes
+pub mod Storing

@@ -1,0 +1,79 @@
+-- The whole file that is written of others.
+use Rattle.std.specs.Prelude.{◌≡◌, ℕ, List, [], ◌∷◌, Some, length, Ok, Err}
+use Rattle.std.specs.List.{flat_map}
+use Rattle.nt_num.specs.declared.fault.ReadError.{ReadError}
+use Rattle.nt_types.specs.TreeData.{TreesData}
+use Rattle.nt_book.specs.declared.params.Params.{Params}
+use Rattle.nt_file_meaning.specs.Files.{Means}
+use Rattle.nt_file_meaning.specs.Outlines.{Outline}
+use Rattle.nt_copied.specs.Copies.{IsCopied, HasStoredPages}
+use Rattle.nt_close.specs.Passing.{measures_of}
+use Rattle.nt_merge_limits.specs.Limits.{MergeOver, MergeFits}
+use Rattle.nt_merge.specs.declared.place.SchemaPlace.{SchemaPlace}
+use Rattle.nt_merge.specs.Comparing.{schema_error}
+use Rattle.nt_merge.specs.Mergeable.{AreMergeable}
+use Rattle.nt_merge.specs.Planning.{ArePlanned, outlines_from, tables_of}
+use Rattle.nt_merge.specs.Merging.{all_numbered, readings, sound_numbered, sources, copied_metas, merged_table, merged_entries}
+use Rattle.nt_script.specs.declared.storing.Counts.{Counts}
+
+-- each of these files means its own list of clusters, under the schema of its outline
+abbrev pub MeanEach : List (List ℕ) → List Outline → List (List (List TreesData)) → Type 0
+MeanEach [] [] [] = Unit {0}
+MeanEach (b ∷ bs) (o ∷ os) (k ∷ ks) = Means b o.table k × MeanEach bs os ks
+MeanEach [] [] (k ∷ ks) = ⊥
+MeanEach [] (o ∷ os) ks = ⊥
+MeanEach (b ∷ bs) [] ks = ⊥
+MeanEach (b ∷ bs) (o ∷ os) [] = ⊥
+
+-- all fields of files with these outlines are open, no column is deferred, and the schemas are alike the first one
+abbrev pub AreAlike : List Outline → Type 0
+AreAlike [] = ⊥
+AreAlike (o ∷ os) = AreMergeable o.table (tables_of (o ∷ os))
+
+-- the clusters of one file after the other
+abbrev pub clusters_together : List (List (List TreesData)) → List (List TreesData)
+clusters_together each = flat_map (λ (clusters : List (List TreesData)). clusters) each
+
+-- a file is the whole one of files with these bytes, which have these clusters together
+pub record IsMergeOf (p : Params) (bytes : List (List ℕ)) (clusters : List (List TreesData)) (image : List ℕ) : Type 0 where
+  -- the files, whose schemas are alike, and what each means
+  pub outlines : List Outline
+  pub planned : ArePlanned bytes outlines
+  pub alike : AreAlike outlines
+  pub each : List (List (List TreesData))
+  pub mean : MeanEach bytes outlines each
+  pub are_all : clusters ≡ clusters_together each
+  -- it means the schema of the first without the flags of fields, and all their clusters
+  pub means : Means image (merged_table outlines) clusters
+  -- by cluster, column and page it has byte for byte the pages that are stored in them
+  pub pages : HasStoredPages image (merged_table outlines) (sources (all_numbered 0 bytes outlines))
+  -- it is laid out for copies of these clusters, which pass no limit
+  pub laid : IsCopied image (merged_table outlines) (sources (all_numbered 0 bytes outlines)) clusters (measures_of p)
+  pub fits : MergeFits (merged_table outlines) p (copied_metas (all_numbered 0 bytes outlines))
+
+-- these bytes are the whole file of files with those
+abbrev pub IsWholeMerge : Params → List (List ℕ) → List ℕ → Type 0
+IsWholeMerge p bytes image = (clusters : List (List TreesData)) × IsMergeOf p bytes clusters image
+
+-- these are the numbers of the clusters and the entries
+pub record AreMergeNumbers (clusters : List (List TreesData)) (counts : Counts) : Type 0 where
+  pub clusters_are : counts.clusters ≡ length clusters
+  pub entries_are : counts.entries ≡ merged_entries clusters
+
+-- files with these bytes have outlines, and this is the first place of their schemas that stands against merging them
+pub record HasSchemaError (bytes : List (List ℕ)) (place : SchemaPlace) : Type 0 where
+  pub outlines : List Outline
+  pub outlines_are : outlines_from 0 bytes ≡ Ok outlines
+  pub against : schema_error (tables_of outlines) ≡ Some place
+
+-- they can be merged, and this is the first fault of a cluster, file by file
+pub record IsFirstClusterFault (bytes : List (List ℕ)) (file : ℕ) (e : ReadError) : Type 0 where
+  pub outlines : List Outline
+  pub planned : ArePlanned bytes outlines
+  pub fault : readings (all_numbered 0 bytes outlines) ≡ Err (file, e)
+
+-- they can be merged, and the file of their clusters before the first fault passes this limit, with what was reached
+pub record PassesMerge (p : Params) (bytes : List (List ℕ)) (reached limit : ℕ) : Type 0 where
+  pub outlines : List Outline
+  pub planned : ArePlanned bytes outlines
+  pub over : MergeOver (merged_table outlines) p (copied_metas (sound_numbered (all_numbered 0 bytes outlines))) reached limit
