@@ -1,9 +1,8 @@
 -- The command `gen`, and the message after it.
-use Rattle.std.proofs.Common.{◌≡◌, ◌⊎◌, ◌∙◌, inl, inr, ap, sym, subst, refl, ℕ, ◌-◌, ◌^◌, false, List, [], ◌∷◌, ◌++◌, take, Option, Some}
+use Rattle.std.proofs.Common.{◌≡◌, ◌⊎◌, ◌∙◌, inl, inr, sym, subst, refl, ℕ, ◌-◌, ◌^◌, false, List, [], ◌∷◌}
 use Rattle.std.proofs.Common.{Result, Ok, Err, arith}
 use Rattle.std.specs.Prelude.{IsErrOf}
 use Rattle.std.proofs.lemmas.List.{append-nil}
-use Rattle.nt_outside.specs.Faults.{Rose}
 use Rattle.nt_outside.specs.World.{World, Asked, Out, File, HostState}
 use Rattle.nt_book.specs.declared.params.Params.{Params}
 use Rattle.nt_draws.specs.declared.making.Making.{Making}
@@ -14,16 +13,15 @@ use Rattle.nt_generate.specs.declared.error.GenerateError.TheVariants as generat
 use Rattle.nt_dealing.specs.Texts.{joined_chunks}
 use Rattle.nt_dealing.proofs.Whole.{passes_none}
 use Rattle.nt_generate.specs.Made.{made_chunks, made_lines}
-use Rattle.nt_generate.specs.Leaving.{IsMadeByFailure, LeavesMade, MadeCrashTold}
+use Rattle.nt_generate.specs.Leaving.{IsMadeByFailure, LeavesMade}
 use Rattle.nt_generate.specs.Generated.{GainsMadeFront, EndsOverFirstOrKept, GenerateTold}
 use Rattle.nt_app.specs.declared.status.Status.{Status}
 use Rattle.nt_app.specs.declared.status.Status.TheVariants as status
 use Rattle.nt_app.specs.Statuses.{message_of}
 use Rattle.nt_app.specs.Reports.{Reports}
 use Rattle.nt_app.specs.Gens.{status_of_generate, GenNamed, FitsMade, RunsGen}
-use Rattle.nt_app.proofs.Joined.{either_after}
 use Rattle.nt_app.proofs.Writing.{steps_after}
-use Rattle.nt_app.proofs.Reported.{IsBefore, reported, ordered_after}
+use Rattle.nt_app.proofs.Reported.{LeavesFile, made_reported, left_reported, rose_reported}
 
 -- parameters where no words say them
 abbrev default_params : Params
@@ -94,19 +92,11 @@ outside_of (Err generate.Memory) answer is outside = let bad = sym is ∙ outsid
 outside_of (Err (generate.Limit reached limit)) answer is outside = let bad = sym is ∙ outside in absurd (cc)
 outside_of (Err (generate.Defect fault)) answer is outside = let bad = sym is ∙ outside in absurd (cc)
 
--- a crash leaves of the file what it left
-crash_after : (o : List ℕ) (p : Params) (m : Making) (commits : List ℕ) (old mid : Option World) (w w' : World)
-    (made : Result Unit GenerateError) → MadeCrashTold o p m commits old mid made → old ≡ Some w → IsBefore o mid w w'
-    → LeavesMade o p m commits w' made
-crash_after o p m commits old mid w w' made crash at before =
-    let told = crash w before.v at before.is before.made in
-    subst (λ (v : World). LeavesMade o p m commits v made) before.same (record {
-      at = told.at;
-      log = told.log;
-      there = told.there;
-      steps = told.steps;
-      leaves = told.leaves;
-    })
+-- so does a crash
+crash_after : (o : List ℕ) (p : Params) (m : Making) (commits : List ℕ) (made : Result Unit GenerateError) (w v : World) (err : List ℕ)
+    → LeavesMade o p m commits v made → LeavesMade o p m commits (record v { err = err }) made
+crash_after o p m commits made w v err told =
+    record { at = told.at; log = told.log; there = told.there; steps = told.steps; leaves = told.leaves }
 
 completes : (o : List ℕ) (p : Params) (m : Making) (commits : List ℕ) (w v : World) (made : Result Unit GenerateError)
     → GenerateTold o p m commits w v made → (IsErrOf made generate.Outside → ⊥) → FitsMade p m
@@ -124,37 +114,26 @@ pub run_gen : (o : List ℕ) (m : Making) (old mid new : HostState) (answer : St
 run_gen o m old mid new answer makes reports =
     let p = makes.p in
     let gens = makes.generates in
-    let before = reported o (message_of answer) old.world mid.world new.world (λ w at. let done = gens.told w at in (done.0, done.1))
-    (λ w at. let said = reports.told w at in (said.0, said.1)) in
+    let left : LeavesFile o (λ w v. GenerateTold o p m gens.commits w v makes.made) old mid =
+    record { told = gens.told; order = gens.order; back = gens.served.back } in
+    let after = left_reported o (message_of answer) _ old mid new left reports
+    (λ w v err told. told_after o p m gens.commits w v err makes.made told) in
     record {
       p = p;
       defaults = makes.defaults;
       made = makes.made;
       answer_is = makes.answer_is;
       commits = gens.commits;
-      told = λ w at.
-          let done = gens.told w at in
-          let said = reports.told done.0 done.1 in (
-            _,
-            said.1,
-            (
-              said.0,
-              ap (λ (l : List ℕ). l ++ take said.0 (message_of answer)) done.2,
-              either_after old mid new said.0 (message_of answer) gens.served.back.err_faults said.2,
-            ),
-            done.3,
-            told_after o p m gens.commits w done.0 (done.0.err ++ take said.0 (message_of answer)) makes.made done.4,
-          );
-      order = λ w w' at at' made. ordered_after o old.world mid.world w w' gens.order at (before w w' at at' made);
-      crash = λ w w' at at' made.
-          crash_after o p m gens.commits old.world mid.world w w' makes.made gens.crash at (before w w' at at' made);
+      told = after.told;
+      order = after.order;
+      crash = made_reported o (message_of answer) _ old mid new left reports (λ w v. LeavesMade o p m gens.commits v makes.made)
+          (crash_after o p m gens.commits makes.made) gens.crash;
       asked = subst (λ (l : List Asked). AsksFor (Out o ∷ File o ∷ []) old.asked l makes.made) (sym reports.asked) gens.asked;
-      failed = λ outside. subst (λ (n : ℕ). Rose old.faults n) (sym reports.faults)
-          (gens.served.failed (outside_of makes.made answer makes.answer_is outside));
-      opened = reports.opened ∙ gens.served.back.opened ∙ omega arith;
+      failed = λ outside. rose_reported _ old mid new reports (gens.served.failed (outside_of makes.made answer makes.answer_is outside));
+      opened = after.opened;
       complete = λ w at serves fits.
           let done = gens.told w at in
           subst (λ (s : Status). (s ≡ status.Done) ⊎ (s ≡ status.Memory)) (sym makes.answer_is)
           (completes o p m gens.commits w done.0 makes.made done.4
-          (λ outside. serves (subst (λ (n : ℕ). Rose old.faults n) (sym reports.faults) (gens.served.failed outside))) fits);
+          (λ outside. serves (rose_reported _ old mid new reports (gens.served.failed outside))) fits);
     }

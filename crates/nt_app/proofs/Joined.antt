@@ -1,5 +1,5 @@
 -- What any command and the message after it have in common.
-use Rattle.std.proofs.Common.{◌≡◌, ◌⊎◌, inl, inr, refl, subst, ℕ, ◌≤◌, List, length, Option, Some, None}
+use Rattle.std.proofs.Common.{◌≡◌, ◌⊎◌, inl, inr, refl, subst, ℕ, ◌≤◌, List, [], ◌∷◌, length, map, Option, Some, None}
 use Rattle.std.specs.Prelude.{IsSome}
 use Rattle.nt_outside.specs.Faults.{Rose}
 use Rattle.nt_outside.specs.World.{HostState}
@@ -20,3 +20,18 @@ not_there_both P Q (Some text) differ one other = differ text one other
 pub there_is : (found : Option (List ℕ)) → IsSome found → (text : List ℕ) × (found ≡ Some text)
 there_is None some = absurd (cc some)
 there_is (Some text) some = (text, refl)
+
+-- texts that are told are of one list
+first_is : (x y : List ℕ) (xs ys : List (Option (List ℕ))) → ◌≡◌ {A = List (Option (List ℕ))} (Some x ∷ xs) (Some y ∷ ys)
+    → (x ≡ y) × (xs ≡ ys)
+first_is x y xs ys e = (cc, cc)
+
+pub texts_are : (xs ys : List (List ℕ)) → map (λ (text : List ℕ). Some text) xs ≡ map (λ (text : List ℕ). Some text) ys → xs ≡ ys
+texts_are [] [] same = refl
+texts_are [] (y ∷ ys) same = absurd (cc)
+texts_are (x ∷ xs) [] same = absurd (cc)
+texts_are (x ∷ xs) (y ∷ ys) same =
+    let both = first_is x y _ _ same in
+    let rest = texts_are xs ys both.1 in
+    let head = both.0 in
+    cc

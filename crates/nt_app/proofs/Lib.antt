@@ -1,6 +1,7 @@
 pub mod Joined
 pub mod Messages
 pub mod Reported
+pub mod WriteEnds
 pub mod Writing
 pub mod Scripting
 pub mod Generating
@@ -10,5 +11,8 @@ pub mod ScanEnds
 pub mod Scanned
 pub mod SkimEnds
 pub mod Skimming
+pub mod MergeOnce
+pub mod MergeEnds
+pub mod Merging
 pub mod Running
 pub mod Obeying

@@ -1,6 +1,7 @@
 -- A message that is printed on err piece by piece.
-use Rattle.std.proofs.Common.{◌≡◌, ◌⊎◌, ◌∙◌, inl, inr, ap, sym, refl, ℕ, ◌+◌, ◌≤◌, List, [], ◌++◌, length, take, Some, Result}
-use Rattle.std.proofs.Common.{Ok, Err, append_assoc, arith}
+use Rattle.std.proofs.Common.{◌≡◌, ◌⊎◌, ◌∙◌, inl, inr, ap, sym, refl, ℕ, ◌+◌, ◌≤◌, List, [], ◌++◌, length, take}
+use Rattle.std.proofs.Common.{subst, Option, Some, None, Result, Ok, Err, append_assoc, arith}
+use Rattle.std.specs.Option.{option_map_or}
 use Rattle.std.proofs.lemmas.List.{append-nil, length-append, take-append-le}
 use Rattle.std.proofs.Math.Seq.{take-length, take-append-add}
 use Rattle.nt_outside.specs.declared.fault.Failed.{Failed}
@@ -10,7 +11,7 @@ use Rattle.nt_outside.specs.World.{HostState, PrintsAll, prints}
 use Rattle.nt_app.specs.declared.status.Status.{Status}
 use Rattle.nt_app.specs.declared.status.Status.TheVariants as status
 use Rattle.nt_app.specs.declared.status.SchemaPlace.{SchemaPlace}
-use Rattle.nt_app.specs.Statuses.{message_of, message_front, message_end}
+use Rattle.nt_app.specs.Statuses.{name_of_place, name_line, place_end, message_of, message_front, message_end}
 use Rattle.nt_app.specs.Reports.{Reports}
 
 -- nothing
@@ -28,11 +29,23 @@ pub reports_no_end : (answer : Status) (host : HostState) → ((place : SchemaPl
 reports_no_end status.Done host other = reports_none host
 reports_no_end status.Usage host other = reports_none host
 reports_no_end (status.File fault) host other = reports_none host
+reports_no_end (status.FileOf file e) host other = reports_none host
 reports_no_end status.Outside host other = reports_none host
 reports_no_end (status.Limit reached limit) host other = reports_none host
 reports_no_end (status.Text input line kind) host other = reports_none host
 reports_no_end status.Memory host other = reports_none host
 reports_no_end (status.Schema place) host other = absurd (other place refl)
+
+-- nor does a place that has no name
+pub reports_nameless : (place : SchemaPlace) (host : HostState) → name_of_place place ≡ None → Reports (place_end place) host host
+reports_nameless place host none =
+    subst (λ (o : Option (List ℕ)). Reports (option_map_or name_line o []) host host) (sym none) (reports_none host)
+
+-- the name of a place is its end
+pub reports_named : (place : SchemaPlace) (name : List ℕ) (old new : HostState) → name_of_place place ≡ Some name
+    → Reports (name_line name) old new → Reports (place_end place) old new
+reports_named place name old new is reports =
+    subst (λ (o : Option (List ℕ)). Reports (option_map_or name_line o []) old new) (sym is) reports
 
 -- all of it, or its front
 pub reports_all : (message : List ℕ) (old new : HostState) (result : Result Unit Failed) → PrintsAll ToErr message old new result
@@ -98,6 +111,7 @@ pub message_whole : (answer : Status) → message_front answer ++ message_end an
 message_whole status.Done = refl
 message_whole status.Usage = append-nil (message_of status.Usage)
 message_whole (status.File fault) = append-nil (message_of (status.File fault))
+message_whole (status.FileOf file e) = append-nil (message_of (status.FileOf file e))
 message_whole status.Outside = append-nil (message_of status.Outside)
 message_whole (status.Limit reached limit) = append-nil (message_of (status.Limit reached limit))
 message_whole (status.Text input line kind) = append-nil (message_of (status.Text input line kind))

@@ -8,9 +8,10 @@ use Rattle.nt_command_line.specs.CommandLine.{IsEntries, IsSchemaCommand, IsScan
 use Rattle.nt_command_line.specs.WriteWords.{IsWrite}
 use Rattle.nt_command_line.specs.SeqWords.{IsSeq}
 use Rattle.nt_command_line.specs.SkimWords.{SaidTest, IsSkim}
+use Rattle.nt_command_line.specs.MergeWords.{IsMerge}
 use Rattle.nt_command_line.specs.GenWords.{IsGen}
 use Rattle.nt_command_line.proofs.Wrong.{begins_once}
-use Rattle.nt_command_line.proofs.Single.{same_write, same_seq, same_skim, same_gen, same_entries, same_schema, same_scan}
+use Rattle.nt_command_line.proofs.Single.{same_write, same_seq, same_skim, same_merge, same_gen, same_entries, same_schema, same_scan}
 use Rattle.nt_store.specs.declared.error.StoreError.{StoreError}
 use Rattle.nt_store.specs.declared.error.StoreError.TheVariants as store
 use Rattle.nt_script.specs.declared.store_error.ScriptStoreError.{ScriptStoreError}
@@ -20,6 +21,9 @@ use Rattle.nt_generate.specs.declared.error.GenerateError.TheVariants as generat
 use Rattle.nt_skim.specs.declared.error.PlanError.TheVariants as plan
 use Rattle.nt_skim_file.specs.declared.error.SkimStoreError.{SkimStoreError}
 use Rattle.nt_skim_file.specs.declared.error.SkimStoreError.TheVariants as early
+use Rattle.nt_merge.specs.declared.place.SchemaPlace.TheVariants as unlike
+use Rattle.nt_merge_files.specs.declared.error.MergeStoreError.{MergeStoreError}
+use Rattle.nt_merge_files.specs.declared.error.MergeStoreError.TheVariants as joining
 use Rattle.nt_app.specs.declared.status.Status.{Status}
 use Rattle.nt_app.specs.declared.status.Status.TheVariants as status
 use Rattle.nt_app.specs.Shows.{IsAnswerOfReading, ShowsNamed}
@@ -28,7 +32,8 @@ use Rattle.nt_app.specs.Seqs.{status_of_script, SeqNamed}
 use Rattle.nt_app.specs.Gens.{status_of_generate, GenNamed}
 use Rattle.nt_app.specs.Scans.{IsAnswerOfScan, ScansNamed}
 use Rattle.nt_app.specs.Skims.{choice_said, status_of_skim, SkimNamed}
-use Rattle.nt_app.specs.Runs.{SayWriting, SayMaking, SayReading, SayScanning, SaySkimming, range_said, IsAnswerTo, Obeys}
+use Rattle.nt_app.specs.Merges.{status_of_merge, MergeNamed}
+use Rattle.nt_app.specs.Runs.{SayWriting, SayMaking, SayReading, SayScanning, SaySkimming, SayMerging, range_said, IsAnswerTo, Obeys}
 
 store_answers : (words : List (List ℕ)) (stored : Result Unit StoreError) → SayWriting words → IsAnswerTo words (status_of_store stored)
 store_answers words (Ok done) said = inl said
@@ -59,6 +64,7 @@ reading_answers : (words : List (List ℕ)) (answer : Status) → IsAnswerOfRead
 reading_answers words status.Done is said = inr (inr (inl said))
 reading_answers words status.Usage is said = absurd is
 reading_answers words (status.File fault) is said = inr (inl said)
+reading_answers words (status.FileOf file e) is said = absurd is
 reading_answers words status.Outside is said = inr (inr (inl said))
 reading_answers words (status.Limit reached limit) is said = absurd is
 reading_answers words (status.Text input number kind) is said = absurd is
@@ -69,6 +75,7 @@ scanning_answers : (words : List (List ℕ)) (answer : Status) → IsAnswerOfSca
 scanning_answers words status.Done is said = inr (inr (inr (inl said)))
 scanning_answers words status.Usage is said = absurd is
 scanning_answers words (status.File fault) is said = inr (inr (inl said))
+scanning_answers words (status.FileOf file e) is said = absurd is
 scanning_answers words status.Outside is said = inr (inr (inr (inl said)))
 scanning_answers words (status.Limit reached limit) is said = inr (inr (inl said))
 scanning_answers words (status.Text input number kind) is said = absurd is
@@ -76,8 +83,8 @@ scanning_answers words status.Memory is said = tt
 scanning_answers words (status.Schema place) is said = absurd is
 
 skim_answers : (words : List (List ℕ)) (stored : Result Unit SkimStoreError) → SaySkimming words → IsAnswerTo words (status_of_skim stored)
-skim_answers words (Ok done) said = inr (inr (inr (inr said)))
-skim_answers words (Err early.Outside) said = inr (inr (inr (inr said)))
+skim_answers words (Ok done) said = inr (inr (inr (inr (inl said))))
+skim_answers words (Err early.Outside) said = inr (inr (inr (inr (inl said))))
 skim_answers words (Err early.Memory) said = tt
 skim_answers words (Err (early.Defect e)) said = inr (inr (inr said))
 skim_answers words (Err (early.Unplanned (plan.UnknownField name))) said = said
@@ -85,7 +92,19 @@ skim_answers words (Err (early.Unplanned (plan.Twice name))) said = said
 skim_answers words (Err (early.Unplanned (plan.NotWritable name))) said = said
 skim_answers words (Err (early.Unplanned (plan.NotANumber name))) said = said
 skim_answers words (Err (early.Unplanned plan.Memory)) said = tt
-skim_answers words (Err (early.Limit reached limit)) said = inr (inr (inr said))
+skim_answers words (Err (early.Limit reached limit)) said = inr (inr (inr (inl said)))
+
+merge_answers : (words : List (List ℕ)) (stored : Result Unit MergeStoreError) → SayMerging words
+    → IsAnswerTo words (status_of_merge stored)
+merge_answers words (Ok done) said = inr (inr (inr (inr (inr said))))
+merge_answers words (Err joining.Outside) said = inr (inr (inr (inr (inr said))))
+merge_answers words (Err joining.Memory) said = tt
+merge_answers words (Err (joining.Defect file e)) said = said
+merge_answers words (Err (joining.Schema (unlike.Closed file field))) said = said
+merge_answers words (Err (joining.Schema (unlike.Deferred file column))) said = said
+merge_answers words (Err (joining.Schema (unlike.Field file id))) said = said
+merge_answers words (Err (joining.Schema (unlike.Column file id))) said = said
+merge_answers words (Err (joining.Limit reached limit)) said = inr (inr (inr (inr said)))
 
 -- `write`
 pub written_words : (words : List (List ℕ)) (o s : List ℕ) (is : List (List ℕ)) (p : Params) (old new : HostState) (answer : Status)
@@ -94,6 +113,7 @@ written_words words o s is p old new answer said writes = record {
   write = λ o' s' is' p' other. same_write (λ a b c d. WritesNamed a b c d old new answer) words o s o' s' is is' p p' said other writes;
   seq = λ o' s' i p' other. absurd (begins_once words _ _ refl said.begins other.begins);
   skim = λ o' f ns t p' other. absurd (begins_once words _ _ refl said.begins other.begins);
+  merge = λ o' fs p' other. absurd (begins_once words _ _ refl said.begins other.begins);
   gen = λ o' m other. absurd (begins_once words _ _ refl said.begins other.begins);
   entries = λ from count name other. absurd (begins_once words _ _ refl said.begins other.begins);
   schema = λ name other. absurd (begins_once words _ _ refl said.begins other.begins);
@@ -109,6 +129,7 @@ scripted_words words o s i p old new answer said writes = record {
   write = λ o' s' is p' other. absurd (begins_once words _ _ refl said.begins other.begins);
   seq = λ o' s' i' p' other. same_seq (λ a b c d. SeqNamed a b c d old new answer) words o s i o' s' i' p p' said other writes;
   skim = λ o' f ns t p' other. absurd (begins_once words _ _ refl said.begins other.begins);
+  merge = λ o' fs p' other. absurd (begins_once words _ _ refl said.begins other.begins);
   gen = λ o' m other. absurd (begins_once words _ _ refl said.begins other.begins);
   entries = λ from count name other. absurd (begins_once words _ _ refl said.begins other.begins);
   schema = λ name other. absurd (begins_once words _ _ refl said.begins other.begins);
@@ -125,12 +146,29 @@ skimmed_words words o f ns t p old new answer said skims = record {
   seq = λ o' s i p' other. absurd (begins_once words _ _ refl said.begins other.begins);
   skim = λ o' f' ns' t' p' other.
       same_skim (λ a b c d e. SkimNamed a b (choice_said c d) e old new answer) words o f o' f' ns ns' t t' p p' said other skims;
+  merge = λ o' fs p' other. absurd (begins_once words _ _ refl said.begins other.begins);
   gen = λ o' m other. absurd (begins_once words _ _ refl said.begins other.begins);
   entries = λ from count name other. absurd (begins_once words _ _ refl said.begins other.begins);
   schema = λ name other. absurd (begins_once words _ _ refl said.begins other.begins);
   scan = λ name other. absurd (begins_once words _ _ refl said.begins other.begins);
   usage = λ none. absurd (none.no_skim o f ns t p said);
   answers = subst (IsAnswerTo words) (sym skims.answer_is) (skim_answers words skims.stored (o, f, ns, t, p, said));
+}
+
+-- `merge`
+pub merged_words : (words : List (List ℕ)) (o : List ℕ) (fs : List (List ℕ)) (p : Params) (old new : HostState) (answer : Status)
+    → IsMerge words o fs p → MergeNamed o fs p old new answer → Obeys words old new answer
+merged_words words o fs p old new answer said merges = record {
+  write = λ o' s is p' other. absurd (begins_once words _ _ refl said.begins other.begins);
+  seq = λ o' s i p' other. absurd (begins_once words _ _ refl said.begins other.begins);
+  skim = λ o' f ns t p' other. absurd (begins_once words _ _ refl said.begins other.begins);
+  merge = λ o' fs' p' other. same_merge (λ a b c. MergeNamed a b c old new answer) words o o' fs fs' p p' said other merges;
+  gen = λ o' m other. absurd (begins_once words _ _ refl said.begins other.begins);
+  entries = λ from count name other. absurd (begins_once words _ _ refl said.begins other.begins);
+  schema = λ name other. absurd (begins_once words _ _ refl said.begins other.begins);
+  scan = λ name other. absurd (begins_once words _ _ refl said.begins other.begins);
+  usage = λ none. absurd (none.no_merge o fs p said);
+  answers = subst (IsAnswerTo words) (sym merges.answer_is) (merge_answers words merges.stored (o, fs, p, said));
 }
 
 -- `gen`
@@ -140,6 +178,7 @@ made_words words o m old new answer said makes = record {
   write = λ o' s' is p' other. absurd (begins_once words _ _ refl said.begins other.begins);
   seq = λ o' s' i p' other. absurd (begins_once words _ _ refl said.begins other.begins);
   skim = λ o' f ns t p' other. absurd (begins_once words _ _ refl said.begins other.begins);
+  merge = λ o' fs p' other. absurd (begins_once words _ _ refl said.begins other.begins);
   gen = λ o' m' other. same_gen (λ n l. GenNamed l n old new answer) words m m' o o' said other makes;
   entries = λ from count name other. absurd (begins_once words _ _ refl said.begins other.begins);
   schema = λ name other. absurd (begins_once words _ _ refl said.begins other.begins);
@@ -155,6 +194,7 @@ listed_words words from count name old new answer said shows = record {
   write = λ o s is p other. absurd (begins_once words _ _ refl said.begins other.begins);
   seq = λ o s i p other. absurd (begins_once words _ _ refl said.begins other.begins);
   skim = λ o' f ns t p' other. absurd (begins_once words _ _ refl said.begins other.begins);
+  merge = λ o' fs p' other. absurd (begins_once words _ _ refl said.begins other.begins);
   gen = λ o m other. absurd (begins_once words _ _ refl said.begins other.begins);
   entries = λ from' count' name' other.
       same_entries (λ f c n. ShowsNamed (entries_shown (range_said f c)) n old new answer) words from count from' count' name name'
@@ -172,6 +212,7 @@ outlined_words words name old new answer said shows = record {
   write = λ o s is p other. absurd (begins_once words _ _ refl said.begins other.begins);
   seq = λ o s i p other. absurd (begins_once words _ _ refl said.begins other.begins);
   skim = λ o' f ns t p' other. absurd (begins_once words _ _ refl said.begins other.begins);
+  merge = λ o' fs p' other. absurd (begins_once words _ _ refl said.begins other.begins);
   gen = λ o m other. absurd (begins_once words _ _ refl said.begins other.begins);
   entries = λ from count name' other. absurd (begins_once words _ _ refl said.begins other.begins);
   schema = λ name' other. same_schema (λ n. ShowsNamed fields_shown n old new answer) words name name' said other shows;
@@ -187,6 +228,7 @@ scanned_words words name old new answer said scans = record {
   write = λ o s is p other. absurd (begins_once words _ _ refl said.begins other.begins);
   seq = λ o s i p other. absurd (begins_once words _ _ refl said.begins other.begins);
   skim = λ o' f ns t p' other. absurd (begins_once words _ _ refl said.begins other.begins);
+  merge = λ o' fs p' other. absurd (begins_once words _ _ refl said.begins other.begins);
   gen = λ o m other. absurd (begins_once words _ _ refl said.begins other.begins);
   entries = λ from count name' other. absurd (begins_once words _ _ refl said.begins other.begins);
   schema = λ name' other. absurd (begins_once words _ _ refl said.begins other.begins);

@@ -16,6 +16,7 @@ use Rattle.nt_app.proofs.Joined.{either_after}
 use Rattle.nt_app.proofs.Writing.{memory_writes, run_write}
 use Rattle.nt_app.proofs.Scripting.{memory_scripts, run_seq}
 use Rattle.nt_app.proofs.Skimming.{memory_skims, run_skim}
+use Rattle.nt_app.proofs.Merging.{memory_merges, run_merge}
 use Rattle.nt_app.proofs.Generating.{memory_makes, run_gen}
 use Rattle.nt_app.proofs.Shown.{memory_shows, run_shows}
 use Rattle.nt_app.proofs.Scanned.{memory_scans, run_scan}
@@ -59,6 +60,7 @@ runs words old mid new answer obeys reports bytes = record {
   write = λ o s is p said. run_write o s is p old mid new answer (obeys.write o s is p said) reports;
   seq = λ o s i p said. run_seq o s i p old mid new answer (obeys.seq o s i p said) reports;
   skim = λ o f ns t p said. run_skim o f (choice_said ns t) p old mid new answer (obeys.skim o f ns t p said) reports;
+  merge = λ o fs p said. run_merge o fs p old mid new answer (obeys.merge o fs p said) reports;
   gen = λ o m said. run_gen o m old mid new answer (obeys.gen o m said) reports;
   entries = λ from count name said. run_shows (entries_shown (range_said from count)) name old mid new answer
       (obeys.entries from count name said) reports;
@@ -90,6 +92,7 @@ no_memory words state = record {
   write = λ o s is p said. memory_writes o s is p state;
   seq = λ o s i p said. memory_scripts o s i p state;
   skim = λ o f ns t p said. memory_skims o f (choice_said ns t) p state;
+  merge = λ o fs p said. memory_merges o fs p state;
   gen = λ o m said. memory_makes o m state;
   entries = λ from count name said. memory_shows (entries_shown (range_said from count)) name state;
   schema = λ name said. memory_shows fields_shown name state;
@@ -106,6 +109,7 @@ wrong_words words state wrong =
       write = λ o s is p said. absurd (none.no_write o s is p said);
       seq = λ o s i p said. absurd (none.no_seq o s i p said);
       skim = λ o f ns t p said. absurd (none.no_skim o f ns t p said);
+      merge = λ o fs p said. absurd (none.no_merge o fs p said);
       gen = λ o m said. absurd (none.no_gen m o said);
       entries = λ from count name said. absurd (none.no_entries from count name said);
       schema = λ name said. absurd (none.no_schema name said);

@@ -26,6 +26,7 @@ ends_done None w v answer told can served = absurd can
 ends_done (Some bytes) w v status.Done told can served = inl refl
 ends_done (Some bytes) w v status.Usage told can served = absurd told
 ends_done (Some bytes) w v (status.File e) told can served = absurd (faulty_both bytes (can.t, can.entries) e can.means told.0.0)
+ends_done (Some bytes) w v (status.FileOf file e) told can served = absurd told
 ends_done (Some bytes) w v status.Outside told can served = absurd (served refl)
 ends_done (Some bytes) w v (status.Limit reached limit) told can served = absurd (few-not_over bytes told.0.0 reached can.few told.0.1)
 ends_done (Some bytes) w v (status.Text input line kind) told can served = absurd told
@@ -41,6 +42,7 @@ ends_over (Some bytes) w v reached status.Done told over served =
     absurd (lines-not_over bytes told.0 over.0 reached told.1.1 over.1)
 ends_over (Some bytes) w v reached status.Usage told over served = absurd told
 ends_over (Some bytes) w v reached (status.File e) told over served = absurd (defect-not_over bytes e over.0 reached told.0 over.1)
+ends_over (Some bytes) w v reached (status.FileOf file e) told over served = absurd told
 ends_over (Some bytes) w v reached status.Outside told over served = absurd (served refl)
 ends_over (Some bytes) w v reached (status.Limit r limit) told over served =
     inl (ap₂ (λ (m n : ℕ). status.Limit m n) (over-once bytes told.0.0 r over.0 reached told.0.1 over.1) told.1)
@@ -57,6 +59,7 @@ ends_faulty (Some bytes) w v e status.Done told faulty served = absurd (lines-no
 ends_faulty (Some bytes) w v e status.Usage told faulty served = absurd told
 ends_faulty (Some bytes) w v e (status.File d) told faulty served =
     inl (ap (λ (f : ReadError). status.File f) (defect-once bytes d e told.0 faulty))
+ends_faulty (Some bytes) w v e (status.FileOf file d) told faulty served = absurd told
 ends_faulty (Some bytes) w v e status.Outside told faulty served = absurd (served refl)
 ends_faulty (Some bytes) w v e (status.Limit reached limit) told faulty served =
     absurd (defect-not_over bytes e told.0.0 reached faulty told.0.1)

@@ -85,6 +85,7 @@ asks_one : (answer : Status) (a : Asked) (old new : List Asked) → new ≡ old 
 asks_one status.Done a old new is = is
 asks_one status.Usage a old new is = (1, is)
 asks_one (status.File e) a old new is = (1, is)
+asks_one (status.FileOf file e) a old new is = (1, is)
 asks_one status.Outside a old new is = (1, is)
 asks_one (status.Limit reached limit) a old new is = (1, is)
 asks_one (status.Text input line kind) a old new is = (1, is)
@@ -171,6 +172,7 @@ told_after : (found : Option (List ℕ)) (w v : World) (err : List ℕ) (answer 
 told_after found w v err status.Done told = told
 told_after found w v err status.Usage told = told
 told_after found w v err (status.File fault) told = told
+told_after found w v err (status.FileOf file e) told = told
 told_after found w v err status.Outside told = told
 told_after found w v err (status.Limit reached limit) told = told
 told_after found w v err (status.Text input line kind) told = told

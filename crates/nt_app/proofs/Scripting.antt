@@ -1,12 +1,12 @@
 -- The command `seq`, and the message after it.
-use Rattle.std.proofs.Common.{◌≡◌, ◌⊎◌, ◌∙◌, inl, inr, ap, sym, subst, refl, ℕ, List, [], ◌∷◌, ◌++◌, take, Option, Some, None}
+use Rattle.std.proofs.Common.{◌≡◌, ◌⊎◌, ◌∙◌, inl, inr, ap, sym, subst, refl, ℕ, List, [], ◌∷◌, Option, Some, None}
 use Rattle.std.proofs.Common.{Result, Ok, Err, arith}
 use Rattle.std.specs.Prelude.{IsErrOf}
 use Rattle.std.proofs.lemmas.List.{append-nil}
+use Rattle.nt_lists.proofs.Variants.{some_is}
 use Rattle.nt_types.specs.ShapeData.{MemberData}
 use Rattle.nt_types.specs.Schema.{schema_text, at_line}
 use Rattle.nt_types.specs.declared.fault.SchemaKind.{SchemaKind}
-use Rattle.nt_outside.specs.Faults.{Rose}
 use Rattle.nt_outside.specs.Order.{EndsInSync}
 use Rattle.nt_outside.specs.World.{World, Asked, HostState, file}
 use Rattle.nt_book.specs.declared.params.Params.{Params}
@@ -22,7 +22,7 @@ use Rattle.nt_script.specs.Clusters.{bad_line}
 use Rattle.nt_script.specs.Passing.{PassesLimit}
 use Rattle.nt_script.specs.Fitting.{FitsWhole}
 use Rattle.nt_script.proofs.WholePassed.{fits_none}
-use Rattle.nt_script.specs.Crashes.{LeavesScript, ScriptCrashTold}
+use Rattle.nt_script.specs.Crashes.{LeavesScript}
 use Rattle.nt_script.specs.Storing.{AreScriptTexts, MakesScriptFile, StoresWholeScript, IsWholeScript, IsTooLargeScript, ScriptTold}
 use Rattle.nt_app.specs.declared.status.Status.{Status}
 use Rattle.nt_app.specs.declared.status.Status.TheVariants as status
@@ -30,9 +30,9 @@ use Rattle.nt_app.specs.declared.status.TextFault.TheVariants as fault
 use Rattle.nt_app.specs.Statuses.{message_of}
 use Rattle.nt_app.specs.Reports.{Reports}
 use Rattle.nt_app.specs.Seqs.{fault_of_line, status_of_script, SeqNamed, AnswersScript, RunsSeq}
-use Rattle.nt_app.proofs.Joined.{either_after}
-use Rattle.nt_app.proofs.Reported.{IsBefore, reported, ordered_after}
-use Rattle.nt_app.proofs.Writing.{left_after, steps_after, same_fields, not_both, same_fault}
+use Rattle.nt_app.proofs.Reported.{LeavesFile, made_reported, left_reported, rose_reported}
+use Rattle.nt_app.proofs.Writing.{left_after, steps_after}
+use Rattle.nt_app.proofs.WriteEnds.{same_fields, not_both, same_fault}
 
 -- want of memory for the words leaves all as it was
 pub memory_scripts : (o s i : List ℕ) (p : Params) (state : HostState) → SeqNamed o s i p state state status.Memory
@@ -89,41 +89,27 @@ outside_of (Err (script.Schema line kind)) answer is outside = let bad = sym is 
 outside_of (Err (script.Line line kind)) answer is outside = let bad = sym is ∙ outside in absurd (cc)
 outside_of (Err (script.Limit reached limit)) answer is outside = let bad = sym is ∙ outside in absurd (cc)
 
--- a crash leaves of the file what it left
-crash_after : (o s i : List ℕ) (p : Params) (old mid : Option World) (w w' : World) (stored : Result Unit ScriptStoreError)
-    → ScriptCrashTold (IsWholeScript s i p) o old mid stored → old ≡ Some w → IsBefore o mid w w'
-    → LeavesScript (IsWholeScript s i p w) o w' stored
-crash_after o s i p old mid w w' stored crash at before =
-    let told = crash w before.v at before.is before.made in
-    subst (λ (v : World). LeavesScript (IsWholeScript s i p w) o v stored) before.same (record {
-      at = told.at;
-      log = told.log;
-      there = told.there;
-      steps = told.steps;
-      leaves = told.leaves;
-    })
+-- so does a crash
+crash_after : (o s i : List ℕ) (p : Params) (stored : Result Unit ScriptStoreError) (w v : World) (err : List ℕ)
+    → LeavesScript (IsWholeScript s i p w) o v stored → LeavesScript (IsWholeScript s i p w) o (record v { err = err }) stored
+crash_after o s i p stored w v err told =
+    record { at = told.at; log = told.log; there = told.there; steps = told.steps; leaves = told.leaves }
 
 -- the texts of a host are of one reading
-text_is : (x y : List ℕ) → Some x ≡ Some y → x ≡ y
-text_is x y e = cc
-
 same_script : (w : World) (s i : List ℕ) (f f' : List MemberData) (t t' : List ℕ) (P : List MemberData → List ℕ → Type 0)
     → AreScriptTexts w s i f t → AreScriptTexts w s i f' t' → P f t → P f' t'
 same_script w s i f f' t t' P one other holds =
     let fields : f ≡ f' = same_fields (file w s) f f' one.schema_is other.schema_is in
-    let text : t ≡ t' = text_is t t' (sym one.script_is ∙ other.script_is) in
+    let text : t ≡ t' = some_is t t' (sym one.script_is ∙ other.script_is) in
     subst (λ (l : List ℕ). P f' l) text (subst (λ (l : List MemberData). P l t) fields holds)
 
 -- the first bad line of a script is one
-bad_is : (x y : BadScriptLine) → Some x ≡ Some y → x ≡ y
-bad_is x y e = cc
-
 same_bad : (b : Option BadScriptLine) (line line' : ℕ) (kind kind' : LineFault) → b ≡ Some (record { line = line; kind = kind })
     → b ≡ Some (record { line = line'; kind = kind' })
     → status.Text (Some 0) line (fault_of_line kind) ≡ status.Text (Some 0) line' (fault_of_line kind')
 same_bad b line line' kind kind' one other =
     ap (λ (x : BadScriptLine). status.Text (Some 0) x.line (fault_of_line x.kind))
-    (bad_is (record { line = line; kind = kind }) (record { line = line'; kind = kind' }) (sym one ∙ other))
+    (some_is (record { line = line; kind = kind }) (record { line = line'; kind = kind' }) (sym one ∙ other))
 
 not_sound : (b : Option BadScriptLine) (x : BadScriptLine) → b ≡ None → b ≡ Some x → ⊥
 not_sound b x none some = let bad = sym none ∙ some in cc
@@ -198,32 +184,23 @@ pub run_seq : (o s i : List ℕ) (p : Params) (old mid new : HostState) (answer 
     → Reports (message_of answer) mid new → RunsSeq o s i p old new answer
 run_seq o s i p old mid new answer writes reports =
     let stores = writes.stores in
-    let before = reported o (message_of answer) old.world mid.world new.world (λ w at. let done = stores.told w at in (done.0, done.1))
-    (λ w at. let said = reports.told w at in (said.0, said.1)) in
+    let left : LeavesFile o (λ w v. ScriptTold o s i p w v writes.stored) old mid =
+    record { told = stores.told; order = stores.order; back = stores.back } in
+    let after = left_reported o (message_of answer) _ old mid new left reports
+    (λ w v err told. told_after o s i p w v err writes.stored told) in
     record {
       stored = writes.stored;
       answer_is = writes.answer_is;
-      told = λ w at.
-          let done = stores.told w at in
-          let said = reports.told done.0 done.1 in (
-            _,
-            said.1,
-            (
-              said.0,
-              ap (λ (l : List ℕ). l ++ take said.0 (message_of answer)) done.2,
-              either_after old mid new said.0 (message_of answer) stores.back.err_faults said.2,
-            ),
-            done.3,
-            told_after o s i p w done.0 (done.0.err ++ take said.0 (message_of answer)) writes.stored done.4,
-          );
-      order = λ w w' at at' made. ordered_after o old.world mid.world w w' stores.order at (before w w' at at' made);
-      crash = λ w w' at at' made. crash_after o s i p old.world mid.world w w' writes.stored stores.crash at (before w w' at at' made);
+      told = after.told;
+      order = after.order;
+      crash = made_reported o (message_of answer) _ old mid new left reports (λ w v. LeavesScript (IsWholeScript s i p w) o v writes.stored)
+          (crash_after o s i p writes.stored) stores.crash;
       asked = subst (λ (l : List Asked). AsksFor (asked_for o s (i ∷ [])) old.asked l writes.stored) (sym reports.asked) stores.asked;
-      failed = λ outside. subst (λ (n : ℕ). Rose old.faults n) (sym reports.faults)
-          (stores.cause.failed (outside_of writes.stored answer writes.answer_is outside));
-      opened = reports.opened ∙ stores.back.opened ∙ omega arith;
+      failed = λ outside.
+          rose_reported _ old mid new reports (stores.cause.failed (outside_of writes.stored answer writes.answer_is outside));
+      opened = after.opened;
       served = λ w at serves.
           let done = stores.told w at in
           subst (AnswersScript s i p w) (sym writes.answer_is) (answers_script o s i p w done.0 writes.stored done.4
-          (λ outside. serves (subst (λ (n : ℕ). Rose old.faults n) (sym reports.faults) (stores.cause.failed outside))));
+          (λ outside. serves (rose_reported _ old mid new reports (stores.cause.failed outside))));
     }

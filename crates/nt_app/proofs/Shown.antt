@@ -154,6 +154,7 @@ told_after : {V : Type 0} (s : Shown V) (found : Option (List ℕ)) (w v : World
 told_after s found w v err status.Done told = told
 told_after s found w v err status.Usage told = told
 told_after s found w v err (status.File fault) told = told
+told_after s found w v err (status.FileOf file e) told = told
 told_after s found w v err status.Outside told = told
 told_after s found w v err (status.Limit reached limit) told = told
 told_after s found w v err (status.Text input line kind) told = told
@@ -174,6 +175,7 @@ ends_done s found w v read (status.File e) told reads served =
     both r x d one other =
         let bad = sym one ∙ other in
         cc
+ends_done s found w v read (status.FileOf file e) told reads served = absurd told
 ends_done s found w v read status.Outside told reads served = absurd (served refl)
 ends_done s found w v read (status.Limit reached limit) told reads served = absurd told
 ends_done s found w v read (status.Text input line kind) told reads served = absurd told
@@ -196,6 +198,7 @@ ends_faulty {V} s (Some bytes) w v e (status.File d) told reads served =
   where
     err_is : (x y : ReadError) → ◌≡◌ {A = Result V ReadError} (Err x) (Err y) → x ≡ y
     err_is x y is = cc
+ends_faulty {V} s (Some bytes) w v e (status.FileOf file d) told reads served = absurd told
 ends_faulty {V} s (Some bytes) w v e status.Outside told reads served = absurd (served refl)
 ends_faulty {V} s (Some bytes) w v e (status.Limit reached limit) told reads served = absurd told
 ends_faulty {V} s (Some bytes) w v e (status.Text input line kind) told reads served = absurd told

@@ -1,11 +1,10 @@
 -- The command `skim`, and the message after it.
-use Rattle.std.proofs.Common.{◌≡◌, ◌∙◌, inl, inr, ap, sym, subst, refl, ℕ, List, [], ◌++◌, take, Option, Some, None}
+use Rattle.std.proofs.Common.{◌≡◌, ◌∙◌, inl, inr, ap, sym, subst, refl, ℕ, List, [], Option, Some, None}
 use Rattle.std.proofs.Common.{Result, Ok, Err, arith}
 use Rattle.std.specs.Prelude.{IsErrOf, option_map, option_copied}
 use Rattle.std.specs.Borrow.{Bor}
 use Rattle.std.proofs.lemmas.List.{append-nil}
 use Rattle.nt_num.specs.declared.fault.ReadError.{ReadError}
-use Rattle.nt_outside.specs.Faults.{Rose}
 use Rattle.nt_outside.specs.Order.{EndsInSync}
 use Rattle.nt_outside.specs.World.{World, Asked, HostState, file}
 use Rattle.nt_book.specs.declared.params.Params.{Params}
@@ -19,7 +18,7 @@ use Rattle.nt_skim.specs.Tests.{test_view}
 use Rattle.nt_skim_file.specs.declared.error.SkimStoreError.{SkimStoreError}
 use Rattle.nt_skim_file.specs.declared.error.SkimStoreError.TheVariants as store
 use Rattle.nt_skim_file.specs.Choosing.{SkimChoiceData}
-use Rattle.nt_skim_file.specs.Crashes.{LeavesSkim, SkimCrashTold}
+use Rattle.nt_skim_file.specs.Crashes.{LeavesSkim}
 use Rattle.nt_skim_file.specs.Storing.{MakesSkim, DefectTold, StoresSkim, IsWholeSkimOf, SkimTold, StoresSelected}
 use Rattle.nt_skim_file.specs.Storing.{skim_asked}
 use Rattle.nt_skim_file.proofs.Hosted.{none_left}
@@ -29,8 +28,7 @@ use Rattle.nt_app.specs.declared.status.Status.TheVariants as status
 use Rattle.nt_app.specs.Statuses.{message_of}
 use Rattle.nt_app.specs.Reports.{Reports}
 use Rattle.nt_app.specs.Skims.{choice_said, IsChoiceOf, status_of_skim, SkimNamed, AnswersSkim, RunsSkim}
-use Rattle.nt_app.proofs.Joined.{either_after}
-use Rattle.nt_app.proofs.Reported.{IsBefore, reported, ordered_after}
+use Rattle.nt_app.proofs.Reported.{LeavesFile, made_reported, left_reported, rose_reported}
 use Rattle.nt_app.proofs.SkimEnds.{answers_skim}
 use Rattle.nt_app.proofs.Writing.{left_after, steps_after}
 
@@ -121,54 +119,33 @@ outside_of (Err (store.Unplanned (plan.NotANumber name))) answer is outside = le
 outside_of (Err (store.Unplanned plan.Memory)) answer is outside = let bad = sym is ∙ outside in absurd (cc)
 outside_of (Err (store.Limit reached limit)) answer is outside = let bad = sym is ∙ outside in absurd (cc)
 
--- a crash leaves of the file what it left
-crash_after : (out name : List ℕ) (c : SkimChoiceData) (p : Params) (old mid : Option World) (w w' : World)
-    (stored : Result Unit SkimStoreError) → SkimCrashTold (IsWholeSkimOf name c p) out old mid stored → old ≡ Some w
-    → IsBefore out mid w w' → LeavesSkim (IsWholeSkimOf name c p w) out w' stored
-crash_after out name c p old mid w w' stored crash at before =
-    let told = crash w before.v at before.is before.made in
-    subst (λ (v : World). LeavesSkim (IsWholeSkimOf name c p w) out v stored) before.same (record {
-      at = told.at;
-      log = told.log;
-      there = told.there;
-      steps = told.steps;
-      leaves = told.leaves;
-    })
+-- so does a crash
+crash_after : (out name : List ℕ) (c : SkimChoiceData) (p : Params) (stored : Result Unit SkimStoreError) (w v : World) (err : List ℕ)
+    → LeavesSkim (IsWholeSkimOf name c p w) out v stored → LeavesSkim (IsWholeSkimOf name c p w) out (record v { err = err }) stored
+crash_after out name c p stored w v err told =
+    record { at = told.at; log = told.log; there = told.there; steps = told.steps; leaves = told.leaves }
 
 -- `skim`, and then its message
 pub run_skim : (out name : List ℕ) (c : SkimChoiceData) (p : Params) (old mid new : HostState) (answer : Status)
     → SkimNamed out name c p old mid answer → Reports (message_of answer) mid new → RunsSkim out name c p old new answer
 run_skim out name c p old mid new answer skims reports =
     let stores = skims.stores in
-    let before = reported out (message_of answer) old.world mid.world new.world (λ w at. let done = stores.told w at in (done.0, done.1))
-    (λ w at. let said = reports.told w at in (said.0, said.1)) in
+    let left : LeavesFile out (λ w v. SkimTold out name c p w v skims.stored) old mid =
+    record { told = stores.told; order = stores.order; back = stores.back } in
+    let after = left_reported out (message_of answer) _ old mid new left reports
+    (λ w v err told. told_after out name c p w v err skims.stored told) in
     record {
       stored = skims.stored;
       answer_is = skims.answer_is;
-      told = λ w at.
-          let done = stores.told w at in
-          let said = reports.told done.0 done.1 in (
-            _,
-            said.1,
-            (
-              said.0,
-              ap (λ (l : List ℕ). l ++ take said.0 (message_of answer)) done.2,
-              either_after old mid new said.0 (message_of answer) stores.back.err_faults said.2,
-            ),
-            done.3,
-            told_after out name c p w done.0 (done.0.err ++ take said.0 (message_of answer)) skims.stored done.4,
-          );
-      order = λ w w' at at' made. ordered_after out old.world mid.world w w' stores.order at (before w w' at at' made);
-      crash = λ w w' at at' made.
-          crash_after out name c p old.world mid.world w w' skims.stored stores.crash at (before w w' at at' made);
+      told = after.told;
+      order = after.order;
+      crash = made_reported out (message_of answer) _ old mid new left reports
+          (λ w v. LeavesSkim (IsWholeSkimOf name c p w) out v skims.stored) (crash_after out name c p skims.stored) stores.crash;
       asked = subst (λ (l : List Asked). AsksFor (skim_asked out name) old.asked l skims.stored) (sym reports.asked) stores.asked;
-      failed = λ outside. rose_on (stores.failed (outside_of skims.stored answer skims.answer_is outside));
-      opened = reports.opened ∙ stores.back.opened ∙ omega arith;
+      failed = λ outside. rose_reported _ old mid new reports (stores.failed (outside_of skims.stored answer skims.answer_is outside));
+      opened = after.opened;
       served = λ w at serves.
           let done = stores.told w at in
           subst (AnswersSkim name c p w) (sym skims.answer_is) (answers_skim out name c p w done.0 skims.stored done.4
-          (λ outside. serves (rose_on (stores.failed outside))));
+          (λ outside. serves (rose_reported _ old mid new reports (stores.failed outside))));
     }
-  where
-    rose_on : Rose old.faults mid.faults → Rose old.faults new.faults
-    rose_on rose = subst (λ (n : ℕ). Rose old.faults n) (sym reports.faults) rose

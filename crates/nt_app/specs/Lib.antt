@@ -6,4 +6,5 @@ pub mod Seqs
 pub mod Gens
 pub mod Scans
 pub mod Skims
+pub mod Merges
 pub mod Runs

@@ -10,9 +10,12 @@ use Rattle.nt_command_line.specs.CommandLine.{IsEntries, IsSchemaCommand, IsScan
 use Rattle.nt_command_line.specs.WriteWords.{IsWrite}
 use Rattle.nt_command_line.specs.SeqWords.{IsSeq}
 use Rattle.nt_command_line.specs.SkimWords.{SaidTest, IsSkim}
+use Rattle.nt_command_line.specs.MergeWords.{IsMerge}
 use Rattle.nt_command_line.specs.GenWords.{IsGen}
 use Rattle.nt_command_line.specs.Commands.{IsNoCommand, IsWrong}
 use Rattle.nt_store.specs.Worlds.{KeepsFiles}
+use Rattle.nt_app.specs.declared.status.SchemaPlace.{SchemaPlace}
+use Rattle.nt_app.specs.declared.status.SchemaPlace.TheVariants as unmet
 use Rattle.nt_app.specs.declared.status.Status.{Status}
 use Rattle.nt_app.specs.declared.status.Status.TheVariants as status
 use Rattle.nt_app.specs.Statuses.{message_of}
@@ -23,6 +26,7 @@ use Rattle.nt_app.specs.Seqs.{SeqNamed, RunsSeq}
 use Rattle.nt_app.specs.Gens.{GenNamed, RunsGen}
 use Rattle.nt_app.specs.Scans.{ScansNamed, RunsScan}
 use Rattle.nt_app.specs.Skims.{choice_said, SkimNamed, RunsSkim}
+use Rattle.nt_app.specs.Merges.{MergeNamed, RunsMerge}
 
 -- the words were no command, which is said unless memory runs out: nothing was asked for, no disk was made, and no file changed
 pub record RefusesWords (old new : HostState) (answer : Status) : Type 0 where
@@ -69,16 +73,33 @@ abbrev pub SaySkimming : List (List ℕ) → Type 0
 SaySkimming words =
     (out file : List ℕ) × (names : List (List ℕ)) × (test : Option SaidTest) × (p : Params) × IsSkim words out file names test p
 
+-- the words are `merge ..`
+abbrev pub SayMerging : List (List ℕ) → Type 0
+SayMerging words = (out : List ℕ) × (files : List (List ℕ)) × (p : Params) × IsMerge words out files p
+
+-- the words are `skim ..` or `merge ..`
+abbrev pub SayCopying : List (List ℕ) → Type 0
+SayCopying words = SaySkimming words ⊎ SayMerging words
+
+-- a place is one of the words of a command that chooses fields, or of the schemas of files that are merged
+abbrev pub IsPlaceOf : Type 0 → Type 0 → SchemaPlace → Type 0
+IsPlaceOf chooses merges (unmet.Closed file field) = merges
+IsPlaceOf chooses merges (unmet.Deferred file column) = merges
+IsPlaceOf chooses merges (unmet.Field file id) = merges
+IsPlaceOf chooses merges (unmet.Column file id) = merges
+IsPlaceOf chooses merges named = chooses
+
 -- each answer comes of some commands alone, and `Usage` of words that are wrong
 abbrev pub IsAnswerTo : List (List ℕ) → Status → Type 0
-IsAnswerTo words status.Done = SayWriting words ⊎ SayMaking words ⊎ SayReading words ⊎ SayScanning words ⊎ SaySkimming words
+IsAnswerTo words status.Done = SayWriting words ⊎ SayMaking words ⊎ SayReading words ⊎ SayScanning words ⊎ SayCopying words
 IsAnswerTo words status.Usage = IsWrong words
 IsAnswerTo words (status.File fault) = SayMaking words ⊎ SayReading words ⊎ SayScanning words ⊎ SaySkimming words
-IsAnswerTo words status.Outside = SayWriting words ⊎ SayMaking words ⊎ SayReading words ⊎ SayScanning words ⊎ SaySkimming words
-IsAnswerTo words (status.Limit reached limit) = SayWriting words ⊎ SayMaking words ⊎ SayScanning words ⊎ SaySkimming words
+IsAnswerTo words (status.FileOf file e) = SayMerging words
+IsAnswerTo words status.Outside = SayWriting words ⊎ SayMaking words ⊎ SayReading words ⊎ SayScanning words ⊎ SayCopying words
+IsAnswerTo words (status.Limit reached limit) = SayWriting words ⊎ SayMaking words ⊎ SayScanning words ⊎ SayCopying words
 IsAnswerTo words (status.Text input number kind) = SayWriting words
 IsAnswerTo words status.Memory = ⊤
-IsAnswerTo words (status.Schema place) = SaySkimming words
+IsAnswerTo words (status.Schema place) = IsPlaceOf (SaySkimming words) (SayMerging words) place
 
 -- what the words say was done, before a message is printed
 pub record Obeys (words : List (List ℕ)) (old new : HostState) (answer : Status) : Type 0 where
@@ -87,6 +108,7 @@ pub record Obeys (words : List (List ℕ)) (old new : HostState) (answer : Statu
   pub seq : (out schema input : List ℕ) (p : Params) → IsSeq words out schema input p → SeqNamed out schema input p old new answer
   pub skim : (out file : List ℕ) (names : List (List ℕ)) (test : Option SaidTest) (p : Params) → IsSkim words out file names test p
       → SkimNamed out file (choice_said names test) p old new answer
+  pub merge : (out : List ℕ) (files : List (List ℕ)) (p : Params) → IsMerge words out files p → MergeNamed out files p old new answer
   pub gen : (out : List ℕ) (m : Making) → IsGen words m out → GenNamed out m old new answer
   pub entries : (from count : Option ℕ) (name : List ℕ) → IsEntries words from count name
       → ShowsNamed (entries_shown (range_said from count)) name old new answer
@@ -107,6 +129,7 @@ pub record Runs (words : List (List ℕ)) (old new : HostState) (answer : Status
   pub seq : (out schema input : List ℕ) (p : Params) → IsSeq words out schema input p → RunsSeq out schema input p old new answer
   pub skim : (out file : List ℕ) (names : List (List ℕ)) (test : Option SaidTest) (p : Params) → IsSkim words out file names test p
       → RunsSkim out file (choice_said names test) p old new answer
+  pub merge : (out : List ℕ) (files : List (List ℕ)) (p : Params) → IsMerge words out files p → RunsMerge out files p old new answer
   pub gen : (out : List ℕ) (m : Making) → IsGen words m out → RunsGen out m old new answer
   pub entries : (from count : Option ℕ) (name : List ℕ) → IsEntries words from count name → RunsEntries from count name old new answer
   pub schema : (name : List ℕ) → IsSchemaCommand words name → RunsSchema name old new answer

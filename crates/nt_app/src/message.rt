@@ -2,8 +2,8 @@
 
 ghost use Rattle.std.specs.Prelude.{◌≡◌, ◌+◌, ◌≤◌, ◌<◌, ◌++◌, length, decimal};
 ghost use Rattle.arrayvec.specs.ArrayString.{array_string_len};
-ghost use Rattle.nt_app.specs.Statuses.{message_front, place_text, place_front, file_message, limit_message, text_name};
-ghost use Rattle.nt_app.specs.Statuses.{text_message, fault_name, schema_fault_name, line_fault_name};
+ghost use Rattle.nt_app.specs.Statuses.{message_front, place_text, place_front, row_text, fault_text, file_message, limit_message};
+ghost use Rattle.nt_app.specs.Statuses.{text_name, text_message, fault_name, schema_fault_name, line_fault_name, numbered_message};
 
 use crate::status::{SchemaPlace, Status, TextFault};
 use arrayvec::ArrayString;
@@ -13,7 +13,7 @@ use nt_num::ReadError;
 use nt_types::SchemaKind;
 
 /// The most bytes of a line.
-const MOST: usize = 96;
+const MOST: usize = 112;
 
 /// A line, without memory.
 pub type Line = ArrayString<MOST>;
@@ -26,6 +26,7 @@ pub fn message_front(status: &Status) -> Line
         Status::Done => Line::new(),
         Status::Usage => line("ntuple: usage\n"),
         Status::File(fault) => file_message(fault),
+        Status::FileOf { file, error } => numbered_message(*file, error),
         Status::Outside => line("ntuple: outside\n"),
         Status::Limit { reached, limit } => limit_message(*reached, *limit),
         Status::Text { input, line, kind } => text_message(*input, *line, *kind),
@@ -46,7 +47,7 @@ fn line(text: &str) -> Line
 
 /// Adds the digits of a number.
 fn push_number(line: &mut Line, number: u64)
-    requires { array_string_len line.old ≤ 60 }
+    requires { array_string_len line.old ≤ 80 }
     ensures bytes { line.new.bytes ≡ line.old.bytes ++ decimal number }
     ensures len { array_string_len line.new ≤ array_string_len line.old + 20 }
 {
@@ -54,17 +55,36 @@ fn push_number(line: &mut Line, number: u64)
     line.push_str(digits.format(number));
 }
 
+/// Adds which fault a file has, to the end of the line.
+fn push_fault(line: &mut Line, fault: &ReadError)
+    requires { array_string_len line.old ≤ 33 }
+    ensures { line.new.bytes ≡ line.old.bytes ++ fault_text fault.now }
+{
+    line.push_str(": ");
+    push_number(line, u64::from(fault.code));
+    line.push_str(" ");
+    line.push_str(fault.name());
+    line.push_str(" at ");
+    push_number(line, fault.at);
+    line.push_str("\n");
+}
+
 /// The line of a file's first fault.
 fn file_message(fault: &ReadError) -> Line
     ensures { result.bytes ≡ file_message fault.now }
 {
-    let mut line = line("ntuple: file: ");
-    push_number(&mut line, u64::from(fault.code));
-    line.push_str(" ");
-    line.push_str(fault.name());
-    line.push_str(" at ");
-    push_number(&mut line, fault.at);
-    line.push_str("\n");
+    let mut line = line("ntuple: file");
+    push_fault(&mut line, fault);
+    line
+}
+
+/// The line of the first fault of the file of a number.
+fn numbered_message(file: u32, error: &ReadError) -> Line
+    ensures { result.bytes ≡ numbered_message file error.now }
+{
+    let mut line = line("ntuple: file ");
+    push_number(&mut line, u64::from(file));
+    push_fault(&mut line, error);
     line
 }
 
@@ -150,24 +170,41 @@ fn text_message(input: Option<u32>, number: u64, kind: TextFault) -> Line
     line
 }
 
-/// What stands against the field of a name.
-fn place_text(place: &SchemaPlace) -> &'static str
-    ensures text { result.now ≡ place_text place.now }
-    ensures len { length result.now ≤ 13 }
+/// Adds a row of a file, to the end of the line.
+fn push_row(line: &mut Line, file: u32, what: &str, id: u32)
+    requires line { array_string_len line.old ≤ 16 }
+    requires what { length what.now ≤ 10 }
+    ensures { line.new.bytes ≡ line.old.bytes ++ row_text file what.now id }
+{
+    line.push_str("file ");
+    push_number(line, u64::from(file));
+    line.push_str(what);
+    push_number(line, u64::from(id));
+    line.push_str("\n");
+}
+
+/// Adds what stands against the field of a name, or against a row of a file.
+fn push_place(line: &mut Line, place: &SchemaPlace)
+    requires { array_string_len line.old ≤ 16 }
+    ensures { line.new.bytes ≡ line.old.bytes ++ place_text place.now }
 {
     match place {
-        SchemaPlace::UnknownField { .. } => "unknown ",
-        SchemaPlace::Twice { .. } => "twice ",
-        SchemaPlace::NotWritable { .. } => "not writable ",
-        SchemaPlace::NotANumber { .. } => "not a number ",
+        SchemaPlace::UnknownField { .. } => line.push_str("unknown "),
+        SchemaPlace::Twice { .. } => line.push_str("twice "),
+        SchemaPlace::NotWritable { .. } => line.push_str("not writable "),
+        SchemaPlace::NotANumber { .. } => line.push_str("not a number "),
+        SchemaPlace::Closed { file, field } => push_row(line, *file, " closed ", *field),
+        SchemaPlace::Deferred { file, column } => push_row(line, *file, " deferred ", *column),
+        SchemaPlace::Field { file, id } => push_row(line, *file, " field ", *id),
+        SchemaPlace::Column { file, id } => push_row(line, *file, " column ", *id),
     }
 }
 
-/// The line of a place in front of its name.
+/// The line of a place; where a name ends it, the line in front of that.
 fn place_front(place: &SchemaPlace) -> Line
     ensures { result.bytes ≡ place_front place.now }
 {
     let mut line = line("ntuple: schema: ");
-    line.push_str(place_text(place));
+    push_place(&mut line, place);
     line
 }

@@ -8,6 +8,7 @@ ghost use Rattle.nt_command_line.specs.Commands.{NeedsThreads};
 ghost use Rattle.nt_app.specs.Runs.{Obeys, Runs};
 
 use crate::generate::make;
+use crate::merge::merge;
 use crate::message::message_front;
 use crate::scan::scan;
 use crate::seq::seq;
@@ -39,7 +40,9 @@ fn report_end<H: Host>(host: &mut H, status: &Status)
     ensures { Reports (message_end status.now) (H.state host.old) (H.state host.new) }
 {
     if let Status::Schema { place } = status {
-        report_name(host, place.name());
+        if let Some(name) = place.name() {
+            report_name(host, name);
+        }
     }
 }
 
@@ -68,6 +71,7 @@ fn do_alone<H: Host>(alloc: Global, words: &[String], host: &mut H) -> Status
     match command {
         Alone::Seq(said) => seq(alloc, host, &said),
         Alone::Skim(said) => skim(alloc, host, &said),
+        Alone::Merge(said) => merge(alloc, host, &said),
         Alone::Entries { from, count, file } => {
             let from = from.unwrap_or(0);
             entries(alloc, host, EntryRange { from, count }, file)
@@ -128,6 +132,7 @@ pub fn run_alone<H: Host>(alloc: Global, words: &[String], host: &mut H) -> Opti
 /// Commands are `write` and `seq` with `[--cluster N] [--page P] [--group G] [--plain] [--max-range B] [--max-file B] OUT SCHEMA IN`,
 /// for `write` of 1 to 64 inputs and with `[--contexts K]`, where OUT is another name than those that are read, `gen C E SEED OUT`,
 /// `skim [--where NAME] [--least A] [--greatest B] OUT FILE NAME...` with the options of `seq`, where OUT is another name than FILE,
+/// `merge [--group G] [--max-range B] [--max-file B] OUT FILE...` of 1 to 64 files, where OUT is none of these names,
 /// `entries [--from A] [--count C] FILE`, `schema FILE` and `scan FILE`; clap reads the words after the first.
 /// `rt` is the runtime of `write`, which has a context for each input and K workers that run them, of `gen`, and of `scan`; `gate` is told the
 /// steps of each context's clusters.

@@ -8,10 +8,11 @@ use Rattle.nt_draws.specs.Making.{max_events, max_seed, AreContexts}
 use Rattle.nt_draws.specs.declared.making.Making.{Making}
 use Rattle.nt_command_line.specs.CommandLine.{IsEntries, IsSchemaCommand, IsScan}
 use Rattle.clap.specs.Words.{App}
-use Rattle.nt_command_line.specs.Options.{AreParamsSaid}
+use Rattle.nt_command_line.specs.Options.{AreLimitsSaid, AreParamsSaid}
 use Rattle.nt_command_line.specs.WriteWords.{write_app, IsWrite}
 use Rattle.nt_command_line.specs.SeqWords.{seq_app, IsSeq}
 use Rattle.nt_command_line.specs.SkimWords.{skim_app, SaidTest, IsSkim}
+use Rattle.nt_command_line.specs.MergeWords.{merge_app, AreMergeParams, IsMerge}
 use Rattle.nt_command_line.specs.GenWords.{IsGen}
 use Rattle.nt_command_line.proofs.Bounds.{same_test}
 
@@ -59,11 +60,19 @@ params_are p q cluster page group plain limits-are =
     ∙ ap (λ (b : Bool). params p.cluster p.page p.group b p.limits x y z) plain
     ∙ ap (λ (l : Limits). params p.cluster p.page p.group q.plain l x y z) limits-are) q.group_range) q.page_range) q.cluster_range
 
+limits_said : (a : App) (words : List (List ℕ)) (l m : Limits) → AreLimitsSaid a words l → AreLimitsSaid a words m → l ≡ m
+limits_said a words l m one other =
+    same_limits l m (one.range ∙ sym other.range) (one.file ∙ sym other.file) (one.clusters ∙ sym other.clusters)
+
 same_params : (a : App) (words : List (List ℕ)) (p q : Params) → AreParamsSaid a words p → AreParamsSaid a words q → p ≡ q
 same_params a words p q one other =
     params_are p q (one.cluster ∙ sym other.cluster) (one.page ∙ sym other.page) (one.group ∙ sym other.group) (one.plain ∙ sym other.plain)
-    (same_limits p.limits q.limits (one.limits.range ∙ sym other.limits.range) (one.limits.file ∙ sym other.limits.file)
-    (one.limits.clusters ∙ sym other.limits.clusters))
+    (limits_said a words p.limits q.limits one.limits other.limits)
+
+merge_params : (words : List (List ℕ)) (p q : Params) → AreMergeParams words p → AreMergeParams words q → p ≡ q
+merge_params words p q one other =
+    params_are p q (one.cluster ∙ sym other.cluster) (one.page ∙ sym other.page) (one.group ∙ sym other.group) (one.plain ∙ sym other.plain)
+    (limits_said merge_app words p.limits q.limits one.limits other.limits)
 
 -- what holds of one reading of the words of `write` holds of another
 pub same_write : (P : List ℕ → List ℕ → List (List ℕ) → Params → Type 0) (words : List (List ℕ)) (o s o' s' : List ℕ)
@@ -100,6 +109,15 @@ same_skim P words o f o' f' ns ns' t t' p p' one other holds =
     subst (λ (l : List ℕ). P l f' ns' t' p') out (subst (λ (l : List ℕ). P o l ns' t' p') file
     (subst (λ (l : List (List ℕ)). P o f l t' p') names (subst (λ (u : Option SaidTest). P o f ns u p') test
     (subst (P o f ns t) params holds))))
+
+-- and so of `merge`
+pub same_merge : (P : List ℕ → List (List ℕ) → Params → Type 0) (words : List (List ℕ)) (o o' : List ℕ) (fs fs' : List (List ℕ))
+    (p p' : Params) → IsMerge words o fs p → IsMerge words o' fs' p' → P o fs p → P o' fs' p'
+same_merge P words o o' fs fs' p p' one other holds =
+    let out : o ≡ o' = some_is o o' (sym one.names.out_is ∙ other.names.out_is) in
+    let files : fs ≡ fs' = one.names.files_are ∙ sym other.names.files_are in
+    let params : p ≡ p' = merge_params words p p' one.params other.params in
+    subst (λ (l : List ℕ). P l fs' p') out (subst (λ (l : List (List ℕ)). P o l p') files (subst (P o fs) params holds))
 
 some_number_is : (m n : ℕ) → Some m ≡ Some n → m ≡ n
 some_number_is m n e = cc

@@ -17,6 +17,7 @@ use Rattle.nt_command_line.specs.CommandLine.{is_flag_found, Begins, IsTaken, wo
 use Rattle.nt_command_line.specs.WriteWords.{write_rules, write_app, NamesOfWrite}
 use Rattle.nt_command_line.specs.SeqWords.{seq_rules, seq_app, NamesOfSeq}
 use Rattle.nt_command_line.specs.SkimWords.{skim_rules, skim_app, NamesOfSkim, SaidTest, IsTestSaid, IsTestOfSkim}
+use Rattle.nt_command_line.specs.MergeWords.{merge_rules, merge_app, NamesOfMerge}
 use Rattle.nt_command_line.specs.GenWords.{gen_rules, gen_app}
 use Rattle.nt_command_line.specs.Commands.{names_of}
 use Rattle.nt_command_line.specs.Arguments.{ReadsWords}
@@ -161,6 +162,19 @@ test_found words m test rows is =
     (first_value (found_of m) (codes "greatest")) test) (sym (word_by m words (codes "least") rows))
     (subst (λ (g : Option (List ℕ)). IsTestSaid (word_found skim_app words (codes "where")) (word_found skim_app words (codes "least")) g
     test) (sym (word_by m words (codes "greatest") rows)) is))
+
+pub merge_is : app (codes "merge") merge_rules ≡ merge_app
+unfolding merge_app
+merge_is = refl
+
+-- the names of `merge`
+pub merge_names_by : (words : List (List ℕ)) (m : ArgMatches) (out : List ℕ) (files : List (List ℕ))
+    → rows_of (found_of m) ≡ matches_of merge_app words → first_value (found_of m) (codes "OUT") ≡ Some out
+    → files ≡ unwrap_or (option_map raw_values (matched_of (found_of m) (codes "FILE"))) [] → NamesOfMerge words out files
+merge_names_by words m out files rows out-is files-are = record {
+  out_is = found_by merge_app words m (codes "OUT") out rows out-is;
+  files_are = all_by merge_app words m (codes "FILE") files rows files-are;
+}
 
 pub gen_is : app (codes "gen") gen_rules ≡ gen_app
 unfolding gen_app

@@ -6,6 +6,7 @@ use Rattle.nt_command_line.specs.CommandLine.{entries_app, schema_app, scan_app,
 use Rattle.nt_command_line.specs.WriteWords.{AreApart, IsWrongWrite}
 use Rattle.nt_command_line.specs.SeqWords.{IsWrongSeq}
 use Rattle.nt_command_line.specs.SkimWords.{CanBeSkimmed, IsWrongSkim}
+use Rattle.nt_command_line.specs.MergeWords.{CanBeMerged, IsWrongMerge}
 use Rattle.nt_command_line.specs.GenWords.{gen_app}
 use Rattle.nt_command_line.specs.Commands.{IsNoCommand, IsWrong}
 use Rattle.nt_command_line.proofs.Found.{differs}
@@ -23,6 +24,7 @@ wrong_write words begins why = record {
   write = λ auto. why;
   seq = λ other. absurd (begins_once words _ _ refl begins other);
   skim = λ other. absurd (begins_once words _ _ refl begins other);
+  merge = λ other. absurd (begins_once words _ _ refl begins other);
   gen = λ other taken. begins_once words _ _ refl begins other;
   entries = λ other taken. begins_once words _ _ refl begins other;
   schema = λ other taken. begins_once words _ _ refl begins other;
@@ -35,6 +37,7 @@ wrong_seq words begins why = record {
   write = λ other. absurd (begins_once words _ _ refl begins other);
   seq = λ auto. why;
   skim = λ other. absurd (begins_once words _ _ refl begins other);
+  merge = λ other. absurd (begins_once words _ _ refl begins other);
   gen = λ other taken. begins_once words _ _ refl begins other;
   entries = λ other taken. begins_once words _ _ refl begins other;
   schema = λ other taken. begins_once words _ _ refl begins other;
@@ -47,6 +50,20 @@ wrong_skim words begins why = record {
   write = λ other. absurd (begins_once words _ _ refl begins other);
   seq = λ other. absurd (begins_once words _ _ refl begins other);
   skim = λ auto. why;
+  merge = λ other. absurd (begins_once words _ _ refl begins other);
+  gen = λ other taken. begins_once words _ _ refl begins other;
+  entries = λ other taken. begins_once words _ _ refl begins other;
+  schema = λ other taken. begins_once words _ _ refl begins other;
+  scan = λ other taken. begins_once words _ _ refl begins other;
+}
+
+-- words that begin with `merge` and are wrong
+pub wrong_merge : (words : List (List ℕ)) → Begins words (codes "merge") → IsWrongMerge words → IsWrong words
+wrong_merge words begins why = record {
+  write = λ other. absurd (begins_once words _ _ refl begins other);
+  seq = λ other. absurd (begins_once words _ _ refl begins other);
+  skim = λ other. absurd (begins_once words _ _ refl begins other);
+  merge = λ auto. why;
   gen = λ other taken. begins_once words _ _ refl begins other;
   entries = λ other taken. begins_once words _ _ refl begins other;
   schema = λ other taken. begins_once words _ _ refl begins other;
@@ -59,6 +76,7 @@ wrong_gen words begins why = record {
   write = λ other. absurd (begins_once words _ _ refl begins other);
   seq = λ other. absurd (begins_once words _ _ refl begins other);
   skim = λ other. absurd (begins_once words _ _ refl begins other);
+  merge = λ other. absurd (begins_once words _ _ refl begins other);
   gen = λ auto. why;
   entries = λ other taken. begins_once words _ _ refl begins other;
   schema = λ other taken. begins_once words _ _ refl begins other;
@@ -71,6 +89,7 @@ wrong_entries words begins why = record {
   write = λ other. absurd (begins_once words _ _ refl begins other);
   seq = λ other. absurd (begins_once words _ _ refl begins other);
   skim = λ other. absurd (begins_once words _ _ refl begins other);
+  merge = λ other. absurd (begins_once words _ _ refl begins other);
   gen = λ other taken. begins_once words _ _ refl begins other;
   entries = λ auto. why;
   schema = λ other taken. begins_once words _ _ refl begins other;
@@ -83,6 +102,7 @@ wrong_schema words begins why = record {
   write = λ other. absurd (begins_once words _ _ refl begins other);
   seq = λ other. absurd (begins_once words _ _ refl begins other);
   skim = λ other. absurd (begins_once words _ _ refl begins other);
+  merge = λ other. absurd (begins_once words _ _ refl begins other);
   gen = λ other taken. begins_once words _ _ refl begins other;
   entries = λ other taken. begins_once words _ _ refl begins other;
   schema = λ auto. why;
@@ -95,6 +115,7 @@ wrong_scan words begins why = record {
   write = λ other. absurd (begins_once words _ _ refl begins other);
   seq = λ other. absurd (begins_once words _ _ refl begins other);
   skim = λ other. absurd (begins_once words _ _ refl begins other);
+  merge = λ other. absurd (begins_once words _ _ refl begins other);
   gen = λ other taken. begins_once words _ _ refl begins other;
   entries = λ other taken. begins_once words _ _ refl begins other;
   schema = λ other taken. begins_once words _ _ refl begins other;
@@ -140,6 +161,15 @@ wrong_is_none words wrong = record {
             clash.clash (subst (λ (o : List ℕ). CanBeSkimmed o clash.file clash.names) (sym out-is)
             (subst (λ (f : List ℕ). CanBeSkimmed out f clash.names) (sym file-is)
             (subst (λ (l : List (List ℕ)). CanBeSkimmed out file l) (sym names-are) is.can)))
+      ];
+  no_merge = λ out files p is.
+      elim (wrong.merge is.begins) [
+        | inl refuses ↦ refuses is.taken
+        | inr clash ↦
+            let out-is = same_some _ _ _ clash.names.out_is is.names.out_is in
+            let files-are = clash.names.files_are ∙ sym is.names.files_are in
+            clash.clash (subst (λ (o : List ℕ). CanBeMerged o clash.files) (sym out-is)
+            (subst (λ (l : List (List ℕ)). CanBeMerged out l) (sym files-are) is.can))
       ];
   no_gen = λ m out is. wrong.gen is.begins is.taken;
   no_entries = λ from count file is. wrong.entries is.begins is.taken;

@@ -3,6 +3,7 @@ pub mod Options
 pub mod WriteWords
 pub mod SeqWords
 pub mod SkimWords
+pub mod MergeWords
 pub mod GenWords
 pub mod Commands
 pub mod Arguments

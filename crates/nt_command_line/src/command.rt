@@ -5,6 +5,7 @@ ghost use Rattle.nt_command_line.specs.CommandLine.{texts};
 ghost use Rattle.nt_command_line.specs.Commands.{NeedsThreads, SaysParallel, SaysAlone, IsNoCommand, IsWrong};
 
 use crate::generate::{GenWords, gen_of};
+use crate::merge::{MergeWords, merge_of};
 use crate::seq::{SeqWords, seq_of};
 use crate::show::{entries_of, scan_of, schema_of};
 use crate::skim::{SkimWords, skim_of};
@@ -24,6 +25,7 @@ pub enum Parallel<'a> {
 pub enum Alone<'a> {
     Seq(SeqWords<'a>),
     Skim(SkimWords<'a>),
+    Merge(MergeWords<'a>),
     /// The entries from `from` on, and at most `count` of them, where the words say so.
     Entries {
         from: Option<u64>,
@@ -73,6 +75,7 @@ pub fn alone_of<'a>(alloc: Global, words: &'a [String]) -> Result<Option<Alone<'
         [first, ..] if first.as_str() == "entries" => entries_of(alloc, words),
         [first, ..] if first.as_str() == "schema" => schema_of(alloc, words),
         [first, ..] if first.as_str() == "skim" => skim_of(alloc, words),
+        [first, ..] if first.as_str() == "merge" => merge_of(alloc, words),
         _ => Ok(None),
     }
 }

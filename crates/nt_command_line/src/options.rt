@@ -26,7 +26,7 @@ pub(crate) fn with_options<'a>(
 }
 
 /// The limits that were found, or those that hold where none were.
-fn limits_in(matches: &ArgMatches<'_>) -> Limits
+pub(crate) fn limits_in(matches: &ArgMatches<'_>) -> Limits
     requires { HasLimits matches.now }
     ensures { (a : App) (words : List (List ℕ)) → rows_of (found_of matches.now) ≡ matches_found a words → AreLimitsSaid a words result }
 {

@@ -4,10 +4,10 @@ use Rattle.nt_command_line.specs.declared.command.Alone.{Alone}
 use Rattle.nt_command_line.specs.CommandLine.{texts}
 use Rattle.nt_command_line.specs.Commands.{names_of, SaysAlone}
 use Rattle.nt_command_line.specs.SkimWords.{said_test}
-use Rattle.nt_command_line.specs.declared.command.Alone.TheVariants.{Skim}
+use Rattle.nt_command_line.specs.declared.command.Alone.TheVariants.{Skim, Merge}
 use Rattle.nt_app.specs.Shows.{ShowsNamed}
 use Rattle.nt_app.proofs.Running.{no_memory, wrong_words}
-use Rattle.nt_app.proofs.Obeying.{scripted_words, skimmed_words, listed_words, outlined_words}
+use Rattle.nt_app.proofs.Obeying.{scripted_words, skimmed_words, merged_words, listed_words, outlined_words}
 use Rattle.nt_app.proofs.program.do_alone.Goals as goal
 
 pub returns-in_default : goal.returns-in_default
@@ -36,6 +36,20 @@ returns-in-Skim g c =
     let is = c.in-Some.is ∙ ap (λ (a : Alone). Some a) c.in-Skim.is in
     skimmed_words _ said.out.now said.file.now (names_of said.names.items) (option_map said_test said.test) said.params _ _ _
     (subst (SaysAlone (texts c.args.words.now)) is c.in-Ok.ensures) c.skim.ensures
+
+pub merge-requires : goal.merge-requires
+merge-requires g c =
+    let is = c.in-Some.is ∙ ap (λ (a : Alone). Some a) c.in-Merge.is in
+    let says : SaysAlone (texts c.args.words.now) (Some (Merge c.in-Merge.said)) =
+    subst (SaysAlone (texts c.args.words.now)) is c.in-Ok.ensures in
+    (says.can.some, says.can.few)
+
+pub returns-in-Merge : goal.returns-in-Merge
+returns-in-Merge g c =
+    let said = c.in-Merge.said in
+    let is = c.in-Some.is ∙ ap (λ (a : Alone). Some a) c.in-Merge.is in
+    merged_words _ said.out.now (names_of said.files.items) said.params _ _ _
+    (subst (SaysAlone (texts c.args.words.now)) is c.in-Ok.ensures) c.merge.ensures
 
 pub returns-in-Entries : goal.returns-in-Entries
 returns-in-Entries g c =

@@ -25,3 +25,9 @@ skim_of-requires c =
     let same : c.as_str-4.result.now ≡ codes "skim" = search rules in
     begins_by c.args.words.now c.first-item-4.result (codes "skim") c.in-len1-up.len_at_least c.first-item-4.is
     (sym c.as_str-4.ensures.value ∙ same)
+
+pub merge_of-requires : goal.merge_of-requires
+merge_of-requires c =
+    let same : c.as_str-5.result.now ≡ codes "merge" = search rules in
+    begins_by c.args.words.now c.first-item-5.result (codes "merge") c.in-len1-up.len_at_least c.first-item-5.is
+    (sym c.as_str-5.ensures.value ∙ same)
