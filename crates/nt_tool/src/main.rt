@@ -1,39 +1,20 @@
 //! The program `ntuple`: the commands over the files and streams of the system.
 //!
-//! Start at `main.rt`, which makes the host of `host.rt`, calls `nt_app::run` and ends with the code of its answer; the adapters are a
-//! file each.
+//! Start at `main`, which makes the host of nt_system, calls `run` of nt_app and ends with the code of its answer.
 //!
-//! Proved: counts of faults, lists of names, the length of a disk and its ranges, as the traits of nt_outside ask; nothing of what a
-//! file or a stream holds. Only tested: the adapters over files that take or give few bytes, are interrupted or fail; the built
-//! program by `.ci/checks/program.sh`, that OUT is never a file that was read among it.
+//! Proved: nothing of its own but that a failure to take the words is answered as want of memory; what `run` does is said in nt_app.
+//! Only tested: the built program, by `.ci/checks/program.sh`.
 //!
-//! Choices that bind nobody else:
-//! - `room` of a real disk takes no memory: the system has what a write takes.
-//! - One large block is taken and given back at once, before anything else: the C library learns from it to keep freed memory for the
-//!   next cluster, which would else be asked of the system again, page by page.
-//! - After a failed append a real disk goes on at the length that it keeps itself, behind the bytes that were written: the
-//!   contract allows any number of unknown bytes up to those that were asked for.
-//! - Where the system has no memory to open a file the answer is `Memory`, and no fault is counted.
-//! - A stream that takes nothing of a piece counts as a fault: else printing might not end.
+//! A choice that binds nobody else: one large block is taken and given back at once, before anything else. The C library learns from it
+//! to keep freed memory for the next cluster, which would else be asked of the system again, page by page.
 #![tactic(auto)]
 
 ghost use Rattle.std.specs.Prelude.{◌≡◌};
 ghost use Rattle.nt_app.specs.declared.status.Status.TheVariants.{Memory};
 
-mod disk;
-mod faults;
-mod file;
-mod host;
-mod named;
-mod positioned;
-mod range;
-#[cfg(test)]
-mod tests;
-mod text;
-
-use crate::host::RealHost;
 use nt_app::{Status, run};
 use nt_outside::{Host, NoGate, Stream, print_all};
+use nt_system::RealHost;
 use std::alloc::AllocError;
 use std::env;
 use std::io::ErrorKind;

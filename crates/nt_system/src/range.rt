@@ -1,6 +1,6 @@
 //! Ranges of a file of the system, and the pens that fill them.
 
-ghost use Rattle.nt_tool.specs.Real.{ext_state, unsized, unshown};
+ghost use Rattle.nt_system.specs.Real.{ext_state, unsized, unshown};
 
 use crate::faults::Faults;
 use crate::positioned::write_from;
@@ -10,8 +10,8 @@ use std::os::unix::fs::FileExt;
 /// The sole right to write a range of a file.
 #[derive(Drop)]
 pub struct RealExt {
-    pub range: Range,
-    pub filled: bool,
+    pub(crate) range: Range,
+    pub(crate) filled: bool,
 }
 
 impl Ext for RealExt {
@@ -37,8 +37,8 @@ impl Ext for RealExt {
 /// A pen over a file that it opened for itself.
 #[derive(Drop)]
 pub struct RealPen<F> {
-    pub file: F,
-    pub faults: Faults,
+    pub(crate) file: F,
+    pub(crate) faults: Faults,
 }
 
 impl<F: FileExt> Pen for RealPen<F> {

@@ -15,7 +15,8 @@ use std::fs::File;
 use std::io;
 use std::io::{Error, ErrorKind, Write};
 
-/// The files and streams of the system. It keeps what it was asked for, and which files it opened.
+/// The files and streams of the system. A name is a path, which begins at the folder that the program runs in unless it begins with `/`.
+/// The host keeps what it was asked for, and which files it opened.
 #[derive(Drop)]
 pub struct RealHost {
     rt: HostRuntime,
@@ -29,8 +30,9 @@ pub struct RealHost {
 impl RealHost {
     ghost use Rattle.std.specs.Prelude.{◌+◌, ◌^◌, vec_len, vec_capacity, OnOk};
     ghost use Rattle.nt_outside.specs.World.{asked_as, Asks, TakesBack};
-    ghost use Rattle.nt_tool.specs.Real.{state_of, fresh, Notes, Counts};
+    ghost use Rattle.nt_system.specs.Real.{state_of, fresh, Notes, Counts};
 
+    /// A host that was asked for nothing yet.
     pub fn new(rt: HostRuntime) -> Self
         ensures { state_of result ≡ fresh }
     {
@@ -102,7 +104,7 @@ impl RealHost {
 }
 
 impl Host for RealHost {
-    ghost use Rattle.nt_tool.specs.Real.{state_of, unseen};
+    ghost use Rattle.nt_system.specs.Real.{state_of, unseen};
 
     type Text = RealText<File>;
 

@@ -1,7 +1,7 @@
 //! A text of the system.
 
 ghost use Rattle.std.specs.Io.{ReadsAtMost};
-ghost use Rattle.nt_tool.specs.Real.{text_state};
+ghost use Rattle.nt_system.specs.Real.{text_state};
 
 use crate::faults::Faults;
 use nt_outside::{Failed, Source};
@@ -11,8 +11,8 @@ use std::io::{Error, ErrorKind, Read};
 /// A text that is read from an opened file.
 #[derive(Drop)]
 pub struct RealText<F> {
-    pub file: F,
-    pub faults: Faults,
+    pub(crate) file: F,
+    pub(crate) faults: Faults,
 }
 
 impl<F: Read> Source for RealText<F> {

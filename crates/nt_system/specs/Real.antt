@@ -12,7 +12,7 @@ use Rattle.nt_outside.specs.Source.{SourceState}
 use Rattle.nt_outside.specs.File.{FileState}
 use Rattle.nt_outside.specs.Disk.{DiskState}
 use Rattle.nt_outside.specs.World.{World, HostState, Asked, asked_of, file}
-use Rattle.nt_tool.specs.declared.host.RealHost.{RealHost}
+use Rattle.nt_system.specs.declared.host.RealHost.{RealHost}
 
 -- a text counts its faults
 abbrev pub text_state : ℕ → SourceState

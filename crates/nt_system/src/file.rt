@@ -1,7 +1,7 @@
 //! A file of the system that is read at any place.
 
 ghost use Rattle.std.specs.Prelude.{◌≤◌, length, IfOk};
-ghost use Rattle.nt_tool.specs.Real.{file_state, unread};
+ghost use Rattle.nt_system.specs.Real.{file_state, unread};
 
 use crate::faults::Faults;
 use nt_outside::{Failed, ReadAt};
@@ -13,8 +13,8 @@ use std::os::unix::fs::FileExt;
 /// A file that is read from an opened file.
 #[derive(Drop)]
 pub struct RealFile<F> {
-    pub file: F,
-    pub faults: Faults,
+    pub(crate) file: F,
+    pub(crate) faults: Faults,
 }
 
 impl<F: FileExt + OpenFile> ReadAt for RealFile<F> {

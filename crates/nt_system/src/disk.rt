@@ -1,6 +1,6 @@
 //! A file of the system that is written.
 
-ghost use Rattle.nt_tool.specs.Real.{disk_state, tells_nothing};
+ghost use Rattle.nt_system.specs.Real.{disk_state, tells_nothing};
 
 use crate::faults::Faults;
 use crate::named::Named;
@@ -15,13 +15,13 @@ use std::os::unix::fs::FileExt;
 /// A disk that is written to an opened file, whose pens open the file of its name. The system has the memory that a write takes.
 #[derive(Drop)]
 pub struct RealDisk<F> {
-    pub named: Named,
-    pub file: F,
+    pub(crate) named: Named,
+    pub(crate) file: F,
     /// Whether the file is new, and its folder wasn't synced since.
-    pub is_new: bool,
-    pub end: u64,
-    pub out: Vec<Range>,
-    pub faults: Faults,
+    pub(crate) is_new: bool,
+    pub(crate) end: u64,
+    pub(crate) out: Vec<Range>,
+    pub(crate) faults: Faults,
 }
 
 impl<F: FileExt + OpenFile> Disk for RealDisk<F> {
