@@ -21,7 +21,7 @@ import sys
 
 from lengths import lines_of, long_bodies, long_lemmas, long_lines, many_clauses, wide_functions
 
-LAYERS = ["definitions", "codecs", "data", "plans", "threads", "whole files", "program", "benchmarks", "tests"]
+LAYERS = ["definitions", "codecs", "data", "plans", "threads", "whole files", "program", "benchmarks", "tests", "examples"]
 
 # Names that several crates may define: those of a type's own model.
 SHARED = set("state_of".split())
@@ -30,7 +30,7 @@ SHARED = set("state_of".split())
 KNOWN_TWICE = set()
 
 # How many there may be at most, which is how many there were: who mends one lowers the number.
-LIMITS = {"wide": 7, "long lemmas": 18}
+LIMITS = {"wide": 0, "long lemmas": 3}
 
 DOCUMENTS = ["README.md"] + sorted("docs/" + name for name in os.listdir("docs") if name.endswith(".md"))
 
@@ -56,7 +56,7 @@ def layers_of(path):
     rows = {}
     for line in lines_of(path):
         cells = [cell.strip() for cell in line.strip().strip("|").split("|")]
-        if len(cells) >= 3 and re.fullmatch(r"(?:nt|test|bench)_\w+", cells[0]) and cells[1] in LAYERS:
+        if len(cells) >= 3 and re.fullmatch(r"(?:nt|test|bench|example)_\w+", cells[0]) and cells[1] in LAYERS:
             rows[cells[0]] = cells[1]
     return rows
 
@@ -73,7 +73,7 @@ def check_crates(crates, layers):
             if dep in layers and LAYERS.index(layers[dep]) > LAYERS.index(layers[name]):
                 yield f"crates.txt: {name} ({layers[name]}) stands on {dep} ({layers[dep]})"
     for document in DOCUMENTS:
-        named = {word for line in lines_of(document) for word in re.findall(r"\b(?:nt|test|bench)_[a-z0-9_]*[a-z0-9]\b", line)}
+        named = {word for line in lines_of(document) for word in re.findall(r"\b(?:nt|test|bench|example)_[a-z0-9_]*[a-z0-9]\b", line)}
         for name in sorted(named - set(crates)):
             yield f"{document}: {name} is no crate"
         if document == "README.md":

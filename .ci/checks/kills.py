@@ -1,4 +1,5 @@
-"""Kills `write` of eight inputs at many moments, by SIGKILL, and ends with 1 where what it leaves is neither unfinished nor whole.
+"""Kills `write` of eight inputs and `merge` of their eight files at many moments, by SIGKILL, and ends with 1 where what it leaves is
+neither unfinished nor whole.
 
 Every second time OUT is a finished file of an earlier run. What is left must be that file as it was, no file where there was none, a
 file that `entries` refuses as unfinished, or the whole file: its lines are the chunks of the inputs, each input's in their order.
@@ -15,21 +16,24 @@ import time
 
 from runs import Amiss, LONG_SCHEMA, bytes_of, call, drawn_lines, order_among, save
 
-KILLS = 80
+KILLS = {"write": 80, "merge": 40}
 UNFINISHED = "ntuple: file: 1 Unfinished at 0\n"
 OUT = "killed.root"
 
 
-def make_inputs():
-    """Eight inputs; their lines, in chunks of 10000."""
+def make_inputs(program):
+    """Eight inputs, and the file of each; their lines, in chunks of 10000."""
     texts = [drawn_lines(1 + context) for context in range(8)]
     save("schema", LONG_SCHEMA)
     for context, text in enumerate(texts):
         save(f"in-{context}", "".join(text))
+        call(program, "write", f"part-{context}.root", "schema", f"in-{context}")
     return [[text[at:at + 10000] for at in range(0, len(text), 10000)] for text in texts]
 
 
-def words_of(program):
+def words_of(program, command):
+    if command == "merge":
+        return [program, "merge", OUT, *[f"part-{context}.root" for context in range(8)]]
     return [program, "write", OUT, "schema", *[f"in-{context}" for context in range(8)]]
 
 
@@ -42,9 +46,9 @@ def put_before(before):
         os.remove(OUT)
 
 
-def kill_at(program, wait):
+def kill_at(words, wait):
     """Starts a run and kills it after so many seconds; whether it was still at work."""
-    run = subprocess.Popen(words_of(program), stdout=subprocess.DEVNULL, stderr=subprocess.DEVNULL)
+    run = subprocess.Popen(words, stdout=subprocess.DEVNULL, stderr=subprocess.DEVNULL)
     time.sleep(wait)
     run.send_signal(signal.SIGKILL)
     return run.wait() == -signal.SIGKILL
@@ -68,19 +72,18 @@ def stage_of(program, before, chunks):
     return "whole"
 
 
-def kill_runs(program):
-    chunks = make_inputs()
-    took = []
+def kill_runs(program, command, chunks):
+    words, took = words_of(program, command), []
     for _ in range(3):
         put_before(None)
         begun = time.monotonic()
-        call(*words_of(program))
+        call(*words)
         took.append(time.monotonic() - begun)
     whole, draws, stages = bytes_of(OUT), random.Random(1), collections.Counter()
-    for number in range(KILLS):
+    for number in range(KILLS[command]):
         before = whole if number % 2 else None
         put_before(before)
-        was_at_work = kill_at(program, sorted(took)[1] * (number + draws.random()) * 1.1 / KILLS)
+        was_at_work = kill_at(words, sorted(took)[1] * (number + draws.random()) * 1.1 / KILLS[command])
         stage = stage_of(program, before, chunks)
         if not was_at_work and stage not in ("whole", "not created, or whole again"):
             raise Amiss(f"a run that ended by itself left a file that is {stage}")
@@ -93,13 +96,15 @@ def main():
     with tempfile.TemporaryDirectory() as folder:
         os.chdir(folder)
         try:
-            stages = kill_runs(program)
+            chunks = make_inputs(program)
+            stages = {command: kill_runs(program, command, chunks) for command in KILLS}
         except Amiss as fault:
             print(f"amiss: {fault}", file=sys.stderr)
             return 1
         finally:
             os.chdir("/")
-    print("kills: " + ", ".join(f"{count} {stage}" for stage, count in sorted(stages.items())))
+    for command, seen in stages.items():
+        print(f"kills of {command}: " + ", ".join(f"{count} {stage}" for stage, count in sorted(seen.items())))
     return 0
 
 

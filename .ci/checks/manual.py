@@ -4,7 +4,7 @@
 - The completions name the manual's commands and options; those for zsh and fish also the ranges. What bash and fish would offer is
   asked of them; a shell that isn't there is left out.
 - The program takes each option at both ends of its range and refuses it outside of them and where another command has it; so it does
-  with the numbers of `gen` and how many inputs there are. It prints what the manual's examples show.
+  with the numbers of `gen` and how many inputs `write` and `merge` have. It prints what the manual's examples show.
 
 Without a program its part is skipped.
 """
@@ -49,7 +49,8 @@ class Manual:
                 self.options[command].update({name: range_in(row) for name, row in rows})
         numbers = re.search(r"^\.SS Numbers of gen\n(.*?)(?=^\.S)", text, re.M | re.S)[1]
         self.numbers = [range_in(row) for row in numbers.split(".TP\n")[1:]]
-        self.inputs = range_in(re.search(r"\(from (.*) of them\)", text)[1])
+        counted = re.findall(r"^\.TP\n\.B (\w+)\n(?:(?!\.TP).*\n)*?.*\(from (.*) of them\)", text, re.M)
+        self.inputs = {command: range_in(row) for command, row in counted}
         self.codes = re.findall(r"^\.TP\n\.B (\d+)$", text, re.M)
         blocks = "".join(re.findall(r"^\.nf\n(.*?)^\.fi$", text, re.M | re.S))
         self.examples = [(shown.split("\n", 1)[0].split(), shown.split("\n", 1)[1]) for shown in blocks.split("$ ./ntuple ")[1:]]
@@ -66,7 +67,8 @@ def against_readme(manual):
                 yield f"the manual has no {name} of {command}"
     for name, low, high, sets in re.findall(r"^\| `(--[\w-]+)[^`]*` \|[^|]*\| ([^|]*) \| ([^|]*) \| ([^|]*) \|", text, re.M):
         found = (number(low), number(high)) if low.strip() else None
-        for command in ["write"] if sets.startswith("of `write` alone") else ["write", "seq", "skim"]:
+        among = ["write"] if sets.startswith("of `write` alone") else ["write", "seq", "skim"]
+        for command in among + ["merge"] * ("`merge` too" in sets):
             if manual.options[command].get(name, ()) != found:
                 yield f"the manual has another range of {name} of {command} than the README: {found}"
     codes = re.findall(r"^\| (\d+) \|", re.search(r"^## Exit codes\n(.*?)^## ", text, re.M | re.S)[1], re.M)
@@ -78,9 +80,9 @@ def in_zsh():
     """What the file for zsh names: the commands, the options of each, and the numbers of `gen`."""
     text = text_of("completions/_ntuple")
     listed = re.search(r"commands=\(\n(.*?)^    \)", text, re.M | re.S)[1]
-    shared = re.search(r"writing=\(\n.*?^    \)", text, re.M | re.S)[0]
+    shared = {name: re.search(rf"{name}=\(\n.*?^    \)", text, re.M | re.S)[0] for name in ("writing", "storing")}
     arms = dict(re.findall(r"^        (\w+)\)(.*?);;", text, re.M | re.S))
-    rows = {command: arm.replace("$writing", shared) for command, arm in arms.items()}
+    rows = {command: re.sub(r"\$(writing|storing)", lambda name: shared[name[1]], arm) for command, arm in arms.items()}
     options = {command: {name: range_in(row) for name, row in re.findall(r"'(--[\w-]+)\[([^]]*)\]", arm)} for command, arm in rows.items()}
     return re.findall(r"'(\w+):", listed), options, [range_in(row) for row in re.findall(r"'[123]:([^']*)'", arms["gen"])]
 
@@ -125,7 +127,7 @@ class Program:
             with open(name, "w", encoding="utf-8") as file:
                 file.write(text)
         self.names = {"write": ["out.root", "schema", "events"], "seq": ["out.root", "schema", "events"], "gen": ["1", "1", "1", "out.root"],
-                      "skim": ["out.root", "file.root", "x"]}
+                      "skim": ["out.root", "file.root", "x"], "merge": ["out.root", "file.root"]}
         subprocess.run([path, "write", "file.root", "schema", "events"], check=True, stdout=subprocess.DEVNULL)
 
     def takes(self, command, *options):
@@ -163,9 +165,11 @@ def against_program(manual, program):
             words[place] = str(value)
             if program.takes_words("gen", *words) != fits:
                 yield f"the manual is wrong on gen {' '.join(words)}"
-    for count, fits in at_ends(manual.inputs):
-        if program.takes_words("write", "out.root", "schema", *["events"] * count) != fits:
-            yield f"the manual is wrong on {count} inputs"
+    for command, found in manual.inputs.items():
+        for count, fits in at_ends(found):
+            *words, name = program.names[command]
+            if program.takes_words(command, *words, *[name] * count) != fits:
+                yield f"the manual is wrong on {count} inputs of {command}"
 
 
 def against_examples(manual, path):

@@ -95,6 +95,33 @@ cp two.root kept.root
 expect 4 'ntuple: outside' skim ./two.root two.root x
 cmp -s two.root kept.root || fail 'a file that is read was written over'
 
+# files are joined, page by page: two numbers twice, and one file again
+expect 0 '' merge both.root two.root two.root
+printf 'clusters 2 entries 4\n' | cmp - out || fail 'other numbers of what is joined'
+[ "$(wc -c <both.root)" -eq 1279 ] || fail 'a joined file has another size'
+expect 0 '' entries both.root
+cat events.txt events.txt | cmp - out || fail 'other entries than those of the files'
+expect 0 '' merge alone.root two.root
+same alone.root two.root
+expect 0 '' merge many.root $(yes two.root | head -n 64)
+expect 0 '' entries many.root
+[ "$(wc -l <out)" -eq 128 ] || fail 'not the entries of 64 files'
+expect 2 'ntuple: usage' merge many.root $(yes two.root | head -n 65)
+expect 2 'ntuple: usage' merge two.root two.root
+expect 2 'ntuple: usage' merge --page 1 both.root two.root
+expect 8 'ntuple: schema: file 1 field 0' merge never.root two.root example.root
+expect 4 'ntuple: outside' merge never.root two.root missing.root
+head -c 1100 two.root >cut.root
+expect 3 'ntuple: file 2: 3 BadFileHeader at 12' merge never.root two.root two.root cut.root
+[ ! -e never.root ] || fail 'files that can not be joined made a file'
+ln -s two.root link-two.root
+for out in ./two.root "$work/two.root" link-two.root; do
+    expect 4 'ntuple: outside' merge "$out" two.root
+    cmp -s two.root kept.root || fail "a file that is joined was written over: $out"
+done
+expect 5 'ntuple: limit: 1279 over 1278' merge --max-file 1278 both.root two.root two.root
+is_open both.root || fail 'a joined file that passed a limit looks finished'
+
 # inputs without entries, and more than one
 : >nothing.txt
 expect 0 '' write none.root schema.txt nothing.txt
@@ -178,6 +205,10 @@ for command in 'seq' 'write'; do
     [ $? -eq 4 ] || fail "err over the file of $command is no status 4"
     [ "$(cat stream)" = "$(printf 'kept\nntuple: outside')" ] || fail "$command wrote over the file of its err"
 done
+cp "$two" stream
+"$program" merge ./stream two.root >>stream 2>err
+[ $? -eq 4 ] || fail 'out over the file of merge is no status 4'
+same stream "$two"
 "$program" gen 1 1 1 stream >>stream 2>err
 [ $? -eq 4 ] || fail 'out over the file of gen is no status 4'
 "$program" write piped.root schema.txt events.txt | cat >out

@@ -2,8 +2,9 @@
 
 - The examples: `entries` prints what the reader prints as a command, with and without the checksums of pages.
 - FILES drawn files, of types of all kinds inside one another: by `write` of up to five inputs, or by `seq` with fields that are added
-  late; with clusters, pages and groups of any size, split or plain. What the reader reads is what `entries` prints, and both are what
-  was drawn: the chunks of the inputs in the order that `write` prints, with the zeros of the late fields.
+  late; with clusters, pages and groups of any size, split or plain; or by `merge` of some files of the same fields. What the reader
+  reads is what `entries` prints, and both are what was drawn: the chunks of the inputs in the order that `write` prints, with the zeros
+  of the late fields, and the entries of merged files one file behind the other.
 - Of each drawn file a byte of a page is changed: both refuse it.
 """
 import collections
@@ -136,6 +137,23 @@ def scripted(program, draws):
     return "".join(line[:-2] + "".join("," + of.zero for _, of in fields[known:]) + "]\n" for known, lines in segments for line in lines)
 
 
+def merged(program, draws):
+    """Writes up to four files of the same fields, and merges some of them in any order; the lines that are to be read."""
+    fields, coding = fields_of(draws, 0, draws.randint(1, 4)), ["--plain"] * draws.randrange(2)
+    save("schema", "".join(f"{name} {of.text}\n" for name, of in fields))
+    texts = [lines_of(fields, draws.choice((0, 1, 4, 9, 25))) for _ in range(draws.randint(1, 4))]
+    for number, text in enumerate(texts):
+        save("in", "".join(text))
+        options = [word for word in options_of(draws)[0] if word != "--plain"]
+        call(program, "write", *options, *coding, f"part-{number}.root", "schema", "in")
+    chosen = [draws.randrange(len(texts)) for _ in range(draws.randint(1, 6))]
+    group = str(draws.choice((1, 2, 3, 1000)))
+    told = call(program, "merge", "--group", group, "out.root", *(f"part-{number}.root" for number in chosen))
+    if not told.endswith(f" entries {sum(len(texts[number]) for number in chosen)}\n"):
+        raise Amiss(f"other entries than those of the files: {told}")
+    return "".join(line for number in chosen for line in texts[number])
+
+
 def is_refused(program, data):
     """Whether both refuse the file."""
     with open("bent.root", "wb") as file:
@@ -163,7 +181,7 @@ def drawn_files(program):
     sizes, count = 0, 0
     for seed in range(FILES):
         draws = random.Random(seed)
-        lines = scripted(program, draws) if seed % 3 == 2 else written(program, draws)
+        lines = (written, merged, scripted)[seed % 3](program, draws)
         data = bytes_of("out.root")
         printed = call(program, "entries", "out.root")
         if printed != lines:

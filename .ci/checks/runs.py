@@ -5,6 +5,7 @@
 - An input of 100000 events is written with the defaults, listed, and printed again; what is printed is written again as the same file.
 - An input of 100000 events with optional values, one in three of them null, is written and printed again, and so is what is printed.
 - Eight inputs of 100000 drawn events each are written with the defaults: ten clusters of each, dealt out in the order that is told.
+- Sixty-four small files are merged at once, and by eights in two rounds: the same file, with the entries of all in their order.
 - The generator makes these eight inputs' events ten times, with the same lines each time; its file has just their chunks, each context's
   in their order. Of one context its file is that which `write` makes of the text.
 """
@@ -155,6 +156,24 @@ def eight_long(program):
         raise Amiss(f"the entries aren't the chunks in the order {order}")
 
 
+def merged_files(program):
+    """Merges 64 files at once, and by eights in two rounds."""
+    texts = ["".join(small_lines(context, 1 + context % 5)) for context in range(64)]
+    save("small.schema", SCHEMA)
+    names = [f"part-{context}.root" for context in range(64)]
+    for name, text in zip(names, texts):
+        save("part", text)
+        call(program, "write", "--cluster", "2", "--group", str(1 + len(text) % 3), name, "small.schema", "part")
+    told = call(program, "merge", "--group", "7", "all.root", *names)
+    rounds = [f"round-{k}.root" for k in range(8)]
+    for k, name in enumerate(rounds):
+        call(program, "merge", name, *names[8 * k:8 * k + 8])
+    if call(program, "merge", "--group", "7", "again.root", *rounds) != told or bytes_of("all.root") != bytes_of("again.root"):
+        raise Amiss("merged in two rounds it is another file than merged at once")
+    if call(program, "entries", "all.root") != "".join(texts):
+        raise Amiss("the merged file hasn't the entries of its sources")
+
+
 def totals_of(texts):
     """The generator's lines: the clusters and entries of each context, and the sum of its runs and ids."""
     lines = []
@@ -209,13 +228,14 @@ def main():
             long_run(program)
             optional_run(program)
             eight_long(program)
+            merged_files(program)
             made = generated(program)
         except Amiss as fault:
             print(f"amiss: {fault}", file=sys.stderr)
             return 1
         finally:
             os.chdir("/")
-    print(f"runs: {RUNS} of eight inputs in {orders} orders, a long one, one of optional values, eight long ones, and what the generator makes in {made} orders, in {time.monotonic() - begun:.1f} seconds")
+    print(f"runs: {RUNS} of eight inputs in {orders} orders, a long one, one of optional values, eight long ones, 64 that are merged, and what the generator makes in {made} orders, in {time.monotonic() - begun:.1f} seconds")
     return 0
 
 
