@@ -7,6 +7,7 @@ _ntuple_options() {
         write) echo --cluster --page --group --plain --max-range --max-file --contexts ;;
         seq) echo --cluster --page --group --plain --max-range --max-file ;;
         skim) echo --cluster --page --group --plain --max-range --max-file --where --least --greatest ;;
+        merge) echo --group --max-range --max-file ;;
         entries) echo --from --count ;;
     esac
 }
@@ -23,7 +24,7 @@ _ntuple() {
     local word=${COMP_WORDS[COMP_CWORD]} before=${COMP_WORDS[COMP_CWORD - 1]}
     COMPREPLY=()
     if [ "$COMP_CWORD" -eq 1 ]; then
-        COMPREPLY=($(compgen -W 'write seq skim gen entries schema scan' -- "$word"))
+        COMPREPLY=($(compgen -W 'write seq skim merge gen entries schema scan' -- "$word"))
         return
     fi
     if [[ " ${COMP_WORDS[*]:2:COMP_CWORD-2} " != *' -- '* ]]; then

@@ -16,6 +16,7 @@ complete -c ntuple -f
 complete -c ntuple -n __fish_is_first_arg -a write -d 'Write the events of one or more texts'
 complete -c ntuple -n __fish_is_first_arg -a seq -d 'Write the events of a script, which adds fields between them'
 complete -c ntuple -n __fish_is_first_arg -a skim -d 'Write chosen fields of chosen entries of a file'
+complete -c ntuple -n __fish_is_first_arg -a merge -d 'Merge files of the same schema'
 complete -c ntuple -n __fish_is_first_arg -a gen -d 'Write drawn events'
 complete -c ntuple -n __fish_is_first_arg -a entries -d 'Print the entries of a file'
 complete -c ntuple -n __fish_is_first_arg -a schema -d 'Print the fields of a file'
@@ -24,11 +25,11 @@ complete -c ntuple -n __ntuple_awaits_name -F
 
 complete -c ntuple -n '__ntuple_is write seq skim' -l cluster -x -d 'The entries of a cluster, 1 to 1000000'
 complete -c ntuple -n '__ntuple_is write seq skim' -l page -x -d 'The most elements of a page, 1 to 1048576'
-complete -c ntuple -n '__ntuple_is write seq skim' -l group -x -d 'The most clusters that share a page list, 1 to 10000'
+complete -c ntuple -n '__ntuple_is write seq skim merge' -l group -x -d 'The most clusters that share a page list, 1 to 10000'
 complete -c ntuple -n '__ntuple_is write seq skim' -l plain -d 'Columns lie element by element'
-complete -c ntuple -n '__ntuple_is write seq skim' -l max-range -x -d 'The most bytes of a cluster or an envelope, 1024 to 1073741824'
-complete -c ntuple -n '__ntuple_is write seq skim' -l max-file -x -d 'The most bytes of the file, 1024 to 72057594037927936'
-complete -c ntuple -n '__ntuple_is write' -l contexts -x -d 'How many contexts run beside each other, 1 to 64'
+complete -c ntuple -n '__ntuple_is write seq skim merge' -l max-range -x -d 'The most bytes of a cluster or an envelope, 1024 to 1073741824'
+complete -c ntuple -n '__ntuple_is write seq skim merge' -l max-file -x -d 'The most bytes of the file, 1024 to 72057594037927936'
+complete -c ntuple -n '__ntuple_is write' -l contexts -x -d 'How many contexts run at the same time, 1 to 64'
 
 complete -c ntuple -n '__ntuple_is skim' -l where -x -d 'The field whose number is tested'
 complete -c ntuple -n '__ntuple_is skim' -l least -x -d 'The least number that passes, -9223372036854775808 to 18446744073709551615'
