@@ -1,6 +1,6 @@
 #!/bin/sh
-# Measures nt_encode's encode and decode of split columns, and then the way from nt_column's buffers to pages, beside plain C loops,
-# in their -O2 build and in their -O3 build. The answers are compared first. Each figure is a median of rounds taken in turn.
+# Measures nt_encode's encode and decode of split columns, and then the way from nt_column's buffers to pages; and plain C loops for the
+# same work, built with -O2 and with -O3. The results are compared first. Each figure is a median of rounds, ours and theirs in turn.
 set -eu
 cd "$(dirname -- "$(readlink -f -- "$0")")"
 made=$(mktemp -d)

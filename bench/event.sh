@@ -1,7 +1,7 @@
 #!/bin/sh
-# Measures nt_event's read_line and write_line beside a plain parser and printer in C++, both by the shapes of a schema and with
-# trees between, and read_line by serde_json, on the same lines with a blank that only it reads. The lines are compared first.
-# Each figure is a median of rounds taken in turn.
+# Measures nt_event's read_line and write_line, and a plain parser and printer in C++ that goes by the shapes of a schema and makes trees
+# too; and read_line by serde_json, on the same lines with a blank in them that only serde_json reads. The lines are compared first.
+# Each figure is a median of rounds, ours and theirs in turn.
 set -eu
 cd "$(dirname -- "$(readlink -f -- "$0")")"
 made=$(mktemp -d)

@@ -1,5 +1,5 @@
-"""Refuses each request for memory of some small runs in turn, and ends with 1 where one of them ends otherwise than with the status
-that it has with ample memory, or with 7 and the line of want of memory, or leaves a file that looks finished and lacks entries."""
+"""Refuses each request for memory of some small runs in turn. Each run must end with the status that it has with ample memory, or with 7
+and the line of want of memory, and must leave no file that looks finished and lacks entries; else this ends with 1."""
 import os
 import subprocess
 import sys
@@ -19,6 +19,7 @@ RUNS = [
     ["write", "OUT", "maybe", "maybe-in"],
     ["seq", "OUT", "start", "script"],
     ["entries", "numbers.root"],
+    ["merge", "OUT", "numbers.root", "numbers.root"],
     ["schema", "numbers.root"],
     ["entries", "script.root"],
 ]
@@ -52,7 +53,7 @@ def check(program, words, refuse, wanted):
             raise Amiss(f"{where}: out {out!r}, err {err!r}")
     if status == wanted[0] and len(out) != len(wanted[1]):
         raise Amiss(f"{where}: out {out!r} in place of {wanted[1]!r}")
-    if words[0] in ("write", "seq") and os.path.exists("OUT") and looks_finished("OUT"):
+    if words[0] in ("write", "seq", "merge") and os.path.exists("OUT") and looks_finished("OUT"):
         read = subprocess.run([program, "entries", "OUT"], capture_output=True)
         if read.returncode != 0 or sorted(read.stdout.split(b"\n")) != wanted[2]:
             raise Amiss(f"{where}: a file that looks finished lacks entries: {read.stdout!r}")

@@ -1,5 +1,5 @@
 #!/usr/bin/env bash
-# Refuses each request for memory of the built program in turn: bench/memory.sh [PROGRAM]
+# Runs the built program again and again, and refuses another request for memory each time: bench/memory.sh [PROGRAM]
 set -eu
 cd "$(dirname "$0")"
 program=${1:-../crates/nt_tool/out/nt_tool}

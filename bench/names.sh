@@ -1,7 +1,7 @@
 #!/bin/sh
-# Measures what a name costs where nt_schema reads a description: one of names that are numbered, one of names with the same 200 bytes
-# in front, and one of names for which a map with the kit's hasher of a fixed key would look from one place on. Each figure is the
-# processor's time in nanoseconds, the middle one of some rounds: a row that hardly grows says that the time grows with the names alone.
+# Measures what a name costs where nt_schema reads a description: of numbered names, of names with the same 200 bytes in front, and of
+# names that would collide in a map with the kit's hasher of a fixed key. Each figure is the processor's time for one name in
+# nanoseconds, the median of some rounds: a row that hardly grows says that the time is in proportion to the number of names.
 set -eu
 cd "$(dirname -- "$(readlink -f -- "$0")")"
 made=$(mktemp -d)

@@ -1,4 +1,5 @@
-"""Writes and prints wide events with `opt<u32>` in place of `u32`, and with `u32`, in turn, over memory: the time by that of `u32`.
+"""Writes and prints wide events with `opt<u32>` in place of `u32`, and with `u32`, in turn, in memory, and prints the time of the first
+divided by that of the second.
 
 Events have four numbers, a list of 10 to 30 and a text. The same text is written by both schemas; in the second pair of rows one number
 in ten is null, compared with the same numbers without nulls. Each figure is the middle one of the rounds; the first isn't counted."""

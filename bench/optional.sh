@@ -1,5 +1,5 @@
 #!/usr/bin/env bash
-# The time of optional numbers by that of plain ones: bench/optional.sh [PROGRAM]
+# Measures the time with optional numbers, divided by the time with plain ones: bench/optional.sh [PROGRAM]
 set -eu
 cd "$(dirname "$0")"
 exec python3 -B optional.py "${1:-../crates/nt_tool/out/nt_tool}"

@@ -1,7 +1,7 @@
 #!/bin/sh
-# Measures the program's `write`, `entries` and `scan` beside plain C++ for the same work, on the same inputs in memory, and compares what
-# both give: of one input the file byte for byte, of several the file with the clusters in the order that the program printed, the lines,
-# and the totals, which the C++ takes by four threads and by one.
+# Measures the program's `write`, `entries` and `scan`, and plain C++ for the same work, on the same inputs in memory. It compares the
+# results: the files byte for byte (those of several inputs with the clusters in the order that the program printed), the lines, and the
+# totals, which the C++ takes by four threads and by one.
 #   program.sh [--bin PATH] [--rounds N]
 # Without PATH the launcher builds the program first.
 set -eu

@@ -38,13 +38,17 @@ struct Cursor {
     }
 };
 
-static string read_at(int fd, uint64_t place, size_t size) {
-    string bytes(size, 0);
+static void read_into(int fd, uint64_t place, char* bytes, size_t size) {
     for (size_t have = 0; have < size;) {
-        ssize_t n = pread(fd, &bytes[have], size - have, off_t(place + have));
+        ssize_t n = pread(fd, bytes + have, size - have, off_t(place + have));
         check(n > 0, "a read failed");
         have += size_t(n);
     }
+}
+
+static string read_at(int fd, uint64_t place, size_t size) {
+    string bytes(size, 0);
+    read_into(fd, place, &bytes[0], size);
     return bytes;
 }
 

@@ -1,6 +1,6 @@
 #!/bin/sh
-# Measures the program's `skim` beside plain C++ for the same work, and beside the program's `entries` and `write` in a pipe, on a file in
-# memory: three fields of wide events, of one entry in two, of all and of none. The files are compared byte for byte.
+# Measures the program's `skim`, plain C++ for the same work, and the program's `entries` and `write` in a pipe, on a file in memory:
+# three fields of wide events, of one entry in two, of all and of none. The files are compared byte for byte.
 #   skim.sh [--bin PATH] [--rounds N]
 # Without PATH the launcher builds the program first.
 set -eu

@@ -1,6 +1,6 @@
 #!/bin/sh
-# Measures one taking of nt_turn's turn beside a Mutex of the standard library and a pthread mutex, for 1, 2, 4 and 64 threads.
-# Each figure is the middle one of rounds taken in turn, in nanoseconds from the first thread's start to the last one's end.
+# Measures taking and giving back nt_turn's turn, a Mutex of the standard library and a pthread mutex, by 1, 2, 4 and 64 threads.
+# Each figure is the median of rounds, one after the other of each, in nanoseconds from the first thread's start to the last one's end.
 set -eu
 cd "$(dirname -- "$(readlink -f -- "$0")")"
 rounds=9 takings=2000000

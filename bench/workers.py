@@ -1,5 +1,6 @@
-"""Writes the same small events as 64 inputs of 20,000 by `--contexts K`, and as K inputs with as many events in all, in turn, over memory:
-the time of the first by that of the second, for K of 1, 2 and 4; and 64 inputs by 64 workers, by that of 4 workers.
+"""Writes the same small events as 64 inputs of 20,000 by `--contexts K`, and as K inputs with as many events in all, in turn, in memory,
+and prints the time of the first divided by that of the second, for K of 1, 2 and 4; and of 64 inputs the time by 64 workers divided by that
+by 4 workers.
 
 An event has a number, up to three ids and a short text. What was written is compared first: the entries of both files, sorted. Each
 figure is the middle one of the rounds; the first isn't counted."""

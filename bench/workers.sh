@@ -1,5 +1,5 @@
 #!/usr/bin/env bash
-# The time of many short inputs by few workers, by that of few long inputs: bench/workers.sh [PROGRAM]
+# Measures the time of many short inputs with few workers, divided by that of few long inputs: bench/workers.sh [PROGRAM]
 set -eu
 cd "$(dirname "$0")"
 exec python3 -B workers.py "${1:-../crates/nt_tool/out/nt_tool}"

@@ -132,7 +132,7 @@ struct Line {
 
 struct Cluster {
     uint64_t start, entries;
-    vector<uint64_t> counts;
+    vector<vector<uint64_t>> pages;  // by column, the elements of each
 };
 
 struct Writer {
@@ -141,6 +141,10 @@ struct Writer {
     uint64_t cluster = 10000, page = 4096, group = 1000, end = 0;
     vector<size_t> order, done;
     vector<Cluster> clusters;
+    uint64_t header_sum = 0, entry = 0;  // of the clusters that have a page list: the entries,
+    size_t listed = 0;                   // how many there are,
+    vector<uint64_t> before;             // and the elements of each column
+    vector<string> groups;               // the rows of their groups
     std::mutex lock;
     std::condition_variable changed;
 };
@@ -153,17 +157,56 @@ static void put_at(int fd, const string& bytes, size_t from, uint64_t at) {
     }
 }
 
-static void flush(Writer& w, size_t context, vector<Column>& columns, uint64_t entries, Bytes& image) {
-    image.assign(BLOB_KEY, 0);
-    Cluster cluster{0, entries, {}};
-    for (Column& c : columns) {
-        for (size_t from = 0; from < c.count; from += w.page) add_page(image, c, from, std::min(w.page, c.count - from));
-        cluster.counts.push_back(c.count);
-        c.used = c.count = 0;
+// The blob of the page list of the clusters that have none yet, which stands at the end so far.
+static Bytes take_list(Writer& w) {
+    Bytes b, all, row;
+    const uint64_t first_entry = w.entry;
+    const size_t from = w.listed, to = w.listed = w.clusters.size();
+    b.low(w.header_sum);
+    size_t list = b.list(to - from);
+    for (size_t k = from; k < to; k++) {
+        size_t record = b.record();
+        b.low(w.entry), b.low(w.clusters[k].entries), b.end_record(record);
+        w.entry += w.clusters[k].entries;
     }
+    b.end_list(list);
+    list = b.list(to - from);
+    for (size_t k = from; k < to; k++) {
+        const Cluster& cluster = w.clusters[k];
+        uint64_t at = cluster.start + BLOB_KEY;
+        size_t outer = b.list(cluster.pages.size());
+        for (size_t i = 0; i < cluster.pages.size(); i++) {
+            const uint64_t first = w.before[i];
+            size_t inner = b.list(cluster.pages[i].size());
+            for (uint64_t n : cluster.pages[i]) {
+                uint64_t size = (w.schema.columns[i].bits * n + 7) / 8;
+                b.low(-int32_t(n)), b.low(uint32_t(size)), b.low(at);
+                at += size + 8, w.before[i] += n;
+            }
+            b.low(first), b.low(uint32_t(0)), b.end_list(inner);
+        }
+        b.end_list(outer);
+    }
+    b.end_list(list);
+    const Bytes object = envelope(PAGE_LIST, b);
+    add_blob(all, w.end, object);
+    size_t record = row.record();
+    row.low(first_entry), row.low(w.entry - first_entry), row.low(uint32_t(to - from));
+    row.low(uint64_t(object.size())), row.low(uint32_t(object.size())), row.low(w.end + BLOB_KEY), row.end_record(record);
+    w.groups.push_back(row);
+    w.end += all.size();
+    return all;
+}
+
+// Puts the image of a cluster behind what is written, once it is its turn, and the page list of a full group in front of it.
+static void commit(Writer& w, size_t context, Cluster& cluster, Bytes& image) {
+    Bytes list;
+    uint64_t list_at;
     {
         std::unique_lock<std::mutex> held(w.lock);
         if (!w.order.empty()) w.changed.wait(held, [&] { return w.order.at(w.clusters.size()) == context; });
+        list_at = w.end;
+        if (w.clusters.size() - w.listed == w.group) list = take_list(w);
         cluster.start = w.end;
         w.end += image.size();
         w.clusters.push_back(cluster);
@@ -172,7 +215,22 @@ static void flush(Writer& w, size_t context, vector<Column>& columns, uint64_t e
     Bytes key;
     key.key(image.size() - BLOB_KEY, cluster.start, 100, "RBlob", "");
     image.replace(0, BLOB_KEY, key);
+    if (!list.empty()) put_at(w.fd, list, 0, list_at);
     put_at(w.fd, image, 0, cluster.start);
+}
+
+static void flush(Writer& w, size_t context, vector<Column>& columns, uint64_t entries, Bytes& image) {
+    image.assign(BLOB_KEY, 0);
+    Cluster cluster{0, entries, {}};
+    for (Column& c : columns) {
+        cluster.pages.emplace_back();
+        for (size_t from = 0; from < c.count; from += w.page) {
+            cluster.pages.back().push_back(std::min(w.page, c.count - from));
+            add_page(image, c, from, cluster.pages.back().back());
+        }
+        c.used = c.count = 0;
+    }
+    commit(w, context, cluster, image);
 }
 
 static void write_input(Writer& w, size_t context, const char* name) {
@@ -208,61 +266,21 @@ static Bytes front_of(uint64_t end, uint64_t free, uint64_t keys) {
     return b;
 }
 
-static Bytes page_list_of(const Writer& w, uint64_t header_sum, size_t from, size_t to, uint64_t& entry, vector<uint64_t>& before) {
-    Bytes b;
-    b.low(header_sum);
-    size_t list = b.list(to - from);
-    for (size_t k = from; k < to; k++) {
-        size_t record = b.record();
-        b.low(entry), b.low(w.clusters[k].entries), b.end_record(record);
-        entry += w.clusters[k].entries;
-    }
-    b.end_list(list);
-    list = b.list(to - from);
-    for (size_t k = from; k < to; k++) {
-        const Cluster& cluster = w.clusters[k];
-        uint64_t at = cluster.start + BLOB_KEY;
-        size_t outer = b.list(cluster.counts.size());
-        for (size_t i = 0; i < cluster.counts.size(); i++) {
-            uint64_t left = cluster.counts[i];
-            size_t inner = b.list((left + w.page - 1) / w.page);
-            for (; left > 0; left -= std::min(left, w.page)) {
-                uint64_t n = std::min(left, w.page), size = (w.schema.columns[i].bits * n + 7) / 8;
-                b.low(-int32_t(n)), b.low(uint32_t(size)), b.low(at);
-                at += size + 8;
-            }
-            b.low(before[i]), b.low(uint32_t(0)), b.end_list(inner);
-            before[i] += cluster.counts[i];
-        }
-        b.end_list(outer);
-    }
-    b.end_list(list);
-    return envelope(PAGE_LIST, b);
-}
-
-// Page lists, footer, anchor, and the lists of keys and of free pieces; then file header and directory, and at last the first byte.
+// The page list that is left, footer, anchor, and the lists of keys and of free pieces; then file header and directory, and at last the
+// first byte.
 static void close_file(Writer& w, const Bytes& header) {
-    const uint64_t header_sum = word_at(&header[header.size() - 8], 0);
+    const uint64_t start = w.end;
     Bytes tail, groups;
-    vector<uint64_t> before(w.schema.columns.size());
-    uint64_t entry = 0;
-    size_t list = groups.list((w.clusters.size() + w.group - 1) / w.group);
-    for (size_t from = 0; from < w.clusters.size(); from += w.group) {
-        size_t to = std::min(w.clusters.size(), from + w.group);
-        uint64_t first = entry, at = w.end + tail.size();
-        Bytes object = page_list_of(w, header_sum, from, to, entry, before);
-        add_blob(tail, at, object);
-        size_t record = groups.record();
-        groups.low(first), groups.low(entry - first), groups.low(uint32_t(to - from));
-        groups.low(uint64_t(object.size())), groups.low(uint32_t(object.size())), groups.low(at + BLOB_KEY), groups.end_record(record);
-    }
+    if (w.clusters.size() > w.listed) tail = take_list(w);
+    size_t list = groups.list(w.groups.size());
+    for (const string& row : w.groups) groups += row;
     groups.end_list(list);
     Bytes footer;
-    footer.low(uint64_t(0)), footer.low(header_sum), footer.low(uint64_t(8)), footer += groups;
+    footer.low(uint64_t(0)), footer.low(w.header_sum), footer.low(uint64_t(8)), footer += groups;
     footer = envelope(FOOTER, footer);
-    const uint64_t footer_at = w.end + tail.size();
+    const uint64_t footer_at = start + tail.size();
     add_blob(tail, footer_at, footer);
-    const uint64_t anchor = w.end + tail.size(), keys = anchor + 134, free = keys + 113, end = free + 71;
+    const uint64_t anchor = start + tail.size(), keys = anchor + 134, free = keys + 113, end = free + 71;
     Bytes anchor_key, fields;
     anchor_key.key(78, anchor, 100, "ROOT::RNTuple", "events");
     fields.high(uint64_t(1) << 48);
@@ -274,7 +292,7 @@ static void close_file(Writer& w, const Bytes& header) {
     tail.key(60, keys, 100, "TFile", "events.root"), tail.high(uint32_t(1)), tail += anchor_key;
     tail.key(18, free, 100, "TFile", "events.root"), tail.high(uint16_t(1001)), tail.high(end);
     tail.high(uint64_t(end < 2000000000 ? 2000000000 : end + 1000000000));
-    put_at(w.fd, tail, 0, w.end);
+    put_at(w.fd, tail, 0, start);
     put_at(w.fd, front_of(end, free, keys), 1, 1), fsync(w.fd);
     put_at(w.fd, "r", 0, 0), fsync(w.fd);
 }
@@ -284,6 +302,7 @@ static void begin_file(Writer& w, const Bytes& header) {
     add_blob(begun, 226, header);
     put_at(w.fd, begun, 0, 0), fsync(w.fd);
     w.end = begun.size();
+    w.header_sum = word_at(&header[header.size() - 8], 0), w.before.resize(w.schema.columns.size());
 }
 
 static int write_file(Writer& w, bool plain, const vector<char*>& words) {

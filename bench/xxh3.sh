@@ -1,6 +1,6 @@
 #!/bin/sh
-# Measures nt_xxh3's sum beside xxhash.h (Debian's libxxhash-dev), in its scalar build and in its SSE2 build.
-# The answers are compared first. Each figure is a median of rounds taken in turn.
+# Measures nt_xxh3's sum, and xxhash.h (Debian's libxxhash-dev) in its scalar build and in its SSE2 build.
+# The results are compared first. Each figure is a median of rounds, ours and theirs in turn.
 set -eu
 cd "$(dirname -- "$(readlink -f -- "$0")")"
 made=$(mktemp -d)
