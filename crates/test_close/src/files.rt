@@ -201,6 +201,6 @@ pub fn write_file(
     let fields = parse_schema(alloc, b"x u64\n")?;
     let mut disk = host.create("o")?;
     let end = write_on(alloc, &mut disk, &fields, &params, pages, spoiled)?;
-    host.put_disk(disk);
+    host.return_disk(disk);
     Ok(end)
 }
