@@ -1,8 +1,12 @@
 -- What the real objects tell: counts, names that were asked for, and the length of a disk. None tells what a file or a stream holds.
 use Rattle.std.specs.Prelude.{◌≡◌, ℕ, ◌-◌, ◌<◌, ◌^◌, All, Bool, true, false, IsSome, List, [], ◌∷◌, ◌++◌, length, map, Some, None, Result}
-use Rattle.std.specs.Prelude.{OnOk, OnErr}
+use Rattle.std.specs.Prelude.{OnOk, OnErr, ◌==◌, ◌&&◌}
 use Rattle.std.specs.declared.alloc.AllocError.{AllocError}
+use Rattle.std.specs.declared.io.ErrorKind.{ErrorKind}
+use Rattle.std.specs.declared.io.ErrorKind.TheVariants.{OutOfMemory}
+use Rattle.std.specs.List.{list_any}
 use Rattle.nt_outside.specs.declared.fault.Refused.{Refused}
+use Rattle.nt_outside.specs.declared.fault.Refused.TheVariants as refused
 use Rattle.nt_outside.specs.Faults.{RoseOnFailed}
 use Rattle.nt_outside.specs.declared.range.Range.{Range}
 use Rattle.nt_outside.specs.Reads.{Reads}
@@ -12,6 +16,7 @@ use Rattle.nt_outside.specs.Source.{SourceState}
 use Rattle.nt_outside.specs.File.{FileState}
 use Rattle.nt_outside.specs.Disk.{DiskState}
 use Rattle.nt_outside.specs.World.{World, HostState, Asked, asked_of, file}
+use Rattle.nt_system.specs.declared.named.FileId.{FileId}
 use Rattle.nt_system.specs.declared.host.RealHost.{RealHost}
 
 -- a text counts its faults
@@ -74,6 +79,15 @@ unseen h w name told is here = absurd (cc)
 -- nothing was asked for, nothing is out, and nothing failed
 abbrev pub fresh : HostState
 fresh = record { world = None; asked = []; faults = 0; err_faults = 0; opened = 0 }
+
+-- the refusal of an answer of this kind of error: want of memory is no fault
+abbrev pub refused_for : ErrorKind → Refused
+refused_for OutOfMemory = refused.Memory
+refused_for _ = refused.Failed
+
+-- a file is one of these
+abbrev pub is_file_among : FileId → List FileId → Bool
+is_file_among id files = list_any (λ (other : FileId). (other.device == id.device) && (other.number == id.number)) files
 
 -- an object was asked for, and nothing else changed; without memory for its name, nothing did
 pub record Notes (object : Asked) (old new : HostState) (result : Result Unit AllocError) : Type 0 where

@@ -28,9 +28,13 @@ pub struct RealHost {
 }
 
 impl RealHost {
-    ghost use Rattle.std.specs.Prelude.{◌+◌, ◌^◌, vec_len, vec_capacity, OnOk};
+    ghost use Rattle.std.specs.Prelude.{◌+◌, ◌++◌, ◌∷◌, [], ◌^◌, false, vec_len, vec_capacity, Err, OnOk};
+    ghost use Rattle.std.specs.IoError.{error_kind};
+    ghost use Rattle.std.specs.Result.{IfErr};
     ghost use Rattle.nt_outside.specs.World.{asked_as, Asks, TakesBack};
-    ghost use Rattle.nt_system.specs.Real.{state_of, fresh, Notes, Counts};
+    ghost use Rattle.nt_outside.specs.declared.asked.Kind.TheVariants as kind;
+    ghost use Rattle.nt_system.specs.declared.named.FileId.{FileId};
+    ghost use Rattle.nt_system.specs.Real.{state_of, fresh, refused_for, is_file_among, Notes, Counts};
 
     /// A host that was asked for nothing yet.
     pub fn new(rt: HostRuntime) -> Self
@@ -49,6 +53,7 @@ impl RealHost {
     /// Keeps what was asked for, and takes the memory to keep the file. One object more can be counted as out.
     fn note(&mut self, kind: Kind, name: &str) -> Result<(), AllocError>
         ensures notes { Notes (asked_as kind name.now) (state_of self.old) (state_of self.new) result }
+        ensures files { self.new.files.items ≡ self.old.files.items }
         ensures few { OnOk result (self.new.opened + 1 < 2 ^ 64) }
         ensures place { OnOk result (vec_len self.new.files < vec_capacity self.new.files) }
     {
@@ -64,6 +69,7 @@ impl RealHost {
     /// What the system answered, where want of memory is no fault.
     fn answer<T: Drop>(&mut self, answered: io::Result<T>) -> Result<T, Refused>
         ensures answered { IfOk answered (λ value. result ≡ Ok value) }
+        ensures refused { IfErr answered (λ error. result ≡ Err (refused_for (error_kind error))) }
         ensures counts { Counts (state_of self.old) (state_of self.new) result }
         ensures files { self.new.files ≡ self.old.files }
     {
@@ -78,6 +84,7 @@ impl RealHost {
     fn open(&mut self, kind: Kind, name: &str) -> Result<File, Refused>
         ensures asks { Asks (asked_as kind name.now) (state_of self.old) (state_of self.new) result }
         ensures world { (state_of self.new).world ≡ (state_of self.old).world }
+        ensures kept { IfOk result (λ _. (id : FileId) × (self.new.files.items ≡ self.old.files.items ++ id ∷ [])) }
     {
         self.note(kind, name)?;
         let rt = self.rt;
@@ -89,8 +96,18 @@ impl RealHost {
     }
 
     /// Makes the file of a name empty, or new, unless this host opened it before, or prints on it.
-    fn make(&self, name: &str) -> io::Result<Made> {
-        make(&self.rt, name, &self.files)
+    fn make(&mut self, name: &str) -> Result<Made, Refused>
+        ensures asks { Asks (asked_as kind.Out name.now) (state_of self.old) (state_of self.new) result }
+        ensures world { (state_of self.new).world ≡ (state_of self.old).world }
+        ensures apart { IfOk result (λ made. is_file_among made.id self.old.files.items ≡ false) }
+        ensures kept { IfOk result (λ made. self.new.files.items ≡ self.old.files.items ++ made.id ∷ []) }
+    {
+        self.note(Kind::Out, name)?;
+        let made = make(&self.rt, name, &self.files);
+        let made = self.answer(made)?;
+        self.files.push_reserved(made.id);
+        self.opened += 1;
+        Ok(made)
     }
 
     /// Counts an object that came back, and its faults.
@@ -144,11 +161,7 @@ impl Host for RealHost {
     fn create(&mut self, name: &str) -> Result<RealDisk<File>, Refused> {
         let rt = self.rt;
         let copy = String::from_str(rt.alloc(), name)?;
-        self.note(Kind::Out, name)?;
-        let made = self.make(name);
-        let made = self.answer(made)?;
-        self.files.push_reserved(made.id);
-        self.opened += 1;
+        let made = self.make(name)?;
         Ok(RealDisk {
             named: Named {
                 rt,

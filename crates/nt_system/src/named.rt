@@ -1,5 +1,8 @@
 //! Files of the system by name, and which file a name leads to.
 
+ghost use Rattle.std.specs.Prelude.{◌≡◌, false, IfOk};
+ghost use Rattle.nt_system.specs.Real.{is_file_among};
+
 use std::fs::{File, Metadata, OpenFile, OpenOptions, canonicalize, metadata, symlink_metadata};
 use std::io;
 use std::io::{Error, ErrorKind};
@@ -109,7 +112,9 @@ fn is_stream(rt: &HostRuntime, id: FileId) -> bool {
 
 /// Makes a file empty, or new, unless it is one of those that were opened, or stands behind one of the program's own streams: then
 /// nothing is written. A device or a pipe may be such a stream too, since what is printed there lies over nothing.
-pub fn make(rt: &HostRuntime, name: &str, opened: &[FileId]) -> io::Result<Made> {
+pub fn make(rt: &HostRuntime, name: &str, opened: &[FileId]) -> io::Result<Made>
+    ensures { IfOk result (λ made. is_file_among made.id opened.now ≡ false) }
+{
     let (file, is_new) = open_or_make(rt, name)?;
     let metadata = file.metadata()?;
     let id = FileId::of(&metadata);
