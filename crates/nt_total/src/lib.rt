@@ -2,7 +2,7 @@
 //!
 //! Start at `running.rt` (`Running`, what the numbers so far came to, to which a column is added) and `total.rt`
 //! (`Running::total`, the integers of it all); `parallel.rt` cuts a column into blocks for the threads, and `piece.rt` is
-//! what a block comes to.
+//! what a block comes to. `lent.rt` totals a block that the column lends as it lies, by its width; another is read into 64 bits first.
 //!
 //! Words: the *bias* of a width is how many of its elements stand for integers below zero: half of them where there is a sign, and
 //! else none. The *key* of an element is its integer plus the bias (excess code), which is its place in the order of these integers.
@@ -13,9 +13,11 @@
 //! (`Running::total`). That several threads run is claimed nowhere.
 //!
 //! Choices that bind nobody else: a position of the parallel iterator is a block of 512 numbers, so that no closure is called for each
-//! number; and fewer than 256 blocks are no work for a second thread.
+//! number; fewer than 256 blocks are no work for a second thread; and a block of numbers of at most 32 bits is summed in 64 bits, since
+//! no such sum is larger.
 #![tactic(auto)]
 
+mod lent;
 mod parallel;
 mod piece;
 mod running;

@@ -1,11 +1,12 @@
 //! Blocks of numbers, read and totalled by several threads.
 
-ghost use Rattle.std.specs.Prelude.{◌≡◌, ◌+◌, ◌*◌, ◌<◌, ◌≤◌, ◌^◌, [], map, length};
+ghost use Rattle.std.specs.Prelude.{◌≡◌, ◌+◌, ◌*◌, ◌<◌, ◌≤◌, ◌^◌, [], map, length, IfSome};
 ghost use Rattle.std.specs.List.{slice_range};
 ghost use Rattle.nt_lists.specs.Chunks.{chunk};
 ghost use Rattle.nt_column.specs.Elements.{numbers};
 ghost use Rattle.nt_total.specs.Keys.{key, IsPieceOf, IsJoinOf};
 
+use crate::lent::lent_piece;
 use crate::piece::{Piece, piece_of};
 use nt_column::Columns;
 use rayon::prelude::*;
@@ -41,15 +42,15 @@ fn some_piece<C: Columns>(
     (some, piece_of(&room[..some], bias))
 }
 
-/// What the keys of a block come to. It is read page by page.
-fn block_piece<C: Columns>(columns: &C, column: u32, bias: u64, b: usize) -> Piece
+/// What the keys of the numbers from one place to before another come to, which are so few that they are a block. They are read page
+/// by page.
+fn read_piece<C: Columns>(columns: &C, column: u32, bias: u64, from: u64, to: u64) -> Piece
     requires bias { bias ≤ 2 ^ 63 }
-    requires within { b * 512 < length (C.elements columns.now column) }
-    ensures { IsPieceOf (map (key bias) (chunk 512 (numbers (C.elements columns.now column)) b)) result }
+    requires block { (from ≤ to) × (to ≤ from + 512) }
+    requires within { to ≤ length (C.elements columns.now column) }
+    ensures { IsPieceOf (map (key bias) (slice_range (numbers (C.elements columns.now column)) from to)) result }
 {
-    let len = columns.len(column);
-    let from = b as u64 * BLOCK as u64;
-    let count = (len - from).min(BLOCK as u64) as usize;
+    let count = (to - from) as usize;
     let mut room = empty_block();
     let mut whole = Piece::none();
     let mut done = 0;
@@ -60,6 +61,32 @@ fn block_piece<C: Columns>(columns: &C, column: u32, bias: u64, b: usize) -> Pie
         done += some;
     }
     whole
+}
+
+/// The same, where the column lends these numbers as they lie.
+fn lent_part<C: Columns>(columns: &C, column: u32, bias: u64, from: u64, to: u64) -> Option<Piece>
+    requires bias { bias ≤ 2 ^ 63 }
+    requires block { (from ≤ to) × (to ≤ from + 512) }
+    requires within { to ≤ length (C.elements columns.now column) }
+    ensures { IfSome result (λ p. IsPieceOf
+        (map (key bias) (slice_range (numbers (C.elements columns.now column)) from to)) p) }
+{
+    lent_piece(columns.words(column, from, to)?, bias)
+}
+
+/// What the keys of a block come to. Only numbers that the column doesn't lend are copied.
+fn block_piece<C: Columns>(columns: &C, column: u32, bias: u64, b: usize) -> Piece
+    requires bias { bias ≤ 2 ^ 63 }
+    requires within { b * 512 < length (C.elements columns.now column) }
+    ensures { IsPieceOf (map (key bias) (chunk 512 (numbers (C.elements columns.now column)) b)) result }
+{
+    let len = columns.len(column);
+    let from = b as u64 * BLOCK as u64;
+    let to = from + (len - from).min(BLOCK as u64);
+    match lent_part(columns, column, bias, from, to) {
+        Some(piece) => piece,
+        None => read_piece(columns, column, bias, from, to),
+    }
 }
 
 /// What the keys of all numbers of a column come to, in as many threads as there are processors.

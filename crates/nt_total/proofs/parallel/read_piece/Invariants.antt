@@ -1,7 +1,7 @@
 use Rattle.std.proofs.Common.{◌-◌}
 use Rattle.nt_column.specs.Elements.{numbers}
 use Rattle.nt_total.proofs.Blocks.{IsPartDone}
-use Rattle.nt_total.proofs.parallel.block_piece.Given as goal
+use Rattle.nt_total.proofs.parallel.read_piece.Given as goal
 
 abbrev pub invariant-loop-done : goal.invariant-loop-done
 invariant-loop-done g l = IsPartDone (numbers (g.C.Columns.elements l.columns l.column)) l.bias l.from l.count l.done l.whole
