@@ -1,10 +1,9 @@
 -- Numbers that are read one part behind the other, and what is added to what there was.
-use Rattle.std.proofs.Common.{◌≡◌, ℕ, ◌+◌, ◌-◌, ◌%◌, ◌^◌, ◌*◌, ◌≤◌, min, List, [], ◌++◌, map, length, take, drop, refl, ap, subst}
-use Rattle.std.proofs.Common.{◌∙◌, arith}
+use Rattle.std.proofs.Common.{◌≡◌, ℕ, ◌+◌, ◌-◌, ◌%◌, ◌^◌, ◌≤◌, List, [], ◌++◌, map, length, drop, refl}
+use Rattle.std.proofs.Common.{arith}
 use Rattle.std.specs.List.{slice_range}
 use Rattle.std.proofs.Math.Seq.{take-add}
-use Rattle.std.proofs.lemmas.List.{map-append, length-append, length-drop, drop-drop, take_min}
-use Rattle.nt_lists.specs.Chunks.{chunk}
+use Rattle.std.proofs.lemmas.List.{map-append, length-append, drop-drop}
 use Rattle.nt_total.specs.declared.piece.Piece.{Piece}
 use Rattle.nt_total.specs.declared.running.Running.{Running}
 use Rattle.nt_total.specs.Keys.{key, IsPieceOf, IsJoinOf}
@@ -47,17 +46,3 @@ part-more ns bias from count done some p q r h few more j =
       piece = rw (end, both, map-append (key bias) (slice_range ns from (from + done)) (slice_range ns (from + done) (from + done + some)))
           (piece-join _ _ p q r h.piece more j);
     }
-
--- all that a block has
-pub part-whole : (ns : List ℕ) (bias b count done : ℕ) (p : Piece) → IsPartDone ns bias (b * 512) count done p → count ≤ done
-    → count ≡ min (length ns - b * 512) 512 → IsPieceOf (map (key bias) (chunk 512 ns b)) p
-part-whole ns bias b count done p h past is =
-    let all : done ≡ count = omega (arith, h.few, past) in
-    subst (λ l. IsPieceOf (map (key bias) l) p) (to-end ns (b * 512) done (omega (arith, all, is))) h.piece
-  where
-    to-end : (ns : List ℕ) (a n : ℕ) → n ≡ min (length ns - a) 512 → slice_range ns a (a + n) ≡ slice_range ns a (a + 512)
-    to-end ns a n is =
-        let one : a + n - a ≡ n = omega arith in
-        let two : a + 512 - a ≡ 512 = omega arith in
-        let few : n ≡ min 512 (length (drop a ns)) = omega (arith, is, length-drop a ns) in
-        rw (one, two) (ap (λ m. take m (drop a ns)) few ∙ take_min 512 (drop a ns))

@@ -51,7 +51,8 @@ impl Piece {
 }
 
 /// What the keys of elements come to.
-pub fn piece_of(elements: &[u64], bias: u64) -> Piece
+#[inline(always)]
+fn keyed_piece(elements: &[u64], bias: u64) -> Piece
     requires { bias ≤ 2 ^ 63 }
     ensures { IsPieceOf (map (key bias) elements.now) result }
 {
@@ -69,4 +70,15 @@ pub fn piece_of(elements: &[u64], bias: u64) -> Piece
         least,
         greatest,
     }
+}
+
+/// What the keys of elements come to. Where there is no bias, no key is reckoned.
+pub fn piece_of(elements: &[u64], bias: u64) -> Piece
+    requires { bias ≤ 2 ^ 63 }
+    ensures { IsPieceOf (map (key bias) elements.now) result }
+{
+    if bias == 0 {
+        return keyed_piece(elements, 0);
+    }
+    keyed_piece(elements, bias)
 }

@@ -9,17 +9,20 @@ use Rattle.nt_total.proofs.lent.lent_piece.Goals as goal
 pub returns-in-Bytes : goal.returns-in-Bytes
 returns-in-Bytes c =
     let same = sym (numbers-plain (λ (n : ℕ). n) c.in-Bytes.list.now) ∙ ap (λ w. numbers (lent_elements w)) (sym c.in-Bytes.is) in
-    subst (λ (ns : List ℕ). IfSome c.by_width.result (λ p. IsPieceOf (map (key c.args.bias) ns) p)) same c.by_width.ensures
+    let piece = c.by_width in
+    subst (λ (ns : List ℕ). IfSome piece.result (λ p. IsPieceOf (map (key c.args.bias) ns) p)) same piece.ensures
 
 pub returns-in-Words16 : goal.returns-in-Words16
 returns-in-Words16 c =
     let same = sym (numbers-plain (λ (n : ℕ). n) c.in-Words16.list.now) ∙ ap (λ w. numbers (lent_elements w)) (sym c.in-Words16.is) in
-    subst (λ (ns : List ℕ). IfSome c.by_width-in-Words16.result (λ p. IsPieceOf (map (key c.args.bias) ns) p)) same c.by_width-in-Words16.ensures
+    let piece = c.by_width-in-Words16 in
+    subst (λ (ns : List ℕ). IfSome piece.result (λ p. IsPieceOf (map (key c.args.bias) ns) p)) same piece.ensures
 
 pub returns-in-Words32 : goal.returns-in-Words32
 returns-in-Words32 c =
     let same = sym (numbers-plain (λ (n : ℕ). n) c.in-Words32.list.now) ∙ ap (λ w. numbers (lent_elements w)) (sym c.in-Words32.is) in
-    subst (λ (ns : List ℕ). IfSome c.by_width-in-Words32.result (λ p. IsPieceOf (map (key c.args.bias) ns) p)) same c.by_width-in-Words32.ensures
+    let piece = c.by_width-in-Words32 in
+    subst (λ (ns : List ℕ). IfSome piece.result (λ p. IsPieceOf (map (key c.args.bias) ns) p)) same piece.ensures
 
 pub returns-in-Words64 : goal.returns-in-Words64
 returns-in-Words64 c =

@@ -1,6 +1,6 @@
 use Rattle.std.proofs.Common.{map, take}
 use Rattle.nt_total.specs.Keys.{key, IsPieceOf}
-use Rattle.nt_total.proofs.piece.piece_of.Given as goal
+use Rattle.nt_total.proofs.piece.keyed_piece.Given as goal
 
 abbrev pub invariant-loop-element : goal.invariant-loop-element
 invariant-loop-element l =

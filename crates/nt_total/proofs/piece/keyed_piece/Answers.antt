@@ -2,7 +2,7 @@ use Rattle.std.proofs.Common.{map, take, rules, arith, sym}
 use Rattle.std.proofs.lemmas.List.{map_more, take_all}
 use Rattle.nt_total.specs.Keys.{key}
 use Rattle.nt_total.proofs.Pieces.{piece-more}
-use Rattle.nt_total.proofs.piece.piece_of.Goals as goal
+use Rattle.nt_total.proofs.piece.keyed_piece.Goals as goal
 
 pub loop-element-preserved : goal.loop-element-preserved
 loop-element-preserved c =
