@@ -1,20 +1,14 @@
 -- Pages in the bytes of a file that were read at once.
-use Rattle.std.proofs.Common.{◌≡◌, ℕ, ◌+◌, ◌-◌, ◌<◌, ◌≤◌, ◌⊎◌, Bool, true, false, cond, leb, List, [], length, take, drop, Option, Some}
-use Rattle.std.proofs.Common.{None, Ok, Err, refl, sym, ap, ◌∙◌, inl, inr, arith}
-use Rattle.std.proofs.lemmas.Bool.{leb-true, le-leb, true≢false}
+use Rattle.std.proofs.Common.{◌≡◌, ℕ, ◌+◌, ◌-◌, ◌<◌, ◌≤◌, ◌⊎◌, Bool, true, false, cond, leb, List, [], ◌++◌, length, take, drop}
+use Rattle.std.proofs.Common.{min, Option, Some, Ok, Err, refl, sym, ap, ◌∙◌, inl, inr, arith}
+use Rattle.std.proofs.lemmas.Bool.{leb-true, le-leb, lt-leb, true≢false}
 use Rattle.std.proofs.lemmas.Option.{cond_some}
-use Rattle.std.proofs.lemmas.List.{take-take, drop-take, drop-drop}
-use Rattle.nt_num.specs.Place.{At}
+use Rattle.std.proofs.lemmas.List.{take-take, take_all, take_at, drop-take, drop-drop}
 use Rattle.nt_num.specs.declared.fault.ReadError.{ReadError}
-use Rattle.nt_lists.proofs.Variants.{ok_is, err_is}
-use Rattle.nt_format.specs.Reading.{standing}
 use Rattle.nt_format.specs.Demands.{found_or}
-use Rattle.nt_format.specs.Pieces.{piece, standing_or, piece_or}
+use Rattle.nt_format.specs.Pieces.{piece}
 use Rattle.nt_pagelists.specs.declared.page.PageItem.{PageItem}
 use Rattle.nt_file_meaning.specs.Clusters.{stored_len}
-use Rattle.nt_tfile.specs.declared.failure.ReadFailure.{ReadFailure}
-use Rattle.nt_tfile.specs.declared.failure.ReadFailure.TheVariants.{Defect, Fault, Memory}
-use Rattle.nt_tfile.specs.Calls.{IsReadOrFails}
 use Rattle.nt_reader.specs.declared.window.Window.{Window}
 use Rattle.nt_reader.specs.Windows.{LiesIn, IsReadAtOnce, window_bytes, found_page}
 
@@ -65,43 +59,59 @@ pub page-found : (told : List ℕ) (outside : ReadError) (p : PageItem) (w : Win
     → found_page outside p told ≡ Ok (window_bytes w p)
 page-found told outside p w lies there = ap (λ (o : Option (List ℕ)). found_or outside o) (page-there told p w lies there)
 
--- the piece whose beginning was found
-pub piece-found : (e : ReadError) (o : Option (List ℕ)) (bytes : List ℕ) → standing_or e o ≡ Ok (standing 0 bytes) → o ≡ Some bytes
-piece-found e (Some found) bytes h = ap (λ (l : List ℕ). Some l)
-    (ap (λ (a : At). a.left) (ok_is {E = ReadError} (standing 0 found) (standing 0 bytes) h))
-piece-found e None bytes h = absurd cc
+-- where the outcome of growing is good, the length is the one that was asked for
+pub grown : (b : Bool) (k n m : ℕ) → k ≡ cond b n m → b ≡ true → k ≡ n
+grown true k n m is e = is
+grown false k n m is e = absurd (true≢false (sym e))
 
--- what was read is a window of the file
-pub window-there : (told bytes : List ℕ) (outside : ReadError) (at len n : ℕ) → n ≡ length bytes → n ≡ len
-    → piece_or outside told at len ≡ Ok (standing 0 bytes)
+-- as many bytes are read as were asked for, where they lie in the file
+pub all-read : (told buf : List ℕ) (at len size n : ℕ) → size ≡ length told → at + len ≤ size → length buf ≡ len
+    → n ≡ min (length buf) (length told - at) → n ≡ len
+all-read told buf at len size n sized inside long count = omega (arith, sized, inside, long, count)
+
+-- bytes that were read, as many as were asked for, are a window of the file
+pub window-there : (told bytes : List ℕ) (at n : ℕ) → at + length bytes ≤ length told → n ≡ length bytes
+    → take n bytes ≡ take n (drop at told)
     → piece told at (length bytes) ≡ Some bytes
-window-there told bytes outside at len n count is h =
-    ap (λ (k : ℕ). piece told at k) (sym count ∙ is) ∙ piece-found outside (piece told at len) bytes h
-
--- where a run isn't found, its page isn't
-pub run-lost : {W : Type 0} (all : W → List ℕ) (told : List ℕ) (outside : ReadError) (p : PageItem) (size len : ℕ) (e : ReadFailure)
-    → size ≡ length told → IsReadAtOnce p size len
-    → IsReadOrFails {V = At} (λ l. l) (Err e) (piece_or outside told p.place len) → IsReadOrFails all (Err e) (found_page outside p told)
 unfolding piece
-run-lost all told outside p size len (Defect d) sized run h = one run.inside
+window-there told bytes at n inside all same =
+    let test : leb (at + length bytes) (length told) ≡ true = le-leb _ _ inside in
+    let is : take (length bytes) (drop at told) ≡ bytes = ap (λ (k : ℕ). take k (drop at told)) (sym all)
+    ∙ sym same ∙ take_all n bytes (omega (arith, all)) in
+    rw test (ap (λ (l : List ℕ). Some l) is)
+
+-- so are those of a list whose every byte was read anew
+pub window-read : (told buf tail : List ℕ) (at len size n kept : ℕ) → size ≡ length told → at + len ≤ size → length buf ≡ len → kept ≡ len
+    → (n ≡ min (length buf) (length told - at)) × (take n buf ≡ take n (drop at told))
+    → piece told at (length (take kept (buf ++ tail))) ≡ Some (take kept (buf ++ tail))
+window-read told buf tail at len size n kept sized inside long all read =
+    let is : take kept (buf ++ tail) ≡ buf = take_at buf tail kept (omega (arith, long, all)) in
+    let whole : n ≡ len = all-read told buf at len size n sized inside long read.0 in
+    let there : piece told at (length buf) ≡ Some buf =
+    window-there told buf at n (omega (arith, sized, inside, long)) (omega (arith, whole, long)) read.1 in
+    rw is there
+
+-- and they are so many
+pub window-len : (buf tail : List ℕ) (len kept : ℕ) → length buf ≡ len → kept ≡ len → length (take kept (buf ++ tail)) ≡ len
+window-len buf tail len kept long all =
+    ap (λ (l : List ℕ). length l) (take_at buf tail kept (omega (arith, long, all))) ∙ long
+
+-- no page is found where it ends behind the file
+pub page-past : (told : List ℕ) (outside : ReadError) (p : PageItem) → length told < p.place + stored_len p
+    → found_page outside p told ≡ Err outside
+unfolding piece
+page-past told outside p past =
+    let test : leb (p.place + stored_len p) (length told) ≡ false = lt-leb _ _ past in
+    rw test refl
+
+-- where a run ends behind the file, its page does
+pub run-past : (told : List ℕ) (outside : ReadError) (p : PageItem) (size len : ℕ) → size ≡ length told → IsReadAtOnce p size len
+    → size < p.place + len → found_page outside p told ≡ Err outside
+run-past told outside p size len sized run past = one run.inside
   where
-    lost : (o : Option (List ℕ)) → standing_or outside o ≡ Err d → found_or outside o ≡ Err d
-    lost (Some bytes) e = absurd cc
-    lost None e = ap (λ (x : ReadError). Err x) (err_is {A = At} outside d e)
-
-    within : p.place + len ≤ length told → (o : Option (List ℕ)) → o ≡ piece told p.place len → standing_or outside o ≡ Err d → ⊥
-    within le (Some bytes) is e = cc
-    within le None is e =
-        let test : leb (p.place + len) (length told) ≡ true = le-leb _ _ le in
-        let found : None ≡ Some (take len (drop p.place told)) = is
-        ∙ ap (λ (b : Bool). cond b (Some (take len (drop p.place told))) None) test in
-        cc
-
-    one : (len ≡ stored_len p) ⊎ (p.place + len ≤ size) → found_page outside p told ≡ Err d
-    one (inl same) = ap (λ (n : ℕ). found_or outside (piece told p.place n)) (sym same) ∙ lost (piece told p.place len) h
-    one (inr le) = absurd (within (omega arith) (piece told p.place len) refl h)
-run-lost all told outside p size len Fault sized run h = tt
-run-lost all told outside p size len Memory sized run h = tt
+    one : (len ≡ stored_len p) ⊎ (p.place + len ≤ size) → found_page outside p told ≡ Err outside
+    one (inl same) = page-past told outside p (omega (arith, sized, past, same))
+    one (inr le) = absurd (omega (arith, past, le))
 
 -- no bytes are a window
 pub none-there : (told bytes : List ℕ) (at : ℕ) → at ≡ 0 → bytes ≡ [] → piece told at (length bytes) ≡ Some bytes

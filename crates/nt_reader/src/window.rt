@@ -9,8 +9,9 @@ ghost use Rattle.nt_reader.specs.Windows.{IsSeenBy, LiesIn, IsReadAtOnce, window
 use nt_num::ReadError;
 use nt_outside::ReadAt;
 use nt_pagelists::PageItem;
-use nt_tfile::{ReadFailure, read_block};
+use nt_tfile::ReadFailure;
 use std::alloc::Global;
+use std::mem;
 
 /// How many bytes are read at once, at most, but for a page that is longer: so many stay in the cache until their pages are decoded.
 const MOST_AT_ONCE: u64 = 1 << 17;
@@ -93,17 +94,16 @@ impl Window {
     }
 }
 
-/// The window that begins with a page, if the page lies in a file of this size. The pages behind it
-/// are read with it where they follow it closely.
+/// The window that begins with a page, in the memory of another, if the page lies in a file of its
+/// size. The pages behind it are read with it where they follow it closely.
 fn read_window<F: ReadAt>(
-    alloc: Global,
     file: &mut F,
-    size: u64,
     page: &PageItem,
     behind: &[PageItem],
     outside: ReadError,
+    kept: Window,
 ) -> Result<Window, ReadFailure>
-    requires { HasSize (F.state file.old) size }
+    requires { HasSize (F.state file.old) kept.size }
     ensures file { Serves (F.state file.old) (F.state file.new) result }
     ensures read { ReadsFile (λ w. window_bytes w page.now)
         (found_page outside page.now) (F.state file.old) result }
@@ -111,17 +111,27 @@ fn read_window<F: ReadAt>(
     ensures lies { IfOk result (λ w. LiesIn page.now w) }
 {
     let at = page.place;
-    let len = run_len(page, behind, size);
-    let bytes = read_block(alloc, file, size, at, len, outside)?;
+    let len = run_len(page, behind, kept.size);
+    if u128::from(at) + u128::from(len) > u128::from(kept.size) {
+        return Err(ReadFailure::Defect(outside));
+    }
+    let mut bytes = kept.bytes;
+    if bytes.resize(len as usize, 0).is_err() {
+        return Err(ReadFailure::Memory);
+    }
+    let count = file.read_at(at, bytes.as_mut_slice())?;
+    if count as u64 != len {
+        return Err(ReadFailure::Defect(outside));
+    }
     Ok(Window {
-        alloc,
-        size,
+        alloc: kept.alloc,
+        size: kept.size,
         at,
         bytes,
     })
 }
 
-/// Moves the window to a page, unless the page lies there already.
+/// Moves the window to a page, unless the page lies there already. Where that fails, it has no bytes.
 pub fn move_to<F: ReadAt>(
     file: &mut F,
     page: &PageItem,
@@ -139,6 +149,7 @@ pub fn move_to<F: ReadAt>(
     if window.has(page) {
         return Ok(());
     }
-    *window = read_window(window.alloc, file, window.size, page, behind, outside)?;
+    let kept = mem::replace(window, Window::new(window.alloc, window.size));
+    *window = read_window(file, page, behind, outside, kept)?;
     Ok(())
 }
