@@ -5,6 +5,8 @@ ghost use Rattle.std.specs.List.{slice_range};
 ghost use Rattle.std.specs.Str.Parse.{AllDigits, digits_value};
 ghost use Rattle.nt_event.specs.Eight.{low_first, AreDigits, number_behind};
 
+use std::simd::prelude::*;
+
 /// The digit zero in each byte.
 const ZEROS: u64 = 0x3030_3030_3030_3030;
 
@@ -26,16 +28,7 @@ fn word_at(text: &[u8], at: usize) -> u64
     requires { at + 8 ≤ length text.now }
     ensures { result ≡ low_first (take 8 (drop at text.now)) }
 {
-    u64::from_le_bytes([
-        text[at],
-        text[at + 1],
-        text[at + 2],
-        text[at + 3],
-        text[at + 4],
-        text[at + 5],
-        text[at + 6],
-        text[at + 7],
-    ])
+    u64::from_le_bytes(u8x8::from_slice(&text[at..]).to_array())
 }
 
 /// A bit for bytes that aren't below ten. The lowest one marks the first of them.

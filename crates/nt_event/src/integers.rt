@@ -1,6 +1,6 @@
 //! Integers in their compact form.
 
-ghost use Rattle.std.specs.Prelude.{◌≡◌, ◌≤◌, ◌<◌, ◌+◌, ◌-◌, ◌*◌, ◌^◌, length, decimal, true, false, IfSome, IsTrue, pos, get_or, if◌then◌else◌};
+ghost use Rattle.std.specs.Prelude.{◌≡◌, ◌≢◌, ◌≤◌, ◌<◌, ◌+◌, ◌-◌, ◌*◌, ◌^◌, length, decimal, true, false, IfSome, IsTrue, pos, get_or, if◌then◌else◌};
 ghost use Rattle.std.specs.Char.{digit_value, is_ascii_digit};
 ghost use Rattle.serde_json.specs.Written.{compact_text};
 ghost use Rattle.nt_types.specs.TreeData.{num};
@@ -57,25 +57,29 @@ fn ten_to(exponent: usize) -> u64
     TENS[exponent]
 }
 
-/// The end of at most 19 digits, and their number.
-#[inline(always)]
-fn digits(text: &[u8], at: usize) -> (u64, usize)
-    requires { at ≤ length text.now }
+/// The end of at most 19 digits, and their number, where the first eight are known.
+fn digits_behind_eight(text: &[u8], at: usize, first: u64) -> (u64, usize)
+    requires { DigitsStand text.now at (at + 8) first }
     ensures { DigitsStand text.now at result.1 result.0 }
 {
-    if text.len() - at < 8 {
-        return digits_behind(text, at, at, 0);
-    }
-    let (n, few) = up_to_eight(text, at);
-    let i = at + few;
-    if few < 8 {
-        return (n, i);
-    }
+    let i = at + 8;
     if text.len() - i < 8 {
-        return digits_behind(text, at, i, n);
+        return digits_behind(text, at, i, first);
     }
-    let (last, some) = up_to_eight(text, i);
-    digits_behind(text, at, i + some, n * ten_to(some) + last)
+    let (next, some) = up_to_eight(text, i);
+    let n = first * ten_to(some) + next;
+    let j = i + some;
+    if some < 8 {
+        return (n, j);
+    }
+    if text.len() - j < 8 {
+        return digits_behind(text, at, j, n);
+    }
+    let (last, few) = up_to_eight(text, j);
+    if few > 3 {
+        return digits_behind(text, at, j, n);
+    }
+    (n * ten_to(few) + last, j + few)
 }
 
 /// A number of 64 bits and one digit more, where 64 bits hold it.
@@ -89,13 +93,11 @@ fn then_digit(n: u64, byte: u8) -> Option<u64>
     n.checked_mul(10)?.checked_add(u64::from(byte - b'0'))
 }
 
-/// A number of 64 bits, as it is printed.
-#[inline(always)]
-pub fn number(text: &[u8], at: usize) -> Option<(u64, usize)>
-    requires { at ≤ length text.now }
+/// The number whose first digits are known, at most 19 and all of those if fewer.
+fn ended(text: &[u8], at: usize, end: usize, n: u64) -> Option<(u64, usize)>
+    requires { DigitsStand text.now at end n }
     ensures { IfSome result (λ r. StandsFrom (decimal r.0) text.now at r.1) }
 {
-    let (n, end) = digits(text, at);
     if end == at || !has_no_zeros(text, at, end) {
         return None;
     }
@@ -104,6 +106,68 @@ pub fn number(text: &[u8], at: usize) -> Option<(u64, usize)>
     }
     let all = then_digit(n, text[end])?;
     Some((all, end + 1))
+}
+
+/// The number whose first digits are known, or nothing, which ends where it begins. So it is given in registers.
+fn ended_or_none(text: &[u8], at: usize, end: usize, n: u64) -> (u64, usize)
+    requires { DigitsStand text.now at end n }
+    ensures { result.1 ≢ at → StandsFrom (decimal result.0) text.now at result.1 }
+{
+    match ended(text, at, end, n) {
+        Some(found) => found,
+        None => (0, at),
+    }
+}
+
+/// The number that stands near the end of a text, or nothing, which ends where it begins.
+#[inline(never)]
+fn last_number(text: &[u8], at: usize) -> (u64, usize)
+    requires { at ≤ length text.now }
+    ensures { result.1 ≢ at → StandsFrom (decimal result.0) text.now at result.1 }
+{
+    let (n, end) = digits_behind(text, at, at, 0);
+    ended_or_none(text, at, end, n)
+}
+
+/// The number whose first eight digits are known, or nothing, which ends where it begins.
+#[inline(never)]
+fn long_number(text: &[u8], at: usize, first: u64) -> (u64, usize)
+    requires { DigitsStand text.now at (at + 8) first }
+    ensures { result.1 ≢ at → StandsFrom (decimal result.0) text.now at result.1 }
+{
+    let (n, end) = digits_behind_eight(text, at, first);
+    ended_or_none(text, at, end, n)
+}
+
+/// What was found, where it doesn't end where it begins.
+#[inline(always)]
+fn some_found(text: &[u8], at: usize, found: (u64, usize)) -> Option<(u64, usize)>
+    requires { found.1 ≢ at → StandsFrom (decimal found.0) text.now at found.1 }
+    ensures { IfSome result (λ r. StandsFrom (decimal r.0) text.now at r.1) }
+{
+    if found.1 == at {
+        return None;
+    }
+    Some(found)
+}
+
+/// A number of 64 bits, as it is printed. Mostly it has fewer than eight digits, and then no call is made.
+#[inline(always)]
+pub fn number(text: &[u8], at: usize) -> Option<(u64, usize)>
+    requires { at ≤ length text.now }
+    ensures { IfSome result (λ r. StandsFrom (decimal r.0) text.now at r.1) }
+{
+    if text.len() - at < 8 {
+        return some_found(text, at, last_number(text, at));
+    }
+    let (n, few) = up_to_eight(text, at);
+    if few == 8 {
+        return some_found(text, at, long_number(text, at, n));
+    }
+    if few == 0 || !has_no_zeros(text, at, at + few) {
+        return None;
+    }
+    Some((n, at + few))
 }
 
 /// The largest integer of a width.
