@@ -1,12 +1,12 @@
 //! Integers in their compact form.
 
-ghost use Rattle.std.specs.Prelude.{◌≡◌, ◌≢◌, ◌≤◌, ◌<◌, ◌+◌, ◌-◌, ◌*◌, ◌^◌, length, decimal, true, false, IfSome, IsTrue, pos, get_or, if◌then◌else◌};
+ghost use Rattle.std.specs.Prelude.{◌≡◌, ◌≢◌, ◌∷◌, [], ◌≤◌, ◌<◌, ◌+◌, ◌-◌, ◌*◌, ◌^◌, length, decimal, true, false, IfSome, IsTrue, pos, get_or, if◌then◌else◌};
 ghost use Rattle.std.specs.Char.{digit_value, is_ascii_digit};
 ghost use Rattle.serde_json.specs.Written.{compact_text};
 ghost use Rattle.nt_types.specs.TreeData.{num};
 ghost use Rattle.nt_types.specs.Fits.{is_int};
 ghost use Rattle.nt_event.specs.Json.{data_of, InWord};
-ghost use Rattle.nt_event.specs.Standing.{StandsFrom};
+ghost use Rattle.nt_event.specs.Standing.{StandsFrom, CommaStands};
 ghost use Rattle.nt_event.specs.Eight.{DigitsStand};
 
 use crate::eight::up_to_eight;
@@ -151,6 +151,19 @@ fn some_found(text: &[u8], at: usize, found: (u64, usize)) -> Option<(u64, usize
     Some(found)
 }
 
+/// A number of fewer than eight digits.
+#[inline(always)]
+fn short_number(text: &[u8], at: usize) -> Option<(u64, usize)>
+    requires { at + 8 ≤ length text.now }
+    ensures { IfSome result (λ r. StandsFrom (decimal r.0) text.now at r.1) }
+{
+    let (n, few) = up_to_eight(text, at);
+    if few == 8 || few == 0 || !has_no_zeros(text, at, at + few) {
+        return None;
+    }
+    Some((n, at + few))
+}
+
 /// A number of 64 bits, as it is printed. Mostly it has fewer than eight digits, and then no call is made.
 #[inline(always)]
 pub fn number(text: &[u8], at: usize) -> Option<(u64, usize)>
@@ -198,6 +211,36 @@ pub fn unsigned_integer(text: &[u8], at: usize, bits: u8) -> Option<(u64, usize)
 {
     let most = most(bits, false)?;
     let (n, end) = number(text, at)?;
+    if n > most {
+        return None;
+    }
+    Some((n, end))
+}
+
+/// Passes a comma.
+#[inline(always)]
+fn is_comma(text: &[u8], at: usize) -> bool
+    requires { at < length text.now }
+    ensures { IsTrue result → StandsFrom (44 ∷ []) text.now at (at + 1) }
+{
+    text[at] == b','
+}
+
+/// An integer of a width without a sign right behind a comma, of fewer than eight digits, which isn't near the end of the text.
+/// Nearly every item of a list is one, and is found by one test of the text's length.
+#[inline(always)]
+pub fn quick_item(text: &[u8], at: usize, bits: u8) -> Option<(u64, usize)>
+    requires { at ≤ length text.now }
+    ensures comma { IfSome result (λ r. CommaStands text.now at (at + 1)) }
+    ensures spells { IfSome result
+        (λ r. StandsFrom (compact_text (data_of (num (pos r.0)))) text.now (at + 1) r.1) }
+    ensures fits { IfSome result (λ r. is_int bits false (pos r.0) ≡ true) }
+{
+    if text.len() - at < 9 || !is_comma(text, at) {
+        return None;
+    }
+    let most = most(bits, false)?;
+    let (n, end) = short_number(text, at + 1)?;
     if n > most {
         return None;
     }

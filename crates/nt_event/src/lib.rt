@@ -12,8 +12,8 @@
 //! others beside them; [`spelled_trees_are_read`] says that what they spell is what `read_line` reads.
 //!
 //! Choices that bind nobody else: digits are read eight at once, by one word (`eight.rt`), since most of a line's bytes are
-//! digits; byte by byte only near the end of a line. What reads a number without a sign is inlined whole, so that a loop over
-//! many of them makes no calls.
+//! digits; byte by byte only near the end of a line. What reads a number of fewer than eight digits is inlined whole, so that a loop
+//! over many of them makes no calls; [`quick_item`] reads one behind a comma by one test of the line's length.
 #![tactic(auto)]
 
 mod blanks;
@@ -36,7 +36,7 @@ mod values;
 pub use blanks::blank;
 pub use entry::read_line;
 pub use fault::{TextError, TextKind};
-pub use integers::{number, signed_integer, unsigned_integer};
+pub use integers::{number, quick_item, signed_integer, unsigned_integer};
 pub use laws::{lines_are_read_back, spelled_trees_are_read};
 pub use lines::{Line, LineError, LineReader};
 pub use marks::{after, after_blanks, comma, comma_if, null, truth};
