@@ -1,9 +1,12 @@
 -- Strings of bytes that stand for themselves.
-use Rattle.std.proofs.Common.{◌≡◌, ◌+◌, ◌-◌, ◌*◌, ◌≤◌, ◌<◌, ℕ, zero, suc, Bool, true, false, cond, eqb, ltb, List, [], ◌∷◌, ◌++◌}
-use Rattle.std.proofs.Common.{map, length, take, drop, replicate, refl, ap, ◌∙◌, arith, take-add}
+use Rattle.std.proofs.Common.{◌≡◌, ◌+◌, ◌-◌, ◌*◌, ◌%◌, ◌^◌, ◌≤◌, ◌<◌, ℕ, zero, suc, Bool, true, false, cond, not, eqb, ltb, List, [], ◌∷◌, ◌++◌}
+use Rattle.std.proofs.Common.{map, length, take, drop, replicate, refl, ap, sym, subst, ◌∙◌, arith, take-add}
 use Rattle.std.proofs.lemmas.Bool.{eqb-false, ltb-false, leb-false}
-use Rattle.std.proofs.lemmas.List.{drop-drop}
-use Rattle.std.specs.List.{slice_range}
+use Rattle.std.proofs.lemmas.List.{drop-drop, length-map}
+use Rattle.std.proofs.lemmas.List.Sums.{prefix_len-le-length}
+use Rattle.std.proofs.lemmas.Simd.{mask_l-mod, trailing_mask_l}
+use Rattle.std.specs.Int.Count.{count_trailing_zeros}
+use Rattle.std.specs.List.{slice_range, prefix_len}
 use Rattle.std.proofs.lemmas.Nat.{le_or_l, le_or_r}
 use Rattle.std.specs.Int.Bits.{bit_or}
 use lib.Lanes.{mask_l, top, zip2}
@@ -63,6 +66,40 @@ plain-unmasked (suc n) (x ∷ xs) long none =
     let head = bit_or (bit_or (lane (eqb x 34)) (lane (eqb x 92))) (lane (ltb x 32)) in
     let p = no-top (top 7 head) (mask_l (map (top 7) (stop_lanes n xs))) none in
     (plain-lane x (leb-false 128 head p.0), plain-unmasked n xs (omega (arith, long)) p.1)
+
+-- the bytes before the first lane that has its highest bit
+pub plain-before : (n : ℕ) (xs : List ℕ) → length xs ≡ n → AllPlain (take (prefix_len (λ x. not (top 7 x)) (stop_lanes n xs)) xs)
+plain-before n [] long = tt
+plain-before zero (x ∷ xs) long = absurd (omega (arith, long))
+plain-before (suc n) (x ∷ xs) long =
+    let head = bit_or (bit_or (lane (eqb x 34)) (lane (eqb x 92))) (lane (ltb x 32)) in
+    go (plain-before n xs (omega (arith, long))) (top 7 head) refl
+  where
+    go : AllPlain (take (prefix_len (λ y. not (top 7 y)) (stop_lanes n xs)) xs) → (b : Bool) → top 7 (bit_or (bit_or (lane (eqb x 34)) (lane (eqb x 92))) (lane (ltb x 32))) ≡ b
+        → AllPlain (take (cond (not b) (1 + prefix_len (λ y. not (top 7 y)) (stop_lanes n xs)) 0) (x ∷ xs))
+    go others true is = tt
+    go others false is =
+        let count = prefix_len (λ y. not (top 7 y)) (stop_lanes n xs) in
+        let next : suc count ≡ 1 + count = omega arith in
+        subst (λ k. AllPlain (take k (x ∷ xs))) next (plain-lane x (leb-false 128 _ is), others)
+
+-- the lowest bit that is set, where one is, is behind bytes that are plain
+pub stops-before : (xs : List ℕ) → length xs ≡ 8 → (mask_l (map (top 7) (stop_lanes 8 xs)) % 2 ^ 64 ≡ 0 → ⊥)
+    → (count_trailing_zeros 64 (mask_l (map (top 7) (stop_lanes 8 xs)) % 2 ^ 64) ≤ 8)
+    × AllPlain (take (count_trailing_zeros 64 (mask_l (map (top 7) (stop_lanes 8 xs)) % 2 ^ 64)) xs)
+stops-before xs long set =
+    let lanes = stop_lanes 8 xs in
+    let all = lanes-length 8 xs long in
+    let few : length (map (top 7) lanes) ≤ 64 = omega (arith, length-map lanes (top 7), all) in
+    let same = mask_l-mod (map (top 7) lanes) 64 few in
+    let some : 0 < mask_l (map (top 7) lanes) = pos-of (mask_l (map (top 7) lanes)) (λ none. set (same ∙ none)) in
+    let first = ap (λ m. count_trailing_zeros 64 m) same ∙ trailing_mask_l (top 7) 64 lanes (omega (arith, all)) some in
+    let most = prefix_len-le-length (λ x. not (top 7 x)) lanes in
+    (omega (arith, first, most, all), subst (λ k. AllPlain (take k xs)) (sym first) (plain-before 8 xs long))
+  where
+    pos-of : (n : ℕ) → (n ≡ 0 → ⊥) → 0 < n
+    pos-of zero other = absurd (other refl)
+    pos-of (suc n) other = omega arith
 
 pub plain-append : (xs zs : List ℕ) → AllPlain xs → AllPlain zs → AllPlain (xs ++ zs)
 plain-append [] zs h k = k

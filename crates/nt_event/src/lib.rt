@@ -13,7 +13,8 @@
 //!
 //! Choices that bind nobody else: digits are read eight at once, by one word (`eight.rt`), since most of a line's bytes are
 //! digits; byte by byte only near the end of a line. What reads a number of fewer than eight digits is inlined whole, so that a loop
-//! over many of them makes no calls; [`quick_item`] reads one behind a comma by one test of the line's length.
+//! over many of them makes no calls; [`quick_item`] reads one behind a comma by one test of the line's length. The bytes of a string
+//! are looked at eight at once too, up to the first that doesn't stand for itself.
 #![tactic(auto)]
 
 mod blanks;

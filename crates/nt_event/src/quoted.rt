@@ -1,6 +1,6 @@
 //! Strings as they stand in JSON.
 
-ghost use Rattle.std.specs.Prelude.{◌≡◌, ◌++◌, ◌+◌, ◌≤◌, length, IfOk, IfSome, IsTrue, OnOk};
+ghost use Rattle.std.specs.Prelude.{◌≡◌, ◌++◌, ◌+◌, ◌≤◌, length, take, IfOk, IfSome, IsTrue, OnOk};
 ghost use Rattle.std.specs.List.{slice_range};
 ghost use Rattle.std.specs.Char.{encode_utf8};
 ghost use Rattle.hex.specs.Hex.{IsBytes};
@@ -24,27 +24,33 @@ fn is_plain(byte: u8) -> bool
     byte >= 32 && byte != b'"' && byte != b'\\'
 }
 
-/// A bit for each byte that doesn't stand for itself.
+/// How many of eight bytes stand for themselves before the first that doesn't.
 #[inline(always)]
-fn stops(bytes: u8x8) -> u64
-    ensures { result ≡ 0 → AllPlain bytes }
+fn plain_of(bytes: u8x8) -> usize
+    ensures few { result ≤ 8 }
+    ensures plain { AllPlain (take result bytes) }
 {
-    (bytes.simd_eq(u8x8::splat(b'"'))
+    let stops = (bytes.simd_eq(u8x8::splat(b'"'))
         | bytes.simd_eq(u8x8::splat(b'\\'))
-        | bytes.simd_lt(u8x8::splat(32))).to_bitmask()
+        | bytes.simd_lt(u8x8::splat(32))).to_bitmask();
+    if stops == 0 {
+        8
+    } else {
+        stops.trailing_zeros() as usize
+    }
 }
 
-/// The end of bytes that stand for themselves, eight at a time.
-#[inline(always)]
-fn plain_eights(text: &[u8], at: usize) -> usize
-    requires { at ≤ length text.now }
+/// The end of bytes that stand for themselves, behind those that are known.
+fn plain_last(text: &[u8], at: usize, from: usize) -> usize
+    requires order { (at ≤ from) × (from ≤ length text.now) }
+    requires known { AllPlain (slice_range text.now at from) }
     ensures low { at ≤ result }
     ensures high { result ≤ length text.now }
     ensures plain { AllPlain (slice_range text.now at result) }
 {
-    let mut i = at;
-    while text.len() - i >= 8 && stops(u8x8::from_slice(&text[i..])) == 0 {
-        i += 8;
+    let mut i = from;
+    while i < text.len() && is_plain(text[i]) {
+        i += 1;
     }
     i
 }
@@ -56,11 +62,15 @@ pub(crate) fn plain_end(text: &[u8], at: usize) -> usize
     ensures high { result ≤ length text.now }
     ensures plain { AllPlain (slice_range text.now at result) }
 {
-    let mut i = plain_eights(text, at);
-    while i < text.len() && is_plain(text[i]) {
-        i += 1;
+    let mut i = at;
+    while text.len() - i >= 8 {
+        let count = plain_of(u8x8::from_slice(&text[i..]));
+        i += count;
+        if count < 8 {
+            return i;
+        }
     }
-    i
+    plain_last(text, at, i)
 }
 
 /// Appends the bytes of a character.

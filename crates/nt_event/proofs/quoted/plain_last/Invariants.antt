@@ -1,7 +1,7 @@
 use Rattle.std.proofs.Common.{length, ◌-◌, ◌≤◌}
 use Rattle.std.specs.List.{slice_range}
 use Rattle.nt_event.specs.Plain.{AllPlain}
-use Rattle.nt_event.proofs.quoted.plain_eights.Given as goal
+use Rattle.nt_event.proofs.quoted.plain_last.Given as goal
 
 abbrev pub invariant-loop-i : goal.invariant-loop-i
 invariant-loop-i l = record {
