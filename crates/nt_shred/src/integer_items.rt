@@ -1,14 +1,15 @@
 //! Integers, one and the items of a list.
 
-ghost use Rattle.std.specs.Prelude.{◌≡◌, ◌-◌, ◌≤◌, length, true, false, IfSome};
+ghost use Rattle.std.specs.Prelude.{◌≡◌, ◌+◌, ◌-◌, ◌≤◌, length, true, false, IfSome};
 ghost use Rattle.nt_types.specs.Spelling.{is_width};
+ghost use Rattle.nt_event.specs.Standing.{CommaStands};
 ghost use Rattle.nt_plans.specs.Plan.{number};
 ghost use Rattle.nt_shred.specs.Places.{TakesIntegers};
 ghost use Rattle.nt_shred.specs.Walk.{CanPut, ElementStands, PutsAll, Leaves, LeavesIn};
 
 use crate::integers::signed_element;
 use nt_column::{ColumnBuf, ColumnSet};
-use nt_event::{after, comma, signed_integer, unsigned_integer};
+use nt_event::{after, comma, quick_item, signed_integer, unsigned_integer};
 
 /// The element of an integer that stands at a place, and its end.
 #[inline(always)]
@@ -26,6 +27,21 @@ pub(crate) fn element_at(line: &[u8], at: usize, bits: u8, signed: bool) -> Opti
     }
 }
 
+/// The element of the next integer of a list, right behind a comma, where that is quickly read.
+#[inline(always)]
+fn quick_element(line: &[u8], at: usize, bits: u8, signed: bool) -> Option<(u64, usize)>
+    requires within { at ≤ length line.now }
+    requires width { is_width bits ≡ true }
+    ensures comma { IfSome result (λ r. CommaStands line.now at (at + 1)) }
+    ensures element { IfSome result (λ r. ElementStands bits signed r.0 line.now (at + 1) r.1) }
+{
+    if signed {
+        return None;
+    }
+    let (value, end) = quick_item(line, at, bits)?;
+    Some((value, end))
+}
+
 /// Adds integers to a column, the items of a list that has some, up to its bracket. Inlined, so that a loop has one width and
 /// one sign alone.
 #[inline(always)]
@@ -37,6 +53,10 @@ fn items(column: &mut ColumnBuf, bits: u8, signed: bool, line: &[u8], at: usize)
     let (first, end) = element_at(line, at, bits, signed)?;
     column.push_at_width(bits, first);
     let mut i = end;
+    while let Some((quick, end)) = quick_element(line, i, bits, signed) {
+        column.push_at_width(bits, quick);
+        i = end;
+    }
     while let Some(next) = comma(line, i) {
         let (value, end) = element_at(line, next, bits, signed)?;
         column.push_at_width(bits, value);
