@@ -1,9 +1,6 @@
 pub mod ReadBack
 pub mod TreeBack
-pub mod Digits
-pub mod WordDigits
-pub mod WordMarks
-pub mod WordNumber
+pub mod Decimals
 pub mod Plain
 pub mod Lexing
 pub mod InStrings

@@ -1,5 +1,6 @@
 -- Strings of bytes that stand for themselves.
-use Rattle.std.proofs.Common.{◌≡◌, ◌+◌, ◌-◌, ◌*◌, ◌%◌, ◌^◌, ◌≤◌, ◌<◌, ℕ, zero, suc, Bool, true, false, cond, not, eqb, ltb, List, [], ◌∷◌, ◌++◌}
+use Rattle.std.proofs.Common.{◌≡◌, ◌+◌, ◌-◌, ◌*◌, ◌%◌, ◌^◌, ◌≤◌, ◌<◌, ℕ, zero, suc, Bool, true, false, cond, not, eqb, ltb, List, []}
+use Rattle.std.proofs.Common.{◌∷◌, ◌++◌}
 use Rattle.std.proofs.Common.{map, length, take, drop, replicate, refl, ap, sym, subst, ◌∙◌, arith, take-add}
 use Rattle.std.proofs.lemmas.Bool.{eqb-false, ltb-false, leb-false}
 use Rattle.std.proofs.lemmas.List.{drop-drop, length-map}
@@ -75,7 +76,8 @@ plain-before (suc n) (x ∷ xs) long =
     let head = bit_or (bit_or (lane (eqb x 34)) (lane (eqb x 92))) (lane (ltb x 32)) in
     go (plain-before n xs (omega (arith, long))) (top 7 head) refl
   where
-    go : AllPlain (take (prefix_len (λ y. not (top 7 y)) (stop_lanes n xs)) xs) → (b : Bool) → top 7 (bit_or (bit_or (lane (eqb x 34)) (lane (eqb x 92))) (lane (ltb x 32))) ≡ b
+    go : AllPlain (take (prefix_len (λ y. not (top 7 y)) (stop_lanes n xs)) xs) → (b : Bool)
+        → top 7 (bit_or (bit_or (lane (eqb x 34)) (lane (eqb x 92))) (lane (ltb x 32))) ≡ b
         → AllPlain (take (cond (not b) (1 + prefix_len (λ y. not (top 7 y)) (stop_lanes n xs)) 0) (x ∷ xs))
     go others true is = tt
     go others false is =

@@ -3,7 +3,6 @@ pub mod Json
 pub mod Line
 pub mod Plain
 pub mod Standing
-pub mod Eight
 pub mod Entry
 pub mod Lines
 pub mod LineParts

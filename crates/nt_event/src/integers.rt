@@ -1,86 +1,16 @@
 //! Integers in their compact form.
 
-ghost use Rattle.std.specs.Prelude.{◌≡◌, ◌≢◌, ◌∷◌, [], ◌≤◌, ◌<◌, ◌+◌, ◌-◌, ◌*◌, ◌^◌, length, decimal, true, false, IfSome, IsTrue, pos, get_or, if◌then◌else◌};
+ghost use Rattle.std.specs.Prelude.{◌≡◌, ◌≢◌, ◌∷◌, [], ◌≤◌, ◌<◌, ◌+◌, ◌-◌, ◌*◌, ◌^◌, length, decimal, true, false, IfSome, IsTrue, pos, if◌then◌else◌};
 ghost use Rattle.std.specs.Char.{digit_value, is_ascii_digit};
 ghost use Rattle.serde_json.specs.Written.{compact_text};
 ghost use Rattle.nt_types.specs.TreeData.{num};
 ghost use Rattle.nt_types.specs.Fits.{is_int};
 ghost use Rattle.nt_event.specs.Json.{data_of, InWord};
 ghost use Rattle.nt_event.specs.Standing.{StandsFrom, CommaStands};
-ghost use Rattle.nt_event.specs.Eight.{DigitsStand};
+ghost use Rattle.nt_digits.specs.Digits.{DigitsStand};
 
-use crate::eight::up_to_eight;
 use crate::marks::after;
-
-/// No zero stands before other digits.
-#[inline(always)]
-fn has_no_zeros(text: &[u8], at: usize, end: usize) -> bool
-    requires { (at < end) × (end ≤ length text.now) }
-    ensures { IsTrue result → get_or text.now at 0 ≡ 48 → end ≤ at + 1 }
-{
-    text[at] != b'0' || end - at == 1
-}
-
-/// The end of at most 19 digits, and their number, behind those that are known.
-fn digits_behind(text: &[u8], at: usize, from: usize, before: u64) -> (u64, usize)
-    requires { DigitsStand text.now at from before }
-    ensures { DigitsStand text.now at result.1 result.0 }
-{
-    let mut n = before;
-    let mut i = from;
-    while i < text.len() && i - at < 19 && text[i].is_ascii_digit() {
-        n = n * 10 + u64::from(text[i] - b'0');
-        i += 1;
-    }
-    (n, i)
-}
-
-/// The powers of ten up to the eighth.
-const TENS: [u64; 9] = [
-    1,
-    10,
-    100,
-    1_000,
-    10_000,
-    100_000,
-    1_000_000,
-    10_000_000,
-    100_000_000,
-];
-
-/// A power of ten.
-#[inline(always)]
-fn ten_to(exponent: usize) -> u64
-    requires { exponent ≤ 8 }
-    ensures { result ≡ 10 ^ exponent }
-{
-    TENS[exponent]
-}
-
-/// The end of at most 19 digits, and their number, where the first eight are known.
-fn digits_behind_eight(text: &[u8], at: usize, first: u64) -> (u64, usize)
-    requires { DigitsStand text.now at (at + 8) first }
-    ensures { DigitsStand text.now at result.1 result.0 }
-{
-    let i = at + 8;
-    if text.len() - i < 8 {
-        return digits_behind(text, at, i, first);
-    }
-    let (next, some) = up_to_eight(text, i);
-    let n = first * ten_to(some) + next;
-    let j = i + some;
-    if some < 8 {
-        return (n, j);
-    }
-    if text.len() - j < 8 {
-        return digits_behind(text, at, j, n);
-    }
-    let (last, few) = up_to_eight(text, j);
-    if few > 3 {
-        return digits_behind(text, at, j, n);
-    }
-    (n * ten_to(few) + last, j + few)
-}
+use nt_digits::{digits_behind, digits_behind_eight, has_no_zeros, up_to_eight};
 
 /// A number of 64 bits and one digit more, where 64 bits hold it.
 fn then_digit(n: u64, byte: u8) -> Option<u64>

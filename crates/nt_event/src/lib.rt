@@ -11,14 +11,13 @@
 //! Who reads values in another way takes their pieces from [`after`], [`comma`], [`unsigned_integer`], [`plain_string`] and the
 //! others beside them; [`spelled_trees_are_read`] says that what they spell is what `read_line` reads.
 //!
-//! Choices that bind nobody else: digits are read eight at once, by one word (`eight.rt`), since most of a line's bytes are
+//! Choices that bind nobody else: digits are read eight at once (nt_digits), since most of a line's bytes are
 //! digits; byte by byte only near the end of a line. What reads a number of fewer than eight digits is inlined whole, so that a loop
 //! over many of them makes no calls; [`quick_item`] reads one behind a comma by one test of the line's length. The bytes of a string
 //! are looked at eight at once too, up to the first that doesn't stand for itself.
 #![tactic(auto)]
 
 mod blanks;
-mod eight;
 mod entry;
 mod escapes;
 mod fault;

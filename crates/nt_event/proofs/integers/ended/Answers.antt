@@ -1,7 +1,8 @@
 use Rattle.std.proofs.Common.{◌<◌, ◌+◌, ◌*◌, get_or, decimal, length, refl, sym, ap, ◌∙◌, subst, arith}
 use Rattle.std.specs.Char.{digit_value}
 use Rattle.nt_event.specs.Standing.{StandsFrom}
-use Rattle.nt_event.proofs.Digits.{few-small, printed, printed-next}
+use Rattle.nt_digits.proofs.Digits.{few-small}
+use Rattle.nt_event.proofs.Decimals.{printed, printed-next}
 use Rattle.nt_event.proofs.integers.ended.Goals as goal
 
 pub returns-then-end-at-lt19 : goal.returns-then-end-at-lt19

@@ -1,6 +1,7 @@
 use Rattle.std.proofs.Common.{◌<◌, ◌+◌, decimal, refl, sym, subst, arith}
 use Rattle.nt_event.specs.Standing.{StandsFrom}
-use Rattle.nt_event.proofs.Digits.{few-small, first-digits, printed}
+use Rattle.nt_digits.proofs.Digits.{few-small, first-digits}
+use Rattle.nt_event.proofs.Decimals.{printed}
 use Rattle.nt_event.proofs.integers.short_number.Goals as goal
 
 pub returns : goal.returns

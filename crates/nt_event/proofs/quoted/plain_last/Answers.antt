@@ -1,6 +1,6 @@
 use Rattle.std.proofs.Common.{arith, sym, subst}
 use Rattle.nt_event.specs.Plain.{AllPlain}
-use Rattle.nt_event.proofs.Digits.{range-next}
+use Rattle.nt_digits.proofs.Digits.{range-next}
 use Rattle.nt_event.proofs.Plain.{plain-next}
 use Rattle.nt_event.proofs.quoted.plain_last.Goals as goal
 

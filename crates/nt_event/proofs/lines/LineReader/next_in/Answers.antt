@@ -3,7 +3,7 @@ use Rattle.std.specs.List.{slice_range}
 use Rattle.std.proofs.KnownBytes.{Consumes-kept}
 use Rattle.nt_event.specs.Lines.{lines_state}
 use Rattle.nt_event.specs.LineParts.{TakesMore}
-use Rattle.nt_event.proofs.Digits.{range-length}
+use Rattle.nt_digits.proofs.Digits.{range-length}
 use Rattle.nt_event.proofs.LineSteps.{more_left, gives_err, next_line}
 use Rattle.nt_event.proofs.lines.LineReader.next_in.Goals as goal
 

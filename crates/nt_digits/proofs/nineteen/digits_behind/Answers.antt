@@ -1,8 +1,8 @@
 use Rattle.std.proofs.Common.{◌≡◌, ◌+◌, ◌*◌, get_or, arith, sym, ap, ◌∙◌, subst}
 use Rattle.std.specs.List.{slice_range}
 use Rattle.std.specs.Str.Parse.{AllDigits, digits_value}
-use Rattle.nt_event.proofs.Digits.{range-next, range-length, value-next, digits-next, value-short, digit-range}
-use Rattle.nt_event.proofs.integers.digits_behind.Goals as goal
+use Rattle.nt_digits.proofs.Digits.{range-next, range-length, value-next, digits-next, value-short, digit-range}
+use Rattle.nt_digits.proofs.nineteen.digits_behind.Goals as goal
 
 pub overflow_mul-n : goal.overflow_mul-n
 overflow_mul-n c =

@@ -1,13 +1,14 @@
 use Rattle.std.proofs.Common.{◌≡◌, ◌≤◌, ◌+◌, ◌*◌, ◌^◌, ℕ, List, length, sym, subst, arith}
 use Rattle.std.specs.List.{slice_range}
 use Rattle.std.specs.Str.Parse.{AllDigits, digits_value}
-use Rattle.nt_event.specs.Eight.{DigitsStand}
-use Rattle.nt_event.proofs.Digits.{more-digits, few-small}
-use Rattle.nt_event.proofs.integers.digits_behind_eight.Goals as goal
+use Rattle.nt_digits.specs.Digits.{DigitsStand}
+use Rattle.nt_digits.proofs.Digits.{more-digits, few-small}
+use Rattle.nt_digits.proofs.nineteen.digits_behind_eight.Goals as goal
 
 -- digits that were read behind others, where these are raised by a power of ten
 more-read : (xs : List ℕ) (at i k n m t : ℕ) → DigitsStand xs at i n → AllDigits 10 (slice_range xs i (i + k))
-    → m ≡ digits_value 10 (slice_range xs i (i + k)) → i + k ≤ length xs → i + k ≤ at + 19 → t ≡ 10 ^ k → DigitsStand xs at (i + k) (n * t + m)
+    → m ≡ digits_value 10 (slice_range xs i (i + k)) → i + k ≤ length xs → i + k ≤ at + 19 → t ≡ 10 ^ k
+    → DigitsStand xs at (i + k) (n * t + m)
 more-read xs at i k n m t start digits value within few ten =
     subst (λ j. DigitsStand xs at (i + k) (n * j + m)) (sym ten) (more-digits xs at i k n m start digits value within few)
 
@@ -18,7 +19,8 @@ next : (xs : List ℕ) (at k n m t : ℕ) → DigitsStand xs at (at + 8) n → A
 next xs at k n m t start digits value few within ten =
     more-read xs at (at + 8) k n m t start digits value (omega (arith, few, within)) (omega (arith, few)) ten
 
-last : (c : goal.After-ten_to-2) → DigitsStand c.args.text.now c.args.at (c.args.at + 8 + c.up_to_eight-next.result.1 + c.up_to_eight-last.result.1)
+last : (c : goal.After-ten_to-2)
+    → DigitsStand c.args.text.now c.args.at (c.args.at + 8 + c.up_to_eight-next.result.1 + c.up_to_eight-last.result.1)
     ((c.args.first * c.ten_to.result + c.up_to_eight-next.result.0) * c.ten_to-2.result + c.up_to_eight-last.result.0)
 last c =
     let e = c.up_to_eight-next.ensures in

@@ -6,8 +6,8 @@ use Rattle.std.proofs.lemmas.Nat.{and_block, and_mask, and_le_r, le_or_l, le_or_
 use Rattle.std.proofs.lemmas.Nat.{div-add-mod', trailing_le}
 use lib.Count.{count_trailing_zeros, under}
 use Rattle.std.specs.Int.Bits.{bit_and, bit_or}
-use Rattle.nt_event.specs.Eight.{low_first, AreDigits}
-use Rattle.nt_event.proofs.WordDigits.{AllBytes, size, size-suc, low-part, take-bytes, drop-bytes, are-bytes, EightRead, eight-read}
+use Rattle.nt_digits.specs.Digits.{low_first, AreDigits}
+use Rattle.nt_digits.proofs.WordDigits.{AllBytes, size, size-suc, low-part, take-bytes, drop-bytes, are-bytes, EightRead, eight-read}
 
 -- 128 in each of so many bytes, below the rest of a number
 abbrev pub highest : ℕ → ℕ → ℕ

@@ -1,6 +1,6 @@
 use Rattle.std.proofs.Common.{◌/◌, ◌%◌, arith, refl}
-use Rattle.nt_event.proofs.WordNumber.{eight-spell}
-use Rattle.nt_event.proofs.eight.number_of.Goals as goal
+use Rattle.nt_digits.proofs.WordNumber.{eight-spell}
+use Rattle.nt_digits.proofs.eight.number_of.Goals as goal
 
 pub returns : goal.returns
 returns c =

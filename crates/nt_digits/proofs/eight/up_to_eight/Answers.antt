@@ -1,6 +1,6 @@
 use Rattle.std.proofs.Common.{◌∙◌, arith}
-use Rattle.nt_event.proofs.WordMarks.{read-to-mark}
-use Rattle.nt_event.proofs.eight.up_to_eight.Goals as goal
+use Rattle.nt_digits.proofs.WordMarks.{read-to-mark}
+use Rattle.nt_digits.proofs.eight.up_to_eight.Goals as goal
 
 pub number_of-requires : goal.number_of-requires
 number_of-requires c = (read-to-mark c.args.text.now c.args.at c.word_at-bytes.result c.marks.result c.requires

@@ -8,7 +8,7 @@ use Rattle.std.proofs.lemmas.Str.{digit_value_digit}
 use Rattle.std.specs.List.{slice_range}
 use Rattle.std.specs.Char.{digit_value}
 use Rattle.std.specs.Str.Parse.{AllDigits, digits_value_after, digits_value}
-use Rattle.nt_event.specs.Eight.{low_first, AreDigits, number_behind}
+use Rattle.nt_digits.specs.Digits.{low_first, AreDigits, number_behind}
 
 -- so many digits zero
 abbrev pub nulls : ℕ → List ℕ

@@ -3,7 +3,7 @@
 ghost use Rattle.std.specs.Prelude.{◌≡◌, ◌≤◌, ◌+◌, ◌*◌, ◌%◌, ◌^◌, ℕ, length, take, drop};
 ghost use Rattle.std.specs.List.{slice_range};
 ghost use Rattle.std.specs.Str.Parse.{AllDigits, digits_value};
-ghost use Rattle.nt_event.specs.Eight.{low_first, AreDigits, number_behind};
+ghost use Rattle.nt_digits.specs.Digits.{low_first, AreDigits, number_behind};
 
 use std::simd::prelude::*;
 

@@ -1,0 +1,4 @@
+pub mod Digits
+pub mod WordDigits
+pub mod WordMarks
+pub mod WordNumber

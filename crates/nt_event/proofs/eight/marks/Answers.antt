@@ -1,5 +1,0 @@
-use Rattle.nt_event.proofs.WordMarks.{unmarked}
-use Rattle.nt_event.proofs.eight.marks.Goals as goal
-
-pub returns : goal.returns
-returns c = λ k most none. unmarked k c.args.word most none
