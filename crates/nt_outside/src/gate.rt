@@ -1,6 +1,6 @@
 //! Places of a writing context at which a test can make it wait.
 
-/// A place in the writing of a cluster.
+/// A place in the writing of a cluster, and in the publishing of all that a context staged.
 #[derive(Clone, Copy, Debug, PartialEq, Eq)]
 pub enum Point {
     /// The cluster is built, and has no place in the file yet.
@@ -9,6 +9,10 @@ pub enum Point {
     Filling,
     /// Its bytes stand in their place.
     Settled,
+    /// All staged clusters of the context stand in their places, and none is published yet.
+    BeforePublish,
+    /// They are published, all together.
+    Published,
 }
 
 /// What a context calls at each point. It promises nothing.

@@ -78,10 +78,10 @@ impl Gate for Counting {
                     self.over.fetch_add(1, Ordering::SeqCst);
                 }
             }
-            Point::Filling => {}
             Point::Settled => {
                 self.between.fetch_sub(1, Ordering::SeqCst);
             }
+            Point::Filling | Point::BeforePublish | Point::Published => {}
         }
         self.holds.at(context, point);
     }
@@ -121,7 +121,7 @@ impl Gate for Meeting {
         match point {
             Point::BeforeCommit => self.meet(&self.before),
             Point::Filling => self.meet(&self.filling),
-            Point::Settled => {}
+            Point::Settled | Point::BeforePublish | Point::Published => {}
         }
     }
 }

@@ -4,7 +4,7 @@ use nt_outside::{Gate, Point};
 use std::sync::atomic::{AtomicU64, Ordering};
 
 /// A gate that lets contexts commit in this order, if it has any: each waits, for a number of looks, until the clusters before its own
-/// have been settled. It keeps a digit for each call: 1 to 3 for the points of context 0, and 9 for those of others.
+/// have been settled. It keeps a digit for each call: 1 to 5 for the points of context 0, and 9 for those of others.
 #[derive(Drop)]
 pub struct Points<'a> {
     order: &'a [u32],
@@ -54,14 +54,16 @@ impl<'a> Gate for Points<'a> {
             Point::BeforeCommit => 1,
             Point::Filling => 2,
             Point::Settled => 3,
+            Point::BeforePublish => 4,
+            Point::Published => 5,
         };
         self.keep(if context == 0 { digit } else { 9 });
         match point {
             Point::BeforeCommit => self.wait_for(context),
-            Point::Filling => {}
             Point::Settled => {
                 self.settled.fetch_add(1, Ordering::SeqCst);
             }
+            Point::Filling | Point::BeforePublish | Point::Published => {}
         }
     }
 }
