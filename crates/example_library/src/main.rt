@@ -62,7 +62,7 @@ fn write<R: Threads + Wait + Sync>(
     let Some(limits) = Limits::new(1 << 30, 1 << 40, u32::MAX) else {
         return Err(Failure::Writing);
     };
-    let Some(params) = Params::new(2, 4096, 1000, false, limits) else {
+    let Some(params) = Params::new(2, 4096, 1000, false, false, limits) else {
         return Err(Failure::Writing);
     };
     let Ok(fields) = parse_schema(alloc, SCHEMA) else {

@@ -30,6 +30,7 @@ default_params = record {
   page = 4096;
   group = 1000;
   plain = false;
+  staged = false;
   limits = record { range = 2 ^ 30; file = 2 ^ 40; clusters = 2 ^ 32 - 1; range_bound = omega arith; file_bound = omega arith };
   cluster_range = (omega arith, omega arith);
   page_range = (omega arith, omega arith);
@@ -43,7 +44,7 @@ nothing_gained p m w = record { printed = []; left = made_lines p m; out = sym (
 pub memory_makes : (out : List ℕ) (m : Making) (state : HostState) → GenNamed out m state state status.Memory
 memory_makes out m state = record {
   p = default_params;
-  defaults = record { cluster = refl; page = refl; group = refl; plain = refl; range = refl; file = refl; clusters = refl };
+  defaults = record { cluster = refl; page = refl; group = refl; plain = refl; staged = refl; range = refl; file = refl; clusters = refl };
   made = Err generate.Memory;
   answer_is = refl;
   generates = record {

@@ -29,12 +29,13 @@ status_of_generate (Err (generate.Limit reached limit)) = status.Limit reached l
 status_of_generate (Err (generate.Defect fault)) = status.File fault
 
 -- how a file is written where no words say it: 10000 entries a cluster, 4096 elements a page, 1000 clusters a group, at most 2^30 bytes a
--- range and 2^40 the file
+-- range and 2^40 the file, and no cluster is staged
 pub record AreDefaults (p : Params) : Type 0 where
   pub cluster : p.cluster ≡ 10000
   pub page : p.page ≡ 4096
   pub group : p.group ≡ 1000
   pub plain : p.plain ≡ false
+  pub staged : p.staged ≡ false
   pub range : p.limits.range ≡ 2 ^ 30
   pub file : p.limits.file ≡ 2 ^ 40
   pub clusters : p.limits.clusters ≡ 2 ^ 32 - 1

@@ -33,7 +33,7 @@ fn default_params() -> Params
     let Some(limits) = Limits::new(1 << 30, 1 << 40, u32::MAX) else {
         unreachable!()
     };
-    match Params::new(10_000, 4096, 1000, false, limits) {
+    match Params::new(10_000, 4096, 1000, false, false, limits) {
         Some(params) => params,
         None => unreachable!(),
     }

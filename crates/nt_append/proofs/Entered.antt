@@ -1,5 +1,5 @@
 -- A cluster that is committed and handed back behind those of a history.
-use Rattle.std.proofs.Common.{◌≡◌, ◌∙◌, ap, sym, refl, ℕ, ◌+◌, ◌-◌, List, [], ◌∷◌, ◌++◌, length, None, Some, arith}
+use Rattle.std.proofs.Common.{◌≡◌, ◌∙◌, ap, sym, refl, ℕ, ◌+◌, ◌-◌, false, List, [], ◌∷◌, ◌++◌, length, None, Some, arith}
 use Rattle.std.specs.Prelude.{slice_get}
 use Rattle.std.proofs.Math.ListN.{set}
 use Rattle.nt_machine.specs.declared.entry.Entry.{Entry}
@@ -7,8 +7,9 @@ use Rattle.nt_machine.specs.History.{Cluster, Out, Settled, ranges_of}
 use Rattle.nt_machine.specs.Legal.{IsOut, IsAllowed, IsLegal, end_after}
 use Rattle.nt_machine.proofs.Legality.{ranges_of-snoc, ranges_of-back, IsLegalAfter-snoc, end_after-snoc}
 use Rattle.nt_book.specs.declared.meta.ClusterMeta.{ClusterMeta}
-use Rattle.nt_book.specs.Books.{BookData, book_clusters, book_end}
+use Rattle.nt_book.specs.Books.{BookData, book_ranges, book_end}
 use Rattle.nt_book.specs.Entries.{committed_entry, settled_entry}
+use Rattle.nt_commit.proofs.Unstaged.{clusters-plain}
 use Rattle.nt_append.specs.Appending.{settled_cluster, GainsCluster}
 
 -- the item behind a list
@@ -52,7 +53,8 @@ module _ (history : List (Entry ClusterMeta)) (start : ℕ) (meta : ClusterMeta)
       ∙ set-behind (ranges_of history) cluster (settled_cluster n start meta))))
 
 -- a book into which it was entered
-module _ (book mid next : BookData) (meta : ClusterMeta) (n : ℕ) (is : n ≡ length (book_clusters book))
+module _ (book mid next : BookData) (meta : ClusterMeta) (n : ℕ) (is : n ≡ length (book_ranges book))
+    (plain : book.staged ≡ false)
     (legal : IsLegal book.begin book.history)
     (allowed : IsAllowed book.begin (ranges_of book.history) (committed_entry n (book_end book) meta))
     (first : mid ≡ record book { history = book.history ++ committed_entry n (book_end book) meta ∷ []; spare = book.spare - 1 })
@@ -65,19 +67,31 @@ module _ (book mid next : BookData) (meta : ClusterMeta) (n : ℕ) (is : n ≡ l
 
   pub gains : GainsCluster meta book next
   gains = record {
-    clusters = ap book_clusters next-is
+    clusters = clusters-plain next (ap (λ (b : BookData). b.staged) next-is ∙ plain)
+        ∙ (ap book_ranges next-is
         ∙ (clusters-settled book.history (book_end book) meta n is book.begin
         (IsLegalAfter-snoc book.begin [] book.history (committed_entry n (book_end book) meta) legal allowed)
-        ∙ ap (λ (k : ℕ). book_clusters book ++ settled_cluster k (book_end book) meta ∷ []) is);
+        ∙ (ap (λ (k : ℕ). book_ranges book ++ settled_cluster k (book_end book) meta ∷ []) is
+        ∙ ap (λ (cs : List (Cluster ClusterMeta)). cs ++ settled_cluster (length cs) (book_end book) meta ∷ [])
+        (sym (clusters-plain book plain)))));
     same = next-is ∙ ap (λ (b : BookData). record book { history = b.history; spare = b.spare }) (sym next-is);
   }
 
--- where a book ends that gained a cluster
-pub end-gained : (meta : ClusterMeta) (old new : BookData) → GainsCluster meta old new → book_end new ≡ book_end old + meta.len
-end-gained meta old new gains =
+-- a book that gained a cluster and isn't staged gained its range
+pub ranges-gained : (meta : ClusterMeta) (old new : BookData) → old.staged ≡ false → GainsCluster meta old new
+    → book_ranges new ≡ book_ranges old ++ settled_cluster (length (book_ranges old)) (book_end old) meta ∷ []
+ranges-gained meta old new plain gains =
+    sym (clusters-plain new (ap (λ (b : BookData). b.staged) gains.same ∙ plain))
+    ∙ (gains.clusters
+    ∙ ap (λ (cs : List (Cluster ClusterMeta)). cs ++ settled_cluster (length cs) (book_end old) meta ∷ []) (clusters-plain old plain))
+
+-- where it ends then
+pub end-gained : (meta : ClusterMeta) (old new : BookData) → old.staged ≡ false → GainsCluster meta old new
+    → book_end new ≡ book_end old + meta.len
+end-gained meta old new plain gains =
     omega (
       arith,
       ap (λ (b : BookData). book_end b) gains.same,
-      ap (λ (cs : List (Cluster ClusterMeta)). end_after old.begin cs) gains.clusters,
-      end_after-snoc old.begin (book_clusters old) (settled_cluster (length (book_clusters old)) (book_end old) meta),
+      ap (λ (cs : List (Cluster ClusterMeta)). end_after old.begin cs) (ranges-gained meta old new plain gains),
+      end_after-snoc old.begin (book_ranges old) (settled_cluster (length (book_ranges old)) (book_end old) meta),
     )

@@ -31,6 +31,7 @@ use Rattle.nt_finished.proofs.RangeParts.{length-range_parts}
 use Rattle.nt_append.specs.Appending.{GainsCluster, due_blobs, lists_with_due, settled_cluster, with_due_list}
 use Rattle.nt_append.proofs.Due.{due_note, blobs-due, blobs-none, lists-due, lists-none}
 use Rattle.nt_append.proofs.Beside.{with_lists, lists-same, range-more, list-more, group_part, parts-from, spans_len-ranges, last-beside}
+use Rattle.nt_commit.proofs.Unstaged.{clusters-plain, count-plain, group-plain}
 use Rattle.nt_append.proofs.Beside.{range_parts-more, index-front, noted-front, noted-last}
 
 pub times : (most : ℕ) (ls : List NotedList) → clusters_listed most ls ≡ length ls * most
@@ -51,6 +52,10 @@ module _ (t : Table) (most : ℕ) (book : BookData) (kept : IsBookKept book) (be
   pub listed-beside : clusters_listed most book.lists ≤ length (book_clusters book)
   listed-beside =
       subst (λ (g : Option (ℕ × ℕ)). clusters_listed (group_size g) book.lists ≤ length (book_clusters book)) beside.group kept.listed
+
+  -- the book isn't staged
+  pub plain-beside : book.staged ≡ false
+  plain-beside = group-plain book (most, header_sum t) kept beside.group
 
   placed-beside : AreBeside book.begin most book.lists (spans_of (ranges_of book.history))
   placed-beside =
@@ -91,8 +96,14 @@ module _ (t : Table) (most : ℕ) (book : BookData) (kept : IsBookKept book) (be
     due-place =
         let k = clusters_listed most book.lists + most - 1 in
         let last = last-beside book.begin most book.lists (ranges_of book.history) k placed-beside (omega (arith, some-beside))
-        (omega (arith, full-beside, some-beside)) in
-        omega (arith, last, spans_len-ranges (ranges_of book.history), ap torn_bytes beside.untorn)
+        (omega (arith, full-beside, some-beside, count-plain book plain-beside)) in
+        omega (
+          arith,
+          last,
+          spans_len-ranges (ranges_of book.history),
+          ap torn_bytes beside.untorn,
+          ap (λ (cs : List (Cluster ClusterMeta)). range_end (slice_index_or cs k no_cluster)) (clusters-plain book plain-beside),
+        )
 
     pub due-part : (group_part (header_sum t) book most (clusters_listed most book.lists)).bytes ≡ blob (book_end book) (due_object book)
     due-part =

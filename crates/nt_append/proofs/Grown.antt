@@ -1,7 +1,7 @@
 -- The parts of a file with one cluster more, or with columns more.
-use Rattle.std.proofs.Common.{◌≡◌, ◌∙◌, ◌⊎◌, inl, inr, ap, sym, refl, ℕ, zero, suc, ◌+◌, ◌*◌, ◌<◌, ◌≤◌, Bool, true, false, List, [], ◌∷◌}
+use Rattle.std.proofs.Common.{◌≡◌, ◌∙◌, ◌⊎◌, inl, inr, ap, sym, refl, ℕ, zero, suc, ◌+◌, ◌*◌, ◌<◌, Bool, true, false, List, [], ◌∷◌}
 use Rattle.std.proofs.Common.{◌++◌}
-use Rattle.std.proofs.Common.{map, length, take, arith, append_assoc, subst, Some}
+use Rattle.std.proofs.Common.{map, length, take, arith, append_assoc, subst}
 use Rattle.std.specs.Prelude.{slice_index_or}
 use Rattle.std.proofs.lemmas.List.{length-append, map-append, take-append-le}
 use Rattle.nt_lists.specs.Parts.{Part, part_bytes}
@@ -9,7 +9,7 @@ use Rattle.nt_grammar.specs.Table.{Table}
 use Rattle.nt_machine.specs.History.{Cluster, ranges_of}
 use Rattle.nt_book.specs.declared.list.NotedList.{NotedList}
 use Rattle.nt_book.specs.declared.meta.ClusterMeta.{ClusterMeta}
-use Rattle.nt_book.specs.Books.{BookData, book_clusters, book_end, is_due, no_cluster, noted_at}
+use Rattle.nt_book.specs.Books.{BookData, book_clusters, book_ranges, book_end, is_due, no_cluster, noted_at}
 use Rattle.nt_book.specs.Kept.{IsBookKept}
 use Rattle.nt_book.specs.Listing.{clusters_listed, no_noted}
 use Rattle.nt_book.proofs.Beside.{clusters_listed-more}
@@ -27,7 +27,9 @@ use Rattle.nt_append.proofs.Due.{due_note, blobs-due, blobs-none, lists-due, lis
 use Rattle.nt_append.proofs.Beside.{with_lists, lists-same, range-more, list-more, group_part, range_parts-more, index-front}
 use Rattle.nt_append.proofs.Beside.{noted-front, noted-last}
 use Rattle.nt_append.proofs.Growing.{times, times-le, some-beside, listed-beside, parts-are, full-beside, due-object-is, due-part}
-use Rattle.nt_append.proofs.Growing.{part-stays, list-same}
+use Rattle.nt_append.proofs.Growing.{part-stays, plain-beside, list-same}
+use Rattle.nt_append.proofs.Entered.{ranges-gained}
+use Rattle.nt_commit.proofs.Unstaged.{count-plain}
 
 last_or_before : (k n : ℕ) → k < suc n → (k < n) ⊎ (k ≡ n)
 last_or_before zero zero less = inr refl
@@ -115,7 +117,7 @@ module _ (t : Table) (most : ℕ) (old new : BookData) (meta : ClusterMeta) (kep
     noted = noted-grown (λ object l. l.len ≡ blob_len (length object)) beside.noted refl;
   }
 
-  module _ (kept' : IsBookKept new) (ranges : List (List ℕ)) (range : List ℕ) (long : length ranges ≡ length (book_clusters old)) where
+  module _ (kept' : IsBookKept new) (ranges : List (List ℕ)) (range : List ℕ) (long : length ranges ≡ length (book_ranges old)) where
     abbrev P : ℕ → Part
     P = group_part (header_sum t) old most
 
@@ -131,15 +133,28 @@ module _ (t : Table) (most : ℕ) (old new : BookData) (meta : ClusterMeta) (kep
     before : with_lists P most 0 old.lists ps ≡ parts_so_far t old most ranges
     before = sym (parts-are t most old kept beside ranges)
 
-    counted : length ps ≡ length (book_clusters old)
+    counted : length ps ≡ length (book_ranges old)
     counted = length-range_parts (ranges_of old.history) ranges long
+
+    plain : old.staged ≡ false
+    plain = plain-beside t most old kept beside
+
+    -- the ranges are the clusters
+    same-count : length (book_clusters old) ≡ length (book_ranges old)
+    same-count = count-plain old plain
+
+    abbrev last : Cluster ClusterMeta
+    last = settled_cluster (length (book_ranges old)) (book_end (with_due_list old)) meta
+
+    gained : book_ranges new ≡ book_ranges old ++ last ∷ []
+    gained = ranges-gained meta (with_due_list old) new plain gains
 
     behind : parts_so_far t new most (ranges ++ range ∷ []) ≡ with_lists Q most 0 new.lists (ps ++ x ∷ [])
     behind =
         parts-are t most new kept' beside-grown (ranges ++ range ∷ [])
         ∙ ap (λ (l : List Part). with_lists Q most 0 new.lists l)
-        (ap (λ (cs : List (Cluster ClusterMeta)). range_parts cs (ranges ++ range ∷ [])) gains.clusters
-        ∙ range_parts-more (ranges_of old.history) ranges more range long)
+        (ap (λ (cs : List (Cluster ClusterMeta)). range_parts cs (ranges ++ range ∷ [])) gained
+        ∙ range_parts-more (ranges_of old.history) ranges last range long)
 
     turned : with_lists Q most 0 old.lists ps ≡ with_lists P most 0 old.lists ps
     turned =
@@ -152,7 +167,7 @@ module _ (t : Table) (most : ℕ) (old new : BookData) (meta : ClusterMeta) (kep
     parts-grown false due =
         ap (λ (l : List Part). part_bytes l)
         (behind ∙ (ap (λ (ls : List NotedList). with_lists Q most 0 ls (ps ++ x ∷ [])) (lists-are ∙ lists-none old due)
-        ∙ (range-more most Q 0 old.lists ps x (omega (arith, counted, listed-beside t most old kept beside))
+        ∙ (range-more most Q 0 old.lists ps x (omega (arith, counted, same-count, listed-beside t most old kept beside))
         ∙ ap (λ (l : List Part). l ++ x ∷ []) (turned ∙ before))))
         ∙ (map-append (λ (p : Part). p.bytes) (parts_so_far t old most ranges) (x ∷ [])
         ∙ ap (λ (bs : List (List ℕ)). part_bytes (parts_so_far t old most ranges) ++ (bs ++ range ∷ [])) (sym (blobs-none old due)))
@@ -163,9 +178,10 @@ module _ (t : Table) (most : ℕ) (old new : BookData) (meta : ClusterMeta) (kep
         let none : 0 + d ≡ d = omega arith in
         ap (λ (l : List Part). part_bytes l)
         (behind ∙ (ap (λ (ls : List NotedList). with_lists Q most 0 ls (ps ++ x ∷ [])) (lists-are ∙ lists-due old due)
-        ∙ (range-more most Q 0 (old.lists ++ one ∷ []) ps x (omega (arith, counted, full, clusters_listed-more most old.lists one))
+        ∙ (range-more most Q 0 (old.lists ++ one ∷ []) ps x
+        (omega (arith, counted, same-count, full, clusters_listed-more most old.lists one))
         ∙ ap (λ (l : List Part). l ++ x ∷ [])
-        (list-more most Q 0 old.lists one ps (omega (arith, counted, full))
+        (list-more most Q 0 old.lists one ps (omega (arith, counted, same-count, full))
         ∙ (ap (λ (l : List Part). l ++ Q (0 + d) ∷ []) (turned ∙ before)
         ∙ (ap (λ (n : ℕ). parts_so_far t old most ranges ++ Q n ∷ []) none
         ∙ ap (λ (p : Part). parts_so_far t old most ranges ++ p ∷ [])
@@ -181,61 +197,3 @@ module _ (t : Table) (most : ℕ) (old new : BookData) (meta : ClusterMeta) (kep
     pub parts-more : part_bytes (parts_so_far t new most (ranges ++ range ∷ []))
         ≡ part_bytes (parts_so_far t old most ranges) ++ (due_blobs old ++ range ∷ [])
     parts-more = parts-grown (is_due old) refl
-
--- ---- columns more
-
-column-front : (ns more : List ℕ) (k : ℕ) → k < length ns → slice_index_or (ns ++ more) k 0 ≡ slice_index_or ns k 0
-column-front [] more k less = absurd (omega (arith, less))
-column-front (n ∷ ns) more zero less = refl
-column-front (n ∷ ns) more (suc k) less = column-front ns more k (omega (arith, less))
-
-module _ (t u : Table) (most : ℕ) (old new : BookData) (more : List ℕ) (kept : IsBookKept old) (kept' : IsBookKept new)
-    (beside : HasListsBeside t most old) (sum : header_sum u ≡ header_sum t)
-    (is : new ≡ record old { firsts = old.firsts ++ more }) where
-  clusters-wide : book_clusters new ≡ book_clusters old
-  clusters-wide = ap (λ (b : BookData). book_clusters b) is
-
-  lists-wide : new.lists ≡ old.lists
-  lists-wide = ap (λ (b : BookData). b.lists) is
-
-  stays-wide : StaysBelow (length (book_clusters old)) old new
-  stays-wide = record {
-    clusters = ap (λ (cs : List (Cluster ClusterMeta)). map without_fate (take (length (book_clusters old)) cs)) clusters-wide;
-    firsts = λ column less. ap (λ (b : BookData). slice_index_or b.firsts column 0) is ∙ column-front old.firsts more column less;
-  }
-
-  ends-wide : (k : ℕ) → k < length (book_clusters old)
-      → range_end (slice_index_or (book_clusters new) k no_cluster) ≡ range_end (slice_index_or (book_clusters old) k no_cluster)
-  ends-wide k less = ap (λ (cs : List (Cluster ClusterMeta)). range_end (slice_index_or cs k no_cluster)) clusters-wide
-
-  pub noted-wide : (P : List ℕ → NotedList → Type 0)
-      → ((k : ℕ) → k < length old.lists → P (list_object (header_sum t) old (full_span most k)) (noted_at old k))
-      → (k : ℕ) → k < length new.lists → P (list_object (header_sum u) new (full_span most k)) (noted_at new k)
-  noted-wide P was k less =
-      let inside : k < length old.lists = omega (arith, less, ap (λ (ls : List NotedList). length ls) lists-wide) in
-      subst (λ (ls : List NotedList). P (list_object (header_sum u) new (full_span most k)) (slice_index_or ls k no_noted))
-      (sym lists-wide)
-      (subst (λ (o : List ℕ). P o (noted_at old k))
-      (sym (list-same t u most old new kept (some-beside t most old kept beside) sum stays-wide ends-wide k
-      (omega (arith, times-le k (length old.lists) most inside, times most old.lists, listed-beside t most old kept beside))))
-      (was k inside))
-
-  pub beside-wide : HasListsBeside u most new
-  beside-wide = record {
-    group = ap (λ (b : BookData). b.group) is ∙ (beside.group ∙ ap (λ (n : ℕ). Some (most, n)) (sym sum));
-    untorn = ap (λ (b : BookData). b.torn) is ∙ beside.untorn;
-    noted = noted-wide (λ object l. l.len ≡ blob_len (length object)) beside.noted;
-  }
-
-  pub parts-wide : (ranges : List (List ℕ)) → parts_so_far u new most ranges ≡ parts_so_far t old most ranges
-  parts-wide ranges =
-      parts-are u most new kept' beside-wide ranges
-      ∙ (ap (λ (ls : List NotedList). with_lists (group_part (header_sum u) new most) most 0 ls
-      (range_parts (ranges_of new.history) ranges)) lists-wide
-      ∙ (ap (λ (cs : List (Cluster ClusterMeta)). with_lists (group_part (header_sum u) new most) most 0 old.lists
-      (range_parts cs ranges)) clusters-wide
-      ∙ (lists-same most (group_part (header_sum u) new most) (group_part (header_sum t) old most) 0 old.lists
-      (range_parts (ranges_of old.history) ranges)
-      (λ j le. part-stays t u most old new kept (some-beside t most old kept beside) sum stays-wide ends-wide j
-      (omega (arith, le, listed-beside t most old kept beside)))
-      ∙ sym (parts-are t most old kept beside ranges))))

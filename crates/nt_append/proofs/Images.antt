@@ -1,12 +1,12 @@
 -- An image that was put behind a book, and the page list in front of it.
-use Rattle.std.proofs.Common.{◌≡◌, ◌∙◌, ap, sym, refl, subst, ℕ, ◌+◌, ◌-◌, ◌<◌, ◌≤◌, List, [], ◌∷◌, ◌++◌, length, None, Some, inl, inr}
-use Rattle.std.proofs.Common.{arith}
+use Rattle.std.proofs.Common.{◌≡◌, ◌∙◌, ap, sym, refl, subst, ℕ, ◌+◌, ◌-◌, ◌<◌, ◌≤◌, false, List, [], ◌∷◌, ◌++◌, length, None, Some, inl}
+use Rattle.std.proofs.Common.{inr, arith}
 use Rattle.std.specs.Prelude.{IfSome}
 use Rattle.nt_outside.specs.Faults.{Rose}
 use Rattle.nt_outside.specs.Held.{Held, Becomes, BecomesSome, IsTornAppend, appended}
 use Rattle.nt_outside.specs.Disk.{DiskState}
 use Rattle.nt_book.specs.declared.list.NotedList.{NotedList}
-use Rattle.nt_book.specs.Books.{BookData, book_clusters, book_end, is_due}
+use Rattle.nt_book.specs.Books.{BookData, book_clusters, book_ranges, book_end, is_due}
 use Rattle.nt_book.specs.Entries.{faulted_entry}
 use Rattle.nt_book.specs.Limiting.{limit_error, limit_error_with}
 use Rattle.nt_pages.specs.declared.image.ClusterImage.{ClusterImage}
@@ -37,11 +37,11 @@ len-room b spare = refl
 module _ (d : DiskState) (b : BookData) (i : ClusterImage) (may : MayAppend d b i) (m : DiskState) (r : BookData)
     (kept : KeepsDiskAndBook d m b r) (sized : IfSome b.group (λ g. 0 < g.0)) (items : List ℕ) (items_are : items ≡ due_bytes b)
     (len : ℕ) (len_is : len ≡ length items)
-    (passes : limit_error_with b.limits (book_end b) (length (book_clusters b)) i.meta.len len ≡ None)
+    (passes : limit_error_with b.limits (book_end b) (length (book_ranges b)) i.meta.len len ≡ None)
     (memory : HasMemoryFor 2 (len + i.meta.len) r m) where
-  behind : (limit_error b.limits (book_end b + len) (length (book_clusters b)) i.meta.len ≡ None)
+  behind : (limit_error b.limits (book_end b + len) (length (book_ranges b)) i.meta.len ≡ None)
       × ((len ≤ b.limits.range) × (book_end b + len ≤ b.limits.file))
-  behind = with-behind b.limits (book_end b) (length (book_clusters b)) i.meta.len len passes
+  behind = with-behind b.limits (book_end b) (length (book_ranges b)) i.meta.len len passes
 
   bytes-same : due_bytes r ≡ due_bytes b
   bytes-same = ap due_bytes kept.book_is ∙ due-room b r.spare
@@ -109,15 +109,19 @@ module _ (d : DiskState) (b : BookData) (i : ClusterImage) (may : MayAppend d b 
     ends-there : d2.end ≡ book_end b2
     ends-there = list.end ∙ sym (ap (λ (x : BookData). book_end x) list.book_is)
 
+    plain-same : b2.staged ≡ false
+    plain-same = ap (λ (x : BookData). x.staged) b2-is ∙ may.not_staged
+
     -- then the image may
     pub may-range : MayAppendRange d2 b2 i
     may-range = record {
       may = record {
+        not_staged = plain-same;
         image_is = subst (λ (x : BookData). IsImageFor (length x.firsts) i.meta.context i) (sym b2-is) may.image_is;
         end = ends-there;
       };
-      limits = ap (λ (x : BookData). limit_error x.limits (book_end x) (length (book_clusters x)) i.meta.len) b2-is
-          ∙ (ap (λ (n : ℕ). limit_error b.limits n (length (book_clusters b)) i.meta.len) (omega (arith, end-with b, counted))
+      limits = ap (λ (x : BookData). limit_error x.limits (book_end x) (length (book_ranges x)) i.meta.len) b2-is
+          ∙ (ap (λ (n : ℕ). limit_error b.limits n (length (book_ranges b)) i.meta.len) (omega (arith, end-with b, counted))
           ∙ behind.0);
       not_due = ap (λ (x : BookData). is_due x) b2-is ∙ due-once b sized;
       memory = record {
@@ -137,7 +141,7 @@ module _ (d : DiskState) (b : BookData) (i : ClusterImage) (may : MayAppend d b 
             (ap (λ (n : ℕ). appended (keyed i.bytes n) (all_appended (due_blobs r) h)) end-same
             ∙ (ap (λ (bs : List (List ℕ)). appended (range_behind i b) (all_appended bs h)) blobs-same
             ∙ appended-behind (due_blobs b) (range_behind i b ∷ []) h));
-        end = omega (arith, range.end, ends-there, end-gained i.meta b2 next range.gains);
+        end = omega (arith, range.end, ends-there, end-gained i.meta b2 next plain-same range.gains);
         out = range.out ∙ (list.out ∙ kept.out);
         later = omega (arith, range.later, list.later, kept.faults);
         gains = record {

@@ -6,4 +6,5 @@ pub mod Images
 pub mod Beside
 pub mod Growing
 pub mod Grown
+pub mod Widened
 pub mod Noted

@@ -7,7 +7,8 @@ use Rattle.nt_book.specs.Kept.{IsBookKept}
 use Rattle.nt_layout.specs.Headers.{header_sum}
 use Rattle.nt_layout.specs.Beside.{HasListsBeside}
 use Rattle.nt_append.specs.Appending.{AreSizesNoted, GainsCluster, with_due_list}
-use Rattle.nt_append.proofs.Grown.{noted-grown, noted-wide}
+use Rattle.nt_append.proofs.Grown.{noted-grown}
+use Rattle.nt_append.proofs.Widened.{noted-wide}
 
 -- one cluster more
 pub sizes-grown : (t : Table) (most : ℕ) (old new : BookData) (meta : ClusterMeta) → IsBookKept old → HasListsBeside t most old

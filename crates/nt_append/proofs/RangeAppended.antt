@@ -7,7 +7,7 @@ use Rattle.nt_outside.specs.Faults.{Rose}
 use Rattle.nt_container.specs.Spelling.{blob_key}
 use Rattle.nt_container.proofs.Lengths.{blob_key-len}
 use Rattle.nt_book.specs.Appending.{IsAppendable}
-use Rattle.nt_book.specs.Books.{BookData, book_clusters, book_end}
+use Rattle.nt_book.specs.Books.{BookData, book_ranges, book_end}
 use Rattle.nt_book.specs.Entries.{faulted_entry}
 use Rattle.nt_book.proofs.Fitting.{limit_error-none}
 use Rattle.nt_pages.specs.declared.image.ClusterImage.{ClusterImage}
@@ -30,10 +30,10 @@ module _ (d : DiskState) (b : BookData) (i : ClusterImage) (may : MayAppendRange
       )
 
   within-limits : i.meta.len ≤ b.limits.range
-  within-limits = (limit_error-none b.limits (book_end b) (length (book_clusters b)) i.meta.len may.limits).0
+  within-limits = (limit_error-none b.limits (book_end b) (length (book_ranges b)) i.meta.len may.limits).0
 
   within-file : book_end b + i.meta.len ≤ b.limits.file
-  within-file = (limit_error-none b.limits (book_end b) (length (book_clusters b)) i.meta.len may.limits).1
+  within-file = (limit_error-none b.limits (book_end b) (length (book_ranges b)) i.meta.len may.limits).1
 
   pub short : length i.bytes < 2 ^ 32
   short = omega (arith, within-limits, b.limits.range_bound, may.may.image_is.whole)
@@ -43,6 +43,7 @@ module _ (d : DiskState) (b : BookData) (i : ClusterImage) (may : MayAppendRange
 
   pub appendable : IsAppendable b i.meta
   appendable = record {
+    not_staged = may.may.not_staged;
     limits = may.limits;
     spare = may.memory.book_room;
     not_due = may.not_due;

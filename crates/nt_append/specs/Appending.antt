@@ -8,7 +8,7 @@ use Rattle.nt_grammar.specs.Table.{Table}
 use Rattle.nt_machine.specs.History.{Cluster, Settled}
 use Rattle.nt_book.specs.declared.list.NotedList.{NotedList}
 use Rattle.nt_book.specs.declared.meta.ClusterMeta.{ClusterMeta}
-use Rattle.nt_book.specs.Books.{BookData, book_clusters, book_end, is_due, noted_at}
+use Rattle.nt_book.specs.Books.{BookData, book_clusters, book_ranges, book_end, is_due, noted_at}
 use Rattle.nt_book.specs.Entries.{faulted_entry}
 use Rattle.nt_book.specs.Limiting.{limit_error}
 use Rattle.nt_pages.specs.declared.image.ClusterImage.{ClusterImage}
@@ -69,9 +69,10 @@ AreSizesNoted t most book =
 
 -- ---- what is asked, and what each answer leaves
 
--- an image can be put behind the clusters of a book that ends where the disk does: it has room for its key, and a list of pages for each
--- column
+-- an image can be put behind the clusters of a book that ends where the disk does and isn't staged: it has room for its key, and a list of
+-- pages for each column
 pub record MayAppend (disk : DiskState) (book : BookData) (image : ClusterImage) : Type 0 where
+  pub not_staged : book.staged ≡ false
   pub image_is : IsImageFor (length book.firsts) image.meta.context image
   pub end : disk.end ≡ book_end book
 
@@ -151,7 +152,7 @@ pub record FailsAtList (context : ℕ) (old new : DiskState) (book book' : BookD
 -- an image can be put behind a book that is due no page list: it passes no limit and has room
 pub record MayAppendRange (disk : DiskState) (book : BookData) (image : ClusterImage) : Type 0 where
   pub may : MayAppend disk book image
-  pub limits : limit_error book.limits (book_end book) (length (book_clusters book)) image.meta.len ≡ None
+  pub limits : limit_error book.limits (book_end book) (length (book_ranges book)) image.meta.len ≡ None
   pub not_due : is_due book ≡ false
   pub memory : HasMemoryFor 1 image.meta.len book disk
 

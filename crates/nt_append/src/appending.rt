@@ -1,7 +1,7 @@
 //! A cluster that is put behind the others.
 
 ghost use Rattle.std.specs.Prelude.{◌≡◌, ◌≢◌, ◌+◌, length, None, Err, OnOk, IfErr, IsErrOf};
-ghost use Rattle.nt_book.specs.Books.{book_clusters, book_end};
+ghost use Rattle.nt_book.specs.Books.{book_ranges, book_end};
 ghost use Rattle.nt_book.specs.Limiting.{limit_error_with};
 ghost use Rattle.nt_commit.specs.declared.error.CommitError.{CommitError};
 ghost use Rattle.nt_commit.specs.declared.error.CommitError.TheVariants.{Memory, Fault};
@@ -22,10 +22,10 @@ use std::alloc::Global;
 fn make_room<D: Disk>(disk: &mut D, book: &mut Book, len: u64, list: u64) -> Result<(), CommitError>
     ensures ok { OnOk result (HasMemoryFor 2 (list + len) book.new (D.state disk.new)) }
     ensures fits { OnOk result (limit_error_with book.old.limits (book_end book.old)
-        (length (book_clusters book.old)) len list ≡ None) }
+        (length (book_ranges book.old)) len list ≡ None) }
     ensures kept { KeepsDiskAndBook (D.state disk.old) (D.state disk.new) book.old book.new }
     ensures limits { result ≢ Err Memory → limit_error_with book.old.limits (book_end book.old)
-        (length (book_clusters book.old)) len list ≡ limit_answered result }
+        (length (book_ranges book.old)) len list ≡ limit_answered result }
     ensures err { IfErr result (λ e. e ≢ Fault) }
 {
     book.check_with(len, list)?;
@@ -39,7 +39,7 @@ fn make_room<D: Disk>(disk: &mut D, book: &mut Book, len: u64, list: u64) -> Res
 /// page list that is due, if one is. All memory is taken, and all limits are tested, before the
 /// first step of the disk: one for the list, which is noted, and one for the image. If the disk
 /// fails in the first the book is torn; after either the fault is entered, and a part of what was to
-/// be written may stand behind the end of all that is known.
+/// be written may stand behind the end of all that is known. The book's clusters are not staged.
 pub fn append_image<D: Disk>(
     alloc: Global,
     disk: &mut D,
@@ -49,7 +49,7 @@ pub fn append_image<D: Disk>(
     requires { MayAppend (D.state disk.old) book.old image.old }
     ensures ok { OnOk result (AppendsImage image.old (D.state disk.old) (D.state disk.new) book.old book.new) }
     ensures limits { result ≢ Err Memory → limit_error_with book.old.limits (book_end book.old)
-        (length (book_clusters book.old)) image.old.meta.len (length (due_bytes book.old)) ≡ limit_answered result }
+        (length (book_ranges book.old)) image.old.meta.len (length (due_bytes book.old)) ≡ limit_answered result }
     ensures kept { (e : CommitError) → result ≡ Err e → e ≢ Fault
         → KeepsDiskAndBook (D.state disk.old) (D.state disk.new) book.old book.new }
     ensures fault { IsErrOf result Fault

@@ -3,7 +3,7 @@
 ghost use Rattle.std.specs.Prelude.{◌≡◌, ℕ, ◌++◌, ◌∷◌, [], List, length};
 ghost use Rattle.nt_grammar.specs.Table.{Table};
 ghost use Rattle.nt_book.specs.declared.meta.ClusterMeta.{ClusterMeta};
-ghost use Rattle.nt_book.specs.Books.{BookData, book_clusters};
+ghost use Rattle.nt_book.specs.Books.{BookData, book_ranges};
 ghost use Rattle.nt_book.specs.Kept.{IsBookKept};
 ghost use Rattle.nt_lists.specs.Parts.{part_bytes};
 ghost use Rattle.nt_layout.specs.Headers.{header_sum};
@@ -21,7 +21,7 @@ pub fn appended_parts_go_on()
     ensures parts { (t : Table) (most : ℕ) (meta : ClusterMeta) (old new : BookData)
         (ranges : List (List ℕ)) (range : List ℕ) → IsBookKept old → IsBookKept new
         → HasListsBeside t most old → GainsCluster meta (with_due_list old) new
-        → length ranges ≡ length (book_clusters old)
+        → length ranges ≡ length (book_ranges old)
         → part_bytes (parts_so_far t new most (ranges ++ range ∷ []))
         ≡ part_bytes (parts_so_far t old most ranges) ++ (due_blobs old ++ range ∷ []) }
 {}

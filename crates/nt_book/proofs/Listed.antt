@@ -1,5 +1,5 @@
 -- What each call keeps of the page lists between the ranges.
-use Rattle.std.proofs.Common.{◌≡◌, ap, sym, refl, subst, ℕ, ◌+◌, ◌-◌, ◌<◌, ◌≤◌, true, false, List, [], ◌∷◌, ◌++◌, length, arith}
+use Rattle.std.proofs.Common.{◌≡◌, ap, sym, refl, subst, ℕ, ◌+◌, ◌-◌, ◌<◌, ◌≤◌, Bool, true, false, List, [], ◌∷◌, ◌++◌, length, arith}
 use Rattle.std.specs.Prelude.{Option, Some, None, IfSome}
 use Rattle.std.specs.List.{sum_by}
 use Rattle.std.proofs.lemmas.Bool.{eqb-false}
@@ -15,7 +15,8 @@ use Rattle.nt_book.specs.declared.list.Tear.{Tear}
 use Rattle.nt_book.specs.declared.state.RangeState.{RangeState}
 use Rattle.nt_book.specs.declared.row.ClusterRow.{ClusterRow}
 use Rattle.nt_book.specs.Entries.{row_cluster, row_clusters}
-use Rattle.nt_book.specs.Keeping.{KeepsLists, with_state}
+use Rattle.nt_book.specs.declared.row.PublishedRow.{PublishedRow}
+use Rattle.nt_book.specs.Keeping.{KeepsLists, listed_rows, with_state}
 use Rattle.nt_book.specs.Listing.{AreBeside, AtMostOneUnlisted, clusters_listed, group_size, is_due_after, spans_len, torn_bytes}
 use Rattle.nt_book.proofs.Beside.{beside-range}
 use Rattle.nt_book.proofs.Fitting.{fewer}
@@ -131,3 +132,21 @@ module _ (begin end spare : ℕ) (group : Option (ℕ × ℕ)) (lists : List Not
     late = h.late;
     for_list = λ some due. h.for_list (omega (arith, some, le)) due;
   }
+
+  -- in a staged book there are none, however few clusters it has
+  module _ (staged : Bool) (order : List PublishedRow) (none : staged ≡ true → group ≡ None) where
+    pub listed-staged : clusters_listed (group_size group) lists ≤ length (listed_rows staged order rows)
+    listed-staged = at staged none
+      where
+        at : (b : Bool) → (b ≡ true → group ≡ None) → clusters_listed (group_size group) lists ≤ length (listed_rows b order rows)
+        at false ungrouped = omega (arith, h.counted, h.inside)
+        at true ungrouped =
+            omega (arith, ap (λ (ls : List NotedList). clusters_listed (group_size group) ls) (h.ungrouped (ungrouped refl)).none_noted)
+
+    pub few-staged : torn ≡ None → AtMostOneUnlisted group lists (length (listed_rows staged order rows))
+    few-staged whole = at staged none
+      where
+        at : (b : Bool) → (b ≡ true → group ≡ None) → AtMostOneUnlisted group lists (length (listed_rows b order rows))
+        at false ungrouped = h.few whole
+        at true ungrouped = subst (λ (g : Option (ℕ × ℕ)). AtMostOneUnlisted g lists (length (listed_rows true order rows)))
+            (sym (ungrouped refl)) tt

@@ -19,20 +19,18 @@ use Rattle.nt_book.proofs.Beside.{beside-list, clusters_listed-more, fewer-lists
 use Rattle.nt_book.proofs.Rows.{length-row_clusters}
 
 -- the numbers beside the rows, with a later end
-pub IsCounted-later : (begin end more entries out : ℕ) (limits : Limits) (firsts : List ℕ) (rows : List ClusterRow) → end ≤ more
-    → more ≤ 2 ^ 56 → IsCounted begin end entries out limits firsts rows → IsCounted begin more entries out limits firsts rows
-IsCounted-later begin end more entries out limits firsts rows le most h = record {
+pub IsCounted-later : (begin end more out : ℕ) (limits : Limits) (firsts : List ℕ) (rows : List ClusterRow) → end ≤ more
+    → more ≤ 2 ^ 56 → IsCounted begin end out limits firsts rows → IsCounted begin more out limits firsts rows
+IsCounted-later begin end more out limits firsts rows le most h = record {
   summing = omega (arith, h.summing, le);
   behind = omega (arith, h.behind, le);
   most = most;
-  summed = h.summed;
   counted = h.counted;
   few = h.few;
   bound = h.bound;
   each = h.each;
   low = h.low;
   columns = h.columns;
-  begun = h.begun;
 }
 
 -- a list that is due is noted behind all that there is

@@ -1,8 +1,8 @@
 //! Page lists that stand between the ranges of a book. No call here takes memory.
 
-ghost use Rattle.std.specs.Prelude.{◌≡◌, ◌+◌, ◌-◌, ◌<◌, ◌≤◌, ◌++◌, ◌∷◌, [], true, length, Some};
+ghost use Rattle.std.specs.Prelude.{◌≡◌, ◌+◌, ◌-◌, ◌<◌, ◌≤◌, ◌++◌, ◌∷◌, [], true, false, length, Some};
 ghost use Rattle.std.specs.Result.{result_err};
-ghost use Rattle.nt_book.specs.Books.{book_clusters, book_end, is_due, noted_at};
+ghost use Rattle.nt_book.specs.Books.{book_ranges, book_clusters, book_end, is_due, noted_at};
 ghost use Rattle.nt_book.specs.Limiting.{limit_error_with};
 ghost use Rattle.nt_book.specs.Listing.{torn_group};
 
@@ -12,8 +12,9 @@ use crate::list::{ListPlace, NotedList, Tear};
 
 impl Book {
     /// Asks for page lists beside the clusters, of groups of at most so many each, under a header of
-    /// this checksum.
+    /// this checksum. Staged clusters have none beside them.
     pub fn group_by(&mut self, group: u32, header_sum: u64)
+        requires not_staged { self.old.staged ≡ false }
         requires some { 1 ≤ group }
         requires none_yet { book_clusters self.old ≡ [] }
         ensures { self.new ≡ record self.old { group = Some (group, header_sum) } }
@@ -22,11 +23,11 @@ impl Book {
         self.listed = 0;
     }
 
-    /// Whether a range of this length keeps the limits as the next cluster's, behind a page list
-    /// of that length, which is 0 where none is due.
+    /// Whether the next range keeps the limits with this length, behind a page list of that
+    /// length, which is 0 where none is due.
     pub fn check_with(&self, len: u64, list: u64) -> Result<(), LimitError>
         ensures { result_err result ≡ limit_error_with self.now.limits (book_end self.now)
-            (length (book_clusters self.now)) len list }
+            (length (book_ranges self.now)) len list }
     {
         let limit = self.limits.range;
         if len > limit {

@@ -17,6 +17,7 @@ use Rattle.nt_book.specs.Books.{BookData, book_clusters, book_end, cluster_at, n
 use Rattle.nt_book.specs.Kept.{IsBookKept}
 use Rattle.nt_book.specs.Listing.{AreBeside, AtMostOneUnlisted, clusters_listed, group_size, lists_bytes, no_noted, spans_len, torn_bytes}
 use Rattle.nt_pagelists.specs.declared.group.Group.{Group}
+use Rattle.nt_pagelists.proofs.Named.{clusters-unstaged, grouped-unstaged}
 use Rattle.nt_pagelists.specs.Objects.{ClusterSpan, cluster_span, list_object, list_len}
 use Rattle.nt_layout.specs.Groups.{PlacedList, range_end, place_beside, places_beside, list_group, list_groups}
 use Rattle.nt_layout.specs.Finished.{spans}
@@ -198,12 +199,14 @@ module _ (sum most : ℕ) (book : BookData) (kept : IsBookKept book) (can : CanB
   ends-there : listed < all → range_end (cluster_at book (all - 1)) ≡ book_end book
   ends-there less =
       let cs = ranges_of book.history in
+      let same : book_clusters book ≡ cs = clusters-unstaged book (grouped-unstaged book (most, sum) kept can.group) in
       let placed : AreBeside book.begin most book.lists (spans_of cs) =
       subst (λ (g : Option (ℕ × ℕ)). AreBeside book.begin (group_size g) book.lists (spans_of cs)) can.group (kept.placed can.untorn) in
       omega (
         arith,
-        last-beside most book.begin (all - 1) book.lists cs (omega (arith, less, listed-times most book.lists)) (omega (arith, less))
-            placed,
+        last-beside most book.begin (all - 1) book.lists cs (omega (arith, less, listed-times most book.lists, ap length same))
+            (omega (arith, less, ap length same)) placed,
+        ap (λ (l : List (Cluster ClusterMeta)). range_end (slice_index_or l (all - 1) no_cluster)) same,
         bytes-of cs,
         ap (λ (t : Option Tear). torn_bytes t) can.untorn,
       )

@@ -42,7 +42,7 @@ module _ (sum most : ℕ) (book : BookData) (kept : IsBookKept book) (can : CanB
 
   few-noted : (groups : List Group) → groups ≡ noted_groups book most 0 book.lists → length groups < 2 ^ 32
   few-noted groups are =
-      omega (arith, ap length are, length-noted book most 0 book.lists, few-lists, listed-fit sum most book kept can, kept.few)
+      omega (arith, ap length are, length-noted book most 0 book.lists, few-lists, listed-fit sum most book kept can, kept.few, kept.fewer)
 
   -- so many lists are noted, of so many clusters
   pub same : (count : ℕ) → count ≡ length book.lists → count * most ≡ listed sum most book kept can
@@ -117,6 +117,7 @@ module _ (sum most : ℕ) (book : BookData) (kept : IsBookKept book) (can : CanB
           same count counted,
           less,
           kept.few,
+          kept.fewer,
         )
 
     pub one-made : (old new : List ℕ) (groups more : List Group) → old ≡ [] → groups ≡ noted_groups book most 0 book.lists

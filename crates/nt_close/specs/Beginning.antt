@@ -1,5 +1,5 @@
 -- What the beginning of a file leaves.
-use Rattle.std.specs.Prelude.{ℕ, ◌≡◌, ◌+◌, ◌≤◌, List, [], length, replicate, Option, Some, None}
+use Rattle.std.specs.Prelude.{ℕ, ◌≡◌, ◌+◌, ◌≤◌, false, List, [], length, replicate, Option, Some, None}
 use Rattle.nt_types.specs.ShapeData.{MemberData}
 use Rattle.nt_outside.specs.Faults.{Rose}
 use Rattle.nt_outside.specs.Held.{Becomes, BecomesSome}
@@ -25,7 +25,7 @@ pub record IsUntouched (old new : DiskState) : Type 0 where
   pub place : KeepsPlace old new
   pub faults : new.faults ≡ old.faults
 
--- a new book: its ranges begin behind the header, no column is deferred, and page lists stand beside its clusters
+-- a new book: its ranges begin behind the header, no column is deferred, page lists stand beside its clusters, and none is staged
 abbrev pub new_book : Table → Params → BookData
 new_book t p = record {
   begin = clusters_place t;
@@ -36,6 +36,8 @@ new_book t p = record {
   group = Some (p.group, header_sum t);
   lists = [];
   torn = None;
+  staged = false;
+  ready = None;
 }
 
 -- the file of this schema is begun with this book, within the limits; it is shut, and so a crash leaves what isn't finished

@@ -11,9 +11,12 @@ pub(crate) fn refuse_damaged(book: &Book) -> Result<(), CloseError>
     ensures ok { OnOk result (IsUndamaged book.now) }
     ensures err { IfErr result (IsDamageError book.now) }
 {
-    for cluster in 0..book.clusters() {
-        if let RangeState::Spoiled { faults } = book.state(cluster) {
-            return Err(CloseError::Spoiled { cluster, faults });
+    for range in 0..book.ranges() {
+        if let RangeState::Spoiled { faults } = book.state(range) {
+            return Err(CloseError::Spoiled {
+                cluster: range,
+                faults,
+            });
         }
     }
     if let Some((group, faults)) = book.torn() {

@@ -27,7 +27,8 @@ pub enum BeginError {
 /// Why a file isn't closed, in the order in which it is looked for.
 #[derive(Clone, Copy, Debug, PartialEq, Eq, Error)]
 pub enum CloseError {
-    /// The range of this cluster was handed back after faults, of which the disk counted so many.
+    /// The range of this number, which is that of its cluster where clusters aren't staged, was handed
+    /// back after faults, of which the disk counted so many.
     #[error("the range of cluster {cluster} is spoiled")]
     Spoiled { cluster: u32, faults: u64 },
     /// The page list of this group was to be written beside its clusters, and its append failed:

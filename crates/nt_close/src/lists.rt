@@ -88,7 +88,7 @@ fn group_noted(book: &Book, k: u32, most: u32) -> Group
     book.keeps();
     let from = k * most;
     let last = from + most - 1;
-    let place = book.start(last) + book.meta(last).len;
+    let place = book.start(book.range_of(last)) + book.meta(last).len;
     group_of(book, from, from + most, place, book.list(k).size)
 }
 

@@ -36,29 +36,41 @@ same_limits l m range file clusters =
     ∙ ap (λ (c : ℕ). limits l.range l.file c x y) clusters) m.file_bound) m.range_bound
 
 -- parameters of these numbers, which lie in their ranges
-abbrev params : (c p g : ℕ) (plain : Bool) (l : Limits) → IsFromTo 1 1000000 c → IsFromTo 1 1048576 p → IsFromTo 1 10000 g → Params
-params c p g plain l x y z =
-    record { cluster = c; page = p; group = g; plain = plain; limits = l; cluster_range = x; page_range = y; group_range = z }
+abbrev params : (c p g : ℕ) (plain staged : Bool) (l : Limits) → IsFromTo 1 1000000 c → IsFromTo 1 1048576 p → IsFromTo 1 10000 g → Params
+params c p g plain staged l x y z =
+    record {
+      cluster = c;
+      page = p;
+      group = g;
+      plain = plain;
+      staged = staged;
+      limits = l;
+      cluster_range = x;
+      page_range = y;
+      group_range = z;
+    }
 
-any_ranges : (c p g : ℕ) (plain : Bool) (l : Limits) (x x' : IsFromTo 1 1000000 c) (y y' : IsFromTo 1 1048576 p) (z z' : IsFromTo 1 10000 g)
-    → params c p g plain l x y z ≡ params c p g plain l x' y' z'
-any_ranges c p g plain l x x' y y' z z' =
-    ap (λ (v : IsFromTo 1 1000000 c). params c p g plain l v y z) (×_prop le_prop le_prop x x')
-    ∙ ap (λ (v : IsFromTo 1 1048576 p). params c p g plain l x' v z) (×_prop le_prop le_prop y y')
-    ∙ ap (λ (v : IsFromTo 1 10000 g). params c p g plain l x' y' v) (×_prop le_prop le_prop z z')
+any_ranges : (c p g : ℕ) (plain staged : Bool) (l : Limits) (x x' : IsFromTo 1 1000000 c) (y y' : IsFromTo 1 1048576 p)
+    (z z' : IsFromTo 1 10000 g) → params c p g plain staged l x y z ≡ params c p g plain staged l x' y' z'
+any_ranges c p g plain staged l x x' y y' z z' =
+    ap (λ (v : IsFromTo 1 1000000 c). params c p g plain staged l v y z) (×_prop le_prop le_prop x x')
+    ∙ ap (λ (v : IsFromTo 1 1048576 p). params c p g plain staged l x' v z) (×_prop le_prop le_prop y y')
+    ∙ ap (λ (v : IsFromTo 1 10000 g). params c p g plain staged l x' y' v) (×_prop le_prop le_prop z z')
 
 -- parameters of the same numbers are the same
-pub params_are : (p q : Params) → p.cluster ≡ q.cluster → p.page ≡ q.page → p.group ≡ q.group → p.plain ≡ q.plain → p.limits ≡ q.limits
-    → p ≡ q
-params_are p q cluster page group plain limits-are =
-    subst (λ (c : ℕ). (x : IsFromTo 1 1000000 c) → p ≡ params c q.page q.group q.plain q.limits x q.page_range q.group_range) cluster
+pub params_are : (p q : Params) → p.cluster ≡ q.cluster → p.page ≡ q.page → p.group ≡ q.group → p.plain ≡ q.plain → p.staged ≡ q.staged
+    → p.limits ≡ q.limits → p ≡ q
+params_are p q cluster page group plain staged limits-are =
+    subst (λ (c : ℕ). (x : IsFromTo 1 1000000 c)
+    → p ≡ params c q.page q.group q.plain q.staged q.limits x q.page_range q.group_range) cluster
     (subst (λ (n : ℕ). (y : IsFromTo 1 1048576 n) (x : IsFromTo 1 1000000 p.cluster)
-    → p ≡ params p.cluster n q.group q.plain q.limits x y q.group_range) page
+    → p ≡ params p.cluster n q.group q.plain q.staged q.limits x y q.group_range) page
     (subst (λ (n : ℕ). (z : IsFromTo 1 10000 n) (y : IsFromTo 1 1048576 p.page) (x : IsFromTo 1 1000000 p.cluster)
-    → p ≡ params p.cluster p.page n q.plain q.limits x y z) group
-    (λ z y x. any_ranges p.cluster p.page p.group p.plain p.limits p.cluster_range x p.page_range y p.group_range z
-    ∙ ap (λ (b : Bool). params p.cluster p.page p.group b p.limits x y z) plain
-    ∙ ap (λ (l : Limits). params p.cluster p.page p.group q.plain l x y z) limits-are) q.group_range) q.page_range) q.cluster_range
+    → p ≡ params p.cluster p.page n q.plain q.staged q.limits x y z) group
+    (λ z y x. any_ranges p.cluster p.page p.group p.plain p.staged p.limits p.cluster_range x p.page_range y p.group_range z
+    ∙ ap (λ (b : Bool). params p.cluster p.page p.group b p.staged p.limits x y z) plain
+    ∙ ap (λ (b : Bool). params p.cluster p.page p.group q.plain b p.limits x y z) staged
+    ∙ ap (λ (l : Limits). params p.cluster p.page p.group q.plain q.staged l x y z) limits-are) q.group_range) q.page_range) q.cluster_range
 
 limits_said : (a : App) (words : List (List ℕ)) (l m : Limits) → AreLimitsSaid a words l → AreLimitsSaid a words m → l ≡ m
 limits_said a words l m one other =
@@ -67,12 +79,12 @@ limits_said a words l m one other =
 same_params : (a : App) (words : List (List ℕ)) (p q : Params) → AreParamsSaid a words p → AreParamsSaid a words q → p ≡ q
 same_params a words p q one other =
     params_are p q (one.cluster ∙ sym other.cluster) (one.page ∙ sym other.page) (one.group ∙ sym other.group) (one.plain ∙ sym other.plain)
-    (limits_said a words p.limits q.limits one.limits other.limits)
+    (one.staged ∙ sym other.staged) (limits_said a words p.limits q.limits one.limits other.limits)
 
 merge_params : (words : List (List ℕ)) (p q : Params) → AreMergeParams words p → AreMergeParams words q → p ≡ q
 merge_params words p q one other =
     params_are p q (one.cluster ∙ sym other.cluster) (one.page ∙ sym other.page) (one.group ∙ sym other.group) (one.plain ∙ sym other.plain)
-    (limits_said merge_app words p.limits q.limits one.limits other.limits)
+    (one.staged ∙ sym other.staged) (limits_said merge_app words p.limits q.limits one.limits other.limits)
 
 -- what holds of one reading of the words of `write` holds of another
 pub same_write : (P : List ℕ → List ℕ → List (List ℕ) → Params → Type 0) (words : List (List ℕ)) (o s o' s' : List ℕ)

@@ -37,6 +37,7 @@ pub record AreMergeParams (words : List (List ℕ)) (p : Params) : Type 0 where
   pub page : p.page ≡ 4096
   pub group : p.group ≡ number_or merge_app words (codes "group") 1000
   pub plain : p.plain ≡ false
+  pub staged : p.staged ≡ false
   pub limits : AreLimitsSaid merge_app words p.limits
 
 -- `merge ..`, as clap reads it

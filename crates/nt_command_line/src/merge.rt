@@ -58,7 +58,7 @@ fn params_in(matches: &ArgMatches<'_>) -> Params
     ensures { (words : List (List ℕ)) → rows_of (found_of matches.now) ≡ matches_found merge_app words → AreMergeParams words result }
 {
     let group = number_in(matches, "group").unwrap_or(1000) as u32;
-    match Params::new(10_000, 4096, group, false, limits_in(matches)) {
+    match Params::new(10_000, 4096, group, false, false, limits_in(matches)) {
         Some(params) => params,
         None => unreachable!(),
     }

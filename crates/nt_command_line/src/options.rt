@@ -47,7 +47,7 @@ pub(crate) fn params_in(matches: &ArgMatches<'_>) -> Params
     let page = number_in(matches, "page").unwrap_or(4096) as u32;
     let group = number_in(matches, "group").unwrap_or(1000) as u32;
     let plain = flag_in(matches, "plain");
-    match Params::new(cluster, page, group, plain, limits_in(matches)) {
+    match Params::new(cluster, page, group, plain, false, limits_in(matches)) {
         Some(params) => params,
         None => unreachable!(),
     }

@@ -12,7 +12,7 @@ use Rattle.nt_machine.specs.Spans.{Span, AreBehindSpans}
 use Rattle.nt_book.specs.declared.list.NotedList.{NotedList}
 use Rattle.nt_book.specs.declared.list.Tear.{Tear}
 use Rattle.nt_book.specs.declared.meta.ClusterMeta.{ClusterMeta}
-use Rattle.nt_book.specs.Books.{BookData, book_clusters, book_end}
+use Rattle.nt_book.specs.Books.{BookData, book_ranges, book_end}
 use Rattle.nt_book.specs.Kept.{IsBookKept}
 use Rattle.nt_book.specs.Listing.{AreBeside, clusters_listed, group_size, lists_bytes, spans_len, torn_bytes}
 use Rattle.nt_pagelists.specs.Staying.{without_fate}
@@ -114,9 +114,9 @@ take-all (suc n) (x ∷ xs) is = ap (λ (l : List _). x ∷ l) (take-all n xs (o
 
 -- a book whose last group is full, and has no list yet, ends with the last cluster of it
 pub due-ends : (b : BookData) (g : ℕ × ℕ) → IsBookKept b → b.group ≡ Some g → b.torn ≡ None
-    → length (book_clusters b) ≡ clusters_listed g.0 b.lists + g.0
+    → length (book_ranges b) ≡ clusters_listed g.0 b.lists + g.0
     → book_end b
-    ≡ ranges_end b.begin (take (0 + clusters_listed (group_size b.group) b.lists + group_size b.group) (book_clusters b))
+    ≡ ranges_end b.begin (take (0 + clusters_listed (group_size b.group) b.lists + group_size b.group) (book_ranges b))
 due-ends b g kept is whole full =
     let cs = ranges_of b.history in
     let some : 0 < g.0 = subst (λ (o : Option (ℕ × ℕ)). IfSome o (λ (k : ℕ × ℕ). 0 < k.0)) is kept.sized in

@@ -4,8 +4,8 @@ use Rattle.std.proofs.Common.{Option, Some, arith, subst, append_assoc, append-n
 use Rattle.std.specs.Prelude.{◌⊎◌}
 use Rattle.std.specs.List.{AllByRecursion}
 use Rattle.nt_lists.specs.Parts.{Part}
-use Rattle.nt_outside.specs.Log.{Step, Append, FailedAppend, Reserve, Settle}
-use Rattle.nt_outside.specs.Held.{Held, appended, Becomes, BecomesSome, WhereHeld, IsReserved}
+use Rattle.nt_outside.specs.Log.{Step, Append, FailedAppend, Settle}
+use Rattle.nt_outside.specs.Held.{Held, appended, Becomes, BecomesSome, WhereHeld}
 use Rattle.nt_outside.specs.Range.{without}
 use Rattle.nt_outside.specs.Disk.{DiskState}
 use Rattle.nt_outside.specs.Faults.{Rose}
@@ -13,14 +13,14 @@ use Rattle.nt_machine.specs.declared.entry.Entry.{Entry}
 use Rattle.nt_machine.specs.declared.entry.EntryKind.{EntryKind}
 use Rattle.nt_machine.specs.declared.entry.EntryKind.TheVariants as entry
 use Rattle.nt_machine.specs.Faults.{HasRisen, HasFaults, faults_after, FaultsRise}
-use Rattle.nt_machine.specs.History.{Cluster, Fate, Out, is_out, handed_back, after_kind, after_entry, ranges_of}
+use Rattle.nt_machine.specs.History.{Cluster, Fate, is_out, handed_back, after_kind, after_entry, ranges_of}
 use Rattle.nt_machine.specs.Legal.{IsKindAllowed, IsAllowed, IsOut, ranges_end}
 use Rattle.nt_machine.proofs.Histories.{AllByRecursion-append}
 use Rattle.nt_machine.proofs.Legality.{IsLegalAfter-snoc, ranges_of-snoc, ranges_of-back, IsApart-fold}
 use Rattle.nt_commit.specs.Locked.{HasToldBytes, place_of, ranges_out, IsDiskAfter}
 use Rattle.nt_logged.specs.Logs.{IsLogOf}
-use Rattle.nt_logged.proofs.Growing.{log-commit, log-fault, log-list, log-tear}
-use Rattle.nt_commit.proofs.Handed.{IsRoomy, ranges_out-snoc, ranges_out-set, roomy-handed_back, bytes-handed_back}
+use Rattle.nt_logged.proofs.Growing.{log-fault, log-list, log-tear}
+use Rattle.nt_commit.proofs.Handed.{IsRoomy, ranges_out-set, roomy-handed_back, bytes-handed_back}
 
 -- a count that rose has risen
 pub risen : (before now : ℕ) → before ≤ now → Rose before now → now < 2 ^ 64 → HasRisen before now
@@ -45,6 +45,8 @@ module _ {M : Type 0} where
   rise_first : (least count : ℕ) (k : EntryKind M) → least ≤ count → (HasFaults k → HasRisen count (faults_after count k))
       → (HasFaults k → HasRisen least (faults_after least k)) × (faults_after least k ≤ faults_after count k)
   rise_first least count (entry.Committed n start len meta) le rises = (λ h. absurd h, le)
+  rise_first least count (entry.Reserved n start len meta) le rises = (λ h. absurd h, le)
+  rise_first least count (entry.Published ns) le rises = (λ h. absurd h, le)
   rise_first least count (entry.Settled n bytes) le rises = (λ h. absurd h, le)
   rise_first least count (entry.Spoiled n faults) le rises = (λ h. later_risen least count faults le (rises h), omega arith)
   rise_first least count (entry.Faulted faults) le rises = (λ h. later_risen least count faults le (rises h), omega arith)
@@ -165,30 +167,6 @@ module _ {M : Type 0} where
         (λ steps was.
         subst (λ (to : ℕ). IsLogOf begun.end to history lists (torn ++ len ∷ []) (steps ++ FailedAppend len ∷ [])) (sym end)
         (log-tear begun.end d.end history lists torn steps was len)) out later
-
-    -- a range was reserved for a cluster
-    pub IsDiskAfter-commit : (i n start len : ℕ) (meta : M) → n ≡ length (ranges_of history)
-        → ranges_end begun.end (ranges_of history) ≤ start → d.end ≡ start → i ≤ contexts → 42 ≤ len
-        → BecomesSome d.held d'.held (IsReserved d.end len) → d'.end ≡ d.end + len → d'.out ≡ d.out ++ record {
-          start = d.end;
-          len = len;
-        } ∷ [] → d.faults ≤ d'.faults
-        → IsDiskAfter begun d' contexts (history ++ record { context = i; kind = entry.Committed n start len meta } ∷ []) lists torn
-    IsDiskAfter-commit i n start len meta number behind from context roomy log end out later =
-        let c : Cluster M = record { context = i; number = n; start = start; len = len; meta = meta; state = Out } in
-        let old = ranges_of history in
-        let e : ℕ → Entry M = λ (m : ℕ). record { context = i; kind = entry.Committed n m len meta } in
-        IsDiskAfter-snoc (e start) (Reserve start len ∷ []) (number, behind) context
-        (AllByRecursion-append IsRoomy old (c ∷ []) follows.roomy (roomy, tt))
-        (λ h is. AllByRecursion-append (λ (c : Cluster M). HasToldBytes c.state) old (c ∷ []) (follows.told h is) (tt, tt))
-        (out ∙ (ap (λ (l : List _). l ++ record { start = d.end; len = len } ∷ []) follows.out
-        ∙ (ap (λ (m : ℕ). ranges_out old ++ record { start = m; len = len } ∷ []) from ∙ sym (ranges_out-snoc old c refl))))
-        (λ begins told h is. let next = log h is in (next.0, next.1, next.2.log ∙ ap (λ (m : ℕ). h.log ++ Reserve m len ∷ []) from))
-        (λ steps was.
-        subst (λ (to : ℕ). IsLogOf begun.end to (history ++ e start ∷ []) lists torn (steps ++ Reserve start len ∷ [])) (sym end)
-        (subst (λ (m : ℕ). IsLogOf begun.end (d.end + len) (history ++ e m ∷ []) lists torn (steps ++ Reserve m len ∷ [])) from
-        (log-commit begun.end d.end history lists torn steps was i n len meta)))
-        (λ h. absurd h) later
 
     -- a range was handed back
     pub IsDiskAfter-back : (i n : ℕ) (fate : Fate) (k : EntryKind M) (bytes : Option (List ℕ)) → (is : IsOut (ranges_of history) i n)

@@ -47,6 +47,7 @@ module _ {D : Type 0} (state : D → DiskState) (d : D) (contexts : ℕ) (b : Bo
     columns = refl;
     firsts = refl;
     group = refl;
+    staged = refl;
     end = omega (
       arith,
       new.end,

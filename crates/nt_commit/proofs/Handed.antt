@@ -145,6 +145,8 @@ module _ {M : Type 0} where
   -- how many bytes the range has that an entry reserves
   abbrev pub reserved_len : EntryKind M → ℕ
   reserved_len (entry.Committed n start len meta) = len
+  reserved_len (entry.Reserved n start len meta) = len
+  reserved_len (entry.Published ns) = 0
   reserved_len (entry.Settled n bytes) = 0
   reserved_len (entry.Spoiled n faults) = 0
   reserved_len (entry.Faulted faults) = 0
@@ -152,6 +154,8 @@ module _ {M : Type 0} where
   end_after-kind : (place : ℕ) (cs : List (Cluster M)) (i : ℕ) (k : EntryKind M)
       → end_after place (after_kind cs i k) ≡ end_after place cs + reserved_len k
   end_after-kind place cs i (entry.Committed n start len meta) = end_after-snoc place cs _
+  end_after-kind place cs i (entry.Reserved n start len meta) = end_after-snoc place cs _
+  end_after-kind place cs i (entry.Published ns) = omega arith
   end_after-kind place cs i (entry.Settled n bytes) = omega (arith, end_after-handed_back place i n (Settled bytes) cs)
   end_after-kind place cs i (entry.Spoiled n faults) = omega (arith, end_after-handed_back place i n (Spoiled faults) cs)
   end_after-kind place cs i (entry.Faulted faults) = omega arith

@@ -21,7 +21,7 @@ use Rattle.nt_commit.specs.declared.error.CommitError.{CommitError}
 use Rattle.nt_commit.specs.declared.error.CommitError.TheVariants.{RangeTooLarge, FileTooLarge, TooManyClusters, Memory, Fault}
 use Rattle.nt_commit.specs.declared.locked.Birth.{Birth}
 use Rattle.nt_commit.specs.Claims.{IsClaimOf, CommitAdds, PenAdds, settled_with}
-use Rattle.nt_commit.specs.Holds.{IsPassOf, IsCommittable, IsLater, HistoryGrows, OpensPen, SettlesRange, Spoils, IsHold}
+use Rattle.nt_commit.specs.Holds.{IsPassOf, IsCommittable, IsLater, Commits, HistoryGrows, OpensPen, SettlesRange, Spoils, IsHold}
 use Rattle.nt_commit.specs.Holds.{AddsInHold, OpensInHold}
 use Rattle.nt_commit.specs.Holds.{RefusesPen, LeavesAfter}
 use Rattle.nt_commit.specs.Locked.{LockedState, birth_of, context_of, history_of_locked}
@@ -29,15 +29,16 @@ use Rattle.nt_logged.specs.Steps.{bytes_where_told}
 use Rattle.nt_commit.proofs.Claimed.{claim_in}
 
 -- the entries of an answer are of the context
-pub own_commit : {X : Type 0} (tell : X → ExtState) (held : Option Held) (was is n start : ℕ) (meta : ClusterMeta)
+pub own_commit : {X : Type 0} (staged : Bool) (tell : X → ExtState) (held : Option Held) (was is n start : ℕ) (meta : ClusterMeta)
     (result : Result (Claim X) CommitError) (added : List (Entry ClusterMeta))
-    → CommitAdds tell held was is n start meta result added → AllByRecursion (λ (e : Entry ClusterMeta). e.context ≡ meta.context) added
-own_commit tell held was is n start meta (Ok claim) added adds = rw adds.1 (refl, tt)
-own_commit tell held was is n start meta (Err (RangeTooLarge len most)) added adds = rw adds tt
-own_commit tell held was is n start meta (Err (FileTooLarge end most)) added adds = rw adds tt
-own_commit tell held was is n start meta (Err TooManyClusters) added adds = rw adds tt
-own_commit tell held was is n start meta (Err Memory) added adds = rw adds tt
-own_commit tell held was is n start meta (Err Fault) added adds = rw adds.1 (refl, tt)
+    → CommitAdds staged tell held was is n start meta result added
+    → AllByRecursion (λ (e : Entry ClusterMeta). e.context ≡ meta.context) added
+own_commit staged tell held was is n start meta (Ok claim) added adds = rw adds.1 (refl, tt)
+own_commit staged tell held was is n start meta (Err (RangeTooLarge len most)) added adds = rw adds tt
+own_commit staged tell held was is n start meta (Err (FileTooLarge end most)) added adds = rw adds tt
+own_commit staged tell held was is n start meta (Err TooManyClusters) added adds = rw adds tt
+own_commit staged tell held was is n start meta (Err Memory) added adds = rw adds tt
+own_commit staged tell held was is n start meta (Err Fault) added adds = rw adds.1 (refl, tt)
 
 pub own_pen : {P : Type 0} (was is context : ℕ) (result : Result P Refused) (added : List (Entry ClusterMeta))
     → PenAdds was is context result added → AllByRecursion (λ (e : Entry ClusterMeta). e.context ≡ context) added
@@ -72,9 +73,13 @@ module _ {D : Type 0} (state : D → DiskState) (committer : TurnState (Birth D)
   context_fits context is = omega (arith, is, of.number, ap (λ (b : Birth D). b.contexts) birth_is)
 
   -- a cluster may be committed by what never changes
-  pub committable : (meta : ClusterMeta) → IsCommittable committer.birth.columns committer.birth.contexts meta
-      → IsCommittable taken.birth.columns taken.birth.contexts meta
-  committable meta is = subst (λ (b : Birth D). IsCommittable b.columns b.contexts meta) (sym birth_is) is
+  pub committable : (meta : ClusterMeta) → IsCommittable committer.birth meta → IsCommittable taken.birth meta
+  committable meta is = subst (λ (b : Birth D). IsCommittable b meta) (sym birth_is) is
+
+  -- what was committed is so by the committer
+  pub commits_by : {X : Type 0} (tell : X → ExtState) (meta : ClusterMeta) (given : LockedState D) (result : Result (Claim X) CommitError)
+      → Commits state taken.birth.staged tell meta taken given result → Commits state committer.birth.staged tell meta taken given result
+  commits_by tell meta given result commits = subst (λ (b : Birth D). Commits state b.staged tell meta taken given result) birth_is commits
 
   -- an own claim is one of what was taken
   pub claim_taken : {X : Type 0} (tell : X → ExtState) (claim : Claim X)

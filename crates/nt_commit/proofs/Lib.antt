@@ -14,8 +14,13 @@ mod Listing
 mod Noting
 mod Owned
 pub mod Placing
+mod Publishing
+mod Reserving
 mod Returning
 mod Short
 mod Standing
 mod Stepping
 mod Telling
+mod ToldRanges
+mod Unpublished
+pub mod Unstaged

@@ -30,6 +30,7 @@ use Rattle.nt_commit.proofs.Listed.{due-whole, due-group, listed-snoc, listed-mo
 use Rattle.nt_commit.proofs.Short.{short-snoc, within-snoc}
 use Rattle.nt_commit.proofs.Following.{risen, IsDiskAfter-list, IsDiskAfter-tear, IsDiskAfter-fault}
 use Rattle.nt_commit.proofs.Telling.{told_history-same}
+use Rattle.nt_commit.proofs.Unstaged.{count-plain, group-plain}
 use Rattle.nt_commit.proofs.Standing.{locked_of}
 use Rattle.nt_commit.proofs.Stepping.{AreShort, AreWithin, told-faulted, new_step, counted, grown}
 
@@ -58,7 +59,9 @@ module _ {D : Type 0} (state : D → DiskState) (begun d : D) (contexts : ℕ) (
         → IsLater state old new × (history_of_locked state new ≡ history ++ [])
     noted kept l is due listed fits log end grew out later =
         let group = due-group b due in
-        let ends = due-ends b group.0 kept group.1 (due-whole b due) (due-full b group.0 due group.1) in
+        let plain = group-plain b group.0 kept group.1 in
+        let ends = due-ends b group.0 kept group.1 (due-whole b due)
+        (sym (count-plain b plain) ∙ due-full b group.0 due group.1) in
         let bytes = blob (state d).end (due_object b) in
         let all : history_of_locked state new ≡ history =
         ap (λ (x : BookData). told_history (state begun).held (state d').held x.history) is
@@ -111,6 +114,7 @@ module _ {D : Type 0} (state : D → DiskState) (begun d : D) (contexts : ℕ) (
         grown state begun d contexts b was d' b' e steps (ap (λ (x : BookData). x.history) is) gains
         ∙ ap (λ (x : Entry ClusterMeta). history ++ x ∷ []) (told-faulted (state begun).held i faults []) in
         let group = due-group b due in
+        let plain = group-plain b group.0 kept group.1 in
         let full = due-full b group.0 due group.1 in
         let filled : clusters_listed (group_size b.group) b.lists + group_size b.group ≤ length (book_clusters b) =
         subst (λ (o : Option (ℕ × ℕ)). clusters_listed (group_size o) b.lists + group_size o ≤ length (book_clusters b)) (sym group.1)
@@ -128,8 +132,8 @@ module _ {D : Type 0} (state : D → DiskState) (begun d : D) (contexts : ℕ) (
               (risen (state d).faults faults (omega (arith, later, count)) (subst (λ (n : ℕ). Rose (state d).faults n) (sym count) rose)
               fits) (omega (arith, count))))
               (listed-torn after was.lists was.torn (listed-snoc b was.lists was.torn was.listed kept e spare) t (due-whole b due)
-              (full-next b was.lists was.torn was.listed kept e spare filled)
-              (omega (arith, grew, most, due-next-len b was.lists was.torn was.listed kept e spare filled)))
+              (full-next b was.lists was.torn was.listed kept e spare plain filled)
+              (omega (arith, grew, most, due-next-len b was.lists was.torn was.listed kept e spare plain filled)))
               (λ none. absurd (due-none b due none))
               (λ sound. absurd (last-sound history e (subst HasNoFault all sound) tt))
               (subst (AreShort b.limits) (sym all) (short-snoc b.limits.range history e tt was.short))

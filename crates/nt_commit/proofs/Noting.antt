@@ -49,6 +49,8 @@ stays-behind (suc k) (c ∷ cs) more le =
 stays-kind : (k : ℕ) (cs : List (Cluster ClusterMeta)) (i : ℕ) (kind : EntryKind ClusterMeta) → k ≤ length cs
     → map without_fate (take k (after_kind cs i kind)) ≡ map without_fate (take k cs)
 stays-kind k cs i (entry.Committed n start len meta) le = stays-behind k cs _ le
+stays-kind k cs i (entry.Reserved n start len meta) le = stays-behind k cs _ le
+stays-kind k cs i (entry.Published ns) le = refl
 stays-kind k cs i (entry.Settled n bytes) le = stays-handed i n (Settled bytes) k cs
 stays-kind k cs i (entry.Spoiled n faults) le = stays-handed i n (Spoiled faults) k cs
 stays-kind k cs i (entry.Faulted faults) le = refl
@@ -57,6 +59,10 @@ more-kind : (cs : List (Cluster ClusterMeta)) (i : ℕ) (kind : EntryKind Cluste
 more-kind cs i (entry.Committed n start len meta) =
     let more : Cluster ClusterMeta = record { context = i; number = n; start = start; len = len; meta = meta; state = Out } in
     omega (arith, length-append cs (more ∷ []))
+more-kind cs i (entry.Reserved n start len meta) =
+    let more : Cluster ClusterMeta = record { context = i; number = n; start = start; len = len; meta = meta; state = Out } in
+    omega (arith, length-append cs (more ∷ []))
+more-kind cs i (entry.Published ns) = omega arith
 more-kind cs i (entry.Settled n bytes) = omega (arith, length-map cs (handed_back i n (Settled bytes)))
 more-kind cs i (entry.Spoiled n faults) = omega (arith, length-map cs (handed_back i n (Spoiled faults)))
 more-kind cs i (entry.Faulted faults) = omega arith
@@ -122,6 +128,13 @@ module _ (sum most : ℕ) where
         subst (λ (object : List ℕ). IsNoted object l p) is h.0,
         noted-same clusters old new same (from + most) ls ps (omega (arith, le)) h.1,
       )
+
+  -- where none is noted, none is
+  pub noted-none : (old new : BookData) (from : ℕ) (ls : List NotedList) (ps : List Part) → ls ≡ []
+      → AreNoted sum most old from ls ps → AreNoted sum most new from ls ps
+  noted-none old new from [] [] none h = tt
+  noted-none old new from [] (p ∷ ps) none h = absurd h
+  noted-none old new from (l ∷ ls) ps none h = absurd (cc none)
 
   -- one list more
   pub noted-snoc : (book : BookData) (from : ℕ) (ls : List NotedList) (ps : List Part) (l : NotedList) (p : Part)

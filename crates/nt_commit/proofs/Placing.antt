@@ -158,6 +158,24 @@ listed-of b g lists torn kept listed is = record {
   )) listed.torn_short;
 }
 
+-- the next cluster of a book without groups
+pub bare-place : (b B : BookData) (due : ℕ) → b.group ≡ None → HasNoLists b.lists b.torn → B.group ≡ b.group
+    → end_after B.begin (ranges_of B.history) ≡ end_after b.begin (ranges_of b.history) → due ≡ due_or_none (is_due b) (due_len b)
+    → IsNextPlace B (book_end b) due
+bare-place b B due none unlisted group end due_is =
+    let nothing : due ≡ 0 =
+    due_is
+    ∙ ap (λ (o : Option (ℕ × ℕ)). due_or_none (is_due_after o b.lists b.torn (length (book_clusters b))) (due_len b)) none in
+    let all : full_lists_len B.group B ≡ 0 = ap (λ (o : Option (ℕ × ℕ)). full_lists_len o B) (group ∙ none) in
+    let here : book_end b ≡ end_after B.begin (ranges_of B.history) =
+    omega (arith, end, ap lists_bytes unlisted.none_noted, ap torn_bytes unlisted.none_torn) in
+    record {
+      due_is = subst (λ (o : Option (ℕ × ℕ)). IsDueLen o B due) (sym (group ∙ none)) nothing;
+      least = omega (arith, here);
+      most = omega (arith, here, nothing, all);
+      exact = λ sound. omega (arith, here, nothing, all);
+    }
+
 module _ (b B : BookData) (kept : IsBookKept b) (lists : List Part) (torn : List ℕ) (listed : HasListsOf b lists torn)
     (unlisted : b.group ≡ None → HasNoLists b.lists b.torn) (group : B.group ≡ b.group)
     (count : length (book_clusters B) ≡ length (book_clusters b))
@@ -166,22 +184,6 @@ module _ (b B : BookData) (kept : IsBookKept b) (lists : List Part) (torn : List
     (due_is : due ≡ due_or_none (is_due b) (due_len b)) where
   abbrev clusters : ℕ
   clusters = length (book_clusters b)
-
-  -- of a book without groups
-  bare-place : b.group ≡ None → IsNextPlace B (book_end b) due
-  bare-place none =
-      let no = unlisted none in
-      let nothing : due ≡ 0 =
-      due_is ∙ ap (λ (o : Option (ℕ × ℕ)). due_or_none (is_due_after o b.lists b.torn clusters) (due_len b)) none in
-      let all : full_lists_len B.group B ≡ 0 = ap (λ (o : Option (ℕ × ℕ)). full_lists_len o B) (group ∙ none) in
-      let here : book_end b ≡ end_after B.begin (ranges_of B.history) =
-      omega (arith, end, ap lists_bytes no.none_noted, ap torn_bytes no.none_torn) in
-      record {
-        due_is = subst (λ (o : Option (ℕ × ℕ)). IsDueLen o B due) (sym (group ∙ none)) nothing;
-        least = omega (arith, here);
-        most = omega (arith, here, nothing, all);
-        exact = λ sound. omega (arith, here, nothing, all);
-      }
 
   module _ (g : ℕ × ℕ) (is : b.group ≡ Some g) where
     abbrev owed : ℕ
@@ -230,7 +232,7 @@ module _ (b B : BookData) (kept : IsBookKept b) (lists : List Part) (torn : List
         }
 
   by-group : (o : Option (ℕ × ℕ)) → b.group ≡ o → IsNextPlace B (book_end b) due
-  by-group None is = bare-place is
+  by-group None is = bare-place b B due is (unlisted is) group end due_is
   by-group (Some g) is = grouped-place g is
 
   -- the next cluster begins behind all that the book has, and behind the list that is due

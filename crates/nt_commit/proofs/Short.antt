@@ -20,6 +20,8 @@ module _ {M : Type 0} (most : ℕ) where
   -- a range that the entry reserves is at most so long
   abbrev pub ReservesShort : EntryKind M → Type 0
   ReservesShort (entry.Committed n start len meta) = len ≤ most
+  ReservesShort (entry.Reserved n start len meta) = len ≤ most
+  ReservesShort (entry.Published ns) = Unit {0}
   ReservesShort (entry.Settled n bytes) = Unit {0}
   ReservesShort (entry.Spoiled n faults) = Unit {0}
   ReservesShort (entry.Faulted faults) = Unit {0}
@@ -34,6 +36,8 @@ module _ {M : Type 0} (most : ℕ) where
   short-after : (cs : List (Cluster M)) (i : ℕ) (k : EntryKind M) → ReservesShort k → AllByRecursion IsShort cs
       → AllByRecursion IsShort (after_kind cs i k)
   short-after cs i (entry.Committed n start len meta) low short = AllByRecursion-append IsShort cs _ short (low, tt)
+  short-after cs i (entry.Reserved n start len meta) low short = AllByRecursion-append IsShort cs _ short (low, tt)
+  short-after cs i (entry.Published ns) low short = short
   short-after cs i (entry.Settled n bytes) low short = short-handed_back i n (Settled bytes) cs short
   short-after cs i (entry.Spoiled n faults) low short = short-handed_back i n (Spoiled faults) cs short
   short-after cs i (entry.Faulted faults) low short = short
@@ -50,12 +54,17 @@ module _ {M : Type 0} (limits : Limits) (begin : ℕ) where
   abbrev pub ReservesWithin : List (Cluster M) → EntryKind M → Type 0
   ReservesWithin cs (entry.Committed n start len meta) =
       (len ≤ limits.range) × (end_after begin cs + len ≤ limits.file) × (length cs < limits.clusters)
+  ReservesWithin cs (entry.Reserved n start len meta) =
+      (len ≤ limits.range) × (end_after begin cs + len ≤ limits.file) × (length cs < limits.clusters)
+  ReservesWithin cs (entry.Published ns) = Unit {0}
   ReservesWithin cs (entry.Settled n bytes) = Unit {0}
   ReservesWithin cs (entry.Spoiled n faults) = Unit {0}
   ReservesWithin cs (entry.Faulted faults) = Unit {0}
 
   pub reserves-short : (cs : List (Cluster M)) (k : EntryKind M) → ReservesWithin cs k → ReservesShort limits.range k
   reserves-short cs (entry.Committed n start len meta) low = low.0
+  reserves-short cs (entry.Reserved n start len meta) low = low.0
+  reserves-short cs (entry.Published ns) low = tt
   reserves-short cs (entry.Settled n bytes) low = tt
   reserves-short cs (entry.Spoiled n faults) low = tt
   reserves-short cs (entry.Faulted faults) low = tt
@@ -76,6 +85,13 @@ module _ {M : Type 0} (limits : Limits) (begin : ℕ) where
         file = λ some. omega (arith, end_after-snoc begin cs c, low.1);
         few = omega (arith, length-append cs (c ∷ []), low.2);
       }
+  within-after cs i (entry.Reserved n start len meta) low within =
+      let c : Cluster M = record { context = i; number = n; start = start; len = len; meta = meta; state = Out } in
+      record {
+        file = λ some. omega (arith, end_after-snoc begin cs c, low.1);
+        few = omega (arith, length-append cs (c ∷ []), low.2);
+      }
+  within-after cs i (entry.Published ns) low within = within
   within-after cs i (entry.Settled n bytes) low within = within-handed_back i n (Settled bytes) cs within
   within-after cs i (entry.Spoiled n faults) low within = within-handed_back i n (Spoiled faults) cs within
   within-after cs i (entry.Faulted faults) low within = within

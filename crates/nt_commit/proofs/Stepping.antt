@@ -1,6 +1,6 @@
 -- A disk and its book with one entry more.
 use Rattle.std.proofs.Common.{◌≡◌, ◌∙◌, ap, sym, refl, ℕ, ◌+◌, ◌≤◌, List, [], ◌∷◌, ◌++◌, length, Option, Some, None, arith, subst}
-use Rattle.std.proofs.Common.{append-nil}
+use Rattle.std.proofs.Common.{append-nil, Bool, true, false}
 use Rattle.std.specs.List.{AllByRecursion}
 use Rattle.nt_lists.specs.Parts.{Part}
 use Rattle.nt_outside.specs.Log.{Step}
@@ -18,6 +18,7 @@ use Rattle.nt_book.specs.Books.{BookData, book_end}
 use Rattle.nt_book.specs.Kept.{IsBookKept}
 use Rattle.nt_book.specs.Listing.{HasNoLists, lists_bytes, torn_bytes}
 use Rattle.nt_book.specs.Entries.{faulted_entry}
+use Rattle.nt_commit.specs.Claims.{reserving_entry}
 use Rattle.nt_commit.specs.Holds.{IsLater}
 use Rattle.nt_commit.specs.Lists.{HasListsOf, HasNoFault}
 use Rattle.nt_commit.specs.Locked.{LockedState, EndWithin, IsDiskAfter, IsInStep, history_of_locked}
@@ -31,8 +32,8 @@ use Rattle.nt_commit.proofs.Telling.{told_entry, steps_count, GainsSo, told_hist
 use Rattle.nt_commit.proofs.Standing.{locked_of}
 
 -- the book has this history, and nothing else of it changed but the room
-abbrev pub HasHistory : BookData → BookData → List (Entry ClusterMeta) → ℕ → Type 0
-HasHistory b b' entries spare = b' ≡ record b { history = entries; spare = spare }
+abbrev pub HasHistory : BookData → BookData → List (Entry ClusterMeta) → ℕ → Option ℕ → Type 0
+HasHistory b b' entries spare ready = b' ≡ record b { history = entries; spare = spare; ready = ready }
 
 -- no range of these entries is longer than the limits let it be
 abbrev pub AreShort : Limits → List (Entry ClusterMeta) → Type 0
@@ -43,13 +44,19 @@ abbrev pub AreWithin : Limits → ℕ → List (Entry ClusterMeta) → Type 0
 AreWithin limits begin entries = EndWithin limits begin (ranges_of entries)
 
 -- only a settled entry gains bytes
-pub told-committed : (held : Option Held) (i n start len : ℕ) (meta : ClusterMeta) (steps : List Step)
-    → told_entry held (record { context = i; kind = entry.Committed n start len meta }) steps ≡ record {
+pub told-reserving : (staged : Bool) (held : Option Held) (n start : ℕ) (meta : ClusterMeta) (steps : List Step)
+    → told_entry held (reserving_entry staged n start meta) steps ≡ reserving_entry staged n start meta
+told-reserving staged None n start meta steps = refl
+told-reserving false (Some h) n start meta steps = refl
+told-reserving true (Some h) n start meta steps = refl
+
+pub told-published : (held : Option Held) (i : ℕ) (ns : List ℕ) (steps : List Step)
+    → told_entry {M = ClusterMeta} held (record { context = i; kind = entry.Published ns }) steps ≡ record {
       context = i;
-      kind = entry.Committed n start len meta;
+      kind = entry.Published ns;
     }
-told-committed None i n start len meta steps = refl
-told-committed (Some h) i n start len meta steps = refl
+told-published None i ns steps = refl
+told-published (Some h) i ns steps = refl
 
 pub told-faulted : (held : Option Held) (i faults : ℕ) (steps : List Step) → told_entry held (faulted_entry i faults) steps
     ≡ faulted_entry i faults
@@ -74,10 +81,11 @@ module _ {D : Type 0} (state : D → DiskState) (begun d : D) (contexts : ℕ) (
     new = locked_of begun d' contexts b'
 
     -- the book has this history, these page lists and tears
-    abbrev HasAll : List (Entry ClusterMeta) → ℕ → List NotedList → Option Tear → Type 0
-    HasAll entries spare ls t = b' ≡ record b { history = entries; spare = spare; lists = ls; torn = t }
+    abbrev HasAll : List (Entry ClusterMeta) → ℕ → Option ℕ → List NotedList → Option Tear → Type 0
+    HasAll entries spare ready ls t = b' ≡ record b { history = entries; spare = spare; lists = ls; torn = t; ready = ready }
 
-    pub new_step : (entries : List (Entry ClusterMeta)) (spare : ℕ) (ls : List NotedList) (t : Option Tear) → HasAll entries spare ls t
+    pub new_step : (entries : List (Entry ClusterMeta)) (spare : ℕ) {ready : Option ℕ} (ls : List NotedList) (t : Option Tear)
+        → HasAll entries spare ready ls t
         → (state d').end ≡ end_after b.begin (ranges_of entries) + (lists_bytes ls + torn_bytes t)
         → (lists : List Part) (torn : List ℕ)
         → IsDiskAfter (state begun) (state d') contexts (history_of_locked state new) lists torn
@@ -85,7 +93,7 @@ module _ {D : Type 0} (state : D → DiskState) (begun d : D) (contexts : ℕ) (
         → (b.group ≡ None → HasNoLists ls t) → (HasNoFault (history_of_locked state new) → t ≡ None)
         → AreShort b.limits (history_of_locked state new) → AreWithin b.limits (state begun).end (history_of_locked state new)
         → IsLater state old new
-    new_step entries spare ls t is end lists torn follows listed ungrouped whole short within =
+    new_step entries spare {ready} ls t is end lists torn follows listed ungrouped whole short within =
         record {
           birth = ap (λ (x : BookData). (locked_of begun d' contexts x).birth) is;
           before = was;
@@ -95,11 +103,13 @@ module _ {D : Type 0} (state : D → DiskState) (begun d : D) (contexts : ℕ) (
             columns = refl;
             firsts = refl;
             group = refl;
+            staged = refl;
             end = end ∙ sym (ap (λ (x : BookData). book_end x) is);
             lists = lists;
             torn = torn;
             follows = follows;
-            listed = subst (λ (x : BookData). HasListsOf x lists torn) (sym is) listed;
+            listed = subst (λ (x : BookData). HasListsOf x lists torn) (sym is)
+                (listed-room (record b { history = entries; spare = spare; lists = ls; torn = t }) lists torn listed spare ready);
             ungrouped = subst (λ (x : BookData). x.group ≡ None → HasNoLists x.lists x.torn) (sym is) ungrouped;
             whole = λ sound. ap (λ (x : BookData). x.torn) is ∙ whole sound;
             short = subst (λ (l : Limits). AllByRecursion (IsShort l.range) (ranges_of (history_of_locked state new)))
@@ -131,14 +141,15 @@ module _ {D : Type 0} (state : D → DiskState) (begun d : D) (contexts : ℕ) (
         ap (λ (l : List (Entry ClusterMeta)). told_history (state begun).held (state d').held l) is
         ∙ told_history-snoc (state begun).held (state d).held (state d').held b.history e steps counted log
 
-    pub grows_to : IsBookKept b → (e e' : Entry ClusterMeta) (spare : ℕ) (steps : List Step) → HasHistory b b' (b.history ++ e ∷ []) spare
+    pub grows_to : IsBookKept b → (e e' : Entry ClusterMeta) (spare : ℕ) {ready : Option ℕ} (steps : List Step)
+        → HasHistory b b' (b.history ++ e ∷ []) spare ready
         → BecomesSome (state d).held (state d').held (λ h h'. h'.log ≡ h.log ++ steps)
         → told_entry (state begun).held e (range_steps steps) ≡ e'
         → (state d').end ≡ (state d).end + reserved_len e.kind
         → IsDiskAfter (state begun) (state d') contexts (history ++ e' ∷ []) was.lists was.torn
         → ReservesWithin b.limits (state begun).end (ranges_of history) e'.kind
         → IsLater state old new × (history_of_locked state new ≡ history ++ e' ∷ [])
-    grows_to kept e e' spare steps is log told end follows low =
+    grows_to kept e e' spare {ready} steps is log told end follows low =
         let all = grown e steps (ap (λ (x : BookData). x.history) is) log
         ∙ ap (λ (x : Entry ClusterMeta). history ++ x ∷ []) told in (
           new_step (b.history ++ e ∷ []) spare b.lists b.torn is (omega (arith, end, was.end, end_after-entry b.begin b.history e))
@@ -154,10 +165,10 @@ module _ {D : Type 0} (state : D → DiskState) (begun d : D) (contexts : ℕ) (
         )
 
     -- nothing was entered
-    pub same_history : (spare : ℕ) → HasHistory b b' b.history spare → KeepsPlace (state d) (state d')
+    pub same_history : (spare : ℕ) {ready : Option ℕ} → HasHistory b b' b.history spare ready → KeepsPlace (state d) (state d')
         → (state d).faults ≤ (state d').faults
         → IsLater state old new × (history_of_locked state new ≡ history ++ [])
-    same_history spare is place later =
+    same_history spare {ready} is place later =
         let all : history_of_locked state new ≡ history =
         ap (λ (x : BookData). told_history (state begun).held (state d').held x.history) is
         ∙ ap (λ (o : Option Held). told_history (state begun).held o b.history) place.held in (
@@ -165,7 +176,7 @@ module _ {D : Type 0} (state : D → DiskState) (begun d : D) (contexts : ℕ) (
               (subst (λ (l : List (Entry ClusterMeta)). IsDiskAfter (state begun) (state d') contexts l was.lists was.torn) (sym all)
               (IsDiskAfter-same (state begun) (state d) (state d') contexts history was.lists was.torn was.follows place.held place.end
               place.out later))
-              (listed-room b was.lists was.torn was.listed spare) was.ungrouped (λ sound. was.whole (subst HasNoFault all sound))
+              (listed-room b was.lists was.torn was.listed spare b.ready) was.ungrouped (λ sound. was.whole (subst HasNoFault all sound))
               (subst (AreShort b.limits) (sym all) was.short) (subst (AreWithin b.limits (state begun).end) (sym all) was.within),
           all ∙ sym (append-nil history),
         )

@@ -1,5 +1,5 @@
 -- What a disk's log tells of a history with one entry more.
-use Rattle.std.proofs.Common.{◌≡◌, ◌∙◌, ap, sym, refl, ℕ, zero, suc, ◌+◌, ◌≤◌, List, [], ◌∷◌, ◌++◌, length, map, drop, Option, Some, None}
+use Rattle.std.proofs.Common.{◌≡◌, ◌∙◌, ap, sym, refl, ℕ, zero, suc, ◌+◌, ◌≤◌, List, [], ◌∷◌, ◌++◌, length, drop, Option, Some, None}
 use Rattle.std.proofs.Common.{arith, append_assoc, append-nil}
 use Rattle.std.specs.Prelude.{slice_get}
 use Rattle.std.proofs.lemmas.List.{length-append, length-map, drop-append-le}
@@ -10,11 +10,11 @@ use Rattle.nt_outside.specs.Held.{Held, BecomesSome}
 use Rattle.nt_machine.specs.declared.entry.Entry.{Entry}
 use Rattle.nt_machine.specs.declared.entry.EntryKind.{EntryKind}
 use Rattle.nt_machine.specs.declared.entry.EntryKind.TheVariants as entry
-use Rattle.nt_machine.specs.History.{Cluster, after_entry, ranges_of}
-use Rattle.nt_machine.specs.Legal.{IsKindAllowed, IsLegalAfter, IsLegal, IsOut, ranges_end, end_after}
+use Rattle.nt_machine.specs.History.{Cluster, after_entry}
+use Rattle.nt_machine.specs.Legal.{IsKindAllowed, IsLegalAfter, IsLegal, IsOut}
 use Rattle.nt_machine.specs.Told.{settle_at, disk_steps_of, log_after, log_of}
-use Rattle.nt_machine.specs.Untold.{settles, settled_count, with_first, with_bytes, without_first, untold}
-use Rattle.nt_machine.proofs.Untelling.{with_bytes-settled, with_bytes-other, same, same_out, same_end}
+use Rattle.nt_machine.specs.Untold.{settles, settled_count, with_first, with_bytes, without_first}
+use Rattle.nt_machine.proofs.Untelling.{with_bytes-settled, with_bytes-other}
 use Rattle.nt_logged.specs.Tails.{is_of_range, range_steps}
 use Rattle.nt_logged.specs.Steps.{logged_step, first_bytes, steps_of_history, step_count, told_first, told_bytes, told_history}
 
@@ -40,6 +40,8 @@ module _ {M : Type 0} where
 
   length-told_first : (k : EntryKind M) (steps : List Step) → length (told_first k steps) ≡ settles k
   length-told_first (entry.Committed n start len meta) steps = refl
+  length-told_first (entry.Reserved n start len meta) steps = refl
+  length-told_first (entry.Published ns) steps = refl
   length-told_first (entry.Settled n bytes) steps = refl
   length-told_first (entry.Spoiled n faults) steps = refl
   length-told_first (entry.Faulted faults) steps = refl
@@ -58,6 +60,8 @@ module _ {M : Type 0} where
   told_first-append : (k : EntryKind M) (steps new : List Step) → step_count k ≤ length steps → told_first k (steps ++ new)
       ≡ told_first k steps
   told_first-append (entry.Committed n start len meta) steps new le = refl
+  told_first-append (entry.Reserved n start len meta) steps new le = refl
+  told_first-append (entry.Published ns) steps new le = refl
   told_first-append (entry.Settled n bytes) [] new le = absurd (omega (arith, le))
   told_first-append (entry.Settled n bytes) (step ∷ steps) new le = refl
   told_first-append (entry.Spoiled n faults) steps new le = refl
@@ -87,6 +91,12 @@ module _ {M : Type 0} where
       ++ record { context = i; kind = with_first k (told_first k steps) } ∷ []
   with_bytes-snoc es i (entry.Committed n start len meta) told steps long =
       let e : Entry M = record { context = i; kind = entry.Committed n start len meta } in
+      ap (λ (l : List (Option (List ℕ))). with_bytes (es ++ e ∷ []) l) (append-nil told) ∙ with_bytes-other es e told refl
+  with_bytes-snoc es i (entry.Reserved n start len meta) told steps long =
+      let e : Entry M = record { context = i; kind = entry.Reserved n start len meta } in
+      ap (λ (l : List (Option (List ℕ))). with_bytes (es ++ e ∷ []) l) (append-nil told) ∙ with_bytes-other es e told refl
+  with_bytes-snoc es i (entry.Published ns) told steps long =
+      let e : Entry M = record { context = i; kind = entry.Published ns } in
       ap (λ (l : List (Option (List ℕ))). with_bytes (es ++ e ∷ []) l) (append-nil told) ∙ with_bytes-other es e told refl
   with_bytes-snoc es i (entry.Settled n bytes) told steps long = with_bytes-settled es told i n bytes (first_bytes steps) long
   with_bytes-snoc es i (entry.Spoiled n faults) told steps long =
@@ -162,6 +172,8 @@ module _ {M : Type 0} where
   length-disk_steps_of : (place : ℕ) (ranges : List (Cluster M)) (i : ℕ) (k : EntryKind M) → IsKindAllowed place ranges i k
       → length (disk_steps_of ranges k) ≡ step_count k
   length-disk_steps_of place ranges i (entry.Committed n start len meta) ok = refl
+  length-disk_steps_of place ranges i (entry.Reserved n start len meta) ok = refl
+  length-disk_steps_of place ranges i (entry.Published ns) ok = refl
   length-disk_steps_of place ranges i (entry.Settled n bytes) ok = length-settle_at ranges i n bytes ok.0
   length-disk_steps_of place ranges i (entry.Spoiled n faults) ok = length-settle_at ranges i n None ok
   length-disk_steps_of place ranges i (entry.Faulted faults) ok = refl
@@ -180,6 +192,8 @@ module _ {M : Type 0} where
 
   step_count-told : (k : EntryKind M) (told : List (Option (List ℕ))) → step_count (with_first k told) ≡ step_count k
   step_count-told (entry.Committed n start len meta) told = refl
+  step_count-told (entry.Reserved n start len meta) told = refl
+  step_count-told (entry.Published ns) told = refl
   step_count-told (entry.Settled n bytes) [] = refl
   step_count-told (entry.Settled n bytes) (first ∷ rest) = refl
   step_count-told (entry.Spoiled n faults) told = refl
@@ -203,48 +217,3 @@ module _ {M : Type 0} where
   steps_are_counted place begun now history ok =
       length-map (log_of (told_history begun now history)) logged_step
       ∙ (length-log_after place [] (told_history begun now history) ok ∙ steps_count-told begun now history)
-
-  -- the ranges of a told history are out, end and are as many as without the bytes
-  pub told_out : (begun now : Option Held) (history : List (Entry M)) (i n : ℕ)
-      → IsOut (ranges_of (told_history begun now history)) i n → IsOut (ranges_of history) i n
-  told_out None now history i n is = is
-  told_out (Some h) None history i n is = is
-  told_out (Some h) (Some h') history i n is = same_out history
-      (told_bytes history (range_steps (drop (length h.log) h'.log))) i n is
-
-  pub told_end : (place : ℕ) (begun now : Option Held) (history : List (Entry M))
-      → end_after place (ranges_of (told_history begun now history)) ≡ end_after place (ranges_of history)
-  told_end place None now history = refl
-  told_end place (Some h) None history = refl
-  told_end place (Some h) (Some h') history = same_end place history
-      (told_bytes history (range_steps (drop (length h.log) h'.log)))
-
-  last-untold : (place : ℕ) (cs : List (Cluster M)) → ranges_end place (map untold cs) ≡ ranges_end place cs
-  last-untold place [] = refl
-  last-untold place (c ∷ cs) = last-untold (c.start + c.len) cs
-
-  last-with_bytes : (place : ℕ) (history : List (Entry M)) (told : List (Option (List ℕ)))
-      → ranges_end place (ranges_of (with_bytes history told)) ≡ ranges_end place (ranges_of history)
-  last-with_bytes place history told =
-      sym (last-untold place (ranges_of (with_bytes history told)))
-      ∙ (ap (λ (l : List (Cluster M)). ranges_end place l) (same history told) ∙ last-untold place (ranges_of history))
-
-  pub told_last : (place : ℕ) (begun now : Option Held) (history : List (Entry M))
-      → ranges_end place (ranges_of (told_history begun now history)) ≡ ranges_end place (ranges_of history)
-  told_last place None now history = refl
-  told_last place (Some h) None history = refl
-  told_last place (Some h) (Some h') history = last-with_bytes place history
-      (told_bytes history (range_steps (drop (length h.log) h'.log)))
-
-  count-with_bytes : (history : List (Entry M)) (told : List (Option (List ℕ))) → length (ranges_of (with_bytes history told))
-      ≡ length (ranges_of history)
-  count-with_bytes history told =
-      sym (length-map (ranges_of (with_bytes history told)) untold) ∙ (ap (λ (l : List (Cluster M)). length l) (same history told)
-      ∙ length-map (ranges_of history) untold)
-
-  pub told_count : (begun now : Option Held) (history : List (Entry M)) → length (ranges_of (told_history begun now history))
-      ≡ length (ranges_of history)
-  told_count None now history = refl
-  told_count (Some h) None history = refl
-  told_count (Some h) (Some h') history = count-with_bytes history
-      (told_bytes history (range_steps (drop (length h.log) h'.log)))

@@ -1,15 +1,18 @@
 -- The page list that is due and the cluster behind it, as they are appended while the turn is held.
-use Rattle.std.specs.Prelude.{◌≡◌, ℕ, ◌+◌, ◌<◌, ◌≤◌, true, false, List, [], ◌∷◌, ◌++◌, length, replicate, if◌then◌else◌, None, Result, Ok}
-use Rattle.std.specs.Prelude.{Err, OnOk}
+use Rattle.std.specs.Prelude.{◌≡◌, ℕ, ◌+◌, ◌<◌, ◌≤◌, Bool, true, false, List, [], ◌∷◌, ◌++◌, length, replicate, if◌then◌else◌}
+use Rattle.std.specs.Prelude.{None, Result, Ok, Err, OnOk}
 use Rattle.nt_outside.specs.Range.{ExtState}
 use Rattle.nt_outside.specs.Disk.{DiskState}
 use Rattle.nt_outside.specs.Faults.{Rose}
 use Rattle.nt_container.specs.Lengths.{blob_key_len}
+use Rattle.nt_machine.specs.Deal.{times}
 use Rattle.nt_machine.specs.declared.entry.Entry.{Entry}
+use Rattle.nt_machine.specs.History.{publishers_of}
 use Rattle.nt_book.specs.declared.meta.ClusterMeta.{ClusterMeta}
-use Rattle.nt_book.specs.Books.{BookData, book_clusters, book_end, is_due}
+use Rattle.nt_book.specs.Books.{BookData, book_ranges, book_end, is_due}
 use Rattle.nt_book.specs.Limiting.{limit_error}
 use Rattle.nt_book.specs.Entries.{faulted_entry}
+use Rattle.nt_book.specs.Pages.{IsPaged}
 use Rattle.nt_pagelists.specs.Due.{due_object}
 use Rattle.nt_commit.specs.declared.claim.Claim.{Claim}
 use Rattle.nt_commit.specs.declared.error.CommitError.{CommitError}
@@ -33,11 +36,22 @@ pub record FitsList (book : BookData) (len : ℕ) : Type 0 where
   pub within : book_end book + len ≤ book.limits.file
   pub spare : 0 < book.spare
 
--- a cluster of so many bytes keeps the limits of a book, which has room for it and is due no page list
-pub record FitsCluster (book : BookData) (len : ℕ) : Type 0 where
-  pub limits : limit_error book.limits (book_end book) (length (book_clusters book)) len ≡ None
+-- where clusters are staged, this context hasn't published
+abbrev pub MayReserve : BookData → ℕ → Type 0
+MayReserve book context = book.staged ≡ true → times context (publishers_of book.history) ≡ 0
+
+-- a cluster keeps the limits of a book, which has room for it and is due no page list; its context hasn't published
+pub record FitsCluster (book : BookData) (meta : ClusterMeta) : Type 0 where
+  pub limits : limit_error book.limits (book_end book) (length (book_ranges book)) meta.len ≡ None
   pub spare : 0 < book.spare
   pub not_due : is_due book ≡ false
+  pub before : MayReserve book meta.context
+
+-- and it has a list of pages for each column, which lie in it
+pub record IsEnterable (book : BookData) (meta : ClusterMeta) : Type 0 where
+  pub fits : FitsCluster book meta
+  pub lists : length meta.pages ≡ length book.firsts
+  pub paged : IsPaged meta
 
 -- the page list that was due is noted behind the ranges, and so none is due
 pub record IsListNoted (old new : BookData) : Type 0 where
@@ -66,10 +80,10 @@ module _ {D : Type 0} (state : D → DiskState) where
     pub listed : OnOk result (IsListNoted old.book new.book)
 
   -- a cluster that passes no limit was appended, or refused
-  pub record AppendsCluster {X : Type 0} (tell : X → ExtState) (meta : ClusterMeta) (old new : LockedState D)
+  pub record AppendsCluster {X : Type 0} (staged : Bool) (tell : X → ExtState) (meta : ClusterMeta) (old new : LockedState D)
       (result : Result (Claim X) CommitError) : Type 0 where
     pub added : List (Entry ClusterMeta)
     pub grows : HistoryGrows state old new added
-    pub adds : CommitAdds tell (state old.birth.begun).held (state old.disk).faults (state new.disk).faults (locked_count state old)
+    pub adds : CommitAdds staged tell (state old.birth.begun).held (state old.disk).faults (state new.disk).faults (locked_count state old)
         (book_end old.book) meta result added
     pub passes_none : limit_answered result ≡ None

@@ -1,14 +1,19 @@
 -- What each call does to the disk and the book, and what its pass knows of that.
-use Rattle.std.specs.Prelude.{◌≡◌, ℕ, ◌+◌, ◌≤◌, false, List, [], ◌∷◌, ◌++◌, length, Option, Some, Result, Err}
+use Rattle.std.specs.Prelude.{◌≡◌, ℕ, ◌+◌, ◌≤◌, Bool, true, false, List, [], ◌∷◌, ◌++◌, length, Option, Some, None}
+use Rattle.std.specs.Prelude.{Result, Ok, Err, OnErr}
 use mathlib.Core.List.{IsPrefix}
 use Rattle.std.specs.List.{AllByRecursion}
+use Rattle.std.specs.declared.alloc.AllocError.{AllocError}
 use Rattle.nt_turn.specs.Pass.{TurnState, PassState, AllJoined, next_pass}
 use Rattle.nt_outside.specs.Range.{ExtState, PenState}
 use Rattle.nt_outside.specs.Disk.{DiskState}
 use Rattle.nt_outside.specs.Faults.{Rose}
 use Rattle.nt_outside.specs.declared.fault.Refused.{Refused}
+use Rattle.nt_machine.specs.Deal.{times}
 use Rattle.nt_machine.specs.declared.entry.Entry.{Entry}
-use Rattle.nt_machine.specs.History.{Cluster, is_out, ranges_of}
+use Rattle.nt_machine.specs.declared.entry.EntryKind.TheVariants as entry
+use Rattle.nt_machine.specs.History.{Cluster, is_out, numbers_of, own_of, publishers_of, ranges_of}
+use Rattle.nt_machine.specs.Legal.{IsFilledRange}
 use Rattle.nt_book.specs.declared.limits.LimitError.{LimitError}
 use Rattle.nt_book.specs.declared.meta.ClusterMeta.{ClusterMeta}
 use Rattle.nt_book.specs.Entries.{spoiled_entry}
@@ -29,6 +34,20 @@ pub record IsPassOf {D : Type 0} (committer : TurnState (Birth D)) (pass : PassS
   pub birth : pass.birth ≡ Some committer.birth
   pub number : pass.number ≤ committer.birth.contexts
   pub seats : committer.seats ≡ committer.birth.contexts
+
+-- the pass didn't publish yet
+abbrev pub HasNotPublished : {D : Type 0} → PassState (Entry ClusterMeta) (Birth D) → Type 0
+HasNotPublished pass = times pass.number (publishers_of pass.own) ≡ 0
+
+-- it may publish: it didn't yet, and each of its ranges is filled
+pub record MayPublish {D : Type 0} (pass : PassState (Entry ClusterMeta) (Birth D)) : Type 0 where
+  pub before : HasNotPublished pass
+  pub filled : AllByRecursion IsFilledRange (ranges_of pass.own)
+
+-- what a context adds that publishes these ranges: the one entry with their numbers, or nothing where that is refused
+abbrev pub publish_adds : ℕ → List (Cluster ClusterMeta) → Result Unit AllocError → List (Entry ClusterMeta)
+publish_adds context ranges (Ok done) = record { context = context; kind = entry.Published (numbers_of ranges) } ∷ []
+publish_adds context ranges (Err e) = []
 
 -- the first pass of a committer, which doesn't hold the turn
 pub record IsFirstOf {D : Type 0} (committer : TurnState (Birth D)) (pass : PassState (Entry ClusterMeta) (Birth D)) : Type 0 where
@@ -56,10 +75,10 @@ pub record LeavesAfter {D : Type 0} (old pass new : PassState (Entry ClusterMeta
   pub now : new ≡ record old { seen = new.seen; kept = old.kept ++ (pass.number, pass.own) ∷ [] }
 
 -- a cluster that may be committed: it has room for its key, a list of pages for each column, and a context of so many
-pub record IsCommittable (columns contexts : ℕ) (meta : ClusterMeta) : Type 0 where
-  pub context : meta.context ≤ contexts
+pub record IsCommittable {D : Type 0} (birth : Birth D) (meta : ClusterMeta) : Type 0 where
+  pub context : meta.context ≤ birth.contexts
   pub room : key_room ≤ meta.len
-  pub lists : length meta.pages ≡ columns
+  pub lists : length meta.pages ≡ birth.columns
   pub paged : IsPaged meta
 
 module _ {D : Type 0} (state : D → DiskState) where
@@ -69,24 +88,30 @@ module _ {D : Type 0} (state : D → DiskState) where
     pub before : IsInStep state old
     pub after : IsInStep state new
 
-  -- how many clusters there are
+  -- how many ranges there are
   abbrev pub locked_count : LockedState D → ℕ
   locked_count locked = length (ranges_of (history_of_locked state locked))
+
+  -- where clusters are staged, this context hasn't published
+  abbrev pub MayReserveIn : LockedState D → ℕ → Type 0
+  MayReserveIn locked context =
+      locked.birth.staged ≡ true → times context (publishers_of (history_of_locked state locked)) ≡ 0
 
   -- the history grew by these entries
   abbrev pub HistoryGrows : LockedState D → LockedState D → List (Entry ClusterMeta) → Type 0
   HistoryGrows old new added = history_of_locked state new ≡ history_of_locked state old ++ added
 
-  -- a cluster was committed behind all others and behind the page list that was due; or refused: for a limit exactly where the cluster
-  -- or that list passes it
-  pub record Commits {X : Type 0} (tell : X → ExtState) (meta : ClusterMeta) (old new : LockedState D)
+  -- a cluster was committed, or a range reserved for a staged one, behind all others and behind the page list that was due; or refused: for
+  -- a limit exactly where the range or that list passes it. Where clusters are staged there are no page lists beside them
+  pub record Commits {X : Type 0} (staged : Bool) (tell : X → ExtState) (meta : ClusterMeta) (old new : LockedState D)
       (result : Result (Claim X) CommitError) : Type 0 where
     pub place : NextPlace (book_of_birth state old.birth (history_of_locked state old))
     pub limits : HasLooked old.birth.group result
         → limit_at (book_of_birth state old.birth (history_of_locked state old)) place meta.len ≡ limit_answered result
+    pub no_lists : staged ≡ true → old.birth.group ≡ None
     pub added : List (Entry ClusterMeta)
     pub grows : HistoryGrows old new added
-    pub adds : CommitAdds tell (state old.birth.begun).held (state old.disk).faults (state new.disk).faults (locked_count old)
+    pub adds : CommitAdds staged tell (state old.birth.begun).held (state old.disk).faults (state new.disk).faults (locked_count old)
         (place.before + place.due) meta result added
 
   -- a pen was made, or refused
@@ -94,6 +119,11 @@ module _ {D : Type 0} (state : D → DiskState) where
     pub added : List (Entry ClusterMeta)
     pub grows : HistoryGrows old new added
     pub adds : PenAdds (state old.disk).faults (state new.disk).faults context result added
+
+  -- a context published all its ranges, or was refused, and then all is as before
+  pub record Publishes (context : ℕ) (old new : LockedState D) (result : Result Unit AllocError) : Type 0 where
+    pub grows : HistoryGrows old new (publish_adds context (own_of (ranges_of (history_of_locked state old)) context) result)
+    pub refused : OnErr result (new ≡ old)
 
   -- a range was spoiled, with the disk's count of faults, which rose
   pub record Spoils (context n : ℕ) (old new : LockedState D) : Type 0 where
@@ -124,13 +154,13 @@ module _ {D : Type 0} (state : D → DiskState) where
     pub given : LockedState D
     pub hold : IsHold committer taken given added old new
 
-  -- a hold in which a cluster was committed, or refused
-  pub record CommitsInHold {X : Type 0} (tell : X → ExtState) (committer : TurnState (Birth D)) (meta : ClusterMeta)
+  -- a hold in which a cluster was committed, or a range reserved for a staged one, or it was refused
+  pub record CommitsInHold {X : Type 0} (staged : Bool) (tell : X → ExtState) (committer : TurnState (Birth D)) (meta : ClusterMeta)
       (old new : PassState (Entry ClusterMeta) (Birth D))
       (result : Result (Claim X) CommitError) : Type 0 where
     pub taken : LockedState D
     pub given : LockedState D
-    pub commits : Commits tell meta taken given result
+    pub commits : Commits staged tell meta taken given result
     pub hold : IsHold committer taken given commits.added old new
 
   -- a limit that refuses a cluster of this length is passed behind just what the pass has then seen, and behind the list that is due
@@ -153,6 +183,14 @@ module _ {D : Type 0} (state : D → DiskState) where
     pub given : LockedState D
     pub rose : Rose (state taken.disk).faults (state given.disk).faults
     pub hold : IsHold committer taken given (spoiled_entry old.number n (state given.disk).faults ∷ []) old new
+
+  -- a hold in which a pass published all its ranges, in the order in which they were reserved; or it was refused, and all is as before
+  pub record PublishesInHold (committer : TurnState (Birth D)) (old new : PassState (Entry ClusterMeta) (Birth D))
+      (result : Result Unit AllocError) : Type 0 where
+    pub taken : LockedState D
+    pub given : LockedState D
+    pub refused : OnErr result (given ≡ taken)
+    pub hold : IsHold committer taken given (publish_adds old.number (ranges_of old.own) result) old new
 
   -- a hold in which a pen was made, or refused
   pub record OpensInHold {P : Type 0} (committer : TurnState (Birth D)) (old new : PassState (Entry ClusterMeta) (Birth D))

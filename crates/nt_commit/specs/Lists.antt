@@ -9,7 +9,7 @@ use Rattle.nt_book.specs.declared.limits.LimitError.{LimitError}
 use Rattle.nt_book.specs.declared.list.NotedList.{NotedList}
 use Rattle.nt_book.specs.declared.list.Tear.{Tear}
 use Rattle.nt_book.specs.declared.meta.ClusterMeta.{ClusterMeta}
-use Rattle.nt_book.specs.Books.{BookData, book_clusters}
+use Rattle.nt_book.specs.Books.{BookData, book_ranges, book_clusters}
 use Rattle.nt_book.specs.Limiting.{limit_error_with}
 use Rattle.nt_book.specs.Listing.{clusters_listed, group_size}
 use Rattle.nt_pagelists.specs.Blobs.{blob, blob_len, object_place}
@@ -34,11 +34,11 @@ AreNoted sum most book from (l ∷ ls) [] = ⊥
 AreNoted sum most book from (l ∷ ls) (p ∷ ps) =
     IsNoted (list_object sum book (record { from = from; count = most })) l p × AreNoted sum most book (from + most) ls ps
 
--- page lists were appended each where the last range of its group ends, of so many clusters; the first group begins with this one
+-- page lists were appended each where the last range of its group ends, of so many ranges; the first group begins with this one
 abbrev pub AreBehindGroups : ℕ → ℕ → List (Cluster ClusterMeta) → ℕ → List Part → Type 0
-AreBehindGroups most begin clusters from [] = Unit {0}
-AreBehindGroups most begin clusters from (p ∷ ps) =
-    (p.place ≡ ranges_end begin (take (from + most) clusters)) × AreBehindGroups most begin clusters (from + most) ps
+AreBehindGroups most begin ranges from [] = Unit {0}
+AreBehindGroups most begin ranges from (p ∷ ps) =
+    (p.place ≡ ranges_end begin (take (from + most) ranges)) × AreBehindGroups most begin ranges (from + most) ps
 
 -- the lengths of appends that failed, by what is kept of that
 abbrev pub torn_lens : Option Tear → List ℕ
@@ -54,7 +54,7 @@ pub record IsTornList (book : BookData) (t : Tear) : Type 0 where
 -- what failed is what the book keeps of that
 pub record HasListsOf (book : BookData) (lists : List Part) (torn : List ℕ) : Type 0 where
   pub noted : AreNoted (group_sum book.group) (group_size book.group) book 0 book.lists lists
-  pub behind : AreBehindGroups (group_size book.group) book.begin (book_clusters book) 0 lists
+  pub behind : AreBehindGroups (group_size book.group) book.begin (book_ranges book) 0 lists
   pub short : AllByRecursion (λ (l : NotedList). l.len ≤ book.limits.range) book.lists
   pub torn_is : torn ≡ torn_lens book.torn
   pub torn_short : IfSome book.torn (λ t. IsTornList book t)
@@ -105,4 +105,4 @@ pub record NextPlace (book : BookData) : Type 0 where
 
 -- the limit that a range of this length passes there
 abbrev pub limit_at : (book : BookData) → NextPlace book → ℕ → Option LimitError
-limit_at book place len = limit_error_with book.limits place.before (length (book_clusters book)) len place.due
+limit_at book place len = limit_error_with book.limits place.before (length (book_ranges book)) len place.due

@@ -47,6 +47,7 @@ birth_with disk book contexts =
       firsts = book.firsts;
       contexts = contexts;
       group = book.group;
+      staged = book.staged;
     }
 
 -- what never changes of them
@@ -120,6 +121,8 @@ module _ {D : Type 0} (state : D → DiskState) where
     group = birth.group;
     lists = [];
     torn = None;
+    staged = birth.staged;
+    ready = None;
   }
 
   -- disk and book are what one history makes of them
@@ -129,6 +132,7 @@ module _ {D : Type 0} (state : D → DiskState) where
     pub columns : length locked.book.firsts ≡ locked.birth.columns
     pub firsts : locked.book.firsts ≡ locked.birth.firsts
     pub group : locked.book.group ≡ locked.birth.group
+    pub staged : locked.book.staged ≡ locked.birth.staged
     pub end : (state locked.disk).end ≡ book_end locked.book
     -- the page lists that were appended, and the unknown bytes of one that failed
     pub lists : List Part

@@ -4,7 +4,8 @@ ghost use Rattle.std.specs.Prelude.{◌≡◌, ◌≤◌, [], true, false, if◌
 ghost use Rattle.nt_machine.specs.History.{ranges_of};
 ghost use Rattle.nt_commit.specs.Claims.{IsClaimOf};
 ghost use Rattle.nt_commit.specs.Images.{IsImageFor, image_after};
-ghost use Rattle.nt_commit.specs.Holds.{IsPassOf, IsCommittable, CommitsInHold, RefusesBehindSeen, SettlesInHold, SpoilsInHold};
+ghost use Rattle.nt_commit.specs.Holds.{IsPassOf, IsCommittable, HasNotPublished, MayPublish, CommitsInHold, PublishesInHold, RefusesBehindSeen};
+ghost use Rattle.nt_commit.specs.Holds.{SettlesInHold, SpoilsInHold};
 
 use crate::claim::Claim;
 use crate::committer::CommitterOf;
@@ -15,10 +16,11 @@ use nt_book::ClusterMeta;
 use nt_outside::{Disk, Ext};
 use nt_pages::ClusterImage;
 use nt_turn::Pass;
+use std::alloc::AllocError;
 use std::sync::Wait;
 
 impl<D: Disk> CommitterOf<Locked<D>> {
-    /// Reserves the range of a cluster and enters it, in one hold of the turn.
+    /// Reserves the range of a cluster and enters it, as a staged one or not, in one hold of the turn.
     fn reserve(
         &self,
         rt: &impl Wait,
@@ -26,9 +28,9 @@ impl<D: Disk> CommitterOf<Locked<D>> {
         meta: &mut ClusterMeta,
     ) -> Result<Claim<D::Ext>, CommitError>
         requires pass { IsPassOf self.now pass.old }
-        requires meta { IsCommittable self.now.birth.columns self.now.birth.contexts meta.old }
-        requires context { meta.old.context ≡ pass.old.number }
-        ensures commits { CommitsInHold D.state D.Ext.state self.now meta.old pass.old pass.new result }
+        requires meta { (meta.old.context ≡ pass.old.number) × IsCommittable self.now.birth meta.old }
+        requires before { self.now.birth.staged ≡ true → HasNotPublished pass.old }
+        ensures commits { CommitsInHold D.state self.now.birth.staged D.Ext.state self.now meta.old pass.old pass.new result }
         ensures meta { meta.new ≡ (if is_ok result then record meta.old { pages = [] } else meta.old) }
     {
         let mut locked = self.turn.take(rt, pass);
@@ -37,18 +39,17 @@ impl<D: Disk> CommitterOf<Locked<D>> {
         answer
     }
 
-    /// Commits the cluster of an image: reserves its range, enters it in the book, and writes the key
-    /// of that place into the image. After a refusal the image is as before, and so is the history,
-    /// but for a fault of the disk.
-    pub fn commit(
+    /// Reserves the range of an image's cluster, and writes the key of that place into the image.
+    fn commit_as(
         &self,
         rt: &impl Wait,
         pass: &mut Pass<Locked<D>>,
         image: &mut ClusterImage,
     ) -> Result<Claim<D::Ext>, CommitError>
         requires pass { IsPassOf self.now pass.old }
-        requires image { IsImageFor self.now.birth.columns pass.old.number image.old }
-        ensures commits { CommitsInHold D.state D.Ext.state self.now image.old.meta pass.old pass.new result }
+        requires image { (self.now.birth.staged ≡ true → HasNotPublished pass.old)
+            × IsImageFor self.now.birth.columns pass.old.number image.old }
+        ensures commits { CommitsInHold D.state self.now.birth.staged D.Ext.state self.now image.old.meta pass.old pass.new result }
         ensures image { image.new ≡ image_after D.Ext.state image.old result }
         ensures limit { RefusesBehindSeen D.state self.now image.old.meta.len pass.new result }
     {
@@ -56,6 +57,59 @@ impl<D: Disk> CommitterOf<Locked<D>> {
         if let Ok(claim) = &answer {
             write_key(image, claim.ext.start());
         }
+        answer
+    }
+
+    /// Commits the cluster of an image: reserves its range, enters it in the book, and writes the key
+    /// of that place into the image. After a refusal the image is as before, and so is the history,
+    /// but for a fault of the disk. Clusters are not staged here.
+    pub fn commit(
+        &self,
+        rt: &impl Wait,
+        pass: &mut Pass<Locked<D>>,
+        image: &mut ClusterImage,
+    ) -> Result<Claim<D::Ext>, CommitError>
+        requires pass { IsPassOf self.now pass.old }
+        requires image { (self.now.birth.staged ≡ false) × IsImageFor self.now.birth.columns pass.old.number image.old }
+        ensures commits { CommitsInHold D.state false D.Ext.state self.now image.old.meta pass.old pass.new result }
+        ensures image { image.new ≡ image_after D.Ext.state image.old result }
+        ensures limit { RefusesBehindSeen D.state self.now image.old.meta.len pass.new result }
+    {
+        self.commit_as(rt, pass, image)
+    }
+
+    /// Reserves the range of a staged cluster for an image, and writes the key of that place into the
+    /// image. The claim's number is that of the range, which is no cluster yet. There are no page
+    /// lists beside staged clusters; a refusal is as one of `commit`. Clusters are staged here, and
+    /// the context has not published.
+    pub fn stage(
+        &self,
+        rt: &impl Wait,
+        pass: &mut Pass<Locked<D>>,
+        image: &mut ClusterImage,
+    ) -> Result<Claim<D::Ext>, CommitError>
+        requires pass { IsPassOf self.now pass.old × HasNotPublished pass.old }
+        requires image { (self.now.birth.staged ≡ true) × IsImageFor self.now.birth.columns pass.old.number image.old }
+        ensures commits { CommitsInHold D.state true D.Ext.state self.now image.old.meta pass.old pass.new result }
+        ensures image { image.new ≡ image_after D.Ext.state image.old result }
+        ensures limit { RefusesBehindSeen D.state self.now image.old.meta.len pass.new result }
+    {
+        self.commit_as(rt, pass, image)
+    }
+
+    /// Makes all ranges of a context the next clusters, in the order in which they were reserved, in
+    /// one hold of the turn. Each of them was settled, and the context publishes once. Without memory
+    /// the book and its history are as before.
+    pub fn publish(&self, rt: &impl Wait, pass: &mut Pass<Locked<D>>) -> Result<(), AllocError>
+        requires pass { IsPassOf self.now pass.old }
+        requires staged { self.now.birth.staged ≡ true }
+        requires ready { MayPublish pass.old }
+        ensures publishes { PublishesInHold D.state self.now pass.old pass.new result }
+    {
+        let context = pass.number();
+        let mut locked = self.turn.take(rt, pass);
+        let answer = locked.publish(context);
+        self.turn.give(pass, locked);
         answer
     }
 

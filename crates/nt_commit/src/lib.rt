@@ -4,7 +4,9 @@
 //! context a pass and a pen. `commit` reserves the range of a cluster and enters it in the book, in one hold of the turn, and
 //! hands out a `Claim`. If the book is due the page list of a full group, it appends and notes that list first, in the same
 //! hold. Outside the turn the context fills the claim's extent with its pen. `settle` hands the range back, or `spoil` after the
-//! pen failed. `leave` joins the pass of a context, and `finish` gives disk and book back.
+//! pen failed. `leave` joins the pass of a context, and `finish` gives disk and book back. Where clusters are staged, which the
+//! book of the birth says, `stage` comes in the place of `commit`: it reserves a range, and `publish` makes all ranges of a
+//! context the next clusters, once each is settled.
 //!
 //! Disk and book are *in step*: both are what one history makes of the disk as it was begun, and page lists beside it (`IsInStep`
 //! in `specs/Locked.antt`, which is the invariant of `Locked`). What a call does in its hold of the turn, and what its pass knows
@@ -13,7 +15,8 @@
 //! Proved: `commit` adds just the one cluster to the pass's own list, and hands out an extent of the book's start and length that
 //! isn't filled; its limits are those of the history that the pass has then seen, and of no earlier one, behind the page list
 //! that is due (`limit`); a fault only where the disk's count rose in this hold, with that count in the own list; the key of the
-//! place stands in the image (`commits`, `image`). `settle` adds the bytes of the extent (`settles`), `spoil` the disk's count,
+//! place stands in the image (`commits`, `image`). `stage` does the same with a range that is no cluster yet, and no page list;
+//! `publish` adds the one entry with all ranges of the pass, in their order, or leaves all as it was (`publishes`). `settle` adds the bytes of the extent (`settles`), `spoil` the disk's count,
 //! which rose (`spoils`). `finish` gives one history with each pass's own entries (`closes`), of which disk and book are made,
 //! none of its ranges is longer than the limits let it be, and where the disk told what it held, each that is settled has its
 //! bytes; the page lists that the book notes were appended where it notes them, each the list of its group of the book as it is

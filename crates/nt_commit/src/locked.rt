@@ -13,8 +13,9 @@ use std::marker::Model;
 use std::snapshot::Snapshot;
 
 /// What never changes: the disk as it was begun, the limits of its book, the number of its columns
-/// and the first element index of each, how many contexts there are at most, and by how many clusters
-/// page lists stand beside them, under a header of which checksum. No value of it is made.
+/// and the first element index of each, how many contexts there are at most, by how many clusters
+/// page lists stand beside them, under a header of which checksum, and whether clusters are staged.
+/// No value of it is made.
 pub struct Birth<D> {
     pub begun: D,
     pub limits: Limits,
@@ -22,6 +23,8 @@ pub struct Birth<D> {
     pub firsts: LinkedList<u64>,
     pub contexts: u32,
     pub group: Option<(u32, u64)>,
+    /// Whether clusters are staged.
+    pub staged: bool,
 }
 
 /// A disk and its book, which are what one history makes of them.
@@ -49,6 +52,7 @@ impl<D: Disk> Model for Locked<D> {
         firsts = l.book.firsts;
         contexts = l.contexts;
         group = l.book.group;
+        staged = l.book.staged;
       };
     } };
 
@@ -62,6 +66,7 @@ impl<D: Disk> Model for Locked<D> {
         firsts = l.book.firsts;
         contexts = l.contexts;
         group = l.book.group;
+        staged = l.book.staged;
       };
     } };
 }

@@ -1,5 +1,6 @@
 -- Disk and book of a committer that ended, by what its first pass keeps.
-use Rattle.std.proofs.Common.{◌≡◌, ◌⊎◌, inl, inr, ℕ, zero, suc, ◌-◌, ◌^◌, ◌<◌, ◌≤◌, List, [], ◌∷◌, length, map, Option, Some, None, refl}
+use Rattle.std.proofs.Common.{◌≡◌, ◌⊎◌, inl, inr, ℕ, zero, suc, ◌-◌, ◌^◌, ◌<◌, ◌≤◌, false, List, [], ◌∷◌, length, map, Option, Some, None}
+use Rattle.std.proofs.Common.{refl}
 use Rattle.std.proofs.Common.{sym, ap, ◌∙◌, subst, arith}
 use Rattle.std.specs.Prelude.{slice_get, slice_index_or}
 use Rattle.std.specs.List.{AllZip, AllByRecursion}
@@ -22,8 +23,8 @@ use Rattle.nt_book.specs.declared.limits.Limits.{Limits}
 use Rattle.nt_book.specs.declared.list.NotedList.{NotedList}
 use Rattle.nt_book.specs.declared.meta.ClusterMeta.{ClusterMeta}
 use Rattle.nt_book.specs.declared.params.Params.{Params}
-use Rattle.nt_book.specs.Books.{BookData, book_clusters, book_end, no_cluster}
-use Rattle.nt_book.specs.Kept.{IsBookKept}
+use Rattle.nt_book.specs.Books.{BookData, book_clusters, book_ranges, book_end, no_cluster}
+use Rattle.nt_book.specs.Kept.{AreNamed, IsBookKept}
 use Rattle.nt_logged.specs.Steps.{told_history}
 use Rattle.nt_commit.specs.declared.locked.Birth.{Birth}
 use Rattle.nt_commit.specs.Locked.{IsInStep, birth_of, context_of, history_of_locked, locked_by}
@@ -33,7 +34,7 @@ use Rattle.nt_close.specs.Spoiled.{IsUnspoiled, NoneSpoiled}
 use Rattle.nt_dealing.specs.Begun.{IsBornFor}
 use Rattle.nt_dealing.specs.Written.{IsChunkBlob, HaveWritten}
 use Rattle.nt_dealing.proofs.Noted.{each-noted}
-use Rattle.nt_dealing.proofs.Written.{each_wrote, others_idle}
+use Rattle.nt_dealing.proofs.Written.{each_wrote_all, others_idle}
 use Rattle.nt_contexts.specs.Filling.{HaveFaults}
 use Rattle.nt_contexts.specs.Seats.{DiskPass}
 use Rattle.nt_contexts.specs.Working.{KeepsFaults}
@@ -43,6 +44,8 @@ use Rattle.nt_contexts.proofs.Lists.{All-at}
 faults_after-le : (least : ℕ) (k : EntryKind ClusterMeta) → (HasFaults k → HasRisen least (faults_after least k))
     → least ≤ faults_after least k
 faults_after-le least (entry.Committed n start len meta) h = omega arith
+faults_after-le least (entry.Reserved n start len meta) h = omega arith
+faults_after-le least (entry.Published ns) h = omega arith
 faults_after-le least (entry.Settled n bytes) h = omega arith
 faults_after-le least (entry.Spoiled n faults) h = (h tt).0
 faults_after-le least (entry.Faulted faults) h = (h tt).0
@@ -93,6 +96,15 @@ short-untold most (c ∷ cs) (d ∷ ds) is short =
     let same : c.len ≡ d.len = ap (λ (e : Cluster ClusterMeta). e.len) one in
     (omega (arith, same, short.0), short-untold most cs ds rest short.1)
 
+-- so are clusters that are named by them
+short-named : (most : ℕ) (rs cs : List (Cluster ClusterMeta)) → AreNamed rs cs
+    → AllByRecursion (λ (c : Cluster ClusterMeta). c.len ≤ most) rs → AllByRecursion (λ (c : Cluster ClusterMeta). c.len ≤ most) cs
+short-named most rs [] named short = tt
+short-named most rs (c ∷ cs) named short = (
+  All-at (λ (d : Cluster ClusterMeta). d.len ≤ most) rs c.number c short named.0,
+  short-named most rs cs named.1 short,
+)
+
 same-ranges : (begun now : Option Held) (history : List (Entry ClusterMeta))
     → map untold (ranges_of (told_history begun now history)) ≡ map untold (ranges_of history)
 same-ranges None now history = refl
@@ -136,17 +148,18 @@ module _ {D : Type 0} (state : D → DiskState) (birth : Birth D) (disk : D) (bo
         short = subst (λ (l : Limits). AllByRecursion (λ (n : NotedList). n.len ≤ l.range) book.lists) limits step.listed.short;
       }
 
-  pub short-is : AllByRecursion (λ (c : Cluster ClusterMeta). c.len ≤ birth.limits.range) (book_clusters book)
-  short-is =
-      short-untold birth.limits.range (ranges_of history) (ranges_of book.history)
-      (same-ranges (state birth.begun).held (state disk).held book.history) step.short
+  pub short-is : IsBookKept book → AllByRecursion (λ (c : Cluster ClusterMeta). c.len ≤ birth.limits.range) (book_clusters book)
+  short-is kept =
+      short-named birth.limits.range (book_ranges book) (book_clusters book) kept.named
+      (short-untold birth.limits.range (ranges_of history) (book_ranges book)
+      (same-ranges (state birth.begun).held (state disk).held book.history) step.short)
 
   pub unspoiled : (t : Table) (page : ℕ) (chunks : List (List (List TreesData)))
       → HaveWritten (state birth.begun).held t page chunks first.number first.own first.kept → NoneSpoiled book
   unspoiled t page chunks have =
       let begun = (state birth.begun).held in
-      let d = deals (IsChunkBlob begun t page) chunks history
-      (each_wrote begun t page history chunks first.number first.own first.kept have closes.kept)
+      let d = deals (IsChunkBlob begun t page) false chunks history
+      (each_wrote_all begun t page history chunks first.number first.own first.kept have closes.kept)
       (others_idle begun t page history chunks first.number first.own first.kept have closes.own closes.others) in
       none-spoiled (IsChunkBlob begun t page) d.dealt (ranges_of history) (ranges_of book.history) d.written (same-ranges begun (state
       disk).held book.history)

@@ -1,5 +1,5 @@
 -- Lines that were taken, and what is left of a text behind them.
-use Rattle.std.proofs.Common.{◌≡◌, inl, inr, ℕ, ◌<◌, ◌≤◌, List, [], ◌∷◌, ◌++◌, length, Option, None, Result, Ok}
+use Rattle.std.proofs.Common.{◌≡◌, inl, inr, ℕ, ◌<◌, ◌≤◌, false, List, [], ◌∷◌, ◌++◌, length, Option, None, Result, Ok}
 use Rattle.std.proofs.Common.{Err, refl, sym}
 use Rattle.std.proofs.Common.{ap, ◌∙◌, subst, append-nil, arith}
 use Rattle.std.specs.Io.KnownBytes.{IsAtEnd}
@@ -61,12 +61,12 @@ module _ {D P : Type 0} (state : D → DiskState) where
       let i = old.pass.number in
       let g : List TreesData = gathered old in
       let held = held_before state old in
-      let own : List (Entry ClusterMeta) = old.pass.own ++ entries_of_chunk i writes.written in
+      let own : List (Entry ClusterMeta) = old.pass.own ++ entries_of_chunk false i writes.written in
       let after : DiskContext D P = written_by state old new writes.written in
       let blob : IsChunkBlob held old.table old.page g writes.written.start writes.written.bytes writes.written.meta =
       record { blob = writes.blob.bytes; is_blob = writes.blob.blob; told = writes.blob.told_are } in
       let wrote : WroteChunks held old.table old.page i (taken.full ++ g ∷ []) own =
-      Wrote-snoc (IsChunkBlob held old.table old.page) i taken.full old.pass.own g writes.written taken.wrote blob in
+      Wrote-snoc (IsChunkBlob held old.table old.page) false i taken.full old.pass.own g writes.written taken.wrote blob in
       let are = last_chunk entries old some few taken in
       let there : HasWrittenAll state entries after = record {
         wrote = subst (λ (l : List (List TreesData)). WroteChunks held old.table old.page i l own) (sym are) wrote;

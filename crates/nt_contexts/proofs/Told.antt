@@ -104,7 +104,12 @@ module _ {D : Type 0} (state : D → DiskState) (fields : List MemberData) (t : 
     number = AllZip-long (λ (s s' : SourceState). s.faults ≤ s'.faults) sources sources' work.later;
     sources_later = work.later;
     held = ended.held;
-    book_on = record { begin = ended.begin ∙ born.end; limits = ended.limits ∙ born.limits; firsts = ended.firsts ∙ firsts };
+    book_on = record {
+      begin = ended.begin ∙ born.end;
+      limits = ended.limits ∙ born.limits;
+      firsts = ended.firsts ∙ firsts;
+      staged = ended.staged ∙ born.not_staged;
+    };
     noted = ended.noted t p born;
     end = ended.end;
     out = ended.out;
@@ -187,7 +192,7 @@ runs-nothing fields t p disk book sources n ready = record {
   number = refl;
   sources_later = same-later sources;
   held = λ h is. (h, is, nothing-fills disk.end h);
-  book_on = record { begin = refl; limits = refl; firsts = refl };
+  book_on = record { begin = refl; limits = refl; firsts = refl; staged = refl };
   noted = new-noted t p book ready.book_is;
   end = ready.end ∙ begins;
   out = ready.out;

@@ -1,5 +1,5 @@
 -- What a context that writes what it has gathered has taken.
-use Rattle.std.proofs.Common.{◌≡◌, ◌<◌, List, [], ◌∷◌, ◌++◌, length, Result, Ok, Err, sym, ap}
+use Rattle.std.proofs.Common.{◌≡◌, ◌<◌, false, List, [], ◌∷◌, ◌++◌, length, Result, Ok, Err, sym, ap}
 use Rattle.std.proofs.Common.{◌∙◌, subst}
 use Rattle.std.proofs.Common.{append_assoc, append-nil, arith}
 use Rattle.std.specs.List.{flat_map}
@@ -28,7 +28,7 @@ module _ {D P : Type 0} (state : D → DiskState) where
   abbrev pub written_by : DiskContext D P → DiskContext D P → WrittenChunk ClusterMeta → DiskContext D P
   written_by old new w = record old {
     pass = gained old.pass new.pass.seen
-        (entries_of_chunk old.pass.number w);
+        (entries_of_chunk false old.pass.number w);
     pen = new.pen;
     columns = new.columns;
     entries = 0;
@@ -42,7 +42,7 @@ module _ {D P : Type 0} (state : D → DiskState) where
   -- a chunk more was committed
   pub committed_written : (old new : DiskContext D P) (writes : WritesCluster state old new) (full : List (List TreesData))
       → HasCommitted old.table old.page full old.pass.own
-      → HasCommitted old.table old.page (full ++ gathered old ∷ []) (old.pass.own ++ entries_of_chunk old.pass.number writes.written)
+      → HasCommitted old.table old.page (full ++ gathered old ∷ []) (old.pass.own ++ entries_of_chunk false old.pass.number writes.written)
   committed_written old new writes full have =
       let w = writes.written in
       committed-settled old.table old.page full old.pass.own (gathered old) old.pass.number w.number w.start w.len w.meta w.bytes have
@@ -66,7 +66,7 @@ module _ {D P : Type 0} (state : D → DiskState) where
       let there : HasTaken state entries after = record {
         full = taken.full ++ g ∷ [];
         committed = committed_written old new writes taken.full taken.committed;
-        wrote = Wrote-snoc (IsChunkBlob (state old.committer.birth.begun).held old.table old.page) i taken.full old.pass.own g
+        wrote = Wrote-snoc (IsChunkBlob (state old.committer.birth.begun).held old.table old.page) false i taken.full old.pass.own g
             writes.written taken.wrote blob;
         sizes = AllByRecursion-append (λ (c : List TreesData). length c ≡ old.cluster) taken.full (g ∷ []) taken.sizes (whole, tt);
         whole = joined;

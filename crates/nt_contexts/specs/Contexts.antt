@@ -37,11 +37,12 @@ pub record IsReady (fields : List MemberData) (p : Params) (t : Table) (book : B
   pub some : 1 ≤ sources
   pub few : sources ≤ 64
 
--- the ranges of a book begin where they did, with the same limits and columns
+-- the ranges of a book begin where they did, with the same limits and columns, and are staged where they were
 pub record IsBookOn (old new : BookData) : Type 0 where
   pub begin : new.begin ≡ old.begin
   pub limits : new.limits ≡ old.limits
   pub firsts : new.firsts ≡ old.firsts
+  pub staged : new.staged ≡ old.staged
 
 -- the count of one of these sources rose
 abbrev pub SomeRose : List SourceState → List SourceState → Type 0

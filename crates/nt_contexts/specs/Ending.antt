@@ -52,6 +52,7 @@ module _ {D : Type 0} (state : D → DiskState) (birth : Birth D) where
     pub begin : book.begin ≡ (state birth.begun).end
     pub limits : book.limits ≡ birth.limits
     pub firsts : book.firsts ≡ birth.firsts
+    pub staged : book.staged ≡ birth.staged
     -- each page list is noted as that of its group
     pub noted : (t : Table) (p : Params) → IsBornFor state birth t p → AreListsNoted t p book
     pub end : (state disk).end ≡ book_end book

@@ -6,7 +6,7 @@ use Rattle.std.specs.List.{AllByRecursion}
 use Rattle.nt_types.specs.TreeData.{TreesData}
 use Rattle.nt_grammar.specs.Table.{Table}
 use Rattle.nt_grammar.specs.ReadingBack.{IsDescribed}
-use Rattle.nt_machine.specs.History.{Cluster}
+use Rattle.nt_machine.specs.History.{Cluster, ranges_of}
 use Rattle.nt_book.specs.declared.meta.ClusterMeta.{ClusterMeta}
 use Rattle.nt_book.specs.Books.{BookData, IsUngrouped, book_clusters, cluster_at, no_cluster, first_entry}
 use Rattle.nt_pagelists.specs.declared.cluster.ClusterList.{ClusterList}
@@ -18,8 +18,8 @@ use Rattle.nt_layout.specs.Laid.{Measures, AreMeasures, IsWithin, IsBookOf, rang
 use Rattle.nt_finished.specs.Listed.{IsListOf, AreListsOf}
 use Rattle.nt_finished.proofs.Standing.{StandsThere}
 use Rattle.nt_finished.proofs.Lengths.{clusters_told}
-use Rattle.nt_finished.proofs.Staged.{ranges-by_number, all_behind}
-use Rattle.nt_finished.proofs.Beside.{all_beside}
+use Rattle.nt_finished.proofs.Staged.{all_behind}
+use Rattle.nt_finished.proofs.Beside.{all_beside, ranges-beside, by-number_beside}
 use Rattle.nt_finished.proofs.Headers.{ranges-stand}
 use Rattle.nt_finished.proofs.Outlines.{ranged-outlined}
 use Rattle.nt_copied.specs.Stored.{StoredPage}
@@ -29,14 +29,14 @@ use Rattle.nt_copied.proofs.CopiedFiles.{lens-copies, lists-le, ranged, sound-co
 
 -- ---- a finished file of copies, whatever else stands between its ranges
 
-copied-in : (file : List ℕ) (t : Table) (sources : List Source) (clusters : List (List TreesData)) (m : Measures) (ranges : List (List ℕ))
-    (book : BookData) → IsBookOf t book → IsWithin t m book → AreCopies t sources clusters ranges (book_clusters book)
-    → file ≡ finished m.staged t book m.group ranges
-    → (map length ranges ≡ map (λ (c : Cluster ClusterMeta). c.len) (book_clusters book)
-    → AreBehind (clusters_place t) (middle m.staged t book m.group ranges))
+pub copied-beside : (file : List ℕ) (t : Table) (sources : List Source) (clusters : List (List TreesData)) (m : Measures)
+    (ranges : List (List ℕ)) (book : BookData) → m.staged ≡ false → IsBookOf t book → HasListsBeside t m.group book → IsWithin t m book
+    → AreCopies t sources clusters ranges (book_clusters book) → file ≡ finished m.staged t book m.group ranges
     → IsCopied file t sources clusters m
-copied-in file t sources clusters m ranges book of within are is behind =
-    let lens = lens-copies t of.none_deferred sources clusters ranges (book_clusters book) are (clusters_told book of.kept) in
+copied-beside file t sources clusters m ranges book staged of beside within are is =
+    let all = ranges-beside t m.group book of.kept beside in
+    let lens = lens-copies t of.none_deferred sources clusters ranges (book_clusters book) are (clusters_told book of.kept)
+    ∙ ap (λ (cs : List (Cluster ClusterMeta)). map (λ (c : Cluster ClusterMeta). c.len) cs) all in
     record {
       book = book;
       is_of = of;
@@ -45,28 +45,28 @@ copied-in file t sources clusters m ranges book of within are is behind =
       lens = lens;
       copies =
           subst (λ (l : List (List ℕ)). AreCopies t sources clusters l (book_clusters book))
-          (sym (ranges-by_number book ranges of.kept lens)) are;
-      behind = behind lens;
+          (sym (by-number_beside t m.group book of.kept beside ranges lens)) are;
+      behind = subst (λ (b : Bool). AreBehind (clusters_place t) (middle b t book m.group ranges)) (sym staged)
+          (all_beside t m.group book of.kept beside ranges of.begin lens);
       is = is;
     }
 
-pub copied-beside : (file : List ℕ) (t : Table) (sources : List Source) (clusters : List (List TreesData)) (m : Measures)
-    (ranges : List (List ℕ)) (book : BookData) → m.staged ≡ false → IsBookOf t book → HasListsBeside t m.group book → IsWithin t m book
-    → AreCopies t sources clusters ranges (book_clusters book) → file ≡ finished m.staged t book m.group ranges
-    → IsCopied file t sources clusters m
-copied-beside file t sources clusters m ranges book staged of beside within are is =
-    copied-in file t sources clusters m ranges book of within are is
-    (λ lens. subst (λ (b : Bool). AreBehind (clusters_place t) (middle b t book m.group ranges)) (sym staged)
-    (all_beside t m.group book of.kept beside ranges of.begin lens))
-
 pub copied-behind : (file : List ℕ) (t : Table) (sources : List Source) (clusters : List (List TreesData)) (m : Measures)
     (ranges : List (List ℕ)) (book : BookData) → m.staged ≡ true → IsBookOf t book → IsUngrouped book → IsWithin t m book
-    → AreCopies t sources clusters ranges (book_clusters book) → file ≡ finished m.staged t book m.group ranges
-    → IsCopied file t sources clusters m
-copied-behind file t sources clusters m ranges book staged of bare within are is =
-    copied-in file t sources clusters m ranges book of within are is
-    (λ lens. subst (λ (b : Bool). AreBehind (clusters_place t) (middle b t book m.group ranges)) (sym staged)
-    (all_behind t m.group book ranges of.kept bare of.begin lens))
+    → map length ranges ≡ map (λ (c : Cluster ClusterMeta). c.len) (ranges_of book.history)
+    → AreCopies t sources clusters (map (range_of ranges) (book_clusters book)) (book_clusters book)
+    → file ≡ finished m.staged t book m.group ranges → IsCopied file t sources clusters m
+copied-behind file t sources clusters m ranges book staged of bare within lens are is = record {
+  book = book;
+  is_of = of;
+  within = within;
+  ranges = ranges;
+  lens = lens;
+  copies = are;
+  behind = subst (λ (b : Bool). AreBehind (clusters_place t) (middle b t book m.group ranges)) (sym staged)
+      (all_behind t m.group book ranges of.kept bare of.begin lens);
+  is = is;
+}
 
 -- ---- what is stored in it
 

@@ -1,6 +1,6 @@
 //! The laws of copied clusters.
 
-ghost use Rattle.std.specs.Prelude.{◌≡◌, List, ℕ, true, false, Ok};
+ghost use Rattle.std.specs.Prelude.{◌≡◌, List, ℕ, true, false, map, length, Ok};
 ghost use Rattle.std.specs.List.{AllByRecursion};
 ghost use Rattle.nt_types.specs.TreeData.{TreesData};
 ghost use Rattle.nt_grammar.specs.Table.{Table};
@@ -9,9 +9,11 @@ ghost use Rattle.nt_format.specs.Reading.{IsBytes};
 ghost use Rattle.nt_schema.specs.Whole.{AreWhole};
 ghost use Rattle.nt_file_meaning.specs.Outlines.{Outline, outline_of};
 ghost use Rattle.nt_file_meaning.specs.Files.{Means};
-ghost use Rattle.nt_layout.specs.Laid.{Measures, AreMeasures, IsWithin, IsBookOf};
+ghost use Rattle.nt_layout.specs.Laid.{Measures, AreMeasures, IsWithin, IsBookOf, range_of};
 ghost use Rattle.nt_layout.specs.Beside.{HasListsBeside};
 ghost use Rattle.nt_layout.specs.Finished.{finished};
+ghost use Rattle.nt_machine.specs.History.{Cluster, ranges_of};
+ghost use Rattle.nt_book.specs.declared.meta.ClusterMeta.{ClusterMeta};
 ghost use Rattle.nt_book.specs.Books.{BookData, IsUngrouped, book_clusters};
 ghost use Rattle.nt_plans.specs.Types.{are_some, AllHaveTypes};
 ghost use Rattle.nt_plans.specs.Place.{open_plans};
@@ -28,7 +30,8 @@ pub fn copied_files_mean_their_sources()
 {}
 
 /// A finished file of a kept book whose ranges are copies of sources, in the order of its clusters,
-/// is made of these copies: with page lists beside its clusters, or behind all of them.
+/// is made of these copies: with page lists beside its clusters, or behind all of them; then ranges
+/// go by their numbers, and some may be no clusters.
 pub fn finished_files_are_made_of_copies()
     ensures beside { (file : List ℕ) (t : Table) (sources : List Source) (clusters : List (List TreesData)) (m : Measures)
         (ranges : List (List ℕ)) (book : BookData)
@@ -38,7 +41,8 @@ pub fn finished_files_are_made_of_copies()
     ensures behind { (file : List ℕ) (t : Table) (sources : List Source) (clusters : List (List TreesData)) (m : Measures)
         (ranges : List (List ℕ)) (book : BookData)
         → m.staged ≡ true → IsBookOf t book → IsUngrouped book → IsWithin t m book
-        → AreCopies t sources clusters ranges (book_clusters book)
+        → map length ranges ≡ map (λ (c : Cluster ClusterMeta). c.len) (ranges_of book.history)
+        → AreCopies t sources clusters (map (range_of ranges) (book_clusters book)) (book_clusters book)
         → file ≡ finished m.staged t book m.group ranges → IsCopied file t sources clusters m }
 {}
 

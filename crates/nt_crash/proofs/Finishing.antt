@@ -1,5 +1,5 @@
 -- What a crash leaves of a file that is closed: the finished file, as it is read.
-use Rattle.std.proofs.Common.{◌≡◌, ◌∙◌, ap, sym, subst, ℕ, List, ◌++◌, length, take, arith}
+use Rattle.std.proofs.Common.{◌≡◌, ◌∙◌, ap, sym, subst, ℕ, List, ◌++◌, map, length, take, arith}
 use Rattle.std.proofs.Common.{Bool, false, inl, inr}
 use Rattle.std.specs.Prelude.{◌⊎◌}
 use Rattle.std.specs.List.{concat}
@@ -16,6 +16,7 @@ use Rattle.nt_types.specs.TreeData.{TreesData}
 use Rattle.nt_grammar.specs.Table.{Table}
 use Rattle.nt_grammar.specs.ReadingBack.{IsDescribed}
 use Rattle.nt_machine.specs.declared.entry.Entry.{Entry}
+use Rattle.nt_machine.specs.History.{Cluster}
 use Rattle.nt_machine.specs.Legal.{IsLegal}
 use Rattle.nt_logged.specs.Logs.{IsLogOf}
 use Rattle.nt_book.specs.declared.meta.ClusterMeta.{ClusterMeta}
@@ -28,6 +29,7 @@ use Rattle.nt_finished.specs.Filled.{IsBesideBook, FillsBook}
 use Rattle.nt_finished.proofs.Standing.{length-blob}
 use Rattle.nt_layout.specs.Laid.{AreBlobsOf, Measures, AreMeasures, IsWithin, IsBookOf, IsLaid}
 use Rattle.nt_finished.proofs.Lengths.{clusters_told, ranges-len}
+use Rattle.nt_finished.proofs.Beside.{ranges-beside}
 use Rattle.nt_close.specs.Steps.{IsClosedSoFar, closed_on}
 use Rattle.nt_close.specs.Filled.{filled_file, closing_tail, closing_front}
 use Rattle.nt_close.proofs.Crashes.{begun-leaves, closing-leaves as filled-leaves, closed-leaves as filled-only}
@@ -97,7 +99,9 @@ module _ (stand : StepsStand ClusterMeta) (told : FilledKnown) (laid : LaidBesid
     kept = filled.is_of.kept;
     beside = filled.listed;
     begin = filled.is_of.begin;
-    lens = ranges-len t m.page clusters filled.ranges (book_clusters book) filled.blobs_are (clusters_told book filled.is_of.kept);
+    lens = ranges-len t m.page clusters filled.ranges (book_clusters book) filled.blobs_are (clusters_told book filled.is_of.kept)
+        ∙ ap (λ (cs : List (Cluster ClusterMeta)). map (λ (c : Cluster ClusterMeta). c.len) cs)
+        (ranges-beside t m.group book filled.is_of.kept filled.listed);
   }
 
   finished-means : (h : Held) (filled : IsFilledWith t clusters m book h.log) (bytes : List ℕ)

@@ -1,5 +1,6 @@
 -- Which limits the chunks of a history pass.
-use Rattle.std.proofs.Common.{◌≡◌, ◌∙◌, ap, sym, refl, subst, inl, inr, ℕ, ◌+◌, ◌-◌, ◌*◌, ◌<◌, ◌≤◌, List, [], ◌∷◌, ◌++◌, length, map}
+use Rattle.std.proofs.Common.{◌≡◌, ◌∙◌, ap, sym, refl, subst, inl, inr, ℕ, ◌+◌, ◌-◌, ◌*◌, ◌<◌, ◌≤◌, Bool, false, List, [], ◌∷◌, ◌++◌}
+use Rattle.std.proofs.Common.{length, map}
 use Rattle.std.proofs.Common.{take, drop, Option, Some, append_assoc, sum_by, arith}
 use Rattle.std.specs.Prelude.{IsPermutation, slice_get, slice_index_or}
 use Rattle.std.proofs.lemmas.List.{length-append, length-drop}
@@ -17,9 +18,8 @@ use Rattle.nt_grammar.specs.Rows.{Rows}
 use Rattle.nt_container.specs.Lengths.{anchor_part_len, key_list_part_len, free_list_part_len}
 use Rattle.nt_outside.specs.Disk.{DiskState}
 use Rattle.nt_machine.specs.declared.entry.Entry.{Entry}
-use Rattle.nt_machine.specs.History.{Cluster, mine_of, ranges_of}
+use Rattle.nt_machine.specs.History.{Cluster, mine_of, own_of, ranges_of}
 use Rattle.nt_machine.specs.Legal.{end_after}
-use Rattle.nt_machine.proofs.Histories.{own}
 use Rattle.nt_book.specs.declared.meta.ClusterMeta.{ClusterMeta}
 use Rattle.nt_book.specs.declared.params.Params.{Params}
 use Rattle.nt_book.specs.declared.limits.Limits.{Limits}
@@ -58,7 +58,7 @@ module _ (fields : List MemberData) (t : Table) (p : Params) (rows : Rows fields
   begin = begun.begin
 
   passes_all : (i : ℕ) (seen : List (Entry ClusterMeta)) (error : LimitError) → IsPrefix seen history
-      → (next : NextPasses begun t p.page (slice_index_or chunks i []) (mine_of history i) seen error)
+      → (next : NextPasses (record begun { staged = false }) t p.page (slice_index_or chunks i []) (mine_of history i) seen error)
       → IsOverBy t p (joined_chunks chunks) error × ChunkPassesBy t p next.chunk error
   passes_all i seen error first n =
       by_limit (λ e. IsOverBy t p (joined_chunks chunks) e × ChunkPassesBy t p n.chunk e) limits n.place.before (length cs) len
@@ -67,7 +67,7 @@ module _ (fields : List MemberData) (t : Table) (p : Params) (rows : Rows fields
       (λ full. (clusters full, chunk_too_many refl refl))
     where
       now : BookData
-      now = record begun { history = n.history }
+      now = record begun { history = n.history; staged = false }
 
       cs : List (Cluster ClusterMeta)
       cs = ranges_of n.history
@@ -103,7 +103,7 @@ module _ (fields : List MemberData) (t : Table) (p : Params) (rows : Rows fields
 
       place : Place (joined_chunks taken_all.left) n.chunk
       place =
-          let k = length (own cs i) in
+          let k = length (own_of cs i) in
           let all = length (ranges_of (mine_of history i)) in
           let mine : List (List TreesData) = slice_index_or chunks i [] in
           let fewer = fewer_before history n.history i before in
@@ -216,11 +216,18 @@ module _ {D : Type 0} (state : D → DiskState) where
       let mine : own ≡ mine_of history i = own_kept t p.page history first.kept i i own closes.kept at in
       let begun : IsPrefix seen history =
       subst (λ (l : List (Entry ClusterMeta)). IsPrefix seen l) closes.seen.1 (prefix_more seen first.seen closes.seen.0 before) in
+      let flat : BookData = record (book_of_birth state birth []) { staged = false } in
+      let passes : (x : NextPasses flat t p.page (slice_index_or chunks i []) own seen error)
+      → IsOverBy t p (joined_chunks chunks) error × ChunkPassesBy t p x.chunk error =
       subst
-      (λ (l : List (Entry ClusterMeta)). (x : NextPasses (book_of_birth state birth []) t p.page (slice_index_or chunks i []) l seen
-      error)
+      (λ (l : List (Entry ClusterMeta)). (x : NextPasses flat t p.page (slice_index_or chunks i []) l seen error)
       → IsOverBy t p (joined_chunks chunks) error × ChunkPassesBy t p x.chunk error)
       (sym mine)
       (passes_all fields t p rows chunks history (book_of_birth state birth []) born.group born.limits born.end
-      (each_front t p.page history chunks first.number first.own first.kept have closes.kept closes.own closes.others) i seen error begun)
-      next
+      (each_front t p.page history chunks first.number first.own first.kept have closes.kept closes.own closes.others)
+      i seen error begun) in
+      subst
+      (λ (b : Bool). (x : NextPasses (record (book_of_birth state birth []) { staged = b }) t p.page (slice_index_or chunks i []) own seen
+      error)
+      → IsOverBy t p (joined_chunks chunks) error × ChunkPassesBy t p x.chunk error)
+      (sym born.not_staged) passes next

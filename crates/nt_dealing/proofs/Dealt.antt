@@ -1,5 +1,5 @@
 -- The clusters of a book are the chunks of its contexts, and the disk holds their blobs, with the page lists of full groups between them.
-use Rattle.std.proofs.Common.{◌≡◌, ℕ, List, [], ◌∷◌, ◌++◌, length, map, Option, Some, None, refl, sym, ap, ◌∙◌, subst}
+use Rattle.std.proofs.Common.{◌≡◌, ℕ, false, List, [], ◌∷◌, ◌++◌, length, map, Option, Some, None, refl, sym, ap, ◌∙◌, subst}
 use Rattle.std.specs.List.{AllZip, concat}
 use Rattle.nt_lists.specs.Parts.{Part, part_bytes}
 use Rattle.nt_types.specs.TreeData.{TreesData}
@@ -26,6 +26,7 @@ use Rattle.nt_logged.specs.Logs.{IsLogOf}
 use Rattle.nt_logged.specs.Steps.{told_history, bytes_where_told}
 use Rattle.nt_commit.specs.declared.locked.Birth.{Birth}
 use Rattle.nt_commit.specs.Locked.{GainsLists, IsInStep, birth_of, context_of, history_of_locked, locked_by}
+use Rattle.nt_pagelists.proofs.Named.{clusters-unstaged}
 use Rattle.nt_layout.specs.Headers.{clusters_place}
 use Rattle.nt_layout.specs.Beside.{HasListsBeside, parts_so_far}
 use Rattle.nt_layout.specs.Laid.{IsBlobOfEntries, AreBlobsOf}
@@ -34,7 +35,7 @@ use Rattle.nt_finished.specs.Filled.{IsBesideBook, FillsBook}
 use Rattle.nt_dealing.specs.Begun.{IsBornFor}
 use Rattle.nt_dealing.specs.Written.{IsChunkBlob, HaveWritten}
 use Rattle.nt_dealing.specs.Dealt.{commit_order, FillsWith, IsDealtOut}
-use Rattle.nt_dealing.proofs.Written.{each_wrote, others_idle, none_failed}
+use Rattle.nt_dealing.proofs.Written.{each_wrote_all, others_idle, none_failed}
 use Rattle.nt_dealing.proofs.Filled.{FrontsStand, front_stays}
 use Rattle.nt_dealing.proofs.Noted.{beside-of, lists-of}
 
@@ -82,7 +83,7 @@ same_contexts : (begun now : Option Held) (history : List (Entry ClusterMeta))
     → order_of (ranges_of (told_history begun now history)) ≡ order_of (ranges_of history)
 same_contexts None now history = refl
 same_contexts (Some h) None history = refl
-same_contexts (Some h) (Some h') history = same_order history _
+same_contexts (Some h) (Some h') history = same_order false history _
 
 -- and they lie in the same places
 same_spans : (cs ds : List (Cluster ClusterMeta)) → map untold cs ≡ map untold ds → spans_of cs ≡ spans_of ds
@@ -137,7 +138,9 @@ module _ {D : Type 0} (state : D → DiskState)
           kept = kept;
           beside = beside;
           begin = step.begin ∙ born.end;
-          lens = as_long t p.page clusters ranges book kept are;
+          lens = as_long t p.page clusters ranges book kept are
+              ∙ ap (λ (cs : List (Cluster ClusterMeta)). map (λ (c : Cluster ClusterMeta). c.len) cs)
+              (clusters-unstaged book (step.staged ∙ born.not_staged));
         } in (
           after.0,
           after.1,
@@ -172,12 +175,15 @@ module _ {D : Type 0} (state : D → DiskState)
       let begun = (state birth.begun).held in
       let now = (state disk).held in
       let history : List (Entry ClusterMeta) = told_history begun now book.history in
-      let d = deals (IsChunkBlob begun t p.page) chunks history
-      (each_wrote begun t p.page history chunks first.number first.own first.kept have closes.kept)
+      let all : book_clusters book ≡ ranges_of book.history = clusters-unstaged book (step.staged ∙ born.not_staged) in
+      let d = deals (IsChunkBlob begun t p.page) false chunks history
+      (each_wrote_all begun t p.page history chunks first.number first.own first.kept have closes.kept)
       (others_idle begun t p.page history chunks first.number first.own first.kept have closes.own closes.others) in
-      let order : order_of (ranges_of history) ≡ commit_order book = same_contexts begun now book.history in
+      let order : order_of (ranges_of history) ≡ commit_order book =
+      same_contexts begun now book.history ∙ ap (λ (cs : List (Cluster ClusterMeta)). order_of cs) (sym all) in
       let blobs =
-      blobs_of begun t p.page d.dealt (ranges_of history) (ranges_of book.history) d.written (same_ranges begun now book.history) in
+      blobs_of begun t p.page d.dealt (ranges_of history) (book_clusters book) d.written
+      (same_ranges begun now book.history ∙ ap (λ (cs : List (Cluster ClusterMeta)). map untold cs) (sym all)) in
       let untorn : book.torn ≡ None =
       step.whole (none_failed begun t p.page history chunks first.number first.own first.kept have closes.kept closes.own closes.others) in
       let beside = beside-of t p.group book kept (step.group ∙ born.group) step.lists step.torn step.listed untorn in

@@ -8,7 +8,7 @@ use Rattle.nt_book.specs.declared.meta.ClusterMeta.{ClusterMeta}
 use Rattle.nt_commit.specs.Lists.{HasNoFault}
 
 -- the entries by which chunks are written
-pub wrote-no_fault : (i : ℕ) (ws : List (WrittenChunk ClusterMeta)) → HasNoFault (flat_map (entries_of_chunk i) ws)
+pub wrote-no_fault : (i : ℕ) (ws : List (WrittenChunk ClusterMeta)) → HasNoFault (flat_map (entries_of_chunk false i) ws)
 wrote-no_fault i [] = tt
 wrote-no_fault i (w ∷ ws) = (λ is. is, (λ is. is, wrote-no_fault i ws))
 

@@ -24,6 +24,7 @@ use Rattle.nt_pagelists.specs.FooterWriting.{group_text, group_texts, extension_
 use Rattle.nt_pagelists.specs.Blobs.{blob_len}
 use Rattle.nt_layout.specs.Headers.{header_sum, clusters_place}
 use Rattle.nt_pagelists.specs.Objects.{ClusterSpan, cluster_span, group_spans, list_len}
+use Rattle.nt_pagelists.proofs.Named.{clusters-unstaged}
 use Rattle.nt_layout.specs.Groups.{PlacedList, places_beside, places_behind, list_group}
 use Rattle.nt_layout.specs.Finished.{spans, list_places, groups, footer_object, footer_place, anchor_start, file_len}
 use Rattle.nt_layout.specs.Laid.{IsBookOf}
@@ -162,11 +163,12 @@ ranges-told (c ∷ cs) h =
       ranges-told cs (λ k less. h (suc k) (omega (arith, less))),
     )
 
--- the whole file, whose ranges begin behind the header
-pub length-file_of : (staged : Bool) (t : Table) (book : BookData) (most : ℕ) → IsBookKept book → book.begin ≡ clusters_place t → 0 < most
+-- the whole file, whose ranges begin behind the header and aren't staged
+pub length-file_of : (staged : Bool) (t : Table) (book : BookData) (most : ℕ) → book.staged ≡ false → IsBookKept book
+    → book.begin ≡ clusters_place t → 0 < most
     → file_len t book (list_places staged t book most) ≡ whole_len t most (metas (book_clusters book))
 unfolding anchor_start footer_place
-length-file_of staged t book most kept begin some =
+length-file_of staged t book most flat kept begin some =
     let cs = book_clusters book in
     let ls = list_places staged t book most in
     let sum = header_sum t in
@@ -177,9 +179,11 @@ length-file_of staged t book most kept begin some =
     sym (sum_by-mapped (list_len sum book) (λ (l : PlacedList). l.span) ls)
     ∙ (ap (λ (l : List ClusterSpan). sum_by (list_len sum book) l) (spans-placed staged t book most)
     ∙ length-all_lists sum book most some) in
-    omega (arith, begin, ranges-told cs (λ k less. (kept.clusters k less).len), lists, footer)
+    let all : sum_by (λ (c : Cluster ClusterMeta). c.len) cs ≡ sum_by (λ (c : Cluster ClusterMeta). c.len) (ranges_of book.history) =
+    ap (λ (l : List (Cluster ClusterMeta)). sum_by (λ (c : Cluster ClusterMeta). c.len) l) (clusters-unstaged book flat) in
+    omega (arith, begin, all, ranges-told cs (λ k less. (kept.clusters k less).len), lists, footer)
 
 -- the same of a book without deferred columns
-pub length-file : (staged : Bool) (t : Table) (book : BookData) (most : ℕ) → IsBookOf t book → 0 < most
+pub length-file : (staged : Bool) (t : Table) (book : BookData) (most : ℕ) → book.staged ≡ false → IsBookOf t book → 0 < most
     → file_len t book (list_places staged t book most) ≡ whole_len t most (metas (book_clusters book))
-length-file staged t book most is some = length-file_of staged t book most is.kept is.begin some
+length-file staged t book most flat is some = length-file_of staged t book most flat is.kept is.begin some

@@ -11,8 +11,8 @@ use Rattle.nt_types.specs.TreeData.{TreesData}
 use Rattle.nt_grammar.specs.Table.{Table}
 use Rattle.nt_outside.specs.Disk.{DiskState}
 use Rattle.nt_machine.specs.declared.entry.Entry.{Entry}
-use Rattle.nt_machine.specs.History.{Cluster, mine_of, ranges_of}
-use Rattle.nt_machine.proofs.Histories.{own, own-fold, AllByRecursion-append}
+use Rattle.nt_machine.specs.History.{Cluster, mine_of, own_of, ranges_of}
+use Rattle.nt_machine.proofs.Histories.{own-fold, AllByRecursion-append}
 use Rattle.nt_book.specs.declared.limits.Limits.{Limits}
 use Rattle.nt_book.specs.declared.meta.ClusterMeta.{ClusterMeta}
 use Rattle.nt_book.specs.declared.params.Params.{Params}
@@ -58,23 +58,23 @@ total-one g h a k i (suc n) here other = at (total-one g h a k (suc i) n here ot
     at later false e = omega (arith, other i (eqb-false i k e), later)
 
 -- the parts of some contexts make no more than the whole
-parts-within : {M : Type 0} (f : Cluster M → ℕ) (cs : List (Cluster M)) (i n : ℕ) → total i n (λ j. sum_by f (own cs j)) ≤ sum_by f cs
+parts-within : {M : Type 0} (f : Cluster M → ℕ) (cs : List (Cluster M)) (i n : ℕ) → total i n (λ j. sum_by f (own_of cs j)) ≤ sum_by f cs
 parts-within f [] i n = omega (arith, total-none i n)
 parts-within f (c ∷ cs) i n =
-    let here : sum_by f (own (c ∷ cs) c.context) ≡ f c + sum_by f (own cs c.context) =
-    ap (λ (l : List (Cluster _)). sum_by f l) (own-here c cs) ∙ sum_by-cons f c (own cs c.context) in
-    let other : (j : ℕ) → (j ≡ c.context → ⊥) → sum_by f (own (c ∷ cs) j) ≡ sum_by f (own cs j) =
+    let here : sum_by f (own_of (c ∷ cs) c.context) ≡ f c + sum_by f (own_of cs c.context) =
+    ap (λ (l : List (Cluster _)). sum_by f l) (own-here c cs) ∙ sum_by-cons f c (own_of cs c.context) in
+    let other : (j : ℕ) → (j ≡ c.context → ⊥) → sum_by f (own_of (c ∷ cs) j) ≡ sum_by f (own_of cs j) =
     λ j differ. ap (λ (l : List (Cluster _)). sum_by f l) (own-other c cs j differ) in
-    let one = total-one (λ j. sum_by f (own cs j)) (λ j. sum_by f (own (c ∷ cs) j)) (f c) c.context i n (omega (arith, here))
+    let one = total-one (λ j. sum_by f (own_of cs j)) (λ j. sum_by f (own_of (c ∷ cs) j)) (f c) c.context i n (omega (arith, here))
     (λ j differ. omega (arith, other j differ)) in
     omega (arith, one, parts-within f cs i n, sum_by-cons f c cs)
 
 -- what holds of each holds of those of a context
-part-all : {M : Type 0} (P : Cluster M → Type 0) (cs : List (Cluster M)) (i : ℕ) → AllByRecursion P cs → AllByRecursion P (own cs i)
+part-all : {M : Type 0} (P : Cluster M → Type 0) (cs : List (Cluster M)) (i : ℕ) → AllByRecursion P cs → AllByRecursion P (own_of cs i)
 part-all P [] i all = tt
 part-all P (c ∷ cs) i all = at (part-all P cs i all.1) (c.context == i)
   where
-    at : AllByRecursion P (own cs i) → (b : Bool) → AllByRecursion P (cond b (c ∷ own cs i) (own cs i))
+    at : AllByRecursion P (own_of cs i) → (b : Bool) → AllByRecursion P (cond b (c ∷ own_of cs i) (own_of cs i))
     at rest true = (all.0, rest)
     at rest false = rest
 
@@ -173,7 +173,7 @@ module _ (t : Table) (page most : ℕ) (history : List (Entry ClusterMeta))
   -- all committed chunks are no longer and no more than all ranges
   parts-are : (f : Range → ℕ) (n : ℕ) → total 0 n (λ j. sum_by f (ranges_in j)) ≤ sum_by f (ranges_of history)
   parts-are f n =
-      let same = total-same (λ j. sum_by f (own (ranges_of history) j)) (λ j. sum_by f (ranges_in j)) 0 n
+      let same = total-same (λ j. sum_by f (own_of (ranges_of history) j)) (λ j. sum_by f (ranges_in j)) 0 n
       (λ j. ap (λ (l : List Range). sum_by f l) (sym (own-fold [] history j))) in
       omega (arith, same, parts-within f (ranges_of history) 0 n)
 

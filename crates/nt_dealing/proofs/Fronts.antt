@@ -14,21 +14,25 @@ use Rattle.nt_machine.specs.declared.entry.Entry.{Entry}
 use Rattle.nt_machine.specs.declared.entry.EntryKind.{EntryKind}
 use Rattle.nt_machine.specs.declared.entry.EntryKind.TheVariants as entry
 use Rattle.nt_machine.specs.History.{Fate, Out, Settled, Spoiled, Cluster, is_out, mine_of, handed_back, after_kind, after_entry, ranges_of}
-use Rattle.nt_machine.specs.History.{IsFaulted, IsIdle}
-use Rattle.nt_machine.proofs.Histories.{not-eqb, own, own-fold}
+use Rattle.nt_machine.specs.History.{IsFaulted, IsIdle, own_of}
+use Rattle.nt_machine.proofs.Histories.{not-eqb, own-fold}
 use Rattle.nt_dealing.proofs.Takings.{by_number, all_of, without, without-here, without-other, seam, seam_permuted, take-less}
 
-pub own-here : {M : Type 0} (c : Cluster M) (cs : List (Cluster M)) → own (c ∷ cs) c.context ≡ c ∷ own cs c.context
-own-here c cs = ap (λ (b : Bool). cond b (c ∷ own cs c.context) (own cs c.context)) (eq-eqb c.context c.context refl)
+pub own-here : {M : Type 0} (c : Cluster M) (cs : List (Cluster M)) → own_of (c ∷ cs) c.context ≡ c ∷ own_of cs c.context
+own-here c cs = ap (λ (b : Bool). cond b (c ∷ own_of cs c.context) (own_of cs c.context)) (eq-eqb c.context c.context refl)
 
-pub own-other : {M : Type 0} (c : Cluster M) (cs : List (Cluster M)) (k : ℕ) → (k ≡ c.context → ⊥) → own (c ∷ cs) k ≡ own cs k
-own-other c cs k differ = ap (λ (b : Bool). cond b (c ∷ own cs k) (own cs k)) (not-eqb c.context k (λ same. differ (sym same)))
+pub own-other : {M : Type 0} (c : Cluster M) (cs : List (Cluster M)) (k : ℕ) → (k ≡ c.context → ⊥) → own_of (c ∷ cs) k ≡ own_of cs k
+own-other c cs k differ = ap (λ (b : Bool). cond b (c ∷ own_of cs k) (own_of cs k)) (not-eqb c.context k (λ same. differ (sym same)))
 
 -- no entry takes a range away
 grows : {M : Type 0} (cs : List (Cluster M)) (i : ℕ) (k : EntryKind M) → length cs ≤ length (after_kind cs i k)
 grows {M = M} cs i (entry.Committed n start len meta) =
     let more : List (Cluster M) = record { context = i; number = n; start = start; len = len; meta = meta; state = Out } ∷ [] in
     omega (arith, length-append cs more)
+grows {M = M} cs i (entry.Reserved n start len meta) =
+    let more : List (Cluster M) = record { context = i; number = n; start = start; len = len; meta = meta; state = Out } ∷ [] in
+    omega (arith, length-append cs more)
+grows cs i (entry.Published ns) = omega arith
 grows cs i (entry.Settled n bytes) = omega (arith, length-map cs (handed_back i n (Settled bytes)))
 grows cs i (entry.Spoiled n faults) = omega (arith, length-map cs (handed_back i n (Spoiled faults)))
 grows cs i (entry.Faulted faults) = omega arith
@@ -36,7 +40,7 @@ grows cs i (entry.Faulted faults) = omega arith
 module _ {M C : Type 0} (R : C → Cluster M → Type 0) where
   -- the ranges of each context are of the first of its chunks
   abbrev pub AreFronts : List (List C) → List (Cluster M) → Type 0
-  AreFronts xss cs = (i : ℕ) → AllZip R (take (length (own cs i)) (slice_index_or xss i [])) (own cs i)
+  AreFronts xss cs = (i : ℕ) → AllZip R (take (length (own_of cs i)) (slice_index_or xss i [])) (own_of cs i)
 
   -- the chunks of these ranges, and those that are left of each context
   pub record Taken (xss : List (List C)) (cs : List (Cluster M)) : Type 0 where
@@ -44,13 +48,13 @@ module _ {M C : Type 0} (R : C → Cluster M → Type 0) where
     pub left : List (List C)
     pub permuted : IsPermutation (some ++ all_of left) (all_of xss)
     pub pairs : AllZip R some cs
-    pub rest : (i : ℕ) → slice_index_or left i [] ≡ drop (length (own cs i)) (slice_index_or xss i [])
+    pub rest : (i : ℕ) → slice_index_or left i [] ≡ drop (length (own_of cs i)) (slice_index_or xss i [])
 
   pub taken : (cs : List (Cluster M)) (xss : List (List C)) → AreFronts xss cs → Taken xss cs
   taken [] xss fronts = record { some = []; left = xss; permuted = IsPermutation-refl (all_of xss); pairs = tt; rest = λ i. refl }
   taken (c ∷ cs) xss fronts = at (taken cs (without c.context xss)) (slice_index_or xss c.context []) refl
     where
-      zip : AllZip R (take (suc (length (own cs c.context))) (slice_index_or xss c.context [])) (c ∷ own cs c.context)
+      zip : AllZip R (take (suc (length (own_of cs c.context))) (slice_index_or xss c.context [])) (c ∷ own_of cs c.context)
       zip =
           subst (λ (l : List (Cluster M)). AllZip R (take (length l) (slice_index_or xss c.context [])) l) (own-here c cs)
           (fronts c.context)
@@ -58,19 +62,19 @@ module _ {M C : Type 0} (R : C → Cluster M → Type 0) where
       at : (AreFronts (without c.context xss) cs → Taken (without c.context xss) cs) → (mine : List C)
           → slice_index_or xss c.context [] ≡ mine → Taken xss (c ∷ cs)
       at on [] e =
-          let none : AllZip R (take (suc (length (own cs c.context))) []) (c ∷ own cs c.context) =
-          subst (λ (l : List C). AllZip R (take (suc (length (own cs c.context))) l) (c ∷ own cs c.context)) e zip in
+          let none : AllZip R (take (suc (length (own_of cs c.context))) []) (c ∷ own_of cs c.context) =
+          subst (λ (l : List C). AllZip R (take (suc (length (own_of cs c.context))) l) (c ∷ own_of cs c.context)) e zip in
           absurd none
       at on (x ∷ xs) e =
           let i = c.context in
-          let pairs : R x c × AllZip R (take (length (own cs i)) xs) (own cs i) =
-          subst (λ (l : List C). AllZip R (take (suc (length (own cs i))) l) (c ∷ own cs i)) e zip in
+          let pairs : R x c × AllZip R (take (length (own_of cs i)) xs) (own_of cs i) =
+          subst (λ (l : List C). AllZip R (take (suc (length (own_of cs i))) l) (c ∷ own_of cs i)) e zip in
           let left_is : slice_index_or (without i xss) i [] ≡ xs = without-here i xss ∙ ap (λ (l : List C). drop 1 l) e in
           let next : AreFronts (without i xss) cs =
-          by_number (λ k. AllZip R (take (length (own cs k)) (slice_index_or (without i xss) k [])) (own cs k)) i
-          (subst (λ (l : List C). AllZip R (take (length (own cs i)) l) (own cs i)) (sym left_is) pairs.1)
+          by_number (λ k. AllZip R (take (length (own_of cs k)) (slice_index_or (without i xss) k [])) (own_of cs k)) i
+          (subst (λ (l : List C). AllZip R (take (length (own_of cs i)) l) (own_of cs i)) (sym left_is) pairs.1)
           (λ k differ.
-          subst (λ (l : List C). AllZip R (take (length (own cs k)) l) (own cs k)) (sym (without-other i k xss differ))
+          subst (λ (l : List C). AllZip R (take (length (own_of cs k)) l) (own_of cs k)) (sym (without-other i k xss differ))
           (subst (λ (l : List (Cluster M)). AllZip R (take (length l) (slice_index_or xss k [])) l) (own-other c cs k differ)
           (fronts k))) in
           let t = on next in
@@ -81,14 +85,14 @@ module _ {M C : Type 0} (R : C → Cluster M → Type 0) where
                 (IsPermutation-cons x (t.some ++ all_of t.left) (all_of (without i xss)) t.permuted)
                 (seam_permuted xss i x (seam i xss x xs e));
             pairs = (pairs.0, t.pairs);
-            rest = by_number (λ k. slice_index_or t.left k [] ≡ drop (length (own (c ∷ cs) k)) (slice_index_or xss k [])) i
+            rest = by_number (λ k. slice_index_or t.left k [] ≡ drop (length (own_of (c ∷ cs) k)) (slice_index_or xss k [])) i
                 (t.rest i
-                ∙ (ap (λ (l : List C). drop (length (own cs i)) l) left_is
-                ∙ (sym (ap (λ (l : List C). drop (suc (length (own cs i))) l) e)
+                ∙ (ap (λ (l : List C). drop (length (own_of cs i)) l) left_is
+                ∙ (sym (ap (λ (l : List C). drop (suc (length (own_of cs i))) l) e)
                 ∙ sym (ap (λ (l : List (Cluster M)). drop (length l) (slice_index_or xss i [])) (own-here c cs)))))
                 (λ k differ.
                 t.rest k
-                ∙ (ap (λ (l : List C). drop (length (own cs k)) l) (without-other i k xss differ)
+                ∙ (ap (λ (l : List C). drop (length (own_of cs k)) l) (without-other i k xss differ)
                 ∙ sym (ap (λ (l : List (Cluster M)). drop (length l) (slice_index_or xss k [])) (own-other c cs k differ))));
           }
 
@@ -122,6 +126,9 @@ module _ {M C : Type 0} (R : C → Cluster M → Type 0) where
         → AllZip R (take (length cs) xs) cs
     before_kind xs cs i (entry.Committed n start len meta) h =
         zip-front xs cs (record { context = i; number = n; start = start; len = len; meta = meta; state = Out } ∷ []) h
+    before_kind xs cs i (entry.Reserved n start len meta) h =
+        zip-front xs cs (record { context = i; number = n; start = start; len = len; meta = meta; state = Out } ∷ []) h
+    before_kind xs cs i (entry.Published ns) h = zip-all xs cs h
     before_kind xs cs i (entry.Settled n bytes) h = zip-all xs cs (unmapped i n (Settled bytes) xs cs h)
     before_kind xs cs i (entry.Spoiled n faults) h = zip-all xs cs (unmapped i n (Spoiled faults) xs cs h)
     before_kind xs cs i (entry.Faulted faults) h = zip-all xs cs h
@@ -155,14 +162,14 @@ module _ {M : Type 0} where
   grows_all cs (e ∷ es) = omega (arith, grows cs e.context e.kind, grows_all (after_entry cs e) es)
 
   pub fewer_before : (history begun : List (Entry M)) (i : ℕ) → IsPrefix begun history
-      → length (own (ranges_of begun) i) ≤ length (ranges_of (mine_of history i))
+      → length (own_of (ranges_of begun) i) ≤ length (ranges_of (mine_of history i))
   fewer_before history begun i p =
       let more = p.0 in
       let mine : mine_of history i ≡ mine_of begun i ++ mine_of more i =
       ap (λ (l : List (Entry M)). mine_of l i) (sym p.1) ∙ filter-append (λ (e : Entry M). e.context == i) begun more in
       let all : ranges_of (mine_of history i) ≡ fold after_entry (ranges_of (mine_of begun i)) (mine_of more i) =
       ap (λ (l : List (Entry M)). ranges_of l) mine ∙ fold-append after_entry [] (mine_of begun i) (mine_of more i) in
-      let here : length (own (ranges_of begun) i) ≡ length (ranges_of (mine_of begun i)) =
+      let here : length (own_of (ranges_of begun) i) ≡ length (ranges_of (mine_of begun i)) =
       ap (λ (l : List (Cluster M)). length l) (own-fold [] begun i) in
       let there : length (ranges_of (mine_of history i)) ≡ length (fold after_entry (ranges_of (mine_of begun i)) (mine_of more i)) =
       ap (λ (l : List (Cluster M)). length l) all in
@@ -170,6 +177,8 @@ module _ {M : Type 0} where
 
   idle_kind : (cs : List (Cluster M)) (i : ℕ) (k : EntryKind M) → IsFaulted k → after_kind cs i k ≡ cs
   idle_kind cs i (entry.Committed n start len meta) h = absurd h
+  idle_kind cs i (entry.Reserved n start len meta) h = absurd h
+  idle_kind cs i (entry.Published ns) h = absurd h
   idle_kind cs i (entry.Settled n bytes) h = absurd h
   idle_kind cs i (entry.Spoiled n faults) h = absurd h
   idle_kind cs i (entry.Faulted faults) h = refl

@@ -8,7 +8,7 @@ use Rattle.std.proofs.Math.Nat.{le_of_mul-le-mul_right, zero-mul}
 use Rattle.std.proofs.lemmas.Grind.{div_ceil_times}
 use Rattle.nt_lists.specs.Parts.{Part}
 use Rattle.nt_grammar.specs.Table.{Table}
-use Rattle.nt_machine.specs.History.{Cluster}
+use Rattle.nt_machine.specs.History.{Cluster, ranges_of}
 use Rattle.nt_machine.specs.Legal.{ranges_end}
 use Rattle.nt_book.specs.declared.list.NotedList.{NotedList}
 use Rattle.nt_book.specs.declared.meta.ClusterMeta.{ClusterMeta}
@@ -18,6 +18,7 @@ use Rattle.nt_book.specs.Listing.{clusters_listed, group_size, no_noted}
 use Rattle.nt_pagelists.specs.Blobs.{blob}
 use Rattle.nt_pagelists.specs.Due.{group_sum}
 use Rattle.nt_pagelists.specs.Objects.{cluster_span, list_object}
+use Rattle.nt_pagelists.proofs.Named.{clusters-unstaged, grouped-unstaged}
 use Rattle.nt_commit.specs.Lists.{AreBehindGroups, AreNoted, HasListsOf, noted_list}
 use Rattle.nt_layout.specs.Headers.{header_sum}
 use Rattle.nt_layout.specs.Groups.{place_beside, places_beside, range_end, list_part, list_parts}
@@ -108,7 +109,10 @@ module _ (t : Table) (most : ℕ) (book : BookData) (kept : IsBookKept book) (gr
       subst (λ (g : Option (ℕ × ℕ)). clusters_listed (group_size g) book.lists ≤ length (book_clusters book)) group kept.listed
 
   behind-groups : AreBehindGroups most book.begin (book_clusters book) 0 lists
-  behind-groups = subst (λ (g : Option (ℕ × ℕ)). AreBehindGroups (group_size g) book.begin (book_clusters book) 0 lists) group has.behind
+  behind-groups =
+      subst (λ (cs : List (Cluster ClusterMeta)). AreBehindGroups most book.begin cs 0 lists)
+      (sym (clusters-unstaged book (grouped-unstaged book (most, header_sum t) kept group)))
+      (subst (λ (g : Option (ℕ × ℕ)). AreBehindGroups (group_size g) book.begin (ranges_of book.history) 0 lists) group has.behind)
 
   -- each is noted as that of its group, where it stands
   pub each-noted : (k : ℕ) → k < length book.lists → noted_at book k ≡ full_list (header_sum t) most book (k * most)

@@ -10,10 +10,10 @@ use Rattle.nt_grammar.specs.Table.{Table}
 use Rattle.nt_outside.specs.Held.{Held}
 use Rattle.nt_turn.specs.History.{HasNone}
 use Rattle.nt_machine.specs.declared.entry.Entry.{Entry}
-use Rattle.nt_machine.specs.History.{mine_of, IsIdle}
+use Rattle.nt_machine.specs.History.{mine_of, IsIdle, WroteAll}
 use Rattle.nt_book.specs.declared.meta.ClusterMeta.{ClusterMeta}
 use Rattle.nt_commit.specs.Lists.{HasNoFault}
-use Rattle.nt_dealing.specs.Written.{WroteChunks, AllWroteFrom, HaveWritten}
+use Rattle.nt_dealing.specs.Written.{IsChunkBlob, WroteChunks, AllWroteFrom, HaveWritten}
 use Rattle.nt_dealing.proofs.Faultless.{wrote-no_fault, none-of_each}
 
 module _ (begun : Option Held) (t : Table) (page : ℕ) (history : List (Entry ClusterMeta)) where
@@ -64,6 +64,15 @@ module _ (begun : Option Held) (t : Table) (page : ℕ) (history : List (Entry C
   each_wrote chunks number own kept have are i less =
       subst (λ (n : ℕ). WroteChunks begun t page n (slice_index_or chunks i []) (mine_of history n)) (omega arith)
       (wrote_at 0 chunks kept have.each are i less)
+
+  -- and all of them
+  pub each_wrote_all : (chunks : List (List (List TreesData))) (number : ℕ) (own : List (Entry ClusterMeta))
+      (kept : List (ℕ × List (Entry ClusterMeta)))
+      → HaveWritten begun t page chunks number own kept → AreKept kept → (i : ℕ) → i < length chunks
+      → WroteAll (IsChunkBlob begun t page) false i (slice_index_or chunks i []) (mine_of history i)
+  each_wrote_all chunks number own kept have are i less =
+      let wrote = each_wrote chunks number own kept have are i less in
+      record { writes = wrote.writes; are = wrote.are; blobs = wrote.blobs }
 
   -- and no other pass entered anything
   others_none : (chunks : List (List (List TreesData))) (number : ℕ) (own : List (Entry ClusterMeta))

@@ -1,5 +1,5 @@
 -- What the contexts of a writer wrote, each for itself.
-use Rattle.std.specs.Prelude.{◌≡◌, ℕ, ◌+◌, ◌≤◌, List, [], ◌∷◌, map, take, Option, Some, length}
+use Rattle.std.specs.Prelude.{◌≡◌, ℕ, ◌+◌, ◌≤◌, false, List, [], ◌∷◌, map, take, Option, Some, length}
 use Rattle.std.specs.List.{AllByRecursion}
 use Rattle.nt_types.specs.TreeData.{TreesData}
 use Rattle.nt_grammar.specs.Table.{Table}
@@ -20,7 +20,7 @@ pub record IsChunkBlob (begun : Option Held) (t : Table) (page : ℕ) (entries :
 
 -- the entries of a context in a history are those of its chunks, each committed and settled, one after the other
 abbrev pub WroteChunks : Option Held → Table → ℕ → ℕ → List (List TreesData) → List (Entry ClusterMeta) → Type 0
-WroteChunks begun t page i chunks own = Wrote (IsChunkBlob begun t page) i chunks own
+WroteChunks begun t page i chunks own = Wrote (IsChunkBlob begun t page) false i chunks own
 
 -- the contexts, from this number on, were joined in the order of their numbers, and each wrote its chunks
 abbrev pub AllWroteFrom : Option Held → Table → ℕ → ℕ → List (List (List TreesData)) → List (ℕ × List (Entry ClusterMeta)) → Type 0

@@ -1,6 +1,6 @@
 -- What a pass knows after its holds of the turn.
 use Rattle.std.proofs.Common.{◌≡◌, ◌∙◌, ap, sym, refl, ℕ, ◌+◌, ◌-◌, ◌≤◌, true, List, [], ◌∷◌, ◌++◌, length, drop, Option, Some, None, subst}
-use Rattle.std.proofs.Common.{append-nil, arith, inl, inr}
+use Rattle.std.proofs.Common.{append-nil, arith, inl, inr, false}
 use Rattle.std.proofs.lemmas.Bool.{false≢true}
 use Rattle.std.proofs.lemmas.List.{length-append, length-drop}
 use Rattle.std.specs.Prelude.{◌≢◌, Result, Ok, Err, OnOk, is_ok, slice_get}
@@ -72,7 +72,7 @@ keeps_count {P = P} pen_state pen pen' was is kept = λ old new before after.
 -- a refusal for a limit adds nothing
 limit_nothing : {X : Type 0} (tell : X → ExtState) (held : Option Held) (was is n start : ℕ) (meta : ClusterMeta)
     (result : Result (Claim X) CommitError) (l : LimitError) → limit_answered result ≡ Some l
-    → (added : List (Entry ClusterMeta)) → CommitAdds tell held was is n start meta result added → added ≡ []
+    → (added : List (Entry ClusterMeta)) → CommitAdds false tell held was is n start meta result added → added ≡ []
 limit_nothing tell held was is n start meta (Ok claim) l named added adds = absurd (cc named)
 limit_nothing tell held was is n start meta (Err (RangeTooLarge len most)) l named added adds = adds
 limit_nothing tell held was is n start meta (Err (FileTooLarge end most)) l named added adds = adds
@@ -104,7 +104,7 @@ module _ {D : Type 0} (state : D → DiskState) (committer : TurnState (Birth D)
 
   module _ {X : Type 0} (tell : X → ExtState) (meta : ClusterMeta) (old mid : Pass D) where
     -- the limit of a commit, by what never changes
-    pub names : (answer : Result (Claim X) CommitError) (c : CommitsInHold state tell committer meta old mid answer)
+    pub names : (answer : Result (Claim X) CommitError) (c : CommitsInHold state false tell committer meta old mid answer)
         (result : Result Unit CommitError) → limit_answered answer ≡ limit_answered result → (answer ≡ Err Memory → result ≡ Err Memory)
         → (new : Pass D) → IsPrefix mid.seen new.seen → ((l : LimitError) → limit_answered result ≡ Some l → mid.seen ≡ new.seen)
         → NamesLimit state committer meta.len old new result
@@ -133,13 +133,13 @@ module _ {D : Type 0} (state : D → DiskState) (committer : TurnState (Birth D)
         }
 
     -- a refusal but a fault
-    pub kept_by : (e : CommitError) → CommitsInHold state tell committer meta old mid (Err e) → e ≢ Fault → Gains [] old mid
+    pub kept_by : (e : CommitError) → CommitsInHold state false tell committer meta old mid (Err e) → e ≢ Fault → Gains [] old mid
     kept_by e c apart =
         subst (λ (l : List (Entry ClusterMeta)). Gains l old mid) (refused_nothing _ _ meta.context e c.commits.added c.commits.adds apart)
         (gains_by c.taken c.given c.commits.added old mid c.hold)
 
     -- the disk failed
-    pub fault_by : CommitsInHold state tell committer meta old mid (Err Fault) → meta.context ≡ old.number → MeetsFault old mid
+    pub fault_by : CommitsInHold state false tell committer meta old mid (Err Fault) → meta.context ≡ old.number → MeetsFault old mid
     fault_by c is = record {
       faults = (state c.given.disk).faults;
       gains = subst (λ (l : List (Entry ClusterMeta)). Gains l old mid) (c.commits.adds.1
@@ -147,7 +147,7 @@ module _ {D : Type 0} (state : D → DiskState) (committer : TurnState (Birth D)
           (gains_by c.taken c.given c.commits.added old mid c.hold);
     }
 
-    module _ (claim : Claim X) (c : CommitsInHold state tell committer meta old mid (Ok claim)) (is : meta.context ≡ old.number) where
+    module _ (claim : Claim X) (c : CommitsInHold state false tell committer meta old mid (Ok claim)) (is : meta.context ≡ old.number) where
       abbrev pub start : ℕ
       start = c.commits.place.before + c.commits.place.due
 

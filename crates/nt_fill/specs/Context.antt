@@ -1,5 +1,5 @@
 -- A context that gathers entries, as its users see it.
-use Rattle.std.specs.Prelude.{ℕ, ◌≡◌, ◌+◌, ◌≤◌, Bool, true, List, [], ◌∷◌, ◌++◌, map, length, Option}
+use Rattle.std.specs.Prelude.{ℕ, ◌≡◌, ◌+◌, ◌≤◌, Bool, true, false, List, [], ◌∷◌, ◌++◌, map, length, Option}
 use Rattle.std.specs.List.{range_with_len}
 use Rattle.nt_types.specs.ShapeData.{MemberData}
 use Rattle.nt_types.specs.TreeData.{TreeData, TreesData, trees_of}
@@ -68,9 +68,17 @@ module _ {E B P : Type 0} where
     pub fits : fits_entry old.table (trees_of found) ≡ true
     pub gathers : Gathers (trees_of found) old new
 
--- the pass is of the committer and no range of it is out; the columns give the entries, at most so many as a cluster has
+-- a pass of a committer whose clusters aren't staged, which has no entry yet
+pub record IsFreshPass {D : Type 0} (committer : TurnState (Birth D)) (pass : PassState (Entry ClusterMeta) (Birth D)) : Type 0 where
+  pub of : IsPassOf committer pass
+  pub unused : pass.own ≡ []
+  pub not_staged : committer.birth.staged ≡ false
+
+-- the pass is of the committer, whose clusters aren't staged, and no range of it is out; the columns give the entries, at most so many as a
+-- cluster has
 pub record IsGathering {D P : Type 0} (c : FillState (Entry ClusterMeta) (Birth D) P) : Type 0 where
   pub of : IsPassOf c.committer c.pass
+  pub not_staged : c.committer.birth.staged ≡ false
   pub none_out : HasNoneOut c.pass.own
   pub count : length c.table.columns ≡ c.committer.birth.columns
   pub some : are_some (open_plans c.table) ≡ true

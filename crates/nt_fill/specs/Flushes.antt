@@ -1,5 +1,5 @@
 -- What a flush does to a context.
-use Rattle.std.specs.Prelude.{ℕ, ◌≡◌, ◌≢◌, List, [], length, Option, Some, IsSome, Result, Err, IsErrOf}
+use Rattle.std.specs.Prelude.{ℕ, ◌≡◌, ◌≢◌, false, List, [], length, Option, Some, IsSome, Result, Err, IsErrOf}
 use Rattle.nt_types.specs.TreeData.{TreesData}
 use Rattle.nt_grammar.specs.Table.{Table}
 use Rattle.nt_outside.specs.Held.{Held}
@@ -57,7 +57,7 @@ module _ {D P : Type 0} where
       pub context : written.meta.context ≡ old.pass.number
       pub blob : IsWrittenAs (state old.committer.birth.begun).held old.table old.page (gathered old) written.start
           written.bytes written.meta
-      pub gains : Gains (entries_of_chunk old.pass.number written) old.pass new.pass
+      pub gains : Gains (entries_of_chunk false old.pass.number written) old.pass new.pass
       pub alive : IsSome new.pen
       pub now : new ≡ record old { pass = new.pass; pen = new.pen; columns = new.columns; entries = 0 }
 

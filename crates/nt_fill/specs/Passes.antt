@@ -62,10 +62,11 @@ module _ {D : Type 0} where
     pub kept : (e : CommitError) → result ≡ Err e → e ≢ Fault → Gains [] old new × (pen' ≡ pen)
     pub fault : IsErrOf result Fault → FailsToWrite meta old new pen pen'
 
-  -- an image may be written: it is one of this pass, no range of the pass is out, and its pen is there
+  -- an image may be written: it is one of this pass, clusters aren't staged, no range of the pass is out, and its pen is there
   pub record MayWrite {P : Type 0} (committer : TurnState (Birth D)) (pass : PassState (Entry ClusterMeta) (Birth D)) (pen : Option P)
       (image : ClusterImage) : Type 0 where
     pub of : IsPassOf committer pass
+    pub not_staged : committer.birth.staged ≡ false
     pub none_out : HasNoneOut pass.own
     pub alive : IsSome pen
     pub image_is : IsImageFor committer.birth.columns pass.number image
@@ -96,4 +97,4 @@ module _ {D : Type 0} where
       pub len : written.len ≡ image.meta.len
       pub bytes : written.bytes ≡ bytes_where_told (state committer.birth.begun).held
           (Some (blob_key (length image.bytes - key_room) written.start ++ drop key_room image.bytes))
-      pub gains : Gains (entries_of_chunk old.number written) old new
+      pub gains : Gains (entries_of_chunk false old.number written) old new

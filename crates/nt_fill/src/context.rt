@@ -8,7 +8,7 @@ ghost use Rattle.nt_pages.specs.Metas.{cluster_meta};
 ghost use Rattle.nt_trees.specs.Described.{AreDescribed};
 ghost use Rattle.nt_commit.specs.declared.error.CommitError.TheVariants.{Memory};
 ghost use Rattle.nt_commit.specs.Holds.{IsPassOf, HasNoneOut};
-ghost use Rattle.nt_fill.specs.Context.{IsTableFor, gathered};
+ghost use Rattle.nt_fill.specs.Context.{IsFreshPass, IsTableFor, gathered};
 
 use crate::columns::empty_columns;
 use nt_book::Params;
@@ -117,8 +117,8 @@ impl<'a, V: Gathering, P> Model for FillContextOf<'a, V, P> {
 pub type FillContext<'a, D> = FillContextOf<'a, Locked<D>, <D as Disk>::Pen>;
 
 impl<'a, D: Disk> FillContext<'a, D> {
-    /// A context that has gathered nothing, with a pass and a pen from `enter` of this committer.
-    /// Without memory both come back.
+    /// A context that has gathered nothing, with a pass and a pen from `enter` of this committer,
+    /// whose clusters are not staged. Without memory both come back.
     pub fn new(
         alloc: Global,
         committer: &'a Committer<D>,
@@ -128,8 +128,7 @@ impl<'a, D: Disk> FillContext<'a, D> {
         pen: D::Pen,
     ) -> Result<FillContext<'a, D>, (Pass<Locked<D>>, D::Pen, AllocError)>
         requires schema { IsTableFor committer.now.birth.columns schema.now }
-        requires pass { IsPassOf committer.now pass }
-        requires unused { pass.own ≡ [] }
+        requires pass { IsFreshPass committer.now pass }
         ensures ok { IfOk result (λ c. c ≡ record {
           committer = committer.now;
           table = schema.now;

@@ -17,11 +17,12 @@ use Rattle.nt_book.specs.Books.{BookData, book_clusters}
 use Rattle.nt_book.specs.Kept.{IsBookKept}
 use Rattle.nt_book.specs.Listing.{AreBeside, AtMostOneUnlisted, clusters_listed, group_size}
 use Rattle.nt_pagelists.specs.Objects.{list_len}
+use Rattle.nt_pagelists.proofs.Named.{clusters-unstaged, grouped-unstaged}
 use Rattle.nt_layout.specs.Headers.{header_sum, clusters_place}
 use Rattle.nt_layout.specs.Groups.{list_parts}
 use Rattle.nt_layout.specs.Finished.{spans, range_parts, middle, finished}
 use Rattle.nt_layout.specs.Beside.{HasListsBeside, full_span, lists_left, parts_so_far}
-use Rattle.nt_layout.specs.Laid.{AreBlobsOf, Measures, IsWithin, IsBookOf, IsLaid}
+use Rattle.nt_layout.specs.Laid.{AreBlobsOf, Measures, IsWithin, IsBookOf, IsLaid, range_of}
 use Rattle.nt_finished.specs.Ranged.{IsRangedBook}
 use Rattle.nt_finished.proofs.Lengths.{clusters_told, ranges-len}
 use Rattle.nt_finished.proofs.Spans.{spans_in_order}
@@ -32,6 +33,15 @@ use Rattle.nt_finished.proofs.BesideLists.{AreNotedOf, beside-from, left-behind,
 module _ (t : Table) (most : ℕ) (book : BookData) (kept : IsBookKept book) (beside : HasListsBeside t most book) where
   pub some-beside : 0 < most
   some-beside = subst (λ (g : Option (ℕ × ℕ)). IfSome g (λ (x : ℕ × ℕ). 0 < x.0)) beside.group kept.sized
+
+  -- so no cluster is staged
+  pub ranges-beside : book_clusters book ≡ ranges_of book.history
+  ranges-beside = clusters-unstaged book (grouped-unstaged book (most, header_sum t) kept beside.group)
+
+  pub by-number_beside : (ranges : List (List ℕ)) → map length ranges ≡ map (λ (c : Cluster ClusterMeta). c.len) (ranges_of book.history)
+      → map (range_of ranges) (book_clusters book) ≡ ranges
+  by-number_beside ranges lens =
+      ap (λ (cs : List (Cluster ClusterMeta)). map (range_of ranges) cs) ranges-beside ∙ ranges-by_number book ranges kept lens
 
   pub listed-beside : clusters_listed most book.lists ≤ length (book_clusters book)
   listed-beside =
@@ -62,7 +72,8 @@ module _ (t : Table) (most : ℕ) (book : BookData) (kept : IsBookKept book) (be
       (subst (λ (g : Option (ℕ × ℕ)). AreBeside book.begin (group_size g) book.lists (spans_of cs)) beside.group
       (kept.placed beside.untorn)) in
       beside-from (header_sum t) book most some-beside (spans book most) 0 (clusters_place t) cs ranges book.lists
-      (spans_in_order most n some-beside) (spans-large most n (range_with_len 0 (div_ceil n most))) refl (omega arith) lens same placed
+      (spans_in_order most n some-beside) (spans-large most n (range_with_len 0 (div_ceil n most))) (sym ranges-beside)
+      (omega (arith, ap length ranges-beside)) lens same placed
       (omega (arith, listed-beside)) (omega (arith, few-beside)) noted-beside
 
   -- the lists that are left stand behind all that stands already
@@ -77,7 +88,7 @@ module _ (t : Table) (most : ℕ) (book : BookData) (kept : IsBookKept book) (be
       sym (length-map ranges length) ∙ (ap length lens ∙ length-map cs (λ (c : Cluster ClusterMeta). c.len)) in
       left-behind (header_sum t) book most some-beside (spans book most) 0 (range_parts cs ranges) book.lists
       (spans_in_order most n some-beside) (spans-large most n (range_with_len 0 (div_ceil n most)))
-      (omega (arith, length-range_parts cs ranges same)) (omega (arith, listed-beside)) (omega (arith, few-beside))
+      (omega (arith, length-range_parts cs ranges same, ap length ranges-beside)) (omega (arith, listed-beside)) (omega (arith, few-beside))
 
   pub middle_beside : (ranges : List (List ℕ))
       → map length ranges ≡ map (λ (c : Cluster ClusterMeta). c.len) (ranges_of book.history)
@@ -108,7 +119,9 @@ pub laid-beside : (file : List ℕ) (t : Table) (clusters : List (List TreesData
     → AreBlobsOf t m.page clusters ranges (book_clusters book)
     → file ≡ finished m.staged t book m.group ranges → IsLaid file t clusters m
 laid-beside file t clusters m ranges book staged of beside within are is =
-    let lens = ranges-len t m.page clusters ranges (ranges_of book.history) are (clusters_told book of.kept) in
+    let all = ranges-beside t m.group book of.kept beside in
+    let lens = ranges-len t m.page clusters ranges (book_clusters book) are (clusters_told book of.kept)
+    ∙ ap (λ (cs : List (Cluster ClusterMeta)). map (λ (c : Cluster ClusterMeta). c.len) cs) all in
     record {
       book = book;
       is_of = of;
@@ -117,7 +130,7 @@ laid-beside file t clusters m ranges book staged of beside within are is =
       lens = lens;
       blobs_are =
           subst (λ (l : List (List ℕ)). AreBlobsOf t m.page clusters l (book_clusters book))
-          (sym (ranges-by_number book ranges of.kept lens)) are;
+          (sym (by-number_beside t m.group book of.kept beside ranges lens)) are;
       behind = subst (λ (b : _). AreBehind (clusters_place t) (middle b t book m.group ranges)) (sym staged)
           (all_beside t m.group book of.kept beside ranges of.begin lens);
       is = is;

@@ -16,7 +16,7 @@ use Rattle.nt_machine.specs.Legal.{IsLegalAfter, spans_of, end_after}
 use Rattle.nt_machine.specs.Spans.{AreBehindSpans}
 use Rattle.nt_machine.proofs.Legality.{IsNumbered, IsNumbered-after_entry}
 use Rattle.nt_book.specs.declared.meta.ClusterMeta.{ClusterMeta}
-use Rattle.nt_book.specs.Books.{BookData, IsUngrouped, book_clusters}
+use Rattle.nt_book.specs.Books.{BookData, IsUngrouped, book_ranges, book_clusters}
 use Rattle.nt_book.specs.Kept.{IsBookKept}
 use Rattle.nt_book.proofs.Ungrouped.{placed-ungrouped}
 use Rattle.nt_layout.specs.Headers.{header_sum, clusters_place}
@@ -26,7 +26,6 @@ use Rattle.nt_layout.specs.Finished.{spans, list_places, range_parts, middle, fi
 use Rattle.nt_layout.specs.Laid.{AreBlobsOf, Measures, IsWithin, IsBookOf, IsLaid, range_of}
 use Rattle.nt_finished.specs.Ranged.{IsRangedBook}
 use Rattle.nt_finished.proofs.Standing.{length-blob}
-use Rattle.nt_finished.proofs.Lengths.{clusters_told, ranges-len}
 use Rattle.nt_finished.proofs.Arranged.{parts_len}
 use Rattle.nt_layout.proofs.Middles.{concat-range_parts}
 
@@ -106,7 +105,7 @@ ranges-of-numbers before n (c ∷ cs) (r ∷ ranges) is h same =
 
 pub ranges-by_number : (book : BookData) (ranges : List (List ℕ)) → IsBookKept book
     → map length ranges ≡ map (λ (c : Cluster ClusterMeta). c.len) (ranges_of book.history)
-    → map (range_of ranges) (book_clusters book) ≡ ranges
+    → map (range_of ranges) (book_ranges book) ≡ ranges
 ranges-by_number book ranges kept lens =
     let cs = ranges_of book.history in
     let same : length ranges ≡ length cs =
@@ -129,21 +128,18 @@ staged_ranged t most book ranges kept bare begin firsts lens = record {
 }
 
 pub laid-staged : (file : List ℕ) (t : Table) (clusters : List (List TreesData)) (m : Measures) (ranges : List (List ℕ)) (book : BookData)
-    → m.staged ≡ true → IsBookOf t book → IsUngrouped book → IsWithin t m book → AreBlobsOf t m.page clusters ranges (book_clusters book)
+    → m.staged ≡ true → IsBookOf t book → IsUngrouped book → IsWithin t m book
+    → map length ranges ≡ map (λ (c : Cluster ClusterMeta). c.len) (ranges_of book.history)
+    → AreBlobsOf t m.page clusters (map (range_of ranges) (book_clusters book)) (book_clusters book)
     → file ≡ finished m.staged t book m.group ranges → IsLaid file t clusters m
-laid-staged file t clusters m ranges book staged of bare within are is =
-    let cs = ranges_of book.history in
-    let lens = ranges-len t m.page clusters ranges cs are (clusters_told book of.kept) in
-    record {
-      book = book;
-      is_of = of;
-      within = within;
-      ranges = ranges;
-      lens = lens;
-      blobs_are =
-          subst (λ (l : List (List ℕ)). AreBlobsOf t m.page clusters l (book_clusters book))
-          (sym (ranges-by_number book ranges of.kept lens)) are;
-      behind = subst (λ (b : _). AreBehind (clusters_place t) (middle b t book m.group ranges)) (sym staged)
-          (all_behind t m.group book ranges of.kept bare of.begin lens);
-      is = is;
-    }
+laid-staged file t clusters m ranges book staged of bare within lens are is = record {
+  book = book;
+  is_of = of;
+  within = within;
+  ranges = ranges;
+  lens = lens;
+  blobs_are = are;
+  behind = subst (λ (b : _). AreBehind (clusters_place t) (middle b t book m.group ranges)) (sym staged)
+      (all_behind t m.group book ranges of.kept bare of.begin lens);
+  is = is;
+}

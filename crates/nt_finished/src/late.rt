@@ -5,6 +5,8 @@ ghost use Rattle.nt_types.specs.TreeData.{TreesData, no_trees, tree};
 ghost use Rattle.nt_grammar.specs.declared.rows.ColumnRow.{ColumnRow};
 ghost use Rattle.nt_grammar.specs.Table.{Table};
 ghost use Rattle.nt_plans.specs.Plan.{PlanData};
+ghost use Rattle.nt_machine.specs.History.{Cluster, ranges_of};
+ghost use Rattle.nt_book.specs.declared.meta.ClusterMeta.{ClusterMeta};
 ghost use Rattle.nt_book.specs.Books.{BookData, IsUngrouped, book_clusters};
 ghost use Rattle.nt_book.specs.Kept.{IsBookKept};
 ghost use Rattle.nt_pagelists.specs.declared.cluster.ClusterList.{ClusterList};
@@ -15,7 +17,7 @@ ghost use Rattle.nt_grammar.specs.ReadingBack.{IsDescribed};
 ghost use Rattle.nt_layout.specs.Headers.{clusters_place};
 ghost use Rattle.nt_layout.specs.Finished.{finished};
 ghost use Rattle.nt_layout.specs.Beside.{HasListsBeside};
-ghost use Rattle.nt_layout.specs.Laid.{Measures, AreMeasures, IsWithin};
+ghost use Rattle.nt_layout.specs.Laid.{Measures, AreMeasures, IsWithin, range_of};
 ghost use Rattle.nt_finished.specs.LateFiles.{AreLateBlobs, IsLaidLate};
 ghost use Rattle.nt_finished.specs.LeftOut.{IsLeftOut, LacksFields, AreFilled, filled};
 ghost use Rattle.nt_finished.specs.Zeros.{zero_of};
@@ -56,7 +58,8 @@ pub fn late_files_are_laid_behind()
     ensures { (file : List ℕ) (t : Table) (clusters : List (List TreesData)) (m : Measures)
         (ranges : List (List ℕ)) (book : BookData) → m.staged ≡ true → IsBookKept book
         → IsUngrouped book → book.begin ≡ clusters_place t → map (λ (c : ColumnRow). c.first) t.columns ≡ book.firsts
-        → IsWithin t m book → AreLateBlobs t m.page 0 clusters ranges (book_clusters book)
+        → IsWithin t m book → map length ranges ≡ map (λ (c : Cluster ClusterMeta). c.len) (ranges_of book.history)
+        → AreLateBlobs t m.page 0 clusters (map (range_of ranges) (book_clusters book)) (book_clusters book)
         → file ≡ finished m.staged t book m.group ranges → IsLaidLate file t clusters m }
 {}
 

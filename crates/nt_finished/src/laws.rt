@@ -21,7 +21,7 @@ ghost use Rattle.nt_file_meaning.specs.Files.{Means};
 ghost use Rattle.nt_layout.specs.Headers.{header_blob, clusters_place};
 ghost use Rattle.nt_layout.specs.Finished.{list_places, lists_behind, list_blobs, middle, finished, file_len, ending, tail, front};
 ghost use Rattle.nt_layout.specs.Beside.{HasListsBeside, lists_left, parts_so_far};
-ghost use Rattle.nt_layout.specs.Laid.{AreBlobsOf, Measures, AreMeasures, IsWithin, IsBookOf, IsLaid};
+ghost use Rattle.nt_layout.specs.Laid.{AreBlobsOf, Measures, AreMeasures, IsWithin, IsBookOf, IsLaid, range_of};
 ghost use Rattle.nt_finished.specs.Listed.{AreListsOf};
 ghost use Rattle.nt_finished.specs.Ranged.{IsRangedBook};
 
@@ -62,7 +62,8 @@ pub fn finished_files_are_parts()
 {}
 
 /// A finished file of a kept book without page lists between its ranges, all behind them, is laid out: its parts lie
-/// in order, each range and each list where the book has it.
+/// in order, each range and each list where the book has it. The ranges go by their numbers: clusters may be some
+/// of them, in another order.
 pub fn files_are_laid_behind()
     ensures ranged { (t : Table) (most : ℕ) (book : BookData) (ranges : List (List ℕ))
         → IsBookKept book → IsUngrouped book → book.begin ≡ clusters_place t
@@ -72,7 +73,8 @@ pub fn files_are_laid_behind()
     ensures laid { (file : List ℕ) (t : Table) (clusters : List (List TreesData)) (m : Measures)
         (ranges : List (List ℕ)) (book : BookData)
         → m.staged ≡ true → IsBookOf t book → IsUngrouped book → IsWithin t m book
-        → AreBlobsOf t m.page clusters ranges (book_clusters book)
+        → map length ranges ≡ map (λ (c : Cluster ClusterMeta). c.len) (ranges_of book.history)
+        → AreBlobsOf t m.page clusters (map (range_of ranges) (book_clusters book)) (book_clusters book)
         → file ≡ finished m.staged t book m.group ranges → IsLaid file t clusters m }
 {}
 

@@ -10,10 +10,10 @@ use Rattle.nt_outside.specs.Log.{Step, Append, FailedAppend, Reserve, Settle}
 use Rattle.nt_machine.specs.declared.entry.Entry.{Entry}
 use Rattle.nt_machine.specs.declared.entry.EntryKind.{EntryKind}
 use Rattle.nt_machine.specs.declared.entry.EntryKind.TheVariants as entry
-use Rattle.nt_machine.specs.History.{Cluster, Fate, Settled, Spoiled, is_out, handed_back, after_entry, after_kind, ranges_of}
+use Rattle.nt_machine.specs.History.{Cluster, Fate, Out, Settled, Spoiled, is_out, handed_back, after_entry, after_kind, ranges_of}
 use Rattle.nt_machine.specs.Legal.{IsOut, AreAsLong, spans_of}
 use Rattle.nt_machine.specs.Spans.{Span}
-use Rattle.nt_machine.specs.Told.{DiskStep, settle_at, disk_steps_of, log_after, log_of}
+use Rattle.nt_machine.specs.Told.{DiskStep, ReserveRange, settle_at, disk_steps_of, log_after, log_of}
 use Rattle.nt_machine.proofs.Legality.{ranges_of-snoc}
 use Rattle.nt_logged.specs.Steps.{logged_step, steps_of_history}
 use Rattle.nt_lists.specs.Parts.{Part}
@@ -112,15 +112,31 @@ module _ {M : Type 0} where
           torn_is = torn-snoc steps s ∙ (ap (λ (l : List ℕ). l ++ torn_by s) is.torn_is ∙ tears);
         }
 
+    -- a range is reserved at the end
+    reserve : (c : Cluster M) (k : EntryKind M) → c.start ≡ end
+        → disk_steps_of (ranges_of history) k ≡ ReserveRange c.start c.len ∷ []
+        → after_kind (ranges_of history) c.context k ≡ ranges_of history ++ c ∷ []
+        → IsLogOf place (end + c.len) (history ++ record { context = c.context; kind = k } ∷ []) lists torn
+        (steps ++ Reserve c.start c.len ∷ [])
+    reserve c k at_end logs after =
+        let e : Entry M = record { context = c.context; kind = k } in
+        more (Reserve c.start c.len) (end + c.len) (history ++ e ∷ []) lists torn at_end refl
+        (ap (λ (l : List DiskStep). steps_of_history history ++ map logged_step l) (sym logs) ∙ sym (steps-snoc history e))
+        (sym (ap (λ (l : List (Cluster M)). spans_of l) (ranges_of-snoc history e ∙ after)
+        ∙ map-append (λ (c : Cluster M). record { start = c.start; len = c.len }) (ranges_of history) (c ∷ [])))
+        (append-nil lists) (append-nil torn)
+
     pub log-commit : (i n len : ℕ) (meta : M)
         → IsLogOf place (end + len) (history ++ record { context = i; kind = entry.Committed n end len meta } ∷ []) lists torn
         (steps ++ Reserve end len ∷ [])
-    log-commit i n len meta =
-        let e : Entry M = record { context = i; kind = entry.Committed n end len meta } in
-        more (Reserve end len) (end + len) (history ++ e ∷ []) lists torn refl refl (sym (steps-snoc history e))
-        (sym (ap (λ (l : List (Cluster M)). spans_of l) (ranges_of-snoc history e)
-        ∙ map-append (λ (c : Cluster M). record { start = c.start; len = c.len }) (ranges_of history) _))
-        (append-nil lists) (append-nil torn)
+    log-commit i n len meta = reserve (record { context = i; number = n; start = end; len = len; meta = meta; state = Out })
+        (entry.Committed n end len meta) refl refl refl
+
+    pub log-reserve : (i n len : ℕ) (meta : M)
+        → IsLogOf place (end + len) (history ++ record { context = i; kind = entry.Reserved n end len meta } ∷ []) lists torn
+        (steps ++ Reserve end len ∷ [])
+    log-reserve i n len meta = reserve (record { context = i; number = n; start = end; len = len; meta = meta; state = Out })
+        (entry.Reserved n end len meta) refl refl refl
 
     back : (i n : ℕ) (k : EntryKind M) (fate : Fate) (bytes : Option (List ℕ)) → (out : IsOut (ranges_of history) i n)
         → AreAsLong bytes out.cluster.len
@@ -148,18 +164,30 @@ module _ {M : Type 0} where
         (steps ++ Settle out.cluster.start out.cluster.len None ∷ [])
     log-spoil i n faults out = back i n (entry.Spoiled n faults) (Spoiled faults) None out tt refl refl
 
-    pub log-fault : (i faults : ℕ)
-        → IsLogOf place end (history ++ record { context = i; kind = entry.Faulted faults } ∷ []) lists torn steps
-    log-fault i faults =
-        let e : Entry M = record { context = i; kind = entry.Faulted faults } in
+    -- nothing happens on the disk
+    silent : (i : ℕ) (k : EntryKind M) → disk_steps_of (ranges_of history) k ≡ []
+        → after_kind (ranges_of history) i k ≡ ranges_of history
+        → IsLogOf place end (history ++ record { context = i; kind = k } ∷ []) lists torn steps
+    silent i k none_logged stay =
+        let e : Entry M = record { context = i; kind = k } in
         record {
-          ranges = is.ranges ∙ (sym (append-nil (steps_of_history history)) ∙ sym (steps-snoc history e));
+          ranges = is.ranges ∙ (sym (append-nil (steps_of_history history))
+              ∙ (ap (λ (l : List DiskStep). steps_of_history history ++ map logged_step l) (sym none_logged)
+              ∙ sym (steps-snoc history e)));
           tail = is.tail;
-          reserved = is.reserved ∙ sym (ap (λ (l : List (Cluster M)). spans_of l) (ranges_of-snoc history e));
+          reserved = is.reserved ∙ sym (ap (λ (l : List (Cluster M)). spans_of l) (ranges_of-snoc history e ∙ stay));
           ends = is.ends;
           lists_are = is.lists_are;
           torn_is = is.torn_is;
         }
+
+    pub log-fault : (i faults : ℕ)
+        → IsLogOf place end (history ++ record { context = i; kind = entry.Faulted faults } ∷ []) lists torn steps
+    log-fault i faults = silent i (entry.Faulted faults) refl refl
+
+    pub log-publish : (i : ℕ) (ns : List ℕ)
+        → IsLogOf place end (history ++ record { context = i; kind = entry.Published ns } ∷ []) lists torn steps
+    log-publish i ns = silent i (entry.Published ns) refl refl
 
     pub log-list : (bytes : List ℕ)
         → IsLogOf place (end + length bytes) history (lists ++ record { place = end; bytes = bytes } ∷ []) torn (steps ++ Append bytes ∷ [])

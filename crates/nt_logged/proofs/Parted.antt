@@ -1,6 +1,6 @@
 -- A log of page lists and settled ranges that leave no gap is known byte by byte.
 use Rattle.std.proofs.Common.{◌≡◌, ◌∙◌, ap, sym, subst, ℕ, ◌+◌, List, [], ◌∷◌}
-use Rattle.std.proofs.Common.{◌++◌, length, map, take, drop, Some, arith}
+use Rattle.std.proofs.Common.{◌++◌, length, map, take, drop, arith}
 use Rattle.std.specs.List.{AllByRecursion, concat}
 use Rattle.std.proofs.lemmas.List.{map-append, length-map, take-append-drop, drop-drop}
 use Rattle.nt_lists.specs.Parts.{Part, AreBehind, joined_len, part_bytes}

@@ -112,6 +112,9 @@ module _ {M : Type 0} (known : List Known) where
       → AllByRecursion IsTold (after_kind cs i k)
   told-kind place cs i (entry.Committed n start len meta) ok numbered told h =
       AllByRecursion-append IsTold cs _ h ((λ bytes is. cc), tt)
+  told-kind place cs i (entry.Reserved n start len meta) ok numbered told h =
+      AllByRecursion-append IsTold cs _ h ((λ bytes is. cc), tt)
+  told-kind place cs i (entry.Published ns) ok numbered told h = h
   told-kind place cs i (entry.Settled n bytes) ok numbered told h =
       let c = ok.0.cluster in
       let parts = subst (λ (o : Option (Cluster M)). AreTold known (settles_in (map logged_step (settle_at o bytes)))) ok.0.at told in

@@ -101,6 +101,20 @@ pub fn logs_grow<M>()
         steps }
 {}
 
+/// It grows by the entries of staged clusters too: a range is reserved at the end of the file for each,
+/// and who publishes its ranges changes the history alone.
+pub fn staged_logs_grow<M>()
+    ensures reserve { (place end : ℕ) (history : List (Entry M)) (lists : List Part) (torn : List ℕ)
+        (steps : List Step) (i n len : ℕ) (meta : M) → IsLogOf place end history lists torn steps
+        → IsLogOf place (end + len)
+        (history ++ record { context = i; kind = entry.Reserved n end len meta } ∷ []) lists torn
+        (steps ++ Reserve end len ∷ []) }
+    ensures publish { (place end : ℕ) (history : List (Entry M)) (lists : List Part) (torn : List ℕ)
+        (steps : List Step) (i : ℕ) (ns : List ℕ) → IsLogOf place end history lists torn steps
+        → IsLogOf place end (history ++ record { context = i; kind = entry.Published ns } ∷ []) lists torn
+        steps }
+{}
+
 /// A log grows by a page list that is appended, and by the append of one that fails.
 pub fn logs_gain_lists<M>()
     ensures list { (place end : ℕ) (history : List (Entry M)) (lists : List Part) (torn : List ℕ)

@@ -1,5 +1,5 @@
--- What holds of the clusters of a legal history.
-use Rattle.std.proofs.Common.{◌≡◌, ℕ, zero, suc, ◌+◌, ◌<◌, ◌==◌, ◌&&◌, Bool, true, false, cond, List, [], ◌∷◌, ◌++◌, length, map, Some}
+-- What holds of the ranges of a legal history.
+use Rattle.std.proofs.Common.{◌≡◌, ℕ, zero, suc, ◌+◌, ◌<◌, ◌≤◌, ◌==◌, ◌&&◌, Bool, true, false, cond, List, [], ◌∷◌, ◌++◌, length, map, Some}
 use Rattle.std.proofs.Common.{refl, sym, ap, ◌∙◌, subst, arith}
 use Rattle.std.specs.Prelude.{slice_get}
 use Rattle.std.specs.List.{fold}
@@ -12,7 +12,7 @@ use Rattle.nt_machine.proofs.Spread.{IsDisjoint-snoc}
 use Rattle.nt_machine.specs.declared.entry.Entry.{Entry}
 use Rattle.nt_machine.specs.declared.entry.EntryKind.{EntryKind}
 use Rattle.nt_machine.specs.declared.entry.EntryKind.TheVariants as entry
-use Rattle.nt_machine.specs.History.{Fate, Out, Settled, Spoiled, Cluster, handed_back, after_kind, after_entry, clusters_of, is_out}
+use Rattle.nt_machine.specs.History.{Fate, Out, Settled, Spoiled, Cluster, handed_back, after_kind, after_entry, ranges_of, is_out}
 use Rattle.nt_machine.specs.Spans.{Span, IsDisjoint}
 use Rattle.nt_machine.specs.Legal.{spans_of, ranges_end, end_after, IsOut, IsKindAllowed, IsAllowed, IsLegalAfter, IsLegal}
 
@@ -57,16 +57,21 @@ module _ {M : Type 0} where
   pub end_after-snoc : (place : ℕ) (cs : List (Cluster M)) (c : Cluster M) → end_after place (cs ++ c ∷ []) ≡ end_after place cs + c.len
   end_after-snoc place cs c = omega (arith, sum_by-append (λ (d : Cluster M). d.len) cs (c ∷ []))
 
-  pub IsApart-after_entry : (place : ℕ) (cs : List (Cluster M)) (i : ℕ) (k : EntryKind M) → IsKindAllowed place cs i k
-      → IsApart place cs → IsApart place (after_kind cs i k)
-  IsApart-after_entry place cs i (entry.Committed n start len meta) ok h =
-      let c : Cluster M = record { context = i; number = n; start = start; len = len; meta = meta; state = Out } in
-      let grown = IsDisjoint-snoc place (spans_of cs) (ranges_end place cs) (record { start = start; len = len }) h ok.1 in
-      let ranges : spans_of (cs ++ c ∷ []) ≡ spans_of cs ++ record { start = start; len = len } ∷ [] =
+  IsApart-snoc : (place : ℕ) (cs : List (Cluster M)) (c : Cluster M) → ranges_end place cs ≤ c.start → IsApart place cs
+      → IsApart place (cs ++ c ∷ [])
+  IsApart-snoc place cs c after h =
+      let grown = IsDisjoint-snoc place (spans_of cs) (ranges_end place cs) (record { start = c.start; len = c.len }) h after in
+      let ranges : spans_of (cs ++ c ∷ []) ≡ spans_of cs ++ record { start = c.start; len = c.len } ∷ [] =
       map-append (λ (d : Cluster M). record { start = d.start; len = d.len }) cs (c ∷ []) in
       subst (λ (l : List Span). IsDisjoint place l (ranges_end place (cs ++ c ∷ []))) (sym ranges)
-      (subst (λ (e : ℕ). IsDisjoint place (spans_of cs ++ record { start = start; len = len } ∷ []) e)
+      (subst (λ (e : ℕ). IsDisjoint place (spans_of cs ++ record { start = c.start; len = c.len } ∷ []) e)
       (sym (ranges_end-snoc place cs c)) grown)
+
+  pub IsApart-after_entry : (place : ℕ) (cs : List (Cluster M)) (i : ℕ) (k : EntryKind M) → IsKindAllowed place cs i k
+      → IsApart place cs → IsApart place (after_kind cs i k)
+  IsApart-after_entry place cs i (entry.Committed n start len meta) ok h = IsApart-snoc place cs _ ok.1 h
+  IsApart-after_entry place cs i (entry.Reserved n start len meta) ok h = IsApart-snoc place cs _ ok.1 h
+  IsApart-after_entry place cs i (entry.Published ns) ok h = h
   IsApart-after_entry place cs i (entry.Settled n bytes) ok h = IsApart-back place i n (Settled bytes) cs h
   IsApart-after_entry place cs i (entry.Spoiled n faults) ok h = IsApart-back place i n (Spoiled faults) cs h
   IsApart-after_entry place cs i (entry.Faulted faults) ok h = h
@@ -82,7 +87,7 @@ module _ {M : Type 0} where
   IsLegalAfter-snoc place cs [] e ok allowed = (allowed, tt)
   IsLegalAfter-snoc place cs (d ∷ ds) e ok allowed = (ok.0, IsLegalAfter-snoc place (after_entry cs d) ds e ok.1 allowed)
 
-  -- the clusters are numbered in order
+  -- the ranges are numbered in order
   abbrev pub IsNumbered : ℕ → List (Cluster M) → Type 0
   IsNumbered n [] = Unit {0}
   IsNumbered n (c ∷ cs) = (c.number ≡ n) × IsNumbered (suc n) cs
@@ -106,11 +111,13 @@ module _ {M : Type 0} where
   pub IsNumbered-after_entry : (place : ℕ) (cs : List (Cluster M)) (i : ℕ) (k : EntryKind M) → IsKindAllowed place cs i k
       → IsNumbered 0 cs → IsNumbered 0 (after_kind cs i k)
   IsNumbered-after_entry place cs i (entry.Committed n start len meta) ok h = IsNumbered-snoc 0 cs _ h (omega arith)
+  IsNumbered-after_entry place cs i (entry.Reserved n start len meta) ok h = IsNumbered-snoc 0 cs _ h (omega arith)
+  IsNumbered-after_entry place cs i (entry.Published ns) ok h = h
   IsNumbered-after_entry place cs i (entry.Settled n bytes) ok h = IsNumbered-back 0 i n (Settled bytes) cs h
   IsNumbered-after_entry place cs i (entry.Spoiled n faults) ok h = IsNumbered-back 0 i n (Spoiled faults) cs h
   IsNumbered-after_entry place cs i (entry.Faulted faults) ok h = h
 
-  IsNumbered-fold : (place : ℕ) (cs : List (Cluster M)) (history : List (Entry M)) → IsLegalAfter place cs history → IsNumbered 0 cs
+  pub IsNumbered-fold : (place : ℕ) (cs : List (Cluster M)) (history : List (Entry M)) → IsLegalAfter place cs history → IsNumbered 0 cs
       → IsNumbered 0 (fold after_entry cs history)
   IsNumbered-fold place cs [] ok h = h
   IsNumbered-fold place cs (e ∷ es) ok h = IsNumbered-fold place (after_entry cs e) es ok.1
@@ -142,7 +149,7 @@ module _ {M : Type 0} where
       at true false z p q r = absurd (false≢true q)
       at false y z p q r = absurd (false≢true p)
 
-  -- the one cluster changes
+  -- the one range changes
   pub map-handed_back : (m i : ℕ) (state : Fate) (cs : List (Cluster M)) (k n : ℕ) (c : Cluster M) → IsNumbered m cs → n ≡ m + k
       → slice_get cs k ≡ Some c → c.context ≡ i → c.state ≡ Out → map (handed_back i n state) cs ≡ set cs k (record c { state = state })
   map-handed_back m i state [] k n c h is at own out = cc
@@ -166,13 +173,13 @@ module _ {M : Type 0} where
       omega arith
   IsNumbered-at m (d ∷ cs) (suc n) c h at = let rest = IsNumbered-at (suc m) cs n c h.1 at in omega arith
 
-  -- in a legal history a cluster changes in its place
+  -- in a legal history a range changes in its place
   pub ranges_of-back : (place i n : ℕ) (state : Fate) (history : List (Entry M)) → IsLegal place history
-      → (is : IsOut (clusters_of history) i n)
-      → map (handed_back i n state) (clusters_of history) ≡ set (clusters_of history) n (record is.cluster { state = state })
+      → (is : IsOut (ranges_of history) i n)
+      → map (handed_back i n state) (ranges_of history) ≡ set (ranges_of history) n (record is.cluster { state = state })
   ranges_of-back place i n state history ok is =
-      map-handed_back 0 i state (clusters_of history) n n is.cluster (IsNumbered-fold place [] history ok tt) (omega arith)
+      map-handed_back 0 i state (ranges_of history) n n is.cluster (IsNumbered-fold place [] history ok tt) (omega arith)
       is.at is.own is.out
 
-  pub ranges_of-snoc : (history : List (Entry M)) (e : Entry M) → clusters_of (history ++ e ∷ []) ≡ after_entry (clusters_of history) e
+  pub ranges_of-snoc : (history : List (Entry M)) (e : Entry M) → ranges_of (history ++ e ∷ []) ≡ after_entry (ranges_of history) e
   ranges_of-snoc history e = fold-append after_entry [] history (e ∷ [])

@@ -12,7 +12,7 @@ use Rattle.nt_machine.specs.declared.entry.EntryKind.TheVariants as entry
 use Rattle.nt_machine.specs.History.{Fate, Settled, Spoiled, Cluster, handed_back, after_kind, after_entry, is_out}
 use Rattle.nt_machine.specs.Legal.{ranges_end, IsOut, IsKindAllowed, IsLegalAfter, IsLegal}
 use Rattle.nt_machine.specs.Spans.{Span}
-use Rattle.nt_machine.specs.Told.{span_of, settle_at, disk_steps_of, log_after, log_of, IsApartFrom, IsFrom, StaysSettled}
+use Rattle.nt_machine.specs.Told.{ReserveRange, span_of, settle_at, disk_steps_of, log_after, log_of, IsApartFrom, IsFrom, StaysSettled}
 use Rattle.nt_machine.proofs.Histories.{AllByRecursion-append, IsBack, handed_back-back}
 use Rattle.nt_machine.proofs.Legality.{IsApart, IsApart-after_entry, IsNumbered, IsNumbered-after_entry, IsNumbered-at, handed_back-here}
 
@@ -92,12 +92,19 @@ module _ {M : Type 0} where
             let one : is.cluster ≡ c = cc in
             false≢true (sym back ∙ ap (λ (e : Cluster M). is_out e.state) (sym one) ∙ ap is_out is.out)
 
+    reserve_apart : (cs : List (Cluster M)) (start len n : ℕ) (c : Cluster M) → ranges_end place cs ≤ start → IsState cs
+        → slice_get cs n ≡ Some c → AllByRecursion (IsApartFrom (range_of c)) (ReserveRange start len ∷ [])
+    reserve_apart cs start len n c after h at =
+        let inside = IsPlaced-at place cs n c h.placed at in
+        (inl (omega (arith, inside.1, after)), tt)
+
     -- what an entry logs is apart from what is back, and that stays as it is
     kind_apart : (cs : List (Cluster M)) (i : ℕ) (k : EntryKind M) (n : ℕ) (c : Cluster M) → IsKindAllowed place cs i k → IsState cs
         → slice_get cs n ≡ Some c → IsBack c
         → AllByRecursion (IsApartFrom (range_of c)) (disk_steps_of cs k)
-    kind_apart cs i (entry.Committed m start len meta) n c ok h at back =
-        let inside = IsPlaced-at place cs n c h.placed at in let end = ok.1 in (inl (omega (arith, inside.1, end)), tt)
+    kind_apart cs i (entry.Committed m start len meta) n c ok h at back = reserve_apart cs start len n c ok.1 h at
+    kind_apart cs i (entry.Reserved m start len meta) n c ok h at back = reserve_apart cs start len n c ok.1 h at
+    kind_apart cs i (entry.Published ns) n c ok h at back = tt
     kind_apart cs i (entry.Settled m bytes) n c ok h at back = settle_apart cs i m n c bytes h ok.0 at back
     kind_apart cs i (entry.Spoiled m faults) n c ok h at back = settle_apart cs i m n c None h ok at back
     kind_apart cs i (entry.Faulted faults) n c ok h at back = tt
@@ -105,6 +112,8 @@ module _ {M : Type 0} where
     stays : (cs : List (Cluster M)) (i : ℕ) (k : EntryKind M) (n : ℕ) (c : Cluster M) → slice_get cs n ≡ Some c → IsBack c
         → slice_get (after_kind cs i k) n ≡ Some c
     stays cs i (entry.Committed m start len meta) n c at back = slice_get-append cs _ n c at
+    stays cs i (entry.Reserved m start len meta) n c at back = slice_get-append cs _ n c at
+    stays cs i (entry.Published ns) n c at back = at
     stays cs i (entry.Settled m bytes) n c at back = slice_get-map (handed_back i m (Settled bytes)) cs n
         ∙ (ap (option_map (handed_back i m (Settled bytes))) at ∙ ap Some (handed_back-back i m (Settled bytes) c back))
     stays cs i (entry.Spoiled m faults) n c at back = slice_get-map (handed_back i m (Spoiled faults)) cs n
@@ -141,6 +150,8 @@ module _ {M : Type 0} where
         → IsState (after_kind cs i k) → StaysSettled (log_after (after_kind cs i k) history) → StaysSettled (disk_steps_of cs k
         ++ log_after (after_kind cs i k) history)
     kind_stands cs i (entry.Committed n start len meta) history ok h legal next rest = rest
+    kind_stands cs i (entry.Reserved n start len meta) history ok h legal next rest = rest
+    kind_stands cs i (entry.Published ns) history ok h legal next rest = rest
     kind_stands cs i (entry.Settled n bytes) history ok h legal next rest =
         settle_stands cs i n bytes (Settled bytes) history refl h ok.0 legal next rest
     kind_stands cs i (entry.Spoiled n faults) history ok h legal next rest =
@@ -160,10 +171,15 @@ module _ {M : Type 0} where
         subst (λ (o : Option (Cluster M)). IsFrom place (settle_at o bytes)) (sym is.at)
         ((IsPlaced-at place cs n is.cluster h.placed is.at).0, tt)
 
+    reserve_from : (cs : List (Cluster M)) (start len : ℕ) → ranges_end place cs ≤ start → IsState cs
+        → IsFrom place (ReserveRange start len ∷ [])
+    reserve_from cs start len after h = let begins = apart-end place cs h.placed in (omega (arith, after, begins), tt)
+
     kind_from : (cs : List (Cluster M)) (i : ℕ) (k : EntryKind M) → IsKindAllowed place cs i k → IsState cs
         → IsFrom place (disk_steps_of cs k)
-    kind_from cs i (entry.Committed n start len meta) ok h =
-        let end = ok.1 in let begins = apart-end place cs h.placed in (omega (arith, end, begins), tt)
+    kind_from cs i (entry.Committed n start len meta) ok h = reserve_from cs start len ok.1 h
+    kind_from cs i (entry.Reserved n start len meta) ok h = reserve_from cs start len ok.1 h
+    kind_from cs i (entry.Published ns) ok h = tt
     kind_from cs i (entry.Settled n bytes) ok h = settle_from cs i n bytes h ok.0
     kind_from cs i (entry.Spoiled n faults) ok h = settle_from cs i n None h ok
     kind_from cs i (entry.Faulted faults) ok h = tt

@@ -1,17 +1,20 @@
 //! What a run of the machine leaves, and what a history leaves.
 
 ghost use Rattle.std.specs.Prelude.{◌≡◌, ℕ, ◌+◌, ◌<◌, ◌≤◌, Bool, true, false, List, [], ◌∷◌, ◌++◌, length, slice_index_or, slice_get, slice_set, map, Option, Some, ◌^◌};
-ghost use Rattle.std.specs.List.{AllZip, fold, flat_map};
+ghost use Rattle.std.specs.List.{AllByRecursion, AllZip, fold, flat_map};
 ghost use Rattle.nt_machine.specs.declared.entry.Entry.{Entry};
 ghost use Rattle.nt_machine.specs.declared.entry.EntryKind.TheVariants as entry;
-ghost use Rattle.nt_machine.specs.Deal.{Uses, IsGrouped};
+ghost use Rattle.nt_machine.specs.Deal.{Uses, IsGrouped, times};
 ghost use Rattle.nt_machine.specs.Example.{example_blob, example_chunks, example_steps, example_history, example_ranges};
+ghost use Rattle.nt_machine.specs.Example.{staged_steps, staged_history, staged_order};
 ghost use Rattle.nt_machine.specs.Entering.{HasRanges, IsNextOf, IsHandedBackAs, IsWriteInto, steps_of_entry};
 ghost use Rattle.nt_machine.specs.Faults.{HasRisen, HasFaults, FaultsRise};
-ghost use Rattle.nt_machine.specs.History.{Settled, Spoiled, Cluster, WrittenChunk, entries_of_chunk, mine_of, ranges_of, clusters_of, order_of, after_entry, IsIdle, Wrote, AreDealt};
-ghost use Rattle.nt_machine.specs.Legal.{IsLegal, IsAllowed, IsOut, spans_of, ranges_end, end_after};
+ghost use Rattle.nt_machine.specs.History.{Settled, Spoiled, Cluster, WrittenChunk, entries_of_chunk, mine_of, ranges_of, clusters_of, order_of, own_of, numbers_of, publisher, publishers_of};
+ghost use Rattle.nt_machine.specs.History.{after_entry, IsIdle, Wrote, WroteAll, AreDealt};
+ghost use Rattle.nt_machine.specs.Legal.{IsLegal, IsAllowed, IsOut, IsFilledRange, spans_of, ranges_end, end_after};
 ghost use Rattle.nt_machine.specs.Machine.{ContextStep, MachineState, Out, IsRun, IsRunFrom, IsInOrder, IsNamedDeal, AreTrue, state_after, after_context_step, contexts_of, range_spans, chunk_names};
 ghost use Rattle.nt_machine.specs.Spans.{IsDisjoint};
+ghost use Rattle.nt_machine.specs.Staging.{IsStagedKind, IsStagedNext, KeepsStaging};
 ghost use Rattle.nt_machine.specs.Told.{IsFrom, StaysSettled, log_of};
 ghost use Rattle.nt_machine.specs.Untold.{untold, settles, settled_count, with_bytes};
 
@@ -66,20 +69,47 @@ pub fn closed_runs_use_all<C>()
 {}
 
 /// Where each context's own entries are those of its chunks, and no other context wrote, all
-/// clusters are these chunks, dealt out in the order of the commits.
+/// clusters are these chunks, dealt out in the order of the commits. Where clusters are staged,
+/// those of each context stand together.
 pub fn chunks_are_dealt<C, M, B: Blobs<C, M>>()
-    ensures { (chunks : List (List C)) (history : List (Entry M))
+    ensures dealt { (staged : Bool) (chunks : List (List C)) (history : List (Entry M))
         → ((i : ℕ) → i < length chunks
-        → Wrote B.is_blob i (slice_index_or chunks i []) (mine_of history i))
+        → WroteAll B.is_blob staged i (slice_index_or chunks i []) (mine_of history i))
         → ((i : ℕ) → length chunks ≤ i → IsIdle (mine_of history i))
-        → AreDealt B.is_blob chunks (clusters_of history) }
+        → AreDealt B.is_blob chunks (clusters_of staged history) }
+    ensures grouped { (history : List (Entry M)) → KeepsStaging true history
+        → IsGrouped (order_of (clusters_of true history)) }
 {}
 
 /// A context that writes one chunk more has written all of them.
 pub fn contexts_write_on<C, M, B: Blobs<C, M>>()
-    ensures { (i : ℕ) (chunks : List C) (entries : List (Entry M)) (chunk : C) (w : WrittenChunk M)
-        → Wrote B.is_blob i chunks entries → B.is_blob chunk w.start w.bytes w.meta
-        → Wrote B.is_blob i (chunks ++ chunk ∷ []) (entries ++ entries_of_chunk i w) }
+    ensures { (staged : Bool) (i : ℕ) (chunks : List C) (entries : List (Entry M)) (chunk : C)
+        (w : WrittenChunk M) → Wrote B.is_blob staged i chunks entries
+        → B.is_blob chunk w.start w.bytes w.meta
+        → Wrote B.is_blob staged i (chunks ++ chunk ∷ []) (entries ++ entries_of_chunk staged i w) }
+{}
+
+/// Each cluster is the range of its number, and there are no more clusters than ranges.
+pub fn clusters_are_ranges<M>()
+    ensures named { (staged : Bool) (place : ℕ) (history : List (Entry M)) → IsLegal place history
+        → AllByRecursion (λ (c : Cluster M). slice_get (ranges_of history) c.number ≡ Some c)
+        (clusters_of staged history) }
+    ensures few { (staged : Bool) (history : List (Entry M)) → KeepsStaging staged history
+        → length (clusters_of staged history) ≤ length (ranges_of history) }
+{}
+
+/// Staged clusters stay as they are: who publishes puts all its ranges behind them, and no other
+/// entry changes them. All of them are settled, and a context publishes at most once.
+pub fn staged_clusters_stay<M>()
+    ensures grow { (place : ℕ) (history : List (Entry M)) (e : Entry M) → IsLegal place history
+        → KeepsStaging true history → IsAllowed place (ranges_of history) e
+        → IsStagedNext true (publishers_of history) e
+        → clusters_of true (history ++ e ∷ []) ≡ clusters_of true history
+        ++ flat_map (own_of (ranges_of history)) (publisher e.context e.kind) }
+    ensures settled { (place : ℕ) (history : List (Entry M)) → IsLegal place history
+        → KeepsStaging true history → AllByRecursion IsFilledRange (clusters_of true history) }
+    ensures once { (staged : Bool) (history : List (Entry M)) (i : ℕ) → KeepsStaging staged history
+        → times i (publishers_of history) ≤ 1 }
 {}
 
 /// The ranges of a legal history lie apart, from its beginning to its end.
@@ -88,33 +118,38 @@ pub fn legal_ranges_are_apart<M>()
         → IsDisjoint place (spans_of (ranges_of history)) (ranges_end place (ranges_of history)) }
 {}
 
-/// A legal history grows by an entry that is allowed.
+/// A legal history grows by an entry that is allowed, and goes on as staged ones do or the others.
 pub fn histories_grow<M>()
     ensures legal { (place : ℕ) (history : List (Entry M)) (e : Entry M) → IsLegal place history
         → IsAllowed place (ranges_of history) e → IsLegal place (history ++ e ∷ []) }
     ensures ranges { (history : List (Entry M)) (e : Entry M)
         → ranges_of (history ++ e ∷ []) ≡ after_entry (ranges_of history) e }
+    ensures staging { (staged : Bool) (history : List (Entry M)) (e : Entry M)
+        → KeepsStaging staged history → IsStagedNext staged (publishers_of history) e
+        → KeepsStaging staged (history ++ e ∷ []) }
+    ensures publishers { (history : List (Entry M)) (e : Entry M)
+        → publishers_of (history ++ e ∷ []) ≡ publishers_of history ++ publisher e.context e.kind }
 {}
 
 /// What is allowed next in a legal history is what the machine may do next: the entry's steps are
-/// allowed one after the other, and leave the ranges that the entry leaves. Who commits has to have
-/// a chunk left, of whose blob the range is; who settles has to have written, who spoils to have
-/// failed. A write before it is allowed, and no history tells it, so others may have written and
-/// not settled.
+/// allowed one after the other, and leave the ranges that the entry leaves. Who commits or reserves
+/// has to have a chunk left, of whose blob the range is; who settles has to have written, who spoils
+/// to have failed. A write before it is allowed, and no history tells it, so others may have written
+/// and not settled.
 pub fn entries_are_steps<C, M>()
-    ensures steps { (chunks : List (List C)) (blob : ℕ → ℕ → ℕ → List ℕ) (place : ℕ)
+    ensures steps { (staged : Bool) (chunks : List (List C)) (blob : ℕ → ℕ → ℕ → List ℕ) (place : ℕ)
         (history : List (Entry M)) (s : MachineState) (e : Entry M)
-        → IsLegal place history → HasRanges place s (ranges_of history)
+        → IsLegal place history → HasRanges place s (ranges_of history) → IsStagedKind staged e.kind
         → IsAllowed place (ranges_of history) e → IsNextOf chunks blob s e.context e.kind
-        → IsRunFrom false chunks blob s (steps_of_entry e)
-        × HasRanges place (fold (after_context_step false blob) s (steps_of_entry e))
+        → IsRunFrom staged chunks blob s (steps_of_entry e)
+        × HasRanges place (fold (after_context_step staged blob) s (steps_of_entry e))
         (after_entry (ranges_of history) e) }
-    ensures written { (chunks : List (List C)) (blob : ℕ → ℕ → ℕ → List ℕ) (place : ℕ)
+    ensures written { (staged : Bool) (chunks : List (List C)) (blob : ℕ → ℕ → ℕ → List ℕ) (place : ℕ)
         (history : List (Entry M)) (s : MachineState) (step : ContextStep) (i n : ℕ)
         → IsLegal place history → HasRanges place s (ranges_of history)
         → IsOut (ranges_of history) i n → IsHandedBackAs s n Out → IsWriteInto i n step
-        → IsRunFrom false chunks blob s (step ∷ [])
-        × HasRanges place (after_context_step false blob s step) (ranges_of history) }
+        → IsRunFrom staged chunks blob s (step ∷ [])
+        × HasRanges place (after_context_step staged blob s step) (ranges_of history) }
 {}
 
 /// A range that is settled or spoiled changes in its place, and no other does.
@@ -148,13 +183,21 @@ pub fn faults_show<M>()
 pub fn bytes_change_no_range<M>()
     ensures same { (history : List (Entry M)) (told : List (Option (List ℕ)))
         → map untold (ranges_of (with_bytes history told)) ≡ map untold (ranges_of history) }
-    ensures order { (history : List (Entry M)) (told : List (Option (List ℕ)))
-        → order_of (ranges_of (with_bytes history told)) ≡ order_of (ranges_of history) }
+    ensures order { (staged : Bool) (history : List (Entry M)) (told : List (Option (List ℕ)))
+        → order_of (clusters_of staged (with_bytes history told)) ≡ order_of (clusters_of staged history) }
     ensures end { (place : ℕ) (history : List (Entry M)) (told : List (Option (List ℕ)))
         → end_after place (ranges_of (with_bytes history told))
         ≡ end_after place (ranges_of history) }
     ensures out { (history : List (Entry M)) (told : List (Option (List ℕ))) (i n : ℕ)
         → IsOut (ranges_of (with_bytes history told)) i n → IsOut (ranges_of history) i n }
+{}
+
+/// Who published is the same with bytes as without, and so is how clusters are staged.
+pub fn bytes_change_no_staging<M>()
+    ensures publishers { (history : List (Entry M)) (told : List (Option (List ℕ)))
+        → publishers_of (with_bytes history told) ≡ publishers_of history }
+    ensures staging { (staged : Bool) (history : List (Entry M)) (told : List (Option (List ℕ)))
+        → KeepsStaging staged history → KeepsStaging staged (with_bytes history told) }
 {}
 
 /// A history with bytes grows as the one without does: a settled range takes the next bytes.
@@ -178,4 +221,15 @@ pub fn worked_examples_hold()
         ≡ 0 ∷ 1 ∷ 1 ∷ [] }
     ensures legal { IsLegal 100 example_history }
     ensures ranges { ranges_of example_history ≡ example_ranges }
+{}
+
+/// There are staged ones too: three ranges are reserved by contexts 0, 1 and 1, and context 1
+/// publishes first.
+pub fn staged_examples_hold()
+    ensures run { IsRun true example_chunks example_blob 10 staged_steps }
+    ensures order { contexts_of (state_after true example_blob 10 staged_steps).order
+        ≡ 1 ∷ 1 ∷ 0 ∷ [] }
+    ensures legal { IsLegal 100 staged_history }
+    ensures staging { KeepsStaging true staged_history }
+    ensures clusters { numbers_of (clusters_of true staged_history) ≡ staged_order }
 {}

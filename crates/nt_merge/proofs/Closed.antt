@@ -1,6 +1,6 @@
 -- A file of copies that was closed.
 use Rattle.std.proofs.Common.{◌≡◌, ◌∙◌, ap, sym, refl, subst, ℕ, ◌<◌, ◌≤◌, inl, inr, List, [], ◌∷◌, length, take, Option, Some}
-use Rattle.std.proofs.Common.{None, Bool, true, false, arith}
+use Rattle.std.proofs.Common.{None, Bool, true, false, map, arith}
 use Rattle.std.specs.Prelude.{◌⊎◌, Ok, nat_lt, if◌then◌else◌}
 use Rattle.std.specs.List.{AllByRecursion}
 use Rattle.std.proofs.lemmas.Bool.Decides.{nat_tests}
@@ -14,6 +14,7 @@ use Rattle.nt_outside.specs.Disk.{DiskState}
 use Rattle.nt_outside.specs.Order.{FirstByteLast}
 use Rattle.nt_outside.proofs.Known.{known_reads}
 use Rattle.nt_grammar.specs.Table.{Table}
+use Rattle.nt_machine.specs.History.{Cluster}
 use Rattle.nt_book.specs.declared.limits.Limits.{Limits}
 use Rattle.nt_book.specs.declared.limits.LimitError.{LimitError}
 use Rattle.nt_book.specs.declared.meta.ClusterMeta.{ClusterMeta}
@@ -21,6 +22,7 @@ use Rattle.nt_book.specs.declared.params.Params.{Params}
 use Rattle.nt_book.specs.Books.{BookData, book_clusters}
 use Rattle.nt_book.specs.Kept.{IsBookKept}
 use Rattle.nt_file_meaning.specs.Files.{HasDefect}
+use Rattle.nt_pagelists.proofs.Named.{clusters-unstaged}
 use Rattle.nt_pagelists.specs.Blobs.{blob_len}
 use Rattle.nt_layout.specs.Headers.{header_object, clusters_place}
 use Rattle.nt_layout.specs.Beside.{HasListsBeside, parts_so_far}
@@ -110,7 +112,8 @@ module _ (t : Table) (p : Params) (given old : DiskState) (book : BookData) (ns 
         beside = beside;
         begin = is.closable.begin;
         lens = lens-copies t is.none_deferred (sources (take (length ns) ns)) has.lists ranges (book_clusters book) has.copies.copies
-            (clusters_told book kept);
+            (clusters_told book kept)
+            ∙ ap (λ (cs : List (Cluster ClusterMeta)). map (λ (c : Cluster ClusterMeta). c.len) cs) (clusters-unstaged book is.not_staged);
       })
       (ap (λ (k : Held). k.image) (same_held old.held h (file_so_far t parts) held (has.copies.held first told)) ∙ image-file t parts)
 

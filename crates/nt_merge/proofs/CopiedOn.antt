@@ -11,7 +11,7 @@ use Rattle.nt_book.specs.declared.limits.LimitError.{LimitError}
 use Rattle.nt_book.specs.declared.limits.LimitError.TheVariants as limit
 use Rattle.nt_book.specs.declared.meta.ClusterMeta.{ClusterMeta}
 use Rattle.nt_book.specs.declared.params.Params.{Params}
-use Rattle.nt_book.specs.Books.{BookData, book_clusters, book_end}
+use Rattle.nt_book.specs.Books.{BookData, book_ranges, book_end}
 use Rattle.nt_book.specs.Kept.{IsBookKept}
 use Rattle.nt_book.specs.Limiting.{limit_error_with}
 use Rattle.nt_commit.specs.declared.error.CommitError.TheVariants as commit
@@ -36,7 +36,7 @@ abbrev pub AppendedPass : Type 0
 AppendedPass =
     (t : Table) (p : Params) (book : BookData) → IsBookBeside t p book → (meta : ClusterMeta) (more : List ClusterMeta)
     (error : LimitError)
-    → limit_error_with book.limits (book_end book) (length (book_clusters book)) meta.len (length (due_bytes book)) ≡ Some error
+    → limit_error_with book.limits (book_end book) (length (book_ranges book)) meta.len (length (due_bytes book)) ≡ Some error
     → MergeOverBy t p (kept_metas book ++ meta ∷ more) error
 
 module _ (t : Table) (p : Params) (given old : DiskState) (book : BookData) (is : IsMerging t p given old book) (file : ℕ) (b : List ℕ)

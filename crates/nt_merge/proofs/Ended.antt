@@ -15,8 +15,9 @@ use Rattle.nt_machine.specs.History.{Cluster}
 use Rattle.nt_book.specs.declared.limits.LimitError.{LimitError}
 use Rattle.nt_book.specs.declared.meta.ClusterMeta.{ClusterMeta}
 use Rattle.nt_book.specs.declared.params.Params.{Params}
-use Rattle.nt_book.specs.Books.{BookData, book_clusters, entry_count, no_cluster}
+use Rattle.nt_book.specs.Books.{BookData, book_ranges, book_clusters, entry_count, no_cluster}
 use Rattle.nt_book.specs.Kept.{IsBookKept}
+use Rattle.nt_pagelists.proofs.Named.{clusters-unstaged}
 use Rattle.nt_pagelists.specs.Blobs.{blob_len}
 use Rattle.nt_pagelists.specs.Objects.{ClusterSpan, list_len}
 use Rattle.nt_layout.specs.Headers.{header_sum}
@@ -77,7 +78,9 @@ none-spoiled (c ∷ cs) all (suc k) less = none-spoiled cs all.1 k (omega (arith
 
 pub undamaged : (t : Table) (p : Params) (given old : DiskState) (book : BookData) → IsMerging t p given old book → IsUndamaged book
 undamaged t p given old book is =
-    record { unspoiled = λ k less. none-spoiled (book_clusters book) is.settled k less; untorn = is.untorn }
+    let settled =
+    subst (λ (cs : List (Cluster ClusterMeta)). AllByRecursion IsSettledCluster cs) (clusters-unstaged book is.not_staged) is.settled in
+    record { unspoiled = λ k less. none-spoiled (book_ranges book) settled k less; untorn = is.untorn }
 
 -- ---- a limit that a close passes
 

@@ -15,10 +15,11 @@ use Rattle.nt_machine.proofs.Histories.{AllByRecursion-append}
 use Rattle.nt_book.specs.declared.limits.Limits.{Limits}
 use Rattle.nt_book.specs.declared.meta.ClusterMeta.{ClusterMeta}
 use Rattle.nt_book.specs.declared.params.Params.{Params}
-use Rattle.nt_book.specs.Books.{BookData, book_clusters, book_end}
+use Rattle.nt_book.specs.Books.{BookData, book_ranges, book_clusters, book_end}
 use Rattle.nt_book.specs.Limiting.{limit_error, limit_error_with}
 use Rattle.nt_book.proofs.Fitting.{limit_error-none}
 use Rattle.nt_pages.specs.declared.image.ClusterImage.{ClusterImage}
+use Rattle.nt_pagelists.proofs.Named.{clusters-unstaged}
 use Rattle.nt_layout.specs.Headers.{header_blob}
 use Rattle.nt_layout.specs.Beside.{HasListsBeside, parts_so_far}
 use Rattle.nt_commit.specs.Appending.{due_bytes}
@@ -56,7 +57,7 @@ copies-long t _ _ _ _ no_copy = refl
 copies-long t _ _ _ _ (and_copy first others) = ap suc (copies-long t _ _ _ _ others)
 
 module _ (t : Table) (p : Params) (given old new : DiskState) (book next : BookData) (i : ClusterImage)
-    (fits : limit_error_with book.limits (book_end book) (length (book_clusters book)) i.meta.len (length (due_bytes book)) ≡ None)
+    (fits : limit_error_with book.limits (book_end book) (length (book_ranges book)) i.meta.len (length (due_bytes book)) ≡ None)
     (next_to : AppendsNext i old new book next) (is : IsMerging t p given old book) where
   abbrev appends : AppendsImage i old new book next
   appends = next_to.appends
@@ -81,9 +82,9 @@ module _ (t : Table) (p : Params) (given old new : DiskState) (book next : BookD
       (appended-behind blobs (due_blobs book ++ range ∷ []) (begun_on (begun 0 0 0) (header_blob t) nothing_held))
 
   -- limits that the image doesn't pass, behind the page list that is due
-  both : (limit_error book.limits (book_end book + due) (length (book_clusters book)) i.meta.len ≡ None)
+  both : (limit_error book.limits (book_end book + due) (length (book_ranges book)) i.meta.len ≡ None)
       × ((due ≤ book.limits.range) × (book_end book + due ≤ book.limits.file))
-  both = with-behind book.limits (book_end book) (length (book_clusters book)) i.meta.len due fits
+  both = with-behind book.limits (book_end book) (length (book_ranges book)) i.meta.len due fits
 
   closable : IsClosable new next t p
   closable =
@@ -102,11 +103,11 @@ module _ (t : Table) (p : Params) (given old new : DiskState) (book next : BookD
       ∙ map-append (λ (c : Cluster ClusterMeta). c.meta) (book_clusters book) (cluster ∷ [])
 
   -- the range is no longer than it may get, and there was room for one more
-  none-passed : (i.meta.len ≤ p.limits.range) × (length (book_clusters book) ≡ p.limits.clusters → ⊥)
+  none-passed : (i.meta.len ≤ p.limits.range) × (length (book_ranges book) ≡ p.limits.clusters → ⊥)
   none-passed =
       let fits =
-      limit_error-none p.limits (book_end book + due) (length (book_clusters book)) i.meta.len
-      (subst (λ (l : Limits). limit_error l (book_end book + due) (length (book_clusters book)) i.meta.len ≡ None) is.limits both.0) in
+      limit_error-none p.limits (book_end book + due) (length (book_ranges book)) i.meta.len
+      (subst (λ (l : Limits). limit_error l (book_end book + due) (length (book_ranges book)) i.meta.len ≡ None) is.limits both.0) in
       (fits.0, fits.2)
 
   short-more : AllByRecursion (λ (m : ClusterMeta). m.len ≤ p.limits.range) (kept_metas next)
@@ -116,9 +117,10 @@ module _ (t : Table) (p : Params) (given old new : DiskState) (book next : BookD
   few-more : length (book_clusters next) ≤ p.limits.clusters
   few-more =
       let more = ap length appends.gains.clusters ∙ length-append (book_clusters book) (cluster ∷ []) in
-      let room : length (book_clusters book) < p.limits.clusters =
-      not-equal (length (book_clusters book)) p.limits.clusters is.few none-passed.1 in
-      omega (arith, more, room)
+      let same = ap length (clusters-unstaged book is.not_staged) in
+      let room : length (book_ranges book) < p.limits.clusters =
+      not-equal (length (book_ranges book)) p.limits.clusters (omega (arith, is.few, same)) none-passed.1 in
+      omega (arith, more, room, same)
 
   pub merging-more : IsMerging t p given new next
   merging-more = record {
@@ -126,6 +128,7 @@ module _ (t : Table) (p : Params) (given old new : DiskState) (book next : BookD
     held = held-more is.blobs is.held;
     closable = closable;
     limits = ap (λ (b : BookData). b.limits) appends.gains.same ∙ is.limits;
+    not_staged = ap (λ (b : BookData). b.staged) appends.gains.same ∙ is.not_staged;
     firsts = is.firsts ∙ sym (ap (λ (b : BookData). b.firsts) appends.gains.same);
     none_deferred = is.none_deferred;
     settled = settled-more;

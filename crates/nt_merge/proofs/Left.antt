@@ -8,7 +8,7 @@ use Rattle.nt_types.specs.TreeData.{TreesData}
 use Rattle.nt_outside.specs.Faults.{Rose}
 use Rattle.nt_outside.specs.Disk.{DiskState}
 use Rattle.nt_book.specs.declared.meta.ClusterMeta.{ClusterMeta}
-use Rattle.nt_book.specs.Books.{BookData, book_clusters, book_end}
+use Rattle.nt_book.specs.Books.{BookData, book_ranges, book_end}
 use Rattle.nt_book.specs.Limiting.{limit_error_with}
 use Rattle.nt_commit.specs.declared.error.CommitError.{CommitError}
 use Rattle.nt_commit.specs.declared.error.CommitError.TheVariants as commit
@@ -48,11 +48,11 @@ keeps-all disk book = record { held = refl; end = refl; out = refl; faults = ref
 module _ (l : Loaded) (columns entries : ℕ) (old new : DiskState) (book book' : BookData) (image : ClusterImage)
     (meta : image.meta ≡ stored_meta 0 entries (copied_columns l 0 columns)) where
   abbrev passed : Option LimitError
-  passed = limit_error_with book.limits (book_end book) (length (book_clusters book)) image.meta.len (length (due_bytes book))
+  passed = limit_error_with book.limits (book_end book) (length (book_ranges book)) image.meta.len (length (due_bytes book))
 
   pub same-limit : limit_of_copy l columns entries book ≡ passed
   same-limit =
-      ap (λ (m : ClusterMeta). limit_error_with book.limits (book_end book) (length (book_clusters book)) m.len (length (due_bytes book)))
+      ap (λ (m : ClusterMeta). limit_error_with book.limits (book_end book) (length (book_ranges book)) m.len (length (due_bytes book)))
       (sym meta)
 
   pub after-refusal : (e : CommitError) → ((◌≡◌ {A = Result (Unit {0}) CommitError} (Err e) (Err commit.Memory) → ⊥) → passed ≡ limit_in e)

@@ -28,7 +28,11 @@ module _ (t : Table) (p : Params) (old new : DiskState) (book : BookData) (colum
       let firsts = ap (λ (b : BookData). length b.firsts) is.begun.book_is in
       let long = length-replicate (length t.columns) 0 in
       let ends = ap book_end is.begun.book_is in
-      record { columns_are = is.columns_are ∙ sym (firsts ∙ long); end = omega (arith, is.begun.end, ends) }
+      record {
+        columns_are = is.columns_are ∙ sym (firsts ∙ long);
+        not_staged = ap (λ (b : BookData). b.staged) is.begun.book_is;
+        end = omega (arith, is.begun.end, ends);
+      }
 
   pub begun-merging : IsBlankDisk old → (os : List Outline) → IsMergeSchema t os → IsMerging t p old new book
   begun-merging blank os schema = merging-begun t p old new book is.begun blank.held blank.out schema.whole schema.none_deferred

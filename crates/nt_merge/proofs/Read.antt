@@ -5,7 +5,7 @@ use Rattle.nt_grammar.specs.Table.{Table}
 use Rattle.nt_machine.specs.History.{Cluster}
 use Rattle.nt_book.specs.declared.limits.LimitError.{LimitError}
 use Rattle.nt_book.specs.declared.meta.ClusterMeta.{ClusterMeta}
-use Rattle.nt_book.specs.Books.{BookData, book_clusters, book_end}
+use Rattle.nt_book.specs.Books.{BookData, book_ranges, book_clusters, book_end}
 use Rattle.nt_book.specs.Limiting.{limit_error_with}
 use Rattle.nt_commit.specs.Appending.{due_bytes}
 use Rattle.nt_pages.specs.declared.image.ClusterImage.{ClusterImage}
@@ -69,7 +69,7 @@ module _ (stored : AreStored) (b : List ℕ) (o : Outline) (k columns : ℕ) (l 
     entries = entries;
     read = read;
     passes =
-        ap (λ (m : ClusterMeta). limit_error_with book.limits (book_end book) (length (book_clusters book)) m.len (length (due_bytes book)))
+        ap (λ (m : ClusterMeta). limit_error_with book.limits (book_end book) (length (book_ranges book)) m.len (length (due_bytes book)))
         (sym meta-same)
         ∙ is;
   }
@@ -123,7 +123,7 @@ module _ (stored : AreStored) (file : Option (List ℕ)) (o : Outline) (k column
   copies-left keyed old new book' left = record {
     image = left.image;
     fits =
-        ap (λ (m : ClusterMeta). limit_error_with book.limits (book_end book) (length (book_clusters book)) m.len (length (due_bytes book)))
+        ap (λ (m : ClusterMeta). limit_error_with book.limits (book_end book) (length (book_ranges book)) m.len (length (due_bytes book)))
         left.image_is.meta_is
         ∙ left.fits;
     next = left.next;

@@ -58,6 +58,7 @@ module _ (t : Table) (p : Params) (given new : DiskState) (book : BookData) (is 
     held = held-begun;
     closable = closable-begun out whole;
     limits = ap (λ (b : BookData). b.limits) is.book_is;
+    not_staged = ap (λ (b : BookData). b.staged) is.book_is;
     firsts = firsts_none t.columns none ∙ sym (ap (λ (b : BookData). b.firsts) is.book_is);
     none_deferred = none;
     settled = subst (λ (cs : List (Cluster ClusterMeta)). AllByRecursion IsSettledCluster cs) (sym none-yet) tt;

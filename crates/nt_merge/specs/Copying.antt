@@ -1,6 +1,6 @@
 -- What is left of one cluster that is copied into a file, and of all those of one file.
 use Rattle.std.specs.Prelude.{ℕ, ◌≡◌, ◌+◌, ◌≤◌, ◌++◌, List, IsErrOf, OnOk, length, replicate, drop}
-use Rattle.std.specs.Prelude.{take, Option, Some, None, Result, Ok, Err}
+use Rattle.std.specs.Prelude.{take, false, Option, Some, None, Result, Ok, Err}
 use Rattle.nt_num.specs.declared.fault.ReadError.{ReadError}
 use Rattle.nt_types.specs.TreeData.{TreesData}
 use Rattle.nt_outside.specs.Faults.{Rose}
@@ -10,7 +10,7 @@ use Rattle.nt_grammar.specs.Table.{Table}
 use Rattle.nt_book.specs.declared.limits.LimitError.{LimitError}
 use Rattle.nt_book.specs.declared.limits.LimitError.TheVariants as limit
 use Rattle.nt_book.specs.declared.params.Params.{Params}
-use Rattle.nt_book.specs.Books.{BookData, book_clusters, book_end}
+use Rattle.nt_book.specs.Books.{BookData, book_ranges, book_clusters, book_end}
 use Rattle.nt_book.specs.Limiting.{limit_error_with}
 use Rattle.nt_commit.specs.declared.error.CommitError.{CommitError}
 use Rattle.nt_commit.specs.declared.error.CommitError.TheVariants as commit
@@ -34,10 +34,11 @@ use Rattle.nt_merge.specs.declared.copy_error.CopyError.TheVariants.{Read, Commi
 use Rattle.nt_merge.specs.Merging.{Numbered, numbered_from, readings, sound_numbered, copied_meta, copied_metas, IsMerging, HasCopies}
 use Rattle.nt_merge.specs.Merging.{IsLeftUnfinished}
 
--- a loaded cluster can be copied behind the clusters of a book of so many columns, which ends where the disk does
+-- a loaded cluster can be copied behind the clusters of a book of so many columns, which ends where the disk does and isn't staged
 pub record MayCopy (l : Loaded) (columns : ℕ) (disk : DiskState) (book : BookData) : Type 0 where
   pub loadable : AreLoadable l.pages l.zeros
   pub columns_are : columns ≡ length book.firsts
+  pub not_staged : book.staged ≡ false
   pub end : disk.end ≡ book_end book
 
 -- the image of the pages of a loaded cluster with so many entries, and what is kept of it
@@ -48,7 +49,7 @@ pub record IsCopyImage (l : Loaded) (columns entries : ℕ) (image : ClusterImag
 -- the limit that such an image passes behind the clusters of a book, or the page list that is due
 abbrev pub limit_of_copy : Loaded → ℕ → ℕ → BookData → Option LimitError
 limit_of_copy l columns entries book =
-    limit_error_with book.limits (book_end book) (length (book_clusters book)) (stored_meta 0 entries (copied_columns l 0 columns)).len
+    limit_error_with book.limits (book_end book) (length (book_ranges book)) (stored_meta 0 entries (copied_columns l 0 columns)).len
     (length (due_bytes book))
 
 -- such an image stands behind the others, behind the page list that was due, and passes no limit
@@ -97,14 +98,14 @@ pub record IsReadCopy (s : Source) (k : ℕ) (image : ClusterImage) (book : Book
 pub record IsReadOver (s : Source) (k : ℕ) (book : BookData) (passed : Option LimitError) : Type 0 where
   pub entries : List TreesData
   pub read : cluster_of s.file s.table k s.list ≡ Ok entries
-  pub passes : limit_error_with book.limits (book_end book) (length (book_clusters book)) (copied_meta s).len (length (due_bytes book))
+  pub passes : limit_error_with book.limits (book_end book) (length (book_ranges book)) (copied_meta s).len (length (due_bytes book))
       ≡ passed
 
 -- an image stands behind the others, behind the page list that was due, and passes no limit: a copy of the cluster, where the file tells
 -- its bytes
 pub record CopiesCluster (file : Option (List ℕ)) (o : Outline) (k columns : ℕ) (old new : DiskState) (book book' : BookData) : Type 0 where
   pub image : ClusterImage
-  pub fits : limit_error_with book.limits (book_end book) (length (book_clusters book)) image.meta.len (length (due_bytes book)) ≡ None
+  pub fits : limit_error_with book.limits (book_end book) (length (book_ranges book)) image.meta.len (length (due_bytes book)) ≡ None
   pub next : AppendsNext image old new book book'
   pub told : (b : List ℕ) → file ≡ Some b → columns ≡ length o.table.columns → IsReadCopy (source_at b o k) k image book
 
@@ -183,9 +184,10 @@ abbrev pub CopyGoesOn : Table → Params → DiskState → DiskState → BookDat
 CopyGoesOn t p given new book (Ok done) = IsMerging t p given new book
 CopyGoesOn t p given new book (Err e) = IsLeftUnfinished given new
 
--- a book of so many columns ends where the disk does
+-- a book of so many columns ends where the disk does, and isn't staged
 pub record MayCopyInto (columns : ℕ) (disk : DiskState) (book : BookData) : Type 0 where
   pub columns_are : columns ≡ length book.firsts
+  pub not_staged : book.staged ≡ false
   pub end : disk.end ≡ book_end book
 
 -- where a file tells its bytes, its clusters go on behind those of the files before it

@@ -1,6 +1,6 @@
 -- What is left of clusters that are copied from several files into one, one behind the other (RNTuple Binary Format Specification 1.0.0.0,
 -- sections Pages, Page Locations and Page List Envelope).
-use Rattle.std.specs.Prelude.{ℕ, ◌≡◌, ◌≤◌, ◌+◌, ◌++◌, List, [], ◌∷◌, map, length, None, Result, Ok, Err, sum_by}
+use Rattle.std.specs.Prelude.{ℕ, ◌≡◌, ◌≤◌, ◌+◌, ◌++◌, false, List, [], ◌∷◌, map, length, None, Result, Ok, Err, sum_by}
 use Rattle.std.specs.List.{AllByRecursion}
 use Rattle.nt_lists.specs.Chaining.{◌>>=◌}
 use Rattle.nt_lists.specs.Parts.{part_bytes}
@@ -99,6 +99,7 @@ pub record IsMerging (t : Table) (p : Params) (given disk : DiskState) (book : B
   pub held : Becomes given.held disk.held (λ h. file_so_far t blobs)
   pub closable : IsClosable disk book t p
   pub limits : book.limits ≡ p.limits
+  pub not_staged : book.staged ≡ false
   pub firsts : map (λ (c : ColumnRow). c.first) t.columns ≡ book.firsts
   pub none_deferred : NoneDeferred t.columns
   pub settled : AllByRecursion IsSettledCluster (book_clusters book)

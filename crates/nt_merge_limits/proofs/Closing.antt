@@ -27,7 +27,7 @@ use Rattle.nt_dealing.proofs.Files.{length-footer_object, length-file_of}
 use Rattle.nt_merge_limits.specs.Limits.{kept_metas, group_metas, IsMergeBlob, of_header, of_cluster, of_list, of_footer, MergeFits}
 use Rattle.nt_merge_limits.specs.Limits.{MergeOverBy, IsBookBeside}
 use Rattle.nt_merge_limits.proofs.Lists.{times-suc}
-use Rattle.nt_merge_limits.proofs.Fronts.{counts, some-group}
+use Rattle.nt_merge_limits.proofs.Fronts.{counts, flat, some-group}
 use Rattle.nt_merge_limits.proofs.Passed.{passed-over}
 
 contains-next : {A : Type 0} (xs : List A) (y x : A) → Contains xs x → Contains (y ∷ xs) x
@@ -100,7 +100,7 @@ module _ (t : Table) (p : Params) (book : BookData) (is : IsBookBeside t p book)
       let foot = blob_len (length (footer_object t book (list_places staged t book most))) in
       passed-over t p metas (map (list_len (header_sum t) book) ss ++ foot ∷ []) (file_len t book (list_places staged t book most)) error
       (row-blobs foot (of_footer (footer-len staged)) ss among)
-      (omega (arith, length-file_of staged t book most is.kept is.begin (some-group t p book is))) e
+      (omega (arith, length-file_of staged t book most (flat t p book is) is.kept is.begin (some-group t p book is))) e
 
   -- ---- where nothing is passed
 
@@ -129,6 +129,6 @@ module _ (t : Table) (p : Params) (book : BookData) (is : IsBookBeside t p book)
     pub closed-fits : n ≤ p.limits.clusters → MergeFits t p metas
     closed-fits few = record {
       blobs = blob-within;
-      file = omega (arith, length-file_of false t book most is.kept is.begin (some-group t p book is), within.file);
+      file = omega (arith, length-file_of false t book most (flat t p book is) is.kept is.begin (some-group t p book is), within.file);
       few = omega (arith, few, counts t p book is);
     }

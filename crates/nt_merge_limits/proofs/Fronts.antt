@@ -13,10 +13,11 @@ use Rattle.nt_book.specs.declared.list.NotedList.{NotedList}
 use Rattle.nt_book.specs.declared.list.Tear.{Tear}
 use Rattle.nt_book.specs.declared.meta.ClusterMeta.{ClusterMeta}
 use Rattle.nt_book.specs.declared.params.Params.{Params}
-use Rattle.nt_book.specs.Books.{BookData, book_clusters, book_end, is_due}
+use Rattle.nt_book.specs.Books.{BookData, book_ranges, book_clusters, book_end, is_due}
 use Rattle.nt_book.specs.Listing.{clusters_listed, group_size, is_due_after, lists_bytes, torn_bytes, no_noted}
 use Rattle.nt_pagelists.specs.Due.{due_object, due_len, group_sum}
 use Rattle.nt_pagelists.specs.Objects.{list_len}
+use Rattle.nt_pagelists.proofs.Named.{clusters-unstaged, grouped-unstaged}
 use Rattle.nt_commit.specs.Appending.{due_bytes}
 use Rattle.nt_layout.specs.Headers.{header_sum, clusters_place}
 use Rattle.nt_layout.specs.Beside.{full_span}
@@ -92,6 +93,13 @@ module _ (t : Table) (p : Params) (book : BookData) (is : IsBookBeside t p book)
   pub counts : length metas ≡ length (book_clusters book)
   counts = length-map (book_clusters book) (λ (c : Cluster ClusterMeta). c.meta)
 
+  -- page lists stand beside them, so none is staged
+  pub flat : book.staged ≡ false
+  flat = grouped-unstaged book (p.group, header_sum t) is.kept is.beside.group
+
+  pub all-flat : book_clusters book ≡ book_ranges book
+  all-flat = clusters-unstaged book flat
+
   pub lens-count : length lens ≡ length book.lists
   lens-count = length-map book.lists (λ (l : NotedList). l.len)
 
@@ -127,6 +135,7 @@ module _ (t : Table) (p : Params) (book : BookData) (is : IsBookBeside t p book)
       omega (
         arith,
         is.begin,
+        ap (λ (cs : List (Cluster ClusterMeta)). sum_by (λ (c : Cluster ClusterMeta). c.len) cs) all-flat,
         ranges-told (book_clusters book) (λ k less. (is.kept.clusters k less).len),
         total-lens book.lists,
         ap torn_bytes is.beside.untorn,

@@ -13,7 +13,7 @@ use Rattle.nt_book.specs.declared.limits.LimitError.TheVariants as limit
 use Rattle.nt_book.specs.declared.limits.Limits.{Limits}
 use Rattle.nt_book.specs.declared.meta.ClusterMeta.{ClusterMeta}
 use Rattle.nt_book.specs.declared.params.Params.{Params}
-use Rattle.nt_book.specs.Books.{BookData, book_clusters, book_end, is_due}
+use Rattle.nt_book.specs.Books.{BookData, book_ranges, book_end, is_due}
 use Rattle.nt_book.specs.Limiting.{limit_error_with}
 use Rattle.nt_pagelists.specs.Blobs.{blob_len}
 use Rattle.nt_commit.specs.Appending.{due_bytes}
@@ -23,7 +23,7 @@ use Rattle.nt_dealing.specs.Lengths.{page_list_len, group_count, whole_len}
 use Rattle.nt_merge_limits.specs.Limits.{kept_metas, IsMergeBlob, of_header, of_cluster, of_list, MergeOver}
 use Rattle.nt_merge_limits.specs.Limits.{range_passed, file_passed, too_many, MergeFits, MergeOverBy, IsBookBeside}
 use Rattle.nt_merge_limits.proofs.Lists.{times-suc, groups-enough}
-use Rattle.nt_merge_limits.proofs.Fronts.{front-within, lens, counts, some-group, due-is, due-none, next-within}
+use Rattle.nt_merge_limits.proofs.Fronts.{front-within, lens, counts, all-flat, some-group, due-is, due-none, next-within}
 
 over-is : (t : Table) (p : Params) (metas : List ClusterMeta) (made error : LimitError) → MergeOverBy t p metas made
     → Some made ≡ Some error → MergeOverBy t p metas error
@@ -122,15 +122,15 @@ module _ (grows : Grows) (t : Table) (p : Params) (book : BookData) (is : IsBook
       (Contains-append_left (front ++ meta ∷ []) more meta (Contains-push front meta))
 
   pub appended-over : (error : LimitError)
-      → limit_error_with book.limits (book_end book) (length (book_clusters book)) meta.len list ≡ Some error
+      → limit_error_with book.limits (book_end book) (length (book_ranges book)) meta.len list ≡ Some error
       → MergeOverBy t p all error
   appended-over error e =
       by (nat_lt p.limits.range meta.len) (nat_lt p.limits.range list) (nat_lt p.limits.file (book_end book + list + meta.len))
-      (length (book_clusters book) == p.limits.clusters) refl refl refl refl
-      (ap (λ (l : Limits). limit_error_with l (book_end book) (length (book_clusters book)) meta.len list) (sym is.limits) ∙ e)
+      (length (book_ranges book) == p.limits.clusters) refl refl refl refl
+      (ap (λ (l : Limits). limit_error_with l (book_end book) (length (book_ranges book)) meta.len list) (sym is.limits) ∙ e)
     where
       by : (a b c d : Bool) → nat_lt p.limits.range meta.len ≡ a → nat_lt p.limits.range list ≡ b
-          → nat_lt p.limits.file (book_end book + list + meta.len) ≡ c → (length (book_clusters book) == p.limits.clusters) ≡ d
+          → nat_lt p.limits.file (book_end book + list + meta.len) ≡ c → (length (book_ranges book) == p.limits.clusters) ≡ d
           → cond a (Some (limit.RangeTooLarge meta.len p.limits.range))
           (cond b (Some (limit.RangeTooLarge list p.limits.range))
           (cond c (Some (limit.FileTooLarge (book_end book + list + meta.len) p.limits.file))
@@ -148,7 +148,7 @@ module _ (grows : Grows) (t : Table) (p : Params) (book : BookData) (is : IsBook
       by false false false true e0 e1 e2 full same =
           over-is t p all limit.TooManyClusters error
           (too_many refl refl
-          (omega (arith, eqb-true _ _ full, counts t p book is, length-append front (meta ∷ more)))) same
+          (omega (arith, eqb-true _ _ full, counts t p book is, ap length (all-flat t p book is), length-append front (meta ∷ more)))) same
       by false false false false e0 e1 e2 e3 same = absurd (none-some error same)
 
 -- ---- a file that fits

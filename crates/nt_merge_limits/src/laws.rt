@@ -6,7 +6,7 @@ ghost use Rattle.nt_grammar.specs.Table.{Table};
 ghost use Rattle.nt_book.specs.declared.limits.LimitError.{LimitError};
 ghost use Rattle.nt_book.specs.declared.meta.ClusterMeta.{ClusterMeta};
 ghost use Rattle.nt_book.specs.declared.params.Params.{Params};
-ghost use Rattle.nt_book.specs.Books.{BookData, book_clusters, book_end};
+ghost use Rattle.nt_book.specs.Books.{BookData, book_ranges, book_clusters, book_end};
 ghost use Rattle.nt_book.specs.Limiting.{limit_error_with};
 ghost use Rattle.nt_commit.specs.Appending.{due_bytes};
 ghost use Rattle.nt_close.specs.Passing.{first_passed, measures_of, passed_by_begin};
@@ -27,7 +27,7 @@ pub fn merges_pass_what_their_fronts_pass()
         → passed_by_begin p.limits t ≡ Some error → MergeOverBy t p metas error }
     ensures appended { (t : Table) (p : Params) (book : BookData) → IsBookBeside t p book
         → (meta : ClusterMeta) (more : List ClusterMeta) (error : LimitError)
-        → limit_error_with book.limits (book_end book) (length (book_clusters book)) meta.len (length (due_bytes book)) ≡ Some error
+        → limit_error_with book.limits (book_end book) (length (book_ranges book)) meta.len (length (due_bytes book)) ≡ Some error
         → MergeOverBy t p (kept_metas book ++ meta ∷ more) error }
     ensures closed { (t : Table) (p : Params) (book : BookData) → IsBookBeside t p book
         → (staged : Bool) (ss : List ClusterSpan) (error : LimitError)

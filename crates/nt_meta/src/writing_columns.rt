@@ -91,7 +91,7 @@ fn put_columns(
         (map (listed_column book.now cluster) (range_with_len 0 (length lists.now)))) out.old) }
 {
     book.keeps();
-    let payload = book.start(cluster) + KEY;
+    let payload = book.start(book.range_of(cluster)) + KEY;
     for column in 0..lists.len() as u32 {
         let offset = book.offset(cluster, column);
         put_column(out, payload, offset, lists[column as usize].as_slice())?;

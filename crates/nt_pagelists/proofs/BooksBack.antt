@@ -229,7 +229,8 @@ module _ (columns : List KnownColumn) (book : BookData) (from count : ℕ) (h : 
         entries = first_entry book (from + count);
         elements = l;
       }) (sums-listed from count (omega arith) (omega arith))) in
-      page-list-reads sum g columns (progress_before book from) ws place rest fits few (omega (arith, long, h.inside, h.kept.few))
+      page-list-reads sum g columns (progress_before book from) ws place rest fits few
+      (omega (arith, long, h.inside, h.kept.few, h.kept.fewer))
       (clusters ∙ sym long) (omega (arith, entries, span))
       (clusters-listed from count (omega arith) (omega arith)) short
       ∙ ap (λ (p : ProgressCounts). Ok (cluster_lists_from (first_cluster_place place ws) ws, p)) counted

@@ -8,3 +8,4 @@ pub mod FootersBack
 pub mod SoundLists
 pub mod BooksBack
 pub mod ListsStay
+pub mod Named

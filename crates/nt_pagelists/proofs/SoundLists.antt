@@ -7,6 +7,7 @@ use Rattle.std.proofs.lemmas.Bool.Decides.{nat_tests}
 use Rattle.std.proofs.lemmas.List.Sums.{sum_by-cons, sum_by_push}
 use Rattle.std.proofs.Math.Seq.{take-suc}
 use Rattle.nt_machine.specs.History.{Cluster}
+use Rattle.nt_machine.proofs.ClusterSums.{clusters-sum-le}
 use Rattle.nt_book.specs.declared.meta.PageMeta.{PageMeta}
 use Rattle.nt_book.specs.declared.meta.ClusterMeta.{ClusterMeta}
 use Rattle.nt_book.specs.Pages.{element_count, listed_elements, stored_size, IsPageOf, IsPaged}
@@ -148,6 +149,7 @@ elements-fit book k column h =
     omega (
       arith,
       h.end,
+      clusters-sum-le (λ (c : Cluster ClusterMeta). c.len) book.staged book.history h.staging,
       elements-le (length book.firsts) column k (book_clusters book)
           (all-of (IsKeptCluster (length book.firsts)) (book_clusters book) no_cluster h.clusters),
     )
@@ -157,6 +159,7 @@ entries-fit book k h =
     omega (
       arith,
       h.end,
+      clusters-sum-le (λ (c : Cluster ClusterMeta). c.len) book.staged book.history h.staging,
       entries-le (length book.firsts) k (book_clusters book)
           (all-of (IsKeptCluster (length book.firsts)) (book_clusters book) no_cluster h.clusters),
     )

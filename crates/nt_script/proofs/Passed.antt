@@ -98,7 +98,8 @@ all-drop P zero ls all = all
 all-drop P (suc n) [] all = tt
 all-drop P (suc n) (l ∷ ls) all = all-drop P n ls all.1
 
-module _ (t : Table) (p : Params) (book : BookData) (kept : IsBookKept book) (begin : book.begin ≡ clusters_place t) where
+module _ (t : Table) (p : Params) (book : BookData) (flat : book.staged ≡ false) (kept : IsBookKept book)
+    (begin : book.begin ≡ clusters_place t) where
   abbrev book_metas : List ClusterMeta
   book_metas = metas_of book
 
@@ -155,7 +156,7 @@ module _ (t : Table) (p : Params) (book : BookData) (kept : IsBookKept book) (be
               | inr last ↦
                   let over = ends p.limits end e last in
                   let named = file_named e reached most end p.limits.file names over.1 in
-                  end_passed (named.0 ∙ length-file_of false t book p.group kept begin some) named.1
+                  end_passed (named.0 ∙ length-file_of false t book p.group flat kept begin some) named.1
                   (omega (arith, over.0, named.0, named.1))
             ]
       ]

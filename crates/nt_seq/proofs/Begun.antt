@@ -125,6 +125,7 @@ writing-begun state fields p disk new book t columns is empty out described read
   held = held-begun fields p (state disk) (state new) book t is empty;
   header = refl;
   closable = closable-begun fields p (state disk) (state new) book t is empty out ready.whole;
+  not_staged = ap (λ (b : BookData). b.staged) is.book_is;
   untorn = new-untorn t p book is.book_is;
   within = is.within;
   limits = ap (λ (b : BookData). b.limits) is.book_is;

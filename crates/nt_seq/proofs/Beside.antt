@@ -1,10 +1,15 @@
 -- The page lists of a book, as they are noted, and those of one whose memory changes.
-use Rattle.std.proofs.Common.{◌≡◌, ◌∙◌, ap, sym, refl, subst, ℕ, ◌≤◌, List}
+use Rattle.std.proofs.Common.{◌≡◌, ◌∙◌, ap, sym, refl, subst, ℕ, ◌≤◌, false, List, length, Option}
 use Rattle.std.specs.List.{AllByRecursion}
 use Rattle.nt_grammar.specs.Table.{Table}
+use Rattle.nt_machine.specs.History.{Cluster}
+use Rattle.nt_book.specs.declared.limits.LimitError.{LimitError}
 use Rattle.nt_book.specs.declared.list.NotedList.{NotedList}
+use Rattle.nt_book.specs.declared.meta.ClusterMeta.{ClusterMeta}
 use Rattle.nt_book.specs.declared.params.Params.{Params}
-use Rattle.nt_book.specs.Books.{BookData}
+use Rattle.nt_book.specs.Books.{BookData, book_clusters, book_ranges, book_end}
+use Rattle.nt_book.specs.Limiting.{limit_error_with}
+use Rattle.nt_pagelists.proofs.Named.{clusters-unstaged}
 use Rattle.nt_pagelists.specs.Objects.{list_object}
 use Rattle.nt_layout.specs.Beside.{HasListsBeside, parts_so_far}
 use Rattle.nt_close.specs.Filled.{AreListsNoted}
@@ -46,3 +51,14 @@ module _ (book room : BookData) (is : room ≡ record book { spare = room.spare 
   pub parts-kept : (t : Table) (most : ℕ) (ranges : List (List ℕ)) → parts_so_far t room most ranges ≡ parts_so_far t book most ranges
   parts-kept t most ranges =
       ap (λ (b : BookData). parts_so_far t b most ranges) is ∙ parts-room t most room.spare book ranges
+
+-- ---- limits
+
+-- each range is a cluster, so the limits are those of the clusters
+pub limits-unstaged : (book : BookData) (len list : ℕ) (error : Option LimitError) → book.staged ≡ false
+    → limit_error_with book.limits (book_end book) (length (book_ranges book)) len list ≡ error
+    → limit_error_with book.limits (book_end book) (length (book_clusters book)) len list ≡ error
+limits-unstaged book len list error flat is =
+    ap (λ (cs : List (Cluster ClusterMeta)). limit_error_with book.limits (book_end book) (length cs) len list)
+    (clusters-unstaged book flat)
+    ∙ is

@@ -1,6 +1,6 @@
 -- The file of a writer that was closed.
 use Rattle.std.proofs.Common.{◌≡◌, ◌∙◌, ap, sym, refl, subst, ℕ, zero, suc, ◌<◌, ◌≤◌, inl, inr, Bool, true, false, List, [], ◌∷◌}
-use Rattle.std.proofs.Common.{length, take, Option, Some, None, arith}
+use Rattle.std.proofs.Common.{length, map, take, Option, Some, None, arith}
 use Rattle.std.specs.Prelude.{◌⊎◌, slice_index_or, Ok, Err, nat_lt, if◌then◌else◌}
 use Rattle.std.specs.List.{AllByRecursion}
 use Rattle.std.proofs.lemmas.Bool.Decides.{nat_tests}
@@ -38,8 +38,7 @@ use Rattle.nt_close.proofs.Finishing.{closed-is}
 use Rattle.nt_close.proofs.FirstByte.{cut_shut, closes_in_order}
 use Rattle.nt_close.proofs.Within.{listed-beside, within}
 use Rattle.nt_finished.proofs.Lengths.{clusters_told}
-use Rattle.nt_finished.proofs.Beside.{all_beside, laid-beside}
-use Rattle.nt_finished.proofs.Staged.{ranges-by_number}
+use Rattle.nt_finished.proofs.Beside.{all_beside, by-number_beside, laid-beside, ranges-beside}
 use Rattle.nt_finished.specs.LateFiles.{AreLateBlobs}
 use Rattle.nt_finished.proofs.LaidLate.{lens-late}
 use Rattle.nt_seq.specs.Closing.{IsFileOf, IsShutOrWhole}
@@ -97,6 +96,8 @@ module _ {D : Type 0} (state : D → DiskState) (w : SeqState D) (is : IsWriting
   lens : (clusters : List (List TreesData)) (has : HasWritten state w clusters) → AreRangesOf w.book has.ranges
   lens clusters has =
       lens-late w.table w.params.page 0 clusters has.ranges (book_clusters w.book) has.late (clusters_told w.book kept)
+      ∙ ap (λ (cs : List (Cluster ClusterMeta)). map (λ (c : Cluster ClusterMeta). c.len) cs)
+      (ranges-beside w.table w.params.group w.book kept beside)
 
   image-is : (clusters : List (List TreesData)) (has : HasWritten state w clusters)
       → (closed_on behind before h).image ≡ finished false w.table w.book w.params.group has.ranges
@@ -123,7 +124,7 @@ module _ {D : Type 0} (state : D → DiskState) (w : SeqState D) (is : IsWriting
           ranges = has.ranges;
           lens = lens clusters has;
           blobs_are = subst (λ (l : List (List ℕ)). AreLateBlobs w.table w.params.page 0 clusters l (book_clusters w.book))
-              (sym (ranges-by_number w.book has.ranges kept (lens clusters has))) has.late;
+              (sym (by-number_beside w.table w.params.group w.book kept beside has.ranges (lens clusters has))) has.late;
           behind = all_beside w.table w.params.group w.book kept beside has.ranges is.closable.begin (lens clusters has);
           is = image-is clusters has;
         };

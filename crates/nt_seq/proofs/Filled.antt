@@ -36,6 +36,7 @@ writing-filled state w columns entries is gives full = record {
   held = is.held;
   header = is.header;
   closable = is.closable;
+  not_staged = is.not_staged;
   untorn = is.untorn;
   within = is.within;
   limits = is.limits;

@@ -169,7 +169,7 @@ module _ {D : Type 0} (state : D → DiskState) (w : SeqState D) (disk : D) (nex
   ends-more : book_end next ≤ w.params.limits.file
   ends-more =
       subst (λ (l : Limits). book_end next ≤ l.file) is.limits
-      (omega (arith, fitting.1, end-gained i.meta (with_due_list w.book) next put_behind.gains, end-with w.book))
+      (omega (arith, fitting.1, end-gained i.meta (with_due_list w.book) next is.not_staged put_behind.gains, end-with w.book))
 
   fewer : (n most : ℕ) → n ≤ most → (n ≡ most → ⊥) → n + 1 ≤ most
   fewer n most le apart = omega (arith, le, apart)
@@ -191,6 +191,7 @@ module _ {D : Type 0} (state : D → DiskState) (w : SeqState D) (disk : D) (nex
             is.blobs is.held;
         header = is.header;
         closable = can-close;
+        not_staged = ap (λ (b : BookData). b.staged) put_behind.gains.same ∙ is.not_staged;
         untorn = ap (λ (b : BookData). b.torn) put_behind.gains.same ∙ is.untorn;
         within = is.within;
         limits = ap (λ (b : BookData). b.limits) put_behind.gains.same ∙ is.limits;

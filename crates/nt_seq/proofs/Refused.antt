@@ -75,6 +75,7 @@ module _ {D : Type 0} (state : D → DiskState) (w : SeqState D) (disk : D) (roo
         held = λ h told. kept.held ∙ is.held h told;
         header = is.header;
         closable = closable-kept (state w.disk) (state disk) w.table w.params w.book room is.closable kept;
+        not_staged = ap (λ (b : BookData). b.staged) book ∙ is.not_staged;
         untorn = ap (λ (b : BookData). b.torn) book ∙ is.untorn;
         within = is.within;
         limits = ap (λ (b : BookData). b.limits) book ∙ is.limits;
@@ -100,6 +101,7 @@ writing-alive state w alive is = record {
   held = is.held;
   header = is.header;
   closable = is.closable;
+  not_staged = is.not_staged;
   untorn = is.untorn;
   within = is.within;
   limits = is.limits;

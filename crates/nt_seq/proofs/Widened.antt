@@ -19,6 +19,7 @@ use Rattle.nt_fill.specs.Context.{entries_given}
 use Rattle.nt_layout.specs.Laid.{Gives}
 use Rattle.nt_plans.specs.Place.{open_plans}
 use Rattle.nt_plans.specs.Types.{are_some}
+use Rattle.nt_machine.proofs.ClusterSums.{clusters-sum-le}
 use Rattle.nt_machine.specs.History.{Cluster}
 use Rattle.nt_plans.specs.Plan.{PlanData}
 use Rattle.nt_book.specs.declared.limits.Limits.{Limits}
@@ -68,7 +69,12 @@ few-entries columns (c ∷ cs) kept =
 
 pub entries-short : (book : BookData) → IsBookKept book → entry_count (book_clusters book) < 2 ^ 63
 entries-short book kept =
-    omega (arith, few-entries (length book.firsts) (book_clusters book) kept.clusters, kept.end)
+    omega (
+      arith,
+      few-entries (length book.firsts) (book_clusters book) kept.clusters,
+      clusters-sum-le (λ (c : Cluster ClusterMeta). c.len) book.staged book.history kept.staging,
+      kept.end,
+    )
 
 -- ---- a header that stays
 
@@ -152,6 +158,7 @@ module _ {D : Type 0} (state : D → DiskState) (w : SeqState D) (next : BookDat
       out = is.closable.out;
       whole = whole;
     };
+    not_staged = ap (λ (b : BookData). b.staged) next_is ∙ is.not_staged;
     untorn = ap (λ (b : BookData). b.torn) next_is ∙ is.untorn;
     within = within-kept w.table new same-header w.params.limits is.within;
     limits = ap (λ (b : BookData). b.limits) next_is ∙ is.limits;

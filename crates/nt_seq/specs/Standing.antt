@@ -1,5 +1,5 @@
 -- What holds of each sequential writer.
-use Rattle.std.specs.Prelude.{ℕ, ◌≡◌, ◌≤◌, true, List, [], map, length, None}
+use Rattle.std.specs.Prelude.{ℕ, ◌≡◌, ◌≤◌, true, false, List, [], map, length, None}
 use Rattle.std.specs.List.{AllByRecursion}
 use Rattle.nt_outside.specs.Held.{Becomes, BecomesSome, WhereHeld, nothing_held}
 use Rattle.nt_outside.specs.Disk.{DiskState}
@@ -44,14 +44,15 @@ pub record IsFitToBegin (t : Table) (columns : List Column) : Type 0 where
 
 module _ {D : Type 0} (state : D → DiskState) where
   -- a writer that is alive: its file is begun, with blobs behind the header, which is still that of the schema with which it was begun,
-  -- and can be closed; no page list of its book failed; each range of the book is settled and within the limit, and so are the end of the
-  -- ranges and page lists and the number of clusters; the first elements of the columns are those of the schema and stand behind no more
-  -- entries than are written, and the columns give what is gathered
+  -- and can be closed; its book isn't staged, and no page list of it failed; each range of the book is settled and within the limit, and
+  -- so are the end of the ranges and page lists and the number of clusters; the first elements of the columns are those of the schema and
+  -- stand behind no more entries than are written, and the columns give what is gathered
   pub record IsWriting (w : SeqState D) : Type 0 where
     pub blobs : List (List ℕ)
     pub held : Becomes (state w.given).held (state w.disk).held (λ h. file_so_far w.table blobs)
     pub header : header_object w.table ≡ header_object w.begun
     pub closable : IsClosable (state w.disk) w.book w.table w.params
+    pub not_staged : w.book.staged ≡ false
     pub untorn : w.book.torn ≡ None
     pub within : passed_by_begin w.params.limits w.table ≡ None
     pub limits : w.book.limits ≡ w.params.limits

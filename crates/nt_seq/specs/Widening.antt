@@ -1,5 +1,5 @@
 -- The columns that a schema got with a field.
-use Rattle.std.specs.Prelude.{ℕ, ◌+◌, ◌<◌, ◌≤◌, ◌≡◌, ◌^◌, List, map, drop, length, Some, slice_get}
+use Rattle.std.specs.Prelude.{ℕ, ◌+◌, ◌<◌, ◌≤◌, ◌≡◌, ◌^◌, false, List, map, drop, length, Some, slice_get}
 use Rattle.nt_grammar.specs.declared.rows.ColumnRow.{ColumnRow}
 use Rattle.nt_grammar.specs.Table.{Table}
 use Rattle.nt_book.specs.Books.{BookData, book_clusters, entry_count}
@@ -10,8 +10,9 @@ use Rattle.nt_fill.specs.Context.{HasKnownType}
 abbrev pub first_elements : List ColumnRow → List ℕ
 first_elements rows = map (λ (c : ColumnRow). c.first) rows
 
--- a book can get the columns of a schema from this one on
+-- a book that isn't staged can get the columns of a schema from this one on
 pub record MayWiden (t : Table) (from : ℕ) (book : BookData) : Type 0 where
+  pub not_staged : book.staged ≡ false
   pub known : (k : ℕ) (r : ColumnRow) → slice_get t.columns k ≡ Some r → HasKnownType r
   pub inside : from ≤ length t.columns
   pub late : AreLateFirsts (entry_count (book_clusters book)) (first_elements (drop from t.columns))

@@ -107,7 +107,7 @@ module _ (lists : ListsAreAsLong) (footers : FootersAreAsLong) (files : FilesAre
                 | inr last ↦
                     let end = ends p.limits (file_len t book (list_places false t book p.group)) e last in
                     let named = file_named e reached most (file_len t book (list_places false t book p.group)) p.limits.file names end.1 in
-                    let long = files false t book p.group (book_of books fields p texts t book ranges holds) some in
+                    let long = files false t book p.group holds.book_on.staged (book_of books fields p texts t book ranges holds) some in
                     let ms = metas (book_clusters book) in
                     file_passed ms
                     (record {

@@ -48,7 +48,7 @@ FootersAreAsLong =
 
 abbrev pub FilesAreAsLong : Type 0
 FilesAreAsLong =
-    (staged : Bool) (t : Table) (book : BookData) (most : ℕ) → IsBookOf t book → 0 < most
+    (staged : Bool) (t : Table) (book : BookData) (most : ℕ) → book.staged ≡ false → IsBookOf t book → 0 < most
     → file_len t book (list_places staged t book most) ≡ whole_len t most (metas (book_clusters book))
 
 abbrev pub DealtAreAll : Type 0

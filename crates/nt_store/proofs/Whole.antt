@@ -1,5 +1,6 @@
 -- A file whose clusters are the chunks of texts, finished within the limits.
-use Rattle.std.proofs.Common.{◌≡◌, ℕ, ◌≤◌, Bool, true, false, List, [], length, replicate, map, Option, Some, None, refl, sym, subst, arith}
+use Rattle.std.proofs.Common.{◌≡◌, ℕ, ◌≤◌, Bool, true, false, List, [], length, replicate, map, Option, Some, None, refl, sym}
+use Rattle.std.proofs.Common.{ap, ◌∙◌, subst, arith}
 use Rattle.std.specs.Prelude.{nat_lt, if◌then◌else◌}
 use Rattle.std.proofs.lemmas.Bool.Decides.{nat_tests}
 use Rattle.nt_types.specs.ShapeData.{MemberData}
@@ -20,8 +21,7 @@ use Rattle.nt_layout.specs.Headers.{header_object, clusters_place}
 use Rattle.nt_layout.specs.Laid.{AreBlobsOf, Measures, AreMeasures, IsBookOf, IsLaid}
 use Rattle.nt_finished.proofs.Lengths.{clusters_told, ranges-len}
 use Rattle.nt_layout.specs.Beside.{HasListsBeside}
-use Rattle.nt_finished.proofs.Beside.{all_beside}
-use Rattle.nt_finished.proofs.Staged.{ranges-by_number}
+use Rattle.nt_finished.proofs.Beside.{all_beside, by-number_beside, ranges-beside}
 use Rattle.nt_close.specs.Passing.{first_passed, passed_by_begin, measures_of}
 use Rattle.nt_store.specs.Laws.{HoldsChunks, RangesAreAsLong, FinishedAreStored}
 
@@ -79,13 +79,19 @@ beside_of fields p texts t book ranges holds = record {
 }
 
 pub as_long : AreAsLong → RangesAreAsLong
-as_long long fields p texts t book ranges holds = long t p.page holds.are.dealt ranges book holds.kept holds.are.blobs_are
+as_long long fields p texts t book ranges holds =
+    long t p.page holds.are.dealt ranges book holds.kept holds.are.blobs_are
+    ∙ ap (λ (cs : List (Cluster ClusterMeta)). map (λ (c : Cluster ClusterMeta). c.len) cs)
+    (ranges-beside t p.group book holds.kept (beside_of fields p texts t book ranges holds))
 
 pub stored_whole : BooksAreOf → FilesMean → FinishedAreStored
 stored_whole books mean fields p texts t book ranges bytes holds stays is =
     let cs = book_clusters book in
     let of = book_of books fields p texts t book ranges holds in
-    let lens = ranges-len t p.page holds.are.dealt ranges cs holds.are.blobs_are (clusters_told book holds.kept) in
+    let beside = beside_of fields p texts t book ranges holds in
+    let lens = ranges-len t p.page holds.are.dealt ranges cs holds.are.blobs_are (clusters_told book holds.kept)
+    ∙ ap (λ (l : List (Cluster ClusterMeta)). map (λ (c : Cluster ClusterMeta). c.len) l)
+    (ranges-beside t p.group book holds.kept beside) in
     let laid : IsLaid bytes t holds.are.dealt (measures_of p) = record {
       book = book;
       is_of = of;
@@ -93,8 +99,8 @@ stored_whole books mean fields p texts t book ranges bytes holds stays is =
       ranges = ranges;
       lens = lens;
       blobs_are = subst (λ (l : List (List ℕ)). AreBlobsOf t p.page holds.are.dealt l cs)
-          (sym (ranges-by_number book ranges holds.kept lens)) holds.are.blobs_are;
-      behind = all_beside t p.group book holds.kept (beside_of fields p texts t book ranges holds) ranges of.begin lens;
+          (sym (by-number_beside t p.group book holds.kept beside ranges lens)) holds.are.blobs_are;
+      behind = all_beside t p.group book holds.kept beside ranges of.begin lens;
       is = is;
     } in
     record {

@@ -1,4 +1,4 @@
--- A cluster that was appended last is out.
+-- A range that was reserved last, with its cluster or as a staged one, is out.
 use Rattle.std.proofs.Common.{◌≡◌, ◌∙◌, refl, ap, ℕ, ◌-◌, List, [], ◌∷◌, ◌++◌, length, Some}
 use Rattle.std.specs.Prelude.{slice_get}
 use Rattle.std.proofs.lemmas.List.Sums.{fold-append}
@@ -6,14 +6,14 @@ use Rattle.nt_machine.specs.declared.entry.Entry.{Entry}
 use Rattle.nt_machine.specs.History.{Cluster, Out, after_entry, ranges_of}
 use Rattle.nt_machine.specs.Legal.{IsOut}
 use Rattle.nt_book.specs.declared.meta.ClusterMeta.{ClusterMeta}
-use Rattle.nt_book.specs.Books.{BookData, book_clusters, book_end}
+use Rattle.nt_book.specs.Books.{BookData, book_ranges, book_end}
 use Rattle.nt_book.specs.Entries.{committed_entry}
 
-at_end : (before : List (Cluster ClusterMeta)) (c : Cluster ClusterMeta) → slice_get (before ++ c ∷ []) (length before) ≡ Some c
+pub at_end : (before : List (Cluster ClusterMeta)) (c : Cluster ClusterMeta) → slice_get (before ++ c ∷ []) (length before) ≡ Some c
 at_end [] c = refl
 at_end (b ∷ bs) c = at_end bs c
 
-pub out_last : (old new : BookData) (n : ℕ) (meta : ClusterMeta) → n ≡ length (book_clusters old)
+pub out_last : (old new : BookData) (n : ℕ) (meta : ClusterMeta) → n ≡ length (book_ranges old)
     → new ≡ record old {
       history = old.history ++ committed_entry n (book_end old) meta ∷ [];
       spare = old.spare - 1;

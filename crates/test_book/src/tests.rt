@@ -1,8 +1,9 @@
-//! A book of three clusters, and one that is full.
+//! A book of three clusters, one that is full, and one whose clusters are staged.
 
 ghost use Rattle.std.specs.Prelude.{◌≡◌, ◌+◌, ◌≤◌, ◌∷◌, [], length, IfOk};
 ghost use Rattle.nt_book.specs.Books.{book_clusters};
 ghost use Rattle.nt_book.specs.Pages.{IsPaged};
+ghost use Rattle.test_book.specs.Filling.{HasFilledAll};
 
 use nt_book::{
     Book, ClusterMeta, LimitError, Limits, ListPlace, PageList, PageLists, PageMeta, RangeState,
@@ -69,8 +70,8 @@ fn append(book: &mut Book, meta: &mut ClusterMeta, back: Back) -> Result<(), Fai
 {
     book.check(meta.len)?;
     book.room()?;
-    if book.due() {
-        return Err(Fail::new("a page list is due"));
+    if book.due() || book.staged() {
+        return Err(Fail::new("a page list is due, or clusters are staged"));
     }
     let context = meta.context;
     let number = book.append(meta);
@@ -92,17 +93,22 @@ fn limits(range: u64, file: u64, clusters: u32) -> Result<Limits, Fail>
 }
 
 /// What a book tells of a cluster: its start, its first entry, the offset of its column, and its state.
+/// The first and the last are those of its range.
 fn told(book: &Book, cluster: u32) -> Option<(u64, u64, u64, RangeState)>
     requires { length book.now.firsts ≡ 1 }
 {
     if cluster >= book.clusters() {
         return None;
     }
+    let range = book.range_of(cluster);
+    if range >= book.ranges() {
+        return None;
+    }
     Some((
-        book.start(cluster),
+        book.start(range),
         book.first(cluster),
         book.offset(cluster, 0),
-        book.state(cluster),
+        book.state(range),
     ))
 }
 
@@ -149,6 +155,9 @@ fn a_column_is_added_behind_a_cluster(rt: HostRuntime) -> Result<(), Fail> {
     let mut book = Book::new(alloc, 300, 1, limits(100, 1000, 7)?)?;
     append(&mut book, &mut cluster(alloc, 0, 50, 5)?, Back::Filled)?;
     let entries = book.entries();
+    if book.staged() {
+        return Err(Fail::new("staged clusters"));
+    }
     book.widen(&[entries])?;
     append(&mut book, &mut wide_cluster(alloc, 20, 7)?, Back::Filled)?;
     append(&mut book, &mut wide_cluster(alloc, 20, 1)?, Back::Filled)?;
@@ -270,5 +279,68 @@ fn a_torn_book_stays_torn(rt: HostRuntime) -> Result<(), Fail> {
     assert_eq!(rt; told(&book, 1), Some((512, 2, 5, RangeState::Settled)));
     assert!(rt; !book.due());
     assert_eq!(rt; book.torn(), Some((0, 3)));
+    Ok(())
+}
+
+/// Reserves a range of a staged book, and hands it back filled.
+fn reserve(book: &mut Book, meta: &mut ClusterMeta) -> Result<(), Fail>
+    requires filled { HasFilledAll book.old }
+    requires paged { IsPaged meta.old }
+    requires lists { length meta.old.pages ≡ length book.old.firsts }
+    ensures filled { HasFilledAll book.new }
+    ensures firsts { book.new.firsts ≡ book.old.firsts }
+{
+    book.check(meta.len)?;
+    book.room()?;
+    let context = meta.context;
+    let range = book.reserve(meta);
+    book.settle(range, context);
+    Ok(())
+}
+
+/// A staged book of one column, in which contexts 0, 1, 1 and 0 reserved and filled ranges.
+fn reserved(alloc: Global) -> Result<Book, Fail>
+    ensures filled { IfOk result (λ book. HasFilledAll book) }
+    ensures firsts { IfOk result (λ book. length book.firsts ≡ 1) }
+{
+    let mut book = Book::new(alloc, 445, 1, limits(100, 1000, 7)?)?;
+    book.stage_all();
+    reserve(&mut book, &mut cluster(alloc, 0, 58, 1)?)?;
+    reserve(&mut book, &mut cluster(alloc, 1, 58, 2)?)?;
+    reserve(&mut book, &mut cluster(alloc, 1, 58, 3)?)?;
+    reserve(&mut book, &mut cluster(alloc, 0, 58, 4)?)?;
+    Ok(book)
+}
+
+/// Context 1 publishes its ranges, and then context 0.
+fn publish_both(book: &mut Book) -> Result<(), Fail>
+    requires { HasFilledAll book.old }
+    ensures { book.new.firsts ≡ book.old.firsts }
+{
+    book.room_to_publish(1)?;
+    book.publish(1);
+    book.room_to_publish(0)?;
+    book.publish(0);
+    Ok(())
+}
+
+#[test]
+fn contexts_publish_their_ranges(rt: HostRuntime) -> Result<(), Fail> {
+    let alloc = rt.alloc();
+    let mut book = reserved(alloc)?;
+    assert_eq!(rt; book.ranges(), 4);
+    assert_eq!(rt; book.clusters(), 0);
+    assert_eq!(rt; book.entries(), 0);
+    publish_both(&mut book)?;
+    let order = book.order(alloc)?;
+    assert_eq!(rt; order.as_slice(), [1, 1, 0, 0].as_slice());
+    assert_eq!(rt; book.entries(), 8);
+    assert_eq!(rt; book.end(), 677);
+    // ranges 1, 2, 0 and 3
+    assert_eq!(rt; told(&book, 0), Some((503, 0, 0, RangeState::Settled)));
+    assert_eq!(rt; told(&book, 1), Some((561, 2, 2, RangeState::Settled)));
+    assert_eq!(rt; told(&book, 2), Some((445, 4, 5, RangeState::Settled)));
+    assert_eq!(rt; told(&book, 3), Some((619, 6, 6, RangeState::Settled)));
+    assert_eq!(rt; told(&book, 4), None);
     Ok(())
 }

@@ -1,12 +1,11 @@
 -- The page lists of a book that grows are noted still.
-use Rattle.std.proofs.Common.{◌≡◌, ◌∙◌, ap, sym, refl, subst, ℕ, zero, suc, ◌+◌, ◌*◌, ◌<◌, ◌≤◌, List, [], ◌∷◌, ◌++◌, length, map, take}
-use Rattle.std.proofs.Common.{Option, Some, None, true, arith, add-one, suc-mul, mul-le-mul_right, append-nil}
+use Rattle.std.proofs.Common.{◌≡◌, ◌∙◌, ap, sym, refl, subst, ℕ, zero, suc, ◌+◌, ◌*◌, ◌<◌, ◌≤◌, Bool, List, [], ◌∷◌, ◌++◌, length}
+use Rattle.std.proofs.Common.{map, take, Option, Some, None, true, false, arith, add-one, suc-mul, mul-le-mul_right, append-nil}
 use Rattle.std.specs.Prelude.{replicate, slice_index_or}
 use Rattle.std.specs.List.{AllByRecursion}
 use Rattle.std.proofs.lemmas.Bool.{eqb-true}
 use Rattle.std.proofs.lemmas.List.{length-append, length-replicate}
-use Rattle.nt_machine.specs.History.{Cluster, ranges_of, after_entry}
-use Rattle.nt_machine.specs.declared.entry.Entry.{Entry}
+use Rattle.nt_machine.specs.History.{Cluster, Out, clusters_of}
 use Rattle.nt_grammar.specs.Table.{Table}
 use Rattle.nt_book.specs.declared.list.ListPlace.{ListPlace}
 use Rattle.nt_book.specs.declared.list.NotedList.{NotedList}
@@ -24,6 +23,7 @@ use Rattle.nt_pagelists.specs.Due.{due_object, due_span, group_sum}
 use Rattle.nt_pagelists.specs.Objects.{ClusterSpan, list_object}
 use Rattle.nt_pagelists.specs.Staying.{StaysBelow, without_fate}
 use Rattle.nt_pagelists.proofs.ListsStay.{list-stays}
+use Rattle.nt_pagelists.proofs.Named.{clusters-unstaged}
 use Rattle.nt_layout.specs.Headers.{header_sum}
 use Rattle.nt_layout.specs.Beside.{full_span}
 use Rattle.nt_close.specs.Filled.{IsNotedOf, AreListsNoted}
@@ -128,11 +128,16 @@ keeps-torn old new torn kept is =
     (ap (λ (b : BookData). b.group) is) (ap (λ (b : BookData). b.lists) is)
 
 -- a cluster more
-pub keeps-cluster : (old new : BookData) (n start spare : ℕ) (meta : ClusterMeta) → IsBookKept old
+pub keeps-cluster : (old new : BookData) (n start spare : ℕ) (meta : ClusterMeta) → IsBookKept old → old.staged ≡ false
     → new ≡ record old { history = old.history ++ committed_entry n start meta ∷ []; spare = spare } → KeepsNotes old new
-keeps-cluster old new n start spare meta kept is =
-    keeps-grown old new kept _
-    (ap (λ (b : BookData). book_clusters b) is ∙ ranges_after old.history (committed_entry n start meta))
+keeps-cluster old new n start spare meta kept flat is =
+    let c : Cluster ClusterMeta =
+    record { context = meta.context; number = n; start = start; len = meta.len; meta = meta; state = Out } in
+    let e = committed_entry n start meta in
+    keeps-grown old new kept (c ∷ [])
+    (ap (λ (b : BookData). book_clusters b) is
+    ∙ (ap (λ (b : Bool). clusters_of b (old.history ++ e ∷ [])) flat
+    ∙ (ranges_after old.history e ∙ ap (λ (cs : List (Cluster ClusterMeta)). cs ++ c ∷ []) (sym (clusters-unstaged old flat)))))
     (ap (λ (b : BookData). b.firsts) is) (ap (λ (b : BookData). b.begin) is) (ap (λ (b : BookData). b.limits) is)
     (ap (λ (b : BookData). b.group) is) (ap (λ (b : BookData). b.lists) is)
 

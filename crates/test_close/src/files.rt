@@ -42,7 +42,7 @@ pub enum End {
 /// These parameters, if they are in their ranges.
 fn params_of(shape: &Shape) -> Option<Params> {
     let limits = Limits::new(shape.range, shape.file, 1000)?;
-    Params::new(1000, 1000, shape.group, shape.plain, limits)
+    Params::new(1000, 1000, shape.group, shape.plain, false, limits)
 }
 
 /// What is kept of a cluster of so many numbers on one page.
@@ -114,6 +114,9 @@ fn add(
 {
     if book.torn().is_some() {
         return Ok(());
+    }
+    if book.staged() {
+        return Err(AllocError);
     }
     make_room(book)?;
     book.keeps();

@@ -127,7 +127,7 @@ module _ {X : Type 0} (tell : X → ExtState) (held : Option Held) where
 module _ {D X : Type 0} (state : D → DiskState) (tell : X → ExtState) (committer : TurnState (Birth D)) where
   abbrev Hold : ClusterMeta → PassState (Entry ClusterMeta) (Birth D) → PassState (Entry ClusterMeta) (Birth D)
       → Result (Claim X) CommitError → Type 0
-  Hold meta old new result = CommitsInHold {D = D} state {X = X} tell committer meta old new result
+  Hold meta old new result = CommitsInHold {D = D} state {X = X} false tell committer meta old new result
 
   own-grows : (meta : ClusterMeta) (old new : PassState (Entry ClusterMeta) (Birth D)) (result : Result (Claim X) CommitError)
       (h : Hold meta old new result) → new.own ≡ old.own ++ h.commits.added

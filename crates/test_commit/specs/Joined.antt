@@ -1,5 +1,5 @@
 -- A first pass to which others are joined, none of whose ranges is out.
-use Rattle.std.specs.Prelude.{◌≡◌, ℕ, ◌+◌, ◌≤◌, [], ◌∷◌, ◌++◌}
+use Rattle.std.specs.Prelude.{◌≡◌, ℕ, ◌+◌, ◌≤◌, false, [], ◌∷◌, ◌++◌}
 use Rattle.nt_turn.specs.Pass.{TurnState, PassState, JoinsSince}
 use Rattle.nt_machine.specs.declared.entry.Entry.{Entry}
 use Rattle.nt_book.specs.declared.meta.ClusterMeta.{ClusterMeta}
@@ -12,11 +12,12 @@ use Rattle.nt_commit.specs.Holds.{IsPassOf, IsFirstOf, HasNoneOut, AreAllIn}
 abbrev pub Seat : Type 0 → Type 0
 Seat D = PassState (Entry ClusterMeta) (Birth D)
 
--- so many contexts more may be let in, whose clusters have no column
+-- so many contexts more may be let in, whose clusters have no column and aren't staged
 pub record MayLetIn {D : Type 0} (committer : TurnState (Birth D)) (more : ℕ) (first : Seat D) : Type 0 where
   pub first_is : IsFirstOf committer first
   pub room : first.splits + more ≤ committer.birth.contexts
   pub columns : committer.birth.columns ≡ 0
+  pub not_staged : committer.birth.staged ≡ false
 
 -- each pass that was split off since is joined again, and if no range was out, none is
 pub record HasAllBack {D : Type 0} (committer : TurnState (Birth D)) (old new : Seat D) : Type 0 where
@@ -41,9 +42,10 @@ pub record HasLeft {D : Type 0} (committer : TurnState (Birth D)) (old pass new 
   pub kept : new.kept ≡ old.kept ++ (pass.number, pass.own) ∷ []
   pub back : AreAllIn old → AreAllIn new
 
--- a context that hasn't begun: no range of its pass is out, and its image is one of this committer
+-- a context that hasn't begun: clusters aren't staged, no range of its pass is out, and its image is one of this committer
 pub record IsReadyToWrite {D : Type 0} (committer : TurnState (Birth D)) (pass : Seat D) (image : ClusterImage) : Type 0 where
   pub of : IsPassOf committer pass
+  pub not_staged : committer.birth.staged ≡ false
   pub back : HasNoneOut pass.own
   pub image_is : IsImageFor committer.birth.columns pass.number image
 

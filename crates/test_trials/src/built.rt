@@ -20,7 +20,7 @@ use std::thread::Threads;
 /// The parameters of a file, by the most entries of a cluster and the most clusters of a group.
 pub fn groups_of(cluster: u32, group: u32) -> Option<Params> {
     let limits = Limits::new(1 << 30, 1 << 40, u32::MAX)?;
-    Params::new(cluster, 4096, group, false, limits)
+    Params::new(cluster, 4096, group, false, false, limits)
 }
 
 /// The disk of a file of this text, which was begun, filled by a context of a committer, and closed: `fill_file` is `begin` and the

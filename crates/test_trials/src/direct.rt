@@ -18,7 +18,7 @@ use std::thread::Threads;
 /// The parameters of a file, by the most entries of a cluster, and the most bytes of a range and of the file, and clusters.
 pub fn params_of(cluster: u32, range: u64, file: u64, clusters: u32) -> Option<Params> {
     let limits = Limits::new(range, file, clusters)?;
-    Params::new(cluster, 4096, 1000, false, limits)
+    Params::new(cluster, 4096, 1000, false, false, limits)
 }
 
 /// Writes the file `o` of the script `i` behind the schema `s`, and adds how that ended.

@@ -49,6 +49,7 @@ fn a_pen_that_fails_spoils_its_range_alone(rt: HostRuntime) -> Result<(), Fail> 
             assert_eq!(rt; refusals.a, None);
             assert_eq!(rt; refusals.b, None);
             assert_eq!(rt; book.clusters(), 2);
+            assert_eq!(rt; book.ranges(), 2);
             let (a, b) = if b_leads { (1, 0) } else { (0, 1) };
             assert_eq!(rt; book.state(a), RangeState::Settled);
             assert_eq!(rt; book.state(b), RangeState::Spoiled { faults: 1 });

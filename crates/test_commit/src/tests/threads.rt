@@ -1,6 +1,6 @@
 //! As many threads as there are seats.
 
-ghost use Rattle.std.specs.Prelude.{◌≡◌, ◌+◌, ◌≤◌, []};
+ghost use Rattle.std.specs.Prelude.{◌≡◌, ◌+◌, ◌≤◌, false, []};
 ghost use Rattle.std.specs.Thread.{IsSync};
 ghost use Rattle.nt_memory.specs.Disk.{state_of};
 ghost use Rattle.nt_commit.specs.Holds.{IsPassOf, HasNoneOut};
@@ -28,7 +28,7 @@ fn write_many(
 )
     requires pass { IsPassOf committer.now pass.old }
     requires back { HasNoneOut pass.old.own }
-    requires columns { committer.now.birth.columns ≡ 0 }
+    requires birth { (committer.now.birth.columns ≡ 0) × (committer.now.birth.staged ≡ false) }
     requires few { clusters ≤ 100 }
     ensures { HasNoRange committer.now pass.old.number pass.new }
 {
@@ -70,7 +70,8 @@ fn write_beside_each_other<R: Threads + Wait + Sync>(
     join_mut(
         rt,
         &mut ||
-            requires { IsSync R.row × IsPassOf committer.now pass × HasNoneOut pass.own × (committer.now.birth.columns ≡ 0) × (clusters ≤ 100) }
+            requires { IsSync R.row × IsPassOf committer.now pass × HasNoneOut pass.own
+                × ((committer.now.birth.columns ≡ 0) × (committer.now.birth.staged ≡ false)) × (clusters ≤ 100) }
             ensures { HasNoRange committer.entry.now pass.entry.number pass.exit }
         { write_many(rt, alloc, committer, &mut pass, &mut pen, clusters) },
         &mut ||
@@ -119,14 +120,18 @@ fn has_number(file: &[u8], start: u64, len: u64, context: u32) -> bool {
         .all(|byte| byte == context)
 }
 
-/// What a book tells of a cluster: its context, its start, its length, and whether its range is settled.
+/// What a book tells of a cluster and its range: its context, its start, its length, and whether it is settled.
 fn told(book: &Book, cluster: u32) -> Option<(u32, u64, u64, bool)> {
     if cluster >= book.clusters() {
         return None;
     }
+    let range = book.range_of(cluster);
+    if range >= book.ranges() {
+        return None;
+    }
     let meta = book.meta(cluster);
-    let settled = book.state(cluster) == RangeState::Settled;
-    Some((meta.context, book.start(cluster), meta.len, settled))
+    let settled = book.state(range) == RangeState::Settled;
+    Some((meta.context, book.start(range), meta.len, settled))
 }
 
 #[test]

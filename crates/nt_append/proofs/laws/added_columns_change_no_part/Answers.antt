@@ -1,4 +1,4 @@
-use Rattle.nt_append.proofs.Grown.{beside-wide, parts-wide}
+use Rattle.nt_append.proofs.Widened.{beside-wide, parts-wide}
 use Rattle.nt_append.proofs.Noted.{sizes-wide}
 use Rattle.nt_append.proofs.laws.added_columns_change_no_part.Goals as goal
 

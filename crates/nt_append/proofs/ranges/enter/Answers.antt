@@ -17,5 +17,6 @@ settle-requires c =
 pub returns : goal.returns
 returns c =
     gains c.args.book.now c.append-cluster.new.self c.settle.new.self c.args.meta.now c.append-cluster.result
-    c.append-cluster.ensures.number c.keeps.ensures.legal c.append-cluster.ensures.allowed c.append-cluster.ensures.book
+    c.append-cluster.ensures.number c.requires.not_staged c.keeps.ensures.legal c.append-cluster.ensures.allowed
+    c.append-cluster.ensures.book
     c.settle.ensures.book

@@ -15,6 +15,7 @@ overflow_mul-from c =
           c.lists.ensures,
       listed-fit c.args.header_sum c.args.params.now.group c.args.book.now c.keeps.ensures c.requires,
       c.keeps.ensures.few,
+      c.keeps.ensures.fewer,
     )
 
 pub returns-then-from-clusters-clause-ok : goal.returns-then-from-clusters-clause-ok

@@ -27,5 +27,6 @@ returns c = λ words rows.
       group = c.in-Some.ensures.numbers.2 ∙ (c.unwrap_or-group.ensures ∙ ap (λ (o : Option ℕ). unwrap_or o 1000)
           (number_by merge_app words m (codes "group") c.number_in.result rows (c.number_in.ensures 1 10000 c.requires.group).0));
       plain = c.in-Some.ensures.others.0;
-      limits = subst (AreLimitsSaid merge_app words) (sym c.in-Some.ensures.others.1) (c.limits_in.ensures merge_app words rows);
+      staged = c.in-Some.ensures.others.1;
+      limits = subst (AreLimitsSaid merge_app words) (sym c.in-Some.ensures.others.2) (c.limits_in.ensures merge_app words rows);
     }

@@ -44,5 +44,6 @@ returns c = λ a words rows.
       group = c.in-Some.ensures.numbers.2 ∙ (c.unwrap_or-group.ensures ∙ ap (λ (o : Option ℕ). unwrap_or o 1000)
           (number_by a words m (codes "group") c.number_in-3.result rows (c.number_in-3.ensures 1 10000 c.requires.group).0));
       plain = c.in-Some.ensures.others.0 ∙ flag_by a words m (codes "plain") c.flag_in-plain.result rows c.flag_in-plain.ensures;
-      limits = subst (AreLimitsSaid a words) (sym c.in-Some.ensures.others.1) (c.limits_in.ensures a words rows);
+      staged = c.in-Some.ensures.others.1;
+      limits = subst (AreLimitsSaid a words) (sym c.in-Some.ensures.others.2) (c.limits_in.ensures a words rows);
     }

@@ -32,5 +32,6 @@ returns g c =
       noted = λ t p born. noted-lists state birth disk book first closes step c.keeps.ensures t p born;
       end = end-is state birth disk book first closes step;
       out = c.finish-disk.ensures.disk.out;
-      short = short-is state birth disk book first closes step;
+      staged = step.staged;
+      short = short-is state birth disk book first closes step c.keeps.ensures;
     }

@@ -1,4 +1,4 @@
-use Rattle.std.proofs.Common.{◌≡◌, ◌∙◌, ◌≤◌, ap, sym, refl, subst, length, inl, inr, Option, Some, None, [], append-nil}
+use Rattle.std.proofs.Common.{◌≡◌, ◌∙◌, ◌≤◌, ap, sym, refl, subst, length, inl, inr, Option, Some, None, [], append-nil, false}
 use Rattle.std.proofs.lemmas.Result.{err_from_is_err_and}
 use Rattle.std.specs.Prelude.{Ok, Err}
 use Rattle.nt_pages.specs.declared.image.ClusterImage.{ClusterImage}
@@ -39,7 +39,7 @@ returns-in_err-claim-clause-refused g c =
           let same : c.in_err-claim.field-0.0 ≡ Fault = cc (p.1, p.2, is) in
           inl (
             fault_by g.D.Disk.state c.args.committer.now g.D.Ext.Ext.state c.args.image.now.meta c.args.pass.now c.commit.new.pass
-                (subst (λ (e : CommitError). CommitsInHold g.D.Disk.state g.D.Ext.Ext.state c.args.committer.now c.args.image.now.meta
+                (subst (λ (e : CommitError). CommitsInHold g.D.Disk.state false g.D.Ext.Ext.state c.args.committer.now c.args.image.now.meta
                 c.args.pass.now c.commit.new.pass (Err e)) same c.in_err-claim.ensures.commits) c.requires.image_is.context_is,
             refl,
           );

@@ -9,6 +9,7 @@ put_copy-requires g c = record {
   loadable = can-load (g.F.ReadAt.state c.args.file.now).bytes c.args.k c.listed.result.now c.schema.result.now c.in-Ok.loaded
       c.in-Ok.ensures.loaded.loaded;
   columns_are = c.requires.may.columns_are;
+  not_staged = c.requires.may.not_staged;
   end = c.requires.may.end;
 }
 

@@ -18,6 +18,7 @@ loop-k-preserved g c =
       may = record {
         columns_are = c.in-Ok.ensures.columns
             ∙ (inv.may.columns_are ∙ sym (ap (λ (b : BookData). length b.firsts) left.next.appends.gains.same));
+        not_staged = ap (λ (b : BookData). b.staged) left.next.appends.gains.same ∙ inv.may.not_staged;
         end = left.next.appends.end;
       };
       same = c.in-Ok.ensures.served.same ∙ inv.same;

@@ -1,6 +1,7 @@
 use Rattle.std.proofs.Common.{◌∙◌, ap, sym, refl, length, arith}
 use Rattle.nt_book.specs.declared.meta.ClusterMeta.{ClusterMeta}
 use Rattle.nt_append.specs.Appending.{range_behind}
+use Rattle.nt_pagelists.proofs.Named.{clusters-unstaged}
 use Rattle.nt_merge.proofs.Left.{lists-copied, same-limit, after-refusal}
 use Rattle.nt_merge.proofs.copying.put_copy.Goals as goal
 
@@ -18,6 +19,7 @@ append_image-requires g c =
             ∙ (lists-copied c.args.loaded.now c.args.target.now.columns c.args.entries ∙ c.requires.columns_are);
         paged = made.paged;
       };
+      not_staged = c.requires.not_staged;
       end = c.requires.end;
     }
 
@@ -41,7 +43,7 @@ returns-in-Ok-append_image-clause-left g c =
         parts = λ t most ranges beside long.
             laws.parts t most image.meta old new ranges (range_behind image old) c.keeps.ensures c.keeps-in-Ok-append_image.ensures
             beside appends.gains
-            long;
+            (long ∙ ap length (clusters-unstaged old c.requires.not_staged));
       };
     }
 

@@ -5,6 +5,7 @@ use Rattle.nt_book.specs.declared.meta.PageMeta.{PageMeta}
 use Rattle.nt_book.specs.Books.{cluster_at}
 use Rattle.nt_pagelists.specs.Writing.{column_list_text}
 use Rattle.nt_pagelists.specs.Books.{listed_column}
+use Rattle.nt_pagelists.proofs.Named.{range-there, starts-there}
 use Rattle.nt_meta.proofs.Appended.{counted-next, column-is}
 use Rattle.nt_meta.proofs.BookFacts.{few_pages, low_pages}
 use Rattle.nt_meta.proofs.writing_columns.put_columns.Goals as goal
@@ -26,7 +27,9 @@ put_column-requires-clause-low c =
     c.index-lists-column.result [] c.index-lists-column.is c.loop-column-test.true refl
     ∙ ap (λ (l : List (List PageMeta)). slice_index_or l c.loop-column.column []) c.requires.lists) in
     low_pages _ c.loop-column.column (c.start-payload.result + 42) k c.as_slice.result.now
-    (c.keeps.ensures.clusters c.args.cluster c.requires.inside) (ap (λ (n : ℕ). n + 42) c.start-payload.ensures) is
+    (c.keeps.ensures.clusters c.args.cluster c.requires.inside)
+    (ap (λ (n : ℕ). n + 42) (c.start-payload.ensures ∙ starts-there c.args.book.now c.keeps.ensures c.args.cluster
+    c.range_of.result c.requires.inside c.range_of.ensures)) is
 
 pub loop-column-preserved : goal.loop-column-preserved
 loop-column-preserved c =
@@ -39,4 +42,9 @@ loop-column-preserved c =
     c.loop-column.out c.put_column.new.out _ c.loop-column-test.true
     (column-is c.args.book.now c.args.cluster c.loop-column.column (c.start-payload.result + 42) c.offset-offset.result
     c.as_slice.result.now c.loop-column.out c.put_column.new.out
-    c.offset-offset.ensures (ap (λ (n : ℕ). n + 42) c.start-payload.ensures) is c.in_ok-put_column.ensures) c.loop-column.invariant
+    c.offset-offset.ensures (ap (λ (n : ℕ). n + 42) (c.start-payload.ensures ∙ starts-there c.args.book.now c.keeps.ensures c.args.cluster
+    c.range_of.result c.requires.inside c.range_of.ensures)) is c.in_ok-put_column.ensures) c.loop-column.invariant
+
+pub start-payload-requires : goal.start-payload-requires
+start-payload-requires c =
+    range-there c.args.book.now c.keeps.ensures c.args.cluster c.range_of.result c.requires.inside c.range_of.ensures

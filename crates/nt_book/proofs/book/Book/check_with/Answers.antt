@@ -2,7 +2,7 @@ use Rattle.std.proofs.Common.{◌∙◌, ◌≡◌, ap, sym, arith, true, false,
 use Rattle.std.proofs.lemmas.Bool.{eq-eqb}
 use Rattle.nt_book.specs.Books.{BookData, book_end}
 use Rattle.nt_book.proofs.Fitting.{limit_error_with-fits}
-use Rattle.nt_book.proofs.Kept.{limit_with-book, end-book}
+use Rattle.nt_book.proofs.Telling.{limit_with-book, end-book}
 use Rattle.nt_machine.proofs.Histories.{not-eqb}
 use Rattle.nt_book.proofs.book.Book.check_with.Goals as goal
 

@@ -4,7 +4,7 @@ use Rattle.nt_book.specs.declared.list.NotedList.{NotedList}
 use Rattle.nt_book.specs.Books.{BookData, book_end}
 use Rattle.nt_book.specs.Keeping.{KeepsLists}
 use Rattle.nt_book.specs.Listing.{is_due_after}
-use Rattle.nt_book.proofs.Kept.{due-book, end-book}
+use Rattle.nt_book.proofs.Telling.{due-book, end-book}
 use Rattle.nt_book.proofs.Noted.{IsCounted-later, KeepsLists-noted}
 use Rattle.nt_book.proofs.book.Book.note_list.Goals as goal
 
@@ -12,8 +12,10 @@ pub push_reserved-requires : goal.push_reserved-requires
 push_reserved-requires c =
     let h = c.self.invariant.0 in
     let told = ap (λ (b : BookData). b.history) c.self.view_is in
+    let kept = c.self.invariant.5 in
+    let stages = ap (λ (b : BookData). b.staged) c.self.view_is in
     let due : is_due_after c.self.inside.group c.self.inside.lists.items c.self.inside.torn (length c.self.inside.rows.items) ≡ true =
-    sym (due-book _ _ _ h c.args.self.now told _ _ _ (sym (ap (λ (b : BookData). b.group) c.self.view_is))
+    sym (due-book _ _ _ h c.args.self.now told _ _ _ _ kept stages _ _ (sym (ap (λ (b : BookData). b.group) c.self.view_is))
     (sym (ap (λ (b : BookData). b.lists) c.self.view_is)) (sym (ap (λ (b : BookData). b.torn) c.self.view_is))) ∙ c.requires.due in
     omega (
       arith,
@@ -25,8 +27,10 @@ pub invariant_of-self : goal.invariant_of-self
 invariant_of-self c =
     let h = c.self.invariant.0 in
     let told = ap (λ (b : BookData). b.history) c.self.view_is in
+    let kept = c.self.invariant.5 in
+    let stages = ap (λ (b : BookData). b.staged) c.self.view_is in
     let due : is_due_after c.self.inside.group c.self.inside.lists.items c.self.inside.torn (length c.self.inside.rows.items) ≡ true =
-    sym (due-book _ _ _ h c.args.self.now told _ _ _ (sym (ap (λ (b : BookData). b.group) c.self.view_is))
+    sym (due-book _ _ _ h c.args.self.now told _ _ _ _ kept stages _ _ (sym (ap (λ (b : BookData). b.group) c.self.view_is))
     (sym (ap (λ (b : BookData). b.lists) c.self.view_is)) (sym (ap (λ (b : BookData). b.torn) c.self.view_is))) ∙ c.requires.due in
     let ends : book_end c.args.self.now ≡ c.self.inside.end =
     end-book _ _ _ h c.args.self.now told _ _ (sym (ap (λ (b : BookData). b.begin) c.self.view_is))
@@ -38,7 +42,7 @@ invariant_of-self c =
     let count : c.len-self-inside.result ≡ length i.rows.items = omega (arith, c.len-self-inside.ensures, i.rows.ok) in
     let limits = ap (λ (b : BookData). b.limits.file) c.self.view_is in (
       h,
-      IsCounted-later _ _ _ _ _ _ _ _ (omega arith) (omega (arith, c.requires.fits, ends, limits, i.limits.file_bound))
+      IsCounted-later _ _ _ _ _ _ _ (omega arith) (omega (arith, c.requires.fits, ends, limits, i.limits.file_bound))
           c.self.invariant.1,
       c.self.invariant.2,
       c.self.invariant.3,
@@ -47,4 +51,6 @@ invariant_of-self c =
           (subst (λ (ls : List NotedList). KeepsLists i.begin (i.end + c.args.len) i.spare i.group ls i.torn (length i.rows.items) space
           i.rows.items) (sym c.push_reserved.ensures.items)
           (KeepsLists-noted _ _ _ _ _ _ _ _ _ c.self.invariant.4 due l space)),
+      c.self.invariant.5,
+      c.self.invariant.6,
     )

@@ -1,24 +1,22 @@
-use Rattle.std.proofs.Common.{◌≡◌, ap, sym, subst, refl, arith, rules, None, false, ◌<◌, ◌≤◌, [], length}
-use Rattle.nt_book.specs.Books.{book_clusters, book_end, is_due}
+use Rattle.std.proofs.Common.{◌≡◌, ap, sym, subst, refl, arith, rules, None, ◌≤◌, [], length}
+use Rattle.nt_book.specs.Books.{book_ranges, book_end}
 use Rattle.nt_book.specs.Limiting.{limit_error}
+use Rattle.nt_commit.specs.Appending.{FitsCluster}
 use Rattle.nt_commit.proofs.Standing.{range_fits, new_claim}
 use Rattle.nt_commit.proofs.Stepping.{same_history}
-use Rattle.nt_commit.proofs.Entering.{faulted, committed}
+use Rattle.nt_commit.proofs.Entering.{faulted, entered}
 use Rattle.nt_commit.proofs.Owned.{step_from, appends_from}
 use Rattle.nt_commit.proofs.locked.Locked.append_cluster.Goals as goal
 
 pub reserve-requires : goal.reserve-requires
 reserve-requires g c =
     range_fits g.D.Disk.state _ _ _ _ c.self.invariant c.args.meta.now.len
-    (subst (λ v. limit_error v.book.limits (book_end v.book) (length (book_clusters v.book)) c.args.meta.now.len ≡ None)
+    (subst (λ v. limit_error v.book.limits (book_end v.book) (length (book_ranges v.book)) c.args.meta.now.len ≡ None)
     (sym c.self.view_is) c.requires.fits.limits)
 
-pub append-cluster-requires : goal.append-cluster-requires
-append-cluster-requires g c = record {
-  limits = subst (λ v. limit_error v.book.limits (book_end v.book) (length (book_clusters v.book)) c.args.meta.now.len ≡ None)
-      (sym c.self.view_is) c.requires.fits.limits;
-  spare = subst (λ v. 0 < v.book.spare) (sym c.self.view_is) c.requires.fits.spare;
-  not_due = subst (λ v. is_due v.book ≡ false) (sym c.self.view_is) c.requires.fits.not_due;
+pub enter-cluster-requires : goal.enter-cluster-requires
+enter-cluster-requires g c = record {
+  fits = subst (λ v. FitsCluster v.book c.args.meta.now) (sym c.self.view_is) c.requires.fits;
   lists = search rules;
   paged = search rules;
 }
@@ -28,16 +26,17 @@ invariant_of-self g c =
     let reserved = c.in-Ok.ensures.reserves in
     let context : c.args.meta.now.context ≤ c.self.inside.contexts =
     omega (arith, ap (λ v. v.birth.contexts) c.self.view_is, c.requires.meta.context) in
-    let limits = subst (λ v. limit_error v.book.limits (book_end v.book) (length (book_clusters v.book)) c.args.meta.now.len ≡ None)
+    let limits = subst (λ v. limit_error v.book.limits (book_end v.book) (length (book_ranges v.book)) c.args.meta.now.len ≡ None)
     (sym c.self.view_is) c.requires.fits.limits in
-    (committed g.D.Disk.state _ _ _ _ c.self.invariant _ _ c.keeps.ensures c.append-cluster.result _ c.args.meta.now
-    c.append-cluster.ensures.book c.append-cluster.ensures.number c.append-cluster.ensures.allowed.1 limits
+    (entered g.D.Disk.state _ _ _ _ c.self.invariant _ _ c.keeps.ensures _ c.enter-cluster.result _ c.args.meta.now
+    c.enter-cluster.ensures.book c.enter-cluster.ensures.number c.enter-cluster.ensures.behind limits
     context c.requires.meta.room reserved.ok reserved.end reserved.out reserved.cause.later).0.after
 
 pub invariant_of-self-in-Err-Memory : goal.invariant_of-self-in-Err-Memory
 invariant_of-self-in-Err-Memory g c =
     let reserved = c.in-Err-Memory.ensures.reserves in
-    (same_history g.D.Disk.state _ _ _ _ c.self.invariant _ _ c.self.inside.book.spare refl reserved.err reserved.cause.later).0.after
+    (same_history g.D.Disk.state _ _ _ _ c.self.invariant _ _ c.self.inside.book.spare {ready = c.self.inside.book.ready}
+    refl reserved.err reserved.cause.later).0.after
 
 pub invariant_of-self-in-Err-Failed : goal.invariant_of-self-in-Err-Failed
 invariant_of-self-in-Err-Failed g c =
@@ -53,11 +52,11 @@ returns-in-Ok-clause-step g c =
     let reserved = c.in-Ok.ensures.reserves in
     let context : c.args.meta.now.context ≤ c.self.inside.contexts =
     omega (arith, ap (λ v. v.birth.contexts) c.self.view_is, c.requires.meta.context) in
-    let limits = subst (λ v. limit_error v.book.limits (book_end v.book) (length (book_clusters v.book)) c.args.meta.now.len ≡ None)
+    let limits = subst (λ v. limit_error v.book.limits (book_end v.book) (length (book_ranges v.book)) c.args.meta.now.len ≡ None)
     (sym c.self.view_is) c.requires.fits.limits in
     step_from g.D.Disk.state _ _ _ c.self.view_is
-    (committed g.D.Disk.state _ _ _ _ c.self.invariant _ _ c.keeps.ensures c.append-cluster.result _ c.args.meta.now
-    c.append-cluster.ensures.book c.append-cluster.ensures.number c.append-cluster.ensures.allowed.1 limits
+    (entered g.D.Disk.state _ _ _ _ c.self.invariant _ _ c.keeps.ensures _ c.enter-cluster.result _ c.args.meta.now
+    c.enter-cluster.ensures.book c.enter-cluster.ensures.number c.enter-cluster.ensures.behind limits
     context c.requires.meta.room reserved.ok reserved.end reserved.out reserved.cause.later).0
 
 pub returns-in-Ok-clause-appends : goal.returns-in-Ok-clause-appends
@@ -65,16 +64,16 @@ returns-in-Ok-clause-appends g c =
     let reserved = c.in-Ok.ensures.reserves in
     let context : c.args.meta.now.context ≤ c.self.inside.contexts =
     omega (arith, ap (λ v. v.birth.contexts) c.self.view_is, c.requires.meta.context) in
-    let limits = subst (λ v. limit_error v.book.limits (book_end v.book) (length (book_clusters v.book)) c.args.meta.now.len ≡ None)
+    let limits = subst (λ v. limit_error v.book.limits (book_end v.book) (length (book_ranges v.book)) c.args.meta.now.len ≡ None)
     (sym c.self.view_is) c.requires.fits.limits in
     appends_from g.D.Disk.state _ _ _ c.self.view_is g.D.Ext.Ext.state c.args.meta.now _ (record {
       added = _;
-      grows = (committed g.D.Disk.state _ _ _ _ c.self.invariant _ _ c.keeps.ensures c.append-cluster.result _ c.args.meta.now
-          c.append-cluster.ensures.book c.append-cluster.ensures.number c.append-cluster.ensures.allowed.1 limits
+      grows = (entered g.D.Disk.state _ _ _ _ c.self.invariant _ _ c.keeps.ensures _ c.enter-cluster.result _ c.args.meta.now
+          c.enter-cluster.ensures.book c.enter-cluster.ensures.number c.enter-cluster.ensures.behind limits
           context c.requires.meta.room reserved.ok reserved.end reserved.out reserved.cause.later).1;
       adds = (
-        new_claim g.D.Disk.state _ _ _ _ c.self.invariant g.D.Ext.Ext.state c.append-cluster.result c.args.meta.now.len _
-            c.append-cluster.ensures.number c.in-Ok.ensures.new,
+        new_claim g.D.Disk.state _ _ _ _ c.self.invariant g.D.Ext.Ext.state c.enter-cluster.result c.args.meta.now.len _
+            c.enter-cluster.ensures.number c.in-Ok.ensures.new,
         refl,
       );
       passes_none = refl;
@@ -84,14 +83,16 @@ pub returns-in-Err-Memory-clause-step : goal.returns-in-Err-Memory-clause-step
 returns-in-Err-Memory-clause-step g c =
     let reserved = c.in-Err-Memory.ensures.reserves in
     step_from g.D.Disk.state _ _ _ c.self.view_is
-    (same_history g.D.Disk.state _ _ _ _ c.self.invariant _ _ c.self.inside.book.spare refl reserved.err reserved.cause.later).0
+    (same_history g.D.Disk.state _ _ _ _ c.self.invariant _ _ c.self.inside.book.spare {ready = c.self.inside.book.ready}
+    refl reserved.err reserved.cause.later).0
 
 pub returns-in-Err-Memory-clause-appends : goal.returns-in-Err-Memory-clause-appends
 returns-in-Err-Memory-clause-appends g c =
     let reserved = c.in-Err-Memory.ensures.reserves in
     appends_from g.D.Disk.state _ _ _ c.self.view_is g.D.Ext.Ext.state c.args.meta.now _ (record {
       added = [];
-      grows = (same_history g.D.Disk.state _ _ _ _ c.self.invariant _ _ c.self.inside.book.spare refl reserved.err reserved.cause.later).1;
+      grows = (same_history g.D.Disk.state _ _ _ _ c.self.invariant _ _ c.self.inside.book.spare
+          {ready = c.self.inside.book.ready} refl reserved.err reserved.cause.later).1;
       adds = refl;
       passes_none = refl;
     })

@@ -10,8 +10,9 @@ empty_columns-requires g c = described_known _ _ c.requires.schema
 
 pub invariant_of-result : goal.invariant_of-result
 invariant_of-result g c = record {
-  of = c.requires.pass;
-  none_out = subst (λ (l : List (Entry ClusterMeta)). HasNoneOut l) (sym c.requires.unused) tt;
+  of = c.requires.pass.of;
+  not_staged = c.requires.pass.not_staged;
+  none_out = subst (λ (l : List (Entry ClusterMeta)). HasNoneOut l) (sym c.requires.pass.unused) tt;
   count = c.requires.schema.count;
   some = described_some c.described_fields_are_open.ensures _ c.args.schema.now c.requires.schema;
   gives = c.in-Ok.ensures;

@@ -36,6 +36,7 @@ invariant_of-self-2 g c =
     let more : suc n ≡ n + 1 = omega arith in
     record {
       of = c.self.invariant.of;
+      not_staged = c.self.invariant.not_staged;
       none_out = c.self.invariant.none_out;
       count = c.self.invariant.count;
       some = c.self.invariant.some;

@@ -25,6 +25,7 @@ write_image-requires g c =
     ∙ ap (λ (m : ℕ). cluster_meta page number m columns) (sym (entries_count t columns n))) in
     record {
       of = c.self.invariant.of;
+      not_staged = c.self.invariant.not_staged;
       none_out = c.self.invariant.none_out;
       alive = subst (λ s. IsSome s.pen) (sym c.self.view_is) c.requires.alive;
       image_is = image_for t columns (entries_given t columns n) c.self.invariant.gives page number
@@ -82,6 +83,7 @@ invariant_of-self-2 g c =
     let t = c.self.inside.schema.now in
     record {
       of = c.in_ok-write_image.ensures.pass.0;
+      not_staged = c.self.invariant.not_staged;
       none_out = c.in_ok-write_image.ensures.pass.1;
       count = c.self.invariant.count;
       some = c.self.invariant.some;

@@ -1,7 +1,10 @@
-use Rattle.std.proofs.Common.{◌≡◌, ◌∙◌, sym, subst, true}
-use Rattle.nt_book.specs.Books.{book_clusters}
+use Rattle.std.proofs.Common.{◌≡◌, ◌∙◌, sym, subst, true, Bool}
+use Rattle.std.specs.List.{AllByRecursion}
+use Rattle.nt_machine.specs.History.{clusters_of}
+use Rattle.nt_book.specs.Books.{book_clusters, book_ranges}
 use Rattle.nt_seq.proofs.Blobs.{late-length, late-entries}
 use Rattle.nt_seq.proofs.Closed.{none-spoiled, left-open, left-whole}
+use Rattle.nt_seq.specs.Standing.{IsSettledCluster}
 use Rattle.nt_seq.proofs.writer.SeqWriter.close.Goals as goal
 
 pub returns-in-Ok-clause-counts : goal.returns-in-Ok-clause-counts
@@ -27,7 +30,11 @@ returns-clause-cause g c =
     let alive = subst (λ s. s.alive ≡ true) (sym c.self.view_is) c.requires.alive in
     let was = c.self.invariant.writing alive in
     rw (← c.self.view_is) (record {
-      undamaged = record { unspoiled = none-spoiled (book_clusters c.self.inside.book) was.settled; untorn = was.untorn };
+      undamaged = record {
+        unspoiled = none-spoiled (book_ranges c.self.inside.book) (subst (λ (b : Bool). AllByRecursion IsSettledCluster (clusters_of b
+            c.self.inside.book.history)) was.not_staged was.settled);
+        untorn = was.untorn;
+      };
       cause = c.in-Err.ensures.closes.cause;
     })
 

@@ -30,6 +30,7 @@ widen-requires g c =
     let more = more-columns t field plain count new c.in-Ok.ensures.1 in
     let firsts = sym (length-map t.columns (λ (r : ColumnRow). r.first)) ∙ ap length was.firsts in
     record {
+      not_staged = was.not_staged;
       known = all-known t field plain count new c.in-Ok.ensures.1 (columns_of c.self.inside.columns) was.gives.set.described;
       inside = omega (arith, more, before);
       late = subst (λ (k : ℕ). AreLateFirsts (entry_count (book_clusters c.self.inside.book)) (first_elements (drop k new.columns)))

@@ -20,6 +20,7 @@ append_next-requires g c =
     let alive = subst (λ s. s.alive ≡ true) (sym c.self.view_is) c.requires.alive in
     let was = c.self.invariant.writing alive in
     record {
+      not_staged = was.not_staged;
       image_is = image-fits g.D.Disk.state _ was c.in_ok-image.image c.in_ok-image.ensures.bytes c.in_ok-image.ensures.meta
           (c.columns_have_types.ensures c.self.inside.schema);
       end = was.closable.end;
