@@ -1,6 +1,6 @@
 //! The command `write`: a schema text and event texts in, one file out.
 
-ghost use Rattle.std.specs.Prelude.{◌≡◌, ◌<◌, ◌≤◌, length};
+ghost use Rattle.std.specs.Prelude.{◌≡◌, ◌<◌, ◌≤◌, false, length};
 ghost use Rattle.nt_book.specs.Ranges.{IsFromTo};
 ghost use Rattle.nt_command_line.specs.Commands.{names_of};
 ghost use Rattle.nt_app.specs.Writes.{status_of_store, WritesNamed};
@@ -53,6 +53,7 @@ where
     G: Gate + Sync,
     requires inputs { IsFromTo 1 64 (length (names_of words.now.inputs.items)) }
     requires contexts { (0 < words.now.contexts) × (words.now.contexts ≤ 64) }
+    requires unstaged { words.now.params.staged ≡ false }
     ensures { WritesNamed words.now.out.now words.now.schema.now (names_of words.now.inputs.items) words.now.params
         (H.state host.old) (H.state host.new) result }
 {

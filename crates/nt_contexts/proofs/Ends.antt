@@ -1,5 +1,5 @@
 -- What a seat has once its context ran.
-use Rattle.std.proofs.Common.{◌≡◌, ◌⊎◌, ℕ, ◌<◌, ◌≤◌, Bool, List, [], Option, Some, None, Result, Ok, Err, refl, sym, ap, ◌∙◌, subst}
+use Rattle.std.proofs.Common.{◌≡◌, ◌⊎◌, ℕ, ◌<◌, ◌≤◌, Bool, false, List, [], Option, Some, None, Result, Ok, Err, refl, sym, ap, ◌∙◌, subst}
 use Rattle.std.proofs.Common.{append-nil, length, take, arith}
 use Rattle.std.proofs.lemmas.List.{take_all}
 use Rattle.nt_lists.specs.Chunks.{chunks}
@@ -204,15 +204,26 @@ unbegun {D = D} {P = P} state source fields t p committer old new pass was_there
 }
 
 -- a context that has gathered nothing
-abbrev pub new_context : {D P : Type 0} → TurnState (Birth D) → Table → ℕ → ℕ → DiskPass D → P → List Column → DiskContext D P
-new_context committer t cluster page pass pen columns =
-    record { committer = committer; table = t; cluster = cluster; page = page; pass = pass; pen = Some pen; columns = columns; entries = 0 }
+abbrev pub new_context : {D P : Type 0} → TurnState (Birth D) → Table → ℕ → ℕ → Bool → DiskPass D → P → List Column → DiskContext D P
+new_context committer t cluster page staged pass pen columns =
+    record {
+      committer = committer;
+      table = t;
+      cluster = cluster;
+      page = page;
+      staged = staged;
+      pass = pass;
+      pen = Some pen;
+      columns = columns;
+      entries = 0;
+    }
 
-module _ {D P : Type 0} (committer : TurnState (Birth D)) (t : Table) (cluster page : ℕ) (pass : DiskPass D) (pen : P) (c : DiskContext D P)
-    (is : c ≡ new_context committer t cluster page pass pen c.columns) where
-  new_open : 0 < cluster → IsOpen c
-  new_open some =
-      let there : IsOpen (new_context committer t cluster page pass pen c.columns) = record { alive = refl; room = some } in
+module _ {D P : Type 0} (committer : TurnState (Birth D)) (t : Table) (cluster page : ℕ) (staged : Bool) (pass : DiskPass D) (pen : P)
+    (c : DiskContext D P) (is : c ≡ new_context committer t cluster page staged pass pen c.columns) where
+  new_open : 0 < cluster → staged ≡ false → IsOpen c
+  new_open some unstaged =
+      let there : IsOpen (new_context committer t cluster page staged pass pen c.columns) =
+      record { alive = refl; unstaged = unstaged; room = some } in
       subst (λ (d : DiskContext D P). IsOpen d) (sym is) there
 
   pub new_for : (fields : List MemberData) (plain : Bool) → AreFields fields → Rows fields plain t → IsFor fields c
@@ -222,9 +233,9 @@ module _ {D P : Type 0} (committer : TurnState (Birth D)) (t : Table) (cluster p
     rows = subst (λ (s : Table). Rows fields plain s) (sym (ap (λ (d : DiskContext D P). d.table) is)) rows;
   }
 
-  pub new_start : (lines : LinesState) → 0 < cluster → pass.own ≡ [] → lines.number ≡ 0 → IsAtStart lines c
-  new_start lines some unused first = record {
-    is_open = new_open some;
+  pub new_start : (lines : LinesState) → 0 < cluster → staged ≡ false → pass.own ≡ [] → lines.number ≡ 0 → IsAtStart lines c
+  new_start lines some unstaged unused first = record {
+    is_open = new_open some unstaged;
     unused = ap (λ (d : DiskContext D P). d.pass.own) is ∙ unused;
     empty = ap (λ (d : DiskContext D P). gathered d) is;
     first = first;

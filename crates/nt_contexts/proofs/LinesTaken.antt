@@ -54,10 +54,10 @@ module _ {D P : Type 0} (state : D → DiskState) where
       ∙ (chunks-full old.cluster (omega arith) taken.full (gathered old) taken.sizes
       ∙ ap (λ (l : List (List TreesData)). taken.full ++ l) (chunks-last old.cluster (omega arith) (gathered old) some few))
 
-  pub rest_written : (entries : List TreesData) (old new : DiskContext D P) (result : Result Unit ContextError) → 0 < length (gathered old)
-      → length (gathered old) ≤ old.cluster → HasTaken state entries old → WritesChunk state old new result
+  pub rest_written : (entries : List TreesData) (old new : DiskContext D P) (result : Result Unit ContextError) → old.staged ≡ false
+      → 0 < length (gathered old) → length (gathered old) ≤ old.cluster → HasTaken state entries old → WritesChunk state old new result
       → WritesRest state entries old new result
-  rest_written entries old new (Ok done) some few taken writes =
+  rest_written entries old new (Ok done) unstaged some few taken writes =
       let i = old.pass.number in
       let g : List TreesData = gathered old in
       let held = held_before state old in
@@ -74,10 +74,10 @@ module _ {D P : Type 0} (state : D → DiskState) where
             (committed_written state old new writes taken.full taken.committed);
       } in (
         subst (λ (c : DiskContext D P). HasWrittenAll state entries c) (sym
-            (is_written state old new writes)) there,
+            (is_written state old new unstaged writes)) there,
         same_context state old new writes,
       )
-  rest_written entries old new (Err error) some few taken writes =
+  rest_written entries old new (Err error) unstaged some few taken writes =
       subst (λ (l : List (List TreesData)). Halts state (λ chunk. Unit {0}) l old new error) (sym (last_chunk entries old some few taken))
       (halts-such state (λ chunk. chunk ≡ gathered old) (λ chunk. Unit {0}) (taken.full ++ gathered old ∷ []) old new error (λ chunk is. tt)
       (writes taken.full [] taken.committed))

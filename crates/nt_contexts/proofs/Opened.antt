@@ -55,6 +55,7 @@ module _ {D : Type 0} (state : D → DiskState) (fields : List MemberData) (t : 
           rows = ready.rows;
           columns = sym (columns ∙ (ap (λ (l : List ℕ). length l) firsts ∙ length-replicate (length t.columns) 0));
           not_staged = unstaged;
+          unstaged = ready.unstaged;
         };
         some = omega (arith, ready.some);
         few = ready.few;

@@ -1,5 +1,5 @@
 -- What a context has done with the entries that it took.
-use Rattle.std.specs.Prelude.{◌≡◌, ℕ, ◌<◌, Bool, List, [], ◌++◌, map, length, Option, Some, IsSome, slice_get}
+use Rattle.std.specs.Prelude.{◌≡◌, ℕ, ◌<◌, Bool, false, List, [], ◌++◌, map, length, Option, Some, IsSome, slice_get}
 use Rattle.std.specs.List.{AllByRecursion, flat_map}
 use Rattle.nt_types.specs.ShapeData.{MemberData}
 use Rattle.nt_types.specs.TreeData.{TreesData}
@@ -49,9 +49,10 @@ module _ {D P : Type 0} where
     pub page : new.page ≡ old.page
     pub number : new.pass.number ≡ old.pass.number
 
-  -- the context is alive, and has no whole cluster
+  -- the context is alive, and has no whole cluster; its clusters aren't staged
   pub record IsOpen (c : DiskContext D P) : Type 0 where
     pub alive : IsSome c.pen
+    pub unstaged : c.staged ≡ false
     pub room : length (gathered c) < c.cluster
 
   -- the context is open, and has neither read nor written anything

@@ -58,7 +58,7 @@ module _ {D : Type 0} (committer : TurnState (Birth D)) where
 
   -- contexts may come in, of these fields: at least one, and no more than the committer takes
   pub record MayWork (fields : List MemberData) (t : Table) (p : Params) (sources : ℕ) (first : DiskPass D) : Type 0 where
-    pub schema : IsSchemaFor committer fields p.plain t
+    pub schema : IsSchemaFor committer fields p t
     pub some : 0 < sources
     pub few : sources ≤ 64
     pub seated : sources ≤ committer.birth.contexts
@@ -125,7 +125,7 @@ module _ {D : Type 0} (committer : TurnState (Birth D)) where
       -- contexts in their seats may run: there are some, all fresh, no more than the committer takes, and of these fields
       pub record CanRun (fields : List MemberData) (t : Table) (p : Params) (seats : List (Seat S (DiskPass D) P)) (first : DiskPass D)
           : Type 0 where
-        pub schema : IsSchemaFor committer fields p.plain t
+        pub schema : IsSchemaFor committer fields p t
         pub some : 0 < length seats
         pub few : length seats ≤ 64
         pub seated : length seats ≤ committer.birth.contexts

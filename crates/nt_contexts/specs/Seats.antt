@@ -1,5 +1,5 @@
 -- The seat of a context, before and after it ran.
-use Rattle.std.specs.Prelude.{⊤, ◌≡◌, ◌⊎◌, ◌≤◌, ℕ, Bool, false, List, [], length, take, Some, None, IsSome, Result, Ok, Err}
+use Rattle.std.specs.Prelude.{⊤, ◌≡◌, ◌⊎◌, ◌≤◌, ℕ, false, List, [], length, take, Some, None, IsSome, Result, Ok, Err}
 use Rattle.nt_types.specs.ShapeData.{MemberData}
 use Rattle.nt_types.specs.TreeData.{TreesData}
 use Rattle.nt_types.specs.Rules.{AreFields}
@@ -32,11 +32,12 @@ DiskPass D = PassState (Entry ClusterMeta) (Birth D)
 
 -- a schema of these fields, which keep the rules of a schema text, with as many columns as the committer's clusters have, which aren't
 -- staged
-pub record IsSchemaFor {D : Type 0} (committer : TurnState (Birth D)) (fields : List MemberData) (plain : Bool) (t : Table) : Type 0 where
+pub record IsSchemaFor {D : Type 0} (committer : TurnState (Birth D)) (fields : List MemberData) (p : Params) (t : Table) : Type 0 where
   pub rules : AreFields fields
-  pub rows : Rows fields plain t
+  pub rows : Rows fields p.plain t
   pub columns : length t.columns ≡ committer.birth.columns
   pub not_staged : committer.birth.staged ≡ false
+  pub unstaged : p.staged ≡ false
 
 module _ {D S P : Type 0} where
   -- a context that has read and written nothing, with a pass of the committer and a pen

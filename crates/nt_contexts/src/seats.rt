@@ -50,7 +50,7 @@ impl<'a, D: Disk, S: Source, G: Gate> Job for Context<'a, Committer<D>, SeatOf<D
 
     ghost number = { λ j. j.number };
 
-    ghost ready = { λ j. IsSchemaFor j.committer.now (members_view j.shared.now.fields.now) j.shared.now.params.now.plain
+    ghost ready = { λ j. IsSchemaFor j.committer.now (members_view j.shared.now.fields.now) j.shared.now.params.now
         j.shared.now.schema.now × IsFreshSeat S.state j.committer.now j.seat };
 
     ghost does = { λ j d. Ran D.state S.state (members_view j.shared.now.fields.now) j.shared.now.schema.now j.shared.now.params.now
@@ -162,7 +162,7 @@ where
     D::Ext: Send,
     D::Pen: Send,
     requires numbers { (vec_len seats ≤ 64) × (0 < shared.now.workers) × (shared.now.workers ≤ 64) }
-    requires schema { IsSchemaFor committer.now (members_view shared.now.fields.now) shared.now.params.now.plain shared.now.schema.now }
+    requires schema { IsSchemaFor committer.now (members_view shared.now.fields.now) shared.now.params.now shared.now.schema.now }
     requires fresh { All (IsFreshSeat S.state committer.now) seats.items }
     ensures ok { IfOk result (λ new. (vec_len new ≡ vec_len seats) × ((i : ℕ) (d : _) → i < vec_len seats
         → Ran D.state S.state (members_view shared.now.fields.now) shared.now.schema.now shared.now.params.now committer.now

@@ -1,6 +1,7 @@
 -- What a pass knows after its holds of the turn.
-use Rattle.std.proofs.Common.{◌≡◌, ◌∙◌, ap, sym, refl, ℕ, ◌+◌, ◌-◌, ◌≤◌, true, List, [], ◌∷◌, ◌++◌, length, drop, Option, Some, None, subst}
-use Rattle.std.proofs.Common.{append-nil, arith, inl, inr, false}
+use Rattle.std.proofs.Common.{◌≡◌, ◌∙◌, ap, sym, refl, ℕ, ◌+◌, ◌-◌, ◌≤◌, Bool, true, List, [], ◌∷◌, ◌++◌, length, drop, Option}
+use Rattle.std.proofs.Common.{Some, None, subst}
+use Rattle.std.proofs.Common.{append-nil, arith, inl, inr}
 use Rattle.std.proofs.lemmas.Bool.{false≢true}
 use Rattle.std.proofs.lemmas.List.{length-append, length-drop}
 use Rattle.std.specs.Prelude.{◌≢◌, Result, Ok, Err, OnOk, is_ok, slice_get}
@@ -17,7 +18,7 @@ use Rattle.nt_container.proofs.Lengths.{blob_key-len}
 use Rattle.nt_machine.specs.declared.entry.Entry.{Entry}
 use Rattle.nt_machine.specs.History.{Cluster, ranges_of}
 use Rattle.nt_book.specs.declared.meta.ClusterMeta.{ClusterMeta}
-use Rattle.nt_book.specs.Entries.{committed_entry, committed_by, spoiled_entry, faulted_entry}
+use Rattle.nt_book.specs.Entries.{spoiled_entry, faulted_entry}
 use Rattle.nt_book.specs.declared.limits.LimitError.{LimitError}
 use Rattle.nt_pages.specs.declared.image.ClusterImage.{ClusterImage}
 use Rattle.nt_pages.specs.Image.{key_room}
@@ -27,12 +28,12 @@ use Rattle.nt_commit.specs.declared.claim.Claim.{Claim}
 use Rattle.nt_commit.specs.declared.error.CommitError.{CommitError}
 use Rattle.nt_commit.specs.declared.error.CommitError.TheVariants.{RangeTooLarge, FileTooLarge, TooManyClusters, Memory, Fault}
 use Rattle.nt_commit.specs.Claims.{HasLooked, IsClaimOf, RefusalAdds, CommitAdds, limit_answered, settled_with}
-use Rattle.nt_commit.specs.Holds.{IsPassOf, HasNoneOut, IsHold, AddsInHold, CommitsInHold, SpoilsInHold}
+use Rattle.nt_commit.specs.Holds.{IsPassOf, IsHold, AddsInHold, CommitsInHold, SpoilsInHold}
 use Rattle.nt_commit.specs.Lists.{NextPlace, limit_at}
 use Rattle.nt_commit.specs.Locked.{LockedState, book_of_birth, history_of_locked}
 use Rattle.nt_fill.specs.Passes.{KeepsCount, Gains, MeetsFault, SpoilsRange, NamesLimit, WritesImage}
-use Rattle.nt_fill.proofs.Ranges.{last_got, new_range, ranges-committed, settled_in}
-use Rattle.nt_fill.proofs.Gains.{Pass, gains_twice, none_after, number_after, own_after, prefix_then}
+use Rattle.nt_fill.proofs.Ranges.{last_got, new_entry, new_range, ranges-reserved}
+use Rattle.nt_fill.proofs.Gains.{Pass, gains_twice, number_after, own_after, prefix_then}
 
 -- the bytes that an extent tells, where the disk told what it held
 pub told_bytes : (held : Option Held) (content : Option (List ℕ)) (bytes : List ℕ) → WhereHeld held (λ h. content ≡ Some bytes)
@@ -70,15 +71,15 @@ keeps_count {P = P} pen_state pen pen' was is kept = λ old new before after.
     ap (λ (p : P). (pen_state p).faults) (sym two) ∙ (kept ∙ ap (λ (p : P). (pen_state p).faults) one)
 
 -- a refusal for a limit adds nothing
-limit_nothing : {X : Type 0} (tell : X → ExtState) (held : Option Held) (was is n start : ℕ) (meta : ClusterMeta)
+limit_nothing : {X : Type 0} (staged : Bool) (tell : X → ExtState) (held : Option Held) (was is n start : ℕ) (meta : ClusterMeta)
     (result : Result (Claim X) CommitError) (l : LimitError) → limit_answered result ≡ Some l
-    → (added : List (Entry ClusterMeta)) → CommitAdds false tell held was is n start meta result added → added ≡ []
-limit_nothing tell held was is n start meta (Ok claim) l named added adds = absurd (cc named)
-limit_nothing tell held was is n start meta (Err (RangeTooLarge len most)) l named added adds = adds
-limit_nothing tell held was is n start meta (Err (FileTooLarge end most)) l named added adds = adds
-limit_nothing tell held was is n start meta (Err TooManyClusters) l named added adds = adds
-limit_nothing tell held was is n start meta (Err Memory) l named added adds = absurd (cc named)
-limit_nothing tell held was is n start meta (Err Fault) l named added adds = absurd (cc named)
+    → (added : List (Entry ClusterMeta)) → CommitAdds staged tell held was is n start meta result added → added ≡ []
+limit_nothing staged tell held was is n start meta (Ok claim) l named added adds = absurd (cc named)
+limit_nothing staged tell held was is n start meta (Err (RangeTooLarge len most)) l named added adds = adds
+limit_nothing staged tell held was is n start meta (Err (FileTooLarge end most)) l named added adds = adds
+limit_nothing staged tell held was is n start meta (Err TooManyClusters) l named added adds = adds
+limit_nothing staged tell held was is n start meta (Err Memory) l named added adds = absurd (cc named)
+limit_nothing staged tell held was is n start meta (Err Fault) l named added adds = absurd (cc named)
 
 module _ {D : Type 0} (state : D → DiskState) (committer : TurnState (Birth D)) where
   pub gains_by : (taken given : LockedState D) (added : List (Entry ClusterMeta)) (old new : Pass D)
@@ -102,9 +103,9 @@ module _ {D : Type 0} (state : D → DiskState) (committer : TurnState (Birth D)
         seats = of.seats;
       })
 
-  module _ {X : Type 0} (tell : X → ExtState) (meta : ClusterMeta) (old mid : Pass D) where
+  module _ {X : Type 0} (staged : Bool) (tell : X → ExtState) (meta : ClusterMeta) (old mid : Pass D) where
     -- the limit of a commit, by what never changes
-    pub names : (answer : Result (Claim X) CommitError) (c : CommitsInHold state false tell committer meta old mid answer)
+    pub names : (answer : Result (Claim X) CommitError) (c : CommitsInHold state staged tell committer meta old mid answer)
         (result : Result Unit CommitError) → limit_answered answer ≡ limit_answered result → (answer ≡ Err Memory → result ≡ Err Memory)
         → (new : Pass D) → IsPrefix mid.seen new.seen → ((l : LimitError) → limit_answered result ≡ Some l → mid.seen ≡ new.seen)
         → NamesLimit state committer meta.len old new result
@@ -129,17 +130,18 @@ module _ {D : Type 0} (state : D → DiskState) (committer : TurnState (Birth D)
           last = λ l named.
               sym (append-nil history)
               ∙ (ap (λ (a : List (Entry ClusterMeta)). history ++ a)
-              (sym (limit_nothing tell _ _ _ _ _ meta answer l (same ∙ named) c.commits.added c.commits.adds)) ∙ (sym seen ∙ last l named));
+              (sym (limit_nothing staged tell _ _ _ _ _ meta answer l (same ∙ named) c.commits.added c.commits.adds)) ∙ (sym seen ∙
+              last l named));
         }
 
     -- a refusal but a fault
-    pub kept_by : (e : CommitError) → CommitsInHold state false tell committer meta old mid (Err e) → e ≢ Fault → Gains [] old mid
+    pub kept_by : (e : CommitError) → CommitsInHold state staged tell committer meta old mid (Err e) → e ≢ Fault → Gains [] old mid
     kept_by e c apart =
         subst (λ (l : List (Entry ClusterMeta)). Gains l old mid) (refused_nothing _ _ meta.context e c.commits.added c.commits.adds apart)
         (gains_by c.taken c.given c.commits.added old mid c.hold)
 
     -- the disk failed
-    pub fault_by : CommitsInHold state false tell committer meta old mid (Err Fault) → meta.context ≡ old.number → MeetsFault old mid
+    pub fault_by : CommitsInHold state staged tell committer meta old mid (Err Fault) → meta.context ≡ old.number → MeetsFault old mid
     fault_by c is = record {
       faults = (state c.given.disk).faults;
       gains = subst (λ (l : List (Entry ClusterMeta)). Gains l old mid) (c.commits.adds.1
@@ -147,16 +149,17 @@ module _ {D : Type 0} (state : D → DiskState) (committer : TurnState (Birth D)
           (gains_by c.taken c.given c.commits.added old mid c.hold);
     }
 
-    module _ (claim : Claim X) (c : CommitsInHold state false tell committer meta old mid (Ok claim)) (is : meta.context ≡ old.number) where
+    module _ (claim : Claim X) (c : CommitsInHold state staged tell committer meta old mid (Ok claim)) (is : meta.context ≡
+        old.number) where
       abbrev pub start : ℕ
       start = c.commits.place.before + c.commits.place.due
 
       -- the pass gained the claim's cluster
-      commits_one : Gains (committed_by old.number claim.cluster start meta ∷ []) old mid
+      commits_one : Gains (new_entry staged old.number claim.cluster start meta.len meta ∷ []) old mid
       commits_one =
           subst (λ (l : List (Entry ClusterMeta)). Gains l old mid)
-          (c.commits.adds.1 ∙ (ap (λ (n : ℕ). committed_entry n start meta ∷ []) (sym c.commits.adds.0.number)
-          ∙ ap (λ (i : ℕ). committed_by i claim.cluster start meta ∷ []) is))
+          (c.commits.adds.1 ∙ (ap (λ (n : ℕ). new_entry staged meta.context n start meta.len meta ∷ []) (sym c.commits.adds.0.number)
+          ∙ ap (λ (i : ℕ). new_entry staged i claim.cluster start meta.len meta ∷ []) is))
           (gains_by c.taken c.given c.commits.added old mid c.hold)
 
       pub claim_is : IsClaimOf tell (state committer.birth.begun).held (ranges_of mid.own) mid.number claim
@@ -164,7 +167,7 @@ module _ {D : Type 0} (state : D → DiskState) (committer : TurnState (Birth D)
           let range = new_range old.number claim.cluster start meta.len meta in
           let ranges : ranges_of mid.own ≡ ranges_of old.own ++ range ∷ [] =
           ap (λ (l : List (Entry ClusterMeta)). ranges_of l) (own_after _ old mid commits_one)
-          ∙ ranges-committed old.own old.number claim.cluster start meta.len meta in
+          ∙ ranges-reserved staged old.own old.number claim.cluster start meta.len meta in
           record {
             place = length (ranges_of old.own);
             cluster = range;
@@ -182,7 +185,8 @@ module _ {D : Type 0} (state : D → DiskState) (committer : TurnState (Birth D)
       pub writes : (image : ClusterImage) (bytes : List ℕ) (new : Pass D) → image.meta ≡ meta
           → bytes ≡ blob_key (length image.bytes - key_room) (tell claim.ext).range.start ++ drop key_room image.bytes
           → AddsInHold state committer (settled_with mid.number claim.cluster
-          (bytes_where_told (state committer.birth.begun).held (Some bytes)) ∷ []) mid new → WritesImage state committer image old new
+          (bytes_where_told (state committer.birth.begun).held (Some bytes)) ∷ []) mid new → WritesImage state committer staged
+          image old new
       writes image bytes new same are a =
           let told = bytes_where_told (state committer.birth.begun).held (Some bytes) in
           let settled = subst (λ (i : ℕ). Gains (settled_with i claim.cluster told ∷ []) mid new)
@@ -198,18 +202,12 @@ module _ {D : Type 0} (state : D → DiskState) (committer : TurnState (Birth D)
           }
 
       -- it was spoiled
-      pub spoils : (new : Pass D) → SpoilsInHold state committer claim.cluster mid new → SpoilsRange meta old new
+      pub spoils : (new : Pass D) → SpoilsInHold state committer claim.cluster mid new → SpoilsRange staged meta old new
       spoils new s =
           let faults = (state s.given.disk).faults in
           let spoiled = subst (λ (i : ℕ). Gains (spoiled_entry i claim.cluster faults ∷ []) mid new)
           (number_after _ old mid commits_one) (gains_by s.taken s.given _ mid new s.hold) in
           record { cluster = claim.cluster; start = start; faults = faults; gains = gains_twice _ _ old mid new commits_one spoiled }
-
-  -- no range is out once an image was written
-  pub writes_in : (image : ClusterImage) (old new : Pass D) → HasNoneOut old.own → WritesImage state committer image old new
-      → HasNoneOut new.own
-  writes_in image old new none w = none_after _ old new w.gains (settled_in old.own old.number w.written.number w.written.start
-      w.written.len w.written.meta w.written.bytes none)
 
   pub adds_seen : (added : List (Entry ClusterMeta)) (old new : Pass D) → AddsInHold state committer added old new
       → IsPrefix old.seen new.seen

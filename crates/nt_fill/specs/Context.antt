@@ -1,5 +1,5 @@
 -- A context that gathers entries, as its users see it.
-use Rattle.std.specs.Prelude.{ℕ, ◌≡◌, ◌+◌, ◌≤◌, Bool, true, false, List, [], ◌∷◌, ◌++◌, map, length, Option}
+use Rattle.std.specs.Prelude.{ℕ, ◌≡◌, ◌+◌, ◌≤◌, Bool, true, List, [], ◌∷◌, ◌++◌, map, length, Option, IsSome}
 use Rattle.std.specs.List.{range_with_len}
 use Rattle.nt_types.specs.ShapeData.{MemberData}
 use Rattle.nt_types.specs.TreeData.{TreeData, TreesData, trees_of}
@@ -22,14 +22,16 @@ use Rattle.nt_event.specs.Standing.{SpellsTrees}
 use Rattle.nt_commit.specs.declared.locked.Birth.{Birth}
 use Rattle.nt_commit.specs.Holds.{IsPassOf, HasNoneOut}
 use Rattle.nt_layout.specs.Laid.{Gives}
+use Rattle.nt_fill.specs.Passes.{AreAllFilled, IsUnpublished}
 
--- a context: its committer and schema, the most entries of a cluster and elements of a page, its pass, its pen while it is alive,
--- and its columns with so many entries in them
+-- a context: its committer and schema, the most entries of a cluster and elements of a page, whether its clusters are staged, its pass,
+-- its pen while it is alive, and its columns with so many entries in them
 pub record FillState (E B P : Type 0) : Type 0 where
   pub committer : TurnState B
   pub table : Table
   pub cluster : ℕ
   pub page : ℕ
+  pub staged : Bool
   pub pass : PassState E B
   pub pen : Option P
   pub columns : List Column
@@ -68,21 +70,28 @@ module _ {E B P : Type 0} where
     pub fits : fits_entry old.table (trees_of found) ≡ true
     pub gathers : Gathers (trees_of found) old new
 
--- a pass of a committer whose clusters aren't staged, which has no entry yet
-pub record IsFreshPass {D : Type 0} (committer : TurnState (Birth D)) (pass : PassState (Entry ClusterMeta) (Birth D)) : Type 0 where
+-- a pass of a committer whose clusters are staged or not, which has no entry yet
+pub record IsFreshPass {D : Type 0} (staged : Bool) (committer : TurnState (Birth D)) (pass : PassState (Entry ClusterMeta) (Birth D))
+    : Type 0 where
   pub of : IsPassOf committer pass
   pub unused : pass.own ≡ []
-  pub not_staged : committer.birth.staged ≡ false
+  pub staged_is : committer.birth.staged ≡ staged
 
--- the pass is of the committer, whose clusters aren't staged, and no range of it is out; the columns give the entries, at most so many as a
--- cluster has
+-- the pass is of the committer, and no range of it is out, and none spoiled while the context is alive; the columns give the entries, at
+-- most so many as a cluster has
 pub record IsGathering {D P : Type 0} (c : FillState (Entry ClusterMeta) (Birth D) P) : Type 0 where
   pub of : IsPassOf c.committer c.pass
-  pub not_staged : c.committer.birth.staged ≡ false
+  pub staged_is : c.committer.birth.staged ≡ c.staged
   pub none_out : HasNoneOut c.pass.own
+  pub filled : AreAllFilled c.pass c.pen
   pub count : length c.table.columns ≡ c.committer.birth.columns
   pub some : are_some (open_plans c.table) ≡ true
   pub gives : Gives c.table c.columns (gathered c)
   pub few : c.entries ≤ c.cluster
   pub cluster : IsFromTo 1 max_cluster c.cluster
   pub page : IsFromTo 1 max_page c.page
+
+-- a context may gather and write: it is alive, and hasn't published
+pub record MayGather {D P : Type 0} (c : FillState (Entry ClusterMeta) (Birth D) P) : Type 0 where
+  pub alive : IsSome c.pen
+  pub unpublished : IsUnpublished c.staged c.pass

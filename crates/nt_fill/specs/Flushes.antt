@@ -1,5 +1,5 @@
 -- What a flush does to a context.
-use Rattle.std.specs.Prelude.{ℕ, ◌≡◌, ◌≢◌, false, List, [], length, Option, Some, IsSome, Result, Err, IsErrOf}
+use Rattle.std.specs.Prelude.{ℕ, ◌≡◌, ◌≢◌, List, [], length, Option, Some, IsSome, Result, Err, IsErrOf}
 use Rattle.nt_types.specs.TreeData.{TreesData}
 use Rattle.nt_grammar.specs.Table.{Table}
 use Rattle.nt_outside.specs.Held.{Held}
@@ -16,7 +16,7 @@ use Rattle.nt_commit.specs.declared.error.CommitError.{CommitError}
 use Rattle.nt_commit.specs.declared.error.CommitError.TheVariants.{Fault}
 use Rattle.nt_layout.specs.Laid.{Gives, IsBlobOfEntries}
 use Rattle.nt_fill.specs.Context.{FillState, gathered}
-use Rattle.nt_fill.specs.Passes.{Gains, FailsToWrite, NamesLimit}
+use Rattle.nt_fill.specs.Passes.{Gains, FailsToWrite, IsUnpublished, NamesLimit}
 
 -- a context over a disk
 abbrev pub DiskContext : Type 0 → Type 0 → Type 0
@@ -35,18 +35,20 @@ module _ {D P : Type 0} where
     pub gains : Gains [] old.pass new.pass
     pub now : new ≡ record old { pass = new.pass }
 
-  -- the disk or the pen failed: the pen is gone after its own fault, with a range that was committed as the cluster of the gathered
+  -- the disk or the pen failed: the pen is gone after its own fault, with a range that was reserved as the cluster of the gathered
   -- entries, and else the context is as before
   pub record FailsToFlush (old new : DiskContext D P) : Type 0 where
     pub columns : List Column
     pub gives : Gives old.table columns (gathered old)
-    pub fails : FailsToWrite (cluster_meta old.page old.pass.number (length (gathered old)) columns) old.pass new.pass old.pen new.pen
+    pub fails : FailsToWrite old.staged (cluster_meta old.page old.pass.number (length (gathered old)) columns) old.pass new.pass
+        old.pen new.pen
     pub now : new ≡ record old { pass = new.pass; pen = new.pen }
 
-  -- refused, the context keeps what it has gathered; after a fault it failed to write that
+  -- refused, the context keeps what it has gathered; after a fault it failed to write that. A flush publishes nothing
   pub record RefusesToFlush (old new : DiskContext D P) (result : Result Unit CommitError) : Type 0 where
     pub kept : (e : CommitError) → result ≡ Err e → e ≢ Fault → KeepsEntries old new
     pub fault : IsErrOf result Fault → FailsToFlush old new
+    pub unpublished : IsUnpublished new.staged new.pass
 
   module _ (state : D → DiskState) where
     -- the gathered entries were written as one cluster, and none is gathered now
@@ -57,7 +59,7 @@ module _ {D P : Type 0} where
       pub context : written.meta.context ≡ old.pass.number
       pub blob : IsWrittenAs (state old.committer.birth.begun).held old.table old.page (gathered old) written.start
           written.bytes written.meta
-      pub gains : Gains (entries_of_chunk false old.pass.number written) old.pass new.pass
+      pub gains : Gains (entries_of_chunk old.staged old.pass.number written) old.pass new.pass
       pub alive : IsSome new.pen
       pub now : new ≡ record old { pass = new.pass; pen = new.pen; columns = new.columns; entries = 0 }
 

@@ -1,3 +1,3 @@
-pub mod Context
 pub mod Passes
+pub mod Context
 pub mod Flushes

@@ -1,16 +1,18 @@
 -- What a pass knows after a cluster was written, or wasn't.
-use Rattle.std.specs.Prelude.{ℕ, ◌≡◌, ◌≢◌, ◌-◌, ◌⊎◌, false, List, [], ◌∷◌, ◌++◌, length, drop, Option, Some, None, IsSome}
+use Rattle.std.specs.Prelude.{ℕ, ◌≡◌, ◌≢◌, ◌-◌, ◌⊎◌, Bool, true, false, List, [], ◌∷◌, ◌++◌, length, drop, Option, Some, None, IsSome}
 use Rattle.std.specs.Prelude.{Result, Err, IsErrOf}
+use Rattle.std.specs.List.{AllByRecursion}
 use mathlib.Core.List.{IsPrefix}
 use Rattle.nt_turn.specs.Pass.{TurnState, PassState}
 use Rattle.nt_outside.specs.Range.{ExtState, PenState}
 use Rattle.nt_outside.specs.Disk.{DiskState}
 use Rattle.nt_container.specs.Spelling.{blob_key}
 use Rattle.nt_machine.specs.declared.entry.Entry.{Entry}
-use Rattle.nt_machine.specs.History.{WrittenChunk, entries_of_chunk, ranges_of}
+use Rattle.nt_machine.specs.History.{WrittenChunk, entries_of_chunk, ranges_of, reserving}
+use Rattle.nt_machine.specs.Legal.{IsFilledRange}
 use Rattle.nt_book.specs.declared.limits.LimitError.{LimitError}
 use Rattle.nt_book.specs.declared.meta.ClusterMeta.{ClusterMeta}
-use Rattle.nt_book.specs.Entries.{committed_by, spoiled_entry, faulted_entry}
+use Rattle.nt_book.specs.Entries.{spoiled_entry, faulted_entry}
 use Rattle.nt_pages.specs.declared.image.ClusterImage.{ClusterImage}
 use Rattle.nt_pages.specs.Image.{key_room}
 use Rattle.nt_logged.specs.Steps.{bytes_where_told}
@@ -21,7 +23,7 @@ use Rattle.nt_commit.specs.declared.error.CommitError.TheVariants.{Fault}
 use Rattle.nt_commit.specs.Claims.{HasLooked, IsClaimOf, limit_answered}
 use Rattle.nt_commit.specs.Lists.{NextPlace, limit_at}
 use Rattle.nt_commit.specs.Locked.{book_of_birth}
-use Rattle.nt_commit.specs.Holds.{IsPassOf, HasNoneOut}
+use Rattle.nt_commit.specs.Holds.{IsPassOf, HasNoneOut, HasNotPublished}
 use Rattle.nt_commit.specs.Images.{IsImageFor}
 
 -- a pen has met no more faults: no fill of it failed
@@ -44,30 +46,51 @@ module _ {D : Type 0} where
     pub faults : ℕ
     pub gains : Gains (faulted_entry old.number faults ∷ []) old new
 
-  -- a range was committed with this metadata, and spoiled
-  pub record SpoilsRange (meta : ClusterMeta) (old new : PassState (Entry ClusterMeta) (Birth D)) : Type 0 where
+  -- a range was reserved with this metadata, and spoiled
+  pub record SpoilsRange (staged : Bool) (meta : ClusterMeta) (old new : PassState (Entry ClusterMeta) (Birth D)) : Type 0 where
     pub cluster : ℕ
     pub start : ℕ
     pub faults : ℕ
-    pub gains : Gains (committed_by old.number cluster start meta ∷ spoiled_entry old.number cluster faults ∷ []) old new
+    pub gains : Gains (record { context = old.number; kind = reserving staged cluster start meta.len meta }
+        ∷ spoiled_entry old.number cluster faults ∷ []) old new
 
   -- a range of this metadata was to be written: the pen is as before after a fault of the disk, and gone after its own
-  abbrev pub FailsToWrite : {P : Type 0} → ClusterMeta → PassState (Entry ClusterMeta) (Birth D) → PassState (Entry ClusterMeta) (Birth D)
-      → Option P → Option P → Type 0
-  FailsToWrite meta old new pen pen' = (MeetsFault old new × (pen' ≡ pen)) ⊎ (SpoilsRange meta old new × (pen' ≡ None))
+  abbrev pub FailsToWrite : {P : Type 0} → Bool → ClusterMeta → PassState (Entry ClusterMeta) (Birth D)
+      → PassState (Entry ClusterMeta) (Birth D) → Option P → Option P → Type 0
+  FailsToWrite staged meta old new pen pen' = (MeetsFault old new × (pen' ≡ pen)) ⊎ (SpoilsRange staged meta old new × (pen' ≡ None))
 
   -- refused, pass and pen are as before, but that the pass has seen more; after a fault a range of this metadata failed to be written
-  pub record LeavesRefused {P : Type 0} (meta : ClusterMeta) (old new : PassState (Entry ClusterMeta) (Birth D)) (pen pen' : Option P)
-      (result : Result Unit CommitError) : Type 0 where
+  pub record LeavesRefused {P : Type 0} (staged : Bool) (meta : ClusterMeta) (old new : PassState (Entry ClusterMeta) (Birth D))
+      (pen pen' : Option P) (result : Result Unit CommitError) : Type 0 where
     pub kept : (e : CommitError) → result ≡ Err e → e ≢ Fault → Gains [] old new × (pen' ≡ pen)
-    pub fault : IsErrOf result Fault → FailsToWrite meta old new pen pen'
+    pub fault : IsErrOf result Fault → FailsToWrite staged meta old new pen pen'
 
-  -- an image may be written: it is one of this pass, clusters aren't staged, no range of the pass is out, and its pen is there
-  pub record MayWrite {P : Type 0} (committer : TurnState (Birth D)) (pass : PassState (Entry ClusterMeta) (Birth D)) (pen : Option P)
+  -- where clusters are staged, the pass hasn't published
+  abbrev pub IsUnpublished : Bool → PassState (Entry ClusterMeta) (Birth D) → Type 0
+  IsUnpublished staged pass = staged ≡ true → HasNotPublished pass
+
+  -- while the pen is there, each range of the pass is filled
+  abbrev pub AreAllFilled : {P : Type 0} → PassState (Entry ClusterMeta) (Birth D) → Option P → Type 0
+  AreAllFilled pass pen = IsSome pen → AllByRecursion IsFilledRange (ranges_of pass.own)
+
+  -- a pass of the committer which has no range out, and no spoiled one while its pen is there; it publishes nothing where it didn't before
+  pub record LeavesPass {P : Type 0} (staged : Bool) (committer : TurnState (Birth D)) (old new : PassState (Entry ClusterMeta) (Birth D))
+      (pen : Option P) : Type 0 where
+    pub of : IsPassOf committer new
+    pub none_out : HasNoneOut new.own
+    pub filled : AreAllFilled new pen
+    pub unpublished : IsUnpublished staged old → IsUnpublished staged new
+
+  -- an image may be written: it is one of this pass, which hasn't published where clusters are staged, no range of the pass is out, and its
+  -- pen is there
+  pub record MayWrite {P : Type 0} (staged : Bool) (committer : TurnState (Birth D)) (pass : PassState (Entry ClusterMeta) (Birth
+      D)) (pen : Option P)
       (image : ClusterImage) : Type 0 where
     pub of : IsPassOf committer pass
-    pub not_staged : committer.birth.staged ≡ false
+    pub staged_is : committer.birth.staged ≡ staged
+    pub unpublished : IsUnpublished staged pass
     pub none_out : HasNoneOut pass.own
+    pub filled : AreAllFilled pass pen
     pub alive : IsSome pen
     pub image_is : IsImageFor committer.birth.columns pass.number image
 
@@ -91,10 +114,10 @@ module _ {D : Type 0} where
       pub last : (l : LimitError) → limit_answered result ≡ Some l → history ≡ new.seen
 
     -- the image was written with the key of its place, and its bytes are told where the disk told what it held at the beginning
-    pub record WritesImage (image : ClusterImage) (old new : PassState (Entry ClusterMeta) (Birth D)) : Type 0 where
+    pub record WritesImage (staged : Bool) (image : ClusterImage) (old new : PassState (Entry ClusterMeta) (Birth D)) : Type 0 where
       pub written : WrittenChunk ClusterMeta
       pub meta : written.meta ≡ image.meta
       pub len : written.len ≡ image.meta.len
       pub bytes : written.bytes ≡ bytes_where_told (state committer.birth.begun).held
           (Some (blob_key (length image.bytes - key_room) written.start ++ drop key_room image.bytes))
-      pub gains : Gains (entries_of_chunk false old.number written) old new
+      pub gains : Gains (entries_of_chunk staged old.number written) old new

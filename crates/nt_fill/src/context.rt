@@ -46,6 +46,8 @@ pub(crate) struct Store {
     pub(crate) cluster: u32,
     /// The most elements of a page.
     pub(crate) page: u32,
+    /// Whether its clusters are published together.
+    pub(crate) staged: bool,
     /// Memory for the next image.
     pub(crate) spare: Vec<u8>,
     pub(crate) direct: Direct,
@@ -95,6 +97,7 @@ impl<'a, V: Gathering, P> Model for FillContextOf<'a, V, P> {
       table = c.schema.now;
       cluster = c.store.cluster;
       page = c.store.page;
+      staged = c.store.staged;
       pass = c.pass;
       pen = c.pen;
       columns = columns_of c.store.columns;
@@ -106,6 +109,7 @@ impl<'a, V: Gathering, P> Model for FillContextOf<'a, V, P> {
       table = c.schema.now;
       cluster = c.store.cluster;
       page = c.store.page;
+      staged = c.store.staged;
       pass = c.pass;
       pen = c.pen;
       columns = columns_of c.store.columns;
@@ -118,7 +122,7 @@ pub type FillContext<'a, D> = FillContextOf<'a, Locked<D>, <D as Disk>::Pen>;
 
 impl<'a, D: Disk> FillContext<'a, D> {
     /// A context that has gathered nothing, with a pass and a pen from `enter` of this committer,
-    /// whose clusters are not staged. Without memory both come back.
+    /// whose clusters are staged exactly where the parameters say so. Without memory both come back.
     pub fn new(
         alloc: Global,
         committer: &'a Committer<D>,
@@ -128,12 +132,13 @@ impl<'a, D: Disk> FillContext<'a, D> {
         pen: D::Pen,
     ) -> Result<FillContext<'a, D>, (Pass<Locked<D>>, D::Pen, AllocError)>
         requires schema { IsTableFor committer.now.birth.columns schema.now }
-        requires pass { IsFreshPass committer.now pass }
+        requires pass { IsFreshPass params.now.staged committer.now pass }
         ensures ok { IfOk result (λ c. c ≡ record {
           committer = committer.now;
           table = schema.now;
           cluster = params.now.cluster;
           page = params.now.page;
+          staged = params.now.staged;
           pass = pass;
           pen = Some pen;
           columns = c.columns;
@@ -154,6 +159,7 @@ impl<'a, D: Disk> FillContext<'a, D> {
                     entries: 0,
                     cluster: params.cluster,
                     page: params.page,
+                    staged: params.staged,
                     spare: Vec::new(alloc),
                     direct: Direct::new(alloc),
                 },

@@ -1,10 +1,10 @@
 //! Entries that are gathered.
 
-ghost use Rattle.std.specs.Prelude.{◌≡◌, ◌<◌, length, true, IsSome, MatchBool, OnOk, OnErr};
+ghost use Rattle.std.specs.Prelude.{◌≡◌, ◌<◌, length, true, MatchBool, OnOk, OnErr};
 ghost use Rattle.nt_types.specs.TreeData.{trees_of};
 ghost use Rattle.nt_types.specs.TreeViews.{trees_view};
 ghost use Rattle.nt_trees.specs.Fits.{fits_entry};
-ghost use Rattle.nt_fill.specs.Context.{Gathers, GathersLine, gathered};
+ghost use Rattle.nt_fill.specs.Context.{Gathers, GathersLine, MayGather, gathered};
 
 use crate::context::FillContext;
 use nt_column::Columns;
@@ -17,7 +17,7 @@ use std::alloc::AllocError;
 impl<'a, D: Disk> FillContext<'a, D> {
     /// Gathers one entry, which has one tree for each open field. Without memory nothing changes.
     pub fn fill(&mut self, trees: &Trees) -> Result<(), AllocError>
-        requires alive { IsSome self.old.pen }
+        requires alive { MayGather self.old }
         requires room { length (gathered self.old) < self.old.cluster }
         requires fits { fits_entry self.old.table (trees_of (trees_view trees.now)) ≡ true }
         ensures ok { OnOk result (Gathers (trees_of (trees_view trees.now)) self.old self.new) }
@@ -34,7 +34,7 @@ impl<'a, D: Disk> FillContext<'a, D> {
     /// Gathers the entry of a line, its LF taken off, without a tree of it; and says whether it took the line. A line that it
     /// didn't take is to be read.
     pub fn fill_line(&mut self, line: &[u8]) -> bool
-        requires alive { IsSome self.old.pen }
+        requires alive { MayGather self.old }
         requires room { length (gathered self.old) < self.old.cluster }
         ensures { MatchBool result (GathersLine line.now self.old self.new) (self.new ≡ self.old) }
     {

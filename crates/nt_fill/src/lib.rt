@@ -5,20 +5,22 @@
 //! nt_event's `read_line` and then `fill` do, without a tree in between, or refuses the line, which is then to be read. A
 //! context that is `full` has a cluster's entries, and `flush` writes what is gathered: it makes the image, commits it in one
 //! hold of the turn, fills its range with the context's own pen outside the turn, and hands it back in another hold
-//! (`writing.rt`). `end` gives pass and pen back. A context is *alive* until its pen fails.
+//! (`writing.rt`). Where clusters are *staged* a flush only reserves their ranges, and `publish` makes them all the next
+//! clusters of the file, in one hold (`publishing.rt`). `end` gives pass and pen back. A context is *alive* until its pen fails.
 //!
 //! Words: those of nt_commit; what a context has *gathered* are the entries that its columns give
 //! (`specs/Context`). A pass *gains* entries in its own list.
 //!
-//! Proved: a flush adds just the Committed and the Settled entry of one cluster to the pass's own
-//! list, whose bytes and metadata, of this context, are the blob of the gathered entries, and the pen
-//! has met no fault more (`ok`, by `WritesCluster`); the limit that it names is the one that this blob
-//! passes behind the history that the pass has then seen (`limits`); a fault only where the own list gained a Faulted or a Spoiled entry, and then the pen
-//! is gone just where its range was spoiled, which was committed with the metadata of the gathered
-//! entries (`refused.fault`); after any other refusal all is as before but
-//! what the pass has seen (`refused.kept`); an entry is gathered whole or not at all (`fill`); of a line that `fill_line` takes, the
-//! entry that `read_line` reads is gathered, and of one that it refuses nothing. What holds of
-//! each context at any moment is `IsGathering`, the invariant.
+//! Proved: a flush adds just the Committed (of a staged cluster the Reserved) and the Settled entry of one cluster to the
+//! pass's own list, whose bytes and metadata, of this context, are the blob of the gathered entries, and the pen has met no
+//! fault more (`ok`, by `WritesCluster`); the limit that it names is the one that this blob passes behind the history that the
+//! pass has then seen (`limits`); a fault only where the own list gained a Faulted or a Spoiled entry, and then the pen is gone
+//! just where its range was spoiled, which was reserved with the metadata of the gathered entries (`refused.fault`); after any
+//! other refusal all is as before but what the pass has seen (`refused.kept`); a flush publishes nothing
+//! (`refused.unpublished`), and `publish` adds the one Published entry of all ranges of the pass, each of which is filled, or
+//! after a refusal nothing (`publishes`); an entry is gathered whole or not at all (`fill`); of a line that `fill_line` takes,
+//! the entry that `read_line` reads is gathered, and of one that it refuses nothing. What holds of each context at any moment
+//! is `IsGathering`, the invariant.
 //!
 //! Neither proved nor promised: when the gate is called, which promises nothing; that a flush ever
 //! gets the turn.
@@ -40,6 +42,7 @@ mod columns;
 mod context;
 mod filling;
 mod flushing;
+mod publishing;
 mod writing;
 
 pub use columns::empty_columns;

@@ -1,5 +1,6 @@
 //! A file that is written by the calls below the program, on a disk itself.
 
+ghost use Rattle.std.specs.Prelude.{◌≡◌, false, IfSome};
 ghost use Rattle.nt_types.specs.Rules.{AreFields};
 ghost use Rattle.nt_types.specs.Views.{members_view};
 ghost use Rattle.nt_store.specs.Writing.{IsEmptyDisk};
@@ -18,7 +19,9 @@ use std::sync::Wait;
 use std::thread::Threads;
 
 /// The parameters of a file, by the most entries of a cluster and the most clusters of a group.
-pub fn groups_of(cluster: u32, group: u32) -> Option<Params> {
+pub fn groups_of(cluster: u32, group: u32) -> Option<Params>
+    ensures { IfSome result (λ params. params.staged ≡ false) }
+{
     let limits = Limits::new(1 << 30, 1 << 40, u32::MAX)?;
     Params::new(cluster, 4096, group, false, false, limits)
 }
@@ -35,6 +38,7 @@ fn write_on<R: Threads + Wait + Sync>(
 ) -> Result<Option<MemDisk>, AllocError>
     requires fields { AreFields (members_view fields.now) }
     requires disk { IsEmptyDisk (state_of disk) }
+    requires unstaged { params.now.staged ≡ false }
 {
     let gate = Points::new(&[], 0);
     let texts = vec![in alloc; text]?;
@@ -61,7 +65,9 @@ pub fn build<R: Threads + Wait + Sync>(
     alloc: Global,
     files: &[Named],
     params: &Params,
-) -> Result<Option<MemDisk>, AllocError> {
+) -> Result<Option<MemDisk>, AllocError>
+    requires { params.now.staged ≡ false }
+{
     let mut host = host_of(alloc, files, Fails::Nothing, 0)?;
     let Ok(fields) = read_schema(alloc, &mut host, "s") else {
         return Ok(None);

@@ -1,5 +1,7 @@
 //! Calls below the program, for what no word of it sets or prints.
 
+ghost use Rattle.std.specs.Prelude.{◌≡◌, false, IfSome};
+
 use crate::named::Named;
 use crate::points::Points;
 use crate::running::{Fails, Ran, host_of};
@@ -16,7 +18,9 @@ use std::sync::Wait;
 use std::thread::Threads;
 
 /// The parameters of a file, by the most entries of a cluster, and the most bytes of a range and of the file, and clusters.
-pub fn params_of(cluster: u32, range: u64, file: u64, clusters: u32) -> Option<Params> {
+pub fn params_of(cluster: u32, range: u64, file: u64, clusters: u32) -> Option<Params>
+    ensures { IfSome result (λ params. params.staged ≡ false) }
+{
     let limits = Limits::new(range, file, clusters)?;
     Params::new(cluster, 4096, 1000, false, false, limits)
 }
@@ -51,7 +55,9 @@ pub fn make<R: Threads + Wait + Sync>(
     making: &Making,
     params: &Params,
     told: &mut Vec<u8>,
-) -> Result<Ran, AllocError> {
+) -> Result<Ran, AllocError>
+    requires { params.now.staged ≡ false }
+{
     let mut host = MemHost::new(alloc);
     let gate = Points::new(&[], 0);
     let settings = Settings {

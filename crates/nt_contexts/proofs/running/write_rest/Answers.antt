@@ -14,5 +14,6 @@ pub returns : goal.returns
 returns g c entries taken =
     let some : 0 < length (gathered c.args.fill.now) = omega (arith, c.gathered.ensures, c.if-gathered-eq0.false) in
     let few : length (gathered c.args.fill.now) ≤ c.args.fill.now.cluster = omega (arith, c.requires.is_open.room) in
-    rest_written g.D.Disk.state entries c.args.fill.now c.write_gathered.new.fill c.write_gathered.result some few taken
+    rest_written g.D.Disk.state entries c.args.fill.now c.write_gathered.new.fill c.write_gathered.result
+    c.requires.is_open.unstaged some few taken
     c.write_gathered.ensures

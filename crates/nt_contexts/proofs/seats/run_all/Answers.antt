@@ -14,7 +14,7 @@ use Rattle.nt_contexts.proofs.seats.run_all.Goals as goal
 pub run_pool-requires-clause-ready : goal.run_pool-requires-clause-ready
 run_pool-requires-clause-ready g c κs within =
     all-ready c.args.committer.now c.args.shared.now
-    (λ m s seat. IsSchemaFor m (members_view s.fields.now) s.params.now.plain s.schema.now × IsFreshSeat g.S.Source.state m seat)
+    (λ m s seat. IsSchemaFor m (members_view s.fields.now) s.params.now s.schema.now × IsFreshSeat g.S.Source.state m seat)
     c.contexts_of-contexts.result.items c.args.seats.items c.contexts_of-contexts.ensures.seats c.contexts_of-contexts.ensures.all
     (λ k d less. (c.requires.schema, c.requires.fresh k d less))
 

@@ -32,8 +32,9 @@ invariant_of-self-2 g c =
     let more : suc n ≡ n + 1 = omega arith in
     record {
       of = c.self.invariant.of;
-      not_staged = c.self.invariant.not_staged;
+      staged_is = c.self.invariant.staged_is;
       none_out = c.self.invariant.none_out;
+      filled = c.self.invariant.filled;
       count = c.self.invariant.count;
       some = c.self.invariant.some;
       gives = gives_of t (columns_of c.shred.new.out) (n + 1) c.in_ok-shred.ensures.set c.in_range.ensures

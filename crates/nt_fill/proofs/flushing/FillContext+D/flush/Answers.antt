@@ -8,7 +8,7 @@ use Rattle.nt_pages.specs.Image.{key_room}
 use Rattle.nt_pages.specs.Metas.{cluster_meta}
 use Rattle.nt_layout.specs.Laid.{Gives}
 use Rattle.nt_fill.specs.Context.{entries_given}
-use Rattle.nt_fill.specs.Passes.{FailsToWrite}
+use Rattle.nt_fill.specs.Passes.{FailsToWrite, IsUnpublished}
 use Rattle.nt_fill.proofs.Entries.{entries_count, gathered_length}
 use Rattle.nt_fill.proofs.Emptied.{emptied_gives}
 use Rattle.nt_fill.proofs.Images.{image_for, blob_of}
@@ -25,9 +25,11 @@ write_image-requires g c =
     ∙ ap (λ (m : ℕ). cluster_meta page number m columns) (sym (entries_count t columns n))) in
     record {
       of = c.self.invariant.of;
-      not_staged = c.self.invariant.not_staged;
+      staged_is = c.self.invariant.staged_is;
+      unpublished = subst (λ s. IsUnpublished s.staged s.pass) (sym c.self.view_is) c.requires.alive.unpublished;
       none_out = c.self.invariant.none_out;
-      alive = subst (λ s. IsSome s.pen) (sym c.self.view_is) c.requires.alive;
+      filled = c.self.invariant.filled;
+      alive = subst (λ s. IsSome s.pen) (sym c.self.view_is) c.requires.alive.alive;
       image_is = image_for t columns (entries_given t columns n) c.self.invariant.gives page number
           c.self.inside.committer.now.birth.columns
           (c.columns_have_types.ensures t) c.self.invariant.some c.self.invariant.count c.self.invariant.page
@@ -60,6 +62,7 @@ returns-in_err-write_image-clause-refused g c =
               table = c.self.inside.schema.now;
               cluster = c.self.inside.store.cluster;
               page = c.self.inside.store.page;
+              staged = c.self.inside.store.staged;
               pass = c.write_image.new.pass;
               pen = q;
               columns = columns_of c.self.inside.store.columns;
@@ -71,20 +74,23 @@ returns-in_err-write_image-clause-refused g c =
             columns = columns;
             gives = c.self.invariant.gives;
             fails = subst
-                (λ (m : ClusterMeta). FailsToWrite m c.self.inside.pass c.write_image.new.pass c.self.inside.pen
+                (λ (m : ClusterMeta). FailsToWrite c.self.inside.store.staged m c.self.inside.pass c.write_image.new.pass c.self.inside.pen
                 c.write_image.new.pen) meta
                 (c.in_err-write_image.ensures.refused.fault (cc (p.1, p.2, is)));
             now = refl;
           });
+      unpublished = c.in_err-write_image.ensures.pass.unpublished
+          (subst (λ s. IsUnpublished s.staged s.pass) (sym c.self.view_is) c.requires.alive.unpublished);
     }
 
 pub invariant_of-self-2 : goal.invariant_of-self-2
 invariant_of-self-2 g c =
     let t = c.self.inside.schema.now in
     record {
-      of = c.in_ok-write_image.ensures.pass.0;
-      not_staged = c.self.invariant.not_staged;
-      none_out = c.in_ok-write_image.ensures.pass.1;
+      of = c.in_ok-write_image.ensures.pass.of;
+      staged_is = c.self.invariant.staged_is;
+      none_out = c.in_ok-write_image.ensures.pass.none_out;
+      filled = c.in_ok-write_image.ensures.pass.filled;
       count = c.self.invariant.count;
       some = c.self.invariant.some;
       gives = subst (λ (cs : List Column). Gives t cs []) (sym c.clear.ensures)
