@@ -19,7 +19,7 @@ use Rattle.nt_cuts.specs.Cuts.{LeavesUnfinished, LeavesUnfinishedOr, LeavesOnly}
 use Rattle.nt_cuts.specs.Shut.{StaysShut}
 use Rattle.nt_cuts.proofs.Reading.{read-cut, read-shut, unsynced-leaves}
 use Rattle.nt_close.specs.declared.error.CloseError.{CloseError}
-use Rattle.nt_close.specs.declared.error.CloseError.TheVariants.{Spoiled, Torn, Memory, RangeTooLarge, FileTooLarge, Fault}
+use Rattle.nt_close.specs.declared.error.CloseError.TheVariants.{Spoiled, Torn, Unpublished, Memory, RangeTooLarge, FileTooLarge, Fault}
 use Rattle.nt_close.specs.Steps.{begun_on, IsBegunPartly, IsBegunSoFar, begun_partly, torn_head, torn_blob, not_kept, begun_whole}
 use Rattle.nt_close.specs.Steps.{closed_on, IsClosedSoFar, closed_partly, closed_whole}
 use Rattle.nt_close.specs.Damage.{IsUndamaged}
@@ -150,6 +150,8 @@ module _ (t : Table) (p : Params) (book : BookData) (kept : IsBookKept book) (be
   answered passed old new (Err (Spoiled cluster faults)) cause left h was =
       (h, left.place.held ∙ was, λ shut ranges are is. read-shut h.log shut)
   answered passed old new (Err (Torn group faults)) cause left h was =
+      (h, left.place.held ∙ was, λ shut ranges are is. read-shut h.log shut)
+  answered passed old new (Err (Unpublished range)) cause left h was =
       (h, left.place.held ∙ was, λ shut ranges are is. read-shut h.log shut)
   answered passed old new (Err Memory) cause left h was = (h, left.place.held ∙ was, λ shut ranges are is. read-shut h.log shut)
   answered passed old new (Err (RangeTooLarge len most)) cause left h was =

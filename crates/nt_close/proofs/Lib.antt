@@ -11,4 +11,6 @@ pub mod Leaving
 pub mod Left
 pub mod ListsLeft
 pub mod NewBooks
+pub mod TestBooks
+pub mod Unpublished
 pub mod Within

@@ -16,12 +16,12 @@ use Rattle.nt_layout.specs.Headers.{header_object, clusters_place}
 use Rattle.nt_layout.specs.Finished.{finished}
 use Rattle.nt_layout.specs.Laid.{IsWithin}
 use Rattle.nt_close.specs.declared.error.CloseError.{CloseError}
-use Rattle.nt_close.specs.declared.error.CloseError.TheVariants.{Spoiled, Torn, Memory, RangeTooLarge, FileTooLarge, Fault}
+use Rattle.nt_close.specs.declared.error.CloseError.TheVariants.{Spoiled, Torn, Unpublished, Memory, RangeTooLarge, FileTooLarge, Fault}
 use Rattle.nt_close.specs.Steps.{closed_on, IsClosedPartly}
 use Rattle.nt_close.specs.Passing.{passed_by_close, measures_of}
 use Rattle.nt_close.specs.Beginning.{IsUntouched}
 use Rattle.nt_close.specs.Spoiled.{IsFirstSpoiled}
-use Rattle.nt_close.specs.Damage.{IsUndamaged, IsTornAt}
+use Rattle.nt_close.specs.Damage.{IsUndamaged, IsTornAt, IsUnpublishedAt}
 use Rattle.nt_close.specs.Filled.{AreListsNoted, filled_file, closing_tail, closing_front}
 
 -- a file can be closed: the book's ranges begin behind the header of its schema, with its page lists beside them, what is last of these
@@ -33,12 +33,13 @@ pub record IsClosable (disk : DiskState) (book : BookData) (t : Table) (p : Para
   pub out : disk.out ≡ []
   pub whole : AreWhole t
 
--- the cause of an answer, in this order: the lowest spoiled range; a page list that failed; a limit, the first that is passed; a step that
--- failed. Want of memory has none
+-- the cause of an answer, in this order: the lowest spoiled range; a page list that failed; the lowest filled range that is no cluster; a
+-- limit, the first that is passed; a step that failed. Want of memory has none
 abbrev pub HasCloseCause : BookData → Option LimitError → Result Unit CloseError → Type 0
 HasCloseCause book passed (Ok done) = IsUndamaged book × (passed ≡ None)
 HasCloseCause book passed (Err (Spoiled cluster faults)) = IsFirstSpoiled book cluster faults
 HasCloseCause book passed (Err (Torn group faults)) = IsTornAt book group faults
+HasCloseCause book passed (Err (Unpublished range)) = IsUnpublishedAt book range
 HasCloseCause book passed (Err Memory) = IsUndamaged book
 HasCloseCause book passed (Err (RangeTooLarge len most)) = IsUndamaged book × (passed ≡ Some (limit.RangeTooLarge len most))
 HasCloseCause book passed (Err (FileTooLarge end most)) = IsUndamaged book × (passed ≡ Some (limit.FileTooLarge end most))
@@ -61,6 +62,7 @@ abbrev pub LeavesClosed : List ℕ → List ℕ → DiskState → DiskState → 
 LeavesClosed tail front old new (Ok done) = IsClosed tail front old new
 LeavesClosed tail front old new (Err (Spoiled cluster faults)) = IsUntouched old new
 LeavesClosed tail front old new (Err (Torn group faults)) = IsUntouched old new
+LeavesClosed tail front old new (Err (Unpublished range)) = IsUntouched old new
 LeavesClosed tail front old new (Err Memory) = IsUntouched old new
 LeavesClosed tail front old new (Err (RangeTooLarge len most)) = IsUntouched old new
 LeavesClosed tail front old new (Err (FileTooLarge end most)) = IsUntouched old new

@@ -9,7 +9,7 @@ use Rattle.nt_layout.specs.Finished.{finished}
 use Rattle.nt_cuts.specs.Cuts.{LeavesUnfinished, LeavesUnfinishedOr, LeavesOnly}
 use Rattle.nt_cuts.specs.Shut.{StaysShut}
 use Rattle.nt_close.specs.declared.error.CloseError.{CloseError}
-use Rattle.nt_close.specs.declared.error.CloseError.TheVariants.{Spoiled, Torn, Memory, RangeTooLarge, FileTooLarge, Fault}
+use Rattle.nt_close.specs.declared.error.CloseError.TheVariants.{Spoiled, Torn, Unpublished, Memory, RangeTooLarge, FileTooLarge, Fault}
 use Rattle.nt_close.specs.Filled.{filled_file}
 use Rattle.nt_close.specs.Closing.{AreRangesOf}
 
@@ -19,6 +19,7 @@ abbrev pub LeavesByAnswer : (List ℕ → Type 0) → List Step → Result Unit 
 LeavesByAnswer Whole log (Ok done) = LeavesUnfinishedOr Whole log × LeavesOnly Whole log
 LeavesByAnswer Whole log (Err (Spoiled cluster faults)) = LeavesUnfinished log
 LeavesByAnswer Whole log (Err (Torn group faults)) = LeavesUnfinished log
+LeavesByAnswer Whole log (Err (Unpublished range)) = LeavesUnfinished log
 LeavesByAnswer Whole log (Err Memory) = LeavesUnfinished log
 LeavesByAnswer Whole log (Err (RangeTooLarge len most)) = LeavesUnfinished log
 LeavesByAnswer Whole log (Err (FileTooLarge end most)) = LeavesUnfinished log

@@ -26,7 +26,7 @@ use Rattle.nt_tfile.specs.Places.{ArePlaces}
 use Rattle.nt_layout.specs.Finished.{spans, list_places, list_blobs, footer_blob, anchor_of_file, keys_start, free_start, file_len}
 use Rattle.nt_layout.specs.Beside.{lists_left}
 use Rattle.nt_close.specs.declared.error.CloseError.{CloseError}
-use Rattle.nt_close.specs.declared.error.CloseError.TheVariants.{Spoiled, Torn, Memory, RangeTooLarge, FileTooLarge, Fault}
+use Rattle.nt_close.specs.declared.error.CloseError.TheVariants.{Spoiled, Torn, Unpublished, Memory, RangeTooLarge, FileTooLarge, Fault}
 use Rattle.nt_close.specs.Passing.{first_passed}
 use Rattle.nt_close.specs.Filled.{AreListsNoted, closing_tail}
 
@@ -34,6 +34,7 @@ use Rattle.nt_close.specs.Filled.{AreListsNoted, closing_tail}
 abbrev pub IsPassed : Option LimitError → CloseError → Type 0
 IsPassed passed (Spoiled cluster faults) = ⊥
 IsPassed passed (Torn group faults) = ⊥
+IsPassed passed (Unpublished range) = ⊥
 IsPassed passed Memory = Unit {0}
 IsPassed passed (RangeTooLarge len most) = passed ≡ Some (limit.RangeTooLarge len most)
 IsPassed passed (FileTooLarge end most) = passed ≡ Some (limit.FileTooLarge end most)

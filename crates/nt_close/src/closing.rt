@@ -1,7 +1,9 @@
 //! How a file is closed.
 
+ghost use Rattle.std.specs.Prelude.{OnOk};
 ghost use Rattle.nt_close.specs.Closing.{IsClosable, ClosesOnDisk};
 ghost use Rattle.nt_close.specs.Crashes.{CrashesByAnswer};
+ghost use Rattle.nt_close.specs.Unpublished.{NoneUnpublished};
 
 use crate::damage::refuse_damaged;
 use crate::ending::ending_of;
@@ -22,7 +24,8 @@ fn take_steps<D: Disk>(
     params: &Params,
 ) -> Result<(), CloseError>
     requires { IsClosable (D.state disk.old) book.now schema.now params.now }
-    ensures { ClosesOnDisk schema.now params.now book.now (D.state disk.old) (D.state disk.new) result }
+    ensures closes { ClosesOnDisk schema.now params.now book.now (D.state disk.old) (D.state disk.new) result }
+    ensures published { OnOk result (NoneUnpublished book.now) }
 {
     book.keeps();
     refuse_damaged(book)?;
@@ -47,6 +50,7 @@ pub fn close<D: Disk>(
 ) -> Result<(), CloseError>
     requires { IsClosable (D.state disk.old) book.now schema.now params.now }
     ensures closes { ClosesOnDisk schema.now params.now book.now (D.state disk.old) (D.state disk.new) result }
+    ensures published { OnOk result (NoneUnpublished book.now) }
     ensures crash { CrashesByAnswer schema.now book.now params.now.group
         (D.state disk.old).held (D.state disk.new).held result }
 {

@@ -35,6 +35,10 @@ pub enum CloseError {
     /// the disk counted so many faults then.
     #[error("the page list of group {group} is torn")]
     Torn { group: u32, faults: u64 },
+    /// The range of this number was handed back filled, and is no cluster: clusters are staged, and
+    /// its context hasn't published it.
+    #[error("range {range} isn't published")]
+    Unpublished { range: u32 },
     #[error("out of memory")]
     Memory,
     /// A page list that isn't noted or the footer, with its key, is longer than a range may get.

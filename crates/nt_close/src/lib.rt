@@ -12,15 +12,15 @@
 //! Proved of `begin`: after `Ok` the disk holds exactly that head and the header, with their steps
 //! in its log, and schema and book are those of the fields (`begun`); after a refusal what is left,
 //! and which limit is passed (`refused`). Of `close`: the cause of each answer, the lowest spoiled
-//! range, the page list that failed and the first limit that is passed (`cause` in `closes`); what
-//! is left after each answer, byte for byte and step for step, after a fault without the last step
-//! at least, and nothing at all before all memory is there and all limits are tested (`left`); that
-//! a file with ranges of the clusters' lengths, and the page lists that are noted, becomes the
-//! finished file with these ranges, within the limits (`finished`). Wherever a crash comes behind
-//! the first sync, it leaves
-//! what isn't finished of a file that is begun (`crash` of `IsBegun` and `IsBeginCut`), and of one that
-//! is closed that, or the finished file once its first byte was written over; behind all steps only
-//! that file (`crash`, by `specs/Crashes.antt`). A fault comes only where the disk's count rose.
+//! range, the page list that failed, the lowest filled range that is no cluster and the first limit
+//! that is passed (`cause` in `closes`); that after `Ok` each filled range is a cluster
+//! (`published`); what is left after each answer, byte for byte and step for step, after a fault
+//! without the last step at least, and nothing at all before all memory is there and all limits are
+//! tested (`left`); that a file with ranges of the clusters' lengths, and the page lists that are
+//! noted, becomes the finished file with these ranges, within the limits (`finished`). Wherever a
+//! crash comes behind the first sync, it leaves what isn't finished of a file that is begun (`crash`
+//! of `IsBegun` and `IsBeginCut`), and of one that is closed that, or the finished file once its
+//! first byte was written over; behind all steps only that file (`crash`, by `specs/Crashes.antt`). A fault comes only where the disk's count rose.
 //! `closed_is_finished`, `first_byte_is_last` and `steps_stay_in_order` are laws on what is left.
 //! Nothing is only tested.
 //!
@@ -46,3 +46,6 @@ pub use closing::close;
 pub use error::{BeginError, CloseError};
 pub use laws::{closed_is_finished, first_byte_is_last, steps_stay_in_order};
 pub use steps::{write_begin, write_end};
+
+#[cfg(test)]
+mod tests;

@@ -4,6 +4,7 @@ use Rattle.std.proofs.Common.{append-nil, arith}
 use Rattle.std.proofs.Common.{replicate, Result, Ok, Err}
 use Rattle.std.specs.List.{AllByRecursion}
 use Rattle.std.specs.Prelude.{slice_get, slice_index_or}
+use Rattle.std.proofs.lemmas.Bool.{false≢true}
 use Rattle.std.proofs.lemmas.List.{length-map, take_all}
 use Rattle.std.proofs.lemmas.Slice.Zip.{AllZip-long}
 use Rattle.nt_types.specs.ShapeData.{MemberData}
@@ -99,7 +100,11 @@ module _ {D : Type 0} (state : D → DiskState) (fields : List MemberData) (t : 
     undamaged = λ is.
         let w = work.wrote is in
         let dealt = ended.dealt t p w.0 born w.1 in
-        record { unspoiled = dealt.1; untorn = dealt.0.beside.untorn };
+        record {
+          unspoiled = dealt.1;
+          untorn = dealt.0.beside.untorn;
+          published = λ staged. absurd (false≢true (sym (ended.staged ∙ born.not_staged) ∙ staged));
+        };
     later = ended.later;
     number = AllZip-long (λ (s s' : SourceState). s.faults ≤ s'.faults) sources sources' work.later;
     sources_later = work.later;

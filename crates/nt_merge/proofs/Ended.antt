@@ -4,6 +4,7 @@ use Rattle.std.proofs.Common.{◌++◌, map, length, take, drop, Some}
 use Rattle.std.proofs.Common.{None, arith}
 use Rattle.std.specs.Prelude.{Ok, Bool, false, Contains, slice_index_or}
 use Rattle.std.specs.List.{AllByRecursion, range_with_len}
+use Rattle.std.proofs.lemmas.Bool.{false≢true}
 use Rattle.std.proofs.lemmas.List.{length-map}
 use Rattle.std.proofs.lemmas.List.FromFn.{length-range_with_len}
 use Rattle.std.proofs.lemmas.List.Sums.{sum_by-cons}
@@ -80,7 +81,11 @@ pub undamaged : (t : Table) (p : Params) (given old : DiskState) (book : BookDat
 undamaged t p given old book is =
     let settled =
     subst (λ (cs : List (Cluster ClusterMeta)). AllByRecursion IsSettledCluster cs) (clusters-unstaged book is.not_staged) is.settled in
-    record { unspoiled = λ k less. none-spoiled (book_ranges book) settled k less; untorn = is.untorn }
+    record {
+      unspoiled = λ k less. none-spoiled (book_ranges book) settled k less;
+      untorn = is.untorn;
+      published = λ staged. absurd (false≢true (sym is.not_staged ∙ staged));
+    }
 
 -- ---- a limit that a close passes
 

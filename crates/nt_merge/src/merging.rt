@@ -172,7 +172,9 @@ fn close_target<D: Disk>(
         }),
         Err(CloseError::Memory) => Err(MergeError::Memory),
         Err(CloseError::Fault) => Err(MergeError::DiskFault),
-        Err(CloseError::Spoiled { .. } | CloseError::Torn { .. }) => unreachable!(),
+        Err(
+            CloseError::Spoiled { .. } | CloseError::Torn { .. } | CloseError::Unpublished { .. },
+        ) => unreachable!(),
     }
 }
 

@@ -17,7 +17,7 @@ use Rattle.nt_book.specs.Listing.{torn_group}
 use Rattle.nt_close.specs.declared.error.CloseError.{CloseError}
 use Rattle.nt_close.specs.declared.error.CloseError.TheVariants as close
 use Rattle.nt_close.specs.Closing.{HasCloseCause, LeavesClosed}
-use Rattle.nt_close.specs.Damage.{IsUndamaged, IsTornAt}
+use Rattle.nt_close.specs.Damage.{IsUndamaged, IsTornAt, IsUnpublishedAt}
 use Rattle.nt_close.specs.Filled.{closing_tail, closing_front}
 use Rattle.nt_close.specs.Passing.{passed_by_close}
 use Rattle.nt_close.specs.Spoiled.{IsUnspoiled, IsFirstSpoiled}
@@ -39,12 +39,17 @@ use Rattle.nt_script.specs.Whole.{IsScriptFile}
 use Rattle.nt_script.specs.Filing.{ScriptFileTold, LeavesScriptFile, FinishesScript}
 use Rattle.nt_script.proofs.Wholes.{LateFilesMean, file_here, numbers_here, over_here}
 
--- no range is spoiled, and no page list failed
+-- no range is spoiled, no page list failed, and none is unpublished
 pub none_spoiled : (book : BookData) (cluster faults : ℕ) → IsUndamaged book → IsFirstSpoiled book cluster faults → ⊥
 none_spoiled book cluster faults none first = subst IsUnspoiled first.spoiled (none.unspoiled cluster first.inside)
 
 pub none_torn : (book : BookData) (group faults : ℕ) → IsUndamaged book → IsTornAt book group faults → ⊥
 none_torn book group faults none at = cc (sym (ap (λ (x : Option Tear). torn_group x) none.untorn) ∙ at.torn)
+
+pub none_unpublished : (book : BookData) (range : ℕ) → IsUndamaged book → IsUnpublishedAt book range → ⊥
+none_unpublished book range none at =
+    let one = none.published at.unpublished.staged range at.unpublished.inside at.unpublished.filled in
+    at.unpublished.none one.0 one.1 one.2
 
 held_is : (held : Option Held) (h k : Held) → held ≡ Some h → held ≡ Some k → h ≡ k
 held_is held h k one two = cc (one, two)
@@ -107,6 +112,7 @@ module _ {D : Type 0} (state : D → DiskState) (w : SeqState D) (F : List Membe
         → HoldsNow (state disk).held (λ left. LeavesFile state w left (Err e)) → Ends e
     unclosed_here (close.Spoiled cluster faults) none cause left ends = absurd (none_spoiled w.book cluster faults none cause)
     unclosed_here (close.Torn group faults) none cause left ends = absurd (none_torn w.book group faults none cause)
+    unclosed_here (close.Unpublished range) none cause left ends = absurd (none_unpublished w.book range none cause)
     unclosed_here close.Memory none cause left ends =
         record { told = still left.place.held; crash = (ends.0, ends.1, ends.2.crash) }
     unclosed_here (close.RangeTooLarge len most) none cause left ends = record {
@@ -142,6 +148,7 @@ closing_failed : {D : Type 0} (state : D → DiskState) (w : SeqState D) (disk :
     (Err e) → script_error_of_close e ≡ Outside → 0 < (state disk).faults
 closing_failed state w disk (close.Spoiled cluster faults) none cause left is = absurd (none_spoiled w.book cluster faults none cause)
 closing_failed state w disk (close.Torn group faults) none cause left is = absurd (none_torn w.book group faults none cause)
+closing_failed state w disk (close.Unpublished range) none cause left is = absurd (none_unpublished w.book range none cause)
 closing_failed state w disk close.Memory none cause left is = absurd (cc is)
 closing_failed state w disk (close.RangeTooLarge len most) none cause left is = absurd (cc is)
 closing_failed state w disk (close.FileTooLarge end most) none cause left is = absurd (cc is)

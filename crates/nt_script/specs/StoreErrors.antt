@@ -40,6 +40,7 @@ script_error_of_begin begin.Fault = Outside
 abbrev pub script_error_of_close : CloseError → ScriptStoreError
 script_error_of_close (close.Spoiled cluster faults) = Outside
 script_error_of_close (close.Torn group faults) = Outside
+script_error_of_close (close.Unpublished range) = Outside
 script_error_of_close close.Memory = Memory
 script_error_of_close (close.RangeTooLarge len most) = Limit len most
 script_error_of_close (close.FileTooLarge end most) = Limit end most

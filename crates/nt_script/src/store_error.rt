@@ -91,9 +91,10 @@ impl From<CloseError> for ScriptStoreError {
 
     fn from(error: CloseError) -> Self {
         match error {
-            CloseError::Spoiled { .. } | CloseError::Torn { .. } | CloseError::Fault => {
-                ScriptStoreError::Outside
-            }
+            CloseError::Spoiled { .. }
+            | CloseError::Torn { .. }
+            | CloseError::Unpublished { .. }
+            | CloseError::Fault => ScriptStoreError::Outside,
             CloseError::Memory => ScriptStoreError::Memory,
             CloseError::RangeTooLarge { len, limit } => ScriptStoreError::Limit {
                 reached: len,

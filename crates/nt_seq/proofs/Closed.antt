@@ -26,7 +26,7 @@ use Rattle.nt_lists.specs.Parts.{part_bytes}
 use Rattle.nt_layout.specs.Beside.{HasListsBeside, parts_so_far}
 use Rattle.nt_layout.specs.Finished.{finished}
 use Rattle.nt_close.specs.declared.error.CloseError.{CloseError}
-use Rattle.nt_close.specs.declared.error.CloseError.TheVariants.{Spoiled, Torn, Memory, RangeTooLarge, FileTooLarge, Fault}
+use Rattle.nt_close.specs.declared.error.CloseError.TheVariants.{Spoiled, Torn, Unpublished, Memory, RangeTooLarge, FileTooLarge, Fault}
 use Rattle.nt_cuts.specs.Cuts.{WritesFirst, LeavesUnfinished, LeavesUnfinishedOr}
 use Rattle.nt_close.specs.Closing.{HasCloseCause, LeavesClosed, AreRangesOf}
 use Rattle.nt_close.specs.Crashes.{LeavesByAnswer}
@@ -182,6 +182,7 @@ module _ {D : Type 0} (state : D → DiskState) (w : SeqState D) (is : IsWriting
         → HasCloseCause w.book (passed_by_close w.params w.table w.book) (Err e) → IsLeft new (LeftOpen e)
     left-open new (Spoiled cluster faults) left cause = stays-open new left.place.held
     left-open new (Torn group faults) left cause = stays-open new left.place.held
+    left-open new (Unpublished range) left cause = stays-open new left.place.held
     left-open new Memory left cause = stays-open new left.place.held
     left-open new (RangeTooLarge len most) left cause = stays-open new left.place.held
     left-open new (FileTooLarge end most) left cause = stays-open new left.place.held

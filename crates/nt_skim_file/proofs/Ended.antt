@@ -29,7 +29,7 @@ use Rattle.nt_script.specs.declared.storing.Counts.{Counts}
 use Rattle.nt_script.specs.Limits.{StandsWithin, IsOverEnd}
 use Rattle.nt_script.specs.Passing.{passes_closing}
 use Rattle.nt_script.specs.Taking.{HasWrittenLines}
-use Rattle.nt_script.proofs.Closed.{none_spoiled, none_torn}
+use Rattle.nt_script.proofs.Closed.{none_spoiled, none_torn, none_unpublished}
 use Rattle.nt_script.proofs.Passed.{stands_within, closed_over}
 use Rattle.nt_script.proofs.Wholes.{LateFilesMean}
 use Rattle.nt_skim_file.specs.declared.error.SkimStoreError.TheVariants.{Outside}
@@ -119,6 +119,8 @@ module _ {D : Type 0} (state : D → DiskState) (w : SeqState D) (F : List Membe
     unclosed_here (close.Spoiled cluster faults) answers ends left =
         absurd (none_spoiled w.book cluster faults answers.undamaged answers.cause)
     unclosed_here (close.Torn group faults) answers ends left = absurd (none_torn w.book group faults answers.undamaged answers.cause)
+    unclosed_here (close.Unpublished range) answers ends left =
+        absurd (none_unpublished w.book range answers.undamaged answers.cause)
     unclosed_here close.Memory answers ends left =
         record { told = still ends.place.held; crash = (left.0, left.1, left.2.crash) }
     unclosed_here (close.RangeTooLarge len most) answers ends left = record {
@@ -144,6 +146,8 @@ closing_failed state w disk (close.Spoiled cluster faults) answers ends is =
     absurd (none_spoiled w.book cluster faults answers.undamaged answers.cause)
 closing_failed state w disk (close.Torn group faults) answers ends is =
     absurd (none_torn w.book group faults answers.undamaged answers.cause)
+closing_failed state w disk (close.Unpublished range) answers ends is =
+    absurd (none_unpublished w.book range answers.undamaged answers.cause)
 closing_failed state w disk close.Memory answers ends is = absurd (cc is)
 closing_failed state w disk (close.RangeTooLarge len most) answers ends is = absurd (cc is)
 closing_failed state w disk (close.FileTooLarge end most) answers ends is = absurd (cc is)

@@ -62,6 +62,7 @@ skim_of_early clusters skim.Memory = Memory
 abbrev pub skim_of_close : CloseError → SkimStoreError
 skim_of_close (close.Spoiled cluster faults) = Outside
 skim_of_close (close.Torn group faults) = Outside
+skim_of_close (close.Unpublished range) = Outside
 skim_of_close close.Memory = Memory
 skim_of_close (close.RangeTooLarge len most) = Limit len most
 skim_of_close (close.FileTooLarge end most) = Limit end most

@@ -99,9 +99,10 @@ impl From<CloseError> for SkimStoreError {
 
     fn from(error: CloseError) -> Self {
         match error {
-            CloseError::Spoiled { .. } | CloseError::Torn { .. } | CloseError::Fault => {
-                SkimStoreError::Outside
-            }
+            CloseError::Spoiled { .. }
+            | CloseError::Torn { .. }
+            | CloseError::Unpublished { .. }
+            | CloseError::Fault => SkimStoreError::Outside,
             CloseError::Memory => SkimStoreError::Memory,
             CloseError::RangeTooLarge { len, limit } => SkimStoreError::Limit {
                 reached: len,

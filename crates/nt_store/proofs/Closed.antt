@@ -15,7 +15,7 @@ use Rattle.nt_close.specs.declared.error.CloseError.TheVariants as close
 use Rattle.nt_close.specs.Steps.{closed_on, closed_partly, closed_whole}
 use Rattle.nt_close.specs.Laws.{ClosedIsFinished, EndsOverFirst}
 use Rattle.nt_close.specs.Passing.{passed_by_close}
-use Rattle.nt_close.specs.Damage.{IsTornAt, IsUndamaged}
+use Rattle.nt_close.specs.Damage.{IsTornAt, IsUnpublishedAt, IsUndamaged}
 use Rattle.nt_close.specs.Spoiled.{IsUnspoiled, IsFirstSpoiled}
 use Rattle.nt_close.specs.Closing.{HasCloseCause, LeavesClosed, IsCloseCut, StaysWithin}
 use Rattle.nt_close.proofs.FirstByte.{cut_shut, closes_in_order}
@@ -37,10 +37,16 @@ none_spoiled book cluster faults none first = subst IsUnspoiled first.spoiled (n
 none_torn : (book : BookData) (group faults : ℕ) → IsUndamaged book → IsTornAt book group faults → ⊥
 none_torn book group faults none torn = cc (none.untorn, torn.torn)
 
+none_unpublished : (book : BookData) (range : ℕ) → IsUndamaged book → IsUnpublishedAt book range → ⊥
+none_unpublished book range none at =
+    let one = none.published at.unpublished.staged range at.unpublished.inside at.unpublished.filled in
+    at.unpublished.none one.0 one.1 one.2
+
 -- a closing that fails names no text
 pub of_no_text : (e : CloseError) → IsOfNoText (error_of_close e)
 of_no_text (close.Spoiled cluster faults) = tt
 of_no_text (close.Torn group faults) = tt
+of_no_text (close.Unpublished range) = tt
 of_no_text close.Memory = tt
 of_no_text (close.RangeTooLarge len most) = tt
 of_no_text (close.FileTooLarge end most) = tt
@@ -89,6 +95,7 @@ module _ (long : RangesAreAsLong) (stored : FinishedAreStored) (over : PassedAre
       → CloseLeaves fields p texts (commit_order book) new.held (Err (error_of_close e))
   unclosed_leaves (close.Spoiled cluster faults) old new is undamaged cause left = absurd (none_spoiled book cluster faults undamaged cause)
   unclosed_leaves (close.Torn group faults) old new is undamaged cause left = absurd (none_torn book group faults undamaged cause)
+  unclosed_leaves (close.Unpublished range) old new is undamaged cause left = absurd (none_unpublished book range undamaged cause)
   unclosed_leaves close.Memory old new is undamaged cause left = still new.held (left.place.held ∙ is)
   unclosed_leaves (close.RangeTooLarge len most) old new is undamaged cause left = (
     record {
@@ -138,6 +145,7 @@ module _ (leave : CrashesLeave) (t : Table) (p : Params) (book : BookData) (fiel
       → HoldsNow new.held (λ left. CrashLeaves (IsStored p fields texts (commit_order book)) left.log (Err (error_of_close e)))
   unclosed_crash (close.Spoiled cluster faults) old new is undamaged cause left = absurd (none_spoiled book cluster faults undamaged cause)
   unclosed_crash (close.Torn group faults) old new is undamaged cause left = absurd (none_torn book group faults undamaged cause)
+  unclosed_crash (close.Unpublished range) old new is undamaged cause left = absurd (none_unpublished book range undamaged cause)
   unclosed_crash close.Memory old new is undamaged cause left = untouched close.Memory new.held (left.place.held ∙ is)
   unclosed_crash (close.RangeTooLarge len most) old new is undamaged cause left =
       untouched (close.RangeTooLarge len most) new.held (left.place.held ∙ is)
@@ -160,6 +168,7 @@ close_order tail front old new (Ok value) reads left h is =
     (_, left.held h is, λ shut order. closes_in_order tail front h (some_shut h.image shut) (reads h is) order _ (closed_whole refl))
 close_order tail front old new (Err (close.Spoiled cluster faults)) reads left h is = (h, left.place.held ∙ is, λ shut order. order)
 close_order tail front old new (Err (close.Torn group faults)) reads left h is = (h, left.place.held ∙ is, λ shut order. order)
+close_order tail front old new (Err (close.Unpublished range)) reads left h is = (h, left.place.held ∙ is, λ shut order. order)
 close_order tail front old new (Err close.Memory) reads left h is = (h, left.place.held ∙ is, λ shut order. order)
 close_order tail front old new (Err (close.RangeTooLarge len most)) reads left h is = (h, left.place.held ∙ is, λ shut order. order)
 close_order tail front old new (Err (close.FileTooLarge end most)) reads left h is = (h, left.place.held ∙ is, λ shut order. order)
@@ -175,6 +184,8 @@ close_fails book passed tail front old new (close.Spoiled cluster faults) undama
     faults undamaged cause)
 close_fails book passed tail front old new (close.Torn group faults) undamaged cause left is = absurd (none_torn book group faults undamaged
     cause)
+close_fails book passed tail front old new (close.Unpublished range) undamaged cause left is =
+    absurd (none_unpublished book range undamaged cause)
 close_fails book passed tail front old new close.Memory undamaged cause left is = absurd (cc is)
 close_fails book passed tail front old new (close.RangeTooLarge len most) undamaged cause left is = absurd (cc is)
 close_fails book passed tail front old new (close.FileTooLarge end most) undamaged cause left is = absurd (cc is)

@@ -29,10 +29,11 @@ error_of_begin (begin.RangeTooLarge len most) = Limit len most
 error_of_begin (begin.FileTooLarge end most) = Limit end most
 error_of_begin begin.Fault = Outside
 
--- a file that isn't closed; that a range of it is spoiled, or a page list torn, comes of a failure
+-- a file that isn't closed; that a range of it is spoiled or unpublished, or a page list torn, comes of a failure
 abbrev pub error_of_close : CloseError → StoreError
 error_of_close (close.Spoiled cluster faults) = Outside
 error_of_close (close.Torn group faults) = Outside
+error_of_close (close.Unpublished range) = Outside
 error_of_close close.Memory = Memory
 error_of_close (close.RangeTooLarge len most) = Limit len most
 error_of_close (close.FileTooLarge end most) = Limit end most

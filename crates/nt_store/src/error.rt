@@ -122,9 +122,10 @@ impl From<CloseError> for StoreError {
 
     fn from(error: CloseError) -> Self {
         match error {
-            CloseError::Spoiled { .. } | CloseError::Torn { .. } | CloseError::Fault => {
-                StoreError::Outside
-            }
+            CloseError::Spoiled { .. }
+            | CloseError::Torn { .. }
+            | CloseError::Unpublished { .. }
+            | CloseError::Fault => StoreError::Outside,
             CloseError::Memory => StoreError::Memory,
             CloseError::RangeTooLarge { len, limit } => StoreError::Limit {
                 reached: len,

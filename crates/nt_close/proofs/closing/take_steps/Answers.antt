@@ -4,8 +4,8 @@ use Rattle.nt_close.proofs.Within.{within, listed-beside}
 use Rattle.nt_close.proofs.Leaving.{closed, cut, finished-there}
 use Rattle.nt_close.proofs.closing.take_steps.Goals as goal
 
-pub returns-in_err-write_end : goal.returns-in_err-write_end
-returns-in_err-write_end g c =
+pub returns-in_err-write_end-clause-closes : goal.returns-in_err-write_end-clause-closes
+returns-in_err-write_end-clause-closes g c =
     let p = err_from_is_err_and c.from_residual-in_err-write_end.result c.from_residual-in_err-write_end.ensures.1 in
     rw (p.1, p.2) (record {
       cause = search rules;
@@ -15,8 +15,8 @@ returns-in_err-write_end g c =
       finished = tt;
     })
 
-pub returns : goal.returns
-returns g c =
+pub returns-clause-closes : goal.returns-clause-closes
+returns-clause-closes g c =
     let done = closed _ _ _ _ _ _ _ (g.D.Disk.state c.args.disk.now) (g.D.Disk.state c.room.new.self) _
     c.in_ok-ending.ensures.ok c.deref.ensures.value c.front_of-front.ensures c.room.ensures.held c.room.ensures.faults
     c.in_ok-write_end.ensures.ok c.write_end.ensures.out c.write_end.ensures.cause.later in

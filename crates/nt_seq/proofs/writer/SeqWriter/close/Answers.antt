@@ -1,5 +1,6 @@
 use Rattle.std.proofs.Common.{◌≡◌, ◌∙◌, sym, subst, true, Bool}
 use Rattle.std.specs.List.{AllByRecursion}
+use Rattle.std.proofs.lemmas.Bool.{false≢true}
 use Rattle.nt_machine.specs.History.{clusters_of}
 use Rattle.nt_book.specs.Books.{book_clusters, book_ranges}
 use Rattle.nt_seq.proofs.Blobs.{late-length, late-entries}
@@ -34,6 +35,7 @@ returns-clause-cause g c =
         unspoiled = none-spoiled (book_ranges c.self.inside.book) (subst (λ (b : Bool). AllByRecursion IsSettledCluster (clusters_of b
             c.self.inside.book.history)) was.not_staged was.settled);
         untorn = was.untorn;
+        published = λ staged. absurd (false≢true (sym was.not_staged ∙ staged));
       };
       cause = c.in-Err.ensures.closes.cause;
     })
