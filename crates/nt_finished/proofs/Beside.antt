@@ -1,5 +1,5 @@
 -- Files whose page lists stand beside their clusters.
-use Rattle.std.proofs.Common.{◌≡◌, ℕ, ◌+◌, ◌-◌, ◌<◌, ◌≤◌, false, List, ◌++◌, map, length, refl}
+use Rattle.std.proofs.Common.{◌≡◌, ℕ, Bool, ◌+◌, ◌<◌, ◌≤◌, false, List, ◌++◌, map, length}
 use Rattle.std.proofs.Common.{sym, ap, subst, ◌∙◌, arith, Option}
 use Rattle.std.specs.Prelude.{IfSome}
 use Rattle.std.specs.List.{concat, range_with_len}
@@ -22,7 +22,7 @@ use Rattle.nt_layout.specs.Headers.{header_sum, clusters_place}
 use Rattle.nt_layout.specs.Groups.{list_parts}
 use Rattle.nt_layout.specs.Finished.{spans, range_parts, middle, finished}
 use Rattle.nt_layout.specs.Beside.{HasListsBeside, full_span, lists_left, parts_so_far}
-use Rattle.nt_layout.specs.Laid.{AreBlobsOf, Measures, IsWithin, IsBookOf, IsLaid, range_of}
+use Rattle.nt_layout.specs.Laid.{AreBlobsOf, Measures, IsWithin, IsBookOf, RangesAreClusters, IsLaid, range_of}
 use Rattle.nt_finished.specs.Ranged.{IsRangedBook}
 use Rattle.nt_finished.proofs.Lengths.{clusters_told, ranges-len}
 use Rattle.nt_finished.proofs.Spans.{spans_in_order}
@@ -114,6 +114,12 @@ beside_ranged t most book ranges kept beside begin firsts lens = record {
   behind = all_beside t most book kept beside ranges begin lens;
 }
 
+pub clusters-beside : (staged : Bool) (t : Table) (most : ℕ) (book : BookData) → IsBookKept book → HasListsBeside t most book
+    → RangesAreClusters staged book
+clusters-beside staged t most book kept beside =
+    let all = ranges-beside t most book kept beside in
+    record { all = ap (λ (cs : List (Cluster ClusterMeta)). length cs) all; in_order = λ is. all }
+
 pub laid-beside : (file : List ℕ) (t : Table) (clusters : List (List TreesData)) (m : Measures) (ranges : List (List ℕ)) (book : BookData)
     → m.staged ≡ false → IsBookOf t book → HasListsBeside t m.group book → IsWithin t m book
     → AreBlobsOf t m.page clusters ranges (book_clusters book)
@@ -126,6 +132,7 @@ laid-beside file t clusters m ranges book staged of beside within are is =
       book = book;
       is_of = of;
       within = within;
+      whole = clusters-beside m.staged t m.group book of.kept beside;
       ranges = ranges;
       lens = lens;
       blobs_are =

@@ -1,5 +1,5 @@
 -- A file that contexts fill is known byte by byte.
-use Rattle.std.proofs.Common.{◌≡◌, ◌∙◌, ap, sym, refl, subst, ℕ, ◌+◌, List, [], ◌∷◌, ◌++◌, length, Some, inl, inr, arith}
+use Rattle.std.proofs.Common.{◌≡◌, ◌∙◌, ap, sym, refl, subst, ℕ, ◌+◌, Bool, List, [], ◌∷◌, ◌++◌, length, Some, inl, inr, arith}
 use Rattle.std.specs.Prelude.{◌⊎◌, Contains}
 use Rattle.std.specs.List.{AllByRecursion, AllZip, concat}
 use Rattle.nt_lists.specs.Parts.{Part, AreBehind, joined_len, part_bytes}
@@ -16,10 +16,10 @@ use Rattle.nt_book.specs.Books.{BookData}
 use Rattle.nt_layout.specs.Headers.{header_sum, clusters_place}
 use Rattle.nt_layout.specs.Groups.{list_parts}
 use Rattle.nt_layout.specs.Finished.{range_parts}
-use Rattle.nt_layout.specs.Beside.{lists_noted, parts_so_far}
-use Rattle.nt_finished.specs.Filled.{FillsBook, IsBesideBook}
+use Rattle.nt_layout.specs.Arranged.{lists_between, parts_filled}
+use Rattle.nt_finished.specs.Filled.{FillsBook, IsArrangedBook}
 use Rattle.nt_finished.proofs.Arranged.{all_among, all_from, contains-cons}
-use Rattle.nt_finished.proofs.SoFar.{all_so_far, so_far-placed}
+use Rattle.nt_finished.proofs.SoFar.{all_before, before-placed}
 
 -- a log whose page lists and settled ranges leave no gap is known
 abbrev pub WrittenKnown : Type 0
@@ -55,18 +55,18 @@ all-written lists rs ls ps cs ranges same each =
     at p (inl is) = all_among (WasWritten lists cs) rs p ranges is
     at p (inr is) = is_list (subst (λ (l : List Part). Contains l p) (sym same) is)
 
-pub filled-known : WrittenKnown → (t : Table) (most : ℕ) (book : BookData) (ranges : List (List ℕ)) (log steps : List Step)
+pub filled-known : WrittenKnown → (staged : Bool) (t : Table) (most : ℕ) (book : BookData) (ranges : List (List ℕ)) (log steps : List Step)
     (front : List ℕ) (end : ℕ) (history : List (Entry ClusterMeta)) (lists : List Part) (torn : List ℕ)
-    → IsBesideBook t most book ranges → IsKnown log front → length front ≡ clusters_place t → IsLegal (length front) history
-    → IsLogOf (length front) end history lists torn steps → FillsBook t most book ranges history end lists
-    → IsKnown (log ++ steps) (front ++ concat (part_bytes (parts_so_far t book most ranges)))
-filled-known written t most book ranges log steps front end history lists torn of known long legal logged fills =
-    let parts = parts_so_far t book most ranges in
-    let noted = list_parts (header_sum t) book (lists_noted t book most) in
-    let lie = so_far-placed t most book of.kept of.beside ranges of.begin of.lens in
+    → IsArrangedBook staged t most book ranges → IsKnown log front → length front ≡ clusters_place t → IsLegal (length front) history
+    → IsLogOf (length front) end history lists torn steps → FillsBook staged t most book ranges history end lists
+    → IsKnown (log ++ steps) (front ++ concat (part_bytes (parts_filled staged t book most ranges)))
+filled-known written staged t most book ranges log steps front end history lists torn of known long legal logged fills =
+    let parts = parts_filled staged t book most ranges in
+    let noted = list_parts (header_sum t) book (lists_between staged t book most) in
+    let lie = before-placed staged t most book of.kept of.lists ranges of.begin of.lens in
     written log steps front end history lists torn parts known legal logged
     (subst (λ (n : ℕ). AreBehind n parts) (sym long) lie.0)
     (ap (λ (n : ℕ). n + joined_len parts) long ∙ (lie.1 ∙ sym fills.ends))
     (all-written lists (range_parts (ranges_of book.history) ranges) noted parts (ranges_of history)
     (settled-written lists (ranges_of history) (ranges_of history) (ranges_of book.history) ranges (λ c is. is) fills.same
-    fills.settled) fills.noted (all_so_far t most book ranges))
+    fills.settled) fills.noted (all_before staged t most book ranges))

@@ -7,6 +7,7 @@ pub mod Staged
 pub mod RangeParts
 pub mod BesideLists
 pub mod Beside
+pub mod LaidArranged
 pub mod Parts
 pub mod PartsThere
 pub mod Headers

@@ -4,11 +4,11 @@ use Rattle.std.specs.Prelude.{slice_get, slice_index_or}
 use Rattle.std.specs.List.{AllByRecursion, AllZip}
 use Rattle.nt_types.specs.TreeData.{TreesData}
 use Rattle.nt_grammar.specs.Table.{Table}
-use Rattle.nt_machine.specs.Deal.{Uses, IsDeal}
+use Rattle.nt_machine.specs.Deal.{UsesFor, IsDeal}
 use Rattle.nt_machine.specs.History.{Cluster}
 use Rattle.nt_machine.specs.Machine.{Settled, ChunkRange, MachineState, ContextStep, AreTrue, IsRun, contexts_of, state_after}
 use Rattle.nt_machine.proofs.Counts.{counted}
-use Rattle.nt_machine.proofs.RunOrders.{run_uses, run_deals}
+use Rattle.nt_machine.proofs.RunOrders.{run_uses, run_deals, run_grouped}
 use Rattle.nt_machine.proofs.Runs.{run_true}
 use Rattle.nt_book.specs.declared.meta.ClusterMeta.{ClusterMeta}
 use Rattle.nt_book.specs.Books.{book_clusters}
@@ -51,19 +51,23 @@ module _ (t : Table) (m : Measures) (chunks : List (List (List TreesData))) (blo
 
   pub run-laid : (steps : List ContextStep) (file : List ℕ) → IsRun m.staged chunks blob (clusters_place t) steps
       → (After steps).closed ≡ true → HoldsRun t m chunks blob file (After steps)
-      → (dealt : List (List TreesData)) × Uses (contexts_of (After steps).order) chunks
+      → (dealt : List (List TreesData)) × UsesFor m.staged (contexts_of (After steps).order) chunks
       × IsDeal chunks (contexts_of (After steps).order) dealt × IsLaid file t dealt m
   run-laid steps file ok closed holds =
       let s = After steps in
       let deal = run_deals m.staged chunks blob (clusters_place t) steps ok closed in
       let done = (counted m.staged chunks blob (clusters_place t) steps ok).done closed in (
         deal.dealt,
-        run_uses m.staged chunks blob (clusters_place t) steps ok closed,
+        record {
+          uses = run_uses m.staged chunks blob (clusters_place t) steps ok closed;
+          grouped = run_grouped m.staged chunks blob (clusters_place t) steps ok;
+        },
         deal.is_deal,
         record {
           book = holds.book;
           is_of = holds.is_of;
           within = holds.within;
+          whole = holds.whole;
           ranges = range_contents s.ranges;
           lens = holds.lens;
           blobs_are = blobs-dealt s.ranges deal.dealt s.order (book_clusters holds.book) done.settled

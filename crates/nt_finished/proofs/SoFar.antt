@@ -1,7 +1,7 @@
 -- What stands in a file before it is closed: the ranges, and the page lists that are noted.
 use Rattle.std.proofs.Common.{◌≡◌, ◌∙◌, ℕ, zero, suc, ◌+◌, ◌≤◌, List, [], ◌∷◌, ◌++◌, map, length, take, drop, sum, ap, sym}
 use Rattle.std.specs.Prelude.{◌⊎◌, Contains}
-use Rattle.std.proofs.Common.{◌*◌, inl, inr, subst, suc-mul, Option, arith}
+use Rattle.std.proofs.Common.{◌*◌, Bool, true, false, inl, inr, subst, suc-mul, Option, arith}
 use Rattle.std.specs.Int.{div_ceil}
 use Rattle.std.specs.List.{AllByRecursion, concat, range_with_len}
 use Rattle.std.proofs.Math.Nat.{le_of_mul-le-mul_right, zero-mul}
@@ -13,21 +13,26 @@ use Rattle.nt_lists.specs.Parts.{Part, AreBehind, joined_len, part_bytes}
 use Rattle.nt_format.proofs.Pieces.{length-concat}
 use Rattle.nt_grammar.specs.Table.{Table}
 use Rattle.nt_machine.specs.History.{Cluster, ranges_of}
+use Rattle.nt_machine.specs.Legal.{spans_of}
+use Rattle.nt_machine.specs.Spans.{AreBehindSpans}
 use Rattle.nt_book.specs.declared.list.NotedList.{NotedList}
 use Rattle.nt_book.specs.declared.list.Tear.{Tear}
 use Rattle.nt_book.specs.declared.meta.ClusterMeta.{ClusterMeta}
-use Rattle.nt_book.specs.Books.{BookData, book_clusters, book_end}
+use Rattle.nt_book.specs.Books.{BookData, IsUngrouped, book_clusters, book_end}
 use Rattle.nt_book.specs.Kept.{IsBookKept}
 use Rattle.nt_book.specs.Listing.{clusters_listed, lists_bytes, torn_bytes}
+use Rattle.nt_book.proofs.Ungrouped.{end-ungrouped, placed-ungrouped}
 use Rattle.nt_pagelists.specs.Objects.{ClusterSpan, cluster_span, list_len}
 use Rattle.nt_layout.specs.Headers.{header_sum, clusters_place}
 use Rattle.nt_layout.specs.Groups.{PlacedList, place_beside, places_beside, list_part, list_parts}
 use Rattle.nt_layout.specs.Finished.{spans, range_parts, parts_beside}
+use Rattle.nt_layout.specs.Arranged.{HasLists, lists_between, parts_filled}
 use Rattle.nt_layout.specs.Beside.{HasListsBeside, lists_left, lists_noted, parts_so_far}
 use Rattle.nt_layout.proofs.Middles.{concat-range_parts}
 use Rattle.nt_finished.proofs.Arranged.{all_from, len-beside, lists_len, parts_len}
 use Rattle.nt_finished.proofs.Beside.{all_beside, listed-beside, middle-parts, noted-beside, some-beside}
 use Rattle.nt_finished.proofs.BesideLists.{AreNotedOf}
+use Rattle.nt_finished.proofs.Staged.{behind-ranges}
 
 behind-front : (place : ℕ) (ps qs : List Part) → AreBehind place (ps ++ qs) → AreBehind place ps
 behind-front place [] qs h = tt
@@ -60,15 +65,23 @@ all-parts P sum book (l ∷ ls) ps h g =
     (all-take P l.span.count ps h) (g.0, all-parts P sum book ls (drop l.span.count ps) (all-drop P l.span.count ps h) g.1)
 
 -- all that stands is a range or a page list that is noted
-pub all_so_far : (t : Table) (most : ℕ) (book : BookData) (ranges : List (List ℕ))
+all-so_far : (t : Table) (most : ℕ) (book : BookData) (ranges : List (List ℕ))
     → AllByRecursion (λ (p : Part). Contains (range_parts (ranges_of book.history) ranges) p
     ⊎ Contains (list_parts (header_sum t) book (lists_noted t book most)) p) (parts_so_far t book most ranges)
-all_so_far t most book ranges =
+all-so_far t most book ranges =
     let rs = range_parts (ranges_of book.history) ranges in
     let ls = list_parts (header_sum t) book (lists_noted t book most) in
     all-parts (λ (p : Part). Contains rs p ⊎ Contains ls p) (header_sum t) book (lists_noted t book most) rs
     (all_from (λ (p : Part). Contains rs p ⊎ Contains ls p) rs (λ p is. inl is))
     (all_from (λ (p : Part). Contains rs p ⊎ Contains ls p) ls (λ p is. inr is))
+
+pub all_before : (staged : Bool) (t : Table) (most : ℕ) (book : BookData) (ranges : List (List ℕ))
+    → AllByRecursion (λ (p : Part). Contains (range_parts (ranges_of book.history) ranges) p
+    ⊎ Contains (list_parts (header_sum t) book (lists_between staged t book most)) p) (parts_filled staged t book most ranges)
+all_before true t most book ranges =
+    let rs = range_parts (ranges_of book.history) ranges in
+    all_from (λ (p : Part). Contains rs p ⊎ Contains (list_parts (header_sum t) book []) p) rs (λ p is. inl is)
+all_before false t most book ranges = all-so_far t most book ranges
 
 noted-len : (sum : ℕ) (book : BookData) (ls : List NotedList) (ss : List ClusterSpan) → AreNotedOf sum book ls ss → length ls ≤ length ss
     → lists_len sum book (take (length ls) (places_beside book ss)) ≡ lists_bytes ls
@@ -102,7 +115,7 @@ module _ (t : Table) (most : ℕ) (book : BookData) (kept : IsBookKept book) (be
       omega (arith, fewer, length-map (range_with_len 0 count) (cluster_span most n), length-range_with_len 0 count)
 
   -- they lie in order, and end where the book does
-  pub so_far-placed : AreBehind (clusters_place t) (parts_so_far t book most ranges)
+  so_far-placed : AreBehind (clusters_place t) (parts_so_far t book most ranges)
       × (clusters_place t + joined_len (parts_so_far t book most ranges) ≡ book_end book)
   so_far-placed =
       let cs = ranges_of book.history in
@@ -125,3 +138,34 @@ module _ (t : Table) (most : ℕ) (book : BookData) (kept : IsBookKept book) (be
           ap (λ (x : Option Tear). torn_bytes x) beside.untorn,
         ),
       )
+
+-- ranges without page lists between them do so too
+ranges-placed : (t : Table) (book : BookData) (ranges : List (List ℕ)) → IsBookKept book → IsUngrouped book
+    → book.begin ≡ clusters_place t → map length ranges ≡ map (λ (c : Cluster ClusterMeta). c.len) (ranges_of book.history)
+    → AreBehind (clusters_place t) (range_parts (ranges_of book.history) ranges)
+    × (clusters_place t + joined_len (range_parts (ranges_of book.history) ranges) ≡ book_end book)
+ranges-placed t book ranges kept bare begin lens =
+    let cs = ranges_of book.history in
+    let same : length ranges ≡ length cs =
+    sym (length-map ranges length) ∙ (ap length lens ∙ length-map cs (λ (c : Cluster ClusterMeta). c.len)) in (
+      behind-ranges (clusters_place t) cs ranges
+          (subst (λ (n : ℕ). AreBehindSpans n (spans_of cs)) begin (placed-ungrouped book kept bare)) lens,
+      omega (
+        arith,
+        begin,
+        joined-len (range_parts cs ranges),
+        ap length (concat-range_parts cs ranges same),
+        length-concat ranges,
+        ap sum lens,
+        sum-map (λ (c : Cluster ClusterMeta). c.len) cs,
+        end-ungrouped book bare,
+      ),
+    )
+
+pub before-placed : (staged : Bool) (t : Table) (most : ℕ) (book : BookData) → IsBookKept book → HasLists staged t most book
+    → (ranges : List (List ℕ)) → book.begin ≡ clusters_place t
+    → map length ranges ≡ map (λ (c : Cluster ClusterMeta). c.len) (ranges_of book.history)
+    → AreBehind (clusters_place t) (parts_filled staged t book most ranges)
+    × (clusters_place t + joined_len (parts_filled staged t book most ranges) ≡ book_end book)
+before-placed true t most book kept lists ranges begin lens = ranges-placed t book ranges kept lists.1 begin lens
+before-placed false t most book kept lists ranges begin lens = so_far-placed t most book kept lists ranges begin lens

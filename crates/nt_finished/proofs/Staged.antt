@@ -1,6 +1,7 @@
 -- Files whose page lists stand behind all ranges.
-use Rattle.std.proofs.Common.{◌≡◌, ℕ, zero, suc, ◌+◌, true, List, [], ◌∷◌, ◌++◌, map, length, sum, refl, sym, ap, subst, ◌∙◌}
+use Rattle.std.proofs.Common.{◌≡◌, ℕ, zero, suc, ◌+◌, Bool, true, List, [], ◌∷◌, ◌++◌, map, length, sum, refl, sym, ap, subst, ◌∙◌}
 use Rattle.std.proofs.Common.{append_assoc, arith}
+use Rattle.std.proofs.lemmas.Bool.{false≢true}
 use Rattle.std.specs.Prelude.{slice_index_or}
 use Rattle.std.specs.List.{concat, fold}
 use Rattle.std.proofs.lemmas.List.{length-append, length-map}
@@ -23,7 +24,7 @@ use Rattle.nt_layout.specs.Headers.{header_sum, clusters_place}
 use Rattle.nt_pagelists.specs.Objects.{ClusterSpan, list_object, list_len}
 use Rattle.nt_layout.specs.Groups.{list_parts, places_behind}
 use Rattle.nt_layout.specs.Finished.{spans, list_places, range_parts, middle, finished}
-use Rattle.nt_layout.specs.Laid.{AreBlobsOf, Measures, IsWithin, IsBookOf, IsLaid, range_of}
+use Rattle.nt_layout.specs.Laid.{AreBlobsOf, Measures, IsWithin, IsBookOf, RangesAreClusters, IsLaid, range_of}
 use Rattle.nt_finished.specs.Ranged.{IsRangedBook}
 use Rattle.nt_finished.proofs.Standing.{length-blob}
 use Rattle.nt_finished.proofs.Arranged.{parts_len}
@@ -127,15 +128,21 @@ staged_ranged t most book ranges kept bare begin firsts lens = record {
   behind = all_behind t most book ranges kept bare begin lens;
 }
 
+pub all-clusters : (staged : Bool) (book : BookData) → staged ≡ true → length (book_clusters book) ≡ length (book_ranges book)
+    → RangesAreClusters staged book
+all-clusters staged book is same = record { all = same; in_order = λ not. absurd (false≢true (sym not ∙ is)) }
+
 pub laid-staged : (file : List ℕ) (t : Table) (clusters : List (List TreesData)) (m : Measures) (ranges : List (List ℕ)) (book : BookData)
     → m.staged ≡ true → IsBookOf t book → IsUngrouped book → IsWithin t m book
+    → length (book_clusters book) ≡ length (book_ranges book)
     → map length ranges ≡ map (λ (c : Cluster ClusterMeta). c.len) (ranges_of book.history)
     → AreBlobsOf t m.page clusters (map (range_of ranges) (book_clusters book)) (book_clusters book)
     → file ≡ finished m.staged t book m.group ranges → IsLaid file t clusters m
-laid-staged file t clusters m ranges book staged of bare within lens are is = record {
+laid-staged file t clusters m ranges book staged of bare within same lens are is = record {
   book = book;
   is_of = of;
   within = within;
+  whole = all-clusters m.staged book staged same;
   ranges = ranges;
   lens = lens;
   blobs_are = are;

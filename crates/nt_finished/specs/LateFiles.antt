@@ -11,7 +11,7 @@ use Rattle.nt_book.specs.Books.{BookData, book_clusters}
 use Rattle.nt_book.specs.Kept.{IsBookKept}
 use Rattle.nt_layout.specs.Headers.{clusters_place}
 use Rattle.nt_layout.specs.Finished.{middle, finished}
-use Rattle.nt_layout.specs.Laid.{IsBlobOfEntries, Measures, IsWithin, range_of}
+use Rattle.nt_layout.specs.Laid.{IsBlobOfEntries, Measures, IsWithin, RangesAreClusters, range_of}
 use Rattle.nt_finished.specs.LeftOut.{filled, LacksFields}
 
 -- the range of a cluster that begins with this entry is the blob of entries under a table that grew to this one behind them; with the
@@ -41,6 +41,7 @@ pub record IsLaidLate (file : List ℕ) (t : Table) (clusters : List (List Trees
   pub begin : book.begin ≡ clusters_place t
   pub firsts : map (λ (c : ColumnRow). c.first) t.columns ≡ book.firsts
   pub within : IsWithin t m book
+  pub whole : RangesAreClusters m.staged book
   -- by the number of the range
   pub ranges : List (List ℕ)
   pub lens : map length ranges ≡ map (λ (c : Cluster ClusterMeta). c.len) (ranges_of book.history)

@@ -9,7 +9,7 @@ use Rattle.nt_book.specs.declared.meta.ClusterMeta.{ClusterMeta}
 use Rattle.nt_book.specs.Books.{BookData, book_clusters}
 use Rattle.nt_layout.specs.Headers.{clusters_place}
 use Rattle.nt_layout.specs.Finished.{middle, finished}
-use Rattle.nt_layout.specs.Laid.{IsBlobOfEntries, IsBookOf, IsWithin, Measures}
+use Rattle.nt_layout.specs.Laid.{IsBlobOfEntries, IsBookOf, IsWithin, RangesAreClusters, Measures}
 use Rattle.nt_lists.specs.Parts.{AreBehind}
 
 -- what stands in a range that was written
@@ -37,6 +37,7 @@ module _ (t : Table) (m : Measures) (chunks : List (List (List TreesData))) (blo
     pub book : BookData
     pub is_of : IsBookOf t book
     pub within : IsWithin t m book
+    pub whole : RangesAreClusters m.staged book
     pub clusters : AllZip (IsChunkCluster s.ranges) s.order (book_clusters book)
     pub lens : map length (range_contents s.ranges) ≡ map (λ (c : Cluster ClusterMeta). c.len) (ranges_of book.history)
     pub behind : AreBehind (clusters_place t) (middle m.staged t book m.group (range_contents s.ranges))

@@ -7,7 +7,7 @@ ghost use Rattle.nt_grammar.specs.Table.{Table};
 ghost use Rattle.nt_plans.specs.Plan.{PlanData};
 ghost use Rattle.nt_machine.specs.History.{Cluster, ranges_of};
 ghost use Rattle.nt_book.specs.declared.meta.ClusterMeta.{ClusterMeta};
-ghost use Rattle.nt_book.specs.Books.{BookData, IsUngrouped, book_clusters};
+ghost use Rattle.nt_book.specs.Books.{BookData, IsUngrouped, book_ranges, book_clusters};
 ghost use Rattle.nt_book.specs.Kept.{IsBookKept};
 ghost use Rattle.nt_pagelists.specs.declared.cluster.ClusterList.{ClusterList};
 ghost use Rattle.nt_file_meaning.specs.Outlines.{Outline, outline_of};
@@ -57,7 +57,8 @@ pub fn late_files_mean_their_entries()
 pub fn late_files_are_laid_behind()
     ensures { (file : List ℕ) (t : Table) (clusters : List (List TreesData)) (m : Measures)
         (ranges : List (List ℕ)) (book : BookData) → m.staged ≡ true → IsBookKept book
-        → IsUngrouped book → book.begin ≡ clusters_place t → map (λ (c : ColumnRow). c.first) t.columns ≡ book.firsts
+        → IsUngrouped book → length (book_clusters book) ≡ length (book_ranges book)
+        → book.begin ≡ clusters_place t → map (λ (c : ColumnRow). c.first) t.columns ≡ book.firsts
         → IsWithin t m book → map length ranges ≡ map (λ (c : Cluster ClusterMeta). c.len) (ranges_of book.history)
         → AreLateBlobs t m.page 0 clusters (map (range_of ranges) (book_clusters book)) (book_clusters book)
         → file ≡ finished m.staged t book m.group ranges → IsLaidLate file t clusters m }

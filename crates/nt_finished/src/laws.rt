@@ -12,7 +12,7 @@ ghost use Rattle.nt_grammar.specs.Table.{Table};
 ghost use Rattle.nt_grammar.specs.ReadingBack.{IsDescribed};
 ghost use Rattle.nt_machine.specs.History.{Cluster, ranges_of};
 ghost use Rattle.nt_book.specs.declared.meta.ClusterMeta.{ClusterMeta};
-ghost use Rattle.nt_book.specs.Books.{BookData, IsUngrouped, book_clusters};
+ghost use Rattle.nt_book.specs.Books.{BookData, IsUngrouped, book_ranges, book_clusters};
 ghost use Rattle.nt_book.specs.Kept.{IsBookKept};
 ghost use Rattle.nt_pagelists.specs.declared.cluster.ClusterList.{ClusterList};
 ghost use Rattle.nt_pagelists.specs.SoundBooks.{HasSoundClusters};
@@ -62,8 +62,8 @@ pub fn finished_files_are_parts()
 {}
 
 /// A finished file of a kept book without page lists between its ranges, all behind them, is laid out: its parts lie
-/// in order, each range and each list where the book has it. The ranges go by their numbers: clusters may be some
-/// of them, in another order.
+/// in order, each range and each list where the book has it. Each range is a cluster; they go by their numbers,
+/// since clusters may stand in another order.
 pub fn files_are_laid_behind()
     ensures ranged { (t : Table) (most : ℕ) (book : BookData) (ranges : List (List ℕ))
         → IsBookKept book → IsUngrouped book → book.begin ≡ clusters_place t
@@ -73,6 +73,7 @@ pub fn files_are_laid_behind()
     ensures laid { (file : List ℕ) (t : Table) (clusters : List (List TreesData)) (m : Measures)
         (ranges : List (List ℕ)) (book : BookData)
         → m.staged ≡ true → IsBookOf t book → IsUngrouped book → IsWithin t m book
+        → length (book_clusters book) ≡ length (book_ranges book)
         → map length ranges ≡ map (λ (c : Cluster ClusterMeta). c.len) (ranges_of book.history)
         → AreBlobsOf t m.page clusters (map (range_of ranges) (book_clusters book)) (book_clusters book)
         → file ≡ finished m.staged t book m.group ranges → IsLaid file t clusters m }

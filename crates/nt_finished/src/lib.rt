@@ -21,11 +21,13 @@
 //! writes the file: how long it is (`finished_files_are_as_long`), and of which parts, in order
 //! (`finished_files_are_parts`), both whatever stands in the ranges of the clusters; that it is laid
 //! out where all page lists stand behind the ranges (`files_are_laid_behind`), or beside their
-//! clusters, the last ones left to who closes it (`files_are_laid_beside`); that before this each of
+//! clusters, the last ones left to who closes it (`files_are_laid_beside`), and so wherever its book
+//! has them (`arranged_files_are_laid`); that before this each of
 //! its bytes is known (`filled_files_are_known`, with `specs/Filled`); and which books are of
 //! the schema of fields (`books_of_fields_are_of_their_schema`). And of the machine of contexts
-//! (nt_machine): a run of it that closes, whatever its steps are, means the chunks of its contexts in
-//! the file that holds its ranges (`closed_runs_mean_their_chunks`, with `specs/RunFiles`).
+//! (nt_machine): a run of it that closes, whatever its steps are, means the chunks of its contexts,
+//! those of each together where clusters are staged, in the file that holds its ranges
+//! (`closed_runs_mean_their_chunks`, with `specs/RunFiles`).
 //!
 //! Proved of added fields: missing columns have no fault, and their trees are the zero of the field
 //! (`missing_fields_are_zero`), which is that of its shape (`plans_have_the_zeros_of_their_shapes`);
@@ -44,6 +46,7 @@
 #![tactic(auto)]
 
 mod added;
+mod arrangement;
 mod filled;
 mod late;
 mod laws;
@@ -51,6 +54,7 @@ mod missing;
 mod runs;
 
 pub use added::{added_fields_are_lacked, added_fields_are_left_out};
+pub use arrangement::arranged_files_are_laid;
 pub use filled::filled_files_are_known;
 pub use late::{
     earlier_clusters_are_filled, files_mean_filled_entries, late_files_are_laid_behind,

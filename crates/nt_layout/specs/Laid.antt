@@ -1,12 +1,12 @@
 -- The finished file of entries: the range of each cluster is the blob of its entries.
-use Rattle.std.specs.Prelude.{ℕ, ◌≡◌, ◌<◌, ◌≤◌, ◌^◌, Bool, List, [], ◌∷◌, map, length, slice_index_or, Some}
+use Rattle.std.specs.Prelude.{ℕ, ◌≡◌, ◌<◌, ◌≤◌, ◌^◌, Bool, false, List, [], ◌∷◌, map, length, slice_index_or, Some}
 use Rattle.std.specs.List.{AllByRecursion, range_with_len}
 use Rattle.nt_types.specs.TreeData.{TreesData}
 use Rattle.nt_grammar.specs.Table.{Table}
 use Rattle.nt_grammar.specs.declared.rows.ColumnRow.{ColumnRow}
 use Rattle.nt_machine.specs.History.{Cluster, ranges_of}
 use Rattle.nt_book.specs.declared.meta.ClusterMeta.{ClusterMeta}
-use Rattle.nt_book.specs.Books.{BookData, book_clusters}
+use Rattle.nt_book.specs.Books.{BookData, book_ranges, book_clusters}
 use Rattle.nt_book.specs.Kept.{IsBookKept}
 use Rattle.nt_types.specs.declared.column_type.ColumnType.{ColumnType}
 use Rattle.nt_column.specs.Elements.{AreElementsOf}
@@ -78,16 +78,22 @@ pub record IsBookOf (t : Table) (book : BookData) : Type 0 where
   pub firsts : map (λ (c : ColumnRow). c.first) t.columns ≡ book.firsts
   pub none_deferred : AllByRecursion (λ (c : ColumnRow). c.first ≡ 0) t.columns
 
+-- each range of a book is a cluster; unless these are staged, they stand in the order of their ranges
+pub record RangesAreClusters (staged : Bool) (book : BookData) : Type 0 where
+  pub all : length (book_clusters book) ≡ length (book_ranges book)
+  pub in_order : staged ≡ false → book_clusters book ≡ book_ranges book
+
 -- the bytes of the range that a cluster has, by the number of that range
 abbrev pub range_of : List (List ℕ) → Cluster ClusterMeta → List ℕ
 range_of ranges c = slice_index_or ranges c.number []
 
--- the file is the finished one of a schema and these entries, cluster by cluster: the range of each holds the blob of its entries, and
--- all parts lie in order, each where the book has it
+-- the file is the finished one of a schema and these entries, cluster by cluster: the range of each holds the blob of its entries, there is
+-- no other range, and all parts lie in order, each where the book has it
 pub record IsLaid (file : List ℕ) (t : Table) (clusters : List (List TreesData)) (m : Measures) : Type 0 where
   pub book : BookData
   pub is_of : IsBookOf t book
   pub within : IsWithin t m book
+  pub whole : RangesAreClusters m.staged book
   -- by the number of the range, as they were reserved
   pub ranges : List (List ℕ)
   pub lens : map length ranges ≡ map (λ (c : Cluster ClusterMeta). c.len) (ranges_of book.history)

@@ -3,3 +3,4 @@ pub mod Groups
 pub mod Finished
 pub mod Beside
 pub mod Laid
+pub mod Arranged
