@@ -1,5 +1,5 @@
 -- What the steps of the beginning leave, with the header of the schema.
-use Rattle.std.proofs.Common.{◌≡◌, ◌∙◌, ◌+◌, ◌≤◌, ℕ, List, length, replicate, Some, None, Result, ap, subst, arith}
+use Rattle.std.proofs.Common.{◌≡◌, ◌∙◌, ◌+◌, ◌≤◌, ℕ, Bool, List, length, replicate, Some, None, Result, ap, sym, subst, arith}
 use Rattle.std.specs.declared.alloc.AllocError.{AllocError}
 use Rattle.nt_types.specs.ShapeData.{MemberData}
 use Rattle.nt_outside.specs.Faults.{Rose}
@@ -12,9 +12,10 @@ use Rattle.nt_grammar.specs.Rows.{Rows}
 use Rattle.nt_book.specs.Books.{BookData}
 use Rattle.nt_book.specs.declared.params.Params.{Params}
 use Rattle.nt_layout.specs.Headers.{header_blob, header_sum, clusters_place}
+use Rattle.nt_layout.specs.Arranged.{group_for}
 use Rattle.nt_close.specs.Steps.{begun_on, IsBegunPartly, IsBegunWith}
 use Rattle.nt_close.specs.Passing.{passed_by_begin}
-use Rattle.nt_close.specs.Beginning.{new_book, IsHeaderBlob, IsBegun, IsBegunFor, IsBeginCut, IsBeginCutFor, IsNotBegun, IsNotBegunFor}
+use Rattle.nt_close.specs.Beginning.{new_book, IsHeaderBlob, IsBegun, IsBegunFor, IsBeginCutFor, IsNotBegun, IsNotBegunFor}
 use Rattle.nt_close.specs.declared.error.BeginError.{BeginError}
 use Rattle.nt_close.specs.declared.error.BeginError.TheVariants.{Memory, RangeTooLarge, FileTooLarge, Fault}
 use Rattle.nt_close.proofs.Crashes.{begun-crash, cut-crash}
@@ -22,18 +23,29 @@ use Rattle.nt_close.proofs.Crashes.{begun-crash, cut-crash}
 module _ (p : Params) (t : Table) (within : passed_by_begin p.limits t ≡ None) where
   -- the new book
   book_is : (len columns sum : ℕ) (book : BookData)
-      → book ≡ record (new_book t p) { begin = 226 + len; firsts = replicate columns 0; group = Some (p.group, sum) }
+      → book ≡ record (new_book t p) { begin = 226 + len; firsts = replicate columns 0; group = group_for p.staged p.group sum }
       → 226 + len ≡ clusters_place t → columns ≡ length t.columns → sum ≡ header_sum t → book ≡ new_book t p
   book_is len columns sum book is begins long sums =
       is
-      ∙ (ap (λ (k : ℕ). record (new_book t p) { begin = k; firsts = replicate columns 0; group = Some (p.group, sum) }) begins
-      ∙ (ap (λ (k : ℕ). record (new_book t p) { firsts = replicate k 0; group = Some (p.group, sum) }) long
-      ∙ ap (λ (k : ℕ). record (new_book t p) { group = Some (p.group, k) }) sums))
+      ∙ (ap (λ (k : ℕ). record (new_book t p) { begin = k; firsts = replicate columns 0; group = group_for p.staged p.group sum }) begins
+      ∙ (ap (λ (k : ℕ). record (new_book t p) { firsts = replicate k 0; group = group_for p.staged p.group sum }) long
+      ∙ ap (λ (k : ℕ). record (new_book t p) { group = group_for p.staged p.group k }) sums))
+
+  -- whether it is staged is known
+  pub book_of : (len columns sum : ℕ) (book : BookData) (b : Bool) → p.staged ≡ b
+      → book ≡ record (new_book t p) { begin = 226 + len; firsts = replicate columns 0; group = group_for b p.group sum; staged = b }
+      → book ≡ record (new_book t p) { begin = 226 + len; firsts = replicate columns 0; group = group_for p.staged p.group sum }
+  book_of len columns sum book b staged is =
+      is
+      ∙ ap
+      (λ (s : Bool).
+      record (new_book t p) { begin = 226 + len; firsts = replicate columns 0; group = group_for s p.group sum; staged = s })
+      (sym staged)
 
   -- all steps were taken on a disk for which there was room
   pub begun-is : (bytes blob : List ℕ) (sum len columns steps more : ℕ) (book : BookData) (old mid new : DiskState)
       (room : Result (Unit {0}) AllocError)
-      → book ≡ record (new_book t p) { begin = 226 + len; firsts = replicate columns 0; group = Some (p.group, sum) }
+      → book ≡ record (new_book t p) { begin = 226 + len; firsts = replicate columns 0; group = group_for p.staged p.group sum }
       → len ≡ length bytes → columns ≡ length t.columns → blob ≡ bytes → IsHeaderBlob t bytes sum
       → TakesRoom steps more old mid room → WhereHeld old.held (λ (h : Held). h ≡ nothing_held) → old.end ≡ 0
       → IsBegunWith (begun 0 0 0) blob mid new → new.out ≡ mid.out → mid.faults ≤ new.faults

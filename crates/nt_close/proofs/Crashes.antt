@@ -1,5 +1,5 @@
 -- What a crash leaves of a file that is begun, and of one that is closed: the finished file.
-use Rattle.std.proofs.Common.{◌≡◌, ◌∙◌, ap, sym, refl, subst, ℕ, false, List, [], ◌∷◌, ◌++◌, length, map, get_or, arith, append_assoc}
+use Rattle.std.proofs.Common.{◌≡◌, ◌∙◌, ap, sym, refl, subst, ℕ, Bool, List, [], ◌∷◌, ◌++◌, length, map, get_or, arith, append_assoc}
 use Rattle.std.proofs.Common.{append-nil, Option, Result, Ok, Err}
 use Rattle.nt_outside.specs.Log.{Append, Sync}
 use Rattle.nt_outside.specs.Held.{Held, Becomes, BecomesSome, WhereHeld, nothing_held}
@@ -14,7 +14,7 @@ use Rattle.nt_book.specs.Books.{BookData}
 use Rattle.nt_book.specs.Kept.{IsBookKept}
 use Rattle.nt_layout.specs.Headers.{header_blob, clusters_place}
 use Rattle.nt_layout.specs.Finished.{finished}
-use Rattle.nt_finished.specs.Filled.{IsBesideBook}
+use Rattle.nt_finished.specs.Filled.{IsArrangedBook}
 use Rattle.nt_cuts.specs.Cuts.{LeavesUnfinished, LeavesUnfinishedOr, LeavesOnly}
 use Rattle.nt_cuts.specs.Shut.{StaysShut}
 use Rattle.nt_cuts.proofs.Reading.{read-cut, read-shut, unsynced-leaves}
@@ -28,7 +28,7 @@ use Rattle.nt_close.specs.Closing.{AreRangesOf, HasCloseCause, LeavesClosed}
 use Rattle.nt_close.specs.Crashes.{CrashesByAnswer}
 use Rattle.nt_close.proofs.Cutting.{closed-only, closed-cut}
 use Rattle.nt_close.proofs.Finishing.{front_len, stands, finished-apart}
-use Rattle.nt_close.proofs.Within.{listed-beside}
+use Rattle.nt_close.proofs.Within.{has_lists}
 
 -- a room of 226 bytes whose first is 0
 pub record Room (head : List ℕ) : Type 0 where
@@ -89,39 +89,39 @@ module _ (t : Table) (old new : Option Held) (empty : WhereHeld old (λ (h : Hel
 
 -- ---- a file that is closed
 
-module _ (t : Table) (book : BookData) (most : ℕ) where
+module _ (staged : Bool) (t : Table) (book : BookData) (most : ℕ) where
   -- what closing writes
   abbrev last : List ℕ
-  last = closing_tail t book most
+  last = closing_tail staged t book most
 
   abbrev lead : List ℕ
-  lead = closing_front t book most
+  lead = closing_front staged t book most
 
-  module _ (ranges : List (List ℕ)) (are : IsBesideBook t most book ranges) (h : Held)
-      (is : IsKnown h.log (filled_file t book most ranges)) where
+  module _ (ranges : List (List ℕ)) (are : IsArrangedBook staged t most book ranges) (h : Held)
+      (is : IsKnown h.log (filled_file staged t book most ranges)) where
     -- what stands behind the front
     abbrev body : List ℕ
-    body = header_blob t ++ stands t book most ranges
+    body = header_blob t ++ stands staged t book most ranges
 
     known : IsKnown h.log (0 ∷ (room.rest ++ body))
     known =
         is
         ∙ ap (λ (l : List ℕ). map exactly l)
-        (append_assoc (begun 0 0 0) (header_blob t) (stands t book most ranges) ∙ ap (λ (l : List ℕ). l ++ body) room.is)
+        (append_assoc (begun 0 0 0) (header_blob t) (stands staged t book most ranges) ∙ ap (λ (l : List ℕ). l ++ body) room.is)
 
-    whole-is : 0x72 ∷ (lead ++ (body ++ last)) ≡ finished false t book most ranges
+    whole-is : 0x72 ∷ (lead ++ (body ++ last)) ≡ finished staged t book most ranges
     whole-is =
-        ap (λ (l : List ℕ). 0x72 ∷ (lead ++ l)) (append_assoc (header_blob t) (stands t book most ranges) last)
-        ∙ sym (finished-apart t book most ranges are)
+        ap (λ (l : List ℕ). 0x72 ∷ (lead ++ l)) (append_assoc (header_blob t) (stands staged t book most ranges) last)
+        ∙ sym (finished-apart staged t book most ranges are)
 
     same : length room.rest ≡ length lead
-    same = room.long ∙ sym (front_len t book most)
+    same = room.long ∙ sym (front_len staged t book most)
 
-    pub closed-leaves : LeavesOnly (λ (bytes : List ℕ). bytes ≡ finished false t book most ranges) (closed_on last lead h).log
+    pub closed-leaves : LeavesOnly (λ (bytes : List ℕ). bytes ≡ finished staged t book most ranges) (closed_on last lead h).log
     closed-leaves bytes may = closed-only room.rest body last lead h same known bytes may ∙ whole-is
 
     pub closing-leaves : StaysShut h.log → (left : Held) → IsClosedSoFar last lead h left
-        → LeavesUnfinishedOr (λ (bytes : List ℕ). bytes ≡ finished false t book most ranges) left.log
+        → LeavesUnfinishedOr (λ (bytes : List ℕ). bytes ≡ finished staged t book most ranges) left.log
     closing-leaves shut left closed =
         subst (λ (file : List ℕ). LeavesUnfinishedOr (λ (bytes : List ℕ). bytes ≡ file) left.log) whole-is
         (read-cut (λ (bytes : List ℕ). bytes ≡ 0x72 ∷ (lead ++ (body ++ last))) left.log
@@ -131,20 +131,20 @@ module _ (t : Table) (book : BookData) (most : ℕ) where
 module _ (t : Table) (p : Params) (book : BookData) (kept : IsBookKept book) (begins : book.begin ≡ clusters_place t)
     (noted : AreListsNoted t p book) where
   -- that of a book which isn't torn
-  beside : IsUndamaged book → (ranges : List (List ℕ)) → AreRangesOf book ranges → IsBesideBook t p.group book ranges
-  beside whole ranges are =
-      record { kept = kept; beside = listed-beside t p book noted whole.untorn; begin = begins; lens = are }
+  arranged : IsUndamaged book → (ranges : List (List ℕ)) → AreRangesOf book ranges → IsArrangedBook p.staged t p.group book ranges
+  arranged whole ranges are =
+      record { kept = kept; lists = has_lists t p book kept noted whole.untorn; begin = begins; lens = are }
 
   pub answered : (passed : Option LimitError) (old new : DiskState) (result : Result Unit CloseError) → HasCloseCause book passed result
-      → LeavesClosed (closing_tail t book p.group) (closing_front t book p.group) old new result
-      → CrashesByAnswer t book p.group old.held new.held result
+      → LeavesClosed (closing_tail p.staged t book p.group) (closing_front p.staged t book p.group) old new result
+      → CrashesByAnswer p.staged t book p.group old.held new.held result
   answered passed old new (Ok done) cause left h was =
-      let now = closed_on (closing_tail t book p.group) (closing_front t book p.group) h in (
+      let now = closed_on (closing_tail p.staged t book p.group) (closing_front p.staged t book p.group) h in (
         now,
         left.held h was,
         λ shut ranges are is. (
-          closing-leaves t book p.group ranges (beside cause.0 ranges are) h is shut now (closed_whole refl),
-          closed-leaves t book p.group ranges (beside cause.0 ranges are) h is,
+          closing-leaves p.staged t book p.group ranges (arranged cause.0 ranges are) h is shut now (closed_whole refl),
+          closed-leaves p.staged t book p.group ranges (arranged cause.0 ranges are) h is,
         ),
       )
   answered passed old new (Err (Spoiled cluster faults)) cause left h was =
@@ -162,5 +162,6 @@ module _ (t : Table) (p : Params) (book : BookData) (kept : IsBookKept book) (be
       let cut = left.held h was in (
         cut.0,
         cut.1,
-        λ shut ranges are is. closing-leaves t book p.group ranges (beside cause.0 ranges are) h is shut cut.0 (closed_partly cut.2),
+        λ shut ranges are is.
+            closing-leaves p.staged t book p.group ranges (arranged cause.0 ranges are) h is shut cut.0 (closed_partly cut.2),
       )

@@ -1,5 +1,5 @@
 -- What the last steps make of a file that was filled.
-use Rattle.std.proofs.Common.{◌≡◌, ◌∙◌, ℕ, suc, ◌+◌, false, List, [], ◌∷◌, ◌++◌, length, drop, refl, ap, sym, arith, append_assoc}
+use Rattle.std.proofs.Common.{◌≡◌, ◌∙◌, ℕ, suc, ◌+◌, Bool, List, [], ◌∷◌, ◌++◌, length, drop, refl, ap, sym, arith, append_assoc}
 use Rattle.std.specs.List.{concat}
 use Rattle.std.proofs.Math.Seq.{drop-append_seam}
 use Rattle.std.proofs.lemmas.List.{length-append}
@@ -14,9 +14,9 @@ use Rattle.nt_book.specs.Books.{BookData}
 use Rattle.nt_layout.specs.Headers.{header_blob}
 use Rattle.nt_layout.specs.Groups.{PlacedList}
 use Rattle.nt_layout.specs.Finished.{list_places, list_blobs, ending, front, finished, keys_start, free_start, file_len}
-use Rattle.nt_layout.specs.Beside.{lists_left, parts_so_far}
-use Rattle.nt_finished.specs.Filled.{IsBesideBook}
-use Rattle.nt_finished.proofs.Beside.{middle_beside}
+use Rattle.nt_layout.specs.Arranged.{lists_after, parts_filled}
+use Rattle.nt_finished.specs.Filled.{IsArrangedBook}
+use Rattle.nt_finished.proofs.LaidArranged.{middle_arranged}
 use Rattle.nt_finished.proofs.Parts.{parts_written}
 use Rattle.nt_close.specs.Steps.{first_byte, closed_on}
 use Rattle.nt_close.specs.Filled.{filled_file, closing_tail, closing_front}
@@ -55,38 +55,44 @@ length-front end free keys =
       length-append (drop 1 (header_part end free)) (record_part keys),
     )
 
-module _ (t : Table) (book : BookData) (most : ℕ) where
-  -- the page lists, beside their clusters
+module _ (staged : Bool) (t : Table) (book : BookData) (most : ℕ) where
+  -- the page lists, where they stand
   abbrev ls : List PlacedList
-  ls = list_places false t book most
+  ls = list_places staged t book most
 
-  pub front_len : length (closing_front t book most) ≡ 225
+  -- those that are left
+  abbrev left : List (List ℕ)
+  left = list_blobs t book (lists_after staged t book most)
+
+  pub front_len : length (closing_front staged t book most) ≡ 225
   unfolding front
   front_len = length-front (file_len t book ls) (free_start t book ls) (keys_start t book ls)
 
   -- the ranges, and the page lists that stand between them
   abbrev pub stands : List (List ℕ) → List ℕ
-  stands ranges = concat (part_bytes (parts_so_far t book most ranges))
+  stands ranges = concat (part_bytes (parts_filled staged t book most ranges))
 
   -- the finished file, with what closing writes apart
-  pub finished-apart : (ranges : List (List ℕ)) → IsBesideBook t most book ranges
-      → finished false t book most ranges
-      ≡ 0x72 ∷ (closing_front t book most ++ (header_blob t ++ (stands ranges ++ closing_tail t book most)))
+  pub finished-apart : (ranges : List (List ℕ)) → IsArrangedBook staged t most book ranges
+      → finished staged t book most ranges
+      ≡ 0x72 ∷ (closing_front staged t book most ++ (header_blob t ++ (stands ranges ++ closing_tail staged t book most)))
   finished-apart ranges is =
-      parts_written t most ranges book is.begin is.lens false
-      ∙ ap (λ (l : List ℕ). 0x72 ∷ (closing_front t book most ++ (header_blob t ++ l)))
-      (ap (λ (l : List ℕ). l ++ ending t book ls) (middle_beside t most book is.kept is.beside ranges is.lens)
-      ∙ append_assoc (stands ranges) (concat (list_blobs t book (lists_left t book most))) (ending t book ls))
+      parts_written t most ranges book is.begin is.lens staged
+      ∙ ap (λ (l : List ℕ). 0x72 ∷ (closing_front staged t book most ++ (header_blob t ++ l)))
+      (ap (λ (l : List ℕ). l ++ ending t book ls) (middle_arranged staged t most book ranges is)
+      ∙ append_assoc (stands ranges) (concat left) (ending t book ls))
 
   -- what the last steps make of a file that was filled
-  pub closed-is : (ranges : List (List ℕ)) (h : Held) → IsBesideBook t most book ranges → h.image ≡ filled_file t book most ranges
-      → (closed_on (closing_tail t book most) (closing_front t book most) h).image ≡ finished false t book most ranges
+  pub closed-is : (ranges : List (List ℕ)) (h : Held) → IsArrangedBook staged t most book ranges
+      → h.image ≡ filled_file staged t book most ranges
+      → (closed_on (closing_tail staged t book most) (closing_front staged t book most) h).image ≡ finished staged t book most ranges
   closed-is ranges h is was =
-      let rest = header_blob t ++ (stands ranges ++ closing_tail t book most) in
-      let joined : h.image ++ closing_tail t book most ≡ begun 0 0 0 ++ rest =
-      ap (λ (l : List ℕ). l ++ closing_tail t book most) was
-      ∙ (append_assoc (begun 0 0 0 ++ header_blob t) (stands ranges) (closing_tail t book most)
-      ∙ append_assoc (begun 0 0 0) (header_blob t) (stands ranges ++ closing_tail t book most)) in
-      ap (λ (l : List ℕ). put_at (put_at l 1 (closing_front t book most)) 0 first_byte) joined
-      ∙ (put_over (begun 0 0 0) rest (closing_front t book most) 0x72 (omega (arith, begin-len 0 0 0, front_len))
+      let last = closing_tail staged t book most in
+      let rest = header_blob t ++ (stands ranges ++ last) in
+      let joined : h.image ++ last ≡ begun 0 0 0 ++ rest =
+      ap (λ (l : List ℕ). l ++ last) was
+      ∙ (append_assoc (begun 0 0 0 ++ header_blob t) (stands ranges) last
+      ∙ append_assoc (begun 0 0 0) (header_blob t) (stands ranges ++ last)) in
+      ap (λ (l : List ℕ). put_at (put_at l 1 (closing_front staged t book most)) 0 first_byte) joined
+      ∙ (put_over (begun 0 0 0) rest (closing_front staged t book most) 0x72 (omega (arith, begin-len 0 0 0, front_len))
       ∙ sym (finished-apart ranges is))

@@ -1,36 +1,35 @@
--- The page lists that a book notes, and the one that is left, among those of all its groups.
-use Rattle.std.proofs.Common.{◌≡◌, ◌∙◌, ℕ, zero, suc, ◌+◌, ◌-◌, ◌*◌, ◌<◌, ◌≤◌, min, List, [], ◌∷◌, ◌++◌, map, length, take, drop}
-use Rattle.std.proofs.Common.{refl, ap, sym, subst, arith, suc-mul, add-one, Option, Some, None}
-use Rattle.std.specs.Prelude.{slice_index_or, IfSome}
+-- The page lists that are left to be written: they stand one behind the other, from the end of the book on.
+use Rattle.std.proofs.Common.{◌≡◌, ◌∙◌, ℕ, suc, ◌+◌, ◌-◌, ◌*◌, ◌<◌, ◌≤◌, Bool, true, false, List, [], ◌∷◌, length, take, drop}
+use Rattle.std.proofs.Common.{refl, ap, sym, subst, arith, suc-mul, Option, Some}
+use Rattle.std.specs.Prelude.{nat_lt, slice_index_or}
 use Rattle.std.specs.List.{range_with_len, sum_by}
 use Rattle.std.specs.Int.{div_ceil}
+use Rattle.std.proofs.lemmas.Bool.Decides.{nat_tests}
 use Rattle.std.proofs.lemmas.List.{drop-map, length-drop}
 use Rattle.std.proofs.lemmas.List.Sums.{sum_by-append, sum_by-cons}
 use Rattle.std.proofs.lemmas.List.{take-append-drop}
 use Rattle.nt_machine.specs.History.{Cluster, ranges_of}
-use Rattle.nt_machine.specs.Legal.{spans_of}
+use Rattle.nt_machine.specs.Legal.{spans_of, end_after}
 use Rattle.nt_machine.specs.Spans.{Span}
 use Rattle.nt_book.specs.declared.list.NotedList.{NotedList}
 use Rattle.nt_book.specs.declared.list.Tear.{Tear}
 use Rattle.nt_book.specs.declared.meta.ClusterMeta.{ClusterMeta}
 use Rattle.nt_book.specs.Books.{BookData, book_clusters, book_end, cluster_at, no_cluster}
 use Rattle.nt_book.specs.Kept.{IsBookKept}
-use Rattle.nt_book.specs.Listing.{AreBeside, AtMostOneUnlisted, clusters_listed, group_size, lists_bytes, no_noted, spans_len, torn_bytes}
-use Rattle.nt_pagelists.specs.declared.group.Group.{Group}
-use Rattle.nt_pagelists.proofs.Named.{clusters-unstaged, grouped-unstaged}
-use Rattle.nt_pagelists.specs.Objects.{ClusterSpan, cluster_span, list_object, list_len}
-use Rattle.nt_layout.specs.Groups.{PlacedList, range_end, place_beside, places_beside, list_group, list_groups}
+use Rattle.nt_book.specs.Listing.{AreBeside, AtMostOneUnlisted, HasNoLists, clusters_listed, group_size, lists_bytes, spans_len, torn_bytes}
+use Rattle.nt_pagelists.proofs.Named.{clusters-unstaged}
+use Rattle.nt_pagelists.specs.Objects.{ClusterSpan}
+use Rattle.nt_layout.specs.Groups.{range_end, place_beside, places_beside, places_behind}
+use Rattle.nt_layout.specs.Arranged.{group_for}
 use Rattle.nt_layout.specs.Finished.{spans}
-use Rattle.nt_layout.specs.Beside.{full_span}
 use Rattle.nt_finished.proofs.Spans.{AreInOrder, order-le, spans_in_order}
 use Rattle.nt_finished.proofs.BesideLists.{AreLarge, spans-large}
 use Rattle.nt_finished.proofs.RangeParts.{index-drop, last-end}
-use Rattle.nt_close.specs.Filled.{IsNotedOf}
-use Rattle.nt_close.specs.Making.{CanBeListed, left_beside, noted_group, noted_groups}
+use Rattle.nt_close.specs.Making.{CanBeListed, left_lists, spans_left}
 
 -- ---- spans
 
-span-is : (s : ClusterSpan) (from count : ℕ) → s.from ≡ from → s.count ≡ count → s ≡ record { from = from; count = count }
+pub span-is : (s : ClusterSpan) (from count : ℕ) → s.from ≡ from → s.count ≡ count → s ≡ record { from = from; count = count }
 span-is s from count begins counts =
     ap (λ (k : ℕ). record { from = k; count = s.count }) begins ∙ ap (λ (k : ℕ). record { from = from; count = k }) counts
 
@@ -71,63 +70,6 @@ module _ (most n : ℕ) (some : 0 < most) where
       one-left ss (k + s.count) ls order.2 large.1 (omega (arith, same, less)) (omega (arith, same, few))
       ∙ ap (λ (f : ℕ). record { from = f; count = n - f } ∷ []) same
 
--- ---- what is noted
-
-module _ (sum : ℕ) (book : BookData) (most n : ℕ) (some : 0 < most) where
-  -- the notes of groups from the i-th on
-  abbrev pub AreNotes : ℕ → List NotedList → Type 0
-  AreNotes i ls = (j : ℕ) → j < length ls → IsNotedOf sum book (full_span most (i + j)) (slice_index_or ls j no_noted)
-
-  first-note : (i : ℕ) (l : NotedList) (ls : List NotedList) → AreNotes i (l ∷ ls) → IsNotedOf sum book (full_span most i) l
-  first-note i l ls noted =
-      let same : i + 0 ≡ i = omega arith in
-      subst (λ (j : ℕ). IsNotedOf sum book (full_span most j) l) same (noted 0 (omega arith))
-
-  other-notes : (i : ℕ) (l : NotedList) (ls : List NotedList) → AreNotes i (l ∷ ls) → AreNotes (i + 1) ls
-  other-notes i l ls noted =
-      λ j less.
-      let same : i + suc j ≡ i + 1 + j = omega arith in
-      subst (λ (k : ℕ). IsNotedOf sum book (full_span most k) (slice_index_or ls j no_noted)) same (noted (suc j) (omega (arith, less)))
-
-  -- a full group with a page list of this size
-  abbrev group-of : ℕ → ℕ → Group
-  group-of from size = noted_group book most from (record { at = record { length = 0; size = size; place = 0 }; len = 0 })
-
-  -- a full group as it is noted
-  group-noted : (i k : ℕ) (s : ClusterSpan) (l : NotedList) → k ≡ i * most → s ≡ full_span most i
-      → IsNotedOf sum book (full_span most i) l → noted_group book most k l ≡ list_group sum book (place_beside book s)
-  group-noted i k s l from is noted =
-      ap (λ (f : ℕ). noted_group book most f l) from
-      ∙ (ap (λ (size : ℕ). group-of (i * most) size) noted.size
-      ∙ ap (λ (r : ClusterSpan). list_group sum book (place_beside book r)) (sym is))
-
-  -- the groups that are noted, and the bytes of their lists
-  pub groups-noted : (ss : List ClusterSpan) (i k : ℕ) (ls : List NotedList) → AreInOrder k n ss → AreLarge most n ss → k ≡ i * most
-      → k + clusters_listed most ls ≤ n → AreNotes i ls
-      → (noted_groups book most k ls ≡ list_groups sum book (take (length ls) (places_beside book ss)))
-      × (lists_bytes ls ≡ sum_by (λ (l : PlacedList). list_len sum book l.span) (take (length ls) (places_beside book ss)))
-  groups-noted ss i k [] order large from fit noted = (refl, refl)
-  groups-noted [] i k (l ∷ ls) order large from fit noted = absurd (omega (arith, order, fit, some))
-  groups-noted (s ∷ ss) i k (l ∷ ls) order large from fit noted =
-      let count : s.count ≡ most = omega (arith, large.0, order.0, fit) in
-      let is : s ≡ full_span most i = span-is s (i * most) most (omega (arith, order.0, from)) count in
-      let next : (i + 1) * most ≡ i * most + most = rw (add-one i, suc-mul i most) refl in
-      let here = first-note i l ls noted in
-      let rest = groups-noted ss (i + 1) (k + s.count) ls order.2 large.1 (omega (arith, next, from, count)) (omega (arith, count, fit))
-      (other-notes i l ls noted) in (
-        ap (λ (g : Group). g ∷ noted_groups book most (k + most) ls) (group-noted i k s l from is here)
-            ∙ ap (λ (gs : List Group). list_group sum book (place_beside book s) ∷ gs)
-            (ap (λ (f : ℕ). noted_groups book most f ls) (omega (arith, count)) ∙ rest.0),
-        omega (
-          arith,
-          sum_by-cons (λ (d : NotedList). d.len) l ls,
-          sum_by-cons (λ (d : PlacedList). list_len sum book d.span) (place_beside book s) (take (length ls) (places_beside book ss)),
-          here.len,
-          ap (λ (r : ClusterSpan). list_len sum book r) is,
-          rest.1,
-        ),
-      )
-
 -- ---- where the last range ends
 
 bytes-of : (cs : List (Cluster ClusterMeta)) → spans_len (spans_of cs) ≡ sum_by (λ (c : Cluster ClusterMeta). c.len) cs
@@ -164,6 +106,14 @@ last-beside most place m (l ∷ ls) cs less long beside =
       sum_by-cons (λ (k : NotedList). k.len) l ls,
     )
 
+-- one list behind its last cluster, which ends the book
+one-beside : (sum : ℕ) (book : BookData) (s : ClusterSpan) (ss : List ClusterSpan) → ss ≡ s ∷ []
+    → range_end (cluster_at book (s.from + s.count - 1)) ≡ book_end book
+    → places_beside book ss ≡ places_behind sum book (book_end book) ss
+one-beside sum book s ss one there =
+    ap (places_beside book) one
+    ∙ (ap (λ (p : ℕ). record { place = p; span = s } ∷ []) there ∙ sym (ap (places_behind sum book (book_end book)) one))
+
 -- ---- of a book
 
 module _ (sum most : ℕ) (book : BookData) (kept : IsBookKept book) (can : CanBeListed book most sum) where
@@ -175,70 +125,90 @@ module _ (sum most : ℕ) (book : BookData) (kept : IsBookKept book) (can : CanB
   abbrev pub listed : ℕ
   listed = length book.lists * most
 
-  pub some-most : 0 < most
-  some-most = subst (λ (g : Option (ℕ × ℕ)). IfSome g (λ (k : ℕ × ℕ). 0 < k.0)) can.group kept.sized
+  pub in-order : AreInOrder 0 all (spans book most)
+  in-order = spans_in_order most all can.some
 
-  pub listed-fit : listed ≤ all
-  listed-fit =
-      omega (
-        arith,
-        listed-times most book.lists,
-        subst (λ (g : Option (ℕ × ℕ)). clusters_listed (group_size g) book.lists ≤ all) can.group kept.listed,
-      )
-
-  few-left : all ≤ clusters_listed most book.lists + most
-  few-left = subst (λ (g : Option (ℕ × ℕ)). AtMostOneUnlisted g book.lists all) can.group (kept.few_lists can.untorn)
-
-  in-order : AreInOrder 0 all (spans book most)
-  in-order = spans_in_order most all some-most
-
-  large : AreLarge most all (spans book most)
+  pub large : AreLarge most all (spans book most)
   large = spans-large most all (range_with_len 0 (div_ceil all most))
 
-  -- the last range ends the book, if the list of its group isn't noted
-  ends-there : listed < all → range_end (cluster_at book (all - 1)) ≡ book_end book
-  ends-there less =
-      let cs = ranges_of book.history in
-      let same : book_clusters book ≡ cs = clusters-unstaged book (grouped-unstaged book (most, sum) kept can.group) in
-      let placed : AreBeside book.begin most book.lists (spans_of cs) =
-      subst (λ (g : Option (ℕ × ℕ)). AreBeside book.begin (group_size g) book.lists (spans_of cs)) can.group (kept.placed can.untorn) in
-      omega (
-        arith,
-        last-beside most book.begin (all - 1) book.lists cs (omega (arith, less, listed-times most book.lists, ap length same))
-            (omega (arith, less, ap length same)) placed,
-        ap (λ (l : List (Cluster ClusterMeta)). range_end (slice_index_or l (all - 1) no_cluster)) same,
-        bytes-of cs,
-        ap (λ (t : Option Tear). torn_bytes t) can.untorn,
-      )
+  -- a staged book has no list yet
+  pub none-noted : book.staged ≡ true → HasNoLists book.lists book.torn
+  none-noted is = kept.none_between (kept.no_groups is)
 
-  pub left-none : all ≤ listed → left_beside book most ≡ []
-  left-none full =
-      drop-map (place_beside book) (length book.lists) (spans book most)
-      ∙ ap (λ (ss : List ClusterSpan). places_beside book ss)
-      (none-left most all some-most (spans book most) 0 book.lists in-order large
-      (omega (arith, listed-times most book.lists, listed-fit, full)))
+  -- any other has groups
+  grouped : book.staged ≡ false → book.group ≡ Some (most, sum)
+  grouped is = can.group ∙ ap (λ (b : Bool). group_for b most sum) is
 
-  pub left-one : (from : ℕ) → from ≡ listed → from < all → left_beside book most ≡ record {
-    place = book_end book;
-    span = record { from = from; count = all - from };
-  } ∷ []
-  left-one from is less =
-      let same : 0 + clusters_listed most book.lists ≡ from = omega (arith, listed-times most book.lists, is) in
-      let number : from + (all - from) - 1 ≡ all - 1 = omega (arith, less) in
-      let there : range_end (cluster_at book (from + (all - from) - 1)) ≡ book_end book =
-      ap (λ (i : ℕ). range_end (cluster_at book i)) number ∙ ends-there (omega (arith, is, less)) in
-      drop-map (place_beside book) (length book.lists) (spans book most)
-      ∙ (ap (λ (ss : List ClusterSpan). places_beside book ss)
-      (one-left most all some-most (spans book most) 0 book.lists in-order large (omega (arith, same, less)) (omega (arith, few-left)))
-      ∙ (ap (λ (f : ℕ). places_beside book (record { from = f; count = all - f } ∷ [])) same
-      ∙ ap (λ (p : ℕ). record { place = p; span = record { from = from; count = all - from } } ∷ []) there))
+  pub listed-fit : listed ≤ all
+  listed-fit = at book.staged refl
+    where
+      at : (b : Bool) → book.staged ≡ b → listed ≤ all
+      at true is = omega (arith, ap (λ (ls : List NotedList). length ls * most) (none-noted is).none_noted)
+      at false is =
+          omega (
+            arith,
+            listed-times most book.lists,
+            subst (λ (g : Option (ℕ × ℕ)). clusters_listed (group_size g) book.lists ≤ all) (grouped is) kept.listed,
+          )
 
-  -- the groups of all, and the bytes of the lists that are noted
-  pub all-noted : AreNotes sum book most all some-most 0 book.lists
-      → (noted_groups book most 0 book.lists ≡ list_groups sum book (take (length book.lists) (places_beside book (spans book most))))
-      × (lists_bytes book.lists
-      ≡ sum_by (λ (l : PlacedList). list_len sum book l.span) (take (length book.lists) (places_beside book (spans book most))))
-  all-noted noted =
-      let none : 0 ≡ 0 * most = omega arith in
-      groups-noted sum book most all some-most (spans book most) 0 0 book.lists in-order large none
-      (omega (arith, listed-times most book.lists, listed-fit)) noted
+  module _ (unstaged : book.staged ≡ false) where
+    few-left : all ≤ clusters_listed most book.lists + most
+    few-left =
+        subst (λ (g : Option (ℕ × ℕ)). AtMostOneUnlisted g book.lists all) (grouped unstaged) (kept.few_lists can.untorn)
+
+    -- the last range ends the book, if the list of its group isn't noted
+    ends-there : listed < all → range_end (cluster_at book (all - 1)) ≡ book_end book
+    ends-there less =
+        let cs = ranges_of book.history in
+        let same : book_clusters book ≡ cs = clusters-unstaged book unstaged in
+        let placed : AreBeside book.begin most book.lists (spans_of cs) =
+        subst (λ (g : Option (ℕ × ℕ)). AreBeside book.begin (group_size g) book.lists (spans_of cs)) (grouped unstaged)
+        (kept.placed can.untorn) in
+        omega (
+          arith,
+          last-beside most book.begin (all - 1) book.lists cs (omega (arith, less, listed-times most book.lists, ap length same))
+              (omega (arith, less, ap length same)) placed,
+          ap (λ (l : List (Cluster ClusterMeta)). range_end (slice_index_or l (all - 1) no_cluster)) same,
+          bytes-of cs,
+          ap (λ (t : Option Tear). torn_bytes t) can.untorn,
+        )
+
+    left-none : all ≤ listed → places_beside book (spans_left book most) ≡ places_behind sum book (book_end book) (spans_left book most)
+    left-none full =
+        let none : spans_left book most ≡ [] =
+        none-left most all can.some (spans book most) 0 book.lists in-order large
+        (omega (arith, listed-times most book.lists, listed-fit, full)) in
+        ap (places_beside book) none ∙ sym (ap (places_behind sum book (book_end book)) none)
+
+    left-one : listed < all → places_beside book (spans_left book most) ≡ places_behind sum book (book_end book) (spans_left book most)
+    left-one less =
+        let from = 0 + clusters_listed most book.lists in
+        let s : ClusterSpan = record { from = from; count = all - from } in
+        let one : spans_left book most ≡ s ∷ [] =
+        one-left most all can.some (spans book most) 0 book.lists in-order large (omega (arith, listed-times most book.lists, less))
+        (omega (arith, few-left)) in
+        let number : from + (all - from) - 1 ≡ all - 1 = omega (arith, listed-times most book.lists, less) in
+        let there : range_end (cluster_at book (from + (all - from) - 1)) ≡ book_end book =
+        ap (λ (i : ℕ). range_end (cluster_at book i)) number ∙ ends-there less in
+        one-beside sum book s (spans_left book most) one there
+
+    left-beside : places_beside book (spans_left book most) ≡ places_behind sum book (book_end book) (spans_left book most)
+    left-beside = at (nat_lt listed all) refl
+      where
+        at : (b : Bool) → nat_lt listed all ≡ b
+            → places_beside book (spans_left book most) ≡ places_behind sum book (book_end book) (spans_left book most)
+        at true less = left-one (grind (arith, nat_tests, less))
+        at false less = left-none (grind (arith, nat_tests, less))
+
+  -- all lists that are left stand one behind the other, where the book ends
+  pub left-places : left_lists book.staged sum book most ≡ places_behind sum book (book_end book) (spans_left book most)
+  left-places = at book.staged refl
+    where
+      at : (b : Bool) → book.staged ≡ b → left_lists b sum book most ≡ places_behind sum book (book_end book) (spans_left book most)
+      at true is =
+          let none = none-noted is in
+          let end : end_after book.begin (ranges_of book.history) ≡ book_end book =
+          omega (arith, ap lists_bytes none.none_noted, ap (λ (t : Option Tear). torn_bytes t) none.none_torn) in
+          ap (λ (e : ℕ). places_behind sum book e (spans book most)) end
+          ∙ ap (λ (ls : List NotedList). places_behind sum book (book_end book) (drop (length ls) (spans book most))) (sym none.none_noted)
+      at false is = drop-map (place_beside book) (length book.lists) (spans book most) ∙ left-beside is

@@ -11,6 +11,7 @@ pub mod Leaving
 pub mod Left
 pub mod ListsLeft
 pub mod NewBooks
+pub mod Noted
 pub mod TestBooks
 pub mod Unpublished
 pub mod Within

@@ -1,26 +1,29 @@
--- The page lists that are left, as they are made: the last, or none.
-use Rattle.std.proofs.Common.{◌≡◌, ◌∙◌, ℕ, ◌+◌, ◌-◌, ◌*◌, ◌<◌, ◌≤◌, ◌^◌, List, [], ◌∷◌, ◌++◌, map, length, take, drop}
-use Rattle.std.proofs.Common.{refl, ap, sym, subst, arith, append_assoc, append-nil, add-one, suc-mul}
-use Rattle.std.proofs.Common.{mul-le-mul_right}
+-- The page lists that are left, as they are made, one group after the other.
+use Rattle.std.proofs.Common.{◌≡◌, ◌∙◌, ℕ, zero, suc, ◌+◌, ◌-◌, ◌*◌, ◌<◌, ◌≤◌, min, List, [], ◌∷◌, ◌++◌, map, length, drop}
+use Rattle.std.proofs.Common.{refl, ap, sym, subst, arith, append_assoc, append-nil, add-one, suc-mul, mul-le-mul_right}
 use Rattle.std.proofs.Math.Nat.{mul-le-mul_left}
-use Rattle.std.proofs.Math.Seq.{drop-length}
-use Rattle.std.proofs.lemmas.List.{drop_more, length-append}
-use Rattle.std.specs.List.{concat}
-use Rattle.nt_lists.specs.Parts.{Part, part_bytes}
+use Rattle.std.proofs.lemmas.Grind.{div_ceil_times}
+use Rattle.std.proofs.lemmas.List.{length-append, length-drop, length-map}
+use Rattle.std.proofs.lemmas.List.FromFn.{length-range_with_len}
+use Rattle.std.specs.Int.{div_ceil}
+use Rattle.std.specs.List.{concat, range_with_len}
 use Rattle.nt_book.specs.declared.limits.Limits.{Limits}
 use Rattle.nt_book.specs.declared.list.NotedList.{NotedList}
-use Rattle.nt_book.specs.Books.{BookData, book_end, noted_at}
+use Rattle.nt_book.specs.Books.{BookData, book_end}
 use Rattle.nt_book.specs.Kept.{IsBookKept}
-use Rattle.nt_book.specs.Listing.{no_noted}
 use Rattle.nt_pagelists.specs.declared.group.Group.{Group}
 use Rattle.nt_pagelists.specs.Blobs.{blob}
-use Rattle.nt_pagelists.specs.Objects.{ClusterSpan, list_object, list_len}
-use Rattle.nt_layout.specs.Groups.{PlacedList, list_parts, list_groups, span_group}
+use Rattle.nt_pagelists.specs.Objects.{ClusterSpan, cluster_span, group_spans, list_object, list_len}
+use Rattle.nt_lists.specs.Parts.{part_bytes}
+use Rattle.nt_layout.specs.Groups.{PlacedList, list_parts, list_groups, lists_from, groups_from, span_group, places_behind}
+use Rattle.nt_layout.specs.Finished.{spans}
+use Rattle.nt_finished.proofs.Spans.{order-le}
 use Rattle.nt_close.specs.declared.error.CloseError.{CloseError}
-use Rattle.nt_close.specs.Making.{CanBeListed, left_beside, left_lens, noted_group, noted_groups, AddsList, AreListsLeft}
-use Rattle.nt_close.specs.Making.{IsPassedBy, ArePassedBy, NonePassed}
-use Rattle.nt_close.proofs.Fitting.{fit-one}
-use Rattle.nt_close.proofs.Left.{all, listed, listed-times, some-most, listed-fit, left-none, left-one}
+use Rattle.nt_close.specs.Passing.{first_passed}
+use Rattle.nt_close.specs.Making.{CanBeListed, left_lens, spans_left, list_lens, noted_groups, AddsList, AddsLists}
+use Rattle.nt_close.specs.Making.{AreListsLeft, IsPassed, IsPassedBy, ArePassedBy, NonePassed}
+use Rattle.nt_close.proofs.Fitting.{blob_length, fitting-first}
+use Rattle.nt_close.proofs.Left.{all, in-order, listed-fit, left-places}
 
 -- ---- the groups that are noted
 
@@ -33,106 +36,173 @@ length-noted : (book : BookData) (most from : ℕ) (ls : List NotedList) → len
 length-noted book most from [] = refl
 length-noted book most from (l ∷ ls) = omega (arith, length-noted book most (from + most) ls)
 
--- ---- the list that is left
+-- ---- one group after the other
 
-module _ (sum most : ℕ) (book : BookData) (kept : IsBookKept book) (can : CanBeListed book most sum) (limits : Limits) where
-  -- how many lists are noted
-  few-lists : length book.lists ≤ length book.lists * most
-  few-lists = omega (arith, mul-le-mul_left {m = 1} (length book.lists) (some-most sum most book kept can))
+-- where there is a group of this number, it has a first cluster
+pub begins-below : (most n k : ℕ) → 0 < most → k < div_ceil n most → k * most < n
+begins-below most n k some less =
+    let next : (k + 1) * most ≡ k * most + most = rw (add-one k, suc-mul k most) refl in
+    let below : (k + 1) * most ≤ div_ceil n most * most = mul-le-mul_right most (omega (arith, less)) in
+    omega (arith, next, below, (div_ceil_times n most some).1)
 
-  few-noted : (groups : List Group) → groups ≡ noted_groups book most 0 book.lists → length groups < 2 ^ 32
-  few-noted groups are =
-      omega (arith, ap length are, length-noted book most 0 book.lists, few-lists, listed-fit sum most book kept can, kept.few, kept.fewer)
+spans-from : (most n i m k : ℕ) → k < m
+    → drop k (map (cluster_span most n) (range_with_len i m))
+    ≡ cluster_span most n (i + k) ∷ drop (k + 1) (map (cluster_span most n) (range_with_len i m))
+spans-from most n i zero k less = absurd (omega (arith, less))
+spans-from most n i (suc m) zero less =
+    let same : i ≡ i + 0 = omega arith in
+    ap (λ (j : ℕ). cluster_span most n j ∷ map (cluster_span most n) (range_with_len (i + 1) m)) same
+spans-from most n i (suc m) (suc k) less =
+    let ss = map (cluster_span most n) (range_with_len (i + 1) m) in
+    let same : i + 1 + k ≡ i + suc k = omega arith in
+    let next : suc (k + 1) ≡ suc k + 1 = omega arith in
+    spans-from most n (i + 1) m k (omega (arith, less))
+    ∙ (ap (λ (j : ℕ). cluster_span most n j ∷ drop (k + 1) ss) same
+    ∙ ap (λ (d : ℕ). cluster_span most n (i + suc k) ∷ drop d (cluster_span most n i ∷ ss)) next)
 
-  -- so many lists are noted, of so many clusters
-  pub same : (count : ℕ) → count ≡ length book.lists → count * most ≡ listed sum most book kept can
-  same count counted = ap (λ (k : ℕ). k * most) counted
+-- the clusters of one group
+abbrev pub span_from : ℕ → ℕ → ℕ → ClusterSpan
+span_from most n from = record { from = from; count = from + min most (n - from) - from }
 
-  -- where none is left, what is made is all
-  module _ (count : ℕ) (counted : count ≡ length book.lists) (full : all sum most book kept can ≤ count * most) where
-    none : left_beside book most ≡ []
-    none = left-none sum most book kept can (omega (arith, full, same count counted))
+-- a group, and those behind it
+pub next-group : (most n k : ℕ) → k < div_ceil n most
+    → drop k (group_spans most n) ≡ span_from most n (k * most) ∷ drop (k + 1) (group_spans most n)
+next-group most n k less =
+    let same : 0 + k ≡ k = omega arith in
+    let count : min most (n - k * most) ≡ k * most + min most (n - k * most) - k * most = omega arith in
+    spans-from most n 0 (div_ceil n most) k less
+    ∙ (ap (λ (i : ℕ). cluster_span most n i ∷ drop (k + 1) (group_spans most n)) same
+    ∙ ap (λ (c : ℕ). record { from = k * most; count = c } ∷ drop (k + 1) (group_spans most n)) count)
 
-    no-bytes : [] ≡ concat (part_bytes (list_parts sum book (left_beside book most)))
-    no-bytes = ap (λ (ls : List PlacedList). concat (part_bytes (list_parts sum book ls))) (sym none)
+-- behind all groups there is none
+pub no-group : (most n k : ℕ) → div_ceil n most ≤ k → drop k (group_spans most n) ≡ []
+no-group most n k more =
+    none k (group_spans most n)
+    (omega (
+      arith,
+      length-map (range_with_len 0 (div_ceil n most)) (cluster_span most n),
+      length-range_with_len 0 (div_ceil n most),
+      more,
+    ))
+  where
+    none : (i : ℕ) (ss : List ClusterSpan) → length ss ≤ i → drop i ss ≡ []
+    none zero [] le = refl
+    none zero (s ∷ ss) le = absurd (omega (arith, le))
+    none (suc i) [] le = refl
+    none (suc i) (s ∷ ss) le = none i ss (omega (arith, le))
 
-    no-group : (groups : List Group) → groups ≡ noted_groups book most 0 book.lists
-        → groups ≡ noted_groups book most 0 book.lists ++ list_groups sum book (left_beside book most)
-    no-group groups are =
-        are ∙ (sym (append-nil (noted_groups book most 0 book.lists))
-        ∙ ap (λ (ls : List PlacedList). noted_groups book most 0 book.lists ++ list_groups sum book ls) (sym none))
+-- what stands now, with the page lists of the groups in the rest behind it, is what stood, with those of all these groups behind it
+pub record LeadsTo (sum : ℕ) (book : BookData) (limits : Limits) (ss rest : List ClusterSpan) (old now : List ℕ)
+    (groups more : List Group) : Type 0 where
+  pub bytes : now ++ concat (lists_from sum book (book_end book + length now) rest)
+      ≡ old ++ concat (lists_from sum book (book_end book + length old) ss)
+  pub group : more ++ groups_from sum book (book_end book + length now) rest
+      ≡ groups ++ groups_from sum book (book_end book + length old) ss
+  pub passed : (lens : List ℕ) (end : ℕ) → first_passed limits (list_lens sum book ss ++ lens) end
+      ≡ first_passed limits (list_lens sum book rest ++ lens) end
 
-    pub none-made : (bytes : List ℕ) (groups : List Group) → bytes ≡ [] → groups ≡ noted_groups book most 0 book.lists
-        → AreListsLeft sum book most bytes groups
-    none-made bytes groups empty are = record {
-      bytes_are = empty ∙ no-bytes;
-      groups_are = no-group groups are;
-      few = few-noted groups are;
+module _ (sum : ℕ) (book : BookData) (limits : Limits) (ss : List ClusterSpan) (old : List ℕ) (groups : List Group) where
+  pub at-first : LeadsTo sum book limits ss ss old old groups groups
+  at-first = record { bytes = refl; group = refl; passed = λ lens end. refl }
+
+  module _ (now : List ℕ) (more : List Group) (s : ClusterSpan) (from rest : List ClusterSpan) (is : from ≡ s ∷ rest)
+      (leads : LeadsTo sum book limits ss from old now groups more) where
+    -- where the next page list begins
+    abbrev place : ℕ
+    place = book_end book + length now
+
+    pub one-more : (new : List ℕ) (next : List Group) → AddsList sum book s now new more next → list_len sum book s ≤ limits.range
+        → LeadsTo sum book limits ss rest old new groups next
+    one-more new next adds fits =
+        let object = list_object sum book s in
+        let after : book_end book + length new ≡ place + list_len sum book s =
+        omega (arith, ap length adds.bytes, length-append now (blob place object), blob_length place object) in
+        let behind = place + list_len sum book s in
+        record {
+          bytes = ap (λ (e : ℕ). new ++ concat (lists_from sum book e rest)) after
+              ∙ (ap (λ (l : List ℕ). l ++ concat (lists_from sum book behind rest)) adds.bytes
+              ∙ (append_assoc now (blob place object) (concat (lists_from sum book behind rest))
+              ∙ (ap (λ (r : List ClusterSpan). now ++ concat (lists_from sum book place r)) (sym is) ∙ leads.bytes)));
+          group = ap (λ (e : ℕ). next ++ groups_from sum book e rest) after
+              ∙ (ap (λ (l : List Group). l ++ groups_from sum book behind rest) adds.group
+              ∙ (append_assoc more (span_group sum book place s ∷ []) (groups_from sum book behind rest)
+              ∙ (ap (λ (r : List ClusterSpan). more ++ groups_from sum book place r) (sym is) ∙ leads.group)));
+          passed = λ lens end.
+              leads.passed lens end
+              ∙ (ap (λ (r : List ClusterSpan). first_passed limits (list_lens sum book r ++ lens) end) is
+              ∙ fitting-first limits (list_len sum book s) (list_lens sum book rest ++ lens) end fits);
+        }
+
+    -- the next one passes a limit
+    pub next-passed : (e : CloseError) → IsPassedBy limits (list_len sum book s) e → ArePassedBy limits (list_lens sum book ss) e
+    next-passed e passed lens end =
+        subst (λ (p : _). IsPassed p e)
+        (sym (leads.passed lens end ∙ ap (λ (r : List ClusterSpan). first_passed limits (list_lens sum book r ++ lens) end) is))
+        (passed (list_lens sum book rest ++ lens) end)
+
+  module _ (now : List ℕ) (more : List Group) (rest : List ClusterSpan) (none : rest ≡ [])
+      (leads : LeadsTo sum book limits ss rest old now groups more) where
+    pub all-added : AddsLists sum book ss old now groups more
+    all-added = record {
+      bytes = sym (append-nil now)
+          ∙ (ap (λ (r : List ClusterSpan). now ++ concat (lists_from sum book (book_end book + length now) r)) (sym none) ∙ leads.bytes);
+      group = sym (append-nil more)
+          ∙ (ap (λ (r : List ClusterSpan). more ++ groups_from sum book (book_end book + length now) r) (sym none) ∙ leads.group);
     }
 
-    pub none-passed : NonePassed limits (left_lens sum book most)
-    none-passed =
-        subst (λ (ls : List PlacedList). NonePassed limits (map (λ (l : PlacedList). list_len sum book l.span) ls)) (sym none)
-        (λ more end. refl)
+    pub all-fit : NonePassed limits (list_lens sum book ss)
+    all-fit lens end =
+        leads.passed lens end ∙ ap (λ (r : List ClusterSpan). first_passed limits (list_lens sum book r ++ lens) end) none
 
-  -- where one is left, it is made
-  module _ (count : ℕ) (counted : count ≡ length book.lists) (less : count * most < all sum most book kept can) where
-    abbrev last : ClusterSpan
-    last = record { from = count * most; count = all sum most book kept can - count * most }
+-- ---- the lists that are left
 
-    one : left_beside book most ≡ record { place = book_end book; span = last } ∷ []
-    one = left-one sum most book kept can (count * most) (same count counted) less
+module _ (sum most : ℕ) (book : BookData) (kept : IsBookKept book) (can : CanBeListed book most sum) where
+  -- the lengths of lists, wherever they stand
+  lens-behind : (start : ℕ) (ss : List ClusterSpan)
+      → map (λ (l : PlacedList). list_len sum book l.span) (places_behind sum book start ss) ≡ list_lens sum book ss
+  lens-behind start [] = refl
+  lens-behind start (s ∷ ss) = ap (λ (l : List ℕ). list_len sum book s ∷ l) (lens-behind (start + list_len sum book s) ss)
 
-    one-list : (old new : List ℕ) (groups more : List Group) → old ≡ [] → AddsList sum book last old new groups more
-        → new ≡ concat (part_bytes (list_parts sum book (left_beside book most)))
-    one-list old new groups more empty adds =
-        let object = list_object sum book last in
-        let place : book_end book + length old ≡ book_end book = omega (arith, ap length empty) in
-        adds.bytes
-        ∙ (ap (λ (l : List ℕ). l ++ blob (book_end book + length old) object) empty
-        ∙ (ap (λ (p : ℕ). blob p object) place
-        ∙ (sym (append-nil (blob (book_end book) object))
-        ∙ ap (λ (ls : List PlacedList). concat (part_bytes (list_parts sum book ls))) (sym one))))
+  pub lens-left : list_lens sum book (spans_left book most) ≡ left_lens sum book most
+  lens-left =
+      sym (ap (map (λ (l : PlacedList). list_len sum book l.span)) (left-places sum most book kept can)
+      ∙ lens-behind (book_end book) (spans_left book most))
 
-    one-group : (old new : List ℕ) (groups more : List Group) → old ≡ [] → groups ≡ noted_groups book most 0 book.lists
-        → AddsList sum book last old new groups more
-        → more ≡ noted_groups book most 0 book.lists ++ list_groups sum book (left_beside book most)
-    one-group old new groups more empty are adds =
-        let place : book_end book + length old ≡ book_end book = omega (arith, ap length empty) in
-        adds.group
-        ∙ (ap (λ (gs : List Group). gs ++ span_group sum book (book_end book + length old) last ∷ []) are
-        ∙ (ap (λ (p : ℕ). noted_groups book most 0 book.lists ++ span_group sum book p last ∷ []) place
-        ∙ ap (λ (ls : List PlacedList). noted_groups book most 0 book.lists ++ list_groups sum book ls) (sym one)))
+  length-groups : (start : ℕ) (ss : List ClusterSpan) → length (groups_from sum book start ss) ≡ length ss
+  length-groups start [] = refl
+  length-groups start (s ∷ ss) = omega (arith, length-groups (start + list_len sum book s) ss)
 
-    few-groups : (old new : List ℕ) (groups more : List Group) → groups ≡ noted_groups book most 0 book.lists
-        → AddsList sum book last old new groups more → length more < 2 ^ 32
-    few-groups old new groups more are adds =
-        omega (
+  -- no list is listed twice
+  few-lists : length book.lists ≤ length book.lists * most
+  few-lists = omega (arith, mul-le-mul_left {m = 1} (length book.lists) can.some)
+
+  pub lists-left : (old new : List ℕ) (groups more : List Group) → old ≡ [] → groups ≡ noted_groups book most 0 book.lists
+      → AddsLists sum book (spans_left book most) old new groups more → AreListsLeft sum book most new more
+  lists-left old new groups more empty are adds =
+      let place : book_end book + length old ≡ book_end book = omega (arith, ap length empty) in
+      let left = spans_left book most in
+      let same = sym (left-places sum most book kept can) in
+      record {
+        bytes_are = adds.bytes
+            ∙ (ap (λ (l : List ℕ). l ++ concat (lists_from sum book (book_end book + length old) left)) empty
+            ∙ (ap (λ (e : ℕ). concat (lists_from sum book e left)) place
+            ∙ ap (λ (ls : List PlacedList). concat (part_bytes (list_parts sum book ls))) same));
+        groups_are = adds.group
+            ∙ (ap (λ (gs : List Group). gs ++ groups_from sum book (book_end book + length old) left) are
+            ∙ (ap (λ (e : ℕ). noted_groups book most 0 book.lists ++ groups_from sum book e left) place
+            ∙ ap (λ (ls : List PlacedList). noted_groups book most 0 book.lists ++ list_groups sum book ls) same));
+        few = omega (
           arith,
           ap length adds.group,
-          length-append groups (span_group sum book (book_end book + length old) last ∷ []),
+          length-append groups (groups_from sum book (book_end book + length old) left),
+          length-groups (book_end book + length old) left,
           ap length are,
           length-noted book most 0 book.lists,
+          length-drop (length book.lists) (spans book most),
+          order-le 0 (all sum most book kept can) (spans book most) (in-order sum most book kept can),
           few-lists,
-          same count counted,
-          less,
+          listed-fit sum most book kept can,
           kept.few,
           kept.fewer,
-        )
-
-    pub one-made : (old new : List ℕ) (groups more : List Group) → old ≡ [] → groups ≡ noted_groups book most 0 book.lists
-        → AddsList sum book last old new groups more → AreListsLeft sum book most new more
-    one-made old new groups more empty are adds = record {
-      bytes_are = one-list old new groups more empty adds;
-      groups_are = one-group old new groups more empty are adds;
-      few = few-groups old new groups more are adds;
-    }
-
-    lens-are : left_lens sum book most ≡ list_len sum book last ∷ []
-    lens-are = ap (map (λ (l : PlacedList). list_len sum book l.span)) one
-
-    pub one-fits : list_len sum book last ≤ limits.range → NonePassed limits (left_lens sum book most)
-    one-fits fits = subst (NonePassed limits) (sym lens-are) (fit-one limits (list_len sum book last) fits)
-
-    pub one-passed : (e : CloseError) → IsPassedBy limits (list_len sum book last) e → ArePassedBy limits (left_lens sum book most) e
-    one-passed e passed = subst (λ (l : List ℕ). ArePassedBy limits l e) (sym lens-are) passed
+        );
+      }

@@ -9,7 +9,7 @@ use Rattle.nt_close.specs.Filled.{AreListsNoted}
 -- no page list is noted in it yet
 pub new-noted : (t : Table) (p : Params) (book : BookData) → book ≡ new_book t p → AreListsNoted t p book
 new-noted t p book is =
-    subst (AreListsNoted t p) (sym is) (record { group = refl; noted = λ k less. absurd (omega (arith, less)); short = tt })
+    subst (AreListsNoted t p) (sym is) (record { staged = refl; group = refl; noted = λ k less. absurd (omega (arith, less)); short = tt })
 
 -- and none failed
 pub new-untorn : (t : Table) (p : Params) (book : BookData) → book ≡ new_book t p → book.torn ≡ None

@@ -1,5 +1,5 @@
 -- What the beginning of a file leaves.
-use Rattle.std.specs.Prelude.{ℕ, ◌≡◌, ◌+◌, ◌≤◌, false, List, [], length, replicate, Option, Some, None}
+use Rattle.std.specs.Prelude.{ℕ, ◌≡◌, ◌+◌, ◌≤◌, List, [], length, replicate, Option, Some, None}
 use Rattle.nt_types.specs.ShapeData.{MemberData}
 use Rattle.nt_outside.specs.Faults.{Rose}
 use Rattle.nt_outside.specs.Held.{Becomes, BecomesSome}
@@ -13,6 +13,7 @@ use Rattle.nt_book.specs.declared.limits.LimitError.{LimitError}
 use Rattle.nt_book.specs.declared.limits.LimitError.TheVariants as limit
 use Rattle.nt_book.specs.declared.params.Params.{Params}
 use Rattle.nt_layout.specs.Headers.{header_blob, header_sum, clusters_place}
+use Rattle.nt_layout.specs.Arranged.{group_for}
 use Rattle.nt_cuts.specs.Cuts.{LeavesUnfinished}
 use Rattle.nt_cuts.specs.Shut.{StaysShut}
 use Rattle.nt_close.specs.declared.error.BeginError.{BeginError}
@@ -25,7 +26,8 @@ pub record IsUntouched (old new : DiskState) : Type 0 where
   pub place : KeepsPlace old new
   pub faults : new.faults ≡ old.faults
 
--- a new book: its ranges begin behind the header, no column is deferred, page lists stand beside its clusters, and none is staged
+-- a new book: its ranges begin behind the header, no column is deferred, and its clusters are staged where the parameters say so; else page
+-- lists stand beside them
 abbrev pub new_book : Table → Params → BookData
 new_book t p = record {
   begin = clusters_place t;
@@ -33,10 +35,10 @@ new_book t p = record {
   firsts = replicate (length t.columns) 0;
   history = [];
   spare = 0;
-  group = Some (p.group, header_sum t);
+  group = group_for p.staged p.group (header_sum t);
   lists = [];
   torn = None;
-  staged = false;
+  staged = p.staged;
   ready = None;
 }
 

@@ -1,5 +1,5 @@
 -- What the closing of a file leaves.
-use Rattle.std.specs.Prelude.{◌≡◌, ℕ, ◌≤◌, false, List, [], map, length, Option, Some, None, Result, Ok, Err, OnOk}
+use Rattle.std.specs.Prelude.{◌≡◌, ℕ, ◌≤◌, Bool, List, [], map, length, Option, Some, None, Result, Ok, Err, OnOk}
 use Rattle.nt_outside.specs.Faults.{Rose}
 use Rattle.nt_outside.specs.Held.{Held, Becomes, BecomesSome}
 use Rattle.nt_outside.specs.Disk.{DiskState}
@@ -24,8 +24,8 @@ use Rattle.nt_close.specs.Spoiled.{IsFirstSpoiled}
 use Rattle.nt_close.specs.Damage.{IsUndamaged, IsTornAt, IsUnpublishedAt}
 use Rattle.nt_close.specs.Filled.{AreListsNoted, filled_file, closing_tail, closing_front}
 
--- a file can be closed: the book's ranges begin behind the header of its schema, with its page lists beside them, what is last of these
--- ends the file, and no range is out; and a description holds the rows whole
+-- a file can be closed: the book's ranges begin behind the header of its schema, with its page lists beside them unless its clusters are
+-- staged, what is last of these ends the file, and no range is out; and a description holds the rows whole
 pub record IsClosable (disk : DiskState) (book : BookData) (t : Table) (p : Params) : Type 0 where
   pub begin : book.begin ≡ clusters_place t
   pub noted : AreListsNoted t p book
@@ -73,10 +73,10 @@ abbrev pub AreRangesOf : BookData → List (List ℕ) → Type 0
 AreRangesOf book ranges = map length ranges ≡ map (λ (c : Cluster ClusterMeta). c.len) (ranges_of book.history)
 
 -- where a file was filled with ranges of a book, whatever their bytes, it is the finished file with these ranges
-abbrev pub BecomesFinished : Table → BookData → ℕ → Option Held → Option Held → Type 0
-BecomesFinished t book most old new =
-    (ranges : List (List ℕ)) → AreRangesOf book ranges → (h : Held) → old ≡ Some h → h.image ≡ filled_file t book most ranges
-    → (h' : Held) × (new ≡ Some h') × (h'.image ≡ finished false t book most ranges)
+abbrev pub BecomesFinished : Bool → Table → BookData → ℕ → Option Held → Option Held → Type 0
+BecomesFinished staged t book most old new =
+    (ranges : List (List ℕ)) → AreRangesOf book ranges → (h : Held) → old ≡ Some h → h.image ≡ filled_file staged t book most ranges
+    → (h' : Held) × (new ≡ Some h') × (h'.image ≡ finished staged t book most ranges)
 
 -- if the header's blob is within the limits, so are all blobs and the file
 abbrev pub StaysWithin : Table → Params → BookData → Type 0
@@ -84,11 +84,11 @@ StaysWithin t p book = blob_len (length (header_object t)) ≤ p.limits.range �
 
 -- a file is finished, within the limits
 pub record EndsFinished (t : Table) (p : Params) (book : BookData) (old new : Option Held) : Type 0 where
-  pub file : BecomesFinished t book p.group old new
+  pub file : BecomesFinished p.staged t book p.group old new
   pub within : StaysWithin t p book
 
 -- what a close does with the file of a schema and a book: why it answers so, which steps it took, and that the file is finished after Ok
 pub record ClosesOnDisk (t : Table) (p : Params) (book : BookData) (old new : DiskState) (result : Result Unit CloseError) : Type 0 where
   pub cause : HasCloseCause book (passed_by_close p t book) result
-  pub left : LeavesClosed (closing_tail t book p.group) (closing_front t book p.group) old new result
+  pub left : LeavesClosed (closing_tail p.staged t book p.group) (closing_front p.staged t book p.group) old new result
   pub finished : OnOk result (EndsFinished t p book old.held new.held)

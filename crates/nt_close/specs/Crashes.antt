@@ -1,5 +1,5 @@
 -- What a crash leaves of a file that is closed, wherever it cuts the steps off.
-use Rattle.std.specs.Prelude.{◌≡◌, ℕ, false, List, Option, Result, Ok, Err}
+use Rattle.std.specs.Prelude.{◌≡◌, ℕ, Bool, List, Option, Result, Ok, Err}
 use Rattle.nt_outside.specs.Log.{Step}
 use Rattle.nt_outside.specs.Held.{Held, BecomesSome}
 use Rattle.nt_outside.specs.Reads.{IsKnown}
@@ -26,8 +26,8 @@ LeavesByAnswer Whole log (Err (FileTooLarge end most)) = LeavesUnfinished log
 LeavesByAnswer Whole log (Err Fault) = LeavesUnfinishedOr Whole log
 
 -- where a file was shut, and its log tells each byte of its ranges and page lists, the whole file is the finished one with these ranges
-abbrev pub CrashesByAnswer : Table → BookData → ℕ → Option Held → Option Held → Result Unit CloseError → Type 0
-CrashesByAnswer t book most old new result =
+abbrev pub CrashesByAnswer : Bool → Table → BookData → ℕ → Option Held → Option Held → Result Unit CloseError → Type 0
+CrashesByAnswer staged t book most old new result =
     BecomesSome old new (λ h h'. StaysShut h.log → (ranges : List (List ℕ)) → AreRangesOf book ranges
-    → IsKnown h.log (filled_file t book most ranges)
-    → LeavesByAnswer (λ (bytes : List ℕ). bytes ≡ finished false t book most ranges) h'.log result)
+    → IsKnown h.log (filled_file staged t book most ranges)
+    → LeavesByAnswer (λ (bytes : List ℕ). bytes ≡ finished staged t book most ranges) h'.log result)

@@ -1,5 +1,5 @@
 -- What the steps by which a file is begun and closed leave of it.
-use Rattle.std.specs.Prelude.{◌≡◌, ◌⊎◌, ℕ, ◌<◌, false, List, [], ◌∷◌, ◌++◌, length}
+use Rattle.std.specs.Prelude.{◌≡◌, ◌⊎◌, ℕ, ◌<◌, Bool, List, [], ◌∷◌, ◌++◌, length}
 use Rattle.nt_outside.specs.Log.{Step, FailedAppend}
 use Rattle.nt_outside.specs.Held.{Held, nothing_held}
 use Rattle.nt_outside.specs.Order.{FirstByteLast}
@@ -8,17 +8,17 @@ use Rattle.nt_container.specs.Spelling.{begun}
 use Rattle.nt_grammar.specs.Table.{Table}
 use Rattle.nt_book.specs.Books.{BookData}
 use Rattle.nt_layout.specs.Finished.{finished}
-use Rattle.nt_finished.specs.Filled.{IsBesideBook}
+use Rattle.nt_finished.specs.Filled.{IsArrangedBook}
 use Rattle.nt_cuts.specs.Cuts.{IsOverFirst}
 use Rattle.nt_close.specs.Steps.{closed_on, IsBegunSoFar, IsClosedPartly, IsClosedSoFar}
 use Rattle.nt_close.specs.Filled.{filled_file, closing_tail, closing_front}
 
--- a file that was filled with ranges of a book, which page lists stand beside, is the finished file with these ranges once it is closed
+-- a file that was filled with ranges of a book is the finished file with these ranges once it is closed, wherever its page lists stand
 abbrev pub ClosedIsFinished : Type 0
 ClosedIsFinished =
-    (t : Table) (book : BookData) (most : ℕ) (ranges : List (List ℕ)) (h : Held) → IsBesideBook t most book ranges
-    → h.image ≡ filled_file t book most ranges
-    → (closed_on (closing_tail t book most) (closing_front t book most) h).image ≡ finished false t book most ranges
+    (staged : Bool) (t : Table) (book : BookData) (most : ℕ) (ranges : List (List ℕ)) (h : Held)
+    → IsArrangedBook staged t most book ranges → h.image ≡ filled_file staged t book most ranges
+    → (closed_on (closing_tail staged t book most) (closing_front staged t book most) h).image ≡ finished staged t book most ranges
 
 -- the first byte is 0, and there is one
 abbrev pub IsShut : List ℕ → Type 0

@@ -1,5 +1,6 @@
 -- What closing writes behind a file's clusters, made part by part.
-use Rattle.std.specs.Prelude.{◌≡◌, ℕ, ◌+◌, ◌-◌, ◌<◌, ◌≤◌, ◌^◌, false, List, [], ◌∷◌, ◌++◌, map, length, drop, Option, Some, None}
+use Rattle.std.specs.Prelude.{◌≡◌, ℕ, ◌+◌, ◌-◌, ◌<◌, ◌≤◌, ◌^◌, Bool, true, false, List, [], ◌∷◌, ◌++◌, map, length, drop}
+use Rattle.std.specs.Prelude.{Option, Some, None}
 use Rattle.std.specs.List.{concat}
 use Rattle.nt_lists.specs.Parts.{part_bytes}
 use Rattle.nt_format.specs.Envelopes.{envelope}
@@ -15,16 +16,19 @@ use Rattle.nt_book.specs.declared.limits.LimitError.{LimitError}
 use Rattle.nt_book.specs.declared.limits.LimitError.TheVariants as limit
 use Rattle.nt_book.specs.declared.list.NotedList.{NotedList}
 use Rattle.nt_book.specs.declared.params.Params.{Params}
+use Rattle.nt_machine.specs.History.{ranges_of}
+use Rattle.nt_machine.specs.Legal.{end_after}
 use Rattle.nt_book.specs.Books.{BookData, book_end, cluster_at, first_entry}
 use Rattle.nt_pagelists.specs.declared.group.Group.{Group}
 use Rattle.nt_pagelists.specs.FooterWriting.{footer_text}
 use Rattle.nt_pagelists.specs.Blobs.{blob, object_place}
 use Rattle.nt_layout.specs.Headers.{header_object, header_sum}
 use Rattle.nt_pagelists.specs.Objects.{ClusterSpan, list_object, list_len}
-use Rattle.nt_layout.specs.Groups.{PlacedList, range_end, span_group, places_beside, list_parts, list_groups}
+use Rattle.nt_layout.specs.Groups.{PlacedList, range_end, span_group, places_beside, places_behind, list_parts, list_groups}
+use Rattle.nt_layout.specs.Groups.{lists_from, groups_from}
 use Rattle.nt_tfile.specs.Places.{ArePlaces}
 use Rattle.nt_layout.specs.Finished.{spans, list_places, list_blobs, footer_blob, anchor_of_file, keys_start, free_start, file_len}
-use Rattle.nt_layout.specs.Beside.{lists_left}
+use Rattle.nt_layout.specs.Arranged.{group_for, lists_after}
 use Rattle.nt_close.specs.declared.error.CloseError.{CloseError}
 use Rattle.nt_close.specs.declared.error.CloseError.TheVariants.{Spoiled, Torn, Unpublished, Memory, RangeTooLarge, FileTooLarge, Fault}
 use Rattle.nt_close.specs.Passing.{first_passed}
@@ -74,28 +78,43 @@ abbrev pub noted_groups : BookData → ℕ → ℕ → List NotedList → List G
 noted_groups book most from [] = []
 noted_groups book most from (l ∷ ls) = noted_group book most from l ∷ noted_groups book most (from + most) ls
 
--- the page lists of a book that aren't noted, each behind the last cluster of its group
-abbrev pub left_beside : BookData → ℕ → List PlacedList
-left_beside book most = drop (length book.lists) (places_beside book (spans book most))
+-- the page lists of a book that are left to be written, under a header of this checksum: all behind the ranges, where its clusters are
+-- staged; else those that aren't noted, each behind the last cluster of its group
+abbrev pub left_lists : Bool → ℕ → BookData → ℕ → List PlacedList
+left_lists true sum book most = places_behind sum book (end_after book.begin (ranges_of book.history)) (spans book most)
+left_lists false sum book most = drop (length book.lists) (places_beside book (spans book most))
 
 -- their blobs, and the groups of all page lists, which a footer can name
 pub record AreListsLeft (sum : ℕ) (book : BookData) (most : ℕ) (bytes : List ℕ) (groups : List Group) : Type 0 where
-  pub bytes_are : bytes ≡ concat (part_bytes (list_parts sum book (left_beside book most)))
-  pub groups_are : groups ≡ noted_groups book most 0 book.lists ++ list_groups sum book (left_beside book most)
+  pub bytes_are : bytes ≡ concat (part_bytes (list_parts sum book (left_lists book.staged sum book most)))
+  pub groups_are : groups ≡ noted_groups book most 0 book.lists ++ list_groups sum book (left_lists book.staged sum book most)
   pub few : length groups < 2 ^ 32
 
 -- the lengths of their blobs
 abbrev pub left_lens : ℕ → BookData → ℕ → List ℕ
-left_lens sum book most = map (λ (l : PlacedList). list_len sum book l.span) (left_beside book most)
+left_lens sum book most = map (λ (l : PlacedList). list_len sum book l.span) (left_lists book.staged sum book most)
 
 -- the blob of the page list of these clusters stands behind the bytes that begin at the end of the book, and their group behind the others
 pub record AddsList (sum : ℕ) (book : BookData) (s : ClusterSpan) (old new : List ℕ) (groups more : List Group) : Type 0 where
   pub bytes : new ≡ old ++ blob (book_end book + length old) (list_object sum book s)
   pub group : more ≡ groups ++ span_group sum book (book_end book + length old) s ∷ []
 
--- the page lists that are left can be made: the book has groups of so many clusters under a header of this checksum, and none failed
+-- the groups whose page lists aren't noted, and how long the blobs of the page lists of some groups are
+abbrev pub spans_left : BookData → ℕ → List ClusterSpan
+spans_left book most = drop (length book.lists) (spans book most)
+
+abbrev pub list_lens : ℕ → BookData → List ClusterSpan → List ℕ
+list_lens sum book ss = map (list_len sum book) ss
+
+-- the same of the page lists of these groups, one behind the other
+pub record AddsLists (sum : ℕ) (book : BookData) (ss : List ClusterSpan) (old new : List ℕ) (groups more : List Group) : Type 0 where
+  pub bytes : new ≡ old ++ concat (lists_from sum book (book_end book + length old) ss)
+  pub group : more ≡ groups ++ groups_from sum book (book_end book + length old) ss
+
+-- the page lists that are left can be made, for groups of so many clusters under a header of this checksum: none failed
 pub record CanBeListed (book : BookData) (most sum : ℕ) : Type 0 where
-  pub group : book.group ≡ Some (most, sum)
+  pub group : book.group ≡ group_for book.staged most sum
+  pub some : 0 < most
   pub untorn : book.torn ≡ None
 
 -- what is left to be written behind a book's clusters can be made: what is noted is right, none failed, and a description holds the rows
@@ -148,22 +167,22 @@ fields_behind place = record {
 }
 
 -- where the lists and the end of the finished file are
-abbrev pub fields_of : Table → BookData → ℕ → FileFields
-fields_of t book most = record {
-  end = file_len t book (list_places false t book most);
-  keys = keys_start t book (list_places false t book most);
-  free = free_start t book (list_places false t book most);
+abbrev pub fields_of : Bool → Table → BookData → ℕ → FileFields
+fields_of staged t book most = record {
+  end = file_len t book (list_places staged t book most);
+  keys = keys_start t book (list_places staged t book most);
+  free = free_start t book (list_places staged t book most);
 }
 
 -- the page lists that are left and the footer stand behind the book's clusters, and the anchor leads to header and footer
-pub record AreBlobsBehind (t : Table) (book : BookData) (most : ℕ) (bytes : List ℕ) (a : Anchor) : Type 0 where
-  pub bytes_are : bytes ≡ concat (list_blobs t book (lists_left t book most)) ++ footer_blob t book (list_places false t book most)
-  pub anchor_is : a ≡ anchor_of_file t book (list_places false t book most)
+pub record AreBlobsBehind (staged : Bool) (t : Table) (book : BookData) (most : ℕ) (bytes : List ℕ) (a : Anchor) : Type 0 where
+  pub bytes_are : bytes ≡ concat (list_blobs t book (lists_after staged t book most)) ++ footer_blob t book (list_places staged t book most)
+  pub anchor_is : a ≡ anchor_of_file t book (list_places staged t book most)
 
 -- all of it stands behind them, where file header and directory say so; the file ends behind it
-pub record IsEnding (t : Table) (book : BookData) (most : ℕ) (bytes : List ℕ) (f : FileFields) : Type 0 where
-  pub bytes_are : bytes ≡ closing_tail t book most
-  pub fields_are : f ≡ fields_of t book most
+pub record IsEnding (staged : Bool) (t : Table) (book : BookData) (most : ℕ) (bytes : List ℕ) (f : FileFields) : Type 0 where
+  pub bytes_are : bytes ≡ closing_tail staged t book most
+  pub fields_are : f ≡ fields_of staged t book most
   pub places : ArePlaces f
   pub end : f.end ≡ book_end book + length bytes
 

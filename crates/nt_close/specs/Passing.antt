@@ -1,5 +1,5 @@
 -- The first limit that a file passes, whose parts have so many bytes.
-use Rattle.std.specs.Prelude.{ℕ, false, List, [], ◌∷◌, ◌++◌, map, length, nat_lt, if◌then◌else◌, Option, Some, None}
+use Rattle.std.specs.Prelude.{ℕ, Bool, List, [], ◌∷◌, ◌++◌, map, length, nat_lt, if◌then◌else◌, Option, Some, None}
 use Rattle.nt_grammar.specs.Table.{Table}
 use Rattle.nt_book.specs.declared.limits.Limits.{Limits}
 use Rattle.nt_book.specs.declared.limits.LimitError.{LimitError}
@@ -11,7 +11,7 @@ use Rattle.nt_layout.specs.Headers.{header_object, header_sum, clusters_place}
 use Rattle.nt_pagelists.specs.Objects.{list_len}
 use Rattle.nt_layout.specs.Groups.{PlacedList}
 use Rattle.nt_layout.specs.Finished.{list_places, footer_object, file_len}
-use Rattle.nt_layout.specs.Beside.{lists_left}
+use Rattle.nt_layout.specs.Arranged.{lists_after}
 use Rattle.nt_layout.specs.Laid.{Measures}
 
 -- the first blob, of these lengths in the order of the file, that is longer than a range may get; or else the end of the file, if
@@ -26,15 +26,16 @@ abbrev pub passed_by_begin : Limits → Table → Option LimitError
 passed_by_begin limits t = first_passed limits (blob_len (length (header_object t)) ∷ []) (clusters_place t)
 
 -- the lengths of the blobs that closing writes: the page lists that are left, and the footer
-abbrev pub blobs_left : Table → BookData → ℕ → List ℕ
-blobs_left t book most =
-    map (λ (l : PlacedList). list_len (header_sum t) book l.span) (lists_left t book most)
-    ++ blob_len (length (footer_object t book (list_places false t book most))) ∷ []
+abbrev pub blobs_left : Bool → Table → BookData → ℕ → List ℕ
+blobs_left staged t book most =
+    map (λ (l : PlacedList). list_len (header_sum t) book l.span) (lists_after staged t book most)
+    ++ blob_len (length (footer_object t book (list_places staged t book most))) ∷ []
 
 -- by a file that is closed: these blobs, and the end behind all parts
 abbrev pub passed_by_close : Params → Table → BookData → Option LimitError
-passed_by_close p t book = first_passed p.limits (blobs_left t book p.group) (file_len t book (list_places false t book p.group))
+passed_by_close p t book =
+    first_passed p.limits (blobs_left p.staged t book p.group) (file_len t book (list_places p.staged t book p.group))
 
--- how a file is laid out by these parameters: its page lists stand beside their clusters
+-- how a file is laid out by these parameters
 abbrev pub measures_of : Params → Measures
-measures_of p = record { staged = false; page = p.page; group = p.group; range = p.limits.range; file = p.limits.file }
+measures_of p = record { staged = p.staged; page = p.page; group = p.group; range = p.limits.range; file = p.limits.file }

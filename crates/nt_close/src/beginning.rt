@@ -102,8 +102,9 @@ fn write_head<D: Disk>(disk: &mut D, blob: &[u8]) -> Result<(), Failed>
 
 /// Begins the file of a schema on an empty disk: the room of file header and directory, with 0 for
 /// the first byte, and the header, which stay. It gives the book of its clusters, of which there are
-/// none yet, with page lists beside them. After `Fault` the first byte is 0, or nothing is known of the file but that its first
-/// append failed; after any other refusal the disk is still empty.
+/// none yet: they are staged where the parameters say so, and else page lists stand beside them.
+/// After `Fault` the first byte is 0, or nothing is known of the file but that its first append
+/// failed; after any other refusal the disk is still empty.
 pub fn begin_with<D: Disk>(
     alloc: Global,
     disk: &mut D,
@@ -121,7 +122,11 @@ pub fn begin_with<D: Disk>(
     let header = blob_of(alloc, schema, &params.limits)?;
     let end = HEAD + header.bytes.len() as u64;
     let mut book = Book::new(alloc, end, schema.columns(), params.limits)?;
-    book.group_by(params.group, header.sum);
+    if params.staged {
+        book.stage_all();
+    } else {
+        book.group_by(params.group, header.sum);
+    }
     disk.room(3, end)?;
     write_head(disk, &header.bytes)?;
     Ok(book)

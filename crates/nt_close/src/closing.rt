@@ -37,10 +37,11 @@ fn take_steps<D: Disk>(
 }
 
 /// Closes the file of a schema whose ranges and page lists are those of a book: the page lists that
-/// aren't noted, footer, anchor and the lists of keys and of free pieces behind the ranges, file
-/// header and directory behind the first byte, and that byte once all the rest stays. All memory is
-/// taken, and all limits are tested, before the first of these steps. After a refusal the first byte
-/// is what it was, but for a fault of its own write or of the sync behind it.
+/// aren't noted, which are all of them where clusters are staged, footer, anchor and the lists of
+/// keys and of free pieces behind the ranges, file header and directory behind the first byte, and
+/// that byte once all the rest stays. All memory is taken, and all limits are tested, before the
+/// first of these steps. After a refusal the first byte is what it was, but for a fault of its own
+/// write or of the sync behind it.
 pub fn close<D: Disk>(
     alloc: Global,
     disk: &mut D,
@@ -51,7 +52,7 @@ pub fn close<D: Disk>(
     requires { IsClosable (D.state disk.old) book.now schema.now params.now }
     ensures closes { ClosesOnDisk schema.now params.now book.now (D.state disk.old) (D.state disk.new) result }
     ensures published { OnOk result (NoneUnpublished book.now) }
-    ensures crash { CrashesByAnswer schema.now book.now params.now.group
+    ensures crash { CrashesByAnswer params.now.staged schema.now book.now params.now.group
         (D.state disk.old).held (D.state disk.new).held result }
 {
     book.keeps();

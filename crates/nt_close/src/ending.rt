@@ -126,12 +126,12 @@ fn blobs_of(
     params: &Params,
 ) -> Result<Blobs, CloseError>
     requires { CanBeEnded schema.now params.now book.now }
-    ensures ok { IfOk result (λ blobs. AreBlobsBehind schema.now book.now params.now.group
+    ensures ok { IfOk result (λ blobs. AreBlobsBehind params.now.staged schema.now book.now params.now.group
         blobs.bytes.items blobs.anchor) }
     ensures fit { OnOk result (NonePassed params.now.limits
-        (blobs_left schema.now book.now params.now.group)) }
+        (blobs_left params.now.staged schema.now book.now params.now.group)) }
     ensures err { IfErr result (ArePassedBy params.now.limits
-        (blobs_left schema.now book.now params.now.group)) }
+        (blobs_left params.now.staged schema.now book.now params.now.group)) }
 {
     book.keeps();
     let header = header_of(alloc, schema)?;
@@ -147,7 +147,7 @@ pub(crate) fn ending_of(
     params: &Params,
 ) -> Result<Ending, CloseError>
     requires { CanBeEnded schema.now params.now book.now }
-    ensures ok { IfOk result (λ ending. IsEnding schema.now book.now params.now.group
+    ensures ok { IfOk result (λ ending. IsEnding params.now.staged schema.now book.now params.now.group
         ending.tail.items ending.fields) }
     ensures within { OnOk result (passed_by_close params.now schema.now book.now ≡ None) }
     ensures low { IfOk result (λ ending. ending.fields.end ≤ params.now.limits.file) }

@@ -2,8 +2,8 @@
 
 ghost use Rattle.nt_close.specs.Laws.{ClosedIsFinished, FirstByteIsLast, StepsStayInOrder};
 
-/// A file that was filled with ranges of a book, which page lists stand beside, is the finished file
-/// with these ranges once it is closed.
+/// A file that was filled with ranges of a book is the finished file with these ranges once it is
+/// closed, whether its page lists stand beside its clusters or behind all ranges.
 pub fn closed_is_finished()
     ensures { ClosedIsFinished }
 {}

@@ -4,7 +4,7 @@ ghost use Rattle.std.specs.Prelude.{◌≡◌, ◌+◌, ◌-◌, ◌*◌, ◌<�
 ghost use Rattle.nt_book.specs.Books.{book_clusters, first_entry, noted_at};
 ghost use Rattle.nt_pagelists.specs.Blobs.{blob_len};
 ghost use Rattle.nt_pagelists.specs.Objects.{list_len};
-ghost use Rattle.nt_close.specs.Making.{IsPassedBy, ArePassedBy, NonePassed, AddsList, CanBeListed, noted_group, noted_groups, AreListsLeft, left_lens};
+ghost use Rattle.nt_close.specs.Making.{IsPassedBy, ArePassedBy, NonePassed, AddsList, CanBeListed, AddsLists, spans_left, list_lens, noted_group, noted_groups, AreListsLeft, left_lens};
 
 use crate::blobs::{KEY, put_blob};
 use crate::error::CloseError;
@@ -105,27 +105,27 @@ fn groups_noted(alloc: Global, book: &Book, most: u32) -> Result<Vec<Group>, All
     Ok(groups)
 }
 
-/// Appends the page list of the clusters from this one on, and their group.
+/// Appends the page list of the clusters from one number up to another, and their group.
 #[tactic(auto, unfolding(nt_pagelists::specs::Objects::list_object))]
 fn put_list(
     lists: &mut Lists,
     book: &Book,
     from: u32,
+    to: u32,
     limits: &Limits,
     header_sum: u64,
 ) -> Result<(), CloseError>
-    requires { from < length (book_clusters book.now) }
-    ensures ok { OnOk result (AddsList header_sum book.now
-        (record { from = from; count = length (book_clusters book.now) - from })
+    requires some { from < to }
+    requires inside { to ≤ length (book_clusters book.now) }
+    ensures ok { OnOk result (AddsList header_sum book.now (record { from = from; count = to - from })
         lists.old.bytes.items lists.new.bytes.items lists.old.groups.items lists.new.groups.items) }
-    ensures fits { OnOk result (list_len header_sum book.now
-        (record { from = from; count = length (book_clusters book.now) - from }) ≤ limits.now.range) }
-    ensures err { IfErr result (IsPassedBy limits.now (list_len header_sum book.now
-        (record { from = from; count = length (book_clusters book.now) - from }))) }
+    ensures fits { OnOk result
+        (list_len header_sum book.now (record { from = from; count = to - from }) ≤ limits.now.range) }
+    ensures err { IfErr result (IsPassedBy limits.now
+        (list_len header_sum book.now (record { from = from; count = to - from }))) }
 {
     book.keeps();
     let alloc = *lists.bytes.allocator();
-    let to = book.clusters();
     let list = write_page_list(alloc, book, from, to, header_sum)?;
     check_range(&list, limits)?;
     let place = put_blob(&mut lists.bytes, book.end(), &list)?;
@@ -134,8 +134,33 @@ fn put_list(
     Ok(())
 }
 
+/// Appends the page lists of all groups from the first on whose list isn't noted, and these groups.
+fn put_lists(
+    lists: &mut Lists,
+    book: &Book,
+    params: &Params,
+    header_sum: u64,
+) -> Result<(), CloseError>
+    ensures ok { OnOk result (AddsLists header_sum book.now (spans_left book.now params.now.group)
+        lists.old.bytes.items lists.new.bytes.items lists.old.groups.items lists.new.groups.items) }
+    ensures fit { OnOk result (NonePassed params.now.limits
+        (list_lens header_sum book.now (spans_left book.now params.now.group))) }
+    ensures err { IfErr result (ArePassedBy params.now.limits
+        (list_lens header_sum book.now (spans_left book.now params.now.group))) }
+{
+    let (most, clusters) = (params.group, book.clusters());
+    let groups = clusters.div_ceil(most);
+    for k in book.lists()..groups {
+        let from = k * most;
+        let to = from + most.min(clusters - from);
+        put_list(lists, book, from, to, &params.limits, header_sum)?;
+    }
+    Ok(())
+}
+
 /// The page lists of a book that isn't torn which are left to be written, as they stand behind all
-/// that stands already: that of the last group, if it isn't noted. And the groups of all.
+/// that stands already: those of all groups where clusters are staged, else that of the last group,
+/// if it isn't noted. And the groups of all.
 pub(crate) fn lists_of(
     alloc: Global,
     book: &Book,
@@ -156,10 +181,6 @@ pub(crate) fn lists_of(
         bytes: Vec::new(alloc),
         groups,
     };
-    let from = book.lists() * params.group;
-    if from >= book.clusters() {
-        return Ok(lists);
-    }
-    put_list(&mut lists, book, from, &params.limits, header_sum)?;
+    put_lists(&mut lists, book, params, header_sum)?;
     Ok(lists)
 }

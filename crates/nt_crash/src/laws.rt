@@ -1,6 +1,6 @@
 //! What a crash leaves of a file, wherever it cuts the steps off.
 
-ghost use Rattle.std.specs.Prelude.{◌≡◌, ℕ, List, false};
+ghost use Rattle.std.specs.Prelude.{◌≡◌, ℕ, Bool, List};
 ghost use Rattle.nt_types.specs.TreeData.{TreesData};
 ghost use Rattle.nt_outside.specs.Log.{Step};
 ghost use Rattle.nt_outside.specs.Reads.{IsKnown};
@@ -13,7 +13,7 @@ ghost use Rattle.nt_file_meaning.specs.Files.{Means};
 ghost use Rattle.nt_layout.specs.Headers.{header_blob};
 ghost use Rattle.nt_layout.specs.Finished.{finished};
 ghost use Rattle.nt_layout.specs.Laid.{Measures, AreMeasures};
-ghost use Rattle.nt_finished.specs.Filled.{IsBesideBook};
+ghost use Rattle.nt_finished.specs.Filled.{IsArrangedBook};
 ghost use Rattle.nt_close.specs.Steps.{IsBegunSoFar, closed_on, IsClosedSoFar};
 ghost use Rattle.nt_close.specs.Filled.{filled_file, closing_tail, closing_front};
 ghost use Rattle.nt_cuts.specs.Cuts.{LeavesUnfinished, LeavesUnfinishedOr, LeavesOnly};
@@ -22,7 +22,7 @@ ghost use Rattle.nt_crash.specs.Fillings.{IsFilling, IsFilled, IsFilledWith, IsW
 
 use nt_book::ClusterMeta;
 use nt_finished::{
-    files_are_laid_beside, filled_files_are_known, finished_files_mean_their_entries,
+    arranged_files_are_laid, filled_files_are_known, finished_files_mean_their_entries,
 };
 use nt_logged::steps_stand;
 
@@ -37,21 +37,21 @@ pub fn filling_leaves_unfinished()
 }
 
 /// A file whose ranges are all settled is shut, and its log tells each byte of them and of the page
-/// lists beside them: so what `close` of nt_close says of crashes holds of it. While it is closed, a
+/// lists between them: so what `close` of nt_close says of crashes holds of it. While it is closed, a
 /// crash leaves what isn't finished, or its first byte was written over before, whole or not, and it
 /// may leave the finished file. Once it is closed, a crash leaves just that.
 pub fn closing_leaves_unfinished_or_finished()
-    ensures filled { (t : Table) (most : ℕ) (book : BookData) (ranges : List (List ℕ))
-        (log : List Step) → IsBesideBook t most book ranges → IsFilled t most book ranges log
-        → StaysShut log × IsKnown log (filled_file t book most ranges) }
-    ensures closing { (t : Table) (book : BookData) (most : ℕ) (ranges : List (List ℕ))
-        (h left : Held) → IsBesideBook t most book ranges → IsFilled t most book ranges h.log
-        → IsClosedSoFar (closing_tail t book most) (closing_front t book most) h left
-        → LeavesUnfinishedOr (λ bytes. bytes ≡ finished false t book most ranges) left.log }
-    ensures closed { (t : Table) (book : BookData) (most : ℕ) (ranges : List (List ℕ)) (h : Held)
-        → IsBesideBook t most book ranges → IsFilled t most book ranges h.log
-        → LeavesOnly (λ bytes. bytes ≡ finished false t book most ranges)
-        (closed_on (closing_tail t book most) (closing_front t book most) h).log }
+    ensures filled { (staged : Bool) (t : Table) (most : ℕ) (book : BookData) (ranges : List (List ℕ))
+        (log : List Step) → IsArrangedBook staged t most book ranges → IsFilled staged t most book ranges log
+        → StaysShut log × IsKnown log (filled_file staged t book most ranges) }
+    ensures closing { (staged : Bool) (t : Table) (book : BookData) (most : ℕ) (ranges : List (List ℕ))
+        (h left : Held) → IsArrangedBook staged t most book ranges → IsFilled staged t most book ranges h.log
+        → IsClosedSoFar (closing_tail staged t book most) (closing_front staged t book most) h left
+        → LeavesUnfinishedOr (λ bytes. bytes ≡ finished staged t book most ranges) left.log }
+    ensures closed { (staged : Bool) (t : Table) (book : BookData) (most : ℕ) (ranges : List (List ℕ)) (h : Held)
+        → IsArrangedBook staged t most book ranges → IsFilled staged t most book ranges h.log
+        → LeavesOnly (λ bytes. bytes ≡ finished staged t book most ranges)
+        (closed_on (closing_tail staged t book most) (closing_front staged t book most) h).log }
 {
     steps_stand::<ClusterMeta>();
     filled_files_are_known();
@@ -68,10 +68,10 @@ pub fn crashes_leave_all_entries_or_none()
         (book : BookData) (h : Held)
         → IsDescribed t → AreMeasures m → IsFilledWith t clusters m book h.log
         → LeavesOnly (λ bytes. Means bytes t clusters)
-        (closed_on (closing_tail t book m.group) (closing_front t book m.group) h).log }
+        (closed_on (closing_tail m.staged t book m.group) (closing_front m.staged t book m.group) h).log }
 {
     steps_stand::<ClusterMeta>();
     filled_files_are_known();
-    files_are_laid_beside();
+    arranged_files_are_laid();
     finished_files_mean_their_entries();
 }

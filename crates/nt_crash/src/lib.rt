@@ -5,8 +5,9 @@
 //! `specs/Fillings.antt` (how far a file is written).
 //!
 //! Words: a file is *filling* while the ranges of a history of contexts stand behind its header, with
-//! page lists beside them, and *filled* once each range is settled with its bytes. Nothing is said of
-//! a crash before the first sync.
+//! page lists between them or without, and *filled* once each range is settled with its bytes. Page
+//! lists stand beside their clusters, or behind all ranges where clusters are staged: the laws hold of
+//! both. Nothing is said of a crash before the first sync.
 //!
 //! Proved, each as the contract of a function, of a crash behind the first sync:
 //! - while a file is begun, and while contexts fill it, it is left unfinished, whatever the contexts

@@ -1,5 +1,5 @@
 -- Books from their beginning to the closing of their file.
-use Rattle.std.proofs.Common.{◌≡◌, ◌∙◌, ℕ, List, [], ◌∷◌, ◌++◌, length, ap, refl, arith}
+use Rattle.std.proofs.Common.{◌≡◌, ◌∙◌, List, [], ◌∷◌, ◌++◌, length, ap, refl, arith}
 use Rattle.nt_machine.specs.declared.entry.Entry.{Entry}
 use Rattle.nt_outside.specs.Disk.{DiskState}
 use Rattle.nt_grammar.specs.Table.{Table}
@@ -37,7 +37,7 @@ pub keeps-spoiled : (old new : BookData) (e : Entry ClusterMeta) → new ≡ rec
     → length old.lists ≡ 0 → KeepsNotes old new
 keeps-spoiled old new e is none =
     keeps-nothing old new (ap (λ (b : BookData). b.begin) is) (ap (λ (b : BookData). b.limits) is)
-    (ap (λ (b : BookData). b.group) is) (ap (λ (b : BookData). b.firsts) is)
+    (ap (λ (b : BookData). b.group) is) (ap (λ (b : BookData). b.staged) is) (ap (λ (b : BookData). b.firsts) is)
     (ap (λ (b : BookData). b.lists) is ∙ none-listed old.lists none)
 
 -- the file of a filled book can be closed

@@ -3,7 +3,7 @@ use Rattle.std.proofs.Common.{◌≡◌, ◌∙◌, ap, sym, refl, subst, ℕ, z
 use Rattle.std.proofs.Common.{map, take, Option, Some, None, true, false, arith, add-one, suc-mul, mul-le-mul_right, append-nil}
 use Rattle.std.specs.Prelude.{replicate, slice_index_or}
 use Rattle.std.specs.List.{AllByRecursion}
-use Rattle.std.proofs.lemmas.Bool.{eqb-true}
+use Rattle.std.proofs.lemmas.Bool.{eqb-true, false≢true}
 use Rattle.std.proofs.lemmas.List.{length-append, length-replicate}
 use Rattle.nt_machine.specs.History.{Cluster, Out, clusters_of}
 use Rattle.nt_grammar.specs.Table.{Table}
@@ -20,15 +20,16 @@ use Rattle.nt_book.specs.Limiting.{limit_error}
 use Rattle.nt_book.specs.Listing.{clusters_listed, group_size, is_due_after, no_noted}
 use Rattle.nt_book.proofs.Fitting.{limit_error-none}
 use Rattle.nt_pagelists.specs.Due.{due_object, due_span, group_sum}
-use Rattle.nt_pagelists.specs.Objects.{ClusterSpan, list_object}
+use Rattle.nt_pagelists.specs.Objects.{list_object}
 use Rattle.nt_pagelists.specs.Staying.{StaysBelow, without_fate}
 use Rattle.nt_pagelists.proofs.ListsStay.{list-stays}
 use Rattle.nt_pagelists.proofs.Named.{clusters-unstaged}
+use Rattle.nt_layout.specs.Arranged.{group_for}
 use Rattle.nt_layout.specs.Headers.{header_sum}
 use Rattle.nt_layout.specs.Beside.{full_span}
 use Rattle.nt_close.specs.Filled.{IsNotedOf, AreListsNoted}
 use Rattle.nt_close.proofs.Left.{listed-times}
-use Rattle.test_close.specs.Notes.{HasNotes, KeepsNotes}
+use Rattle.test_close.specs.Notes.{KeepsNotes}
 use Rattle.test_close.proofs.Out.{ranges_after}
 
 -- where no limit is passed
@@ -87,21 +88,35 @@ module _ (old new : BookData) (kept : IsBookKept old) (more : List (Cluster Clus
         len = noted.len ∙ ap (λ (object : List ℕ). 42 + length object) (sym same);
       }
 
-  notes-stay : (t : Table) (p : Params) → AreListsNoted t p old → (k : ℕ) → k < length old.lists
-      → IsNotedOf (header_sum t) new (full_span p.group k) (noted_at old k)
-  notes-stay t p noted k less =
+  -- and what is noted of each group
+  notes-beside : (t : Table) (p : Params) → AreListsNoted t p old → old.group ≡ Some (p.group, header_sum t) → (k : ℕ)
+      → k < length old.lists → IsNotedOf (header_sum t) new (full_span p.group k) (noted_at old k)
+  notes-beside t p noted group k less =
       let next : (k + 1) * p.group ≡ k * p.group + p.group = rw (add-one k, suc-mul k p.group) refl in
       let below : (k + 1) * p.group ≤ length old.lists * p.group = mul-le-mul_right p.group (omega (arith, less)) in
       let listed : clusters_listed p.group old.lists ≤ length (book_clusters old) =
-      subst (λ (g : Option (ℕ × ℕ)). clusters_listed (group_size g) old.lists ≤ length (book_clusters old)) noted.group kept.listed in
+      subst (λ (g : Option (ℕ × ℕ)). clusters_listed (group_size g) old.lists ≤ length (book_clusters old)) group kept.listed in
       note-stays (header_sum t) p.group k (noted_at old k)
       (omega (arith, next, below, listed, listed-times p.group old.lists)) (noted.noted k less)
 
+  -- a staged book has none
+  notes-stay : (t : Table) (p : Params) → AreListsNoted t p old → (k : ℕ) → k < length old.lists
+      → IsNotedOf (header_sum t) new (full_span p.group k) (noted_at old k)
+  notes-stay t p noted k less = at p.staged noted.group
+    where
+      at : (b : Bool) → old.group ≡ group_for b p.group (header_sum t)
+          → IsNotedOf (header_sum t) new (full_span p.group k) (noted_at old k)
+      at true none =
+          absurd (omega (arith, less, ap (λ (ls : List NotedList). length ls) (kept.none_between none).none_noted))
+      at false group = notes-beside t p noted group k less
+
   -- and the rest stays
-  keeps-grown : new.begin ≡ old.begin → new.limits ≡ old.limits → new.group ≡ old.group → new.lists ≡ old.lists → KeepsNotes old new
-  keeps-grown begin limits group lists t p notes = record {
+  keeps-grown : new.begin ≡ old.begin → new.limits ≡ old.limits → new.group ≡ old.group → new.staged ≡ old.staged
+      → new.lists ≡ old.lists → KeepsNotes old new
+  keeps-grown begin limits group staged lists t p notes = record {
     begin = begin ∙ notes.begin;
     noted = record {
+      staged = staged ∙ notes.noted.staged;
       group = group ∙ notes.noted.group;
       noted = λ k less.
           subst (λ (ls : List NotedList). IsNotedOf (header_sum t) new (full_span p.group k) (slice_index_or ls k no_noted)) (sym lists)
@@ -118,14 +133,14 @@ pub keeps-spare : (old new : BookData) (spare : ℕ) → IsBookKept old → new 
 keeps-spare old new spare kept is =
     keeps-grown old new kept [] (ap (λ (b : BookData). book_clusters b) is ∙ sym (append-nil (book_clusters old)))
     (ap (λ (b : BookData). b.firsts) is) (ap (λ (b : BookData). b.begin) is) (ap (λ (b : BookData). b.limits) is)
-    (ap (λ (b : BookData). b.group) is) (ap (λ (b : BookData). b.lists) is)
+    (ap (λ (b : BookData). b.group) is) (ap (λ (b : BookData). b.staged) is) (ap (λ (b : BookData). b.lists) is)
 
 -- a page list that failed
 pub keeps-torn : (old new : BookData) (torn : Option Tear) → IsBookKept old → new ≡ record old { torn = torn } → KeepsNotes old new
 keeps-torn old new torn kept is =
     keeps-grown old new kept [] (ap (λ (b : BookData). book_clusters b) is ∙ sym (append-nil (book_clusters old)))
     (ap (λ (b : BookData). b.firsts) is) (ap (λ (b : BookData). b.begin) is) (ap (λ (b : BookData). b.limits) is)
-    (ap (λ (b : BookData). b.group) is) (ap (λ (b : BookData). b.lists) is)
+    (ap (λ (b : BookData). b.group) is) (ap (λ (b : BookData). b.staged) is) (ap (λ (b : BookData). b.lists) is)
 
 -- a cluster more
 pub keeps-cluster : (old new : BookData) (n start spare : ℕ) (meta : ClusterMeta) → IsBookKept old → old.staged ≡ false
@@ -139,14 +154,15 @@ keeps-cluster old new n start spare meta kept flat is =
     ∙ (ap (λ (b : Bool). clusters_of b (old.history ++ e ∷ [])) flat
     ∙ (ranges_after old.history e ∙ ap (λ (cs : List (Cluster ClusterMeta)). cs ++ c ∷ []) (sym (clusters-unstaged old flat)))))
     (ap (λ (b : BookData). b.firsts) is) (ap (λ (b : BookData). b.begin) is) (ap (λ (b : BookData). b.limits) is)
-    (ap (λ (b : BookData). b.group) is) (ap (λ (b : BookData). b.lists) is)
+    (ap (λ (b : BookData). b.group) is) (ap (λ (b : BookData). b.staged) is) (ap (λ (b : BookData). b.lists) is)
 
 -- without page lists, whatever else changes
 pub keeps-nothing : (old new : BookData) → new.begin ≡ old.begin → new.limits ≡ old.limits → new.group ≡ old.group
-    → new.firsts ≡ old.firsts → new.lists ≡ [] → KeepsNotes old new
-keeps-nothing old new begin limits group firsts none t p notes = record {
+    → new.staged ≡ old.staged → new.firsts ≡ old.firsts → new.lists ≡ [] → KeepsNotes old new
+keeps-nothing old new begin limits group staged firsts none t p notes = record {
   begin = begin ∙ notes.begin;
   noted = record {
+    staged = staged ∙ notes.noted.staged;
     group = group ∙ notes.noted.group;
     noted = λ k less. absurd (omega (arith, less, ap length none));
     short = subst (λ (ls : List NotedList). AllByRecursion (λ (l : NotedList). l.len ≤ p.limits.range) ls) (sym none) tt;
@@ -165,6 +181,13 @@ full-due o g lists torn n is due =
     at None now = eqb-true n (clusters_listed g.0 lists + g.0) now
     at (Some t) now = cc
 
+-- a book that is due a page list has groups, and isn't staged
+grouped-due : (b : Bool) (most sum : ℕ) (o : Option (ℕ × ℕ)) (lists : List NotedList) (torn : Option Tear) (n : ℕ)
+    → o ≡ group_for b most sum → is_due_after o lists torn n ≡ true → o ≡ Some (most, sum)
+grouped-due true most sum o lists torn n is due =
+    absurd (false≢true (ap (λ (k : Option (ℕ × ℕ)). is_due_after k lists torn n) (sym is) ∙ due))
+grouped-due false most sum o lists torn n is due = is
+
 -- a page list more, that of the group that was due it
 pub keeps-list : (old new : BookData) (at : ListPlace) (len : ℕ)
     → new ≡ record old { lists = old.lists ++ record { at = at; len = len } ∷ [] } → IsBookKept old → is_due old ≡ true
@@ -172,7 +195,8 @@ pub keeps-list : (old new : BookData) (at : ListPlace) (len : ℕ)
 unfolding due_object
 keeps-list old new at len is kept due size long short t p notes =
     let l : NotedList = record { at = at; len = len } in
-    let group = notes.noted.group in
+    let group : old.group ≡ Some (p.group, header_sum t) =
+    grouped-due p.staged p.group (header_sum t) old.group old.lists old.torn (length (book_clusters old)) notes.noted.group due in
     let full = full-due old.group (p.group, header_sum t) old.lists old.torn (length (book_clusters old)) group due in
     let here : list_object (group_sum old.group) old (due_span old)
     ≡ list_object (header_sum t) old (full_span p.group (length old.lists)) =
@@ -190,7 +214,8 @@ keeps-list old new at len is kept due size long short t p notes =
     record {
       begin = ap (λ (b : BookData). b.begin) is ∙ notes.begin;
       noted = record {
-        group = ap (λ (b : BookData). b.group) is ∙ group;
+        staged = ap (λ (b : BookData). b.staged) is ∙ notes.noted.staged;
+        group = ap (λ (b : BookData). b.group) is ∙ notes.noted.group;
         noted = subst (λ (ls : List NotedList). (k : ℕ) → k < length ls
             → IsNotedOf (header_sum t) new (full_span p.group k) (slice_index_or ls k no_noted)) (sym lists)
             (all-more (λ k x. IsNotedOf (header_sum t) new (full_span p.group k) x) old.lists l

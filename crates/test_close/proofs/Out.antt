@@ -1,6 +1,5 @@
 -- What a new book has, and the range that was committed last.
 use Rattle.std.proofs.Common.{◌≡◌, ◌∙◌, ℕ, List, [], ◌∷◌, ◌++◌, length, Some, refl, ap, sym, subst, arith}
-use Rattle.std.specs.List.{fold}
 use Rattle.std.specs.Prelude.{replicate, slice_get}
 use Rattle.std.proofs.lemmas.List.{length-append, length-replicate}
 use Rattle.std.proofs.lemmas.List.Sums.{fold-append}

@@ -21,11 +21,12 @@ use nt_types::{Fields, parse_schema};
 use std::alloc::{AllocError, Global};
 use std::test::Fail;
 
-/// How a file is written: with split columns or plain ones, so many clusters a group, and so many
-/// bytes for a range and for the file.
+/// How a file is written: with split columns or plain ones, with staged clusters or not, so many
+/// clusters a group, and so many bytes for a range and for the file.
 #[derive(Clone, Copy)]
 pub struct Shape {
     pub plain: bool,
+    pub staged: bool,
     pub group: u32,
     pub range: u64,
     pub file: u64,
@@ -40,18 +41,18 @@ pub enum End {
 }
 
 /// These parameters, if they are in their ranges.
-fn params_of(shape: &Shape) -> Option<Params> {
+pub fn params_of(shape: &Shape) -> Option<Params> {
     let limits = Limits::new(shape.range, shape.file, 1000)?;
-    Params::new(1000, 1000, shape.group, shape.plain, false, limits)
+    Params::new(1000, 1000, shape.group, shape.plain, shape.staged, limits)
 }
 
-/// What is kept of a cluster of so many numbers on one page.
-fn meta_of(alloc: Global, count: u32) -> Result<ClusterMeta, AllocError>
+/// What is kept of a context's cluster of so many numbers on one page.
+pub fn meta_of(alloc: Global, context: u32, count: u32) -> Result<ClusterMeta, AllocError>
     requires { count < 1000 }
     ensures paged { IfOk result (λ meta. IsPaged meta) }
     ensures one { IfOk result (λ meta. length meta.pages ≡ 1) }
     ensures len { IfOk result (λ meta. meta.len ≡ 50 + 8 * count) }
-    ensures context { IfOk result (λ meta. meta.context ≡ 0) }
+    ensures context { IfOk result (λ meta. meta.context ≡ context) }
 {
     let page = PageMeta {
         count,
@@ -60,7 +61,7 @@ fn meta_of(alloc: Global, count: u32) -> Result<ClusterMeta, AllocError>
     };
     let column = PageList::from_vec(vec![in alloc; page]?);
     Ok(ClusterMeta {
-        context: 0,
+        context,
         entries: u64::from(count),
         len: 50 + 8 * u64::from(count),
         pages: PageLists::from_vec(vec![in alloc; column]?),
@@ -68,7 +69,7 @@ fn meta_of(alloc: Global, count: u32) -> Result<ClusterMeta, AllocError>
 }
 
 /// The blob of a cluster of this one page: its key, the page, and the page's checksum.
-fn blob_of(alloc: Global, place: u64, page: &[u8]) -> Result<Vec<u8>, AllocError>
+pub fn blob_of(alloc: Global, place: u64, page: &[u8]) -> Result<Vec<u8>, AllocError>
     requires place { place ≤ 2 ^ 56 }
     requires page { length page.now < 8000 }
     ensures { IfOk result (λ blob. length blob.items ≡ 50 + length page.now) }
@@ -120,7 +121,7 @@ fn add(
     }
     make_room(book)?;
     book.keeps();
-    let mut meta = meta_of(alloc, (page.len() / 8) as u32)?;
+    let mut meta = meta_of(alloc, 0, (page.len() / 8) as u32)?;
     if disk.end() != book.end() || book.check(meta.len).is_err() || book.due() {
         return Err(AllocError);
     }
@@ -133,9 +134,30 @@ fn add(
     spoil_last(book, cluster, faults)
 }
 
+/// Closes the file of a book, if it ends where the book says.
+#[tactic(auto, using(crate::proofs::Growing::closable))]
+pub fn close_at(
+    alloc: Global,
+    disk: &mut MemDisk,
+    book: &Book,
+    schema: &Schema,
+    params: &Params,
+) -> Result<End, AllocError>
+    requires notes { HasNotes schema.now params.now book.now }
+    requires out { (state_of disk.old).out ≡ [] }
+    requires whole { AreWhole schema.now }
+{
+    if disk.end() != book.end() {
+        return Err(AllocError);
+    }
+    match close(alloc, disk, book, schema, params) {
+        Ok(()) => Ok(End::Closed),
+        Err(e) => Ok(End::NotClosed(e)),
+    }
+}
+
 /// Adds a cluster for each page, whose ranges are spoiled from a number on, and in front of it the
 /// page list that is due, and closes the file. If a page list fails no more is added.
-#[tactic(auto, using(crate::proofs::Growing::closable))]
 fn fill(
     alloc: Global,
     disk: &mut MemDisk,
@@ -158,13 +180,7 @@ fn fill(
         let faults = if k < spoiled { 0 } else { k as u64 };
         add(alloc, disk, book, page, faults)?;
     }
-    if disk.end() != book.end() {
-        return Err(AllocError);
-    }
-    match close(alloc, disk, book, schema, params) {
-        Ok(()) => Ok(End::Closed),
-        Err(e) => Ok(End::NotClosed(e)),
-    }
+    close_at(alloc, disk, book, schema, params)
 }
 
 /// Begins a file, adds a cluster for each page, and closes it.

@@ -1,6 +1,7 @@
 //! Files begun and closed.
 
 use crate::files::{End, Shape, write_file};
+use crate::staged::write_staged;
 use nt_close::{BeginError, CloseError};
 use nt_memory::{MemHost, Object};
 use std::alloc::Global;
@@ -17,6 +18,7 @@ const ONE: &[u8] = b"\x07\0\0\0\0\0\0\0";
 /// Plain columns, two clusters a group, and the largest limits.
 const WIDE: Shape = Shape {
     plain: true,
+    staged: false,
     group: 2,
     range: 1 << 30,
     file: 1 << 56,
@@ -157,6 +159,7 @@ fn limits_are_told(rt: HostRuntime) -> Result<(), Fail> {
         let mut host = MemHost::new(rt.alloc());
         let shape = Shape {
             plain: true,
+            staged: false,
             group,
             range,
             file,
@@ -238,5 +241,65 @@ fn each_call_fails_in_turn(rt: HostRuntime) -> Result<(), Fail> {
         failing(rt.alloc(), 10, 2, &[TWO])?,
         (End::Closed, Some(b'r'))
     );
+    Ok(())
+}
+
+#[test]
+fn staged_clusters_lie_in_the_order_of_their_commits(rt: HostRuntime) -> Result<(), Fail> {
+    // the ranges of contexts 0, 1, 1 and 0 stand at 445, 503, 569 and 627, and end at 693
+    let pages = [(0, ONE), (1, TWO), (1, ONE), (0, TWO)];
+    for (group, len, places) in [
+        // one page list behind them: of each cluster its first entry and its entries, and the page
+        // with its elements, its place, and the elements before it; and the footer
+        (
+            1000,
+            1547,
+            [
+                (487, ONE),
+                (545, TWO),
+                (611, ONE),
+                (669, TWO),
+                (735, b"\x03\0\x60\x01\0\0\0\0".as_slice()),
+                (771, b"\0\0\0\0\0\0\0\0\x02\0\0\0\0\0\0\0"),
+                (795, b"\x02\0\0\0\0\0\0\0\x01\0\0\0\0\0\0\0"),
+                (819, b"\x03\0\0\0\0\0\0\0\x01\0\0\0\0\0\0\0"),
+                (843, b"\x04\0\0\0\0\0\0\0\x02\0\0\0\0\0\0\0"),
+                (903, b"\x21\x02\0\0\0\0\0\0\0\0\0\0\0\0\0\0"),
+                (955, b"\x63\x02\0\0\0\0\0\0\x02\0\0\0\0\0\0\0"),
+                (1007, b"\xe7\x01\0\0\0\0\0\0\x03\0\0\0\0\0\0\0"),
+                (1059, b"\x9d\x02\0\0\0\0\0\0\x04\0\0\0\0\0\0\0"),
+                (1129, b"\x02\0\x64\0"),
+            ]
+            .as_slice(),
+        ),
+        // a page list for each
+        (
+            1,
+            1961,
+            &[
+                (735, b"\x03\0\x7c\0"),
+                (831, b"\x21\x02\0\0\0\0\0\0\0"),
+                (997, b"\x63\x02\0\0\0\0\0\0\x02"),
+                (1163, b"\xe7\x01\0\0\0\0\0\0\x03"),
+                (1329, b"\x9d\x02\0\0\0\0\0\0\x04"),
+                (1399, b"\x02\0\xf4\0"),
+            ],
+        ),
+    ] {
+        let mut host = MemHost::new(rt.alloc());
+        let shape = Shape {
+            group,
+            staged: true,
+            ..WIDE
+        };
+        let end = write_staged(rt.alloc(), &mut host, &shape, &pages, false)?;
+        let told = CloseError::Unpublished { range: 0 };
+        assert_eq!(rt; end, End::NotClosed(told));
+        assert!(rt; lies_so(&host, 693, &[(0, b"\0oot")]));
+        let end = write_staged(rt.alloc(), &mut host, &shape, &pages, true)?;
+        assert_eq!(rt; end, End::Closed);
+        assert!(rt; lies_so(&host, len, places), "of {len}");
+        assert!(rt; lies_so(&host, len, &[(0, b"root")]));
+    }
     Ok(())
 }

@@ -1,9 +1,6 @@
-use Rattle.std.proofs.Common.{List, map, refl, ap, ◌∙◌, arith}
-use Rattle.nt_machine.specs.History.{Cluster}
-use Rattle.nt_book.specs.declared.meta.ClusterMeta.{ClusterMeta}
+use Rattle.std.proofs.Common.{arith}
 use Rattle.nt_book.specs.declared.params.Params.{Params}
 use Rattle.nt_layout.specs.Laid.{AreMeasures}
-use Rattle.nt_finished.proofs.Beside.{ranges-beside}
 use Rattle.nt_close.specs.Passing.{measures_of}
 use Rattle.nt_crash.proofs.closed.closed_files_mean_their_entries.Goals as goal
 
@@ -17,12 +14,10 @@ measures p = record {
 }
 
 pub returns : goal.returns
-returns c = λ t p book clusters ranges old new h described of beside low blobs held image ends.
-    let long = c.finished_files_are_as_long.ensures.ranges t p.page clusters ranges book of.kept blobs
-    ∙ ap (λ (cs : List (Cluster ClusterMeta)). map (λ (c : Cluster ClusterMeta). c.len) cs) (ranges-beside t p.group book of.kept beside) in
-    let left = ends.file ranges long h held image in
-    let laid = c.files_are_laid_beside.ensures.laid left.0.image t clusters (measures_of p) ranges book refl of beside
-    (ends.within low) blobs left.2 in (
+returns c = λ t p book clusters ranges old new h described of lists low all lens blobs held image ends.
+    let left = ends.file ranges lens h held image in
+    let laid = c.arranged_files_are_laid.ensures.laid left.0.image t clusters (measures_of p) ranges book of lists
+    (ends.within low) all lens blobs left.2 in (
       left.0,
       left.1,
       laid,

@@ -3,15 +3,15 @@ use Rattle.nt_crash.proofs.Finishing.{filled-known, closing-leaves, closed-leave
 use Rattle.nt_crash.proofs.laws.closing_leaves_unfinished_or_finished.Goals as goal
 
 pub returns-clause-filled : goal.returns-clause-filled
-returns-clause-filled c = λ t most book ranges log beside filled. (
+returns-clause-filled c = λ staged t most book ranges log arranged filled. (
   filling-shut c.steps_stand.ensures.behind t log filled.filling,
-  filled-known c.filled_files_are_known.ensures t most book ranges log beside filled,
+  filled-known c.filled_files_are_known.ensures staged t most book ranges log arranged filled,
 )
 
 pub returns-clause-closing : goal.returns-clause-closing
-returns-clause-closing c = λ t book most ranges h left beside filled closed.
-    closing-leaves c.steps_stand.ensures.behind c.filled_files_are_known.ensures t book most ranges beside h filled left closed
+returns-clause-closing c = λ staged t book most ranges h left arranged filled closed.
+    closing-leaves c.steps_stand.ensures.behind c.filled_files_are_known.ensures staged t book most ranges arranged h filled left closed
 
 pub returns-clause-closed : goal.returns-clause-closed
-returns-clause-closed c = λ t book most ranges h beside filled.
-    closed-leaves c.steps_stand.ensures.behind c.filled_files_are_known.ensures t book most ranges beside h filled
+returns-clause-closed c = λ staged t book most ranges h arranged filled.
+    closed-leaves c.steps_stand.ensures.behind c.filled_files_are_known.ensures staged t book most ranges arranged h filled
