@@ -9,7 +9,7 @@ use Rattle.nt_types.specs.TreeData.{TreesData}
 use Rattle.nt_grammar.specs.Table.{Table}
 use Rattle.nt_machine.specs.declared.entry.Entry.{Entry}
 use Rattle.nt_machine.specs.declared.entry.EntryKind.TheVariants as entry
-use Rattle.nt_machine.specs.History.{Fate, Out, Settled, Spoiled, Cluster, is_out, handed_back, after_entry, ranges_of}
+use Rattle.nt_machine.specs.History.{Fate, Out, Settled, Spoiled, Cluster, is_out, handed_back, after_entry, ranges_of, reserving}
 use Rattle.nt_machine.proofs.Legality.{ranges_of-snoc}
 use Rattle.nt_machine.proofs.Histories.{AllByRecursion-append, AllByRecursion-map}
 use Rattle.nt_book.specs.declared.meta.ClusterMeta.{ClusterMeta}
@@ -54,6 +54,13 @@ map-handed i n fate (c ∷ cs) =
     ap (λ (m : ClusterMeta). m ∷ map meta_in (map (handed_back i n fate) cs)) (handed-meta i n fate c)
     ∙ ap (λ (l : List ClusterMeta). meta_in c ∷ l) (map-handed i n fate cs)
 
+-- a range that was reserved stands behind the others, as a staged one or with its cluster
+reserved-last : (staged : Bool) (cs : List (Cluster ClusterMeta)) (i n start len : ℕ) (meta : ClusterMeta)
+    → after_entry cs (record { context = i; kind = reserving staged n start len meta })
+    ≡ cs ++ record { context = i; number = n; start = start; len = len; meta = meta; state = Out } ∷ []
+reserved-last false cs i n start len meta = refl
+reserved-last true cs i n start len meta = refl
+
 module _ (t : Table) (page : ℕ) where
   -- by the ranges alone
   committed_as : (chunks : List (List TreesData)) (own : List (Entry ClusterMeta)) (ranges : List (Cluster ClusterMeta))
@@ -75,6 +82,13 @@ module _ (t : Table) (page : ℕ) where
       committed_as chunks (own ++ record { context = i; kind = entry.Faulted faults } ∷ []) (ranges_of own) (ranges_of-snoc own
       (record { context = i; kind = entry.Faulted faults })) h.kept h.lengths
 
+  -- nor does what is published
+  pub committed-published : (chunks : List (List TreesData)) (own : List (Entry ClusterMeta)) (i : ℕ) (ns : List ℕ)
+      → HasCommitted t page chunks own → HasCommitted t page chunks (own ++ record { context = i; kind = entry.Published ns } ∷ [])
+  committed-published chunks own i ns h =
+      committed_as chunks (own ++ record { context = i; kind = entry.Published ns } ∷ []) (ranges_of own) (ranges_of-snoc own
+      (record { context = i; kind = entry.Published ns })) h.kept h.lengths
+
   -- nor does what becomes of a range
   handed : (chunks : List (List TreesData)) (own : List (Entry ClusterMeta)) (e : Entry ClusterMeta) (i n : ℕ) (fate : Fate)
       → after_entry (ranges_of own) e ≡ map (handed_back i n fate) (ranges_of own) → HasCommitted t page chunks own
@@ -84,17 +98,18 @@ module _ (t : Table) (page : ℕ) where
       (subst (λ (l : List ClusterMeta). AreKeptOf t page chunks l) (sym (map-handed i n fate (ranges_of own))) h.kept)
       (AllByRecursion-map HasLength HasLength (handed_back i n fate) (handed-length i n fate) (ranges_of own) h.lengths)
 
-  module _ (chunks : List (List TreesData)) (own : List (Entry ClusterMeta)) (chunk : List TreesData) (i n start len : ℕ)
+  module _ (staged : Bool) (chunks : List (List TreesData)) (own : List (Entry ClusterMeta)) (chunk : List TreesData) (i n start len : ℕ)
       (meta : ClusterMeta) where
-    -- the context committed this
+    -- the context reserved this
     abbrev first : Entry ClusterMeta
-    first = record { context = i; kind = entry.Committed n start len meta }
+    first = record { context = i; kind = reserving staged n start len meta }
 
     committed-one : HasCommitted t page chunks own → IsKeptOf t page chunk meta → len ≡ meta.len
         → HasCommitted t page (chunks ++ chunk ∷ []) (own ++ first ∷ [])
     committed-one h kept is =
         let range : Cluster ClusterMeta = record { context = i; number = n; start = start; len = len; meta = meta; state = Out } in
-        committed_as (chunks ++ chunk ∷ []) (own ++ first ∷ []) (ranges_of own ++ range ∷ []) (ranges_of-snoc own first)
+        committed_as (chunks ++ chunk ∷ []) (own ++ first ∷ []) (ranges_of own ++ range ∷ [])
+        (ranges_of-snoc own first ∙ reserved-last staged (ranges_of own) i n start len meta)
         (subst (λ (l : List ClusterMeta). AreKeptOf t page (chunks ++ chunk ∷ []) l) (sym (map-append meta_in (ranges_of own) (range ∷ [])))
         (AllZip-more (IsKeptOf t page) chunks (map meta_in (ranges_of own)) chunk meta h.kept kept))
         (AllByRecursion-append HasLength (ranges_of own) (range ∷ []) h.lengths (is, tt))

@@ -1,5 +1,5 @@
 -- What a seat has once its context ran.
-use Rattle.std.proofs.Common.{◌≡◌, ◌⊎◌, ℕ, ◌<◌, ◌≤◌, Bool, false, List, [], Option, Some, None, Result, Ok, Err, refl, sym, ap, ◌∙◌, subst}
+use Rattle.std.proofs.Common.{◌≡◌, ◌⊎◌, ℕ, ◌<◌, ◌≤◌, Bool, List, [], Option, Some, None, Result, Ok, Err, refl, sym, ap, ◌∙◌, subst}
 use Rattle.std.proofs.Common.{append-nil, length, take, arith}
 use Rattle.std.proofs.lemmas.List.{take_all}
 use Rattle.nt_lists.specs.Chunks.{chunks}
@@ -14,7 +14,8 @@ use Rattle.nt_outside.specs.Faults.{Rose}
 use Rattle.nt_outside.specs.Source.{SourceState}
 use Rattle.nt_turn.specs.Pass.{TurnState}
 use Rattle.nt_machine.specs.declared.entry.Entry.{Entry}
-use Rattle.nt_machine.specs.History.{ranges_of}
+use Rattle.nt_machine.specs.Deal.{times}
+use Rattle.nt_machine.specs.History.{publishers_of, ranges_of}
 use Rattle.nt_book.specs.declared.meta.ClusterMeta.{ClusterMeta}
 use Rattle.nt_book.specs.declared.params.Params.{Params}
 use Rattle.nt_commit.specs.declared.locked.Birth.{Birth}
@@ -22,12 +23,13 @@ use Rattle.nt_commit.specs.Locked.{book_of_birth}
 use Rattle.nt_commit.specs.Holds.{IsPassOf, HasNoneOut}
 use Rattle.nt_event.specs.Lines.{LinesState}
 use Rattle.nt_fill.specs.Context.{gathered}
+use Rattle.nt_fill.specs.Passes.{IsUnpublished}
 use Rattle.nt_fill.specs.Flushes.{DiskContext}
 use Rattle.nt_dealing.specs.EventText.{BadLine, EventText, read_events}
 use Rattle.nt_dealing.specs.Texts.{text_chunks}
 use Rattle.nt_dealing.specs.Limits.{NextPasses}
 use Rattle.nt_dealing.specs.Failing.{whole_chunks}
-use Rattle.nt_dealing.specs.Written.{WroteChunks, CommittedFirst}
+use Rattle.nt_dealing.specs.Written.{WroteAllChunks, CommittedFirst}
 use Rattle.nt_contexts.specs.declared.error.ContextError.{ContextError}
 use Rattle.nt_contexts.specs.declared.error.ContextError.TheVariants.{Text, Limit, Outside, Memory}
 use Rattle.nt_contexts.specs.declared.seats.Seat.{Seat}
@@ -52,7 +54,7 @@ renamed R t t' page page' cs cs' e f g h =
 module _ {D P : Type 0} (state : D → DiskState) (fields : List MemberData) (t : Table) (p : Params) (committer : TurnState (Birth D))
     (start c : DiskContext D P)
     (is_committer : start.committer ≡ committer) (is_table : start.table ≡ t) (is_cluster : start.cluster ≡ p.cluster)
-    (is_page : start.page ≡ p.page) where
+    (is_page : start.page ≡ p.page) (is_staged : start.staged ≡ p.staged) where
   -- a context that ended is the one that began
   ended_same : (left : Option (List ℕ)) (was is : LinesState) (result : Result Unit ContextError)
       → Ended state (parts_of fields) left start was is c result → IsSameContext start c
@@ -65,6 +67,18 @@ module _ {D P : Type 0} (state : D → DiskState) (fields : List MemberData) (t 
       → chunks c.cluster entries ≡ text_chunks p.cluster fields text
   chunks_are text entries bad same is =
       ap (λ (n : ℕ). chunks n entries) (same.cluster ∙ is_cluster) ∙ ap (λ (e : EventText). chunks p.cluster e.entries) (sym is)
+
+  -- the chunks that it wrote, under the names of those that began it
+  wrote_as : (all some : List (List TreesData)) → all ≡ some → IsSameContext start c
+      → WroteAllChunks (state c.committer.birth.begun).held c.table c.page c.staged c.pass.number all c.pass.own
+      → WroteAllChunks (state committer.birth.begun).held t p.page p.staged c.pass.number some c.pass.own
+  wrote_as all some are same wrote =
+      subst (λ (b : TurnState (Birth D)). WroteAllChunks (state b.birth.begun).held t p.page p.staged c.pass.number some c.pass.own)
+      (same.committer ∙ is_committer)
+      (subst (λ (b : Bool). WroteAllChunks (state c.committer.birth.begun).held t p.page b c.pass.number some c.pass.own)
+      (same.staged ∙ is_staged)
+      (renamed (λ (s : Table) (n : ℕ) (l : List (List TreesData)). WroteAllChunks (state c.committer.birth.begun).held s n c.staged
+      c.pass.number l c.pass.own) c.table t c.page p.page all some (same.table ∙ is_table) (same.page ∙ is_page) are wrote))
 
   ended_committed : (left : Option (List ℕ)) (was is : LinesState) (result : Result Unit ContextError)
       → Ended state (parts_of fields) left start was is c result
@@ -86,15 +100,10 @@ module _ {D P : Type 0} (state : D → DiskState) (fields : List MemberData) (t 
       → Ended state (parts_of fields) left start was is c result
       → (text : List ℕ) → left ≡ Some text → EndsTold state fields t p committer c.pass text result
   ended_told left was is (Ok done) h text told =
-      let read = read_as (parts_of fields) left text h.entries None told h.read in
-      let of : c.committer ≡ committer = h.same.committer ∙ is_committer in (
+      let read = read_as (parts_of fields) left text h.entries None told h.read in (
         ap (λ (e : EventText). e.bad) read,
-        subst (λ (b : TurnState (Birth D)). WroteChunks (state b.birth.begun).held t p.page c.pass.number
-            (text_chunks p.cluster fields text) c.pass.own) of
-            (renamed (λ (s : Table) (n : ℕ) (l : List (List TreesData)). WroteChunks
-            (state c.committer.birth.begun).held s n c.pass.number l c.pass.own) c.table t c.page p.page
-            (chunks c.cluster h.entries) (text_chunks p.cluster fields text) (h.same.table ∙ is_table) (h.same.page
-            ∙ is_page) (chunks_are text h.entries None h.same read) h.written.wrote),
+        wrote_as (chunks c.cluster h.entries) (text_chunks p.cluster fields text) (chunks_are text h.entries None h.same read) h.same
+            h.written.wrote,
         subst (λ (l : List (List TreesData)). take (length (ranges_of c.pass.own)) l ≡ l) (chunks_are text h.entries None h.same read)
             (take_all (length (ranges_of c.pass.own)) (chunks c.cluster h.entries) (omega (
               arith,
@@ -131,17 +140,10 @@ module _ {D P : Type 0} (state : D → DiskState) (fields : List MemberData) (t 
 
   ended_wrote : (left : Option (List ℕ)) (was is : LinesState) (result : Result Unit ContextError)
       → Ended state (parts_of fields) left start was is c result → result ≡ Ok tt
-      → (full : List (List TreesData)) × WroteChunks (state committer.birth.begun).held t p.page c.pass.number full c.pass.own
+      → (full : List (List TreesData))
+      × WroteAllChunks (state committer.birth.begun).held t p.page p.staged c.pass.number full c.pass.own
   ended_wrote left was is (Ok done) h well =
-      let of : c.committer ≡ committer = h.same.committer ∙ is_committer in (
-        chunks c.cluster h.entries,
-        subst (λ (b : TurnState (Birth D)). WroteChunks (state b.birth.begun).held t p.page c.pass.number
-            (chunks c.cluster h.entries) c.pass.own) of
-            (renamed (λ (s : Table) (n : ℕ) (l : List (List TreesData)). WroteChunks
-            (state c.committer.birth.begun).held s n c.pass.number l c.pass.own) c.table t c.page p.page
-            (chunks c.cluster h.entries) (chunks c.cluster h.entries) (h.same.table ∙ is_table) (h.same.page
-            ∙ is_page) refl h.written.wrote),
-      )
+      let all = chunks c.cluster h.entries in (all, wrote_as all all refl h.same h.written.wrote)
   ended_wrote left was is (Err error) h well = cc
 
   ended_blamed : (left : Option (List ℕ)) (was is : LinesState) (result : Result Unit ContextError)
@@ -220,10 +222,11 @@ new_context committer t cluster page staged pass pen columns =
 
 module _ {D P : Type 0} (committer : TurnState (Birth D)) (t : Table) (cluster page : ℕ) (staged : Bool) (pass : DiskPass D) (pen : P)
     (c : DiskContext D P) (is : c ≡ new_context committer t cluster page staged pass pen c.columns) where
-  new_open : 0 < cluster → staged ≡ false → IsOpen c
-  new_open some unstaged =
+  new_open : 0 < cluster → pass.own ≡ [] → IsOpen c
+  new_open some unused =
+      let before : IsUnpublished staged pass = λ yes. ap (λ (l : List (Entry ClusterMeta)). times pass.number (publishers_of l)) unused in
       let there : IsOpen (new_context committer t cluster page staged pass pen c.columns) =
-      record { alive = refl; unstaged = unstaged; room = some } in
+      record { alive = refl; unpublished = before; room = some } in
       subst (λ (d : DiskContext D P). IsOpen d) (sym is) there
 
   pub new_for : (fields : List MemberData) (plain : Bool) → AreFields fields → Rows fields plain t → IsFor fields c
@@ -233,9 +236,9 @@ module _ {D P : Type 0} (committer : TurnState (Birth D)) (t : Table) (cluster p
     rows = subst (λ (s : Table). Rows fields plain s) (sym (ap (λ (d : DiskContext D P). d.table) is)) rows;
   }
 
-  pub new_start : (lines : LinesState) → 0 < cluster → staged ≡ false → pass.own ≡ [] → lines.number ≡ 0 → IsAtStart lines c
-  new_start lines some unstaged unused first = record {
-    is_open = new_open some unstaged;
+  pub new_start : (lines : LinesState) → 0 < cluster → pass.own ≡ [] → lines.number ≡ 0 → IsAtStart lines c
+  new_start lines some unused first = record {
+    is_open = new_open some unused;
     unused = ap (λ (d : DiskContext D P). d.pass.own) is ∙ unused;
     empty = ap (λ (d : DiskContext D P). gathered d) is;
     first = first;

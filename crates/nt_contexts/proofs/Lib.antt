@@ -6,6 +6,7 @@ mod Unwritten
 pub mod Reading
 pub mod BadLines
 mod TakenLines
+mod Publishing
 mod Lines
 mod LinesTaken
 mod Ends

@@ -1,5 +1,5 @@
 -- Lines that were taken, and what is left of a text behind them.
-use Rattle.std.proofs.Common.{◌≡◌, inl, inr, ℕ, ◌<◌, ◌≤◌, false, List, [], ◌∷◌, ◌++◌, length, Option, None, Result, Ok}
+use Rattle.std.proofs.Common.{◌≡◌, inl, inr, ℕ, ◌<◌, ◌≤◌, List, [], ◌∷◌, ◌++◌, length, Option, None, Result, Ok}
 use Rattle.std.proofs.Common.{Err, refl, sym}
 use Rattle.std.proofs.Common.{ap, ◌∙◌, subst, append-nil, arith}
 use Rattle.std.specs.Io.KnownBytes.{IsAtEnd}
@@ -14,34 +14,36 @@ use Rattle.nt_machine.specs.History.{entries_of_chunk}
 use Rattle.nt_machine.proofs.Dealing.{Wrote-snoc}
 use Rattle.nt_book.specs.declared.meta.ClusterMeta.{ClusterMeta}
 use Rattle.nt_event.specs.Lines.{LinesState}
-use Rattle.nt_fill.specs.Context.{gathered}
+use Rattle.nt_fill.specs.Context.{MayGather, gathered}
 use Rattle.nt_fill.specs.Flushes.{DiskContext}
 use Rattle.nt_dealing.specs.EventText.{BadLine}
 use Rattle.nt_dealing.specs.Written.{IsChunkBlob, WroteChunks}
 use Rattle.nt_contexts.specs.declared.error.ContextError.{ContextError}
 use Rattle.nt_contexts.specs.declared.error.ContextError.TheVariants.{Text, Limit, Outside, Memory}
-use Rattle.nt_contexts.specs.Filling.{IsFor, IsSameContext, IsOpen, HasCommitted, HasTaken, HasWrittenAll, held_before, Halts}
-use Rattle.nt_contexts.specs.Taking.{WritesChunk, WritesRest}
+use Rattle.nt_contexts.specs.Filling.{IsFor, IsSameContext, IsOpen, IsEmptied, HasCommitted, HasTaken, HasWrittenChunks, held_before}
+use Rattle.nt_contexts.specs.Filling.{Halts}
+use Rattle.nt_contexts.specs.Taking.{WritesChunk, WritesRest, PublishesAll}
 use Rattle.nt_contexts.specs.Running.{GoesOn, HasAll, IsCause, ReadsLine, Ended}
 use Rattle.nt_contexts.proofs.Reading.{read-end}
 use Rattle.nt_contexts.proofs.BadLines.{read-nothing}
 use Rattle.nt_contexts.proofs.Chunking.{chunks-full, chunks-none, chunks-last}
 use Rattle.nt_contexts.proofs.Committing.{committed-none}
-use Rattle.nt_contexts.proofs.Writing.{written_by, is_written, same_context, committed_written}
+use Rattle.nt_contexts.proofs.Writing.{written_by, is_written, same_context, committed_written, unpublished_written}
 use Rattle.nt_contexts.proofs.Unwritten.{halts-such}
 use Rattle.nt_contexts.proofs.TakenLines.{same-trans}
 use Rattle.nt_contexts.proofs.Lines.{ends_halted}
 
 module _ {D P : Type 0} (state : D → DiskState) where
+  -- nothing was gathered
   pub rest_none : (entries : List TreesData) (c : DiskContext D P) → 0 < c.cluster → length (gathered c) ≡ 0 → HasTaken state entries c
-      → HasWrittenAll state entries c
+      → HasWrittenChunks state entries c
   rest_none entries c some none taken =
       let are : chunks c.cluster entries ≡ taken.full =
       ap (λ (l : List TreesData). chunks c.cluster l) taken.whole
       ∙ (chunks-full c.cluster some taken.full (gathered c) taken.sizes
       ∙ (ap (λ (l : List (List TreesData)). taken.full ++ l) (chunks-none c.cluster some (gathered c) none) ∙ append-nil taken.full)) in
       record {
-        wrote = subst (λ (l : List (List TreesData)). WroteChunks (held_before state c) c.table c.page c.pass.number l c.pass.own)
+        wrote = subst (λ (l : List (List TreesData)). WroteChunks (held_before state c) c.table c.page c.staged c.pass.number l c.pass.own)
             (sym are) taken.wrote;
         committed = subst (λ (l : List (List TreesData)). HasCommitted c.table c.page l c.pass.own) (sym are) taken.committed;
       }
@@ -54,30 +56,32 @@ module _ {D P : Type 0} (state : D → DiskState) where
       ∙ (chunks-full old.cluster (omega arith) taken.full (gathered old) taken.sizes
       ∙ ap (λ (l : List (List TreesData)). taken.full ++ l) (chunks-last old.cluster (omega arith) (gathered old) some few))
 
-  pub rest_written : (entries : List TreesData) (old new : DiskContext D P) (result : Result Unit ContextError) → old.staged ≡ false
+  pub rest_written : (entries : List TreesData) (old new : DiskContext D P) (result : Result Unit ContextError) → MayGather old
       → 0 < length (gathered old) → length (gathered old) ≤ old.cluster → HasTaken state entries old → WritesChunk state old new result
       → WritesRest state entries old new result
-  rest_written entries old new (Ok done) unstaged some few taken writes =
+  rest_written entries old new (Ok done) may some few taken writes =
       let i = old.pass.number in
       let g : List TreesData = gathered old in
       let held = held_before state old in
-      let own : List (Entry ClusterMeta) = old.pass.own ++ entries_of_chunk false i writes.written in
+      let own : List (Entry ClusterMeta) = old.pass.own ++ entries_of_chunk old.staged i writes.written in
       let after : DiskContext D P = written_by state old new writes.written in
       let blob : IsChunkBlob held old.table old.page g writes.written.start writes.written.bytes writes.written.meta =
       record { blob = writes.blob.bytes; is_blob = writes.blob.blob; told = writes.blob.told_are } in
-      let wrote : WroteChunks held old.table old.page i (taken.full ++ g ∷ []) own =
-      Wrote-snoc (IsChunkBlob held old.table old.page) false i taken.full old.pass.own g writes.written taken.wrote blob in
+      let wrote : WroteChunks held old.table old.page old.staged i (taken.full ++ g ∷ []) own =
+      Wrote-snoc (IsChunkBlob held old.table old.page) old.staged i taken.full old.pass.own g writes.written taken.wrote blob in
       let are = last_chunk entries old some few taken in
-      let there : HasWrittenAll state entries after = record {
-        wrote = subst (λ (l : List (List TreesData)). WroteChunks held old.table old.page i l own) (sym are) wrote;
+      let there : HasWrittenChunks state entries after = record {
+        wrote = subst (λ (l : List (List TreesData)). WroteChunks held old.table old.page old.staged i l own) (sym are) wrote;
         committed = subst (λ (l : List (List TreesData)). HasCommitted old.table old.page l own) (sym are)
             (committed_written state old new writes taken.full taken.committed);
-      } in (
-        subst (λ (c : DiskContext D P). HasWrittenAll state entries c) (sym
-            (is_written state old new unstaged writes)) there,
+      } in
+      let empty : IsEmptied after =
+      record { alive = writes.alive; unpublished = unpublished_written state old new writes may.unpublished; empty = refl } in (
+        subst (λ (c : DiskContext D P). HasWrittenChunks state entries c) (sym (is_written state old new writes)) there,
+        subst (λ (c : DiskContext D P). IsEmptied c) (sym (is_written state old new writes)) empty,
         same_context state old new writes,
       )
-  rest_written entries old new (Err error) unstaged some few taken writes =
+  rest_written entries old new (Err error) may some few taken writes =
       subst (λ (l : List (List TreesData)). Halts state (λ chunk. Unit {0}) l old new error) (sym (last_chunk entries old some few taken))
       (halts-such state (λ chunk. chunk ≡ gathered old) (λ chunk. Unit {0}) (taken.full ++ gathered old ∷ []) old new error (λ chunk is. tt)
       (writes taken.full [] taken.committed))
@@ -98,22 +102,28 @@ module _ {D P : Type 0} (state : D → DiskState) (F : MembersData) (text : Opti
       whole = sym empty;
     };
     is_open = is_open;
-    same = record { committer = refl; table = refl; cluster = refl; page = refl; number = refl };
+    same = record { committer = refl; table = refl; cluster = refl; page = refl; staged = refl; number = refl };
   }
 
-  -- all lines were taken, and what was gathered was written, or why not
-  pub ended_rest : (old new : DiskContext D P) (was is : LinesState) (result : Result Unit ContextError)
-      → (all : HasAll state F text start old)
-      → WritesRest state all.entries old new result → Ended state F text start was is new result
-  ended_rest old new was is (Ok done) all h = record {
+  -- all lines were taken, and what was gathered was not written
+  pub ended_rest : (old new : DiskContext D P) (was is : LinesState) (error : ContextError) (all : HasAll state F text start old)
+      → WritesRest state all.entries old new (Err error) → Ended state F text start was is new (Err error)
+  ended_rest old new was is error all h =
+      ends_halted state F text start (λ chunk. Unit {0}) old new was is error all.entries None (λ chunk any. inr refl) all.same all.read h
+
+  -- it was written, and staged clusters were published, or why not
+  pub ended_all : (old mid new : DiskContext D P) (was is : LinesState) (result : Result Unit ContextError)
+      → (all : HasAll state F text start old) → IsSameContext old mid → PublishesAll state all.entries mid new result
+      → Ended state F text start was is new result
+  ended_all old mid new was is (Ok done) all same h = record {
     entries = all.entries;
     read = all.read;
     written = h.0;
-    same = same-trans start old
-        new all.same h.1;
+    same = same-trans start mid new (same-trans start old mid all.same same) h.1;
   }
-  ended_rest old new was is (Err error) all h =
-      ends_halted state F text start (λ chunk. Unit {0}) old new was is error all.entries None (λ chunk any. inr refl) all.same all.read h
+  ended_all old mid new was is (Err error) all same h =
+      ends_halted state F text start (λ chunk. Unit {0}) mid new was is error all.entries None (λ chunk any. inr refl)
+      (same-trans start old mid all.same same) all.read h
 
   earlier : (all : List (List TreesData)) (bad : Option BadLine) (c : DiskContext D P) (was mid is : LinesState) (error : ContextError)
       → was.faults ≤ mid.faults

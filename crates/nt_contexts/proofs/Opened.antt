@@ -1,5 +1,5 @@
 -- A new committer over a file that was begun.
-use Rattle.std.proofs.Common.{◌≡◌, ℕ, false, List, length, refl, sym, ap, ◌∙◌, subst}
+use Rattle.std.proofs.Common.{◌≡◌, ℕ, List, length, refl, sym, ap, ◌∙◌, subst}
 use Rattle.std.proofs.Common.{arith}
 use Rattle.std.proofs.Common.{replicate, Result}
 use Rattle.std.proofs.lemmas.List.{length-replicate}
@@ -28,7 +28,7 @@ module _ {D : Type 0} (state : D → DiskState) (fields : List MemberData) (t : 
       let columns : committer.birth.columns ≡ length book.firsts = ap (λ (b : Birth D). b.columns) born in
       let contexts : committer.birth.contexts ≡ n = ap (λ (b : Birth D). b.contexts) born in
       let firsts : book.firsts ≡ replicate (length t.columns) 0 = ap (λ (b : BookData). b.firsts) ready.book_is in
-      let unstaged : committer.birth.staged ≡ false =
+      let staged : committer.birth.staged ≡ p.staged =
       ap (λ (b : Birth D). b.staged) born ∙ ap (λ (b : BookData). b.staged) ready.book_is in
       let begins : IsLettingIn committer 0 (first_pass committer) = record {
         of = record {
@@ -54,8 +54,7 @@ module _ {D : Type 0} (state : D → DiskState) (fields : List MemberData) (t : 
           rules = ready.rules;
           rows = ready.rows;
           columns = sym (columns ∙ (ap (λ (l : List ℕ). length l) firsts ∙ length-replicate (length t.columns) 0));
-          not_staged = unstaged;
-          unstaged = ready.unstaged;
+          staged = staged;
         };
         some = omega (arith, ready.some);
         few = ready.few;
@@ -70,7 +69,7 @@ module _ {D : Type 0} (state : D → DiskState) (fields : List MemberData) (t : 
     limits = ap (λ (b : Birth D). b.limits) born ∙ ap (λ (b : BookData). b.limits) ready.book_is;
     end = ap (λ (b : Birth D). (state b.begun).end) born ∙ ready.end;
     group = ap (λ (b : Birth D). b.group) born ∙ ap (λ (b : BookData). b.group) ready.book_is;
-    not_staged = ap (λ (b : Birth D). b.staged) born ∙ ap (λ (b : BookData). b.staged) ready.book_is;
+    staged = ap (λ (b : Birth D). b.staged) born ∙ ap (λ (b : BookData). b.staged) ready.book_is;
   }
 
   pub born-firsts : (disk : D) (book : BookData) (n : ℕ) → IsReady fields p t book (state disk) n

@@ -20,7 +20,7 @@ use Rattle.nt_commit.specs.declared.locked.Birth.{Birth}
 use Rattle.nt_commit.specs.Holds.{HasNoneOut}
 use Rattle.nt_event.specs.Lines.{LinesState}
 use Rattle.nt_dealing.specs.Texts.{text_chunks, chunks_of}
-use Rattle.nt_dealing.specs.Written.{WroteChunks, CommittedFirst, AllWroteFrom, AllCommittedFrom}
+use Rattle.nt_dealing.specs.Written.{WroteAllChunks, CommittedFirst, AllWroteFrom, AllCommittedFrom}
 use Rattle.nt_contexts.specs.declared.error.ContextError.{ContextError}
 use Rattle.nt_contexts.specs.declared.error.ContextError.TheVariants as context
 use Rattle.nt_contexts.specs.declared.seats.Seat.{Seat}
@@ -171,25 +171,27 @@ module _ {D S P : Type 0} (state : D → DiskState) (fields : List MemberData) (
   -- where all ended well, each wrote whole chunks
   pub run-wrote : (clusters i : ℕ) (states : List SourceState) (seats : List (Seat S (DiskPass D) P)) → AreRun i states seats
       → answer_from clusters i seats ≡ Ok tt
-      → (chunks : List (List (List TreesData))) × AllWroteFrom (state committer.birth.begun).held t p.page i chunks (all_kept seats)
-      × (length chunks ≡ length seats)
+      → (chunks : List (List (List TreesData)))
+      × AllWroteFrom (state committer.birth.begun).held t p.page p.staged i chunks (all_kept seats) × (length chunks ≡ length seats)
   run-wrote clusters i [] [] run is = ([], tt, refl)
   run-wrote clusters i [] (x ∷ xs) run is = absurd run
   run-wrote clusters i (s ∷ states) [] run is = absurd run
   run-wrote clusters i (s ∷ states) (x ∷ xs) run is = by (run-wrote clusters (i + 1) states xs run.1) x.ended refl is
     where
       by : (answer_from clusters (i + 1) xs ≡ Ok tt → (chunks : List (List (List TreesData)))
-          × AllWroteFrom (state committer.birth.begun).held t p.page (i + 1) chunks (all_kept xs) × (length chunks ≡ length xs))
+          × AllWroteFrom (state committer.birth.begun).held t p.page p.staged (i + 1) chunks (all_kept xs) × (length chunks ≡ length xs))
           → (e : Result Unit ContextError) → x.ended ≡ e → answer_of clusters i e (answer_from clusters (i + 1) xs) ≡ Ok tt
-          → (chunks : List (List (List TreesData))) × AllWroteFrom (state committer.birth.begun).held t p.page i chunks (all_kept (x ∷
-          xs)) × (length chunks ≡ length (x ∷ xs))
+          → (chunks : List (List (List TreesData)))
+          × AllWroteFrom (state committer.birth.begun).held t p.page p.staged i chunks (all_kept (x ∷ xs))
+          × (length chunks ≡ length (x ∷ xs))
       by more (Ok done) end is =
           let rest = more is in
           let mine = run.0.wrote end in
           let kept = kept-is i s x run.0 in
-          let wrote : WroteChunks (state committer.birth.begun).held t p.page i mine.0 (kept_by x.pass).1 =
-          subst (λ (k : ℕ × List (Entry ClusterMeta)). WroteChunks (state committer.birth.begun).held t p.page i mine.0 k.1) (sym kept)
-          (subst (λ (n : ℕ). WroteChunks (state committer.birth.begun).held t p.page n mine.0 run.0.pass.own) run.0.number_is mine.1) in
+          let held = (state committer.birth.begun).held in
+          let wrote : WroteAllChunks held t p.page p.staged i mine.0 (kept_by x.pass).1 =
+          subst (λ (k : ℕ × List (Entry ClusterMeta)). WroteAllChunks held t p.page p.staged i mine.0 k.1) (sym kept)
+          (subst (λ (n : ℕ). WroteAllChunks held t p.page p.staged n mine.0 run.0.pass.own) run.0.number_is mine.1) in
           (mine.0 ∷ rest.0, (ap (λ (k : ℕ × List (Entry ClusterMeta)). k.0) kept, wrote, rest.1), omega (arith, rest.2))
       by more (Err e) end is = cc
 

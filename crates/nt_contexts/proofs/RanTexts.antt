@@ -19,7 +19,7 @@ use Rattle.nt_commit.specs.declared.locked.Birth.{Birth}
 use Rattle.nt_event.specs.declared.fault.TextKind.{TextKind}
 use Rattle.nt_dealing.specs.Texts.{text_chunks, chunks_of, AreSound}
 use Rattle.nt_dealing.specs.Failing.{whole_chunks, committed_chunks}
-use Rattle.nt_dealing.specs.Written.{WroteChunks, AllWroteFrom}
+use Rattle.nt_dealing.specs.Written.{WroteAllChunks, AllWroteFrom}
 use Rattle.nt_contexts.specs.declared.error.ContextError.{ContextError}
 use Rattle.nt_contexts.specs.declared.error.ContextError.TheVariants as context
 use Rattle.nt_contexts.specs.declared.seats.Seat.{Seat}
@@ -51,8 +51,9 @@ module _ {D S P : Type 0} (state : D → DiskState) (fields : List MemberData) (
   pub run-sound : (clusters i : ℕ) (states : List SourceState) (seats : List (Seat S (DiskPass D) P)) (texts : List (List ℕ))
       → HaveRun state fields t p committer source i states seats → TellTexts states texts
       → answer_from clusters i seats ≡ Ok tt
-      → AreSound fields texts × AllWroteFrom (state committer.birth.begun).held t p.page i (chunks_of p.cluster fields texts) (all_kept
-      seats) × Before (chunks_of p.cluster fields texts) (all_kept seats) (length texts) []
+      → AreSound fields texts
+      × AllWroteFrom (state committer.birth.begun).held t p.page p.staged i (chunks_of p.cluster fields texts) (all_kept seats)
+      × Before (chunks_of p.cluster fields texts) (all_kept seats) (length texts) []
   run-sound clusters i [] [] [] run tell is = (tt, tt, record { others = []; are = refl })
   run-sound clusters i [] [] (text ∷ texts) run tell is = cc
   run-sound clusters i [] (x ∷ xs) texts run tell is = absurd run
@@ -64,21 +65,22 @@ module _ {D S P : Type 0} (state : D → DiskState) (fields : List MemberData) (
       by (run-sound clusters (i + 1) states xs texts run.1 rest) x.ended (run.0.told text here) is
     where
       by : (answer_from clusters (i + 1) xs ≡ Ok tt
-          → AreSound fields texts × AllWroteFrom (state committer.birth.begun).held t p.page (i + 1) (chunks_of p.cluster fields texts)
-          (all_kept xs) × Before (chunks_of p.cluster fields texts) (all_kept xs) (length texts) [])
+          → AreSound fields texts
+          × AllWroteFrom (state committer.birth.begun).held t p.page p.staged (i + 1) (chunks_of p.cluster fields texts) (all_kept xs)
+          × Before (chunks_of p.cluster fields texts) (all_kept xs) (length texts) [])
           → (e : Result Unit ContextError) → EndsTold state fields t p committer run.0.pass text e
           → answer_of clusters i e (answer_from clusters (i + 1) xs) ≡ Ok tt
-          → AreSound fields (text ∷ texts) × AllWroteFrom (state committer.birth.begun).held t p.page i (chunks_of p.cluster fields
+          → AreSound fields (text ∷ texts) × AllWroteFrom (state committer.birth.begun).held t p.page p.staged i (chunks_of p.cluster fields
           (text ∷ texts)) (all_kept (x ∷ xs)) × Before (chunks_of p.cluster fields (text ∷ texts)) (all_kept (x ∷ xs))
           (suc (length texts)) []
       by later (Ok done) told is =
           let more = later is in
           let kept = kept-is state fields t p committer source i s x run.0 in
-          let wrote : WroteChunks (state committer.birth.begun).held t p.page i (text_chunks p.cluster fields text) (kept_by x.pass).1 =
-          subst (λ (k : ℕ × List (Entry ClusterMeta)). WroteChunks (state committer.birth.begun).held t p.page i (text_chunks p.cluster
-          fields text) k.1) (sym kept)
-          (subst (λ (n : ℕ). WroteChunks (state committer.birth.begun).held t p.page n (text_chunks p.cluster fields text)
-          run.0.pass.own) run.0.number_is told.1) in (
+          let held = (state committer.birth.begun).held in
+          let mine = text_chunks p.cluster fields text in
+          let wrote : WroteAllChunks held t p.page p.staged i mine (kept_by x.pass).1 =
+          subst (λ (k : ℕ × List (Entry ClusterMeta)). WroteAllChunks held t p.page p.staged i mine k.1) (sym kept)
+          (subst (λ (n : ℕ). WroteAllChunks held t p.page p.staged n mine run.0.pass.own) run.0.number_is told.1) in (
             (told.0, more.0),
             (ap (λ (k : ℕ × List (Entry ClusterMeta)). k.0) kept, wrote, more.1),
             before-more (text_chunks p.cluster fields text) (chunks_of p.cluster fields texts) (kept_by x.pass) (all_kept xs)

@@ -7,10 +7,10 @@ use Rattle.nt_types.specs.Lines.{is_blank_line}
 use Rattle.nt_outside.specs.Disk.{DiskState}
 use Rattle.nt_event.specs.declared.lines.Line.{Line}
 use Rattle.nt_event.specs.Entry.{entry_of}
-use Rattle.nt_fill.specs.Context.{gathered, Gathers}
+use Rattle.nt_fill.specs.Context.{gathered, Gathers, MayGather}
 use Rattle.nt_fill.specs.Flushes.{DiskContext}
 use Rattle.nt_contexts.specs.declared.error.ContextError.{ContextError}
-use Rattle.nt_contexts.specs.Filling.{IsSameContext, HasTaken, Halts}
+use Rattle.nt_contexts.specs.Filling.{IsSameContext, IsOpen, HasTaken, Halts}
 use Rattle.nt_lists.specs.Chunks.{chunks}
 use Rattle.nt_contexts.specs.Taking.{WritesFull, TakesTextLine}
 
@@ -19,9 +19,9 @@ module _ {D P : Type 0} where
   same-trans a b c h k = record {
     committer = k.committer ∙ h.committer;
     table = k.table ∙ h.table;
-    cluster = k.cluster
-        ∙ h.cluster;
+    cluster = k.cluster ∙ h.cluster;
     page = k.page ∙ h.page;
+    staged = k.staged ∙ h.staged;
     number = k.number ∙ h.number;
   }
 
@@ -31,8 +31,13 @@ module _ {D P : Type 0} where
     table = ap (λ (c : DiskContext D P). c.table) h.now;
     cluster = ap (λ (c : DiskContext D P). c.cluster) h.now;
     page = ap (λ (c : DiskContext D P). c.page) h.now;
+    staged = ap (λ (c : DiskContext D P). c.staged) h.now;
     number = ap (λ (c : DiskContext D P). c.pass.number) h.now;
   }
+
+  -- an open context may gather and write
+  pub open_gathers : (c : DiskContext D P) → IsOpen c → MayGather c
+  open_gathers c is = record { alive = is.alive; unpublished = is.unpublished }
 
   module _ (state : D → DiskState) where
     pub took_entry : (entries : List TreesData) (entry : TreesData) (old new : DiskContext D P) → HasTaken state entries old

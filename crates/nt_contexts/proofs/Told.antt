@@ -1,10 +1,9 @@
 -- What contexts did to the disk, the book and their sources, by what the first pass keeps of them.
 use Rattle.std.proofs.Common.{◌≡◌, ◌⊎◌, inl, inr, ℕ, zero, suc, ◌+◌, ◌≤◌, Some, List, [], ◌∷◌, length, take, refl, sym, ap, ◌∙◌, subst}
 use Rattle.std.proofs.Common.{append-nil, arith}
-use Rattle.std.proofs.Common.{replicate, Result, Ok, Err}
+use Rattle.std.proofs.Common.{replicate, Bool, true, false, Result, Ok, Err}
 use Rattle.std.specs.List.{AllByRecursion}
 use Rattle.std.specs.Prelude.{slice_get, slice_index_or}
-use Rattle.std.proofs.lemmas.Bool.{false≢true}
 use Rattle.std.proofs.lemmas.List.{length-map, take_all}
 use Rattle.std.proofs.lemmas.Slice.Zip.{AllZip-long}
 use Rattle.nt_types.specs.ShapeData.{MemberData}
@@ -17,7 +16,7 @@ use Rattle.nt_outside.specs.Disk.{DiskState}
 use Rattle.nt_outside.specs.Faults.{Rose}
 use Rattle.nt_outside.specs.Source.{SourceState}
 use Rattle.nt_turn.specs.Pass.{TurnState}
-use Rattle.nt_machine.specs.History.{Cluster, ranges_of}
+use Rattle.nt_machine.specs.History.{Cluster, clusters_of, ranges_of}
 use Rattle.nt_logged.proofs.Growing.{log-fresh}
 use Rattle.nt_book.specs.declared.meta.ClusterMeta.{ClusterMeta}
 use Rattle.nt_book.specs.declared.params.Params.{Params}
@@ -97,14 +96,7 @@ module _ {D : Type 0} (state : D → DiskState) (fields : List MemberData) (t : 
   runs sources sources' first answer disk book rules rows born firsts work ended = record {
     told = λ texts tell. tell-all texts answer (work.told texts tell);
     failed = λ is. blame (work.blamed is);
-    undamaged = λ is.
-        let w = work.wrote is in
-        let dealt = ended.dealt t p w.0 born w.1 in
-        record {
-          unspoiled = dealt.1;
-          untorn = dealt.0.beside.untorn;
-          published = λ staged. absurd (false≢true (sym (ended.staged ∙ born.not_staged) ∙ staged));
-        };
+    undamaged = λ is. let w = work.wrote is in (ended.dealt t p w.0 born w.1).1;
     later = ended.later;
     number = AllZip-long (λ (s s' : SourceState). s.faults ≤ s'.faults) sources sources' work.later;
     sources_later = work.later;
@@ -113,7 +105,7 @@ module _ {D : Type 0} (state : D → DiskState) (fields : List MemberData) (t : 
       begin = ended.begin ∙ born.end;
       limits = ended.limits ∙ born.limits;
       firsts = ended.firsts ∙ firsts;
-      staged = ended.staged ∙ born.not_staged;
+      staged = ended.staged ∙ born.staged;
     };
     noted = ended.noted t p born;
     end = ended.end;
@@ -202,8 +194,12 @@ runs-nothing fields t p disk book sources n ready = record {
   end = ready.end ∙ begins;
   out = ready.out;
   short = subst (λ (b : BookData). AllByRecursion (λ (c : Cluster ClusterMeta). c.len ≤ book.limits.range) (book_clusters b)) (sym
-      ready.book_is) tt;
+      ready.book_is) (none p.staged);
 }
   where
+    none : (staged : Bool) → AllByRecursion (λ (c : Cluster ClusterMeta). c.len ≤ book.limits.range) (clusters_of staged [])
+    none true = tt
+    none false = tt
+
     begins : clusters_place t ≡ book_end book
     begins = subst (λ (b : BookData). clusters_place t ≡ book_end b) (sym ready.book_is) (omega arith)

@@ -1,14 +1,15 @@
 -- Why a context did not write what it had gathered.
 use Rattle.std.proofs.Common.{◌≡◌, ◌≢◌, inl, inr, ℕ, List, [], ◌∷◌, ◌++◌, length, Option, Some, None, Result, Err, refl, sym, ap}
-use Rattle.std.proofs.Common.{◌∙◌, Bool, false, subst}
+use Rattle.std.proofs.Common.{◌∙◌, subst}
 use Rattle.std.proofs.Common.{append_assoc, append-nil}
 use Rattle.nt_types.specs.TreeData.{TreesData}
 use Rattle.nt_outside.specs.Disk.{DiskState}
 use Rattle.nt_machine.specs.declared.entry.Entry.{Entry}
+use Rattle.nt_machine.specs.History.{reserving}
 use Rattle.nt_book.specs.declared.meta.ClusterMeta.{ClusterMeta}
 use Rattle.nt_book.specs.declared.limits.LimitError.{LimitError}
 use Rattle.nt_book.specs.declared.limits.LimitError.TheVariants as limit
-use Rattle.nt_book.specs.Entries.{committed_by, faulted_entry, spoiled_entry}
+use Rattle.nt_book.specs.Entries.{faulted_entry, spoiled_entry}
 use Rattle.nt_pages.specs.Metas.{cluster_meta}
 use Rattle.nt_commit.specs.declared.error.CommitError.{CommitError}
 use Rattle.nt_commit.specs.declared.error.CommitError.TheVariants as commit
@@ -89,6 +90,7 @@ module _ {D P : Type 0} (state : D → DiskState) where
             table = refl;
             cluster = refl;
             page = refl;
+            staged = refl;
             number = ap (λ (p : DiskPass D). p.number) kept.gains.now;
           };
           committed = committed-first old.table old.page full new.pass.own still (gathered old ∷ others);
@@ -119,6 +121,7 @@ module _ {D P : Type 0} (state : D → DiskState) where
             table = refl;
             cluster = refl;
             page = refl;
+            staged = refl;
             number = ap (λ (p : DiskPass D). p.number) kept.gains.now;
           };
           committed = committed-first old.table old.page full new.pass.own
@@ -142,6 +145,7 @@ module _ {D P : Type 0} (state : D → DiskState) where
             table = refl;
             cluster = refl;
             page = refl;
+            staged = refl;
             number = ap (λ (p : DiskPass D). p.number) gains.now;
           };
           committed = subst (λ (l : List (Entry ClusterMeta)). CommittedFirst old.table old.page all l) (sym own) committed;
@@ -149,8 +153,8 @@ module _ {D P : Type 0} (state : D → DiskState) where
         } in
         subst (λ (c : DiskContext D P). Halts state (λ chunk. chunk ≡ gathered old) all old c Outside) (sym now) there
 
-    faulted : (meta : ClusterMeta) → IsKeptOf old.table old.page (gathered old) meta → FailsToWrite false meta old.pass new.pass
-        old.pen new.pen
+    faulted : (meta : ClusterMeta) → IsKeptOf old.table old.page (gathered old) meta
+        → FailsToWrite old.staged meta old.pass new.pass old.pen new.pen
         → new ≡ record old { pass = new.pass; pen = new.pen }
         → Halts state (λ chunk. chunk ≡ gathered old) (full ++ gathered old ∷ others) old new Outside
     faulted meta kept (inl m) now =
@@ -162,10 +166,10 @@ module _ {D P : Type 0} (state : D → DiskState) where
         (told_last old.pass.own i m.0.faults)
     faulted meta kept (inr m) now =
         let i = old.pass.number in
-        let first : Entry ClusterMeta = committed_by i m.0.cluster m.0.start meta in
+        let first : Entry ClusterMeta = record { context = i; kind = reserving old.staged m.0.cluster m.0.start meta.len meta } in
         let added : List (Entry ClusterMeta) = first ∷ spoiled_entry i m.0.cluster m.0.faults ∷ [] in
         let more : HasCommitted old.table old.page (full ++ gathered old ∷ []) (old.pass.own ++ added) =
-        committed-spoiled old.table old.page full old.pass.own
+        committed-spoiled old.table old.page old.staged full old.pass.own
         (gathered old) i m.0.cluster m.0.start meta.len meta m.0.faults have kept refl in
         failed (full ++ gathered old ∷ others) added m.0.gains now
         (subst (λ (l : List (List TreesData)). CommittedFirst old.table old.page l (old.pass.own ++ added)) (append_assoc full
@@ -174,24 +178,23 @@ module _ {D P : Type 0} (state : D → DiskState) where
         (told_spoiled old.pass.own first i m.0.cluster m.0.faults)
 
   -- why a cluster was not written
-  pub write_refused : (old new : DiskContext D P) → old.staged ≡ false → (e : CommitError)
+  pub write_refused : (old new : DiskContext D P) (e : CommitError)
       → (refusal e ≢ refusal commit.Memory → KeepsLimits state old new (Err e))
       → ((f : CommitError) → refusal e ≡ refusal f → f ≢ commit.Fault → KeepsEntries old new)
       → (refusal e ≡ refusal commit.Fault → FailsToFlush old new) → WritesChunk state old new (Err (context_error e))
-  write_refused old new unstaged (commit.RangeTooLarge len most) limits kept fault = λ full others have.
+  write_refused old new (commit.RangeTooLarge len most) limits kept fault = λ full others have.
       refused old new full others have (commit.RangeTooLarge len most) (limit.RangeTooLarge len most) refl (limits (λ is. cc)) (kept
       (commit.RangeTooLarge len most) refl (λ is. cc))
-  write_refused old new unstaged (commit.FileTooLarge end most) limits kept fault = λ full others have.
+  write_refused old new (commit.FileTooLarge end most) limits kept fault = λ full others have.
       refused old new full others have (commit.FileTooLarge end most) (limit.FileTooLarge end most) refl (limits (λ is. cc)) (kept
       (commit.FileTooLarge end most) refl (λ is. cc))
-  write_refused old new unstaged commit.TooManyClusters limits kept fault = λ full others have.
+  write_refused old new commit.TooManyClusters limits kept fault = λ full others have.
       refused old new full others have commit.TooManyClusters limit.TooManyClusters refl (limits (λ is. cc))
       (kept commit.TooManyClusters refl (λ is. cc))
-  write_refused old new unstaged commit.Memory limits kept fault = λ full others have. wanted old new full others have (kept
+  write_refused old new commit.Memory limits kept fault = λ full others have. wanted old new full others have (kept
       commit.Memory refl
       (λ is. cc))
-  write_refused old new unstaged commit.Fault limits kept fault = λ full others have.
+  write_refused old new commit.Fault limits kept fault = λ full others have.
       let f = fault refl in
       let meta : ClusterMeta = cluster_meta old.page old.pass.number (length (gathered old)) f.columns in
-      faulted old new full others have meta (record { columns = f.columns; gives = f.gives; meta_is = refl }) (subst
-      (λ (b : Bool). FailsToWrite b meta old.pass new.pass old.pen new.pen) unstaged f.fails) f.now
+      faulted old new full others have meta (record { columns = f.columns; gives = f.gives; meta_is = refl }) f.fails f.now

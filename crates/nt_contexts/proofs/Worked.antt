@@ -80,13 +80,13 @@ module _ {D S P : Type 0} (state : D → DiskState) (fields : List MemberData) (
 
     -- the first pass keeps what each context wrote
     have-written : (chunks : List (List (List TreesData))) → length chunks ≡ length seats
-        → AllWroteFrom (state committer.birth.begun).held t p.page 0 chunks (all_kept seats)
-        → HaveWritten (state committer.birth.begun).held t p.page chunks new.number new.own new.kept
+        → AllWroteFrom (state committer.birth.begun).held t p.page p.staged 0 chunks (all_kept seats)
+        → HaveWritten (state committer.birth.begun).held t p.page p.staged chunks new.number new.own new.kept
     have-written chunks long each = record {
       behind = omega (arith, number-is, few, long);
       unused = unused;
-      each = subst (λ (l : Kept). AllWroteFrom (state committer.birth.begun).held t p.page 0 chunks l) (sym (ap (λ (f : DiskPass D).
-          f.kept) now)) each;
+      each = subst (λ (l : Kept). AllWroteFrom (state committer.birth.begun).held t p.page p.staged 0 chunks l)
+          (sym (ap (λ (f : DiskPass D). f.kept) now)) each;
     }
 
     have-committed : (chunks : List (List (List TreesData))) → length chunks ≡ length seats

@@ -1,5 +1,5 @@
 -- What the contexts of a writer leave, which run beside each other: one for each source.
-use Rattle.std.specs.Prelude.{⊤, ◌≡◌, ◌⊎◌, ℕ, ◌≤◌, false, List, [], ◌∷◌, map, length, Some, Result, Ok, Err}
+use Rattle.std.specs.Prelude.{⊤, ◌≡◌, ◌⊎◌, ℕ, ◌≤◌, List, [], ◌∷◌, map, length, Some, Result, Ok, Err}
 use Rattle.std.specs.List.{AllZip, AllByRecursion}
 use Rattle.nt_types.specs.ShapeData.{MemberData}
 use Rattle.nt_grammar.specs.Table.{Table}
@@ -27,11 +27,10 @@ use Rattle.nt_contexts.specs.declared.error.RunError.TheVariants.{Outside, Memor
 abbrev pub TellTexts : List SourceState → List (List ℕ) → Type 0
 TellTexts sources texts = map (λ (s : SourceState). s.left) sources ≡ map (λ (text : List ℕ). Some text) texts
 
--- the file of these fields is begun, and no cluster is written; clusters aren't staged
+-- the file of these fields is begun, and no cluster is written
 pub record IsReady (fields : List MemberData) (p : Params) (t : Table) (book : BookData) (disk : DiskState) (sources : ℕ) : Type 0 where
   pub rules : AreFields fields
   pub rows : Rows fields p.plain t
-  pub unstaged : p.staged ≡ false
   pub book_is : book ≡ new_book t p
   pub end : disk.end ≡ clusters_place t
   pub out : disk.out ≡ []

@@ -18,8 +18,8 @@ use Rattle.nt_book.specs.declared.limits.LimitError.{LimitError}
 use Rattle.nt_book.specs.Books.{BookData, book_clusters, book_end}
 use Rattle.nt_commit.specs.declared.locked.Birth.{Birth}
 use Rattle.nt_commit.specs.Locked.{book_of_birth}
+use Rattle.nt_close.specs.Damage.{IsUndamaged}
 use Rattle.nt_close.specs.Filled.{AreListsNoted}
-use Rattle.nt_close.specs.Spoiled.{NoneSpoiled}
 use Rattle.nt_dealing.specs.Begun.{IsBornFor}
 use Rattle.nt_dealing.specs.Texts.{chunks_of, all_chunks}
 use Rattle.nt_dealing.specs.Written.{HaveWritten, HaveCommitted}
@@ -35,8 +35,8 @@ module _ {D : Type 0} (state : D → DiskState) (birth : Birth D) where
     pub later : (state birth.begun).faults ≤ (state disk).faults
     pub blamed : KeepsFaults first → Rose (state birth.begun).faults (state disk).faults
     pub dealt : (t : Table) (p : Params) (chunks : List (List (List TreesData))) → IsBornFor state birth t p
-        → HaveWritten (state birth.begun).held t p.page chunks first.number first.own first.kept
-        → IsDealtOut t p chunks book (state birth.begun).held (state disk).held × NoneSpoiled book
+        → HaveWritten (state birth.begun).held t p.page p.staged chunks first.number first.own first.kept
+        → IsDealtOut t p chunks book (state birth.begun).held (state disk).held × IsUndamaged book
     pub over : (fields : List MemberData) (t : Table) (p : Params) (texts : List (List ℕ)) (i : ℕ) (own seen : List (Entry ClusterMeta))
         (error : LimitError)
         → AreFields fields → Rows fields p.plain t → IsBornFor state birth t p → HaveCommitted t p.page (chunks_of p.cluster fields texts)

@@ -1,5 +1,5 @@
 -- What a context has done with the entries that it took.
-use Rattle.std.specs.Prelude.{◌≡◌, ℕ, ◌<◌, Bool, false, List, [], ◌++◌, map, length, Option, Some, IsSome, slice_get}
+use Rattle.std.specs.Prelude.{◌≡◌, ℕ, ◌<◌, Bool, List, [], ◌++◌, map, length, Option, Some, IsSome, slice_get}
 use Rattle.std.specs.List.{AllByRecursion, flat_map}
 use Rattle.nt_types.specs.ShapeData.{MemberData}
 use Rattle.nt_types.specs.TreeData.{TreesData}
@@ -15,10 +15,11 @@ use Rattle.nt_machine.specs.History.{Cluster, ranges_of}
 use Rattle.nt_book.specs.declared.meta.ClusterMeta.{ClusterMeta}
 use Rattle.nt_event.specs.Lines.{LinesState}
 use Rattle.nt_fill.specs.Context.{gathered}
+use Rattle.nt_fill.specs.Passes.{IsUnpublished}
 use Rattle.nt_fill.specs.Flushes.{DiskContext}
 use Rattle.nt_commit.specs.Locked.{book_of_birth}
 use Rattle.nt_dealing.specs.Limits.{AreKeptOf, NextPasses}
-use Rattle.nt_dealing.specs.Written.{WroteChunks, CommittedFirst}
+use Rattle.nt_dealing.specs.Written.{WroteChunks, WroteAllChunks, CommittedFirst}
 use Rattle.nt_contexts.specs.declared.error.ContextError.{ContextError}
 use Rattle.nt_contexts.specs.declared.error.ContextError.TheVariants.{Text, Limit, Outside, Memory}
 
@@ -41,19 +42,26 @@ module _ {D P : Type 0} where
     pub plain : Bool
     pub rows : Rows fields plain c.table
 
-  -- committer, schema, sizes and number are the same
+  -- committer, schema, sizes and number are the same, and clusters are staged where they were
   pub record IsSameContext (old new : DiskContext D P) : Type 0 where
     pub committer : new.committer ≡ old.committer
     pub table : new.table ≡ old.table
     pub cluster : new.cluster ≡ old.cluster
     pub page : new.page ≡ old.page
+    pub staged : new.staged ≡ old.staged
     pub number : new.pass.number ≡ old.pass.number
 
-  -- the context is alive, and has no whole cluster; its clusters aren't staged
+  -- the context is alive, has no whole cluster, and hasn't published
   pub record IsOpen (c : DiskContext D P) : Type 0 where
     pub alive : IsSome c.pen
-    pub unstaged : c.staged ≡ false
+    pub unpublished : IsUnpublished c.staged c.pass
     pub room : length (gathered c) < c.cluster
+
+  -- the context is alive, has nothing gathered, and hasn't published
+  pub record IsEmptied (c : DiskContext D P) : Type 0 where
+    pub alive : IsSome c.pen
+    pub unpublished : IsUnpublished c.staged c.pass
+    pub empty : gathered c ≡ []
 
   -- the context is open, and has neither read nor written anything
   pub record IsAtStart (lines : LinesState) (c : DiskContext D P) : Type 0 where
@@ -70,14 +78,19 @@ module _ {D P : Type 0} where
     -- these entries were taken: whole clusters of them were written, and the rest is gathered
     pub record HasTaken (entries : List TreesData) (c : DiskContext D P) : Type 0 where
       pub full : List (List TreesData)
-      pub wrote : WroteChunks (held_before c) c.table c.page c.pass.number full c.pass.own
+      pub wrote : WroteChunks (held_before c) c.table c.page c.staged c.pass.number full c.pass.own
       pub committed : HasCommitted c.table c.page full c.pass.own
       pub sizes : AllByRecursion (λ (chunk : List TreesData). length chunk ≡ c.cluster) full
       pub whole : entries ≡ flat_map (λ (chunk : List TreesData). chunk) full ++ gathered c
 
     -- all of these entries were written, in clusters of so many
+    pub record HasWrittenChunks (entries : List TreesData) (c : DiskContext D P) : Type 0 where
+      pub wrote : WroteChunks (held_before c) c.table c.page c.staged c.pass.number (chunks c.cluster entries) c.pass.own
+      pub committed : HasCommitted c.table c.page (chunks c.cluster entries) c.pass.own
+
+    -- and staged clusters are published
     pub record HasWrittenAll (entries : List TreesData) (c : DiskContext D P) : Type 0 where
-      pub wrote : WroteChunks (held_before c) c.table c.page c.pass.number (chunks c.cluster entries) c.pass.own
+      pub wrote : WroteAllChunks (held_before c) c.table c.page c.staged c.pass.number (chunks c.cluster entries) c.pass.own
       pub committed : HasCommitted c.table c.page (chunks c.cluster entries) c.pass.own
 
     -- why a context wrote no more of these chunks: the next, which is such, passes a limit; faults, which stand among its entries; or want

@@ -1,5 +1,5 @@
 -- The seat of a context, before and after it ran.
-use Rattle.std.specs.Prelude.{⊤, ◌≡◌, ◌⊎◌, ◌≤◌, ℕ, false, List, [], length, take, Some, None, IsSome, Result, Ok, Err}
+use Rattle.std.specs.Prelude.{⊤, ◌≡◌, ◌⊎◌, ◌≤◌, ℕ, List, [], length, take, Some, None, IsSome, Result, Ok, Err}
 use Rattle.nt_types.specs.ShapeData.{MemberData}
 use Rattle.nt_types.specs.TreeData.{TreesData}
 use Rattle.nt_types.specs.Rules.{AreFields}
@@ -17,7 +17,7 @@ use Rattle.nt_commit.specs.declared.locked.Birth.{Birth}
 use Rattle.nt_commit.specs.Locked.{book_of_birth}
 use Rattle.nt_commit.specs.Holds.{IsPassOf, HasNoneOut}
 use Rattle.nt_dealing.specs.Texts.{events_of, text_chunks}
-use Rattle.nt_dealing.specs.Written.{WroteChunks, CommittedFirst}
+use Rattle.nt_dealing.specs.Written.{WroteAllChunks, CommittedFirst}
 use Rattle.nt_dealing.specs.Limits.{NextPasses}
 use Rattle.nt_dealing.specs.Failing.{whole_chunks}
 use Rattle.nt_contexts.specs.declared.error.ContextError.{ContextError}
@@ -30,14 +30,13 @@ use Rattle.nt_contexts.specs.Filling.{HaveFaults}
 abbrev pub DiskPass : Type 0 → Type 0
 DiskPass D = PassState (Entry ClusterMeta) (Birth D)
 
--- a schema of these fields, which keep the rules of a schema text, with as many columns as the committer's clusters have, which aren't
--- staged
+-- a schema of these fields, which keep the rules of a schema text, with as many columns as the committer's clusters have, which are staged
+-- where the parameters say so
 pub record IsSchemaFor {D : Type 0} (committer : TurnState (Birth D)) (fields : List MemberData) (p : Params) (t : Table) : Type 0 where
   pub rules : AreFields fields
   pub rows : Rows fields p.plain t
   pub columns : length t.columns ≡ committer.birth.columns
-  pub not_staged : committer.birth.staged ≡ false
-  pub unstaged : p.staged ≡ false
+  pub staged : committer.birth.staged ≡ p.staged
 
 module _ {D S P : Type 0} where
   -- a context that has read and written nothing, with a pass of the committer and a pen
@@ -56,7 +55,7 @@ abbrev pub EndsTold : {D : Type 0} → (D → DiskState) → List MemberData →
     → Result Unit ContextError → Type 0
 EndsTold state fields t p committer pass text (Ok done) =
     ((events_of fields text).bad ≡ None)
-    × WroteChunks (state committer.birth.begun).held t p.page pass.number (text_chunks p.cluster fields text) pass.own
+    × WroteAllChunks (state committer.birth.begun).held t p.page p.staged pass.number (text_chunks p.cluster fields text) pass.own
     × (take (length (ranges_of pass.own)) (text_chunks p.cluster fields text) ≡ text_chunks p.cluster fields text)
 EndsTold state fields t p committer pass text (Err (Text line kind)) =
     ((events_of fields text).bad ≡ Some (record { line = line; kind = kind }))
@@ -82,7 +81,7 @@ module _ {D S P : Type 0} (state : D → DiskState) (source : S
     pub blamed : new.ended ≡ Err Outside → Rose (left_of source old.lines).faults (left_of source new.lines).faults ⊎ HaveFaults pass.own
     -- whatever the text, a context that ended well wrote chunks, each whole
     pub wrote : new.ended ≡ Ok tt
-        → (full : List (List TreesData)) × WroteChunks (state committer.birth.begun).held t p.page pass.number full pass.own
+        → (full : List (List TreesData)) × WroteAllChunks (state committer.birth.begun).held t p.page p.staged pass.number full pass.own
     pub committed : (text : List ℕ) → (left_of source old.lines).left ≡ Some text
         → CommittedFirst t p.page (text_chunks p.cluster fields text) pass.own
     pub told : (text : List ℕ) → (left_of source old.lines).left ≡ Some text → EndsTold state fields t p committer pass text new.ended

@@ -11,7 +11,7 @@ use Rattle.nt_fill.specs.Context.{gathered}
 use Rattle.nt_fill.specs.Flushes.{DiskContext, WritesCluster}
 use Rattle.nt_contexts.specs.declared.error.ContextError.{ContextError}
 use Rattle.nt_contexts.specs.declared.error.ContextError.TheVariants.{Text, Limit, Outside, Memory}
-use Rattle.nt_contexts.specs.Filling.{HasTaken, IsOpen, IsSameContext, HasCommitted, HasWrittenAll, Halts}
+use Rattle.nt_contexts.specs.Filling.{HasTaken, IsOpen, IsEmptied, IsSameContext, HasCommitted, HasWrittenChunks, HasWrittenAll, Halts}
 
 -- what is wrong with a line
 abbrev pub IsEntryError : MembersData → Line → ContextError → Type 0
@@ -69,5 +69,10 @@ module _ {D P : Type 0} where
 
     -- of a context that has taken these entries, and no more come: what is gathered was written too, or why not
     abbrev pub WritesRest : List TreesData → DiskContext D P → DiskContext D P → Result Unit ContextError → Type 0
-    WritesRest entries old new (Ok done) = HasWrittenAll state entries new × IsSameContext old new
+    WritesRest entries old new (Ok done) = HasWrittenChunks state entries new × IsEmptied new × IsSameContext old new
     WritesRest entries old new (Err error) = Halts state (λ chunk. Unit {0}) (chunks old.cluster entries) old new error
+
+    -- of a context that wrote these entries: staged clusters were published, or why not
+    abbrev pub PublishesAll : List TreesData → DiskContext D P → DiskContext D P → Result Unit ContextError → Type 0
+    PublishesAll entries old new (Ok done) = HasWrittenAll state entries new × IsSameContext old new
+    PublishesAll entries old new (Err error) = Halts state (λ chunk. Unit {0}) (chunks old.cluster entries) old new error

@@ -20,7 +20,7 @@ use Rattle.nt_commit.specs.Locked.{book_of_birth}
 use Rattle.nt_commit.specs.Holds.{IsPassOf, IsFirstOf, HasNoneOut, HaveAllLeft}
 use Rattle.nt_dealing.specs.Texts.{events_of, text_chunks, chunks_of, AreSound, IsFirstBad}
 use Rattle.nt_dealing.specs.Failing.{whole_chunks, chunks_before, committed_chunks}
-use Rattle.nt_dealing.specs.Written.{WroteChunks, CommittedFirst, HaveWritten, HaveCommitted}
+use Rattle.nt_dealing.specs.Written.{WroteAllChunks, CommittedFirst, HaveWritten, HaveCommitted}
 use Rattle.nt_dealing.specs.Limits.{NextPasses}
 use Rattle.nt_contexts.specs.declared.error.ContextError.TheVariants as context
 use Rattle.nt_contexts.specs.declared.seats.Seat.{Seat}
@@ -69,8 +69,8 @@ module _ {D : Type 0} (state : D → DiskState) (fields : List MemberData) (t : 
   -- what is known of the texts by the answer
   abbrev pub WorkTold : List (List ℕ) → DiskPass D → Result Unit RunError → Type 0
   WorkTold texts first (Ok done) =
-      AreSound fields texts × HaveWritten (state committer.birth.begun).held t p.page (chunks_of p.cluster fields texts) first.number
-      first.own first.kept × CommittedBefore texts first (length texts) []
+      AreSound fields texts × HaveWritten (state committer.birth.begun).held t p.page p.staged (chunks_of p.cluster fields texts)
+      first.number first.own first.kept × CommittedBefore texts first (length texts) []
   WorkTold texts first (Err (Line input line kind)) = StopsAtLine texts first input line kind
   WorkTold texts first (Err (Limit reached most)) = PassesNext texts first reached most
   WorkTold texts first (Err Outside) = ⊤
@@ -83,8 +83,8 @@ module _ {D : Type 0} (state : D → DiskState) (fields : List MemberData) (t : 
     pub later : AreLater sources sources'
     pub blamed : result ≡ Err Outside → SomeRose sources sources' ⊎ KeepsFaults first
     pub wrote : result ≡ Ok tt
-        → (chunks : List (List (List TreesData))) × HaveWritten (state committer.birth.begun).held t p.page chunks first.number
-        first.own first.kept
+        → (chunks : List (List (List TreesData))) × HaveWritten (state committer.birth.begun).held t p.page p.staged chunks
+        first.number first.own first.kept
     pub told : (texts : List (List ℕ)) → TellTexts sources texts → WorkTold texts first result
 
   module _ {S P : Type 0} (source : S → SourceState) where
@@ -98,7 +98,7 @@ module _ {D : Type 0} (state : D → DiskState) (fields : List MemberData) (t : 
       pub later : s.faults ≤ (source seat.lines.source).faults
       pub blamed : seat.ended ≡ Err context.Outside → Rose s.faults (source seat.lines.source).faults ⊎ HaveFaults pass.own
       pub wrote : seat.ended ≡ Ok tt
-          → (full : List (List TreesData)) × WroteChunks (state committer.birth.begun).held t p.page pass.number full pass.own
+          → (full : List (List TreesData)) × WroteAllChunks (state committer.birth.begun).held t p.page p.staged pass.number full pass.own
       pub committed : (text : List ℕ) → s.left ≡ Some text → CommittedFirst t p.page (text_chunks p.cluster fields text) pass.own
       pub told : (text : List ℕ) → s.left ≡ Some text → EndsTold state fields t p committer pass text seat.ended
 

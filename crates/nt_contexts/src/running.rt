@@ -1,13 +1,13 @@
 //! A context from the first line of its input to the last.
 
-ghost use Rattle.std.specs.Prelude.{◌≤◌, List};
+ghost use Rattle.std.specs.Prelude.{◌≡◌, ◌≤◌, List};
 ghost use Rattle.nt_types.specs.ShapeData.{parts_of};
 ghost use Rattle.nt_types.specs.Views.{members_view};
 ghost use Rattle.nt_types.specs.TreeData.{TreesData};
 ghost use Rattle.nt_contexts.specs.Reading.{left_of};
-ghost use Rattle.nt_contexts.specs.Filling.{IsFor, IsOpen, IsAtStart, HasTaken};
+ghost use Rattle.nt_contexts.specs.Filling.{IsFor, IsOpen, IsEmptied, IsAtStart, HasTaken, HasWrittenChunks};
 ghost use Rattle.nt_contexts.specs.Running.{Ended};
-ghost use Rattle.nt_contexts.specs.Taking.{WritesRest};
+ghost use Rattle.nt_contexts.specs.Taking.{WritesRest, PublishesAll};
 
 use crate::error::ContextError;
 use crate::shared::Shared;
@@ -36,6 +36,24 @@ fn write_rest<D: Disk, G: Gate>(
     write_gathered(rt, gate, fill)
 }
 
+/// Publishes all that was written, where clusters are staged: behind the last line, and never where
+/// a context failed.
+fn publish_written<D: Disk, G: Gate>(
+    rt: &impl Wait,
+    shared: &Shared<'_, G>,
+    fill: &mut FillContext<'_, D>,
+) -> Result<(), ContextError>
+    requires staged { fill.old.staged ≡ shared.now.params.now.staged }
+    requires emptied { IsEmptied fill.old }
+    ensures { (entries : List TreesData) → HasWrittenChunks D.state entries fill.old
+        → PublishesAll D.state entries fill.old fill.new result }
+{
+    if shared.params.staged {
+        fill.publish(rt, shared.gate)?;
+    }
+    Ok(())
+}
+
 /// Reads all lines of an input and writes the clusters of their entries.
 pub(crate) fn read_all<D: Disk, S: Source, G: Gate>(
     rt: &impl Wait,
@@ -45,6 +63,7 @@ pub(crate) fn read_all<D: Disk, S: Source, G: Gate>(
 ) -> Result<(), ContextError>
     requires fields { IsFor (members_view shared.now.fields.now) fill.old }
     requires start { IsAtStart (left_of S.state lines.old) fill.old }
+    requires staged { fill.old.staged ≡ shared.now.params.now.staged }
     ensures ended { Ended D.state (parts_of (members_view shared.now.fields.now)) (left_of S.state lines.old).left fill.old
         (left_of S.state lines.old) (left_of S.state lines.new) fill.new result }
     ensures later { (left_of S.state lines.old).faults ≤ (left_of S.state lines.new).faults }
@@ -52,7 +71,10 @@ pub(crate) fn read_all<D: Disk, S: Source, G: Gate>(
     for count in 0..=MAX_NUMBER {
         let line = match lines.next(shared.alloc) {
             Ok(Some(line)) => line,
-            Ok(None) => return write_rest(rt, shared.gate, fill),
+            Ok(None) => {
+                write_rest(rt, shared.gate, fill)?;
+                return publish_written(rt, shared, fill);
+            }
             Err(error) => return Err(ContextError::from(error)),
         };
         match take_line(rt, shared, fill, &line) {

@@ -1,12 +1,12 @@
 //! Lines that a context takes.
 
-ghost use Rattle.std.specs.Prelude.{◌≡◌, ◌<◌, ◌≤◌, false, List, length, Ok, IsSome, IfOk, IfErr};
+ghost use Rattle.std.specs.Prelude.{◌≡◌, ◌<◌, ◌≤◌, List, length, Ok, IfOk, IfErr};
 ghost use Rattle.nt_types.specs.ShapeData.{parts_of};
 ghost use Rattle.nt_types.specs.Views.{members_view};
 ghost use Rattle.nt_types.specs.TreeData.{TreesData, trees_of};
 ghost use Rattle.nt_types.specs.TreeViews.{trees_view};
 ghost use Rattle.nt_event.specs.Entry.{entry_of};
-ghost use Rattle.nt_fill.specs.Context.{gathered};
+ghost use Rattle.nt_fill.specs.Context.{MayGather, gathered};
 ghost use Rattle.nt_contexts.specs.Filling.{IsFor, IsOpen, HasTaken};
 ghost use Rattle.nt_contexts.specs.Taking.{IsEntryError, WritesChunk, WritesFull, TakesTextLine};
 
@@ -41,7 +41,7 @@ pub(crate) fn write_gathered<D: Disk, G: Gate>(
     gate: &G,
     fill: &mut FillContext<'_, D>,
 ) -> Result<(), ContextError>
-    requires alive { IsSome fill.old.pen × (fill.old.staged ≡ false) }
+    requires alive { MayGather fill.old }
     requires some { 0 < length (gathered fill.old) }
     ensures { WritesChunk D.state fill.old fill.new result }
 {
@@ -57,7 +57,7 @@ fn write_full<D: Disk, G: Gate>(
     gate: &G,
     fill: &mut FillContext<'_, D>,
 ) -> Result<(), ContextError>
-    requires alive { IsSome fill.old.pen × (fill.old.staged ≡ false) }
+    requires alive { MayGather fill.old }
     requires few { length (gathered fill.old) ≤ fill.old.cluster }
     requires some { 0 < length (gathered fill.old) }
     ensures { (entries : List TreesData) → HasTaken D.state entries fill.old

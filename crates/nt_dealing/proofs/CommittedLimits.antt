@@ -1,7 +1,6 @@
 -- Which limits the chunks of a history pass.
-use Rattle.std.proofs.Common.{◌≡◌, ◌∙◌, ap, sym, refl, subst, inl, inr, ℕ, ◌+◌, ◌-◌, ◌*◌, ◌<◌, ◌≤◌, Bool, false, List, [], ◌∷◌, ◌++◌}
-use Rattle.std.proofs.Common.{length, map}
-use Rattle.std.proofs.Common.{take, drop, Option, Some, append_assoc, sum_by, arith}
+use Rattle.std.proofs.Common.{◌≡◌, ◌∙◌, ap, sym, refl, subst, inl, inr, ℕ, ◌+◌, ◌-◌, ◌*◌, ◌<◌, ◌≤◌, Bool, true, false, List, [], ◌∷◌}
+use Rattle.std.proofs.Common.{◌++◌, length, map, take, drop, Option, Some, append_assoc, sum_by, arith}
 use Rattle.std.specs.Prelude.{IsPermutation, slice_get, slice_index_or}
 use Rattle.std.proofs.lemmas.List.{length-append, length-drop}
 use Rattle.std.proofs.lemmas.List.Sums.{sum_by-cons, sum_by-append}
@@ -26,11 +25,12 @@ use Rattle.nt_book.specs.declared.limits.Limits.{Limits}
 use Rattle.nt_book.specs.declared.limits.LimitError.{LimitError}
 use Rattle.nt_book.specs.Books.{BookData}
 use Rattle.nt_commit.specs.declared.locked.Birth.{Birth}
-use Rattle.nt_commit.specs.Lists.{IsDueLen, IsLastList}
+use Rattle.nt_commit.specs.Lists.{full_lists_len, listed_end, IsDueLen, IsLastList}
 use Rattle.nt_commit.specs.Locked.{book_of_birth, birth_of, context_of, history_of_locked, locked_by}
 use Rattle.nt_pages.specs.Image.{image}
 use Rattle.nt_pages.specs.Metas.{cluster_meta}
 use Rattle.nt_layout.specs.Headers.{header_sum, clusters_place}
+use Rattle.nt_layout.specs.Arranged.{group_for}
 use Rattle.nt_dealing.specs.Begun.{IsBornFor}
 use Rattle.nt_dealing.specs.Lengths.{page_list_len, page_lists_len, footer_len, group_count, whole_len}
 use Rattle.nt_dealing.specs.Texts.{joined_chunks}
@@ -48,7 +48,7 @@ begins_whole : (reached end len a b old c d e : ℕ) → reached ≤ end + old +
 begins_whole reached end len a b old c d e le is grows = omega (arith, le, is, grows)
 
 module _ (fields : List MemberData) (t : Table) (p : Params) (rows : Rows fields p.plain t) (chunks : List (List (List TreesData)))
-    (history : List (Entry ClusterMeta)) (begun : BookData) (grouped : begun.group ≡ Some (p.group, header_sum t))
+    (history : List (Entry ClusterMeta)) (begun : BookData) (grouped : begun.group ≡ group_for begun.staged p.group (header_sum t))
     (same : begun.limits ≡ p.limits) (begins : begun.begin ≡ clusters_place t)
     (each : (i : ℕ) → IsFront t p.page history chunks i) where
   abbrev limits : Limits
@@ -58,7 +58,7 @@ module _ (fields : List MemberData) (t : Table) (p : Params) (rows : Rows fields
   begin = begun.begin
 
   passes_all : (i : ℕ) (seen : List (Entry ClusterMeta)) (error : LimitError) → IsPrefix seen history
-      → (next : NextPasses (record begun { staged = false }) t p.page (slice_index_or chunks i []) (mine_of history i) seen error)
+      → (next : NextPasses begun t p.page (slice_index_or chunks i []) (mine_of history i) seen error)
       → IsOverBy t p (joined_chunks chunks) error × ChunkPassesBy t p next.chunk error
   passes_all i seen error first n =
       by_limit (λ e. IsOverBy t p (joined_chunks chunks) e × ChunkPassesBy t p n.chunk e) limits n.place.before (length cs) len
@@ -66,8 +66,8 @@ module _ (fields : List MemberData) (t : Table) (p : Params) (rows : Rows fields
       (λ less. (file less, chunk_too_far meta kept (omega (arith, begins, n.place.is.least)) file_is))
       (λ full. (clusters full, chunk_too_many refl refl))
     where
-      now : BookData
-      now = record begun { history = n.history; staged = false }
+      now : Bool → BookData
+      now staged = record begun { history = n.history; staged = staged }
 
       cs : List (Cluster ClusterMeta)
       cs = ranges_of n.history
@@ -139,7 +139,7 @@ module _ (fields : List MemberData) (t : Table) (p : Params) (rows : Rows fields
           range_passed (of_chunk n.chunk meta (contained (joined_chunks chunks) n.chunk at) kept refl) range_is less
 
       -- the page list of the last group, which is full
-      last_list : limits.range < n.place.due → IsLastList (header_sum t) p.group now n.place.due
+      last_list : limits.range < n.place.due → IsLastList (header_sum t) p.group (now false) n.place.due
           → IsOver t p (joined_chunks chunks) n.place.due limits.range × ChunkPasses t p n.chunk n.place.due limits.range
       last_list less last =
           let k = last.groups * p.group in
@@ -148,20 +148,40 @@ module _ (fields : List MemberData) (t : Table) (p : Params) (rows : Rows fields
           let count : length (drop k xs) ≡ p.group = omega (arith, length-drop k xs, long, last.full) in
           let are : AreKeptOf t p.page (drop k xs) (drop k metas) =
           zip-drop (IsKeptOf t p.page) k xs metas (kept_are t p.page xs cs taken_all.pairs) in
-          let is : n.place.due ≡ page_list_len (drop k metas) = last-long (header_sum t) p.group now n.place.due last in
+          let is : n.place.due ≡ page_list_len (drop k metas) = last-long (header_sum t) p.group (now false) n.place.due last in
           let all = last-first k xs (joined_chunks taken_all.left) (joined_chunks chunks) taken_all.permuted in (
             range_passed (of_page_list (drop k xs) (take k xs ++ joined_chunks taken_all.left) (drop k metas) all (omega (arith, count)) are
                 is) range_is less,
             list_too_long (drop k xs) (drop k metas) count are is range_is,
           )
 
+      -- none is due where clusters are staged
+      due_list : (b : Bool) → begun.staged ≡ b → IsDueLen (group_for b p.group (header_sum t)) (now begun.staged) n.place.due
+          → limits.range < n.place.due
+          → IsOver t p (joined_chunks chunks) n.place.due limits.range × ChunkPasses t p n.chunk n.place.due limits.range
+      due_list true flag due less = absurd (omega (arith, less, due))
+      due_list false flag due less =
+          elim due [
+            | inl none ↦ absurd (omega (arith, less, none))
+            | inr last ↦ last_list less (subst (λ (s : Bool). IsLastList (header_sum t) p.group (now s) n.place.due) flag last)
+          ]
+
       lists : limits.range < n.place.due
           → IsOver t p (joined_chunks chunks) n.place.due limits.range × ChunkPasses t p n.chunk n.place.due limits.range
       lists less =
-          elim (subst (λ (g : Option (ℕ × ℕ)). IsDueLen g now n.place.due) grouped n.place.is.due_is) [
-            | inl none ↦ absurd (omega (arith, less, none))
-            | inr last ↦ last_list less last
-          ]
+          due_list begun.staged refl
+          (subst (λ (g : Option (ℕ × ℕ)). IsDueLen g (now begun.staged) n.place.due) grouped n.place.is.due_is) less
+
+      -- the file ends no farther than with all page lists
+      end_most : (b : Bool) → begun.staged ≡ b → begun.group ≡ group_for b p.group (header_sum t)
+          → listed_end (now begun.staged) ≤ end_after begin cs + page_lists_len p.group metas
+      end_most true flag none =
+          let no_lists : full_lists_len begun.group (now begun.staged) ≡ 0 =
+          ap (λ (g : Option (ℕ × ℕ)). full_lists_len g (now begun.staged)) none in
+          omega (arith, no_lists)
+      end_most false flag some_lists =
+          subst (λ (s : Bool). listed_end (now s) ≤ end_after begin cs + page_lists_len p.group metas) (sym flag)
+          (listed-within (header_sum t) p.group (now false) some_group some_lists)
 
       within : reached ≤ whole_len t p.group (metas ++ meta ∷ [])
       within =
@@ -178,7 +198,7 @@ module _ (fields : List MemberData) (t : Table) (p : Params) (rows : Rows fields
           begins_whole reached (end_after begin cs) len (clusters_place t) (sum_by lens ms) (page_lists_len p.group metas)
           (page_lists_len p.group ms) (footer_len t (group_count p.group (length ms)))
           (anchor_part_len + key_list_part_len + free_list_part_len)
-          (omega (arith, n.place.is.most, listed-within (header_sum t) p.group now some_group grouped)) sums
+          (omega (arith, n.place.is.most, end_most begun.staged refl grouped)) sums
           (lists-grow p.group metas (meta ∷ []) some_group)
 
       file : limits.file < reached → IsOver t p (joined_chunks chunks) reached limits.file
@@ -216,18 +236,14 @@ module _ {D : Type 0} (state : D → DiskState) where
       let mine : own ≡ mine_of history i = own_kept t p.page history first.kept i i own closes.kept at in
       let begun : IsPrefix seen history =
       subst (λ (l : List (Entry ClusterMeta)). IsPrefix seen l) closes.seen.1 (prefix_more seen first.seen closes.seen.0 before) in
-      let flat : BookData = record (book_of_birth state birth []) { staged = false } in
-      let passes : (x : NextPasses flat t p.page (slice_index_or chunks i []) own seen error)
-      → IsOverBy t p (joined_chunks chunks) error × ChunkPassesBy t p x.chunk error =
+      let begins = book_of_birth state birth [] in
+      let group : birth.group ≡ group_for birth.staged p.group (header_sum t) =
+      born.group ∙ ap (λ (s : Bool). group_for s p.group (header_sum t)) (sym born.staged) in
       subst
-      (λ (l : List (Entry ClusterMeta)). (x : NextPasses flat t p.page (slice_index_or chunks i []) l seen error)
+      (λ (l : List (Entry ClusterMeta)). (x : NextPasses begins t p.page (slice_index_or chunks i []) l seen error)
       → IsOverBy t p (joined_chunks chunks) error × ChunkPassesBy t p x.chunk error)
       (sym mine)
-      (passes_all fields t p rows chunks history (book_of_birth state birth []) born.group born.limits born.end
+      (passes_all fields t p rows chunks history begins group born.limits born.end
       (each_front t p.page history chunks first.number first.own first.kept have closes.kept closes.own closes.others)
-      i seen error begun) in
-      subst
-      (λ (b : Bool). (x : NextPasses (record (book_of_birth state birth []) { staged = b }) t p.page (slice_index_or chunks i []) own seen
-      error)
-      → IsOverBy t p (joined_chunks chunks) error × ChunkPassesBy t p x.chunk error)
-      (sym born.not_staged) passes next
+      i seen error begun)
+      next

@@ -1,6 +1,6 @@
 -- How long a finished file is.
-use Rattle.std.proofs.Common.{◌≡◌, ℕ, zero, suc, ◌+◌, ◌-◌, ◌*◌, ◌<◌, ◌≤◌, min, Bool, true, false, List, [], ◌∷◌, ◌++◌, length, map, take}
-use Rattle.std.proofs.Common.{drop, refl, sym, ap, ◌∙◌, sum_by, arith}
+use Rattle.std.proofs.Common.{◌≡◌, ℕ, zero, suc, ◌+◌, ◌-◌, ◌*◌, ◌^◌, ◌<◌, ◌≤◌, min, Bool, true, false, List, [], ◌∷◌, ◌++◌, length, map}
+use Rattle.std.proofs.Common.{take, drop, refl, sym, ap, ◌∙◌, sum_by, arith}
 use Rattle.std.specs.Prelude.{slice_index_or, nat_lt}
 use Rattle.std.specs.Int.{w64, to_le_bytes, div_ceil}
 use Rattle.std.specs.List.{range_with_len}
@@ -15,8 +15,9 @@ use Rattle.nt_format.specs.Frames.{record_frame, list_frame}
 use Rattle.nt_grammar.specs.Table.{Table}
 use Rattle.nt_machine.specs.History.{Cluster, ranges_of}
 use Rattle.nt_machine.specs.Legal.{end_after}
+use Rattle.nt_machine.proofs.ClusterSums.{clusters-sum-le}
 use Rattle.nt_book.specs.declared.meta.ClusterMeta.{ClusterMeta}
-use Rattle.nt_book.specs.Books.{BookData, book_clusters, no_cluster}
+use Rattle.nt_book.specs.Books.{BookData, book_ranges, book_clusters, no_cluster}
 use Rattle.nt_book.specs.Kept.{IsBookKept}
 use Rattle.nt_file_meaning.specs.Envelopes.{footer_kind}
 use Rattle.nt_pagelists.specs.declared.group.Group.{Group}
@@ -163,12 +164,43 @@ ranges-told (c ∷ cs) h =
       ranges-told cs (λ k less. h (suc k) (omega (arith, less))),
     )
 
--- the whole file, whose ranges begin behind the header and aren't staged
-pub length-file_of : (staged : Bool) (t : Table) (book : BookData) (most : ℕ) → book.staged ≡ false → IsBookKept book
-    → book.begin ≡ clusters_place t → 0 < most
+-- what ranges lack of a bound that none of them passes
+lack : (bound : ℕ) (cs : List (Cluster ClusterMeta)) → ((k : ℕ) → k < length cs → (slice_index_or cs k no_cluster).len ≤ bound)
+    → sum_by (λ (c : Cluster ClusterMeta). bound - c.len) cs + sum_by (λ (c : Cluster ClusterMeta). c.len) cs ≡ bound * length cs
+lack bound [] low = omega arith
+lack bound (c ∷ cs) low =
+    omega (
+      arith,
+      sum_by-cons (λ (d : Cluster ClusterMeta). bound - d.len) c cs,
+      sum_by-cons (λ (d : Cluster ClusterMeta). d.len) c cs,
+      low 0 (omega arith),
+      lack bound cs (λ k less. low (suc k) (omega (arith, less))),
+    )
+
+-- clusters that are as many as the ranges are as long as they are, in whatever order
+lens-same : (book : BookData) → IsBookKept book → length (book_clusters book) ≡ length (book_ranges book)
+    → sum_by (λ (c : Cluster ClusterMeta). c.len) (book_clusters book) ≡ sum_by (λ (c : Cluster ClusterMeta). c.len) (book_ranges book)
+lens-same book kept all =
+    let bound = 2 ^ 30 in
+    let some : bound * length (book_clusters book) ≡ bound * length (book_ranges book) = ap (λ (n : ℕ). bound * n) all in
+    let one = lack bound (book_clusters book)
+    (λ k less. let c = kept.clusters k less in omega (arith, c.len, c.short)) in
+    let other = lack bound (book_ranges book) (λ k less. let c = kept.ranges k less in omega (arith, c.len, c.short)) in
+    omega (
+      arith,
+      some,
+      one,
+      other,
+      clusters-sum-le (λ (c : Cluster ClusterMeta). c.len) book.staged book.history kept.staging,
+      clusters-sum-le (λ (c : Cluster ClusterMeta). bound - c.len) book.staged book.history kept.staging,
+    )
+
+-- the whole file, whose ranges begin behind the header, where each of them is a cluster
+length-file_by : (staged : Bool) (t : Table) (book : BookData) (most : ℕ) → length (book_clusters book) ≡ length (book_ranges book)
+    → IsBookKept book → book.begin ≡ clusters_place t → 0 < most
     → file_len t book (list_places staged t book most) ≡ whole_len t most (metas (book_clusters book))
 unfolding anchor_start footer_place
-length-file_of staged t book most flat kept begin some =
+length-file_by staged t book most each kept begin some =
     let cs = book_clusters book in
     let ls = list_places staged t book most in
     let sum = header_sum t in
@@ -179,11 +211,17 @@ length-file_of staged t book most flat kept begin some =
     sym (sum_by-mapped (list_len sum book) (λ (l : PlacedList). l.span) ls)
     ∙ (ap (λ (l : List ClusterSpan). sum_by (list_len sum book) l) (spans-placed staged t book most)
     ∙ length-all_lists sum book most some) in
-    let all : sum_by (λ (c : Cluster ClusterMeta). c.len) cs ≡ sum_by (λ (c : Cluster ClusterMeta). c.len) (ranges_of book.history) =
-    ap (λ (l : List (Cluster ClusterMeta)). sum_by (λ (c : Cluster ClusterMeta). c.len) l) (clusters-unstaged book flat) in
-    omega (arith, begin, all, ranges-told cs (λ k less. (kept.clusters k less).len), lists, footer)
+    omega (arith, begin, lens-same book kept each, ranges-told cs (λ k less. (kept.clusters k less).len), lists, footer)
+
+-- and so where its clusters aren't staged
+pub length-file_of : (staged : Bool) (t : Table) (book : BookData) (most : ℕ) → book.staged ≡ false → IsBookKept book
+    → book.begin ≡ clusters_place t → 0 < most
+    → file_len t book (list_places staged t book most) ≡ whole_len t most (metas (book_clusters book))
+length-file_of staged t book most flat kept begin some =
+    length-file_by staged t book most (ap (λ (l : List (Cluster ClusterMeta)). length l) (clusters-unstaged book flat)) kept begin some
 
 -- the same of a book without deferred columns
-pub length-file : (staged : Bool) (t : Table) (book : BookData) (most : ℕ) → book.staged ≡ false → IsBookOf t book → 0 < most
+pub length-file : (staged : Bool) (t : Table) (book : BookData) (most : ℕ) → length (book_clusters book) ≡ length (book_ranges book)
+    → IsBookOf t book → 0 < most
     → file_len t book (list_places staged t book most) ≡ whole_len t most (metas (book_clusters book))
-length-file staged t book most flat is some = length-file_of staged t book most flat is.kept is.begin some
+length-file staged t book most each is some = length-file_by staged t book most each is.kept is.begin some

@@ -2,6 +2,9 @@ mod Faultless
 pub mod Written
 mod Filled
 pub mod Noted
+mod AllPublished
+mod Owned
+mod Filling
 mod Dealt
 pub mod EventLines
 mod Lists

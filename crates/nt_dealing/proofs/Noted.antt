@@ -1,6 +1,6 @@
 -- The page lists that a book notes are those of its groups, each behind the last cluster that it lists.
 use Rattle.std.proofs.Common.{◌≡◌, ◌∙◌, ap, sym, refl, subst, ℕ, zero, suc, ◌+◌, ◌-◌, ◌*◌, ◌<◌, ◌≤◌, min, List, [], ◌∷◌, length, map, take}
-use Rattle.std.proofs.Common.{Option, Some, None, arith, suc-mul, add-one}
+use Rattle.std.proofs.Common.{Bool, true, false, Option, Some, None, arith, suc-mul, add-one}
 use Rattle.std.specs.Prelude.{IfSome, slice_index_or}
 use Rattle.std.specs.Int.{div_ceil}
 use Rattle.std.specs.List.{range_with_len}
@@ -23,6 +23,7 @@ use Rattle.nt_commit.specs.Lists.{AreBehindGroups, AreNoted, HasListsOf, noted_l
 use Rattle.nt_layout.specs.Headers.{header_sum}
 use Rattle.nt_layout.specs.Groups.{place_beside, places_beside, range_end, list_part, list_parts}
 use Rattle.nt_layout.specs.Beside.{HasListsBeside, lists_noted}
+use Rattle.nt_layout.specs.Arranged.{group_for, HasLists, lists_between}
 
 -- where the last of the first ranges ends
 end-of : (place k : ℕ) (cs : List (Cluster ClusterMeta)) → k < length cs
@@ -141,3 +142,25 @@ module _ (t : Table) (most : ℕ) (book : BookData) (kept : IsBookKept book) (gr
       noted-parts (header_sum t) most book book.begin 0 count book.lists lists some-beside (omega (arith, none, listed-beside)) few
       (subst (λ (k : ℕ). AreNoted (header_sum t) most book k book.lists lists) none noted-of-group)
       (subst (λ (k : ℕ). AreBehindGroups most book.begin (book_clusters book) k lists) none behind-groups)
+
+-- no page list is noted: none was appended
+none-noted : (sum most : ℕ) (book : BookData) (ps : List Part) → AreNoted sum most book 0 [] ps → ps ≡ []
+none-noted sum most book [] noted = refl
+none-noted sum most book (p ∷ ps) noted = absurd noted
+
+module _ (t : Table) (most : ℕ) (book : BookData) (kept : IsBookKept book) (lists : List Part) (torn : List ℕ)
+    (has : HasListsOf book lists torn) where
+  -- the page lists stand where the book has them
+  pub arranged-of : (staged : Bool) → book.staged ≡ staged → book.group ≡ group_for staged most (header_sum t) → book.torn ≡ None
+      → HasLists staged t most book
+  arranged-of true flag group untorn = (flag, record { no_groups = group; between = kept.none_between group })
+  arranged-of false flag group untorn = beside-of t most book kept group lists torn has untorn
+
+  -- and those between the ranges were appended
+  pub between-of : (staged : Bool) → book.group ≡ group_for staged most (header_sum t)
+      → lists ≡ list_parts (header_sum t) book (lists_between staged t book most)
+  between-of true group =
+      let none = kept.none_between group in
+      none-noted (group_sum book.group) (group_size book.group) book lists
+      (subst (λ (ls : List NotedList). AreNoted (group_sum book.group) (group_size book.group) book 0 ls lists) none.none_noted has.noted)
+  between-of false group = lists-of t most book kept group lists torn has

@@ -1,5 +1,5 @@
 -- What the clusters of a deal keep of all chunks, in their order.
-use Rattle.std.proofs.Common.{◌≡◌, ◌∙◌, ap, ℕ, ◌+◌, ◌*◌, List, [], length, map, sum_by}
+use Rattle.std.proofs.Common.{◌≡◌, ◌∙◌, ap, ℕ, ◌+◌, ◌*◌, Bool, List, [], length, map, sum_by}
 use Rattle.std.specs.Prelude.{IsPermutation}
 use Rattle.std.proofs.lemmas.List.Sorted.{sum_by-IsPermutation, length_permutation}
 use Rattle.nt_types.specs.TreeData.{TreesData}
@@ -9,7 +9,7 @@ use Rattle.nt_machine.specs.History.{Cluster}
 use Rattle.nt_book.specs.declared.meta.ClusterMeta.{ClusterMeta}
 use Rattle.nt_book.specs.Books.{BookData, book_clusters}
 use Rattle.nt_layout.specs.Headers.{clusters_place}
-use Rattle.nt_layout.specs.Laid.{AreBlobsOf, none_left, and_blob}
+use Rattle.nt_layout.specs.Laid.{AreBlobsOf, none_left, and_blob, range_of}
 use Rattle.nt_dealing.specs.Lengths.{page_list_len, listed_cluster_len, group_count, footer_len, whole_len}
 use Rattle.nt_dealing.specs.Texts.{joined_chunks}
 use Rattle.nt_dealing.specs.Limits.{IsKeptOf, AreKeptOf}
@@ -43,12 +43,12 @@ same_whole t most xs ys p =
     ∙ (ap (λ (n : ℕ). parts_len t most (lens xs) n (length ys)) (sum_by-IsPermutation listed_cluster_len xs ys p)
     ∙ ap (λ (n : ℕ). parts_len t most (lens xs) (listed xs) n) (length_permutation xs ys p))
 
-pub all_chunks_dealt : (t : Table) (page most : ℕ) (chunks : List (List (List TreesData))) (book : BookData) (ranges : List (List ℕ))
-    (is : AreChunksDealt t page chunks book ranges)
+pub all_chunks_dealt : (staged : Bool) (t : Table) (page most : ℕ) (chunks : List (List (List TreesData))) (book : BookData)
+    (ranges : List (List ℕ)) (is : AreChunksDealt staged t page chunks book ranges)
     → IsPermutation is.dealt (joined_chunks chunks) × AreKeptOf t page is.dealt (metas (book_clusters book))
     × ((sorted : List ClusterMeta) × AreKeptOf t page (joined_chunks chunks) sorted
     × (whole_len t most sorted ≡ whole_len t most (metas (book_clusters book))))
-all_chunks_dealt t page most chunks book ranges is =
-    let kept = blobs_kept t page is.dealt ranges (book_clusters book) is.blobs_are in
-    let u = undealt_all (IsKeptOf t page) (commit_order book) chunks is.dealt (metas (book_clusters book)) is.uses is.is_deal kept in
+all_chunks_dealt staged t page most chunks book ranges is =
+    let kept = blobs_kept t page is.dealt (map (range_of ranges) (book_clusters book)) (book_clusters book) is.blobs_are in
+    let u = undealt_all (IsKeptOf t page) (commit_order book) chunks is.dealt (metas (book_clusters book)) is.uses.uses is.is_deal kept in
     (u.permuted, kept, (u.sorted, u.pairs, same_whole t most (metas (book_clusters book)) u.sorted u.same))

@@ -9,6 +9,48 @@ use Rattle.nt_machine.specs.Deal.{times, Uses, IsDeal}
 use Rattle.nt_dealing.proofs.Takings.{by_number, times-here, times-other, all_of, without, without-here, without-other}
 use Rattle.nt_dealing.proofs.Takings.{seam, seam_permuted, past, all_empty}
 
+module _ {C : Type 0} where
+  -- the deal goes on without the first element of a list
+  module _ (i : ℕ) (xss : List (List C)) (x : C) (xs : List C) (is : slice_index_or xss i [] ≡ x ∷ xs) where
+    left_is : slice_index_or (without i xss) i [] ≡ xs
+    left_is = without-here i xss ∙ ap (λ (l : List C). drop 1 l) is
+
+    next_at : (l : List ℕ) (k : ℕ)
+        → slice_get (slice_index_or xss k []) (times k (i ∷ l)) ≡ slice_get (slice_index_or (without i xss) k []) (times k l)
+    next_at l =
+        by_number
+        (λ k. slice_get (slice_index_or xss k []) (times k (i ∷ l)) ≡ slice_get (slice_index_or (without i xss) k []) (times k l)) i
+        (ap (λ (n : ℕ). slice_get (slice_index_or xss i []) n) (times-here i l)
+        ∙ (ap (λ (o : List C). slice_get o (suc (times i l))) is ∙ ap (λ (o : List C). slice_get o (times i l)) (sym left_is)))
+        (λ k differ.
+        ap (λ (n : ℕ). slice_get (slice_index_or xss k []) n) (times-other k i l (λ same. differ (sym same)))
+        ∙ ap (λ (o : List C). slice_get o (times k l)) (sym (without-other i k xss differ)))
+
+    used_at : (l : List ℕ) → ((k : ℕ) → times k (i ∷ l) ≡ length (slice_index_or xss k [])) → (k : ℕ)
+        → times k l ≡ length (slice_index_or (without i xss) k [])
+    used_at l each =
+        by_number (λ k. times k l ≡ length (slice_index_or (without i xss) k [])) i
+        (let here : suc (times i l) ≡ suc (length xs) = sym (times-here i l) ∙ (each i ∙ ap (λ (o : List C). length o) is) in
+        let one : times i l ≡ length xs = omega (arith, here) in one ∙ ap (λ (o : List C). length o) (sym left_is))
+        (λ k differ.
+        sym (times-other k i l (λ same. differ (sym same)))
+        ∙ (each k ∙ ap (λ (o : List C). length o) (sym (without-other i k xss differ))))
+
+  -- and what it deals first is the first element of its list
+  pub deal_on : (i : ℕ) (order : List ℕ) (xss : List (List C)) (d : C) (ds : List C) (x : C) (xs : List C)
+      → IsDeal xss (i ∷ order) (d ∷ ds) → slice_index_or xss i [] ≡ x ∷ xs → (x ≡ d) × IsDeal (without i xss) order ds
+  deal_on i order xss d ds x xs deal is =
+      let long = deal.long in
+      let first : Some d ≡ slice_get (slice_index_or xss i []) 0 = deal.each 0 (omega arith) in
+      let here : Some d ≡ Some x = first ∙ ap (λ (l : List C). slice_get l 0) is in (
+        cc,
+        record {
+          long = omega (arith, long);
+          each = λ j less.
+              deal.each (suc j) (omega (arith, less)) ∙ next_at i xss x xs is (take j order) (slice_index_or order j 0);
+        },
+      )
+
 module _ {C M : Type 0} (R : C → M → Type 0) where
   -- pairs with one pair more between them
   record Inserted (front back : List C) (x : C) (m : M) (ms : List M) : Type 0 where
@@ -36,32 +78,6 @@ module _ {C M : Type 0} (R : C → M → Type 0) where
     pub pairs : AllZip R (all_of xss) sorted
     pub same : IsPermutation ms sorted
 
-  -- the deal goes on without the first element of a list
-  module _ (i : ℕ) (xss : List (List C)) (x : C) (xs : List C) (is : slice_index_or xss i [] ≡ x ∷ xs) where
-    left_is : slice_index_or (without i xss) i [] ≡ xs
-    left_is = without-here i xss ∙ ap (λ (l : List C). drop 1 l) is
-
-    next_at : (l : List ℕ) (k : ℕ)
-        → slice_get (slice_index_or xss k []) (times k (i ∷ l)) ≡ slice_get (slice_index_or (without i xss) k []) (times k l)
-    next_at l =
-        by_number
-        (λ k. slice_get (slice_index_or xss k []) (times k (i ∷ l)) ≡ slice_get (slice_index_or (without i xss) k []) (times k l)) i
-        (ap (λ (n : ℕ). slice_get (slice_index_or xss i []) n) (times-here i l)
-        ∙ (ap (λ (o : List C). slice_get o (suc (times i l))) is ∙ ap (λ (o : List C). slice_get o (times i l)) (sym left_is)))
-        (λ k differ.
-        ap (λ (n : ℕ). slice_get (slice_index_or xss k []) n) (times-other k i l (λ same. differ (sym same)))
-        ∙ ap (λ (o : List C). slice_get o (times k l)) (sym (without-other i k xss differ)))
-
-    used_at : (l : List ℕ) → ((k : ℕ) → times k (i ∷ l) ≡ length (slice_index_or xss k [])) → (k : ℕ)
-        → times k l ≡ length (slice_index_or (without i xss) k [])
-    used_at l each =
-        by_number (λ k. times k l ≡ length (slice_index_or (without i xss) k [])) i
-        (let here : suc (times i l) ≡ suc (length xs) = sym (times-here i l) ∙ (each i ∙ ap (λ (o : List C). length o) is) in
-        let one : times i l ≡ length xs = omega (arith, here) in one ∙ ap (λ (o : List C). length o) (sym left_is))
-        (λ k differ.
-        sym (times-other k i l (λ same. differ (sym same)))
-        ∙ (each k ∙ ap (λ (o : List C). length o) (sym (without-other i k xss differ))))
-
   undealt : (order : List ℕ) (xss : List (List C)) (dealt : List C) (ms : List M)
       → ((k : ℕ) → times k order ≡ length (slice_index_or xss k []))
       → IsDeal xss order dealt → AllZip R dealt ms → Undealt xss dealt ms
@@ -87,17 +103,10 @@ module _ {C M : Type 0} (R : C → M → Type 0) where
           → Undealt (without i xss) ds ms) → (own : List C) → slice_index_or xss i [] ≡ own → Undealt xss (d ∷ ds) (m ∷ ms)
       at on [] e = let here : Some d ≡ slice_get {X = C} [] 0 = first ∙ ap (λ (o : List C). slice_get o 0) e in cc
       at on (x ∷ xs) e =
-          let here : Some d ≡ Some x = first ∙ ap (λ (o : List C). slice_get o 0) e in
-          let same : x ≡ d = cc in
-          let is : slice_index_or xss i [] ≡ d ∷ xs = e ∙ ap (λ (y : C). y ∷ xs) same in
+          let go = deal_on i order xss d ds x xs deal e in
+          let is : slice_index_or xss i [] ≡ d ∷ xs = e ∙ ap (λ (y : C). y ∷ xs) go.0 in
           let s = seam i xss d xs is in
-          let long = deal.long in
-          let next : IsDeal (without i xss) order ds = record {
-            long = omega (arith, long);
-            each = λ j less.
-                deal.each (suc j) (omega (arith, less)) ∙ next_at i xss d xs is (take j order) (slice_index_or order j 0);
-          } in
-          let rest = on (used_at i xss d xs is order each) next in
+          let rest = on (used_at i xss d xs is order each) go.1 in
           let more = inserted s.front s.back d m rest.sorted (subst (λ (l : List C). AllZip R l rest.sorted) s.left rest.pairs) zip.0 in
           record {
             permuted = IsPermutation-trans (d ∷ ds) (d ∷ all_of (without i xss)) (all_of xss)

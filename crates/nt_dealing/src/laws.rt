@@ -16,24 +16,24 @@ ghost use Rattle.nt_dealing.specs.Written.{HaveWritten};
 ghost use Rattle.nt_dealing.specs.Dealt.{FillsBehind, IsDealtOut};
 ghost use Rattle.nt_outside.specs.Held.{BecomesSome};
 
-use nt_finished::{filled_files_are_known, finished_files_are_as_long};
+use nt_finished::filled_files_are_known;
 use nt_logged::fronts_stand;
 use nt_outside::Disk;
 
 /// However contexts interleave: where each wrote its chunks, the clusters of the book that their
-/// committer hands back are these chunks, dealt out in the commit order, no page list failed, and the
-/// disk holds their blobs behind what it held before, with the page lists that the book notes.
+/// committer hands back are these chunks, dealt out in the commit order, those of each context
+/// together where clusters are staged; no page list failed, and the disk holds their blobs behind what
+/// it held before, with the page lists that the book notes.
 pub fn commits_are_dealt<D: Disk>()
     ensures { (birth : Birth D) (disk : D) (book : BookData)
         (first : PassState (Entry ClusterMeta) (Birth D)) (t : Table) (p : Params)
         (chunks : List (List (List TreesData)))
         → Closes (history_of_locked D.state) birth_of context_of first (locked_by birth disk book)
         → IsInStep D.state (locked_by birth disk book) → IsBookKept book → IsBornFor D.state birth t p
-        → HaveWritten (D.state birth.begun).held t p.page chunks first.number first.own first.kept
+        → HaveWritten (D.state birth.begun).held t p.page p.staged chunks first.number first.own first.kept
         → IsDealtOut t p chunks book (D.state birth.begun).held (D.state disk).held }
 {
     fronts_stand();
-    finished_files_are_as_long();
     filled_files_are_known();
 }
 

@@ -12,8 +12,9 @@
 //! Proved: whatever contexts did, the disk has the steps of one history behind those that it had,
 //! with page lists between them, and what it held stays (`histories_fill`). However they interleave,
 //! where each wrote its chunks, the book that their committer hands back has these chunks, dealt out,
-//! each range was settled with its blob, no page list failed, and the disk holds blobs and lists
-//! behind what it held before (`commits_are_dealt`). Such chunks
+//! those of each context together where clusters are staged; each range is a cluster and was settled
+//! with its blob, no page list failed, and the disk holds blobs and lists behind what it held before
+//! (`commits_are_dealt`). Such chunks
 //! are all chunks in another order (`dealt_chunks_are_all_chunks`), and where the next chunk of a
 //! context passes a limit, the file of all chunks passes it (`next_chunks_pass_limits_of_all`), since
 //! the file of some chunks is no longer than that of all (`whole_files_are_longest`). Chunks that fit
@@ -21,8 +22,8 @@
 //! (`committed_chunks_fit`). `specs/Failing.antt` says what is written where a text fails. The
 //! lines of a text come off one by one (`lines_come_in_order`), and what is read of a line fits its
 //! fields and the rows that describe them (`entries_fit`). Page lists, footer and file are as long as
-//! what is kept of each cluster says, in whatever order they stand
-//! (`files_are_as_long_as_their_clusters_say`).
+//! what is kept of each cluster says, in whatever order they stand, the file where each of its ranges
+//! is a cluster (`files_are_as_long_as_their_clusters_say`).
 #![tactic(auto)]
 
 mod laws;

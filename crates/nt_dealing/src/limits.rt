@@ -30,9 +30,9 @@ use nt_outside::Disk;
 /// Chunks that were dealt out are all chunks of the contexts, in another order, and what is kept of
 /// each makes the file as long as in any order.
 pub fn dealt_chunks_are_all_chunks()
-    ensures { (t : Table) (page most : ℕ) (chunks : List (List (List TreesData)))
+    ensures { (staged : Bool) (t : Table) (page most : ℕ) (chunks : List (List (List TreesData)))
         (book : BookData) (ranges : List (List ℕ))
-        (is : AreChunksDealt t page chunks book ranges) → IsBookKept book
+        (is : AreChunksDealt staged t page chunks book ranges) → IsBookKept book
         → IsPermutation is.dealt (joined_chunks chunks)
         × AreKeptOf t page is.dealt (map (λ (c : Cluster ClusterMeta). c.meta) (book_clusters book))
         × ((metas : List ClusterMeta) × AreKeptOf t page (joined_chunks chunks) metas

@@ -1,5 +1,5 @@
 use Rattle.std.proofs.Common.{◌<◌, ◌^◌, arith}
-use Rattle.nt_contexts.proofs.Finished.{faults-later, faults-rose, end-is, noted-lists, short-is, unspoiled}
+use Rattle.nt_contexts.proofs.Finished.{faults-later, faults-rose, end-is, noted-lists, short-is, ended-undamaged}
 use Rattle.nt_contexts.proofs.ending.end.Goals as goal
 
 pub returns : goal.returns
@@ -15,11 +15,9 @@ returns g c =
     record {
       later = faults-later state birth disk book first closes step;
       blamed = faults-rose state birth disk book first closes step last;
-      dealt = λ t p chunks born have. (
-        c.commits_are_dealt.ensures birth disk book first t p chunks closes step c.keeps.ensures born have,
-        unspoiled state birth disk book first
-            closes step t p.page chunks have,
-      );
+      dealt = λ t p chunks born have.
+          let dealt = c.commits_are_dealt.ensures birth disk book first t p chunks closes step c.keeps.ensures born have in
+          (dealt, ended-undamaged state birth disk book first closes step c.keeps.ensures t p chunks have dealt);
       over = λ fields t p texts i own seen error rules rows born committed at before passes.
           c.next_chunks_pass_limits_of_all.ensures birth disk book first fields t p texts i own seen error rules rows closes step
           born committed at before passes;

@@ -1,13 +1,14 @@
-use Rattle.std.proofs.Common.{◌≡◌, refl, arith, ap, sym, subst, true, Option, Ok, Err}
+use Rattle.std.proofs.Common.{◌≡◌, ◌∙◌, refl, arith, ap, sym, subst, true, Option, Result, Ok, Err}
+use Rattle.std.proofs.lemmas.Result.{err_from_is_err_and}
 use Rattle.nt_types.specs.ShapeData.{parts_of}
 use Rattle.nt_types.specs.Views.{members_view}
 use Rattle.nt_event.specs.declared.lines.Line.{Line}
 use Rattle.nt_event.specs.Lines.{LinesState, IsNextLine, StaysAtEnd, GivesLine}
 use Rattle.nt_contexts.specs.declared.error.ContextError.{ContextError}
 use Rattle.nt_contexts.specs.Reading.{left_of}
-use Rattle.nt_contexts.specs.Running.{HasAll, ReadsLine}
+use Rattle.nt_contexts.specs.Running.{HasAll, ReadsLine, Ended}
 use Rattle.nt_contexts.proofs.Lines.{took, not_taken, not_given}
-use Rattle.nt_contexts.proofs.LinesTaken.{begun, all_given, ended_rest, ended_line, still_for}
+use Rattle.nt_contexts.proofs.LinesTaken.{begun, all_given, ended_rest, ended_all, ended_line, still_for}
 use Rattle.nt_contexts.proofs.running.read_all.Goals as goal
 
 pub loop-count-init : goal.loop-count-init
@@ -27,8 +28,8 @@ take_line-requires-clause-fields g c =
     still_for g.D.Disk.state (parts_of fields) (left_of g.S.Source.state c.args.lines.now).left c.args.fill.now
     fields c.loop-count.fill c.loop-count.invariant.on.same c.requires.fields
 
-pub returns-in-Ok-None : goal.returns-in-Ok-None
-returns-in-Ok-None g c =
+pub returns-in_err-write_rest-in-Ok-None-clause-ended : goal.returns-in_err-write_rest-in-Ok-None-clause-ended
+returns-in_err-write_rest-in-Ok-None-clause-ended g c =
     let F = parts_of (members_view c.args.shared.now.fields.now) in
     let first = left_of g.S.Source.state c.args.lines.now in
     let is = left_of g.S.Source.state c.next.new.self in
@@ -37,11 +38,36 @@ returns-in-Ok-None g c =
     c.in-Ok-None.ensures.line in
     let all : HasAll g.D.Disk.state F first.left c.args.fill.now c.loop-count.fill =
     all_given g.D.Disk.state F first.left c.args.fill.now c.loop-count.fill was is c.loop-count.invariant.on none.was in
-    record {
-      ended = ended_rest g.D.Disk.state F first.left c.args.fill.now c.loop-count.fill c.write_rest.new.fill first is
-          c.write_rest.result all (c.write_rest.ensures all.entries all.taken);
-      later = omega (arith, c.in-Ok-None.ensures.later, c.loop-count.invariant.later);
-    }
+    let why = c.in_err-write_rest-in-Ok-None.ensures all.entries all.taken in
+    let p = err_from_is_err_and c.from_residual.result c.from_residual.ensures.1 in
+    subst (λ (r : Result Unit ContextError). Ended g.D.Disk.state F first.left c.args.fill.now first is c.write_rest.new.fill r)
+    (sym (p.1 ∙ ap (λ (e : ContextError). Err e) p.2))
+    (ended_rest g.D.Disk.state F first.left c.args.fill.now c.loop-count.fill c.write_rest.new.fill first is
+    c.in_err-write_rest-in-Ok-None.field-0.0 all why)
+
+pub publish_written-requires-clause-staged : goal.publish_written-requires-clause-staged
+publish_written-requires-clause-staged g c =
+    let on = c.loop-count.invariant.on in
+    (c.in_ok-write_rest-in-Ok-None.ensures on.entries on.taken).2.staged ∙ (on.same.staged ∙ c.requires.staged)
+
+pub publish_written-requires-clause-emptied : goal.publish_written-requires-clause-emptied
+publish_written-requires-clause-emptied g c =
+    let on = c.loop-count.invariant.on in
+    (c.in_ok-write_rest-in-Ok-None.ensures on.entries on.taken).1
+
+pub returns-in-Ok-None-clause-ended : goal.returns-in-Ok-None-clause-ended
+returns-in-Ok-None-clause-ended g c =
+    let F = parts_of (members_view c.args.shared.now.fields.now) in
+    let first = left_of g.S.Source.state c.args.lines.now in
+    let is = left_of g.S.Source.state c.next.new.self in
+    let was = left_of g.S.Source.state c.loop-count.lines in
+    let none : StaysAtEnd was is = subst (λ (o : Option Line). GivesLine was is (Ok o)) c.in-Ok-None.field-0-is
+    c.in-Ok-None.ensures.line in
+    let all : HasAll g.D.Disk.state F first.left c.args.fill.now c.loop-count.fill =
+    all_given g.D.Disk.state F first.left c.args.fill.now c.loop-count.fill was is c.loop-count.invariant.on none.was in
+    let wrote = c.in_ok-write_rest-in-Ok-None.ensures all.entries all.taken in
+    ended_all g.D.Disk.state F first.left c.args.fill.now c.loop-count.fill c.write_rest.new.fill c.publish_written.new.fill first is
+    c.publish_written.result all wrote.2 (c.publish_written.ensures all.entries wrote.0)
 
 pub returns-in-Err : goal.returns-in-Err
 returns-in-Err g c =

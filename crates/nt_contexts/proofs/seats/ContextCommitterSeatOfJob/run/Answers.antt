@@ -12,7 +12,7 @@ returns-in-Ok g c =
     ended_ran g.D.Disk.state (members_view shared.fields.now) shared.schema.now shared.params.now c.args.self.committer.now c.in-Ok.fill
     c.read_all-ended.new.fill
     (ap (λ (d : DiskContext _ _). d.committer) is) (ap (λ (d : DiskContext _ _). d.table) is) (ap (λ (d : DiskContext _ _). d.cluster) is)
-    (ap (λ (d : DiskContext _ _). d.page) is) g.S.Source.state c.args.self.seat _
+    (ap (λ (d : DiskContext _ _). d.page) is) (ap (λ (d : DiskContext _ _). d.staged) is) g.S.Source.state c.args.self.seat _
     (was ∙ sym (ap (λ (d : DiskContext _ _). Some d.pass) is)) (ap Some c.end-pass.ensures.parts.0) c.end-pass.ensures.pass
     c.end-pass.ensures.none_out c.read_all-ended.ensures.later c.read_all-ended.ensures.ended
 
