@@ -1,6 +1,6 @@
 //! A file that is written by contexts.
 
-ghost use Rattle.std.specs.Prelude.{◌≡◌, ◌≤◌, [], false, length};
+ghost use Rattle.std.specs.Prelude.{◌≡◌, ◌≤◌, [], length};
 ghost use Rattle.nt_types.specs.Views.{members_view};
 ghost use Rattle.nt_types.specs.Rules.{AreFields};
 ghost use Rattle.nt_outside.specs.Held.{WhereHeld, nothing_held};
@@ -34,7 +34,6 @@ where
     requires empty { WhereHeld (D.state disk).held (λ h. h ≡ nothing_held) }
     requires end { ((D.state disk).end ≡ 0) × ((D.state disk).out ≡ []) }
     requires texts { (1 ≤ length texts.items) × (length texts.items ≤ 64) }
-    requires unstaged { params.now.staged ≡ false }
 {
     let mut disk = disk;
     let begun = begin(alloc, &mut disk, fields, params);

@@ -15,7 +15,7 @@ module _ (p : Params) (m : Making) (read : MadeAreRead m) where
   -- a file that is stored is made
   pub made_stored : (order bytes : List ℕ) → IsStored p event_fields (made_texts m) order bytes → IsMade p m order bytes
   made_stored order bytes stored = record {
-    uses = subst (λ (l : List (List (List TreesData))). Uses order l) (read.chunks p.cluster) stored.uses;
+    uses = subst (λ (l : List (List (List TreesData))). Uses order l) (read.chunks p.cluster) stored.uses.uses;
     dealt = stored.dealt;
     is_deal = subst (λ (l : List (List (List TreesData))). IsDeal l order stored.dealt) (read.chunks p.cluster) stored.is_deal;
     table = stored.table;

@@ -1,6 +1,6 @@
 //! A file of events that are made, from its name to the lines of its totals.
 
-ghost use Rattle.std.specs.Prelude.{◌≡◌, ◌<◌, ◌≤◌, false};
+ghost use Rattle.std.specs.Prelude.{◌<◌, ◌≤◌};
 ghost use Rattle.nt_generate.specs.Leaving.{MakesFile};
 ghost use Rattle.nt_generate.specs.Generated.{Generates};
 
@@ -30,7 +30,6 @@ where
     <H::Out as Disk>::Ext: Send,
     G: Gate + Sync,
     requires workers { (0 < settings.now.workers) × (settings.now.workers ≤ 64) }
-    requires unstaged { settings.now.params.now.staged ≡ false }
     ensures { MakesFile (λ order. order.items) name.now settings.now.params.now making.now (H.state host.old) (H.state host.new) result }
 {
     let alloc = settings.alloc;
@@ -68,7 +67,6 @@ where
     <H::Out as Disk>::Ext: Send,
     G: Gate + Sync,
     requires workers { (0 < settings.now.workers) × (settings.now.workers ≤ 64) }
-    requires unstaged { settings.now.params.now.staged ≡ false }
     ensures { Generates name.now settings.now.params.now making.now (H.state host.old) (H.state host.new) result }
 {
     let order = make_file(rt, host, name, making, settings)?;

@@ -1,6 +1,6 @@
 //! The file of events that are made, on a disk.
 
-ghost use Rattle.std.specs.Prelude.{◌≡◌, ◌<◌, ◌≤◌, false, map};
+ghost use Rattle.std.specs.Prelude.{◌<◌, ◌≤◌, map};
 ghost use Rattle.nt_types.specs.Views.{members_view};
 ghost use Rattle.nt_draws.specs.declared.making.Making.{Making as MakingData};
 ghost use Rattle.nt_draws.specs.Source.{state_of};
@@ -57,7 +57,6 @@ where
     G: Gate + Sync,
     requires may { MayWriteMade (members_view fields.now) making.now (map state_of sources.items) (D.state disk) }
     requires workers { (0 < settings.now.workers) × (settings.now.workers ≤ 64) }
-    requires unstaged { settings.now.params.now.staged ≡ false }
     ensures { WritesMade (λ order. order.items) settings.now.params.now making.now (D.state disk) (D.state result.0) result.1 }
 {
     made_texts_are_read();

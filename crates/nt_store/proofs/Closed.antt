@@ -29,7 +29,8 @@ use Rattle.nt_store.specs.Writing.{HoldsNow, by_end, KeepsOrder}
 use Rattle.nt_store.specs.Crashes.{CrashLeaves}
 use Rattle.nt_store.specs.Filling.{IsFilledFile, IsOfNoText, CloseLeaves}
 use Rattle.nt_store.proofs.Begun.{shut_open, some_shut}
-use Rattle.nt_store.proofs.Crashing.{leaves_open, ranged}
+use Rattle.nt_store.proofs.Crashing.{leaves_open}
+use Rattle.nt_store.proofs.Whole.{ranged}
 
 none_spoiled : (book : BookData) (cluster faults : ℕ) → IsUndamaged book → IsFirstSpoiled book cluster faults → ⊥
 none_spoiled book cluster faults none first = subst IsUnspoiled first.spoiled (none.unspoiled cluster first.inside)
@@ -55,17 +56,17 @@ of_no_text close.Fault = tt
 module _ (long : RangesAreAsLong) (stored : FinishedAreStored) (over : PassedAreOver) (finish : ClosedIsFinished) (t : Table) (p : Params)
     (book : BookData) (fields : List MemberData) (texts : List (List ℕ)) (h : Held) (filled : IsFilledFile fields p texts t book h) where
   abbrev ends : List ℕ
-  ends = closing_tail t book p.group
+  ends = closing_tail p.staged t book p.group
 
   abbrev begins : List ℕ
-  begins = closing_front t book p.group
+  begins = closing_front p.staged t book p.group
 
   -- a file that stands there whole is stored
   stands : (left : Held) → StaysWithin t p book → left.image ≡ (closed_on ends begins h).image
       → IsStored p fields texts (commit_order book) left.image
   stands left stays whole =
       stored fields p texts t book filled.ranges left.image filled.holds stays
-      (whole ∙ finish t book p.group filled.ranges h (ranged long fields p texts t book filled.ranges filled.holds) filled.image)
+      (whole ∙ finish p.staged t book p.group filled.ranges h (ranged long fields p texts t book filled.ranges filled.holds) filled.image)
 
   -- it is closed
   pub closed_leaves : (new : Option Held) → new ≡ Some (closed_on ends begins h) → StaysWithin t p book
@@ -121,14 +122,14 @@ module _ (leave : CrashesLeave) (t : Table) (p : Params) (book : BookData) (fiel
     (filled : IsFilledFile fields p texts t book h) where
   -- what a crash leaves of one that is closed
   pub closed_crash : (new : Option Held) → StaysWithin t p book
-      → new ≡ Some (closed_on (closing_tail t book p.group) (closing_front t book p.group) h)
+      → new ≡ Some (closed_on (closing_tail p.staged t book p.group) (closing_front p.staged t book p.group) h)
       → HoldsNow new (λ left. CrashLeaves (IsStored p fields texts (commit_order book)) left.log (Ok tt))
   closed_crash new stays is = (
-    closed_on (closing_tail t book p.group) (closing_front t book p.group) h,
+    closed_on (closing_tail p.staged t book p.group) (closing_front p.staged t book p.group) h,
     is,
     (
       leave.closing fields p texts t book filled.ranges h
-          (closed_on (closing_tail t book p.group) (closing_front t book p.group) h) filled.holds stays
+          (closed_on (closing_tail p.staged t book p.group) (closing_front p.staged t book p.group) h) filled.holds stays
           filled.filled (closed_whole refl),
       leave.closed fields p texts t book filled.ranges h filled.holds stays filled.filled,
     ),
@@ -141,7 +142,7 @@ module _ (leave : CrashesLeave) (t : Table) (p : Params) (book : BookData) (fiel
   -- and of one that isn't
   pub unclosed_crash : (e : CloseError) (old new : DiskState) → old.held ≡ Some h → IsUndamaged book
       → HasCloseCause book (passed_by_close p t book) (Err e)
-      → LeavesClosed (closing_tail t book p.group) (closing_front t book p.group) old new (Err e)
+      → LeavesClosed (closing_tail p.staged t book p.group) (closing_front p.staged t book p.group) old new (Err e)
       → HoldsNow new.held (λ left. CrashLeaves (IsStored p fields texts (commit_order book)) left.log (Err (error_of_close e)))
   unclosed_crash (close.Spoiled cluster faults) old new is undamaged cause left = absurd (none_spoiled book cluster faults undamaged cause)
   unclosed_crash (close.Torn group faults) old new is undamaged cause left = absurd (none_torn book group faults undamaged cause)

@@ -1,5 +1,5 @@
 -- What a crash leaves of a file on its disk, by what the parts of its writing say.
-use Rattle.std.proofs.Common.{◌≡◌, ◌⊎◌, ◌∙◌, inl, inr, subst, false, ℕ, zero, suc, List, [], ◌∷◌, ◌++◌, take, Some, Result, Ok, Err}
+use Rattle.std.proofs.Common.{◌≡◌, ◌⊎◌, ◌∙◌, inl, inr, subst, Bool, ℕ, zero, suc, List, [], ◌∷◌, ◌++◌, take, Some, Result, Ok, Err}
 use Rattle.nt_types.specs.ShapeData.{MemberData}
 use Rattle.nt_num.specs.Codes.{unfinished}
 use Rattle.nt_num.specs.Faults.{fault}
@@ -15,7 +15,7 @@ use Rattle.nt_container.specs.Spelling.{begun}
 use Rattle.nt_file_meaning.specs.Files.{HasDefect}
 use Rattle.nt_layout.specs.Headers.{header_blob, clusters_place}
 use Rattle.nt_layout.specs.Finished.{finished}
-use Rattle.nt_finished.specs.Filled.{IsBesideBook}
+use Rattle.nt_finished.specs.Filled.{IsArrangedBook}
 use Rattle.nt_close.specs.declared.error.BeginError.{BeginError}
 use Rattle.nt_close.specs.declared.error.BeginError.TheVariants as begin
 use Rattle.nt_close.specs.Beginning.{IsNotBegun}
@@ -29,8 +29,8 @@ use Rattle.nt_store.specs.declared.error.StoreError.TheVariants.{Outside, Memory
 use Rattle.nt_store.specs.Whole.{IsStored}
 use Rattle.nt_store.specs.Writing.{as_begun, HoldsNow}
 use Rattle.nt_store.specs.Crashes.{CrashLeaves}
-use Rattle.nt_store.specs.Laws.{HoldsChunks, RangesAreAsLong, FinishedAreStored, CrashesLeave}
-use Rattle.nt_store.proofs.Whole.{beside_of}
+use Rattle.nt_store.specs.Laws.{RangesAreAsLong, FinishedAreStored, CrashesLeave}
+use Rattle.nt_store.proofs.Whole.{ranged}
 
 -- what is whole in one sense is so in another
 pub or_as : (P Q : List ℕ → Type 0) (log : List Step) → ((bytes : List ℕ) → P bytes → Q bytes) → LeavesUnfinishedOr P log
@@ -78,26 +78,17 @@ nothing_leaves k bytes has may = absurd (no_sync k has)
 -- the laws of crashes that are cited here
 abbrev pub ClosingLeaves : Type 0
 ClosingLeaves =
-    (t : Table) (book : BookData) (most : ℕ) (ranges : List (List ℕ)) (h left : Held) → IsBesideBook t most book ranges
-    → IsFilled t most book ranges h.log
-    → IsClosedSoFar (closing_tail t book most) (closing_front t book most) h left
-    → LeavesUnfinishedOr (λ (bytes : List ℕ). bytes ≡ finished false t book most ranges) left.log
+    (staged : Bool) (t : Table) (book : BookData) (most : ℕ) (ranges : List (List ℕ)) (h left : Held)
+    → IsArrangedBook staged t most book ranges → IsFilled staged t most book ranges h.log
+    → IsClosedSoFar (closing_tail staged t book most) (closing_front staged t book most) h left
+    → LeavesUnfinishedOr (λ (bytes : List ℕ). bytes ≡ finished staged t book most ranges) left.log
 
 abbrev pub ClosedLeaves : Type 0
 ClosedLeaves =
-    (t : Table) (book : BookData) (most : ℕ) (ranges : List (List ℕ)) (h : Held) → IsBesideBook t most book ranges
-    → IsFilled t most book ranges h.log
-    → LeavesOnly (λ (bytes : List ℕ). bytes ≡ finished false t book most ranges)
-    (closed_on (closing_tail t book most) (closing_front t book most) h).log
-
-pub ranged : RangesAreAsLong → (fields : List MemberData) (p : Params) (texts : List (List ℕ)) (t : Table) (book : BookData)
-    (ranges : List (List ℕ)) → HoldsChunks fields p texts t book ranges → IsBesideBook t p.group book ranges
-ranged long fields p texts t book ranges holds = record {
-  kept = holds.kept;
-  beside = beside_of fields p texts t book ranges holds;
-  begin = holds.book_on.begin;
-  lens = long fields p texts t book ranges holds;
-}
+    (staged : Bool) (t : Table) (book : BookData) (most : ℕ) (ranges : List (List ℕ)) (h : Held)
+    → IsArrangedBook staged t most book ranges → IsFilled staged t most book ranges h.log
+    → LeavesOnly (λ (bytes : List ℕ). bytes ≡ finished staged t book most ranges)
+    (closed_on (closing_tail staged t book most) (closing_front staged t book most) h).log
 
 -- a file whose clusters are the chunks of texts
 pub chunks_leave : RangesAreAsLong → FinishedAreStored
@@ -107,12 +98,12 @@ chunks_leave long stored beginning filling closing closed = record {
   beginning = beginning;
   filling = filling;
   closing = λ fields p texts t book ranges h left holds stays filled so_far.
-      or_as (λ (bytes : List ℕ). bytes ≡ finished false t book p.group ranges) (IsStored p fields texts (commit_order book)) left.log
+      or_as (λ (bytes : List ℕ). bytes ≡ finished p.staged t book p.group ranges) (IsStored p fields texts (commit_order book)) left.log
       (λ bytes is. stored fields p texts t book ranges bytes holds stays is)
-      (closing t book p.group ranges h left (ranged long fields p texts t book ranges holds) filled so_far);
+      (closing p.staged t book p.group ranges h left (ranged long fields p texts t book ranges holds) filled so_far);
   closed = λ fields p texts t book ranges h holds stays filled bytes may.
       stored fields p texts t book ranges bytes holds stays
-      (closed t book p.group ranges h (ranged long fields p texts t book ranges holds) filled bytes may);
+      (closed p.staged t book p.group ranges h (ranged long fields p texts t book ranges holds) filled bytes may);
 }
 
 -- what a crash leaves of a file that has ranges of its contexts

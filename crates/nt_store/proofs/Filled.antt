@@ -1,6 +1,6 @@
 -- What the filling of a file leaves on its disk, by what its parts say.
 use Rattle.std.proofs.Common.{◌≡◌, ◌⊎◌, ◌∙◌, inl, inr, sym, subst, refl, ℕ, ◌<◌, List, [], ◌∷◌, Option, Some, None, Result, Ok, Err}
-use Rattle.std.proofs.Common.{◌≤◌, arith}
+use Rattle.std.proofs.Common.{◌≤◌, Bool, true, false, arith}
 use Rattle.std.specs.List.{AllByRecursion}
 use Rattle.nt_types.specs.ShapeData.{MemberData}
 use Rattle.nt_types.specs.Rules.{AreFields}
@@ -20,6 +20,7 @@ use Rattle.nt_book.specs.Kept.{IsBookKept}
 use Rattle.nt_machine.specs.Legal.{IsLegal}
 use Rattle.nt_logged.specs.Logs.{IsLogOf}
 use Rattle.nt_layout.specs.Headers.{header_blob, clusters_place}
+use Rattle.nt_layout.specs.Arranged.{HasLists}
 use Rattle.nt_cuts.specs.Cuts.{LeavesUnfinished}
 use Rattle.nt_crash.specs.Fillings.{IsFilled}
 use Rattle.nt_close.specs.declared.error.BeginError.{BeginError}
@@ -117,6 +118,11 @@ rose_failed (s ∷ old) [] rose = absurd rose
 rose_failed (s ∷ old) (s' ∷ new) (inl rose) = inl (omega (arith, rose))
 rose_failed (s ∷ old) (s' ∷ new) (inr rose) = inr (rose_failed old new rose)
 
+-- no page list failed of a book that has them where they are to be
+none_torn : (staged : Bool) (t : Table) (most : ℕ) (book : BookData) → HasLists staged t most book → book.torn ≡ None
+none_torn true t most book lists = lists.1.between.none_torn
+none_torn false t most book lists = lists.untorn
+
 -- once all ended well, the file is filled
 pub dealt_from : (fields : List MemberData) (p : Params) (texts : List (List ℕ)) (t : Table) (given book : BookData) (old new : Option Held)
     (h : Held) → AreFields fields → Rows fields p.plain t → passed_by_begin p.limits t ≡ None → given ≡ new_book t p
@@ -137,7 +143,7 @@ dealt_from fields p texts t given book old new h rules rows within given_is kept
         within = within;
         kept = kept;
         noted = noted;
-        untorn = dealt.beside.untorn;
+        untorn = none_torn p.staged t p.group book dealt.lists;
         book_on = book_on;
         short = subst (λ (b : BookData). AllByRecursion (λ (c : Cluster ClusterMeta). c.len ≤ b.limits.range) (book_clusters book)) given_is
             short;
@@ -145,8 +151,8 @@ dealt_from fields p texts t given book old new h rules rows within given_is kept
         are = dealt.are;
         fit = fit;
       };
-      image = subst (λ (k : Held). k.image ≡ filled_file t book p.group dealt.ranges) same (left.2.stand (begun_known t));
-      filled = subst (λ (k : Held). IsFilled t p.group book dealt.ranges k.log) same (record {
+      image = subst (λ (k : Held). k.image ≡ filled_file p.staged t book p.group dealt.ranges) same (left.2.stand (begun_known t));
+      filled = subst (λ (k : Held). IsFilled p.staged t p.group book dealt.ranges k.log) same (record {
         filling = record {
           history = left.2.fills.history;
           legal = subst (λ (n : ℕ). IsLegal n left.2.fills.history) book_on.begin left.2.fills.legal;

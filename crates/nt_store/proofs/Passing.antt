@@ -16,7 +16,7 @@ use Rattle.nt_book.specs.declared.params.Params.{Params}
 use Rattle.nt_book.specs.declared.limits.Limits.{Limits}
 use Rattle.nt_book.specs.declared.limits.LimitError.{LimitError}
 use Rattle.nt_book.specs.declared.limits.LimitError.TheVariants as limit
-use Rattle.nt_book.specs.Books.{BookData, book_clusters}
+use Rattle.nt_book.specs.Books.{BookData, book_ranges, book_clusters}
 use Rattle.nt_book.specs.Kept.{IsBookKept}
 use Rattle.nt_container.specs.Lengths.{anchor_part_len, key_list_part_len, free_list_part_len}
 use Rattle.nt_pagelists.specs.Blobs.{blob_len}
@@ -48,12 +48,13 @@ FootersAreAsLong =
 
 abbrev pub FilesAreAsLong : Type 0
 FilesAreAsLong =
-    (staged : Bool) (t : Table) (book : BookData) (most : ℕ) → book.staged ≡ false → IsBookOf t book → 0 < most
-    → file_len t book (list_places staged t book most) ≡ whole_len t most (metas (book_clusters book))
+    (staged : Bool) (t : Table) (book : BookData) (most : ℕ) → length (book_clusters book) ≡ length (book_ranges book) → IsBookOf t book
+    → 0 < most → file_len t book (list_places staged t book most) ≡ whole_len t most (metas (book_clusters book))
 
 abbrev pub DealtAreAll : Type 0
-DealtAreAll = (t : Table) (page most : ℕ) (chunks : List (List (List TreesData))) (book : BookData) (ranges : List (List ℕ))
-    (is : AreChunksDealt t page chunks book ranges) → IsBookKept book
+DealtAreAll =
+    (staged : Bool) (t : Table) (page most : ℕ) (chunks : List (List (List TreesData))) (book : BookData) (ranges : List (List ℕ))
+    (is : AreChunksDealt staged t page chunks book ranges) → IsBookKept book
     → IsPermutation is.dealt (joined_chunks chunks) × AreKeptOf t page is.dealt (metas (book_clusters book))
     × ((ms : List ClusterMeta) × AreKeptOf t page (joined_chunks chunks) ms × (whole_len t most ms ≡ whole_len t most (metas (book_clusters
     book))))

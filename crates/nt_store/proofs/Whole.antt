@@ -1,28 +1,27 @@
 -- A file whose clusters are the chunks of texts, finished within the limits.
-use Rattle.std.proofs.Common.{◌≡◌, ℕ, ◌≤◌, Bool, true, false, List, [], length, replicate, map, Option, Some, None, refl, sym}
-use Rattle.std.proofs.Common.{ap, ◌∙◌, subst, arith}
+use Rattle.std.proofs.Common.{◌≡◌, ◌∙◌, ℕ, ◌≤◌, Bool, true, false, List, [], length, replicate, map, Option, Some, None, refl, arith}
 use Rattle.std.specs.Prelude.{nat_lt, if◌then◌else◌}
 use Rattle.std.proofs.lemmas.Bool.Decides.{nat_tests}
 use Rattle.nt_types.specs.ShapeData.{MemberData}
 use Rattle.nt_types.specs.Rules.{AreFields}
 use Rattle.nt_types.specs.TreeData.{TreesData}
+use Rattle.nt_grammar.specs.declared.rows.ColumnRow.{ColumnRow}
 use Rattle.nt_grammar.specs.Table.{Table}
 use Rattle.nt_grammar.specs.Rows.{Rows}
-use Rattle.nt_machine.specs.History.{Cluster}
-use Rattle.nt_book.specs.declared.meta.ClusterMeta.{ClusterMeta}
 use Rattle.nt_book.specs.declared.params.Params.{Params}
 use Rattle.nt_book.specs.declared.limits.Limits.{Limits}
 use Rattle.nt_book.specs.declared.limits.LimitError.{LimitError}
-use Rattle.nt_book.specs.Books.{BookData, book_clusters}
+use Rattle.nt_book.specs.Books.{BookData}
 use Rattle.nt_book.specs.Kept.{IsBookKept}
 use Rattle.nt_file_meaning.specs.Files.{Means}
+use Rattle.nt_pagelists.proofs.Named.{clusters-unstaged}
 use Rattle.nt_pagelists.specs.Blobs.{blob_len}
 use Rattle.nt_layout.specs.Headers.{header_object, clusters_place}
-use Rattle.nt_layout.specs.Laid.{AreBlobsOf, Measures, AreMeasures, IsBookOf, IsLaid}
-use Rattle.nt_finished.proofs.Lengths.{clusters_told, ranges-len}
-use Rattle.nt_layout.specs.Beside.{HasListsBeside}
-use Rattle.nt_finished.proofs.Beside.{all_beside, by-number_beside, ranges-beside}
+use Rattle.nt_layout.specs.Laid.{Measures, AreMeasures, IsBookOf, IsLaid}
+use Rattle.nt_finished.specs.Filled.{IsArrangedBook}
+use Rattle.nt_finished.specs.Ranged.{IsRangedBook}
 use Rattle.nt_close.specs.Passing.{first_passed, passed_by_begin, measures_of}
+use Rattle.nt_close.proofs.Within.{has_lists}
 use Rattle.nt_store.specs.Laws.{HoldsChunks, RangesAreAsLong, FinishedAreStored}
 
 -- the laws of finished files that are cited here
@@ -31,11 +30,10 @@ BooksAreOf =
     (fields : List MemberData) (plain : Bool) (t : Table) (book : BookData) → Rows fields plain t → IsBookKept book
     → book.begin ≡ clusters_place t → book.firsts ≡ replicate (length t.columns) 0 → IsBookOf t book
 
-abbrev pub AreAsLong : Type 0
-AreAsLong =
-    (t : Table) (page : ℕ) (clusters : List (List TreesData)) (ranges : List (List ℕ)) (book : BookData) → IsBookKept book
-    → AreBlobsOf t page clusters ranges (book_clusters book)
-    → map length ranges ≡ map (λ (c : Cluster ClusterMeta). c.len) (book_clusters book)
+abbrev pub AreRanged : Type 0
+AreRanged =
+    (staged : Bool) (t : Table) (most : ℕ) (book : BookData) (ranges : List (List ℕ)) → IsArrangedBook staged t most book ranges
+    → map (λ (c : ColumnRow). c.first) t.columns ≡ book.firsts → IsRangedBook staged t most book ranges
 
 abbrev pub FilesMean : Type 0
 FilesMean =
@@ -69,38 +67,31 @@ pub book_of : BooksAreOf
 book_of books fields p texts t book ranges holds =
     books fields p.plain t book holds.rows holds.kept holds.book_on.begin holds.book_on.firsts
 
--- page lists stand beside its clusters
-pub beside_of : (fields : List MemberData) (p : Params) (texts : List (List ℕ)) (t : Table) (book : BookData) (ranges : List (List ℕ))
-    → HoldsChunks fields p texts t book ranges → HasListsBeside t p.group book
-beside_of fields p texts t book ranges holds = record {
-  group = holds.noted.group;
-  untorn = holds.untorn;
-  noted = λ k less. (holds.noted.noted k less).len;
+pub as_long : RangesAreAsLong
+as_long fields p texts t book ranges holds = holds.are.lens
+
+pub ranged : RangesAreAsLong → (fields : List MemberData) (p : Params) (texts : List (List ℕ)) (t : Table) (book : BookData)
+    (ranges : List (List ℕ)) → HoldsChunks fields p texts t book ranges → IsArrangedBook p.staged t p.group book ranges
+ranged long fields p texts t book ranges holds = record {
+  kept = holds.kept;
+  lists = has_lists t p book holds.kept holds.noted holds.untorn;
+  begin = holds.book_on.begin;
+  lens = long fields p texts t book ranges holds;
 }
 
-pub as_long : AreAsLong → RangesAreAsLong
-as_long long fields p texts t book ranges holds =
-    long t p.page holds.are.dealt ranges book holds.kept holds.are.blobs_are
-    ∙ ap (λ (cs : List (Cluster ClusterMeta)). map (λ (c : Cluster ClusterMeta). c.len) cs)
-    (ranges-beside t p.group book holds.kept (beside_of fields p texts t book ranges holds))
-
-pub stored_whole : BooksAreOf → FilesMean → FinishedAreStored
-stored_whole books mean fields p texts t book ranges bytes holds stays is =
-    let cs = book_clusters book in
+pub stored_whole : BooksAreOf → AreRanged → FilesMean → FinishedAreStored
+stored_whole books stand mean fields p texts t book ranges bytes holds stays is =
     let of = book_of books fields p texts t book ranges holds in
-    let beside = beside_of fields p texts t book ranges holds in
-    let lens = ranges-len t p.page holds.are.dealt ranges cs holds.are.blobs_are (clusters_told book holds.kept)
-    ∙ ap (λ (l : List (Cluster ClusterMeta)). map (λ (c : Cluster ClusterMeta). c.len) l)
-    (ranges-beside t p.group book holds.kept beside) in
+    let stands = stand p.staged t p.group book ranges (ranged as_long fields p texts t book ranges holds) of.firsts in
     let laid : IsLaid bytes t holds.are.dealt (measures_of p) = record {
       book = book;
       is_of = of;
       within = stays (header_within p.limits t holds.within);
+      whole = record { all = holds.are.all; in_order = λ not. clusters-unstaged book (holds.noted.staged ∙ not) };
       ranges = ranges;
-      lens = lens;
-      blobs_are = subst (λ (l : List (List ℕ)). AreBlobsOf t p.page holds.are.dealt l cs)
-          (sym (by-number_beside t p.group book holds.kept beside ranges lens)) holds.are.blobs_are;
-      behind = all_beside t p.group book holds.kept beside ranges of.begin lens;
+      lens = holds.are.lens;
+      blobs_are = holds.are.blobs_are;
+      behind = stands.behind;
       is = is;
     } in
     record {

@@ -29,8 +29,8 @@ pub record IsFilledFile (fields : List MemberData) (p : Params) (texts : List (L
   where
     pub ranges : List (List ℕ)
     pub holds : HoldsChunks fields p texts t book ranges
-    pub image : h.image ≡ filled_file t book p.group ranges
-    pub filled : IsFilled t p.group book ranges h.log
+    pub image : h.image ≡ filled_file p.staged t book p.group ranges
+    pub filled : IsFilled p.staged t p.group book ranges h.log
     pub shut : IsShut h.image
     pub unfinished : LeavesUnfinished h.log
 

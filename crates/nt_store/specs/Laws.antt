@@ -1,5 +1,5 @@
 -- What the laws of files say of one whose clusters are the chunks of texts.
-use Rattle.std.specs.Prelude.{◌≡◌, ℕ, ◌≤◌, false, List, None}
+use Rattle.std.specs.Prelude.{◌≡◌, ℕ, ◌≤◌, List, None}
 use Rattle.std.specs.List.{AllByRecursion}
 use Rattle.nt_types.specs.ShapeData.{MemberData}
 use Rattle.nt_types.specs.Rules.{AreFields}
@@ -30,8 +30,8 @@ use Rattle.nt_contexts.specs.Contexts.{IsBookOn}
 use Rattle.nt_store.specs.Whole.{IsStored}
 use Rattle.nt_store.specs.Writing.{IsPassedAs}
 
--- a file was begun for these fields, and its clusters are the chunks of sound texts, dealt out; page lists stand beside them, none of which
--- failed
+-- a file was begun for these fields, and its clusters are the chunks of sound texts, dealt out; page lists stand beside them unless they
+-- are staged, none of which failed
 pub record HoldsChunks (fields : List MemberData) (p : Params) (texts : List (List ℕ)) (t : Table) (book : BookData) (ranges : List (List
     ℕ)) : Type 0 where
   pub rules : AreFields fields
@@ -43,7 +43,7 @@ pub record HoldsChunks (fields : List MemberData) (p : Params) (texts : List (Li
   pub book_on : IsBookOn (new_book t p) book
   pub short : AllByRecursion (λ (c : Cluster ClusterMeta). c.len ≤ p.limits.range) (book_clusters book)
   pub sound : AreSound fields texts
-  pub are : AreChunksDealt t p.page (chunks_of p.cluster fields texts) book ranges
+  pub are : AreChunksDealt p.staged t p.page (chunks_of p.cluster fields texts) book ranges
   pub fit : CommitsFit t p (all_chunks p.cluster fields texts)
 
 -- its ranges are as long as the book says
@@ -56,7 +56,7 @@ RangesAreAsLong =
 abbrev pub FinishedAreStored : Type 0
 FinishedAreStored =
     (fields : List MemberData) (p : Params) (texts : List (List ℕ)) (t : Table) (book : BookData) (ranges : List (List ℕ)) (bytes : List ℕ)
-    → HoldsChunks fields p texts t book ranges → StaysWithin t p book → bytes ≡ finished false t book p.group ranges
+    → HoldsChunks fields p texts t book ranges → StaysWithin t p book → bytes ≡ finished p.staged t book p.group ranges
     → IsStored p fields texts (commit_order book) bytes
 
 -- a limit that its closing passes is one that its chunks pass
@@ -72,10 +72,10 @@ pub record CrashesLeave : Type 0 where
   pub beginning : (t : Table) (left : Held) → IsBegunSoFar (begun 0 0 0) (header_blob t) nothing_held left → LeavesUnfinished left.log
   pub filling : (t : Table) (log : List Step) → IsFilling t log → LeavesUnfinished log
   pub closing : (fields : List MemberData) (p : Params) (texts : List (List ℕ)) (t : Table) (book : BookData) (ranges : List (List ℕ))
-      (h left : Held) → HoldsChunks fields p texts t book ranges → StaysWithin t p book → IsFilled t p.group book ranges h.log
-      → IsClosedSoFar (closing_tail t book p.group) (closing_front t book p.group) h left
+      (h left : Held) → HoldsChunks fields p texts t book ranges → StaysWithin t p book → IsFilled p.staged t p.group book ranges h.log
+      → IsClosedSoFar (closing_tail p.staged t book p.group) (closing_front p.staged t book p.group) h left
       → LeavesUnfinishedOr (IsStored p fields texts (commit_order book)) left.log
   pub closed : (fields : List MemberData) (p : Params) (texts : List (List ℕ)) (t : Table) (book : BookData) (ranges : List (List ℕ))
-      (h : Held) → HoldsChunks fields p texts t book ranges → StaysWithin t p book → IsFilled t p.group book ranges h.log
+      (h : Held) → HoldsChunks fields p texts t book ranges → StaysWithin t p book → IsFilled p.staged t p.group book ranges h.log
       → LeavesOnly (IsStored p fields texts (commit_order book))
-      (closed_on (closing_tail t book p.group) (closing_front t book p.group) h).log
+      (closed_on (closing_tail p.staged t book p.group) (closing_front p.staged t book p.group) h).log

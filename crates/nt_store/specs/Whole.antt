@@ -5,7 +5,7 @@ use Rattle.nt_types.specs.ShapeData.{MemberData}
 use Rattle.nt_types.specs.TreeData.{TreesData}
 use Rattle.nt_grammar.specs.Table.{Table}
 use Rattle.nt_grammar.specs.Rows.{Rows}
-use Rattle.nt_machine.specs.Deal.{Uses, IsDeal}
+use Rattle.nt_machine.specs.Deal.{UsesFor, IsDeal}
 use Rattle.nt_machine.specs.History.{Cluster}
 use Rattle.nt_book.specs.declared.meta.ClusterMeta.{ClusterMeta}
 use Rattle.nt_book.specs.declared.params.Params.{Params}
@@ -15,10 +15,11 @@ use Rattle.nt_file_meaning.specs.Files.{Means}
 use Rattle.nt_close.specs.Passing.{measures_of}
 use Rattle.nt_dealing.specs.Texts.{AreSound, chunks_of}
 
--- a file means the schema of these fields and the chunks of these texts, dealt out in an order of commits, and is laid out for them
+-- a file means the schema of these fields and the chunks of these texts, dealt out in an order of commits, which has those of each text
+-- together where clusters are staged, and is laid out for them
 pub record IsStored (p : Params) (fields : List MemberData) (texts : List (List ℕ)) (order bytes : List ℕ) : Type 0 where
   pub sound : AreSound fields texts
-  pub uses : Uses order (chunks_of p.cluster fields texts)
+  pub uses : UsesFor p.staged order (chunks_of p.cluster fields texts)
   pub dealt : List (List TreesData)
   pub is_deal : IsDeal (chunks_of p.cluster fields texts) order dealt
   pub table : Table

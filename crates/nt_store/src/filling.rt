@@ -1,6 +1,6 @@
 //! A file that is begun, and filled by contexts.
 
-ghost use Rattle.std.specs.Prelude.{◌≡◌, ◌<◌, ◌≤◌, false, length, map};
+ghost use Rattle.std.specs.Prelude.{◌<◌, ◌≤◌, length, map};
 ghost use Rattle.nt_types.specs.Views.{members_view};
 ghost use Rattle.nt_outside.specs.Held.{nothing_held};
 ghost use Rattle.nt_store.specs.Leaving.{MayWriteFile};
@@ -20,8 +20,7 @@ use std::sync::Wait;
 use std::thread::Threads;
 
 /// Begins the file of these fields on an empty disk, and runs a context for each source beside the others, which writes the chunks of its
-/// text. The file is still to be closed, by the book and the schema that are given. The sources come back in their order. Clusters are not
-/// staged.
+/// text. The file is still to be closed, by the book and the schema that are given. The sources come back in their order.
 ///
 /// # Errors
 ///
@@ -43,7 +42,6 @@ where
     G: Gate + Sync,
     requires may { MayWriteFile (members_view fields.now) (length sources.items) (D.state disk) }
     requires workers { (0 < settings.now.workers) × (settings.now.workers ≤ 64) }
-    requires unstaged { settings.now.params.now.staged ≡ false }
     ensures { FillsFile (members_view fields.now) settings.now.params.now nothing_held (map S.state sources.items)
         (map S.state result.1.items) (D.state disk) (D.state result.0) result.2 }
 {

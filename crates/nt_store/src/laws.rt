@@ -5,8 +5,8 @@ ghost use Rattle.nt_store.specs.Laws.{RangesAreAsLong, FinishedAreStored, Passed
 use nt_crash::{closing_leaves_unfinished_or_finished, filling_leaves_unfinished};
 use nt_dealing::{dealt_chunks_are_all_chunks, files_are_as_long_as_their_clusters_say};
 use nt_finished::{
-    books_of_fields_are_of_their_schema, files_of_fields_mean_their_entries,
-    finished_files_are_as_long,
+    arranged_files_are_laid, books_of_fields_are_of_their_schema,
+    files_of_fields_mean_their_entries,
 };
 
 /// Where the clusters are the chunks of texts, dealt out, the ranges are as long as the book says, and the finished file is stored.
@@ -14,8 +14,8 @@ fn finished_files_are_stored()
     ensures lengths { RangesAreAsLong }
     ensures stored { FinishedAreStored }
 {
+    arranged_files_are_laid();
     books_of_fields_are_of_their_schema();
-    finished_files_are_as_long();
     files_of_fields_mean_their_entries();
 }
 

@@ -1,6 +1,6 @@
 //! A file that is written from texts.
 
-ghost use Rattle.std.specs.Prelude.{◌≡◌, ◌<◌, ◌≤◌, false, length, map};
+ghost use Rattle.std.specs.Prelude.{◌<◌, ◌≤◌, length, map};
 ghost use Rattle.nt_types.specs.Views.{members_view};
 ghost use Rattle.nt_outside.specs.Held.{nothing_held};
 ghost use Rattle.nt_book.specs.Ranges.{IsFromTo};
@@ -70,7 +70,7 @@ where
     <H::Out as nt_outside::Disk>::Ext: Send,
     G: Gate + Sync,
     requires may { MayWriteFile (members_view fields.now) (length texts.items) (H.Out.state disk) }
-    requires settings { (0 < settings.now.workers) × (settings.now.workers ≤ 64) × (settings.now.params.now.staged ≡ false) }
+    requires settings { (0 < settings.now.workers) × (settings.now.workers ≤ 64) }
     ensures file { WritesFile (members_view fields.now) settings.now.params.now (map H.Text.state texts.items) nothing_held
         (H.state host.old) (H.state host.new) (H.Out.state disk) (H.Out.state result.0) result.1 }
     ensures cause { FailsOnEither (H.Out.state result.0) (H.state host.old) (H.state host.new) result.1 }
@@ -112,7 +112,6 @@ where
     G: Gate + Sync,
     requires inputs { IsFromTo 1 64 (length names.inputs.now) }
     requires workers { (0 < settings.now.workers) × (settings.now.workers ≤ 64) }
-    requires unstaged { settings.now.params.now.staged ≡ false }
     ensures { Stores names.entry.out.now names.entry.schema.now (map (λ name. name.now) names.entry.inputs.now) settings.now.params.now
         (H.state host.old) (H.state host.new) result }
 {

@@ -1,4 +1,6 @@
 use Rattle.std.proofs.lemmas.Result.{err_from_is_err_and}
+use Rattle.nt_close.specs.Filled.{closing_tail, closing_front}
+use Rattle.nt_close.specs.Passing.{passed_by_close}
 use Rattle.nt_store.proofs.Closed.{closed_leaves, unclosed_leaves, closed_crash, unclosed_crash, close_order, close_fails, of_no_text}
 use Rattle.nt_store.proofs.closing.close_file.Goals as goal
 
@@ -18,8 +20,10 @@ returns-in_err-close g c =
       crash = λ fields texts h is filled.
           unclosed_crash c.crashes_leave_chunks_or_none.ensures c.args.schema.now c.args.params.now c.args.book.now fields texts h filled
           e disk disk' is may.undamaged c.in_err-close.ensures.closes.cause c.in_err-close.ensures.closes.left;
-      failed = λ is. close_fails c.args.book.now _ _ _ disk disk' e may.undamaged c.in_err-close.ensures.closes.cause
-          c.in_err-close.ensures.closes.left (cc is);
+      failed = λ is. close_fails c.args.book.now (passed_by_close c.args.params.now c.args.schema.now c.args.book.now)
+          (closing_tail c.args.params.now.staged c.args.schema.now c.args.book.now c.args.params.now.group)
+          (closing_front c.args.params.now.staged c.args.schema.now c.args.book.now c.args.params.now.group) disk disk' e may.undamaged
+          c.in_err-close.ensures.closes.cause c.in_err-close.ensures.closes.left (cc is);
       no_text = of_no_text e;
     })
 

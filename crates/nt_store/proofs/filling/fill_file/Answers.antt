@@ -14,7 +14,6 @@ pub run_contexts-disk-requires-clause-ready : goal.run_contexts-disk-requires-cl
 run_contexts-disk-requires-clause-ready g c κs within = record {
   rules = c.requires.may.rules;
   rows = c.in-Ok.ensures.begun.rows;
-  unstaged = c.requires.unstaged;
   book_is = c.in-Ok.ensures.begun.book_is;
   end = c.in-Ok.ensures.begun.end;
   out = c.in-Ok.ensures.begun.out ∙ c.requires.may.empty.out;
