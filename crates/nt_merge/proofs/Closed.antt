@@ -34,7 +34,7 @@ use Rattle.nt_close.specs.Laws.{ClosedIsFinished}
 use Rattle.nt_close.specs.Passing.{first_passed, passed_by_begin, passed_by_close, measures_of}
 use Rattle.nt_close.specs.Steps.{closed_on, IsClosedPartly, IsClosedSoFar, closed_partly, closed_whole}
 use Rattle.nt_close.proofs.FirstByte.{closes_in_order, cut_shut}
-use Rattle.nt_close.proofs.Within.{listed-beside, within}
+use Rattle.nt_close.proofs.Within.{within}
 use Rattle.nt_copied.specs.Copies.{Source, AreCopies, IsCopied}
 use Rattle.nt_copied.proofs.CopiedFiles.{lens-copies}
 use Rattle.nt_finished.proofs.Lengths.{clusters_told}
@@ -42,6 +42,7 @@ use Rattle.nt_seq.specs.Crashes.{IsClosedBy, AppendsLeave}
 use Rattle.nt_seq.specs.Written.{file_so_far, IsUnclosedOf}
 use Rattle.nt_merge_limits.specs.Limits.{kept_metas, MergeFits, IsBookBeside}
 use Rattle.nt_seq.proofs.Files.{image-file, order-unclosed, shut-unclosed}
+use Rattle.nt_seq.proofs.Flat.{params-flat, listed-flat, lists-flat, filled-flat}
 use Rattle.nt_seq.proofs.Plain.{plain-file}
 use Rattle.nt_merge.specs.Copying.{HasMerged}
 use Rattle.nt_merge.specs.Merging.{Numbered, sources, readings, copied_metas, IsMerging, IsMerged, IsMergedFile, IsUnfinished}
@@ -83,13 +84,16 @@ module _ (t : Table) (p : Params) (given old : DiskState) (book : BookData) (ns 
     (kept : IsBookKept book) (first : Held) (told : given.held ≡ Some first) (finishes : ClosedIsFinished) (made : MadeOfCopies)
     (fit : FitsWithin) (has : HasMerged t p given old book ns (length ns)) where
   abbrev behind : List ℕ
-  behind = closing_tail t book p.group
+  behind = closing_tail p.staged t book p.group
 
   abbrev before : List ℕ
-  before = closing_front t book p.group
+  before = closing_front p.staged t book p.group
+
+  flat : p.staged ≡ false
+  flat = params-flat t p book is.closable.noted is.not_staged
 
   beside : HasListsBeside t p.group book
-  beside = listed-beside t p book is.closable.noted is.untorn
+  beside = listed-flat t p book is.closable.noted is.not_staged is.untorn
 
   abbrev h : Held
   h = file_so_far t is.blobs
@@ -103,19 +107,20 @@ module _ (t : Table) (p : Params) (given old : DiskState) (book : BookData) (ns 
   abbrev ranges : List (List ℕ)
   ranges = has.copies.ranges
 
-  image-is : (closed_on behind before h).image ≡ finished false t book p.group ranges
+  image-is : (closed_on behind before h).image ≡ finished p.staged t book p.group ranges
   image-is =
       let parts = part_bytes (parts_so_far t book p.group ranges) in
-      finishes t book p.group ranges h
+      finishes p.staged t book p.group ranges h
       (record {
         kept = kept;
-        beside = beside;
+        lists = lists-flat t p book flat beside;
         begin = is.closable.begin;
         lens = lens-copies t is.none_deferred (sources (take (length ns) ns)) has.lists ranges (book_clusters book) has.copies.copies
             (clusters_told book kept)
             ∙ ap (λ (cs : List (Cluster ClusterMeta)). map (λ (c : Cluster ClusterMeta). c.len) cs) (clusters-unstaged book is.not_staged);
       })
-      (ap (λ (k : Held). k.image) (same_held old.held h (file_so_far t parts) held (has.copies.held first told)) ∙ image-file t parts)
+      (ap (λ (k : Held). k.image) (same_held old.held h (file_so_far t parts) held (has.copies.held first told))
+      ∙ (image-file t parts ∙ sym (filled-flat t p book ranges flat)))
 
   all-read : readings ns ≡ Ok has.lists
   all-read = subst (λ (l : List Numbered). readings l ≡ Ok has.lists) (take-whole ns) has.read
@@ -126,7 +131,7 @@ module _ (t : Table) (p : Params) (given old : DiskState) (book : BookData) (ns 
       let stays = within t p book kept is.closable.noted is.untorn passed (header-within p.limits t is.within) in
       record {
         read = all-read;
-        copied = made (closed_on behind before h).image t (sources ns) has.lists (measures_of p) ranges book refl
+        copied = made (closed_on behind before h).image t (sources ns) has.lists (measures_of p) ranges book flat
             (record { kept = kept; begin = is.closable.begin; firsts = is.firsts; none_deferred = is.none_deferred })
             beside stays
             (subst (λ (l : List Numbered). AreCopies t (sources l) has.lists ranges (book_clusters book)) (take-whole ns) has.copies.copies)

@@ -20,8 +20,8 @@ use Rattle.nt_tfile.specs.declared.failure.ReadFailure.TheVariants as failure
 use Rattle.nt_file_meaning.specs.Clusters.{cluster_of}
 use Rattle.nt_file_meaning.specs.Outlines.{Outline}
 use Rattle.nt_reader.specs.Outlines.{numbered_cluster}
-use Rattle.nt_close.proofs.Within.{listed-beside}
 use Rattle.nt_merge_limits.specs.Limits.{kept_metas, IsBookBeside, MergeOverBy}
+use Rattle.nt_seq.proofs.Flat.{listed-flat}
 use Rattle.nt_merge.specs.declared.copy_error.CopyError.{CopyError}
 use Rattle.nt_merge.specs.declared.copy_error.CopyError.TheVariants.{Read, Commit}
 use Rattle.nt_merge.specs.Copying.{AreOfFile, IsJoinable, HasMerged, CopiesCluster, IsReadOver, LeavesCluster, ToldUpTo, source_at}
@@ -96,7 +96,7 @@ module _ (t : Table) (p : Params) (given old : DiskState) (book : BookData) (is 
               kept = kept;
               begin = is.closable.begin;
               limits = is.limits;
-              beside = listed-beside t p book is.closable.noted is.untorn;
+              beside = listed-flat t p book is.closable.noted is.not_staged is.untorn;
             }) (copied_meta n.source) more error over.passes)
 
         -- what is told where it wasn't copied

@@ -31,12 +31,12 @@ use Rattle.nt_close.specs.Laws.{ClosedIsFinished}
 use Rattle.nt_close.specs.Passing.{first_passed, passed_by_close}
 use Rattle.nt_close.specs.Spoiled.{IsUnspoiled}
 use Rattle.nt_close.specs.Steps.{closed_on, closed_whole}
-use Rattle.nt_close.proofs.Within.{listed-beside}
 use Rattle.nt_copied.specs.Copies.{Source, IsCopyOf, AreCopies, no_copy, and_copy}
 use Rattle.nt_merge_limits.specs.Limits.{kept_metas, IsBookBeside, MergeOverBy}
 use Rattle.nt_seq.specs.Crashes.{AppendsLeave}
 use Rattle.nt_seq.specs.Standing.{IsSettledCluster}
 use Rattle.nt_seq.specs.Written.{file_so_far}
+use Rattle.nt_seq.proofs.Flat.{params-flat, listed-flat, passed-flat}
 use Rattle.nt_merge.specs.Copying.{HasMerged}
 use Rattle.nt_merge.specs.Merging.{Numbered, sources, readings, sound_numbered, copied_metas, IsMerging}
 use Rattle.nt_merge.specs.Merging.{EndsMerge, IsCutFile, merged_entries}
@@ -136,17 +136,18 @@ module _ (t : Table) (p : Params) (given old : DiskState) (book : BookData) (ns 
         kept = kept;
         begin = is.closable.begin;
         limits = is.limits;
-        beside = listed-beside t p book is.closable.noted is.untorn;
+        beside = listed-flat t p book is.closable.noted is.not_staged is.untorn;
       }) false left error (λ s. in-drop (length book.lists) (spans book p.group) s)
-      (subst (λ (l : List ℕ). first_passed p.limits (l ++ foot ∷ []) end ≡ Some error) lens passed))
+      (subst (λ (l : List ℕ). first_passed p.limits (l ++ foot ∷ []) end ≡ Some error) lens
+      (sym (passed-flat t p book (params-flat t p book is.closable.noted is.not_staged)) ∙ passed)))
 
   module _ (finishes : ClosedIsFinished) (made : MadeOfCopies) (fit : FitsWithin) (leave : AppendsLeave) (new : DiskState)
       (passed : passed_by_close p t book ≡ None) where
     abbrev tail : List ℕ
-    tail = closing_tail t book p.group
+    tail = closing_tail p.staged t book p.group
 
     abbrev front : List ℕ
-    front = closing_front t book p.group
+    front = closing_front p.staged t book p.group
 
     abbrev h : Held
     h = file_so_far t is.blobs

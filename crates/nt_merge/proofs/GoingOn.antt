@@ -27,7 +27,6 @@ use Rattle.nt_commit.proofs.Appended.{with-behind}
 use Rattle.nt_append.specs.Appending.{AppendsImage, due_blobs, range_behind, settled_cluster, with_due_list}
 use Rattle.nt_append.proofs.Images.{appended-behind}
 use Rattle.nt_close.specs.Closing.{IsClosable}
-use Rattle.nt_close.proofs.Within.{listed-beside}
 use Rattle.nt_close.specs.Steps.{begun_on}
 use Rattle.nt_copied.specs.Copies.{Source, IsCopyOf, AreCopies, no_copy, and_copy}
 use Rattle.nt_merge_limits.specs.Limits.{kept_metas}
@@ -36,6 +35,7 @@ use Rattle.nt_seq.specs.Standing.{IsSettledCluster}
 use Rattle.nt_seq.specs.Written.{file_so_far}
 use Rattle.nt_seq.proofs.Beside.{lists-sizes}
 use Rattle.nt_seq.proofs.Closable.{closable-more}
+use Rattle.nt_seq.proofs.Flat.{listed-flat}
 use Rattle.nt_merge.specs.Merging.{Numbered, sources, copied_meta, copied_metas, IsMerging, HasCopies}
 
 not-equal : (n most : ℕ) → n ≤ most → (n ≡ most → ⊥) → n < most
@@ -72,7 +72,7 @@ module _ (t : Table) (p : Params) (given old new : DiskState) (book next : BookD
   due = length (due_bytes book)
 
   beside : HasListsBeside t p.group book
-  beside = listed-beside t p book is.closable.noted is.untorn
+  beside = listed-flat t p book is.closable.noted is.not_staged is.untorn
 
   held-more : (blobs : List (List ℕ)) → Becomes given.held old.held (λ h. file_so_far t blobs)
       → Becomes given.held new.held (λ h. file_so_far t (blobs ++ (due_blobs book ++ range ∷ [])))
@@ -88,7 +88,7 @@ module _ (t : Table) (p : Params) (given old new : DiskState) (book next : BookD
 
   closable : IsClosable new next t p
   closable =
-      closable-more old new t p book next is.closable i appends (next_to.beside t p.group beside)
+      closable-more old new t p book next is.closable i is.not_staged appends (next_to.beside t p.group beside)
       (next_to.sizes t p.group beside (lists-sizes t p book is.closable.noted))
       (subst (λ (l : Limits). due ≤ l.range) is.limits both.1.0)
 

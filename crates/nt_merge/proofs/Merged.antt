@@ -1,5 +1,5 @@
 -- The steps of a merge, one behind the other.
-use Rattle.std.proofs.Common.{◌∙◌, ap, sym, ℕ, ◌≤◌, List, length, Ok, Err, Result, arith}
+use Rattle.std.proofs.Common.{◌≡◌, ◌∙◌, ap, sym, ℕ, ◌≤◌, false, List, length, Ok, Err, Result, arith}
 use Rattle.std.specs.Prelude.{OnOk}
 use Rattle.std.proofs.lemmas.List.{length-replicate}
 use Rattle.nt_lists.proofs.Variants.{err_is}
@@ -22,7 +22,8 @@ use Rattle.nt_merge.proofs.Kept.{keep-none}
 use Rattle.nt_merge.proofs.Started.{merging-begun}
 use Rattle.nt_merge.proofs.Target.{begin-rose, begin-reads}
 
-module _ (t : Table) (p : Params) (old new : DiskState) (book : BookData) (columns : ℕ) (is : BeginsTarget t p old new book columns) where
+module _ (t : Table) (p : Params) (old new : DiskState) (book : BookData) (columns : ℕ) (flat : p.staged ≡ false)
+    (is : BeginsTarget t p old new book columns) where
   pub may-copy : MayCopyInto columns new book
   may-copy =
       let firsts = ap (λ (b : BookData). length b.firsts) is.begun.book_is in
@@ -30,12 +31,12 @@ module _ (t : Table) (p : Params) (old new : DiskState) (book : BookData) (colum
       let ends = ap book_end is.begun.book_is in
       record {
         columns_are = is.columns_are ∙ sym (firsts ∙ long);
-        not_staged = ap (λ (b : BookData). b.staged) is.begun.book_is;
+        not_staged = ap (λ (b : BookData). b.staged) is.begun.book_is ∙ flat;
         end = omega (arith, is.begun.end, ends);
       }
 
   pub begun-merging : IsBlankDisk old → (os : List Outline) → IsMergeSchema t os → IsMerging t p old new book
-  begun-merging blank os schema = merging-begun t p old new book is.begun blank.held blank.out schema.whole schema.none_deferred
+  begun-merging blank os schema = merging-begun t p old new book flat is.begun blank.held blank.out schema.whole schema.none_deferred
 
 pub closable-copy : (t : Table) (p : Params) (given old : DiskState) (book : BookData) → IsMerging t p given old book
     → IsClosableCopy t p old book

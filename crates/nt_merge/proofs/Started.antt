@@ -1,5 +1,5 @@
 -- A file that is begun, into which nothing was copied yet.
-use Rattle.std.proofs.Common.{◌≡◌, ◌∙◌, ap, sym, refl, subst, ℕ, ◌≤◌, List, [], ◌∷◌, map, length, replicate, Some, arith}
+use Rattle.std.proofs.Common.{◌≡◌, ◌∙◌, ap, sym, refl, subst, ℕ, ◌≤◌, false, List, [], ◌∷◌, map, length, replicate, Some, arith}
 use Rattle.std.specs.List.{AllByRecursion}
 use Rattle.nt_lists.specs.Parts.{part_bytes}
 use Rattle.nt_outside.specs.Held.{Held, Becomes, WhereHeld, nothing_held}
@@ -10,8 +10,9 @@ use Rattle.nt_grammar.specs.Table.{Table}
 use Rattle.nt_machine.specs.History.{Cluster}
 use Rattle.nt_book.specs.declared.meta.ClusterMeta.{ClusterMeta}
 use Rattle.nt_book.specs.declared.params.Params.{Params}
-use Rattle.nt_book.specs.Books.{BookData, book_clusters, book_end}
+use Rattle.nt_book.specs.Books.{BookData, book_ranges, book_clusters, book_end}
 use Rattle.nt_schema.specs.Whole.{AreWhole}
+use Rattle.nt_pagelists.proofs.Named.{clusters-unstaged}
 use Rattle.nt_layout.specs.Headers.{header_blob}
 use Rattle.nt_layout.specs.Beside.{parts_so_far}
 use Rattle.nt_close.specs.Beginning.{IsBegunFor}
@@ -30,17 +31,20 @@ firsts_none [] none = refl
 firsts_none (c ∷ rows) none =
     ap (λ (n : ℕ). n ∷ map (λ (r : ColumnRow). r.first) rows) none.0 ∙ ap (λ (l : List ℕ). 0 ∷ l) (firsts_none rows none.1)
 
-module _ (t : Table) (p : Params) (given new : DiskState) (book : BookData) (is : IsBegunFor t p given new book)
-    (empty : WhereHeld given.held (λ (h : Held). h ≡ nothing_held)) where
+module _ (t : Table) (p : Params) (given new : DiskState) (book : BookData) (flat : p.staged ≡ false)
+    (is : IsBegunFor t p given new book) (empty : WhereHeld given.held (λ (h : Held). h ≡ nothing_held)) where
   held-begun : Becomes given.held new.held (λ h. file_so_far t [])
   held-begun h told = is.held h told ∙ ap (λ (k : Held). Some (begun_on (begun 0 0 0) (header_blob t) k)) (empty h told)
 
+  unstaged-begun : book.staged ≡ false
+  unstaged-begun = ap (λ (b : BookData). b.staged) is.book_is ∙ flat
+
   none-yet : book_clusters book ≡ []
-  none-yet = ap book_clusters is.book_is
+  none-yet = clusters-unstaged book unstaged-begun ∙ ap book_ranges is.book_is
 
   noted-begun : AreListsNoted t p book
   noted-begun = subst (AreListsNoted t p) (sym is.book_is)
-      (record { group = refl; noted = λ k less. absurd (omega (arith, less)); short = tt })
+      (record { staged = refl; group = refl; noted = λ k less. absurd (omega (arith, less)); short = tt })
 
   closable-begun : given.out ≡ [] → AreWhole t → IsClosable new book t p
   closable-begun out whole = record {
@@ -58,7 +62,7 @@ module _ (t : Table) (p : Params) (given new : DiskState) (book : BookData) (is 
     held = held-begun;
     closable = closable-begun out whole;
     limits = ap (λ (b : BookData). b.limits) is.book_is;
-    not_staged = ap (λ (b : BookData). b.staged) is.book_is;
+    not_staged = unstaged-begun;
     firsts = firsts_none t.columns none ∙ sym (ap (λ (b : BookData). b.firsts) is.book_is);
     none_deferred = none;
     settled = subst (λ (cs : List (Cluster ClusterMeta)). AllByRecursion IsSettledCluster cs) (sym none-yet) tt;

@@ -1,6 +1,6 @@
 //! The files that are merged, written as one.
 
-ghost use Rattle.std.specs.Prelude.{◌≡◌, ◌<◌, ℕ, Ok, List, length, IfOk, IfErr, OnOk};
+ghost use Rattle.std.specs.Prelude.{◌≡◌, ◌<◌, ℕ, false, Ok, List, length, IfOk, IfErr, OnOk};
 ghost use Rattle.nt_grammar.specs.Table.{Table};
 ghost use Rattle.nt_outside.specs.Disk.{DiskState};
 ghost use Rattle.nt_book.specs.declared.params.Params.{Params};
@@ -196,6 +196,7 @@ pub fn merge<F: ReadAt, D: Disk>(
     params: &Params,
 ) -> Result<(u32, u64), MergeError>
     requires blank { IsBlankDisk (D.state disk.old) }
+    requires unstaged { params.now.staged ≡ false }
     requires as_many { length files.old.items ≡ length plan.now }
     ensures served { ServesMerge F.state files.old.items files.new.items (D.state disk.old) (D.state disk.new) result }
     ensures told { (bytes : List (List ℕ)) → TellBytes F.state files.old.items bytes → outlines_from 0 bytes ≡ Ok plan.now

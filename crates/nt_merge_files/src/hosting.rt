@@ -1,6 +1,6 @@
 //! Files of a host, written as one.
 
-ghost use Rattle.std.specs.Prelude.{◌≡◌, ◌<◌, ◌≤◌, length, map};
+ghost use Rattle.std.specs.Prelude.{◌≡◌, ◌<◌, ◌≤◌, false, length, map};
 ghost use Rattle.nt_book.specs.Ranges.{IsFromTo};
 ghost use Rattle.nt_merge_files.specs.Storing.{MergesPlanned, MergesOpen, MergesNamed, StoresMerged};
 
@@ -31,7 +31,8 @@ fn merge_planned<H: Host>(
     files: &mut Vec<H::File>,
     params: &Params,
 ) -> Result<Counts, MergeStoreError>
-    requires { length files.old.items ≡ length plan.now }
+    requires as_many { length files.old.items ≡ length plan.now }
+    requires unstaged { params.now.staged ≡ false }
     ensures { MergesPlanned H.File.state out.now params.now plan.now files.old.items files.new.items
         (H.state host.old) (H.state host.new) result }
 {
@@ -54,7 +55,8 @@ fn merge_open<H: Host>(
     files: &mut Vec<H::File>,
     params: &Params,
 ) -> Result<Counts, MergeStoreError>
-    requires { IsFromTo 1 64 (length files.old.items) }
+    requires count { IsFromTo 1 64 (length files.old.items) }
+    requires unstaged { params.now.staged ≡ false }
     ensures { MergesOpen H.File.state out.now params.now files.old.items files.new.items
         (H.state host.old) (H.state host.new) result }
 {
@@ -75,7 +77,8 @@ fn merge_named<H: Host>(
     names: MergeNames<'_>,
     params: &Params,
 ) -> Result<Counts, MergeStoreError>
-    requires { IsFromTo 1 64 (length names.files.now) }
+    requires count { IsFromTo 1 64 (length names.files.now) }
+    requires unstaged { params.now.staged ≡ false }
     ensures { MergesNamed names.entry.out.now (map (λ name. name.now) names.entry.files.now) params.now
         (H.state host.old) (H.state host.new) result }
 {
@@ -104,7 +107,8 @@ pub fn store_merged<H: Host>(
     names: MergeNames<'_>,
     params: &Params,
 ) -> Result<(), MergeStoreError>
-    requires { IsFromTo 1 64 (length names.files.now) }
+    requires count { IsFromTo 1 64 (length names.files.now) }
+    requires unstaged { params.now.staged ≡ false }
     ensures { StoresMerged names.entry.out.now (map (λ name. name.now) names.entry.files.now) params.now
         (H.state host.old) (H.state host.new) result }
 {

@@ -1,5 +1,5 @@
 -- What closes a file are blobs of the whole, and the end of the whole; so a file that is closed fits.
-use Rattle.std.proofs.Common.{◌≡◌, ◌∙◌, ap, sym, subst, refl, ℕ, zero, suc, ◌*◌, ◌-◌, ◌<◌, ◌≤◌, min, Bool, false, List, [], ◌∷◌, ◌++◌}
+use Rattle.std.proofs.Common.{◌≡◌, ◌∙◌, ap, sym, subst, refl, ℕ, zero, suc, ◌*◌, ◌-◌, ◌<◌, ◌≤◌, min, Bool, List, [], ◌∷◌, ◌++◌}
 use Rattle.std.proofs.Common.{length, map, take, drop, Some, arith}
 use Rattle.std.specs.Prelude.{Contains, slice_index_or}
 use Rattle.std.specs.Int.{div_ceil}
@@ -124,11 +124,11 @@ module _ (t : Table) (p : Params) (book : BookData) (is : IsBookBeside t p book)
         let fits : m.len ≤ p.limits.range = all_among (λ (x : ClusterMeta). x.len ≤ p.limits.range) metas m short among in
         omega (arith, same, fits)
     blob-within len (of_list k less same) = omega (arith, same, group-within k less)
-    blob-within len (of_footer same) = omega (arith, same, footer-len false, within.footer)
+    blob-within len (of_footer same) = omega (arith, same, footer-len p.staged, within.footer)
 
     pub closed-fits : n ≤ p.limits.clusters → MergeFits t p metas
     closed-fits few = record {
       blobs = blob-within;
-      file = omega (arith, length-file_of false t book most (flat t p book is) is.kept is.begin (some-group t p book is), within.file);
+      file = omega (arith, length-file_of p.staged t book most (flat t p book is) is.kept is.begin (some-group t p book is), within.file);
       few = omega (arith, few, counts t p book is);
     }

@@ -59,10 +59,10 @@ module _ {D : Type 0} (state : D → DiskState) (w : SeqState D) (F : List Membe
   module _ (law : LateFilesMean) (is : IsWriting state w) (kept : IsBookKept w.book) (empty : (state w.given).held ≡ Some nothing_held)
       (disk : D) where
     abbrev behind : List ℕ
-    behind = closing_tail w.table w.book w.params.group
+    behind = closing_tail w.params.staged w.table w.book w.params.group
 
     abbrev before : List ℕ
-    before = closing_front w.table w.book w.params.group
+    before = closing_front w.params.staged w.table w.book w.params.group
 
     -- what is held before it is closed
     abbrev h : Held
@@ -144,8 +144,9 @@ module _ {D : Type 0} (state : D → DiskState) (w : SeqState D) (F : List Membe
 -- the disk has failed where the closing did
 closing_failed : {D : Type 0} (state : D → DiskState) (w : SeqState D) (disk : D) (e : CloseError) → IsUndamaged w.book
     → HasCloseCause w.book (passed_by_close w.params w.table w.book) (Err e)
-    → LeavesClosed (closing_tail w.table w.book w.params.group) (closing_front w.table w.book w.params.group) (state w.disk) (state disk)
-    (Err e) → script_error_of_close e ≡ Outside → 0 < (state disk).faults
+    → LeavesClosed (closing_tail w.params.staged w.table w.book w.params.group)
+    (closing_front w.params.staged w.table w.book w.params.group) (state w.disk) (state disk) (Err e)
+    → script_error_of_close e ≡ Outside → 0 < (state disk).faults
 closing_failed state w disk (close.Spoiled cluster faults) none cause left is = absurd (none_spoiled w.book cluster faults none cause)
 closing_failed state w disk (close.Torn group faults) none cause left is = absurd (none_torn w.book group faults none cause)
 closing_failed state w disk (close.Unpublished range) none cause left is = absurd (none_unpublished w.book range none cause)

@@ -21,14 +21,15 @@ use Rattle.nt_layout.specs.Beside.{lists_left}
 use Rattle.nt_layout.specs.Finished.{list_places, spans, footer_object, file_len}
 use Rattle.nt_layout.specs.Groups.{PlacedList, places_beside}
 use Rattle.nt_finished.proofs.Spans.{spans_in_order}
+use Rattle.nt_close.specs.Filled.{AreListsNoted}
 use Rattle.nt_close.specs.Passing.{passed_by_close}
-use Rattle.nt_close.proofs.Within.{listed-beside}
 use Rattle.nt_dealing.specs.Lengths.{page_list_len, group_count, footer_len}
 use Rattle.nt_dealing.proofs.Lengths.{length-list_object}
 use Rattle.nt_dealing.proofs.Files.{length-footer_object, length-file_of}
 use Rattle.nt_merge_limits.specs.Limits.{IsBookBeside}
 use Rattle.nt_seq.specs.Standing.{IsShortCluster, IsWriting}
 use Rattle.nt_seq.specs.Writer.{SeqState}
+use Rattle.nt_seq.proofs.Flat.{params-flat, listed-flat, passed-flat}
 use Rattle.nt_store.proofs.Passing.{inside, small, blobs_or, ends, Names, range_named, file_named}
 use Rattle.nt_script.specs.Limits.{AreListsBetween, next_list_len, clusters_end, StandsWithin, IsOverEnd, list_passed, footer_passed}
 use Rattle.nt_script.specs.Limits.{end_passed}
@@ -44,7 +45,7 @@ beside-writing state w is kept = record {
   kept = kept;
   begin = is.closable.begin;
   limits = is.limits;
-  beside = listed-beside w.table w.params w.book is.closable.noted is.untorn;
+  beside = listed-flat w.table w.params w.book is.closable.noted is.not_staged is.untorn;
 }
 
 -- none of them is longer than a range may get
@@ -98,7 +99,7 @@ all-drop P zero ls all = all
 all-drop P (suc n) [] all = tt
 all-drop P (suc n) (l ∷ ls) all = all-drop P n ls all.1
 
-module _ (t : Table) (p : Params) (book : BookData) (flat : book.staged ≡ false) (kept : IsBookKept book)
+module _ (t : Table) (p : Params) (book : BookData) (noted : AreListsNoted t p book) (flat : book.staged ≡ false) (kept : IsBookKept book)
     (begin : book.begin ≡ clusters_place t) where
   abbrev book_metas : List ClusterMeta
   book_metas = metas_of book
@@ -146,7 +147,8 @@ module _ (t : Table) (p : Params) (book : BookData) (flat : book.staged ≡ fals
       elim (blobs_or (λ (l : PlacedList). list_len (header_sum t) book l.span) (λ (l : PlacedList). l.span.from + l.span.count ≤ n)
       (λ (l : PlacedList). l.span.count ≤ p.group) p.limits (lists_left t book p.group) (foot ∷ []) end e
       (left-all (λ (s : ClusterSpan). s.from + s.count ≤ n) (inside 0 n (spans book p.group) (spans_in_order p.group n some)))
-      (left-all (λ (s : ClusterSpan). s.count ≤ p.group) (small p.group n 0 (div_ceil n p.group))) passed) [
+      (left-all (λ (s : ClusterSpan). s.count ≤ p.group) (small p.group n 0 (div_ceil n p.group)))
+      (sym (passed-flat t p book (params-flat t p book noted flat)) ∙ passed)) [
         | inl list ↦ list_over reached most list.x.span list.first list.second list.above
             (range_named e reached most _ p.limits.range names list.is)
         | inr rest ↦ elim (blobs_or (λ (m : ℕ). m) (λ (m : ℕ). m ≡ foot) (λ (m : ℕ). Unit {0}) p.limits (foot ∷ []) [] end e

@@ -92,5 +92,5 @@ module _ {D : Type 0} (state : D → DiskState) (w : SeqState D) (F : List Membe
       within = subst (StandsWithin w.table w.params) done.keeps.metas (stands_within state w is kept);
     };
     over = subst (λ (ms : List ClusterMeta). IsOverEnd w.table w.params ms reached most) done.keeps.metas
-        (closed_over w.table w.params w.book is.not_staged kept is.closable.begin e reached most passed names);
+        (closed_over w.table w.params w.book is.closable.noted is.not_staged kept is.closable.begin e reached most passed names);
   })

@@ -1,6 +1,6 @@
 //! A file that is written from a script of a host.
 
-ghost use Rattle.std.specs.Prelude.{◌≡◌, IfOk};
+ghost use Rattle.std.specs.Prelude.{◌≡◌, false, IfOk};
 ghost use Rattle.nt_types.specs.Rules.{AreFields};
 ghost use Rattle.nt_types.specs.Views.{members_view};
 ghost use Rattle.nt_outside.specs.World.{PrintsAll};
@@ -58,6 +58,7 @@ fn file_text<H: Host>(
     params: &Params,
 ) -> Result<Counts, ScriptStoreError>
     requires rules { AreFields (members_view fields) }
+    requires unstaged { params.now.staged ≡ false }
     ensures { FilesText out.now params.now (members_view fields) (H.Text.state text) (H.state host.old) (H.state host.new) result }
 {
     match host.create(out) {
@@ -87,6 +88,7 @@ pub fn store_script<H: Host>(
     names: ScriptNames<'_>,
     params: &Params,
 ) -> Result<(), ScriptStoreError>
+    requires unstaged { params.now.staged ≡ false }
     ensures { StoresScript names.entry.out.now names.entry.schema.now names.entry.input.now params.now
         (H.state host.old) (H.state host.new) result }
 {

@@ -1,6 +1,6 @@
 //! The file of a script.
 
-ghost use Rattle.std.specs.Prelude.{◌≡◌, [], true};
+ghost use Rattle.std.specs.Prelude.{◌≡◌, [], true, false};
 ghost use Rattle.nt_types.specs.Rules.{AreFields};
 ghost use Rattle.nt_types.specs.Views.{members_view};
 ghost use Rattle.nt_contexts.specs.Reading.{left_of};
@@ -101,6 +101,7 @@ fn write_text<D: Disk, S: Source>(
 ) -> (D, Result<Counts, ScriptStoreError>)
     requires rules { AreFields (members_view fields) }
     requires empty { IsEmptyDisk (D.state disk) }
+    requires unstaged { params.now.staged ≡ false }
     requires first { (left_of S.state lines.old).number ≡ 0 }
     ensures { WritesLines (members_view fields) params.now (left_of S.state lines.old) (left_of S.state lines.new)
         (D.state disk) (D.state result.0) result.1 }
@@ -123,6 +124,7 @@ pub(crate) fn write_file<D: Disk, S: Source>(
 ) -> (D, S, Result<Counts, ScriptStoreError>)
     requires rules { AreFields (members_view fields) }
     requires empty { IsEmptyDisk (D.state disk) }
+    requires unstaged { params.now.staged ≡ false }
     ensures { WritesScript (members_view fields) params.now (S.state text) (S.state result.1)
         (D.state disk) (D.state result.0) result.2 }
 {

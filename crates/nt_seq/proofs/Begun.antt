@@ -15,9 +15,10 @@ use Rattle.nt_book.specs.declared.limits.Limits.{Limits}
 use Rattle.nt_book.specs.declared.limits.LimitError.TheVariants.{RangeTooLarge, FileTooLarge}
 use Rattle.nt_book.specs.declared.meta.ClusterMeta.{ClusterMeta}
 use Rattle.nt_book.specs.declared.params.Params.{Params}
-use Rattle.nt_book.specs.Books.{BookData, book_clusters, book_end, entry_count}
+use Rattle.nt_book.specs.Books.{BookData, book_ranges, book_clusters, book_end, entry_count}
 use Rattle.nt_schema.specs.Whole.{AreWhole}
 use Rattle.nt_pagelists.specs.Blobs.{blob_len}
+use Rattle.nt_pagelists.proofs.Named.{clusters-unstaged}
 use Rattle.nt_lists.specs.Parts.{part_bytes}
 use Rattle.nt_layout.specs.Beside.{parts_so_far}
 use Rattle.nt_layout.specs.Headers.{header_blob, header_object, clusters_place}
@@ -59,12 +60,16 @@ header-ends limits t none =
     at false false above is = ltb-false limits.file (clusters_place t) above
 
 module _ (fields : List MemberData) (p : Params) (given new : DiskState) (book : BookData) (t : Table)
-    (is : IsBegun fields p given new book t) (empty : WhereHeld given.held (λ (h : Held). h ≡ nothing_held)) where
+    (flat : p.staged ≡ false) (is : IsBegun fields p given new book t) (empty : WhereHeld given.held (λ (h : Held). h ≡ nothing_held)) where
   pub held-begun : Becomes given.held new.held (λ h. file_so_far t [])
   held-begun h told = is.held h told ∙ ap (λ (k : Held). Some (begun_on (begun 0 0 0) (header_blob t) k)) (empty h told)
 
+  -- no cluster is staged
+  pub unstaged-begun : book.staged ≡ false
+  unstaged-begun = ap (λ (b : BookData). b.staged) is.book_is ∙ flat
+
   none-yet : book_clusters book ≡ []
-  none-yet = ap book_clusters is.book_is
+  none-yet = clusters-unstaged book unstaged-begun ∙ ap book_ranges is.book_is
 
   -- no cluster is written
   pub clusters-none : HasClusters given new t p book []
@@ -107,7 +112,7 @@ module _ (fields : List MemberData) (p : Params) (given new : DiskState) (book :
 
 -- the writer can go on
 pub writing-begun : {D : Type 0} (state : D → DiskState) (fields : List MemberData) (p : Params) (disk new : D) (book : BookData)
-    (t : Table) (columns : List Column) → IsBegun fields p (state disk) (state new) book t
+    (t : Table) (columns : List Column) → p.staged ≡ false → IsBegun fields p (state disk) (state new) book t
     → WhereHeld (state disk).held (λ (h : Held). h ≡ nothing_held) → (state disk).out ≡ [] → IsDescribed t → IsFitToBegin t columns
     → IsWriting state (record {
       given = disk;
@@ -120,21 +125,21 @@ pub writing-begun : {D : Type 0} (state : D → DiskState) (fields : List Member
       entries = 0;
       alive = true;
     })
-writing-begun state fields p disk new book t columns is empty out described ready = record {
+writing-begun state fields p disk new book t columns flat is empty out described ready = record {
   blobs = [];
-  held = held-begun fields p (state disk) (state new) book t is empty;
+  held = held-begun fields p (state disk) (state new) book t flat is empty;
   header = refl;
-  closable = closable-begun fields p (state disk) (state new) book t is empty out ready.whole;
-  not_staged = ap (λ (b : BookData). b.staged) is.book_is;
+  closable = closable-begun fields p (state disk) (state new) book t flat is empty out ready.whole;
+  not_staged = unstaged-begun fields p (state disk) (state new) book t flat is empty;
   untorn = new-untorn t p book is.book_is;
   within = is.within;
   limits = ap (λ (b : BookData). b.limits) is.book_is;
-  firsts = firsts-begun fields p (state disk) (state new) book t is empty;
-  begun = columns-begun fields p (state disk) (state new) book t is empty;
-  settled = settled-begun fields p (state disk) (state new) book t is empty;
-  short = short-begun fields p (state disk) (state new) book t is empty p.limits;
-  ends = ends-begun fields p (state disk) (state new) book t is empty;
-  count = count-begun fields p (state disk) (state new) book t is empty p.limits.clusters;
+  firsts = firsts-begun fields p (state disk) (state new) book t flat is empty;
+  begun = columns-begun fields p (state disk) (state new) book t flat is empty;
+  settled = settled-begun fields p (state disk) (state new) book t flat is empty;
+  short = short-begun fields p (state disk) (state new) book t flat is empty p.limits;
+  ends = ends-begun fields p (state disk) (state new) book t flat is empty;
+  count = count-begun fields p (state disk) (state new) book t flat is empty p.limits.clusters;
   described = described;
   few = ready.few;
   some = ready.some;

@@ -1,5 +1,5 @@
 -- The page lists of a book, as they are noted, and those of one whose memory changes.
-use Rattle.std.proofs.Common.{◌≡◌, ◌∙◌, ap, sym, refl, subst, ℕ, ◌≤◌, false, List, length, Option}
+use Rattle.std.proofs.Common.{◌≡◌, ◌∙◌, ap, sym, refl, subst, ℕ, ◌≤◌, Bool, false, List, length, Option}
 use Rattle.std.specs.List.{AllByRecursion}
 use Rattle.nt_grammar.specs.Table.{Table}
 use Rattle.nt_machine.specs.History.{Cluster}
@@ -11,7 +11,9 @@ use Rattle.nt_book.specs.Books.{BookData, book_clusters, book_ranges, book_end}
 use Rattle.nt_book.specs.Limiting.{limit_error_with}
 use Rattle.nt_pagelists.proofs.Named.{clusters-unstaged}
 use Rattle.nt_pagelists.specs.Objects.{list_object}
+use Rattle.nt_layout.specs.Arranged.{group_for}
 use Rattle.nt_layout.specs.Beside.{HasListsBeside, parts_so_far}
+use Rattle.nt_layout.specs.Headers.{header_sum}
 use Rattle.nt_close.specs.Filled.{AreListsNoted}
 use Rattle.nt_append.specs.Appending.{AreSizesNoted}
 
@@ -19,11 +21,13 @@ use Rattle.nt_append.specs.Appending.{AreSizesNoted}
 pub lists-sizes : (t : Table) (p : Params) (book : BookData) → AreListsNoted t p book → AreSizesNoted t p.group book
 lists-sizes t p book lists k less = (lists.noted k less).size
 
--- they are noted where they stand beside the clusters, each with its size and no longer than a range may get
-pub lists-noted : (t : Table) (p : Params) (book : BookData) → HasListsBeside t p.group book → AreSizesNoted t p.group book
+-- they are noted where they stand beside the clusters, none of which is staged, each with its size and no longer than a range may get
+pub lists-noted : (t : Table) (p : Params) (book : BookData) → p.staged ≡ false → book.staged ≡ false
+    → HasListsBeside t p.group book → AreSizesNoted t p.group book
     → AllByRecursion (λ (l : NotedList). l.len ≤ p.limits.range) book.lists → AreListsNoted t p book
-lists-noted t p book beside sizes short = record {
-  group = beside.group;
+lists-noted t p book flat none beside sizes short = record {
+  staged = none ∙ sym flat;
+  group = beside.group ∙ sym (ap (λ (b : Bool). group_for b p.group (header_sum t)) flat);
   noted = λ k less. record { size = sizes k less; len = beside.noted k less };
   short = short;
 }
@@ -34,6 +38,7 @@ lists-room : (t : Table) (p : Params) (spare : ℕ) (book : BookData) → AreLis
     → AreListsNoted t p (record book { spare = spare })
 unfolding list_object
 lists-room t p spare book lists = record {
+  staged = lists.staged;
   group = lists.group;
   noted = λ k less. record { size = (lists.noted k less).size; len = (lists.noted k less).len };
   short = lists.short;

@@ -1,5 +1,5 @@
 -- A file that can be closed still can be once a cluster is put behind the others, or its book has other memory.
-use Rattle.std.proofs.Common.{◌∙◌, ap, sym, subst, ◌≤◌, List, length, arith}
+use Rattle.std.proofs.Common.{◌≡◌, ◌∙◌, ap, sym, subst, ◌≤◌, false, List, length, arith}
 use Rattle.std.specs.List.{AllByRecursion}
 use Rattle.nt_outside.specs.Disk.{DiskState}
 use Rattle.nt_grammar.specs.Table.{Table}
@@ -13,14 +13,16 @@ use Rattle.nt_close.specs.Closing.{IsClosable}
 use Rattle.nt_append.specs.Appending.{AppendsImage, AreSizesNoted, KeepsDiskAndBook}
 use Rattle.nt_append.proofs.Due.{all-with-due, due-long}
 use Rattle.nt_seq.proofs.Beside.{lists-noted, lists-kept}
+use Rattle.nt_seq.proofs.Flat.{params-flat}
 
 module _ (old new : DiskState) (t : Table) (p : Params) (book next : BookData) (is : IsClosable old book t p) where
   -- a cluster more, and the page list that was due, which is no longer than a range may get
-  pub closable-more : (i : ClusterImage) → AppendsImage i old new book next → HasListsBeside t p.group next
+  pub closable-more : (i : ClusterImage) → book.staged ≡ false → AppendsImage i old new book next → HasListsBeside t p.group next
       → AreSizesNoted t p.group next → length (due_bytes book) ≤ p.limits.range → IsClosable new next t p
-  closable-more i appends beside sizes short = record {
+  closable-more i none appends beside sizes short = record {
     begin = ap (λ (b : BookData). b.begin) appends.gains.same ∙ is.begin;
-    noted = lists-noted t p next beside sizes
+    noted = lists-noted t p next (params-flat t p book is.noted none)
+        (ap (λ (b : BookData). b.staged) appends.gains.same ∙ none) beside sizes
         (subst (λ (ls : List NotedList). AllByRecursion (λ (l : NotedList). l.len ≤ p.limits.range) ls)
         (sym (ap (λ (b : BookData). b.lists) appends.gains.same))
         (all-with-due book (λ (l : NotedList). l.len ≤ p.limits.range) is.noted.short

@@ -22,9 +22,9 @@ use Rattle.nt_book.specs.Kept.{IsBookKept}
 use Rattle.nt_file_meaning.specs.Files.{HasDefect}
 use Rattle.nt_pagelists.specs.Blobs.{blob_len}
 use Rattle.nt_layout.specs.Headers.{header_object, clusters_place}
-use Rattle.nt_lists.specs.Parts.{part_bytes}
+use Rattle.nt_lists.specs.Parts.{AreBehind, part_bytes}
 use Rattle.nt_layout.specs.Beside.{HasListsBeside, parts_so_far}
-use Rattle.nt_layout.specs.Finished.{finished}
+use Rattle.nt_layout.specs.Finished.{middle, finished}
 use Rattle.nt_close.specs.declared.error.CloseError.{CloseError}
 use Rattle.nt_close.specs.declared.error.CloseError.TheVariants.{Spoiled, Torn, Unpublished, Memory, RangeTooLarge, FileTooLarge, Fault}
 use Rattle.nt_cuts.specs.Cuts.{WritesFirst, LeavesUnfinished, LeavesUnfinishedOr}
@@ -36,9 +36,9 @@ use Rattle.nt_close.specs.Steps.{closed_on, IsClosedSoFar, closed_partly, closed
 use Rattle.nt_close.specs.Filled.{closing_tail, closing_front}
 use Rattle.nt_close.proofs.Finishing.{closed-is}
 use Rattle.nt_close.proofs.FirstByte.{cut_shut, closes_in_order}
-use Rattle.nt_close.proofs.Within.{listed-beside, within}
+use Rattle.nt_close.proofs.Within.{within}
 use Rattle.nt_finished.proofs.Lengths.{clusters_told}
-use Rattle.nt_finished.proofs.Beside.{all_beside, by-number_beside, laid-beside, ranges-beside}
+use Rattle.nt_finished.proofs.Beside.{all_beside, by-number_beside, clusters-beside, laid-beside, ranges-beside}
 use Rattle.nt_finished.specs.LateFiles.{AreLateBlobs}
 use Rattle.nt_finished.proofs.LaidLate.{lens-late}
 use Rattle.nt_seq.specs.Closing.{IsFileOf, IsShutOrWhole}
@@ -48,6 +48,7 @@ use Rattle.nt_seq.specs.Writer.{SeqState}
 use Rattle.nt_seq.specs.Written.{HasWritten, file_so_far, IsUnclosedOf}
 use Rattle.nt_seq.proofs.AddedRows.{described-first}
 use Rattle.nt_seq.proofs.Files.{image-file, shut-unclosed, order-unclosed}
+use Rattle.nt_seq.proofs.Flat.{params-flat, listed-flat, lists-flat, filled-flat}
 
 -- ---- no range is spoiled
 
@@ -76,13 +77,16 @@ module _ {D : Type 0} (state : D → DiskState) (w : SeqState D) (is : IsWriting
     (reads : (h : Held) → (state w.disk).held ≡ Some h → Reads h.log h.image) (first : Held)
     (told : (state w.given).held ≡ Some first) where
   abbrev behind : List ℕ
-  behind = closing_tail w.table w.book w.params.group
+  behind = closing_tail w.params.staged w.table w.book w.params.group
 
   abbrev before : List ℕ
-  before = closing_front w.table w.book w.params.group
+  before = closing_front w.params.staged w.table w.book w.params.group
+
+  flat : w.params.staged ≡ false
+  flat = params-flat w.table w.params w.book is.closable.noted is.not_staged
 
   beside : HasListsBeside w.table w.params.group w.book
-  beside = listed-beside w.table w.params w.book is.closable.noted is.untorn
+  beside = listed-flat w.table w.params w.book is.closable.noted is.not_staged is.untorn
 
   abbrev h : Held
   h = file_so_far w.table is.blobs
@@ -100,13 +104,18 @@ module _ {D : Type 0} (state : D → DiskState) (w : SeqState D) (is : IsWriting
       (ranges-beside w.table w.params.group w.book kept beside)
 
   image-is : (clusters : List (List TreesData)) (has : HasWritten state w clusters)
-      → (closed_on behind before h).image ≡ finished false w.table w.book w.params.group has.ranges
+      → (closed_on behind before h).image ≡ finished w.params.staged w.table w.book w.params.group has.ranges
   image-is clusters has =
       let parts = part_bytes (parts_so_far w.table w.book w.params.group has.ranges) in
-      closed-is w.table w.book w.params.group has.ranges h
-      (record { kept = kept; beside = beside; begin = is.closable.begin; lens = lens clusters has })
+      closed-is w.params.staged w.table w.book w.params.group has.ranges h
+      (record {
+        kept = kept;
+        lists = lists-flat w.table w.params w.book flat beside;
+        begin = is.closable.begin;
+        lens = lens clusters has;
+      })
       (ap (λ (k : Held). k.image) (same_held (state w.disk).held h (file_so_far w.table parts) held (has.held first told))
-      ∙ image-file w.table parts)
+      ∙ (image-file w.table parts ∙ sym (filled-flat w.table w.params w.book has.ranges flat)))
 
   -- the finished file is that of the clusters
   pub whole : passed_by_close w.params w.table w.book ≡ None → IsFileOf state w (closed_on behind before h).image
@@ -121,16 +130,18 @@ module _ {D : Type 0} (state : D → DiskState) (w : SeqState D) (is : IsWriting
           begin = is.closable.begin;
           firsts = is.firsts;
           within = stays;
+          whole = clusters-beside w.params.staged w.table w.params.group w.book kept beside;
           ranges = has.ranges;
           lens = lens clusters has;
           blobs_are = subst (λ (l : List (List ℕ)). AreLateBlobs w.table w.params.page 0 clusters l (book_clusters w.book))
               (sym (by-number_beside w.table w.params.group w.book kept beside has.ranges (lens clusters has))) has.late;
-          behind = all_beside w.table w.params.group w.book kept beside has.ranges is.closable.begin (lens clusters has);
+          behind = subst (λ (b : Bool). AreBehind (clusters_place w.table) (middle b w.table w.book w.params.group has.ranges)) (sym flat)
+              (all_beside w.table w.params.group w.book kept beside has.ranges is.closable.begin (lens clusters has));
           is = image-is clusters has;
         };
         short = λ clusters has. is.short;
         first = λ fields rows clusters has.
-            laid-beside (closed_on behind before h).image w.table clusters (measures_of w.params) has.ranges w.book refl (record {
+            laid-beside (closed_on behind before h).image w.table clusters (measures_of w.params) has.ranges w.book flat (record {
               kept = kept;
               begin = is.closable.begin;
               firsts = is.firsts;

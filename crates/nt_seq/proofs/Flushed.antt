@@ -26,7 +26,6 @@ use Rattle.nt_layout.specs.Beside.{HasListsBeside, parts_so_far}
 use Rattle.nt_layout.specs.Laid.{Gives, IsBlobOfEntries, AreBlobsOf}
 use Rattle.nt_close.specs.Steps.{begun_on}
 use Rattle.nt_close.specs.Closing.{IsClosable}
-use Rattle.nt_close.proofs.Within.{listed-beside}
 use Rattle.nt_finished.specs.LateFiles.{IsLateBlob, AreLateBlobs}
 use Rattle.nt_fill.proofs.Entries.{entries_count}
 use Rattle.nt_fill.proofs.Images.{blob_of, image_for}
@@ -48,6 +47,7 @@ use Rattle.nt_seq.specs.Written.{file_so_far, HasClusters, IsUnclosedOf}
 use Rattle.nt_seq.proofs.Beside.{lists-sizes}
 use Rattle.nt_seq.proofs.Closable.{closable-more}
 use Rattle.nt_seq.proofs.Files.{unclosed-kept}
+use Rattle.nt_seq.proofs.Flat.{listed-flat}
 use Rattle.nt_seq.proofs.Blobs.{late-push, late-ranges, blobs-push, late-blob-now}
 
 module _ (given old new : DiskState) (t : Table) (p : Params) (book next : BookData) (columns : List Column) (entries : List TreesData)
@@ -155,8 +155,9 @@ module _ {D : Type 0} (state : D → DiskState) (w : SeqState D) (disk : D) (nex
   -- the file can be closed
   can-close : IsClosable new_disk next w.table w.params
   can-close =
-      let beside = listed-beside w.table w.params w.book is.closable.noted is.untorn in
-      closable-more old_disk new_disk w.table w.params w.book next is.closable i put_behind (next_to.beside w.table w.params.group beside)
+      let beside = listed-flat w.table w.params w.book is.closable.noted is.not_staged is.untorn in
+      closable-more old_disk new_disk w.table w.params w.book next is.closable i is.not_staged put_behind
+      (next_to.beside w.table w.params.group beside)
       (next_to.sizes w.table w.params.group beside (lists-sizes w.table w.params w.book is.closable.noted))
       (subst (λ (l : Limits). due ≤ l.range) is.limits both.1.0)
 

@@ -1,5 +1,6 @@
 pub mod Beside
 pub mod Closable
+pub mod Flat
 pub mod Blobs
 pub mod Grown
 pub mod Files

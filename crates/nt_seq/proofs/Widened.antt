@@ -33,7 +33,6 @@ use Rattle.nt_lists.specs.Parts.{Part, part_bytes}
 use Rattle.nt_layout.specs.Beside.{HasListsBeside, parts_so_far}
 use Rattle.nt_layout.specs.Headers.{header_object, clusters_place}
 use Rattle.nt_close.specs.Filled.{AreListsNoted}
-use Rattle.nt_close.proofs.Within.{listed-beside}
 use Rattle.nt_close.specs.Passing.{first_passed, passed_by_begin}
 use Rattle.nt_finished.specs.LateFiles.{AreLateBlobs}
 use Rattle.nt_finished.specs.LeftOut.{IsLeftOut, filled}
@@ -46,6 +45,7 @@ use Rattle.nt_seq.specs.Written.{file_so_far, HasClusters, HasWritten, zero_behi
 use Rattle.nt_seq.proofs.AddedRows.{header-kept, sum-kept, not_first, all-firsts, all-begun, some-more}
 use Rattle.nt_seq.proofs.Beside.{lists-noted, lists-sizes}
 use Rattle.nt_seq.proofs.Files.{file-kept}
+use Rattle.nt_seq.proofs.Flat.{params-flat, listed-flat}
 use Rattle.nt_seq.proofs.Grown.{late-grown}
 
 -- ---- how many entries a book can have
@@ -136,12 +136,13 @@ module _ {D : Type 0} (state : D → DiskState) (w : SeqState D) (next : BookDat
   none-gathered = ap (λ (n : ℕ). entries_given new columns n) none
 
   beside : HasListsBeside w.table w.params.group w.book
-  beside = listed-beside w.table w.params w.book is.closable.noted is.untorn
+  beside = listed-flat w.table w.params w.book is.closable.noted is.not_staged is.untorn
 
   noted-widened : AreListsNoted new w.params next
   noted-widened =
       let sum = sum-kept w.table field w.params.plain entries new added is.described in
-      lists-noted new w.params next (keeps.beside w.table w.params.group beside sum)
+      lists-noted new w.params next (params-flat w.table w.params w.book is.closable.noted is.not_staged)
+      (ap (λ (b : BookData). b.staged) next_is ∙ is.not_staged) (keeps.beside w.table w.params.group beside sum)
       (keeps.sizes w.table w.params.group beside sum (lists-sizes w.table w.params w.book is.closable.noted))
       (subst (λ (ls : List NotedList). AllByRecursion (λ (l : NotedList). l.len ≤ w.params.limits.range) ls)
       (sym (ap (λ (b : BookData). b.lists) next_is)) is.closable.noted.short)

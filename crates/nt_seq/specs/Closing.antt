@@ -54,8 +54,8 @@ module _ {D : Type 0} (state : D → DiskState) (w : SeqState D) where
   -- the steps of a close that were taken, and all of them after Ok
   abbrev pub EndsFile : D → Result (ℕ × ℕ) CloseError → Type 0
   EndsFile disk result =
-      LeavesClosed (closing_tail w.table w.book w.params.group) (closing_front w.table w.book w.params.group) (state w.disk) (state disk)
-      (done_of result)
+      LeavesClosed (closing_tail w.params.staged w.table w.book w.params.group)
+      (closing_front w.params.staged w.table w.book w.params.group) (state w.disk) (state disk) (done_of result)
 
   -- the file stands there whole, and the last step, which may have failed, was that of its first byte: no sync behind it was done
   pub record IsWholeUnsynced (left : Held) : Type 0 where

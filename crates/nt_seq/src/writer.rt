@@ -1,6 +1,6 @@
 //! A sequential writer.
 
-ghost use Rattle.std.specs.Prelude.{◌≡◌, ◌↔◌, [], true, length, IsTrue, IfOk, IfErr};
+ghost use Rattle.std.specs.Prelude.{◌≡◌, ◌↔◌, [], true, false, length, IsTrue, IfOk, IfErr};
 ghost use Rattle.nt_types.specs.Rules.{AreFields};
 ghost use Rattle.nt_types.specs.Views.{members_view};
 ghost use Rattle.nt_outside.specs.Held.{BecomesSome};
@@ -91,7 +91,7 @@ fn columns_for(alloc: Global, fields: &Fields, plain: bool) -> Result<ColumnSet,
 }
 
 impl<D: Disk> SeqWriter<D> {
-    /// Begins the file of these fields on an empty disk. Where that fails the disk comes back, with
+    /// Begins the file of these fields on an empty disk, whose clusters aren't staged. Where that fails the disk comes back, with
     /// what `begin` of nt_close leaves.
     pub fn new(
         alloc: Global,
@@ -101,6 +101,7 @@ impl<D: Disk> SeqWriter<D> {
     ) -> Result<SeqWriter<D>, (D, BeginError)>
         requires fields { AreFields (members_view fields.now) }
         requires blank { IsBlankDisk (D.state disk) }
+        requires unstaged { params.now.staged ≡ false }
         ensures ok { IfOk result (λ w. BeginsFile D.state (members_view fields.now) params.now disk w) }
         ensures err { IfErr result (λ e. IsNotBegun (members_view fields.now) params.now
             (D.state disk) (D.state e.0) e.1) }

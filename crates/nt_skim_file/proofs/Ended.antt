@@ -80,7 +80,7 @@ module _ {D : Type 0} (state : D → DiskState) (w : SeqState D) (F : List Membe
       within = subst (StandsWithin w.table w.params) has.keeps.metas (stands_within state w is kept);
     };
     over = subst (λ (ms : List ClusterMeta). IsOverEnd w.table w.params ms reached most) has.keeps.metas
-        (closed_over w.table w.params w.book is.not_staged kept is.closable.begin e reached most passed names);
+        (closed_over w.table w.params w.book is.closable.noted is.not_staged kept is.closable.begin e reached most passed names);
   })
 
   module _ (law : LateFilesMean) (shut : UnclosedAreShut) (is : IsWriting state w) (kept : IsBookKept w.book)

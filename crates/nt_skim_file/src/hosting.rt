@@ -1,6 +1,6 @@
 //! What is selected of a file of a host, written as another.
 
-ghost use Rattle.std.specs.Prelude.{◌≡◌, ◌<◌, length};
+ghost use Rattle.std.specs.Prelude.{◌≡◌, ◌<◌, false, length};
 ghost use Rattle.std.specs.Option.{option_map};
 ghost use Rattle.nt_skim.specs.Select.{selection_of};
 ghost use Rattle.nt_skim.specs.Tests.{test_view};
@@ -31,7 +31,8 @@ fn file_selection<H: Host>(
     file: &mut H::File,
     params: &Params,
 ) -> Result<Counts, SkimStoreError>
-    requires { IsFitPlan chosen.now }
+    requires fit { IsFitPlan chosen.now }
+    requires unstaged { params.now.staged ≡ false }
     ensures { FilesSelection out.now params.now (selection_of chosen.now.plan) chosen.now.reader
         (H.File.state file.old) (H.File.state file.new) (H.state host.old) (H.state host.new) result }
 {
@@ -54,7 +55,8 @@ fn skim_open<H: Host>(
     file: &mut H::File,
     params: &Params,
 ) -> Result<Counts, SkimStoreError>
-    requires { 0 < length choice.names.now }
+    requires some { 0 < length choice.names.now }
+    requires unstaged { params.now.staged ≡ false }
     ensures { SkimsOpen out.now (record { names = choice.entry.names.now; test = option_map (λ t. test_view t.now) choice.entry.test })
         params.now (H.File.state file.old) (H.File.state file.new) (H.state host.old) (H.state host.new) result }
 {
@@ -72,7 +74,8 @@ fn skim_named<H: Host>(
     choice: SkimChoice<'_>,
     params: &Params,
 ) -> Result<Counts, SkimStoreError>
-    requires { 0 < length choice.names.now }
+    requires some { 0 < length choice.names.now }
+    requires unstaged { params.now.staged ≡ false }
     ensures { SkimsNamed names.entry.out.now names.entry.file.now
         (record { names = choice.entry.names.now; test = option_map (λ t. test_view t.now) choice.entry.test })
         params.now (H.state host.old) (H.state host.new) result }
@@ -103,7 +106,8 @@ pub fn store_selected<H: Host>(
     choice: SkimChoice<'_>,
     params: &Params,
 ) -> Result<(), SkimStoreError>
-    requires { 0 < length choice.names.now }
+    requires some { 0 < length choice.names.now }
+    requires unstaged { params.now.staged ≡ false }
     ensures { StoresSelected names.entry.out.now names.entry.file.now
         (record { names = choice.entry.names.now; test = option_map (λ t. test_view t.now) choice.entry.test })
         params.now (H.state host.old) (H.state host.new) result }

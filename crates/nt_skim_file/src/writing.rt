@@ -1,6 +1,6 @@
 //! The file of what is selected, on a disk.
 
-ghost use Rattle.std.specs.Prelude.{◌≡◌, ◌≤◌, ℕ, List, [], true, length};
+ghost use Rattle.std.specs.Prelude.{◌≡◌, ◌≤◌, ℕ, List, [], true, false, length};
 ghost use Rattle.nt_types.specs.TreeData.{TreesData};
 ghost use Rattle.nt_seq.specs.Writer.{gathered_by};
 ghost use Rattle.nt_store.specs.Writing.{IsEmptyDisk};
@@ -130,6 +130,7 @@ pub(crate) fn write_selection<D: Disk, F: ReadAt>(
 ) -> (D, Result<Counts, SkimStoreError>)
     requires fit { IsFitPlan chosen.now }
     requires empty { IsEmptyDisk (D.state disk) }
+    requires unstaged { params.now.staged ≡ false }
     ensures { WritesSelection params.now (selection_of chosen.now.plan) chosen.now.reader
         (F.state file.old) (F.state file.new) (D.state disk) (D.state result.0) result.1 }
 {

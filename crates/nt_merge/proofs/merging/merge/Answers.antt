@@ -27,8 +27,8 @@ close_target-requires g c =
     let schema = c.in_ok-schema.ensures.bare in
     closable-copy t p old (g.D.Disk.state c.copy_files.new.disk) c.copy_files.new.target.book
     (c.in-Ok-copy_files.ensures.going t p old schema.copyable
-    (begun-merging t p old (g.D.Disk.state c.begin_target.new.disk) c.in-Ok.target.book c.in-Ok.target.columns c.in-Ok.ensures.begun
-    c.requires.blank c.args.plan.now schema))
+    (begun-merging t p old (g.D.Disk.state c.begin_target.new.disk) c.in-Ok.target.book c.in-Ok.target.columns c.requires.unstaged
+    c.in-Ok.ensures.begun c.requires.blank c.args.plan.now schema))
 
 pub returns-in-Ok-copy_files-clause-served : goal.returns-in-Ok-copy_files-clause-served
 returns-in-Ok-copy_files-clause-served g c =
@@ -45,12 +45,12 @@ returns-in-Ok-copy_files-clause-told g c = λ bytes tells outlines.
     let begun = g.D.Disk.state c.begin_target.new.disk in
     let ns = all_numbered 0 bytes c.args.plan.now in
     let schema = c.in_ok-schema.ensures.bare in
-    let merging = begun-merging t p old begun c.in-Ok.target.book c.in-Ok.target.columns c.in-Ok.ensures.begun c.requires.blank
-    c.args.plan.now schema in
+    let merging = begun-merging t p old begun c.in-Ok.target.book c.in-Ok.target.columns c.requires.unstaged c.in-Ok.ensures.begun
+    c.requires.blank c.args.plan.now schema in
     subst (λ (u : Table). MergesTold u p ns old (g.D.Disk.state c.close_target.new.disk) c.close_target.result) schema.is
     (c.close_target.ensures.told old (c.in-Ok-copy_files.ensures.going t p old schema.copyable merging) ns
     (c.in-Ok-copy_files.ensures.told t p old bytes tells schema.copyable merging
-    (merged-none t p old begun c.in-Ok.target.book c.in-Ok.ensures.begun.begun c.requires.blank.held ns)))
+    (merged-none t p old begun c.in-Ok.target.book c.requires.unstaged c.in-Ok.ensures.begun.begun c.requires.blank.held ns)))
 
 pub returns-clause-told : goal.returns-clause-told
 returns-clause-told g c = λ bytes tells outlines.
@@ -61,10 +61,10 @@ returns-clause-told g c = λ bytes tells outlines.
     let new = g.D.Disk.state c.copy_files.new.disk in
     let ns = all_numbered 0 bytes c.args.plan.now in
     let schema = c.in_ok-schema.ensures.bare in
-    let merging = begun-merging t p old begun c.in-Ok.target.book c.in-Ok.target.columns c.in-Ok.ensures.begun c.requires.blank
-    c.args.plan.now schema in
+    let merging = begun-merging t p old begun c.in-Ok.target.book c.in-Ok.target.columns c.requires.unstaged c.in-Ok.ensures.begun
+    c.requires.blank c.args.plan.now schema in
     let failed = c.in-Err-copy_files.ensures in
     subst (λ (u : Table). MergesTold u p ns old new (Err c.in-Err-copy_files.error)) schema.is
     (copies-refused t p old new c.copy_files.new.target.book ns c.in-Err-copy_files.error (failed.going t p old schema.copyable merging)
     (failed.told t p old bytes tells schema.copyable merging
-    (merged-none t p old begun c.in-Ok.target.book c.in-Ok.ensures.begun.begun c.requires.blank.held ns)))
+    (merged-none t p old begun c.in-Ok.target.book c.requires.unstaged c.in-Ok.ensures.begun.begun c.requires.blank.held ns)))

@@ -7,13 +7,13 @@ use Rattle.nt_merge_files.proofs.hosting.merge_named.Goals as goal
 abbrev names-of : List (Bor (List ℕ)) → List (List ℕ)
 names-of names = map (λ (name : Bor (List ℕ)). name.now) names
 
-pub merge_open-merged-requires : goal.merge_open-merged-requires
-merge_open-merged-requires g c =
+pub merge_open-merged-requires-clause-count : goal.merge_open-merged-requires-clause-count
+merge_open-merged-requires-clause-count g c =
     let names = c.args.names.files.now in
     let long = files-counted g.H.File.ReadAt.state (g.H.Host.state c.args.host.now).world (names-of names) c.in-Ok.files.items
     c.in-Ok.ensures.files in
     let all = length-map names (λ (name : Bor (List ℕ)). name.now) in
-    (omega (arith, long, all, c.requires.0), omega (arith, long, all, c.requires.1))
+    (omega (arith, long, all, c.requires.count.0), omega (arith, long, all, c.requires.count.1))
 
 pub returns-in-Ok : goal.returns-in-Ok
 returns-in-Ok g c =

@@ -5,7 +5,7 @@ use Rattle.nt_merge_files.proofs.hosting.merge_open.Goals as goal
 
 pub returns-in-Ok : goal.returns-in-Ok
 returns-in-Ok g c =
-    let some : 0 < length c.in-Ok.plan = omega (arith, c.in-Ok.ensures.all, c.requires.0) in
+    let some : 0 < length c.in-Ok.plan = omega (arith, c.in-Ok.ensures.all, c.requires.count.0) in
     opened-planned g.H.File.ReadAt.state c.copied_files_mean_their_sources.ensures c.copied_files_have_the_stored_pages.ensures
     c.bare_schemas_are_described.ensures.read c.bare_schemas_are_described.ensures.bare c.schemas_without_error_are_mergeable.ensures
     c.args.out.now c.args.params.now c.in-Ok.plan c.args.files.now.items c.plan.new.files.items c.merge_planned.new.files.items _ _

@@ -13,11 +13,11 @@ invariant_of-result g c =
     let book = c.in-Ok-begin.book in
     let state = g.D.Disk.state in
     let begun = c.in-Ok-begin.ensures.begun in
-    let held = held-begun fields p (state c.args.disk) (state c.begin.new.disk) book t begun c.requires.blank.held in
+    let held = held-begun fields p (state c.args.disk) (state c.begin.new.disk) book t c.requires.unstaged begun c.requires.blank.held in
     rw (c.of-given.ensures, c.of-begun.ensures) (record {
       unclosed = λ h told. (_, held h told, record { blobs = []; steps = inl refl });
-      writing = λ _. writing-begun state fields p c.args.disk c.begin.new.disk book t (columns_of c.in-Ok.columns) begun
-          c.requires.blank.held c.requires.blank.out
+      writing = λ _. writing-begun state fields p c.args.disk c.begin.new.disk book t (columns_of c.in-Ok.columns)
+          c.requires.unstaged begun c.requires.blank.held c.requires.blank.out
           (c.schemas_are_described.ensures fields p.plain t c.requires.fields begun.rows) (c.in-Ok.ensures t begun.rows);
     })
 
@@ -32,7 +32,8 @@ returns-in-Ok-begin-clause-ok g c =
     record {
       begun = begun;
       written = subst (λ d. HasClusters (state d) (state c.begin.new.disk) t p book []) (sym c.of-given.ensures)
-          (clusters-none fields p (state c.args.disk) (state c.begin.new.disk) book t begun c.requires.blank.held);
+          (clusters-none fields p (state c.args.disk) (state c.begin.new.disk) book t c.requires.unstaged begun
+          c.requires.blank.held);
       params = refl;
       given = c.of-given.ensures;
       first = c.of-begun.ensures;

@@ -7,7 +7,7 @@ use Rattle.nt_layout.specs.Laid.{Gives}
 use Rattle.nt_fill.proofs.Emptied.{emptied_gives}
 use Rattle.nt_fill.proofs.Entries.{entries_count}
 use Rattle.nt_seq.specs.Writer.{gathered_by}
-use Rattle.nt_close.proofs.Within.{listed-beside}
+use Rattle.nt_seq.proofs.Flat.{listed-flat}
 use Rattle.nt_seq.proofs.Flushed.{image-fits, image-gathered, meta-gathered, clusters-more, writing-more, unclosed-more}
 use Rattle.nt_seq.proofs.Refused.{writing-alive, after-error, clusters-kept, stays}
 use Rattle.nt_append.specs.Appending.{FailsOnDisk, GainsCluster, with_due_list}
@@ -158,7 +158,7 @@ returns g c =
         gains = subst (λ (m : ClusterMeta). GainsCluster m (with_due_list inside.book) c.append_next.new.book) meta appends.appends.gains;
         written = clusters-more (state inside.given.value) (state inside.disk) (state c.append_next.new.disk) inside.schema
             inside.params inside.book c.append_next.new.book (columns_of inside.columns) _ i was.gives made.bytes meta was.begun
-            appends (listed-beside inside.schema inside.params inside.book was.closable.noted was.untorn);
+            appends (listed-flat inside.schema inside.params inside.book was.closable.noted was.not_staged was.untorn);
         none = refl;
         later = appends.appends.later;
         now = ap (λ (a : Bool). record {
