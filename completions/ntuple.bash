@@ -4,7 +4,7 @@
 # The options of a command.
 _ntuple_options() {
     case $1 in
-        write) echo --cluster --page --group --plain --max-range --max-file --contexts ;;
+        write) echo --cluster --page --group --plain --max-range --max-file --staged --contexts ;;
         seq) echo --cluster --page --group --plain --max-range --max-file ;;
         skim) echo --cluster --page --group --plain --max-range --max-file --where --least --greatest ;;
         merge) echo --group --max-range --max-file ;;

@@ -29,6 +29,7 @@ complete -c ntuple -n '__ntuple_is write seq skim merge' -l group -x -d 'The mos
 complete -c ntuple -n '__ntuple_is write seq skim' -l plain -d 'Columns lie element by element'
 complete -c ntuple -n '__ntuple_is write seq skim merge' -l max-range -x -d 'The most bytes of a cluster or an envelope, 1024 to 1073741824'
 complete -c ntuple -n '__ntuple_is write seq skim merge' -l max-file -x -d 'The most bytes of the file, 1024 to 72057594037927936'
+complete -c ntuple -n '__ntuple_is write' -l staged -d 'The clusters of each input are published together, at its end'
 complete -c ntuple -n '__ntuple_is write' -l contexts -x -d 'How many contexts run at the same time, 1 to 64'
 
 complete -c ntuple -n '__ntuple_is skim' -l where -x -d 'The field whose number is tested'

@@ -55,7 +55,7 @@ pub record AnswersTexts (schema : List ℕ) (inputs : List (List ℕ)) (p : Para
       → IsFirstBad fields texts input line kind → FitsLimits fields texts p
       → (answer ≡ status.Text (Some input) line (fault.Line kind)) ⊎ (answer ≡ status.Memory)
 
--- the words were `write .. OUT SCHEMA IN..`
+-- the words were `write .. OUT SCHEMA IN..`; where `--staged` stands in them, and so in p, the clusters of each input stand together in OUT
 pub record RunsWrite (out schema : List ℕ) (inputs : List (List ℕ)) (p : Params) (old new : HostState) (answer : Status) : Type 0 where
   -- how it ended, which the answer tells
   pub stored : Result Unit StoreError

@@ -1,6 +1,6 @@
 //! The command `merge`: files in, one with the clusters of all of them out.
 
-ghost use Rattle.std.specs.Prelude.{◌≡◌, length};
+ghost use Rattle.std.specs.Prelude.{◌≡◌, false, length};
 ghost use Rattle.nt_book.specs.Ranges.{IsFromTo};
 ghost use Rattle.nt_command_line.specs.Commands.{names_of};
 ghost use Rattle.nt_app.specs.Merges.{place_of_merge, status_of_merge, MergeNamed};
@@ -42,7 +42,8 @@ fn status_of_merge(stored: Result<(), MergeStoreError>) -> Status
 
 /// The whole command `merge`.
 pub(crate) fn merge<H: Host>(alloc: Global, host: &mut H, words: &MergeWords<'_>) -> Status
-    requires { IsFromTo 1 64 (length (names_of words.now.files.items)) }
+    requires count { IsFromTo 1 64 (length (names_of words.now.files.items)) }
+    requires unstaged { words.now.params.staged ≡ false }
     ensures { MergeNamed words.now.out.now (names_of words.now.files.items) words.now.params
         (H.state host.old) (H.state host.new) result }
 {

@@ -130,7 +130,8 @@ pub fn run_alone<H: Host>(alloc: Global, words: &[String], host: &mut H) -> Opti
 /// Does what the words after the program's name say, over a host, and answers how that ended.
 ///
 /// Commands are `write` and `seq` with `[--cluster N] [--page P] [--group G] [--plain] [--max-range B] [--max-file B] OUT SCHEMA IN`,
-/// for `write` of 1 to 64 inputs and with `[--contexts K]`, where OUT is another name than those that are read, `gen C E SEED OUT`,
+/// for `write` of 1 to 64 inputs and with `[--staged] [--contexts K]`, where OUT is another name than those that are read,
+/// `gen C E SEED OUT`,
 /// `skim [--where NAME] [--least A] [--greatest B] OUT FILE NAME...` with the options of `seq`, where OUT is another name than FILE,
 /// `merge [--group G] [--max-range B] [--max-file B] OUT FILE...` of 1 to 64 files, where OUT is none of these names,
 /// `entries [--from A] [--count C] FILE`, `schema FILE` and `scan FILE`; clap reads the words after the first.

@@ -1,6 +1,6 @@
 //! The command `seq`: a schema text and a script in, one file out.
 
-ghost use Rattle.std.specs.Prelude.{◌≡◌};
+ghost use Rattle.std.specs.Prelude.{◌≡◌, false};
 ghost use Rattle.nt_app.specs.Seqs.{fault_of_line, status_of_script, SeqNamed};
 
 use crate::status::{Status, TextFault};
@@ -43,6 +43,7 @@ fn status_of_script(stored: Result<(), ScriptStoreError>) -> Status
 
 /// The whole command `seq`.
 pub(crate) fn seq<H: Host>(alloc: Global, host: &mut H, words: &SeqWords<'_>) -> Status
+    requires { words.now.params.staged ≡ false }
     ensures { SeqNamed words.now.out.now words.now.schema.now words.now.input.now words.now.params
         (H.state host.old) (H.state host.new) result }
 {

@@ -1,6 +1,6 @@
 //! The command `skim`: a file in, another with chosen fields of chosen entries out.
 
-ghost use Rattle.std.specs.Prelude.{◌≡◌, ◌≤◌, IfOk, length, option_map};
+ghost use Rattle.std.specs.Prelude.{◌≡◌, ◌≤◌, false, IfOk, length, option_map};
 ghost use Rattle.nt_skim.specs.Tests.{test_view};
 ghost use Rattle.nt_command_line.specs.Commands.{names_of};
 ghost use Rattle.nt_command_line.specs.SkimWords.{said_test};
@@ -94,7 +94,8 @@ fn choice_of(alloc: Global, words: &SkimWords<'_>) -> Result<Choice, AllocError>
 
 /// The whole command `skim`.
 pub(crate) fn skim<H: Host>(alloc: Global, host: &mut H, words: &SkimWords<'_>) -> Status
-    requires { 1 ≤ length (names_of words.now.names.items) }
+    requires some { 1 ≤ length (names_of words.now.names.items) }
+    requires unstaged { words.now.params.staged ≡ false }
     ensures { SkimNamed words.now.out.now words.now.file.now
         (choice_said (names_of words.now.names.items) (option_map said_test words.now.test)) words.now.params
         (H.state host.old) (H.state host.new) result }

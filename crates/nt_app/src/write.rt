@@ -53,7 +53,6 @@ where
     G: Gate + Sync,
     requires inputs { IsFromTo 1 64 (length (names_of words.now.inputs.items)) }
     requires contexts { (0 < words.now.contexts) × (words.now.contexts ≤ 64) }
-    requires unstaged { words.now.params.staged ≡ false }
     ensures { WritesNamed words.now.out.now words.now.schema.now (names_of words.now.inputs.items) words.now.params
         (H.state host.old) (H.state host.new) result }
 {

@@ -1,12 +1,12 @@
 -- Words say at most one command.
-use Rattle.std.proofs.Common.{◌≡◌, ◌∙◌, ap, sym, subst, ℕ, ◌≤◌, ◌^◌, Bool, List, Option, Some}
+use Rattle.std.proofs.Common.{◌≡◌, ◌∙◌, ap, sym, subst, ℕ, ◌≤◌, ◌^◌, Bool, false, List, Option, Some, codes}
 use Rattle.std.specs.Coded.{×_prop, le_prop}
 use Rattle.nt_book.specs.declared.limits.Limits.{Limits}
 use Rattle.nt_book.specs.declared.params.Params.{Params}
 use Rattle.nt_book.specs.Ranges.{IsFromTo}
 use Rattle.nt_draws.specs.Making.{max_events, max_seed, AreContexts}
 use Rattle.nt_draws.specs.declared.making.Making.{Making}
-use Rattle.nt_command_line.specs.CommandLine.{IsEntries, IsSchemaCommand, IsScan}
+use Rattle.nt_command_line.specs.CommandLine.{is_flag_found, IsEntries, IsSchemaCommand, IsScan}
 use Rattle.clap.specs.Words.{App}
 use Rattle.nt_command_line.specs.Options.{AreLimitsSaid, AreParamsSaid}
 use Rattle.nt_command_line.specs.WriteWords.{write_app, IsWrite}
@@ -76,8 +76,8 @@ limits_said : (a : App) (words : List (List ℕ)) (l m : Limits) → AreLimitsSa
 limits_said a words l m one other =
     same_limits l m (one.range ∙ sym other.range) (one.file ∙ sym other.file) (one.clusters ∙ sym other.clusters)
 
-same_params : (a : App) (words : List (List ℕ)) (p q : Params) → AreParamsSaid a words p → AreParamsSaid a words q → p ≡ q
-same_params a words p q one other =
+same_params : (a : App) (words : List (List ℕ)) (b : Bool) (p q : Params) → AreParamsSaid a words b p → AreParamsSaid a words b q → p ≡ q
+same_params a words b p q one other =
     params_are p q (one.cluster ∙ sym other.cluster) (one.page ∙ sym other.page) (one.group ∙ sym other.group) (one.plain ∙ sym other.plain)
     (one.staged ∙ sym other.staged) (limits_said a words p.limits q.limits one.limits other.limits)
 
@@ -93,7 +93,7 @@ same_write P words o s o' s' is is' p p' one other holds =
     let out : o ≡ o' = some_is o o' (sym one.names.out_is ∙ other.names.out_is) in
     let schema : s ≡ s' = some_is s s' (sym one.names.schema_is ∙ other.names.schema_is) in
     let inputs : is ≡ is' = one.names.inputs_are ∙ sym other.names.inputs_are in
-    let params : p ≡ p' = same_params write_app words p p' one.params other.params in
+    let params : p ≡ p' = same_params write_app words (is_flag_found write_app words (codes "staged")) p p' one.params other.params in
     subst (λ (l : List ℕ). P l s' is' p') out (subst (λ (l : List ℕ). P o l is' p') schema
     (subst (λ (l : List (List ℕ)). P o s l p') inputs (subst (P o s is) params holds)))
 
@@ -104,7 +104,7 @@ same_seq P words o s i o' s' i' p p' one other holds =
     let out : o ≡ o' = some_is o o' (sym one.names.out_is ∙ other.names.out_is) in
     let schema : s ≡ s' = some_is s s' (sym one.names.schema_is ∙ other.names.schema_is) in
     let input : i ≡ i' = some_is i i' (sym one.names.input_is ∙ other.names.input_is) in
-    let params : p ≡ p' = same_params seq_app words p p' one.params other.params in
+    let params : p ≡ p' = same_params seq_app words false p p' one.params other.params in
     subst (λ (l : List ℕ). P l s' i' p') out (subst (λ (l : List ℕ). P o l i' p') schema
     (subst (λ (l : List ℕ). P o s l p') input (subst (P o s i) params holds)))
 
@@ -117,7 +117,7 @@ same_skim P words o f o' f' ns ns' t t' p p' one other holds =
     let file : f ≡ f' = some_is f f' (sym one.names_are.file_is ∙ other.names_are.file_is) in
     let names : ns ≡ ns' = one.names_are.names_are ∙ sym other.names_are.names_are in
     let test : t ≡ t' = same_test _ _ _ t t' one.test_is other.test_is in
-    let params : p ≡ p' = same_params skim_app words p p' one.params other.params in
+    let params : p ≡ p' = same_params skim_app words false p p' one.params other.params in
     subst (λ (l : List ℕ). P l f' ns' t' p') out (subst (λ (l : List ℕ). P o l ns' t' p') file
     (subst (λ (l : List (List ℕ)). P o f l t' p') names (subst (λ (u : Option SaidTest). P o f ns u p') test
     (subst (P o f ns t) params holds))))

@@ -1,5 +1,5 @@
 -- The options of a command that writes a file: how it is written.
-use Rattle.std.specs.Prelude.{◌≡◌, ℕ, ◌-◌, ◌^◌, false, List, [], ◌∷◌, codes, unwrap_or}
+use Rattle.std.specs.Prelude.{◌≡◌, ℕ, ◌-◌, ◌^◌, Bool, List, [], ◌∷◌, codes, unwrap_or}
 use Rattle.clap.specs.Words.{App, Rule}
 use Rattle.nt_book.specs.declared.limits.Limits.{Limits}
 use Rattle.nt_book.specs.declared.params.Params.{Params}
@@ -26,12 +26,12 @@ pub record AreLimitsSaid (a : App) (words : List (List ℕ)) (l : Limits) : Type
   pub file : l.file ≡ number_or a words (codes "max-file") (2 ^ 40)
   pub clusters : l.clusters ≡ 2 ^ 32 - 1
 
--- how the file is written: 10000 entries a cluster, 4096 elements a page, 1000 clusters a group, where the words don't say it; no cluster
--- is staged
-pub record AreParamsSaid (a : App) (words : List (List ℕ)) (p : Params) : Type 0 where
+-- how the file is written: 10000 entries a cluster, 4096 elements a page, 1000 clusters a group, where the words don't say it; clusters are
+-- staged where the command has them staged
+pub record AreParamsSaid (a : App) (words : List (List ℕ)) (stages : Bool) (p : Params) : Type 0 where
   pub cluster : p.cluster ≡ number_or a words (codes "cluster") 10000
   pub page : p.page ≡ number_or a words (codes "page") 4096
   pub group : p.group ≡ number_or a words (codes "group") 1000
   pub plain : p.plain ≡ is_flag_found a words (codes "plain")
-  pub staged : p.staged ≡ false
+  pub staged : p.staged ≡ stages
   pub limits : AreLimitsSaid a words p.limits

@@ -19,12 +19,12 @@ pub record NamesOfSeq (words : List (List ℕ)) (out schema input : List ℕ) : 
   pub schema_is : word_found seq_app words (codes "SCHEMA") ≡ Some schema
   pub input_is : word_found seq_app words (codes "IN") ≡ Some input
 
--- `seq ..`, as clap reads it, where OUT isn't the name of a text that is read
+-- `seq ..`, as clap reads it, where OUT isn't the name of a text that is read; no cluster is staged
 pub record IsSeq (words : List (List ℕ)) (out schema input : List ℕ) (p : Params) : Type 0 where
   pub begins : Begins words (codes "seq")
   pub taken : IsTaken seq_app words
   pub names : NamesOfSeq words out schema input
-  pub params : AreParamsSaid seq_app words p
+  pub params : AreParamsSaid seq_app words false p
   pub apart : is_among out (schema ∷ input ∷ []) ≡ false
 
 -- OUT has the name of a text that is read

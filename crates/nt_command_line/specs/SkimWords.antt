@@ -75,13 +75,13 @@ pub record CanBeSkimmed (out file : List ℕ) (names : List (List ℕ)) : Type 0
   pub some : 1 ≤ length names
   pub apart : is_among out (file ∷ []) ≡ false
 
--- `skim ..`, as clap reads it
+-- `skim ..`, as clap reads it; no cluster is staged
 pub record IsSkim (words : List (List ℕ)) (out file : List ℕ) (names : List (List ℕ)) (test : Option SaidTest) (p : Params) : Type 0 where
   pub begins : Begins words (codes "skim")
   pub taken : IsTaken skim_app words
   pub names_are : NamesOfSkim words out file names
   pub test_is : IsTestOfSkim words test
-  pub params : AreParamsSaid skim_app words p
+  pub params : AreParamsSaid skim_app words false p
   pub can : CanBeSkimmed out file names
 
 -- no field is named, or OUT is the file that is read

@@ -2,13 +2,15 @@
 use Rattle.std.specs.Prelude.{◌≡◌, ◌⊎◌, ℕ, ◌≤◌, false, List, [], ◌∷◌, ◌++◌, codes, length, Some, unwrap_or}
 use Rattle.clap.specs.Words.{App, Rule}
 use Rattle.nt_book.specs.declared.params.Params.{Params}
-use Rattle.nt_command_line.specs.CommandLine.{operand, operands, number_option, app, Begins, IsTaken, word_found, words_found, is_among}
+use Rattle.nt_command_line.specs.CommandLine.{operand, operands, number_option, flag, app, Begins, IsTaken, word_found, words_found}
+use Rattle.nt_command_line.specs.CommandLine.{is_flag_found, is_among}
 use Rattle.nt_command_line.specs.Options.{options, number_or, AreParamsSaid}
 
--- `[--contexts K] OUT SCHEMA IN...` behind them
+-- `[--staged] [--contexts K] OUT SCHEMA IN...` behind them
 abbrev pub write_rules : List Rule
 write_rules =
-    options ++ number_option (codes "contexts") 1 64 ∷ operand (codes "OUT") ∷ operand (codes "SCHEMA") ∷ operands (codes "IN") ∷ []
+    options ++ flag (codes "staged") ∷ number_option (codes "contexts") 1 64 ∷ operand (codes "OUT") ∷ operand (codes "SCHEMA")
+    ∷ operands (codes "IN") ∷ []
 
 -- `write`
 unfoldable pub write_app : App
@@ -19,6 +21,10 @@ pub record NamesOfWrite (words : List (List ℕ)) (out schema : List ℕ) (input
   pub out_is : word_found write_app words (codes "OUT") ≡ Some out
   pub schema_is : word_found write_app words (codes "SCHEMA") ≡ Some schema
   pub inputs_are : inputs ≡ unwrap_or (words_found write_app words (codes "IN")) []
+
+-- how the file is written, as clap reads it: clusters are staged exactly where `--staged` stands in the words
+abbrev pub AreWriteParams : List (List ℕ) → Params → Type 0
+AreWriteParams words p = AreParamsSaid write_app words (is_flag_found write_app words (codes "staged")) p
 
 -- there are 1 to 64 inputs, and OUT isn't the name of a text that is read
 pub record AreApart (out schema : List ℕ) (inputs : List (List ℕ)) : Type 0 where
@@ -31,7 +37,7 @@ pub record IsWrite (words : List (List ℕ)) (out schema : List ℕ) (inputs : L
   pub begins : Begins words (codes "write")
   pub taken : IsTaken write_app words
   pub names : NamesOfWrite words out schema inputs
-  pub params : AreParamsSaid write_app words p
+  pub params : AreWriteParams words p
   pub apart : AreApart out schema inputs
 
 -- so many contexts run beside each other at most: as many as there are inputs, where the words don't say it

@@ -11,7 +11,8 @@
 //! only where the first word is no command, clap refuses the others for another cause than memory, `write` or `merge` has no or too
 //! many inputs, the OUT of `write`, `seq`, `skim` or `merge` has the name of what is read, or a bound of `skim` isn't the decimal of a
 //! number that a field may have or stands without the name of a field. The numbers of `gen` lie in their ranges (`Making` of
-//! nt_draws), and so does the number of contexts that run beside each other (`AreContextsSaid` in `specs/WriteWords.antt`).
+//! nt_draws), and so does the number of contexts that run beside each other (`AreContextsSaid` in `specs/WriteWords.antt`). Clusters
+//! are staged exactly where `write` has `--staged` (`AreWriteParams`), and never by another command.
 //!
 //! A choice that binds nobody else: that there are no inputs, and no names of fields, is looked at once more, though clap refuses that
 //! by itself.

@@ -38,16 +38,17 @@ pub(crate) fn limits_in(matches: &ArgMatches<'_>) -> Limits
     }
 }
 
-/// The parameters that were found, or those that hold where none were.
-pub(crate) fn params_in(matches: &ArgMatches<'_>) -> Params
+/// The parameters that were found, or those that hold where none were; clusters are staged where the command says so.
+pub(crate) fn params_in(matches: &ArgMatches<'_>, staged: bool) -> Params
     requires { HasNumbers matches.now }
-    ensures { (a : App) (words : List (List ℕ)) → rows_of (found_of matches.now) ≡ matches_found a words → AreParamsSaid a words result }
+    ensures { (a : App) (words : List (List ℕ)) → rows_of (found_of matches.now) ≡ matches_found a words
+        → AreParamsSaid a words staged result }
 {
     let cluster = number_in(matches, "cluster").unwrap_or(10_000) as u32;
     let page = number_in(matches, "page").unwrap_or(4096) as u32;
     let group = number_in(matches, "group").unwrap_or(1000) as u32;
     let plain = flag_in(matches, "plain");
-    match Params::new(cluster, page, group, plain, false, limits_in(matches)) {
+    match Params::new(cluster, page, group, plain, staged, limits_in(matches)) {
         Some(params) => params,
         None => unreachable!(),
     }

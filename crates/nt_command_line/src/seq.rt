@@ -51,6 +51,6 @@ pub(crate) fn seq_of<'a>(
         out,
         schema,
         input,
-        params: params_in(&matches),
+        params: params_in(&matches, false),
     })))
 }

@@ -168,6 +168,6 @@ pub(crate) fn skim_of<'a>(
         file,
         names,
         test,
-        params: params_in(&matches),
+        params: params_in(&matches, false),
     })))
 }

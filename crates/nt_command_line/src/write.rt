@@ -3,12 +3,13 @@
 ghost use Rattle.std.specs.Prelude.{◌≡◌, ◌≤◌, List, ℕ, codes, IfOk, MatchBool};
 ghost use Rattle.clap.specs.Words.{found_of, rows_of, matches_of as matches_found};
 ghost use Rattle.nt_command_line.specs.CommandLine.{texts, Begins};
-ghost use Rattle.nt_command_line.specs.WriteWords.{write_app, write_rules, AreApart, AreContextsSaid};
+ghost use Rattle.nt_command_line.specs.WriteWords.{write_app, write_rules, AreApart, AreWriteParams, AreContextsSaid};
 ghost use Rattle.nt_command_line.specs.Commands.{names_of, SaysParallel};
-ghost use Rattle.nt_command_line.specs.Arguments.{IsCommandOf, HasNumber};
+ghost use Rattle.nt_command_line.specs.Arguments.{IsCommandOf, HasNumber, HasNumbers};
 
 use crate::arguments::{
-    is_among, matches_of, name_in, names_in, number_in, number_option, operand, operands,
+    flag, flag_in, is_among, matches_of, name_in, names_in, number_in, number_option, operand,
+    operands,
 };
 use crate::command::Parallel;
 use crate::options::{params_in, with_options};
@@ -31,11 +32,12 @@ pub struct WriteWords<'a> {
     pub contexts: u32,
 }
 
-/// `write`, its options, and `[--contexts K] OUT SCHEMA IN...`.
+/// `write`, its options, and `[--staged] [--contexts K] OUT SCHEMA IN...`.
 fn write_command<'a>(alloc: Global) -> Result<clap::Command<'a>, AllocError>
     ensures { IfOk result (IsCommandOf (codes "write") write_rules) }
 {
-    let command = with_options(alloc, "write")?.arg(number_option(alloc, "contexts", 1, 64))?;
+    let command = with_options(alloc, "write")?.arg(flag(alloc, "staged"))?;
+    let command = command.arg(number_option(alloc, "contexts", 1, 64))?;
     let command = command.arg(operand(alloc, "OUT"))?;
     let command = command.arg(operand(alloc, "SCHEMA"))?;
     command.arg(operands(alloc, "IN"))
@@ -53,6 +55,14 @@ fn are_apart(out: &str, schema: &str, inputs: &[&str]) -> bool
         return false;
     }
     !is_among(out, inputs)
+}
+
+/// How the file is written: clusters are staged exactly where the words say so.
+fn write_params(matches: &ArgMatches<'_>) -> Params
+    requires { HasNumbers matches.now }
+    ensures { (words : List (List ℕ)) → rows_of (found_of matches.now) ≡ matches_found write_app words → AreWriteParams words result }
+{
+    params_in(matches, flag_in(matches, "staged"))
 }
 
 /// How many contexts run beside each other at most: the number that was found, or that of the inputs where none was.
@@ -87,7 +97,7 @@ pub(crate) fn write_of<'a>(
         out,
         schema,
         inputs,
-        params: params_in(&matches),
+        params: write_params(&matches),
         contexts,
     })))
 }

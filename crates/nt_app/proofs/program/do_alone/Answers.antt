@@ -4,7 +4,7 @@ use Rattle.nt_command_line.specs.declared.command.Alone.{Alone}
 use Rattle.nt_command_line.specs.CommandLine.{texts}
 use Rattle.nt_command_line.specs.Commands.{names_of, SaysAlone}
 use Rattle.nt_command_line.specs.SkimWords.{said_test}
-use Rattle.nt_command_line.specs.declared.command.Alone.TheVariants.{Skim, Merge}
+use Rattle.nt_command_line.specs.declared.command.Alone.TheVariants.{Seq, Skim, Merge}
 use Rattle.nt_app.specs.Shows.{ShowsNamed}
 use Rattle.nt_app.proofs.Running.{no_memory, wrong_words}
 use Rattle.nt_app.proofs.Obeying.{scripted_words, skimmed_words, merged_words, listed_words, outlined_words}
@@ -16,6 +16,13 @@ returns-in_default g c = no_memory _ _
 pub returns-in_default-command : goal.returns-in_default-command
 returns-in_default-command g c = wrong_words _ _ (subst (SaysAlone (texts c.args.words.now)) c.in_default-command.is c.in-Ok.ensures)
 
+pub seq-requires : goal.seq-requires
+seq-requires g c =
+    let is = c.in-Some.is ∙ ap (λ (a : Alone). Some a) c.in-Seq.is in
+    let says : SaysAlone (texts c.args.words.now) (Some (Seq c.in-Seq.said)) =
+    subst (SaysAlone (texts c.args.words.now)) is c.in-Ok.ensures in
+    says.params.staged
+
 pub returns-in-Seq : goal.returns-in-Seq
 returns-in-Seq g c =
     let said = c.in-Seq.said in
@@ -23,12 +30,19 @@ returns-in-Seq g c =
     scripted_words _ said.out.now said.schema.now said.input.now said.params _ _ _
     (subst (SaysAlone (texts c.args.words.now)) is c.in-Ok.ensures) c.seq.ensures
 
-pub skim-requires : goal.skim-requires
-skim-requires g c =
+pub skim-requires-clause-some : goal.skim-requires-clause-some
+skim-requires-clause-some g c =
     let is = c.in-Some.is ∙ ap (λ (a : Alone). Some a) c.in-Skim.is in
     let says : SaysAlone (texts c.args.words.now) (Some (Skim c.in-Skim.said)) =
     subst (SaysAlone (texts c.args.words.now)) is c.in-Ok.ensures in
     says.can.some
+
+pub skim-requires-clause-unstaged : goal.skim-requires-clause-unstaged
+skim-requires-clause-unstaged g c =
+    let is = c.in-Some.is ∙ ap (λ (a : Alone). Some a) c.in-Skim.is in
+    let says : SaysAlone (texts c.args.words.now) (Some (Skim c.in-Skim.said)) =
+    subst (SaysAlone (texts c.args.words.now)) is c.in-Ok.ensures in
+    says.params.staged
 
 pub returns-in-Skim : goal.returns-in-Skim
 returns-in-Skim g c =
@@ -37,12 +51,19 @@ returns-in-Skim g c =
     skimmed_words _ said.out.now said.file.now (names_of said.names.items) (option_map said_test said.test) said.params _ _ _
     (subst (SaysAlone (texts c.args.words.now)) is c.in-Ok.ensures) c.skim.ensures
 
-pub merge-requires : goal.merge-requires
-merge-requires g c =
+pub merge-requires-clause-count : goal.merge-requires-clause-count
+merge-requires-clause-count g c =
     let is = c.in-Some.is ∙ ap (λ (a : Alone). Some a) c.in-Merge.is in
     let says : SaysAlone (texts c.args.words.now) (Some (Merge c.in-Merge.said)) =
     subst (SaysAlone (texts c.args.words.now)) is c.in-Ok.ensures in
     (says.can.some, says.can.few)
+
+pub merge-requires-clause-unstaged : goal.merge-requires-clause-unstaged
+merge-requires-clause-unstaged g c =
+    let is = c.in-Some.is ∙ ap (λ (a : Alone). Some a) c.in-Merge.is in
+    let says : SaysAlone (texts c.args.words.now) (Some (Merge c.in-Merge.said)) =
+    subst (SaysAlone (texts c.args.words.now)) is c.in-Ok.ensures in
+    says.params.staged
 
 pub returns-in-Merge : goal.returns-in-Merge
 returns-in-Merge g c =

@@ -28,13 +28,6 @@ write-requires-clause-contexts g c κs within =
     let some = says.1.some in
     (omega (arith, some), says.1.few)
 
-pub write-requires-clause-unstaged : goal.write-requires-clause-unstaged
-write-requires-clause-unstaged g c κs within =
-    let is = c.in-Some.is ∙ ap (λ (a : Parallel). Some a) c.in-Write.is in
-    let says : SaysParallel (texts c.args.words.now) (Some (Write c.in-Write.said)) =
-    subst (SaysParallel (texts c.args.words.now)) is c.in-Ok.ensures in
-    says.0.params.staged
-
 pub returns-in-Write : goal.returns-in-Write
 returns-in-Write g c =
     let said = c.in-Write.said in

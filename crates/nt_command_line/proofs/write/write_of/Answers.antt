@@ -2,7 +2,7 @@ use Rattle.std.proofs.Common.{◌≡◌, ◌∙◌, ap, subst, codes, refl, inl,
 use Rattle.std.proofs.lemmas.List.{length-map}
 use Rattle.std.specs.Borrow.{Bor}
 use Rattle.clap.specs.Words.{app_of, IsParsedFrom}
-use Rattle.nt_command_line.specs.CommandLine.{texts, operand, operands, number_option}
+use Rattle.nt_command_line.specs.CommandLine.{texts, operand, operands, number_option, flag}
 use Rattle.nt_command_line.specs.WriteWords.{write_app, write_rules, AreApart, IsWrite, AreContextsSaid}
 use Rattle.nt_command_line.specs.Commands.{names_of}
 use Rattle.nt_command_line.proofs.Found.{own_by, operand_there}
@@ -19,20 +19,21 @@ returns-in_default c =
 
 pub name_in-out-requires : goal.name_in-out-requires
 name_in-out-requires c =
-    operand_there (codes "write") write_rules c.in_ok-write_command.field-0 c.in-Some.matches 7 (codes "OUT")
+    operand_there (codes "write") write_rules c.in_ok-write_command.field-0 c.in-Some.matches 8 (codes "OUT")
     (own_by (codes "OUT") refl refl refl) c.in_ok-write_command.ensures refl refl
     (held (IsParsedFrom c.in_ok-write_command.field-0) _ c.in-Some.matches c.in-Some.is c.in_ok-matches.ensures.parsed)
 
 pub name_in-schema-requires : goal.name_in-schema-requires
 name_in-schema-requires c =
-    operand_there (codes "write") write_rules c.in_ok-write_command.field-0 c.in-Some.matches 8 (codes "SCHEMA")
+    operand_there (codes "write") write_rules c.in_ok-write_command.field-0 c.in-Some.matches 9 (codes "SCHEMA")
     (own_by (codes "SCHEMA") refl refl refl) c.in_ok-write_command.ensures refl refl
     (held (IsParsedFrom c.in_ok-write_command.field-0) _ c.in-Some.matches c.in-Some.is c.in_ok-matches.ensures.parsed)
 
-pub params_in-requires : goal.params_in-requires
-params_in-requires c =
+pub write_params-requires : goal.write_params-requires
+write_params-requires c =
     numbers_there (codes "write")
-    (number_option (codes "contexts") 1 64 ∷ operand (codes "OUT") ∷ operand (codes "SCHEMA") ∷ operands (codes "IN") ∷ [])
+    (flag (codes "staged") ∷ number_option (codes "contexts") 1 64 ∷ operand (codes "OUT") ∷ operand (codes "SCHEMA")
+    ∷ operands (codes "IN") ∷ [])
     c.in_ok-write_command.field-0 c.in-Some.matches c.in_ok-write_command.ensures
     (record { cluster = refl; page = refl; group = refl; range = refl; file = refl })
     (held (IsParsedFrom c.in_ok-write_command.field-0) _ c.in-Some.matches c.in-Some.is c.in_ok-matches.ensures.parsed)
@@ -44,7 +45,7 @@ contexts_in-contexts-requires c =
     let count = ap (λ (l : List (Bor (List ℕ))). length (names_of l)) items in
     let same = length-map c.in_ok-inputs.inputs.items (λ (name : Bor (List ℕ)). name.now) in
     record {
-      number = number_there (codes "write") write_rules c.in_ok-write_command.field-0 c.in-Some.matches 6 1 64 (codes "contexts")
+      number = number_there (codes "write") write_rules c.in_ok-write_command.field-0 c.in-Some.matches 7 1 64 (codes "contexts")
           (own_by (codes "contexts") refl refl refl) c.in_ok-write_command.ensures refl refl
           (held (IsParsedFrom c.in_ok-write_command.field-0) _ c.in-Some.matches c.in-Some.is c.in_ok-matches.ensures.parsed);
       inputs = (
@@ -75,12 +76,12 @@ returns c =
     (c.in_ok-write_command.ensures.app_is ∙ write_is) c.in-Some.is c.in_ok-matches.ensures.reads in
     let items : c.deref.result.now ≡ c.in_ok-inputs.inputs.items = search rules in
     let said : IsWrite words c.name_in-out.result.now c.name_in-schema.result.now (names_of c.in_ok-inputs.inputs.items)
-    c.params_in.result = record {
+    c.write_params.result = record {
       begins = c.requires;
       taken = read.0;
       names = names_by words c.in-Some.matches c.name_in-out.result.now c.name_in-schema.result.now
           (names_of c.in_ok-inputs.inputs.items) read.1 c.name_in-out.ensures c.name_in-schema.ensures c.in_ok-inputs.ensures;
-      params = c.params_in.ensures write_app words read.1;
+      params = c.write_params.ensures words read.1;
       apart = subst (λ (l : List (Bor (List ℕ))). AreApart c.name_in-out.result.now c.name_in-schema.result.now (names_of l)) items
           c.if-not-are_apart.ensures;
     } in
