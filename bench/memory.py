@@ -15,6 +15,7 @@ TEXTS = {
 RUNS = [
     ["write", "OUT", "one", "one-in"],
     ["write", "--cluster", "1", "OUT", "one", "one-in", "two-in"],
+    ["write", "--staged", "--cluster", "1", "--group", "1", "OUT", "one", "one-in", "two-in"],
     ["write", "OUT", "choice", "choice-in"],
     ["write", "OUT", "maybe", "maybe-in"],
     ["seq", "OUT", "start", "script"],

@@ -1,9 +1,9 @@
 // What plain C++ takes for the work of the program: it reads lines of events into columns, writes them as the same file, byte for byte,
 // and prints the entries or the totals of such a file. For comparison only; see program.sh.
-//   program write [--plain] [--cluster N] [--page P] [--group G] [--order LINE] OUT SCHEMA IN...
+//   program write [--plain] [--staged] [--cluster N] [--page P] [--group G] [--order LINE] OUT SCHEMA IN...
 //   program entries FILE
 //   program scan [--threads T] FILE
-// Each input has a thread, and `scan` four or as many as is said. LINE is an order line of the program, in which the clusters are then written too. Texts are taken to be UTF-8,
+// Each input has a thread, and `scan` four or as many as is said. LINE is an order line of the program, in which the clusters are then written too, each behind the one before it. Texts are taken to be UTF-8,
 // files to be of the program, and whatever is wrong ends it. For little-endian machines.
 #include <algorithm>
 #include <sstream>
@@ -23,8 +23,8 @@ int main(int count, char** words) {
     bool plain = false;
     while (!rest.empty() && rest[0][0] == '-') {
         const string option = rest[0];
-        if (option == "--plain") {
-            plain = true;
+        if (option == "--plain" || option == "--staged") {
+            (option == "--plain" ? plain : w.staged) = true;
             rest.erase(rest.begin());
             continue;
         }

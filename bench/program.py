@@ -75,23 +75,24 @@ class Bench:
             if not is_same(f"{self.folder}/{name}.out", self.input("shapes")):
                 self.fail(f"each shape, {' '.join(options)}: the entries of {name} aren't the events")
 
-    def measure(self, case, schema, inputs):
-        """Writes the inputs and prints the entries by both, and compares; the seconds of the program for each, or None."""
+    def measure(self, case, schema, inputs, options=()):
+        """Writes the inputs, with these options, and prints the entries by both, and compares; the seconds of the program for each, or None.
+        The ranges of staged clusters stand in an order that is not printed, so of these only the entries are compared."""
         paths, files = [self.input(name) for name in inputs], {name: f"{self.folder}/{name}.root" for name in self.programs}
         size = sum(os.path.getsize(path) for path in paths)
         events = sum(open(path, "rb").read().count(b"\n") for path in paths)
-        written = self.rate(lambda name: ["write", files[name], self.input(schema), *paths])
+        written = self.rate(lambda name: ["write", *options, files[name], self.input(schema), *paths])
         if written is None:
             return None
         # the last round's order was not kept, so the file is written once more, and the C++ follows what is printed then
-        self.run([self.programs["ours"], "write", files["ours"], self.input(schema), *paths], f"{self.folder}/ours.out")
+        self.run([self.programs["ours"], "write", *options, files["ours"], self.input(schema), *paths], f"{self.folder}/ours.out")
         with open(f"{self.folder}/ours.out") as out:
             order = out.read().strip()
-        self.run([self.programs["plain"], "write", "--order", order, files["plain"], self.input(schema), *paths], os.devnull)
-        if not is_same(files["ours"], files["plain"]):
+        self.run([self.programs["plain"], "write", *options, "--order", order, files["plain"], self.input(schema), *paths], os.devnull)
+        if not options and not is_same(files["ours"], files["plain"]):
             self.fail(f"{case}: the files differ")
         self.show("write " + case, events, size, written)
-        printed = self.rate(lambda name: ["entries", files["ours"]])
+        printed = self.rate(lambda name: ["entries", files["plain" if options and name == "plain" else "ours"]])
         if printed is None:
             return None
         if not is_same(f"{self.folder}/ours.out", f"{self.folder}/plain.out"):
@@ -125,10 +126,12 @@ def main():
     for sizes in ([], ["--cluster", "7", "--page", "3", "--group", "2"], ["--cluster", "1", "--page", "1", "--group", "1"]):
         bench.compare(sizes)
         bench.compare(["--plain", *sizes])
+        bench.compare(["--staged", *sizes])
     print(TITLES)
     for count in (1, 2, 4, 8):
         bench.measure(f"of {count} small", "small.schema", [f"small-{i}" for i in range(count)])
     bench.total("of 8 small", [f"small-{i}" for i in range(8)])
+    bench.measure("of 8 small, staged", "small.schema", [f"small-{i}" for i in range(8)], ["--staged"])
     bench.measure("of 1 wide", "wide.schema", ["wide"])
     bench.total("of 1 wide", ["wide"])
     each = {many: bench.measure(f"of {many} events", "small.schema", [f"many-{many}"]) for many in (10000, 100000, 1000000)}

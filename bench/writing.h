@@ -138,6 +138,7 @@ struct Cluster {
 struct Writer {
     Schema schema;
     int fd = -1;
+    bool staged = false;  // all page lists stand behind all clusters
     uint64_t cluster = 10000, page = 4096, group = 1000, end = 0;
     vector<size_t> order, done;
     vector<Cluster> clusters;
@@ -157,11 +158,11 @@ static void put_at(int fd, const string& bytes, size_t from, uint64_t at) {
     }
 }
 
-// The blob of the page list of the clusters that have none yet, which stands at the end so far.
+// The blob of the page list of the next group of clusters that have none yet, which stands at the end so far.
 static Bytes take_list(Writer& w) {
     Bytes b, all, row;
     const uint64_t first_entry = w.entry;
-    const size_t from = w.listed, to = w.listed = w.clusters.size();
+    const size_t from = w.listed, to = w.listed = std::min(w.clusters.size(), from + size_t(w.group));
     b.low(w.header_sum);
     size_t list = b.list(to - from);
     for (size_t k = from; k < to; k++) {
@@ -206,7 +207,7 @@ static void commit(Writer& w, size_t context, Cluster& cluster, Bytes& image) {
         std::unique_lock<std::mutex> held(w.lock);
         if (!w.order.empty()) w.changed.wait(held, [&] { return w.order.at(w.clusters.size()) == context; });
         list_at = w.end;
-        if (w.clusters.size() - w.listed == w.group) list = take_list(w);
+        if (!w.staged && w.clusters.size() - w.listed == w.group) list = take_list(w);
         cluster.start = w.end;
         w.end += image.size();
         w.clusters.push_back(cluster);
@@ -266,12 +267,12 @@ static Bytes front_of(uint64_t end, uint64_t free, uint64_t keys) {
     return b;
 }
 
-// The page list that is left, footer, anchor, and the lists of keys and of free pieces; then file header and directory, and at last the
+// The page lists that are left, footer, anchor, and the lists of keys and of free pieces; then file header and directory, and at last the
 // first byte.
 static void close_file(Writer& w, const Bytes& header) {
     const uint64_t start = w.end;
     Bytes tail, groups;
-    if (w.clusters.size() > w.listed) tail = take_list(w);
+    while (w.clusters.size() > w.listed) tail += take_list(w);
     size_t list = groups.list(w.groups.size());
     for (const string& row : w.groups) groups += row;
     groups.end_list(list);

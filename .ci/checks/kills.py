@@ -1,8 +1,9 @@
-"""Kills `write` of eight inputs and `merge` of their eight files at many moments, by SIGKILL, and ends with 1 where what it leaves is
-neither unfinished nor whole.
+"""Kills `write` of eight inputs, also with `--staged`, and `merge` of their eight files at many moments, by SIGKILL, and ends with 1 where
+what it leaves is neither unfinished nor whole.
 
 Every second time OUT is a finished file of an earlier run. What is left must be that file as it was, no file where there was none, a
-file that `entries` refuses as unfinished, or the whole file: its lines are the chunks of the inputs, each input's in their order.
+file that `entries` refuses as unfinished, or the whole file: its lines are the chunks of the inputs, each input's in their order, and
+together with `--staged`.
 A kill leaves to the system all that was written, so it shows nothing of what the disk keeps when power fails.
 """
 import collections
@@ -14,9 +15,9 @@ import sys
 import tempfile
 import time
 
-from runs import Amiss, LONG_SCHEMA, bytes_of, call, drawn_lines, order_among, save
+from runs import Amiss, LONG_SCHEMA, bytes_of, call, drawn_lines, is_grouped, order_among, save
 
-KILLS = {"write": 80, "merge": 40}
+KILLS = {"write": 60, "write --staged": 30, "merge": 40}
 UNFINISHED = "ntuple: file: 1 Unfinished at 0\n"
 OUT = "killed.root"
 
@@ -34,7 +35,7 @@ def make_inputs(program):
 def words_of(program, command):
     if command == "merge":
         return [program, "merge", OUT, *[f"part-{context}.root" for context in range(8)]]
-    return [program, "write", OUT, "schema", *[f"in-{context}" for context in range(8)]]
+    return [program, *command.split(), OUT, "schema", *[f"in-{context}" for context in range(8)]]
 
 
 def put_before(before):
@@ -54,7 +55,7 @@ def kill_at(words, wait):
     return run.wait() == -signal.SIGKILL
 
 
-def stage_of(program, before, chunks):
+def stage_of(program, command, before, chunks):
     """What a killed run left, by name."""
     if not os.path.exists(OUT):
         return "not created"
@@ -68,7 +69,9 @@ def stage_of(program, before, chunks):
         return "empty" if not left else "begun"
     if read.returncode != 0 or read.stderr:
         raise Amiss(f"a file that looks finished: status {read.returncode}, err {read.stderr!r}")
-    order_among(read.stdout.splitlines(keepends=True), chunks)
+    order = order_among(read.stdout.splitlines(keepends=True), chunks)
+    if "--staged" in command and not is_grouped(order):
+        raise Amiss(f"the chunks of an input don't stand together: {order}")
     return "whole"
 
 
@@ -84,7 +87,7 @@ def kill_runs(program, command, chunks):
         before = whole if number % 2 else None
         put_before(before)
         was_at_work = kill_at(words, sorted(took)[1] * (number + draws.random()) * 1.1 / KILLS[command])
-        stage = stage_of(program, before, chunks)
+        stage = stage_of(program, command, before, chunks)
         if not was_at_work and stage not in ("whole", "not created, or whole again"):
             raise Amiss(f"a run that ended by itself left a file that is {stage}")
         stages[stage if was_at_work else "ended before the kill"] += 1

@@ -1,9 +1,9 @@
 """Holds examples/reader against the built program, and ends with 1 where one line is another.
 
 - The examples: `entries` prints what the reader prints as a command, with and without the checksums of pages.
-- FILES drawn files, of types of all kinds inside one another: by `write` of up to five inputs, or by `seq` with fields that are added
-  late; with clusters, pages and groups of any size, split or plain; or by `merge` of some files of the same fields. What the reader
-  reads is what `entries` prints, and both are what was drawn: the chunks of the inputs in the order that `write` prints, with the zeros
+- FILES drawn files, of types of all kinds inside one another: by `write` of up to five inputs, staged or not, or by `seq` with fields
+  that are added late; with clusters, pages and groups of any size, split or plain; or by `merge` of some files of the same fields. What the
+  reader reads is what `entries` prints, and both are what was drawn: the chunks of the inputs in the order that `write` prints, with the zeros
   of the late fields, and the entries of merged files one file behind the other.
 - Of each drawn file a byte of a page is changed: both refuse it.
 """
@@ -117,7 +117,8 @@ def written(program, draws):
     texts = [lines_of(fields, draws.choice((0, 1, 4, 9, 25))) for _ in range(draws.randint(1, 5))]
     for number, text in enumerate(texts):
         save(f"in-{number}", "".join(text))
-    order = order_of(call(program, "write", *options, "out.root", "schema", *(f"in-{number}" for number in range(len(texts)))))
+    staged = ["--staged"] * (len(texts) % 2)
+    order = order_of(call(program, "write", *options, *staged, "out.root", "schema", *(f"in-{number}" for number in range(len(texts)))))
     return dealt(order, [[text[at:at + cluster] for at in range(0, len(text), cluster)] for text in texts])
 
 
@@ -145,7 +146,7 @@ def merged(program, draws):
     for number, text in enumerate(texts):
         save("in", "".join(text))
         options = [word for word in options_of(draws)[0] if word != "--plain"]
-        call(program, "write", *options, *coding, f"part-{number}.root", "schema", "in")
+        call(program, "write", *options, *coding, *["--staged"] * (number % 2), f"part-{number}.root", "schema", "in")
     chosen = [draws.randrange(len(texts)) for _ in range(draws.randint(1, 6))]
     group = str(draws.choice((1, 2, 3, 1000)))
     told = call(program, "merge", "--group", group, "out.root", *(f"part-{number}.root" for number in chosen))

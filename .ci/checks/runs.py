@@ -2,6 +2,7 @@
 
 - RUNS times eight small inputs are written, in clusters, pages and groups of other sizes each time, and printed again. The order line deals
   out the chunks of each input, whole, once and in their order, and the lines that are printed are just these chunks.
+- So are 1, 2, 8 and 64 inputs with `--staged`, STAGED times in all; in the order line the chunks of each input stand together.
 - An input of 100000 events is written with the defaults, listed, and printed again; what is printed is written again as the same file.
 - An input of 100000 events with optional values, one in three of them null, is written and printed again, and so is what is printed.
 - Eight inputs of 100000 drawn events each are written with the defaults: ten clusters of each, dealt out in the order that is told.
@@ -17,6 +18,7 @@ import tempfile
 import time
 
 RUNS = 200
+STAGED = {1: 3, 2: 15, 8: 40, 64: 6}
 SCHEMA = "context u8\nnumber i32\nnames vec<string>\nhit var<u8,vec<u16>>\n"
 LENGTHS = [40, 1, 17, 0, 23, 6, 31, 12]
 LONG_SCHEMA = "run u32\nids vec<u32>\ntag string\n"
@@ -72,15 +74,22 @@ def order_of(printed):
     return [int(word) for word in words[1:]]
 
 
-def small_run(program, run, texts):
+def is_grouped(order):
+    """Whether the chunks of each context stand together."""
+    return sum(k == 0 or order[k - 1] != context for k, context in enumerate(order)) == len(set(order))
+
+
+def small_run(program, run, texts, staged=()):
     """Writes the inputs in one way and prints them again; the order."""
     cluster = 1 + run % 7
-    options = ["--cluster", str(cluster), "--page", str(1 + run % 5), "--group", str(1 + run % 3)] + ["--plain"] * (run % 4 == 3)
+    options = ["--cluster", str(cluster), "--page", str(1 + run % 5), "--group", str(1 + run % 3), *staged] + ["--plain"] * (run % 4 == 3)
     inputs = [f"small-{context}" for context in range(len(texts))]
     order = order_of(call(program, "write", *options, "small.root", "small.schema", *inputs))
     chunks = [[text[at:at + cluster] for at in range(0, len(text), cluster)] for text in texts]
     if call(program, "entries", "small.root") != dealt(order, chunks):
         raise Amiss(f"run {run}: the entries aren't the chunks in the order {order}")
+    if staged and not is_grouped(order):
+        raise Amiss(f"run {run}: the chunks of an input don't stand together: {order}")
     return order
 
 
@@ -90,6 +99,17 @@ def small_runs(program):
     for context, text in enumerate(texts):
         save(f"small-{context}", "".join(text))
     orders = {(run % 7, tuple(small_run(program, run, texts))) for run in range(RUNS)}
+    return len(orders)
+
+
+def staged_runs(program):
+    """Writes inputs whose clusters are staged; how many orders they published in."""
+    texts = [small_lines(context, LENGTHS[context % 8]) for context in range(max(STAGED))]
+    save("small.schema", SCHEMA)
+    for context, text in enumerate(texts):
+        save(f"small-{context}", "".join(text))
+    orders = {tuple(dict.fromkeys(small_run(program, run, texts[:count], ["--staged"])))
+              for count, runs in STAGED.items() for run in range(runs)}
     return len(orders)
 
 
@@ -225,6 +245,7 @@ def main():
         os.chdir(folder)
         try:
             orders = small_runs(program)
+            staged = staged_runs(program)
             long_run(program)
             optional_run(program)
             eight_long(program)
@@ -235,7 +256,7 @@ def main():
             return 1
         finally:
             os.chdir("/")
-    print(f"runs: {RUNS} of eight inputs in {orders} orders, a long one, one of optional values, eight long ones, 64 that are merged, and what the generator makes in {made} orders, in {time.monotonic() - begun:.1f} seconds")
+    print(f"runs: {RUNS} of eight inputs in {orders} orders, {sum(STAGED.values())} staged in {staged} orders, a long one, one of optional values, eight long ones, 64 that are merged, and what the generator makes in {made} orders, in {time.monotonic() - begun:.1f} seconds")
     return 0
 
 

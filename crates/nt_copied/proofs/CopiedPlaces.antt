@@ -8,7 +8,7 @@ use Rattle.nt_grammar.specs.Table.{Table}
 use Rattle.nt_grammar.specs.ReadingBack.{IsDescribed}
 use Rattle.nt_machine.specs.History.{Cluster, ranges_of}
 use Rattle.nt_book.specs.declared.meta.ClusterMeta.{ClusterMeta}
-use Rattle.nt_book.specs.Books.{BookData, IsUngrouped, book_clusters, cluster_at, no_cluster, first_entry}
+use Rattle.nt_book.specs.Books.{BookData, IsUngrouped, book_ranges, book_clusters, cluster_at, no_cluster, first_entry}
 use Rattle.nt_pagelists.specs.declared.cluster.ClusterList.{ClusterList}
 use Rattle.nt_lists.specs.Parts.{Part, AreBehind}
 use Rattle.nt_layout.specs.Headers.{clusters_place}
@@ -18,8 +18,8 @@ use Rattle.nt_layout.specs.Laid.{Measures, AreMeasures, IsWithin, IsBookOf, rang
 use Rattle.nt_finished.specs.Listed.{IsListOf, AreListsOf}
 use Rattle.nt_finished.proofs.Standing.{StandsThere}
 use Rattle.nt_finished.proofs.Lengths.{clusters_told}
-use Rattle.nt_finished.proofs.Staged.{all_behind}
-use Rattle.nt_finished.proofs.Beside.{all_beside, ranges-beside, by-number_beside}
+use Rattle.nt_finished.proofs.Staged.{all_behind, all-clusters}
+use Rattle.nt_finished.proofs.Beside.{all_beside, ranges-beside, by-number_beside, clusters-beside}
 use Rattle.nt_finished.proofs.Headers.{ranges-stand}
 use Rattle.nt_finished.proofs.Outlines.{ranged-outlined}
 use Rattle.nt_copied.specs.Stored.{StoredPage}
@@ -41,6 +41,7 @@ copied-beside file t sources clusters m ranges book staged of beside within are 
       book = book;
       is_of = of;
       within = within;
+      whole = clusters-beside m.staged t m.group book of.kept beside;
       ranges = ranges;
       lens = lens;
       copies =
@@ -53,13 +54,15 @@ copied-beside file t sources clusters m ranges book staged of beside within are 
 
 pub copied-behind : (file : List ℕ) (t : Table) (sources : List Source) (clusters : List (List TreesData)) (m : Measures)
     (ranges : List (List ℕ)) (book : BookData) → m.staged ≡ true → IsBookOf t book → IsUngrouped book → IsWithin t m book
+    → length (book_clusters book) ≡ length (book_ranges book)
     → map length ranges ≡ map (λ (c : Cluster ClusterMeta). c.len) (ranges_of book.history)
     → AreCopies t sources clusters (map (range_of ranges) (book_clusters book)) (book_clusters book)
     → file ≡ finished m.staged t book m.group ranges → IsCopied file t sources clusters m
-copied-behind file t sources clusters m ranges book staged of bare within lens are is = record {
+copied-behind file t sources clusters m ranges book staged of bare within same lens are is = record {
   book = book;
   is_of = of;
   within = within;
+  whole = all-clusters m.staged book staged same;
   ranges = ranges;
   lens = lens;
   copies = are;

@@ -23,7 +23,7 @@ use Rattle.nt_pagelists.specs.Blobs.{blob}
 use Rattle.nt_lists.specs.Parts.{AreBehind}
 use Rattle.nt_layout.specs.Headers.{clusters_place}
 use Rattle.nt_layout.specs.Finished.{middle, finished}
-use Rattle.nt_layout.specs.Laid.{Measures, IsWithin, IsBookOf, range_of}
+use Rattle.nt_layout.specs.Laid.{Measures, IsWithin, IsBookOf, RangesAreClusters, range_of}
 use Rattle.nt_copied.specs.Stored.{StoredPage, stored_payload, stored_meta}
 
 -- the pages that have elements: of an empty page nothing is stored, and none can say that a checksum follows
@@ -100,6 +100,7 @@ pub record IsCopied (file : List ℕ) (t : Table) (sources : List Source) (clust
   pub book : BookData
   pub is_of : IsBookOf t book
   pub within : IsWithin t m book
+  pub whole : RangesAreClusters m.staged book
   -- by the number of the range, as they were reserved
   pub ranges : List (List ℕ)
   pub lens : map length ranges ≡ map (λ (c : Cluster ClusterMeta). c.len) (ranges_of book.history)

@@ -14,7 +14,7 @@ ghost use Rattle.nt_layout.specs.Beside.{HasListsBeside};
 ghost use Rattle.nt_layout.specs.Finished.{finished};
 ghost use Rattle.nt_machine.specs.History.{Cluster, ranges_of};
 ghost use Rattle.nt_book.specs.declared.meta.ClusterMeta.{ClusterMeta};
-ghost use Rattle.nt_book.specs.Books.{BookData, IsUngrouped, book_clusters};
+ghost use Rattle.nt_book.specs.Books.{BookData, IsUngrouped, book_ranges, book_clusters};
 ghost use Rattle.nt_plans.specs.Types.{are_some, AllHaveTypes};
 ghost use Rattle.nt_plans.specs.Place.{open_plans};
 ghost use Rattle.nt_book.specs.Pages.{IsPaged};
@@ -31,7 +31,7 @@ pub fn copied_files_mean_their_sources()
 
 /// A finished file of a kept book whose ranges are copies of sources, in the order of its clusters,
 /// is made of these copies: with page lists beside its clusters, or behind all of them; then ranges
-/// go by their numbers, and some may be no clusters.
+/// go by their numbers, and each is a cluster.
 pub fn finished_files_are_made_of_copies()
     ensures beside { (file : List ℕ) (t : Table) (sources : List Source) (clusters : List (List TreesData)) (m : Measures)
         (ranges : List (List ℕ)) (book : BookData)
@@ -41,6 +41,7 @@ pub fn finished_files_are_made_of_copies()
     ensures behind { (file : List ℕ) (t : Table) (sources : List Source) (clusters : List (List TreesData)) (m : Measures)
         (ranges : List (List ℕ)) (book : BookData)
         → m.staged ≡ true → IsBookOf t book → IsUngrouped book → IsWithin t m book
+        → length (book_clusters book) ≡ length (book_ranges book)
         → map length ranges ≡ map (λ (c : Cluster ClusterMeta). c.len) (ranges_of book.history)
         → AreCopies t sources clusters (map (range_of ranges) (book_clusters book)) (book_clusters book)
         → file ≡ finished m.staged t book m.group ranges → IsCopied file t sources clusters m }

@@ -31,7 +31,9 @@ pub fn store(
     files: &[Named],
     params: &Params,
     told: &mut Vec<u8>,
-) -> Result<Ran, AllocError> {
+) -> Result<Ran, AllocError>
+    requires { params.now.staged ≡ false }
+{
     let mut host = host_of(alloc, files, Fails::Nothing, 0)?;
     let names = ScriptNames {
         out: "o",

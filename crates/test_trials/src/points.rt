@@ -1,24 +1,34 @@
-//! The gate of each run: it keeps what it is told, and may let contexts commit in an order.
+//! The gate of each run: it keeps what it is told, and may let contexts commit in one order, and publish in another.
 
 use nt_outside::{Gate, Point};
 use std::sync::atomic::{AtomicU64, Ordering};
 
-/// A gate that lets contexts commit in this order, if it has any: each waits, for a number of looks, until the clusters before its own
-/// have been settled. It keeps a digit for each call: 1 to 5 for the points of context 0, and 9 for those of others.
+/// A gate that lets contexts commit or stage in this order, if it has any: each waits, for a number of looks, until the clusters before its
+/// own have been settled. So it lets them publish, each once those before it have published. It keeps a digit for each call: 1 to 5 for the
+/// points of context 0, and 9 for those of others.
 #[derive(Drop)]
 pub struct Points<'a> {
     order: &'a [u32],
+    publishing: &'a [u32],
     looks: u64,
     settled: AtomicU64,
+    published: AtomicU64,
     told: AtomicU64,
 }
 
 impl<'a> Points<'a> {
+    /// A gate that lets contexts publish as they come.
     pub fn new(order: &'a [u32], looks: u64) -> Self {
+        Points::with_publishing(order, &[], looks)
+    }
+
+    pub fn with_publishing(order: &'a [u32], publishing: &'a [u32], looks: u64) -> Self {
         Points {
             order,
+            publishing,
             looks,
             settled: AtomicU64::new(0),
+            published: AtomicU64::new(0),
             told: AtomicU64::new(0),
         }
     }
@@ -34,14 +44,14 @@ impl<'a> Points<'a> {
         self.told.store(told, Ordering::SeqCst);
     }
 
-    /// Waits until the next cluster is this context's.
-    fn wait_for(&self, context: u32) {
-        if self.order.is_empty() {
+    /// Waits until the turn in an order is this context's, of which so many turns are over.
+    fn wait_for(&self, order: &[u32], over: &AtomicU64, context: u32) {
+        if order.is_empty() {
             return;
         }
         for _ in 0..self.looks {
-            let settled = self.settled.load(Ordering::SeqCst);
-            if self.order.get(settled as usize).copied() == Some(context) {
+            let over = over.load(Ordering::SeqCst);
+            if order.get(over as usize).copied() == Some(context) {
                 return;
             }
         }
@@ -59,11 +69,15 @@ impl<'a> Gate for Points<'a> {
         };
         self.keep(if context == 0 { digit } else { 9 });
         match point {
-            Point::BeforeCommit => self.wait_for(context),
+            Point::BeforeCommit => self.wait_for(self.order, &self.settled, context),
             Point::Settled => {
                 self.settled.fetch_add(1, Ordering::SeqCst);
             }
-            Point::Filling | Point::BeforePublish | Point::Published => {}
+            Point::BeforePublish => self.wait_for(self.publishing, &self.published, context),
+            Point::Published => {
+                self.published.fetch_add(1, Ordering::SeqCst);
+            }
+            Point::Filling => {}
         }
     }
 }

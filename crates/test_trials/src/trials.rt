@@ -29,8 +29,9 @@ pub struct Trials {
     files: Vec<Named>,
     /// The words of the runs that follow.
     words: Vec<String>,
-    /// The order in which contexts commit, if there is any, and how often each looks for its turn.
+    /// The orders in which contexts commit and publish, if there are any, and how often each looks for its turn.
     order: Vec<u32>,
+    publishing: Vec<u32>,
     looks: u64,
     /// The most bytes that texts give at a time, or 0.
     most: usize,
@@ -48,6 +49,7 @@ impl Trials {
             files: Vec::new(alloc),
             words: Vec::new(alloc),
             order: Vec::new(alloc),
+            publishing: Vec::new(alloc),
             looks: 0,
             most: 0,
             wholes: Vec::new(alloc),

@@ -64,7 +64,7 @@ impl Trials {
 
     /// A run of the words over a host.
     fn run_over<R: Threads + Wait + Sync>(&self, rt: &R, host: MemHost) -> Result<Ran, AllocError> {
-        let gate = Points::new(&self.order, self.looks);
+        let gate = Points::with_publishing(&self.order, &self.publishing, self.looks);
         run_on(rt, self.alloc, host, &self.words, &gate)
     }
 

@@ -34,6 +34,15 @@ pub fn bytes_of(alloc: Global, texts: &[Named], words: &[&str]) -> Result<Vec<u8
     Ok(bytes)
 }
 
+/// Makes a list that of the numbers that words are.
+fn put_numbers(words: &[&str], numbers: &mut Vec<u32>) -> Result<(), AllocError> {
+    numbers.clear();
+    for word in words {
+        numbers.push(short_of(word))?;
+    }
+    Ok(())
+}
+
 impl Trials {
     /// `let NAME PART..` names bytes. Told is how many there are.
     pub fn name(&mut self, rest: &[&str], told: &mut Vec<u8>) -> Result<(), AllocError> {
@@ -52,7 +61,7 @@ impl Trials {
     /// Sets something, unless the command is none of these: `clear` takes all files away, `file NAME PART..` puts one there,
     /// `bend NAME PLACE PART..` puts bytes over those of one, `seal NAME PLACE LEN` puts the checksum of an envelope over its last
     /// bytes, and `take NAME NEW` takes a file that the last run left; `words WORD..` are those of runs; `order NUMBER..` lets
-    /// contexts commit so, and `soon NUMBER..` unless that takes too long;
+    /// contexts commit or stage so, and `soon NUMBER..` unless that takes too long; `publish NUMBER..` lets them publish so;
     /// `step MOST` lets texts give at most so many bytes at a time.
     pub fn set(&mut self, command: &str, rest: &[&str]) -> Result<bool, AllocError> {
         match command {
@@ -60,6 +69,7 @@ impl Trials {
                 self.files.clear();
                 self.wholes.clear();
                 self.order.clear();
+                self.publishing.clear();
                 self.most = 0;
             }
             "step" => self.most = number_of(rest.first().copied().unwrap_or("")) as usize,
@@ -68,8 +78,18 @@ impl Trials {
             "seal" => self.seal(rest)?,
             "take" => self.take(rest)?,
             "words" => self.set_words(rest)?,
-            "order" => self.set_order(rest, LONG)?,
-            "soon" => self.set_order(rest, SHORT)?,
+            "order" => {
+                self.looks = LONG;
+                put_numbers(rest, &mut self.order)?;
+            }
+            "soon" => {
+                self.looks = SHORT;
+                put_numbers(rest, &mut self.order)?;
+            }
+            "publish" => {
+                self.looks = LONG;
+                put_numbers(rest, &mut self.publishing)?;
+            }
             _ => return Ok(false),
         }
         Ok(true)
@@ -129,15 +149,6 @@ impl Trials {
             if let Ok(text) = String::from_utf8(bytes) {
                 self.words.push(text)?;
             }
-        }
-        Ok(())
-    }
-
-    fn set_order(&mut self, rest: &[&str], looks: u64) -> Result<(), AllocError> {
-        self.looks = looks;
-        self.order.clear();
-        for word in rest {
-            self.order.push(short_of(word))?;
         }
         Ok(())
     }
