@@ -17,7 +17,7 @@ import time
 
 from runs import Amiss, LONG_SCHEMA, bytes_of, call, drawn_lines, is_grouped, order_among, save
 
-KILLS = {"write": 60, "write --staged": 30, "merge": 40}
+KILLS = {"write": 80, "write --staged": 30, "merge": 40}
 UNFINISHED = "ntuple: file: 1 Unfinished at 0\n"
 OUT = "killed.root"
 
