@@ -117,7 +117,7 @@ def written(program, draws):
     texts = [lines_of(fields, draws.choice((0, 1, 4, 9, 25))) for _ in range(draws.randint(1, 5))]
     for number, text in enumerate(texts):
         save(f"in-{number}", "".join(text))
-    staged = ["--staged"] * (len(texts) % 2)
+    staged = ["--staged"] * draws.randrange(2)
     order = order_of(call(program, "write", *options, *staged, "out.root", "schema", *(f"in-{number}" for number in range(len(texts)))))
     return dealt(order, [[text[at:at + cluster] for at in range(0, len(text), cluster)] for text in texts])
 
