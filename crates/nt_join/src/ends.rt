@@ -1,8 +1,8 @@
 //! Sweeps over a column.
 
-ghost use Rattle.std.specs.Prelude.{◌≡◌, map, option_map};
+ghost use Rattle.std.specs.Prelude.{◌≡◌, ◌<◌, ℕ, map, option_map, length, true, IsTrue};
 ghost use Rattle.nt_column.specs.Elements.{plain};
-ghost use Rattle.nt_trees.specs.Faults.{rising, free, column_fault};
+ghost use Rattle.nt_trees.specs.Faults.{rising, free, is_met, column_fault};
 ghost use Rattle.nt_join.specs.Spots.{spot_of};
 ghost use Rattle.nt_join.specs.Sweeps.{IsFirstUnmet};
 
@@ -10,10 +10,27 @@ use crate::fault::{ValueFault, first_in};
 use crate::reading::{all_words, number};
 use nt_column::{Columns, WordSlice};
 
+/// Whether none of these ends is below the one before, and none is 2^63 or more. No end is branched on, so that LLVM looks at several
+/// at once.
+fn are_rising(ends: &[u64]) -> bool
+    ensures { IsTrue result → (i : ℕ) → i < length ends.now → is_met rising (map plain ends.now) i ≡ true }
+{
+    let mut seen: u64 = 0;
+    let mut last: u64 = 0;
+    for end in ends {
+        seen |= *end | end.wrapping_sub(last);
+        last = *end;
+    }
+    seen < 1 << 63
+}
+
 /// The first of these ends that is below the one before, or their number.
 fn first_fall_in(ends: &[u64]) -> usize
     ensures { IsFirstUnmet rising (map plain ends.now) result }
 {
+    if are_rising(ends) {
+        return ends.len();
+    }
     let mut last: u64 = 0;
     for i in 0..ends.len() {
         let end = ends[i];
