@@ -6,4 +6,4 @@ use Rattle.nt_xxh3.specs.Long.{folded}
 use Rattle.nt_xxh3.proofs.long.Lanes.finish.Given as goal
 
 abbrev pub invariant-loop-i : goal.invariant-loop-i
-invariant-loop-i l = l.total ≡ (l.len * P64_1 + sum_below l.i (folded l.self.words)) % 2 ^ 64
+invariant-loop-i l = l.total ≡ (l.len * P64_1 + sum_below l.i (folded l.words)) % 2 ^ 64

@@ -4,4 +4,4 @@ use Rattle.nt_xxh3.specs.Long.{TakesStripes}
 use Rattle.nt_xxh3.proofs.long.Lanes.take_stripes.Given as goal
 
 abbrev pub invariant-loop-k : goal.invariant-loop-k
-invariant-loop-k l = TakesStripes l.fn.self.words l.before l.bytes l.self.words (l.before + l.k)
+invariant-loop-k l = TakesStripes l.fn.self.words l.before l.bytes l.words (l.before + l.k)
