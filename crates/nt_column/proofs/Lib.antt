@@ -7,3 +7,4 @@ pub mod ZeroPages
 pub mod Sets
 pub mod Sizes
 pub mod Growing
+pub mod Filled

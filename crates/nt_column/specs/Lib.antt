@@ -8,3 +8,4 @@ pub mod Store
 pub mod Words
 pub mod Lending
 pub mod Growing
+pub mod Filled

@@ -1,13 +1,15 @@
-//! Elements that are added to a store, which has room for them.
+//! Elements that are added to a store which has room for them, or written behind its first ones.
 
-ghost use Rattle.std.specs.Prelude.{◌≡◌, ◌+◌, ◌<◌, ◌≤◌, [], ◌∷◌, ◌++◌, length, map};
+ghost use Rattle.std.specs.Prelude.{◌≡◌, ◌+◌, ◌<◌, ◌≤◌, [], ◌∷◌, ◌++◌, length, map, IfOk, OnOk, OnErr, IsOk};
 ghost use Rattle.nt_column.specs.Elements.{plain, page_elements};
 ghost use Rattle.nt_column.specs.Store.{elements_of, width_of, spare_of, TakesPage, TakesValue};
+ghost use Rattle.nt_column.specs.Filled.{HasPageBehind, KeepsFirst};
 ghost use Rattle.nt_column.specs.Widths.{pair_width};
 
-use crate::filling::{push_8, push_16, push_32, push_64, push_bits};
+use crate::filling::{fill_8, fill_16, fill_32, fill_64, fill_bits};
 use crate::store::Store;
 use nt_types::ColumnType;
+use std::alloc::AllocError;
 
 impl Store {
     /// Adds an element of any type but Switch.
@@ -89,22 +91,29 @@ impl Store {
         }
     }
 
-    /// Adds the elements of a page of so many.
-    pub fn push_page(&mut self, kind: ColumnType, bytes: &[u8], count: usize)
-        requires takes { TakesPage self.old kind count bytes.now }
-        requires spare { count ≤ spare_of self.old }
-        ensures elements { elements_of self.new ≡ elements_of self.old
-            ++ page_elements kind count bytes.now }
+    /// Writes the elements of a page of so many behind the first elements, and gives how many there are
+    /// then. What stood there is written over.
+    pub fn fill(
+        &mut self,
+        kind: ColumnType,
+        filled: usize,
+        bytes: &[u8],
+        count: usize,
+    ) -> Result<usize, AllocError>
+        requires { TakesPage self.old kind count bytes.now × (filled ≤ length (elements_of self.old)) }
+        ensures page { IfOk result (λ n. (n ≡ filled + count) × HasPageBehind filled count (page_elements kind count bytes.now)
+            (elements_of self.old) (elements_of self.new) (spare_of self.old) (spare_of self.new)) }
         ensures width { width_of self.new ≡ width_of self.old }
-        ensures spare { spare_of self.old ≤ spare_of self.new + count }
+        ensures failed { OnErr result (KeepsFirst filled (elements_of self.old) (elements_of self.new)) }
+        ensures succeeds { count ≤ spare_of self.old → IsOk result }
     {
         match self {
-            Store::Bits(list) => push_bits(list, kind, bytes, count),
-            Store::Bytes(list) => push_8(list, kind, bytes, count),
-            Store::Words16(list) => push_16(list, kind, bytes, count),
-            Store::Words32(list) => push_32(list, kind, bytes, count),
-            Store::Words64(list) => push_64(list, kind, bytes, count),
-            Store::Pairs(pairs) => pairs.push_page(bytes, count),
+            Store::Bits(list) => fill_bits(list, kind, filled, bytes, count),
+            Store::Bytes(list) => fill_8(list, kind, filled, bytes, count),
+            Store::Words16(list) => fill_16(list, kind, filled, bytes, count),
+            Store::Words32(list) => fill_32(list, kind, filled, bytes, count),
+            Store::Words64(list) => fill_64(list, kind, filled, bytes, count),
+            Store::Pairs(pairs) => pairs.fill(filled, bytes, count),
         }
     }
 }

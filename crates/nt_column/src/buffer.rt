@@ -10,6 +10,7 @@ ghost use Rattle.nt_column.specs.Words.{lent_elements, lent_width};
 ghost use Rattle.nt_column.specs.Column.{empty, zeroed, with_more, cut_to, IsInRange, TakesNumber};
 ghost use Rattle.nt_lists.specs.Chunks.{chunks};
 
+use crate::page_buf::PageBuf;
 use crate::store::Store;
 use crate::store_page::encode_store;
 use crate::words::{WordSlice, words_of};
@@ -17,6 +18,7 @@ use crate::zero_page::encode_zeros;
 use nt_types::ColumnType;
 use std::alloc::{AllocError, Global};
 use std::marker::Model;
+use std::mem;
 
 /// A column's elements, each kept at its own width: a byte where the type has 8 bits. Signed
 /// values are given as their two's complement.
@@ -26,6 +28,9 @@ pub struct ColumnBuf {
     store: Store,
     /// So many zeros are the column; then `store` is empty.
     zeros: usize,
+    /// Memory for pages; its elements mean nothing.
+    kept: Store,
+    alloc: Global,
 }
 
 impl Model for ColumnBuf {
@@ -40,7 +45,7 @@ impl Model for ColumnBuf {
 
     ghost view = { λ b. record { column = record { kind = b.kind; elements = replicate b.zeros (plain 0) ++ elements_of b.store; zeros = b.zeros }; spare = spare_of b.store } };
 
-    ghost invariant = { λ b. (width_of b.store ≡ bits_of b.kind) × (0 < b.zeros → elements_of b.store ≡ []) };
+    ghost invariant = { λ b. (width_of b.store ≡ bits_of b.kind) × (0 < b.zeros → elements_of b.store ≡ []) × (width_of b.kept ≡ bits_of b.kind) };
 }
 
 impl ColumnBuf {
@@ -52,6 +57,8 @@ impl ColumnBuf {
             kind,
             store: Store::new(alloc, kind),
             zeros: 0,
+            kept: Store::new(alloc, kind),
+            alloc,
         }
     }
 
@@ -150,7 +157,7 @@ impl ColumnBuf {
         self.store.push_bytes(bytes);
     }
 
-    /// Adds the elements of a page of so many, read from its bytes.
+    /// Adds the elements of a page of so many, read from its bytes. For many pages there is `begin`.
     pub fn push_page(&mut self, bytes: &[u8], count: usize)
         requires stored { self.old.column.zeros ≡ 0 }
         requires length { length bytes.now ≡ page_size self.old.column.kind count }
@@ -159,7 +166,11 @@ impl ColumnBuf {
             (page_elements self.old.column.kind count bytes.now) }
         ensures spare { self.old.spare ≤ self.new.spare + count }
     {
-        self.store.push_page(self.kind, bytes, count);
+        let len = self.store.len();
+        match self.store.fill(self.kind, len, bytes, count) {
+            Ok(_) => {}
+            Err(_) => unreachable!(),
+        }
     }
 
     /// Drops the elements behind the first ones, and keeps their memory.
@@ -177,6 +188,41 @@ impl ColumnBuf {
         ensures spare { self.old.spare ≤ self.new.spare }
     {
         self.store.clear();
+        self.zeros = 0;
+    }
+
+    /// Takes all elements away, and keeps their memory for pages.
+    pub fn recycle(&mut self)
+        ensures { self.new.column ≡ empty self.old.column.kind }
+    {
+        // What was last filled, or else the larger of the two, is for pages.
+        if self.store.len() > 0 || self.kept.spare() < self.store.spare() {
+            mem::swap(&mut self.store, &mut self.kept);
+        }
+        self.store.clear();
+        self.zeros = 0;
+    }
+
+    /// No elements of pages yet, in the memory that is kept here for them. `end` gives them to the column.
+    pub fn begin(&mut self) -> PageBuf
+        ensures pages { result ≡ empty self.old.column.kind }
+        ensures same { self.new ≡ self.old }
+    {
+        PageBuf {
+            kind: self.kind,
+            store: mem::replace(&mut self.kept, Store::new(self.alloc, self.kind)),
+            filled: 0,
+        }
+    }
+
+    /// Takes the elements of pages in place of its own, without a copy.
+    pub fn end(&mut self, pages: PageBuf)
+        requires { pages.kind ≡ self.old.column.kind }
+        ensures { self.new.column ≡ pages }
+    {
+        let mut store = pages.store;
+        store.cut(pages.filled);
+        self.store = store;
         self.zeros = 0;
     }
 

@@ -6,6 +6,7 @@ ghost use Rattle.nt_encode.specs.Pages.{page_size};
 ghost use Rattle.nt_column.specs.Elements.{Element, page_of};
 
 use crate::buffer::ColumnBuf;
+use crate::page_buf::PageBuf;
 use crate::set::ColumnSet;
 
 /// The page of elements has the size of a page of so many elements of its type.
@@ -18,6 +19,7 @@ pub fn pages_have_their_size()
 pub fn buffers_can_be_shared() {
     is_shared::<ColumnBuf>();
     is_shared::<ColumnSet>();
+    is_shared::<PageBuf>();
 }
 
 /// What can be handed to another thread, and be read by several.

@@ -1,11 +1,12 @@
 //! The pairs of a Switch column.
 
-ghost use Rattle.std.specs.Prelude.{◌≡◌, ◌+◌, ◌-◌, ◌*◌, ◌<◌, ◌≤◌, [], ◌∷◌, ◌++◌, length, take, slice_index, OnOk};
+ghost use Rattle.std.specs.Prelude.{◌≡◌, ◌+◌, ◌-◌, ◌*◌, ◌<◌, ◌≤◌, [], ◌∷◌, ◌++◌, length, take, slice_index, IfOk, OnOk, OnErr, IsOk};
 ghost use Rattle.std.specs.List.{slice_range};
 ghost use Rattle.nt_encode.specs.Switch.{switch_bytes};
 ghost use Rattle.nt_column.specs.Elements.{numbers, tags, page_elements, AreElementsOf};
 ghost use Rattle.nt_types.specs.declared.column_type.ColumnType.TheVariants.{Switch};
 ghost use Rattle.nt_types.specs.ColumnTable.{bits_of};
+ghost use Rattle.nt_column.specs.Filled.{HasPageBehind, KeepsFirst};
 ghost use Rattle.nt_column.specs.Widths.{pair_width};
 
 use crate::filling::{push_indices, push_tags};
@@ -66,6 +67,7 @@ impl PairList {
         ensures elements { self.new.elements ≡ self.old.elements }
         ensures ok { OnOk result (more ≤ self.new.spare) }
         ensures spare { self.old.spare ≤ self.new.spare }
+        ensures succeeds { more ≤ self.old.spare → IsOk result }
     {
         self.indices.reserve(more)?;
         self.tags.reserve(more)?;
@@ -90,16 +92,20 @@ impl PairList {
         self.tags.push_reserved(tag);
     }
 
-    /// Adds the pairs of a page of so many.
-    pub fn push_page(&mut self, bytes: &[u8], count: usize)
+    /// Writes the pairs of a page of so many behind the first pairs, and gives how many there are then.
+    pub fn fill(&mut self, filled: usize, bytes: &[u8], count: usize) -> Result<usize, AllocError>
         requires length { length bytes.now ≡ 12 * count }
-        requires spare { count ≤ self.old.spare }
-        ensures elements { self.new.elements ≡ self.old.elements
-            ++ page_elements Switch count bytes.now }
-        ensures spare { self.old.spare ≤ self.new.spare + count }
+        requires within { filled ≤ length self.old.elements }
+        ensures page { IfOk result (λ n. (n ≡ filled + count) × HasPageBehind filled count (page_elements Switch count bytes.now)
+            self.old.elements self.new.elements self.old.spare self.new.spare) }
+        ensures failed { OnErr result (KeepsFirst filled self.old.elements self.new.elements) }
+        ensures succeeds { count ≤ self.old.spare → IsOk result }
     {
+        self.cut(filled);
+        self.reserve(count)?;
         push_indices(&mut self.indices, bytes, count);
         push_tags(&mut self.tags, bytes, count);
+        Ok(filled + count)
     }
 
     /// Drops the pairs behind the first ones.

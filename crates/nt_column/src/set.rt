@@ -82,6 +82,15 @@ impl ColumnSet {
             self.buffers[i].clear();
         }
     }
+
+    /// Takes all elements of all columns away, and keeps their memory for pages.
+    pub fn recycle(&mut self)
+        ensures { columns_of self.new ≡ map (λ c. empty c.kind) (columns_of self.old) }
+    {
+        for i in 0..self.buffers.len() {
+            self.buffers[i].recycle();
+        }
+    }
 }
 
 impl Columns for ColumnSet {

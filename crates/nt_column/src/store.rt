@@ -54,7 +54,7 @@ impl Store {
 
     /// How many more elements there is room for.
     #[inline(always)]
-    fn spare(&self) -> usize
+    pub fn spare(&self) -> usize
         ensures { result ≡ spare_of self.now }
     {
         match self {
