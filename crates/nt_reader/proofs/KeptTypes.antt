@@ -1,5 +1,5 @@
 -- Columns keep their types, and have the elements of their rows' types.
-use Rattle.std.proofs.Common.{◌≡◌, ℕ, zero, suc, List, [], ◌∷◌, map, get_or, drop, slice_get, Option, Some, refl, sym, ap, subst, ◌∙◌}
+use Rattle.std.proofs.Common.{◌≡◌, ℕ, zero, suc, List, [], ◌∷◌, map, get_or, drop, slice_get, Some, refl, sym, ap, subst, ◌∙◌}
 use Rattle.std.proofs.Math.ListN.{set}
 use Rattle.nt_lists.proofs.Variants.{some_is}
 use Rattle.nt_types.specs.declared.column_type.ColumnType.{ColumnType}

@@ -1,16 +1,16 @@
 -- Pages in the bytes of a file that were read at once.
-use Rattle.std.proofs.Common.{◌≡◌, ℕ, ◌+◌, ◌-◌, ◌<◌, ◌≤◌, ◌⊎◌, Bool, true, false, cond, leb, List, [], ◌++◌, length, take, drop}
-use Rattle.std.proofs.Common.{min, Option, Some, Ok, Err, refl, sym, ap, ◌∙◌, inl, inr, arith}
+use Rattle.std.proofs.Common.{◌≡◌, ℕ, ◌+◌, ◌-◌, ◌<◌, ◌≤◌, ◌⊎◌, Bool, true, false, leb, List, [], ◌++◌, length, take, drop}
+use Rattle.std.proofs.Common.{Option, Some, Ok, Err, refl, sym, ap, subst, ◌∙◌, inl, inr, arith}
 use Rattle.std.proofs.lemmas.Bool.{leb-true, le-leb, lt-leb, true≢false}
 use Rattle.std.proofs.lemmas.Option.{cond_some}
-use Rattle.std.proofs.lemmas.List.{take-take, take_all, take_at, drop-take, drop-drop}
+use Rattle.std.proofs.lemmas.List.{take-take, take_at, drop-take, drop-drop, length-take-le, length-drop}
 use Rattle.nt_num.specs.declared.fault.ReadError.{ReadError}
 use Rattle.nt_format.specs.Demands.{found_or}
 use Rattle.nt_format.specs.Pieces.{piece}
 use Rattle.nt_pagelists.specs.declared.page.PageItem.{PageItem}
 use Rattle.nt_file_meaning.specs.Clusters.{stored_len}
 use Rattle.nt_reader.specs.declared.window.Window.{Window}
-use Rattle.nt_reader.specs.Windows.{LiesIn, IsReadAtOnce, window_bytes, found_page}
+use Rattle.nt_reader.specs.Windows.{LiesIn, IsReadAtOnce, held, window_bytes, found_page}
 
 -- a longer run lies in the file, or it has no byte
 pub run-more : (p : PageItem) (size len more most : ℕ) → IsReadAtOnce p size len → most ≤ size - p.place → len + more ≤ most
@@ -45,56 +45,38 @@ piece-inside told bytes at len from n there fits =
     rw test (ap (λ (l : List ℕ). Some l) same)
 
 -- a page that lies in a window
-pub page-there : (told : List ℕ) (p : PageItem) (w : Window) → LiesIn p w → piece told w.at (length w.bytes.items) ≡ Some w.bytes.items
+pub page-there : (told : List ℕ) (p : PageItem) (w : Window) → LiesIn p w → piece told w.at (length (held w)) ≡ Some (held w)
     → piece told p.place (stored_len p) ≡ Some (window_bytes w p)
 page-there told p w lies there =
     let low : w.at ≤ p.place = lies.behind in
-    let high : p.place + stored_len p ≤ w.at + length w.bytes.items = lies.before in
+    let high : p.place + stored_len p ≤ w.at + length (held w) = lies.before in
     let split : w.at + (p.place - w.at) ≡ p.place = omega arith in
     ap (λ (n : ℕ). piece told n (stored_len p)) (sym split)
-    ∙ piece-inside told w.bytes.items w.at (length w.bytes.items) (p.place - w.at) (stored_len p) there (omega arith)
+    ∙ piece-inside told (held w) w.at (length (held w)) (p.place - w.at) (stored_len p) there (omega arith)
 
 pub page-found : (told : List ℕ) (outside : ReadError) (p : PageItem) (w : Window) → LiesIn p w
-    → piece told w.at (length w.bytes.items) ≡ Some w.bytes.items
+    → piece told w.at (length (held w)) ≡ Some (held w)
     → found_page outside p told ≡ Ok (window_bytes w p)
 page-found told outside p w lies there = ap (λ (o : Option (List ℕ)). found_or outside o) (page-there told p w lies there)
 
--- where the outcome of growing is good, the length is the one that was asked for
-pub grown : (b : Bool) (k n m : ℕ) → k ≡ cond b n m → b ≡ true → k ≡ n
-grown true k n m is e = is
-grown false k n m is e = absurd (true≢false (sym e))
-
--- as many bytes are read as were asked for, where they lie in the file
-pub all-read : (told buf : List ℕ) (at len size n : ℕ) → size ≡ length told → at + len ≤ size → length buf ≡ len
-    → n ≡ min (length buf) (length told - at) → n ≡ len
-all-read told buf at len size n sized inside long count = omega (arith, sized, inside, long, count)
-
--- bytes that were read, as many as were asked for, are a window of the file
-pub window-there : (told bytes : List ℕ) (at n : ℕ) → at + length bytes ≤ length told → n ≡ length bytes
-    → take n bytes ≡ take n (drop at told)
-    → piece told at (length bytes) ≡ Some bytes
+-- the front of a list that was read anew is a window of the file
+pub window-front : (told read tail : List ℕ) (at len all size n : ℕ) → size ≡ length told → at + len ≤ size → length read ≡ all → n ≡ len
+    → take n read ≡ take n (drop at told)
+    → piece told at (length (take len (take all (read ++ tail)))) ≡ Some (take len (take all (read ++ tail)))
 unfolding piece
-window-there told bytes at n inside all same =
-    let test : leb (at + length bytes) (length told) ≡ true = le-leb _ _ inside in
-    let is : take (length bytes) (drop at told) ≡ bytes = ap (λ (k : ℕ). take k (drop at told)) (sym all)
-    ∙ sym same ∙ take_all n bytes (omega (arith, all)) in
-    rw test (ap (λ (l : List ℕ). Some l) is)
+window-front told read tail at len all size n sized inside long whole same =
+    let front : take len (take all (read ++ tail)) ≡ take len (drop at told) =
+    ap (λ (l : List ℕ). take len l) (take_at read tail all long)
+    ∙ subst (λ (k : ℕ). take k read ≡ take k (drop at told)) whole same in
+    let count : length (take len (drop at told)) ≡ len =
+    length-take-le len (drop at told) (omega (arith, sized, inside, length-drop at told)) in
+    let test : leb (at + len) (length told) ≡ true = le-leb _ _ (omega (arith, sized, inside)) in
+    rw (front, count, test) refl
 
--- so are those of a list whose every byte was read anew
-pub window-read : (told buf tail : List ℕ) (at len size n kept : ℕ) → size ≡ length told → at + len ≤ size → length buf ≡ len → kept ≡ len
-    → (n ≡ min (length buf) (length told - at)) × (take n buf ≡ take n (drop at told))
-    → piece told at (length (take kept (buf ++ tail))) ≡ Some (take kept (buf ++ tail))
-window-read told buf tail at len size n kept sized inside long all read =
-    let is : take kept (buf ++ tail) ≡ buf = take_at buf tail kept (omega (arith, long, all)) in
-    let whole : n ≡ len = all-read told buf at len size n sized inside long read.0 in
-    let there : piece told at (length buf) ≡ Some buf =
-    window-there told buf at n (omega (arith, sized, inside, long)) (omega (arith, whole, long)) read.1 in
-    rw is there
-
--- and they are so many
-pub window-len : (buf tail : List ℕ) (len kept : ℕ) → length buf ≡ len → kept ≡ len → length (take kept (buf ++ tail)) ≡ len
-window-len buf tail len kept long all =
-    ap (λ (l : List ℕ). length l) (take_at buf tail kept (omega (arith, long, all))) ∙ long
+-- and it has so many bytes
+pub front-len : (read tail : List ℕ) (len all : ℕ) → length read ≡ all → len ≤ all → length (take len (take all (read ++ tail))) ≡ len
+front-len read tail len all long within =
+    ap (λ (l : List ℕ). length (take len l)) (take_at read tail all long) ∙ length-take-le len read (omega (arith, long, within))
 
 -- no page is found where it ends behind the file
 pub page-past : (told : List ℕ) (outside : ReadError) (p : PageItem) → length told < p.place + stored_len p

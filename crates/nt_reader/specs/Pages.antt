@@ -8,7 +8,8 @@ use Rattle.nt_outside.specs.File.{FileState}
 use Rattle.nt_reader.specs.declared.window.Window.{Window}
 use Rattle.nt_reader.specs.Windows.{IsSeenBy, LiesIn}
 use Rattle.nt_encode.specs.Elements.{page_elements}
-use Rattle.nt_column.specs.Column.{Column, with_more}
+use Rattle.nt_column.specs.Column.{Column, empty, with_more}
+use Rattle.nt_types.specs.declared.column_type.ColumnType.{ColumnType}
 use Rattle.nt_pagelists.specs.Columns.{in_column}
 use Rattle.nt_pagelists.specs.declared.page.PageItem.{PageItem}
 use Rattle.nt_file_meaning.specs.Clusters.{is_checked, sum_fault, page_of_column, pages_of_column}
@@ -27,16 +28,15 @@ column_with_page number id p c file = page_of_column file number id c.kind p >>=
 abbrev pub column_with_pages : ℕ → ℕ → List PageItem → Column → List ℕ → Result Column ReadError
 column_with_pages number id ps c file = pages_of_column file number id c.kind ps >>= λ es. Ok (with_more c es)
 
--- a file is seen through the window, and the column keeps no count of zeros
+-- a file is seen through the window, and the column is empty
 pub record CanRead (file : FileState) (w : Window) (c : Column) : Type 0 where
   pub seen : IsSeenBy file w
-  pub kept : c.zeros ≡ 0
+  pub none : c ≡ empty c.kind
 
--- the page lies in the window and has the size of its elements, and the column keeps no count of zeros
-pub record IsAtHand (p : PageItem) (w : Window) (c : Column) : Type 0 where
+-- the page lies in the window and has the size of its elements
+pub record IsAtHand (p : PageItem) (w : Window) (kind : ColumnType) : Type 0 where
   pub lies : LiesIn p w
-  pub size : p.size ≡ page_size c.kind p.count
-  pub kept : c.zeros ≡ 0
+  pub size : p.size ≡ page_size kind p.count
 
 -- the column has the same type, and keeps as many zeros as a count
 pub record KeepsKind (c d : Column) : Type 0 where

@@ -1,5 +1,5 @@
 -- Bytes of a file that were read at once, and the pages in them.
-use Rattle.std.specs.Prelude.{ℕ, ◌≡◌, ◌+◌, ◌-◌, ◌≤◌, ◌⊎◌, List, length, take, drop, Some, Result}
+use Rattle.std.specs.Prelude.{ℕ, ◌≡◌, ◌+◌, ◌-◌, ◌≤◌, ◌⊎◌, List, length, take, drop, min, Option, Some, Result}
 use Rattle.nt_num.specs.declared.fault.ReadError.{ReadError}
 use Rattle.nt_format.specs.Demands.{found_or}
 use Rattle.nt_format.specs.Pieces.{piece}
@@ -9,9 +9,13 @@ use Rattle.nt_pagelists.specs.declared.page.PageItem.{PageItem}
 use Rattle.nt_file_meaning.specs.Clusters.{stored_len}
 use Rattle.nt_reader.specs.declared.window.Window.{Window}
 
+-- the bytes of a window
+abbrev pub held : Window → List ℕ
+held w = take w.len w.bytes.items
+
 -- the window has bytes of the file, where the file tells them
 abbrev pub IsWindowOf : FileState → Window → Type 0
-IsWindowOf file w = (told : List ℕ) → file.bytes ≡ Some told → piece told w.at (length w.bytes.items) ≡ Some w.bytes.items
+IsWindowOf file w = (told : List ℕ) → file.bytes ≡ Some told → piece told w.at (length (held w)) ≡ Some (held w)
 
 -- a file is read through the window, which knows its size
 pub record IsSeenBy (file : FileState) (w : Window) : Type 0 where
@@ -21,11 +25,11 @@ pub record IsSeenBy (file : FileState) (w : Window) : Type 0 where
 -- the page lies in the window, with its checksum
 pub record LiesIn (p : PageItem) (w : Window) : Type 0 where
   pub behind : w.at ≤ p.place
-  pub before : p.place + stored_len p ≤ w.at + length w.bytes.items
+  pub before : p.place + stored_len p ≤ w.at + length (held w)
 
 -- its bytes there
 abbrev pub window_bytes : Window → PageItem → List ℕ
-window_bytes w p = take (stored_len p) (drop (p.place - w.at) w.bytes.items)
+window_bytes w p = take (stored_len p) (drop (p.place - w.at) (held w))
 
 -- the bytes of a page with its checksum have to lie in the file
 abbrev pub found_page : ReadError → PageItem → List ℕ → Result (List ℕ) ReadError
@@ -35,3 +39,8 @@ found_page outside p file = found_or outside (piece file p.place (stored_len p))
 pub record IsReadAtOnce (p : PageItem) (size len : ℕ) : Type 0 where
   pub first : stored_len p ≤ len
   pub inside : (len ≡ stored_len p) ⊎ (p.place + len ≤ size)
+
+-- of so many bytes of a file from a place on, as many as are there stand in front
+abbrev pub IsReadToFront : Option (List ℕ) → ℕ → ℕ → ℕ → List ℕ → Type 0
+IsReadToFront file at len n bytes = (told : List ℕ) → file ≡ Some told
+    → (n ≡ min len (length told - at)) × (take n bytes ≡ take n (drop at told))

@@ -15,6 +15,8 @@ ghost use Rattle.nt_reader.specs.Columns.{held_elements, given_entries};
 
 use crate::columns::{NumberedCluster, read_columns};
 use crate::faults::{BAD_VALUE, fault_with, in_column};
+use crate::reuse::{KeptMemory, kept_parts};
+use crate::window::Window;
 use nt_column::{ColumnSet, Columns};
 use nt_join::{ValueFault, check_values};
 use nt_num::ReadError;
@@ -33,6 +35,8 @@ pub struct ClusterRead<'a> {
     pub(crate) schema: &'a Schema,
     pub(crate) columns: ColumnSet,
     pub(crate) entries: u64,
+    /// Memory of the bytes that were read at once.
+    pub(crate) bytes: Vec<u8>,
 }
 
 impl<'a> Model for ClusterRead<'a> {
@@ -80,11 +84,12 @@ impl<'a> ClusterRead<'a> {
         &self.columns
     }
 
-    /// The columns, whose memory another cluster can take.
-    pub fn into_columns(self) -> ColumnSet
-        ensures { held_elements result ≡ self.entry.columns }
-    {
-        self.columns
+    /// Its memory, which another cluster can take.
+    pub fn into_memory(self) -> KeptMemory {
+        KeptMemory {
+            columns: self.columns,
+            bytes: self.bytes,
+        }
     }
 }
 
@@ -139,14 +144,14 @@ fn check(
 }
 
 /// The cluster of this number, by what a page list tells of it; or its first fault. It is read in the
-/// memory of other columns where they are such.
+/// memory of another, as far as that fits.
 pub fn read_cluster<'a, F: ReadAt>(
     alloc: Global,
     file: &mut F,
     schema: &'a Schema,
     number: u32,
     cluster: &ClusterList,
-    kept: Option<ColumnSet>,
+    kept: Option<KeptMemory>,
 ) -> Result<ClusterRead<'a>, ReadFailure>
     ensures file { Serves (F.state file.old) (F.state file.new) result }
     ensures read { ReadsFile (λ c. given_entries c)
@@ -160,12 +165,15 @@ pub fn read_cluster<'a, F: ReadAt>(
         number,
         list: cluster,
     };
-    let columns = read_columns(alloc, file, size, &listed, schema, kept)?;
+    let (kept, bytes) = kept_parts(alloc, kept);
+    let mut window = Window::new(alloc, size, bytes);
+    let columns = read_columns(alloc, file, &listed, schema, kept, &mut window)?;
     columns.in_range();
     check(&columns, schema, number, cluster)?;
     Ok(ClusterRead {
         schema,
         columns,
         entries: cluster.entries,
+        bytes: window.into_memory(),
     })
 }

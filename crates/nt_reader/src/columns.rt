@@ -4,7 +4,7 @@ ghost use Rattle.std.specs.Prelude.{◌≡◌, ◌<◌, length, map, slice_get, 
 ghost use Rattle.nt_grammar.specs.declared.rows.ColumnRow.{ColumnRow};
 ghost use Rattle.nt_column.specs.Column.{columns_of, elements_at};
 ghost use Rattle.nt_file_meaning.specs.Clusters.{kind_of_code, pages_of_column, pages_listed, begins_behind, columns_from};
-ghost use Rattle.nt_tfile.specs.Calls.{Serves, HasSize, ReadsFile};
+ghost use Rattle.nt_tfile.specs.Calls.{Serves, ReadsFile};
 ghost use Rattle.nt_reader.specs.Windows.{IsSeenBy};
 ghost use Rattle.nt_reader.specs.Columns.{kind_or_bit, kept_empty, elements_in, held_elements, held_column, IsNextColumn, IsEmptyAt, FillsOne, AreOfTypes};
 
@@ -133,21 +133,20 @@ fn read_column<F: ReadAt>(
 pub fn read_columns<F: ReadAt>(
     alloc: Global,
     file: &mut F,
-    size: u64,
     cluster: &NumberedCluster<'_>,
     schema: &Schema,
     kept: Option<ColumnSet>,
+    window: &mut Window,
 ) -> Result<ColumnSet, ReadFailure>
-    requires { HasSize (F.state file.old) size }
+    requires { IsSeenBy (F.state file.old) window.old }
     ensures file { Serves (F.state file.old) (F.state file.new) result }
     ensures read { let rows = schema.now.columns in ReadsFile (λ set. held_elements set)
         (λ told. columns_from told cluster.now.number cluster.now.list.now schema.now 0 rows) (F.state file.old) result }
     ensures types { IfOk result (λ set. AreOfTypes schema.now.columns (columns_of set)) }
 {
     let mut columns = reused_columns(alloc, schema, kept)?;
-    let mut window = Window::new(alloc, size);
     for id in 0..schema.columns() {
-        read_column(file, cluster, schema, id, &mut window, &mut columns)?;
+        read_column(file, cluster, schema, id, window, &mut columns)?;
     }
     Ok(columns)
 }

@@ -3,7 +3,7 @@
 //! Start with `Reader::attach`, which reads the anchor, header and footer of a file and the page lists
 //! of its groups (`describing`, `groups`), and then `Reader::cluster`, which reads the pages of a
 //! cluster's open columns and looks at their values (`columns`, `pages`, `cluster`), or
-//! `Reader::cluster_in`, which does that in the memory of columns of before (`reuse`);
+//! `Reader::cluster_in`, which does that in the memory of a cluster of before (`reuse`);
 //! `ClusterRead::entry` gives the trees of an entry, `ClusterRead::write_entry` its line, and
 //! `ClusterRead::columns` all elements; `choosing` has some of the trees, a number of an entry, and by which
 //! plans its columns are read. Before
@@ -51,3 +51,4 @@ mod window;
 pub use cluster::ClusterRead;
 pub use envelope::{Block, Envelope, read_sealed};
 pub use reader::Reader;
+pub use reuse::KeptMemory;

@@ -18,7 +18,7 @@ use crate::faults::{BAD_PAGE, COMPRESSED, OUT_OF_FILE, fault_with, in_column};
 use crate::wanting::Wanting;
 use crate::window::{Window, move_to};
 use byteorder::{ByteOrder, LittleEndian};
-use nt_column::ColumnBuf;
+use nt_column::{ColumnBuf, PageBuf};
 use nt_encode::size_of;
 use nt_num::ReadError;
 use nt_outside::ReadAt;
@@ -68,17 +68,15 @@ fn check_sum(of: &ColumnOf, page: &PageItem, stored: &[u8]) -> Result<(), ReadEr
 }
 
 /// Adds the elements of a page to a column.
-fn push_elements(page: &PageItem, stored: &[u8], column: &mut ColumnBuf) -> Result<(), Wanting>
+fn push_elements(page: &PageItem, stored: &[u8], column: &mut PageBuf) -> Result<(), Wanting>
     requires length { length stored.now ≡ stored_len page.now }
-    requires size { page.now.size ≡ page_size column.old.column.kind page.now.count }
-    requires kept { column.old.column.zeros ≡ 0 }
-    ensures { OnOk result (column.new.column ≡ with_more column.old.column
-        (page_elements column.old.column.kind page.now.count (take page.now.size stored.now))) }
+    requires size { page.now.size ≡ page_size column.old.kind page.now.count }
+    ensures { OnOk result (column.new ≡ with_more column.old
+        (page_elements column.old.kind page.now.count (take page.now.size stored.now))) }
 {
     let (bytes, _) = stored.split_at(page.size as usize);
     let count = page.count as usize;
-    column.reserve(count)?;
-    column.push_page(bytes, count);
+    column.push_page(bytes, count)?;
     Ok(())
 }
 
@@ -87,12 +85,12 @@ fn push_stored(
     of: &ColumnOf,
     page: &PageItem,
     window: &Window,
-    column: &mut ColumnBuf,
+    column: &mut PageBuf,
 ) -> Result<(), ReadFailure>
-    requires { IsAtHand page.now window.now column.old.column }
-    ensures read { IsReadOrFails (λ _. column.new.column) result
-        (column_with_bytes of.now.cluster of.now.id page.now column.old.column (window_bytes window.now page.now)) }
-    ensures grown { OnOk result (KeepsKind column.old.column column.new.column) }
+    requires { IsAtHand page.now window.now column.old.kind }
+    ensures read { IsReadOrFails (λ _. column.new) result
+        (column_with_bytes of.now.cluster of.now.id page.now column.old (window_bytes window.now page.now)) }
+    ensures grown { OnOk result (KeepsKind column.old column.new) }
     ensures inside { IsErrOf result Fault → ⊥ }
 {
     let stored = window.stored(page);
@@ -109,14 +107,14 @@ fn push_page<F: ReadAt>(
     page: &PageItem,
     behind: &[PageItem],
     window: &mut Window,
-    column: &mut ColumnBuf,
+    column: &mut PageBuf,
 ) -> Result<(), ReadFailure>
-    requires { CanRead (F.state file.old) window.old column.old.column }
+    requires { IsSeenBy (F.state file.old) window.old }
     ensures file { Serves (F.state file.old) (F.state file.new) result }
-    ensures read { ReadsFile (λ _. column.new.column)
-        (column_with_page of.now.cluster of.now.id page.now column.old.column) (F.state file.old) result }
+    ensures read { ReadsFile (λ _. column.new)
+        (column_with_page of.now.cluster of.now.id page.now column.old) (F.state file.old) result }
     ensures window { IsSeenBy (F.state file.new) window.new }
-    ensures grown { OnOk result (KeepsKind column.old.column column.new.column) }
+    ensures grown { OnOk result (KeepsKind column.old column.new) }
 {
     check_size(of, column.kind(), page)?;
     let outside = in_column(of.cluster, of.id, fault_with(OUT_OF_FILE, page.place, 0, 0));
@@ -124,7 +122,7 @@ fn push_page<F: ReadAt>(
     push_stored(of, page, window, column)
 }
 
-/// Adds the elements of pages of a column in a cluster, one page behind the other.
+/// Fills an empty column with the elements of its pages in a cluster, one page behind the other.
 pub fn push_pages<F: ReadAt>(
     file: &mut F,
     of: &ColumnOf,
@@ -139,8 +137,10 @@ pub fn push_pages<F: ReadAt>(
     ensures window { IsSeenBy (F.state file.new) window.new }
     ensures grown { OnOk result (KeepsKind column.old.column column.new.column) }
 {
+    let mut filled = column.begin();
     for i in 0..pages.len() {
-        push_page(file, of, &pages[i], &pages[i + 1..], window, column)?;
+        push_page(file, of, &pages[i], &pages[i + 1..], window, &mut filled)?;
     }
+    column.end(filled);
     Ok(())
 }

@@ -13,7 +13,7 @@ use crate::cluster::{ClusterRead, read_cluster};
 use crate::describing::read_described;
 use crate::groups::read_clusters;
 use crate::listed::{page_count, page_number, zeros_due};
-use nt_column::ColumnSet;
+use crate::reuse::KeptMemory;
 use nt_outside::ReadAt;
 use nt_pagelists::ClusterList;
 use nt_schema::Schema;
@@ -148,14 +148,14 @@ impl Reader {
         self.cluster_in(alloc, file, k, None)
     }
 
-    /// Reads a cluster as `cluster` does, in the memory of the columns of one that was read before.
-    /// Any columns do: those of other types than the file's are dropped.
+    /// Reads a cluster as `cluster` does, in the memory of one that was read before. That of any cluster does: columns of other
+    /// types than the file's are dropped.
     pub fn cluster_in<F: ReadAt>(
         &self,
         alloc: Global,
         file: &mut F,
         k: u32,
-        kept: Option<ColumnSet>,
+        kept: Option<KeptMemory>,
     ) -> Result<ClusterRead<'_>, ReadFailure>
         requires { k < length self.now.clusters }
         ensures file { Serves (F.state file.old) (F.state file.new) result }

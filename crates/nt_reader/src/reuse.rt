@@ -1,4 +1,4 @@
-//! Columns whose memory is used again.
+//! Memory that is used again.
 
 ghost use Rattle.std.specs.Prelude.{◌≡◌, map, IfOk};
 ghost use Rattle.std.specs.Bool.{OnTrue};
@@ -10,6 +10,22 @@ use crate::wanting::Wanting;
 use nt_column::ColumnSet;
 use nt_schema::Schema;
 use std::alloc::Global;
+
+/// Memory of a cluster that was read, which another takes.
+#[derive(Drop)]
+pub struct KeptMemory {
+    pub(crate) columns: ColumnSet,
+    /// That of the bytes which were read at once.
+    pub(crate) bytes: Vec<u8>,
+}
+
+/// Its parts, or none.
+pub fn kept_parts(alloc: Global, kept: Option<KeptMemory>) -> (Option<ColumnSet>, Vec<u8>) {
+    match kept {
+        Some(memory) => (Some(memory.columns), memory.bytes),
+        None => (None, Vec::new(alloc)),
+    }
+}
 
 /// Whether columns are of the types by which those of a schema are kept.
 fn are_of_types(columns: &ColumnSet, schema: &Schema) -> bool
@@ -38,7 +54,7 @@ pub fn reused_columns(
 {
     if let Some(mut columns) = kept {
         if are_of_types(&columns, schema) {
-            columns.clear();
+            columns.recycle();
             return Ok(columns);
         }
     }

@@ -1,13 +1,15 @@
 //! Bytes of a file that are read at once, for pages that follow one another.
 
-ghost use Rattle.std.specs.Prelude.{◌≡◌, ◌<◌, ◌^◌, IsTrue, IfOk, OnOk};
+ghost use Rattle.std.specs.Prelude.{◌≡◌, ◌<◌, ◌≤◌, ◌^◌, length, vec_len, IsTrue, IfOk, OnOk};
 ghost use Rattle.nt_outside.specs.File.{FileState};
+ghost use Rattle.nt_outside.specs.Faults.{HasCause};
 ghost use Rattle.nt_file_meaning.specs.Clusters.{stored_len};
 ghost use Rattle.nt_tfile.specs.Calls.{Serves, HasSize, ReadsFile};
-ghost use Rattle.nt_reader.specs.Windows.{IsSeenBy, LiesIn, IsReadAtOnce, window_bytes, found_page};
+ghost use Rattle.nt_reader.specs.Windows.{IsSeenBy, LiesIn, IsReadAtOnce, IsReadToFront, held, window_bytes, found_page};
 
+use crate::wanting::Wanting;
 use nt_num::ReadError;
-use nt_outside::ReadAt;
+use nt_outside::{Failed, ReadAt};
 use nt_pagelists::PageItem;
 use nt_tfile::ReadFailure;
 use std::alloc::Global;
@@ -26,6 +28,8 @@ pub struct Window {
     /// The size of the file.
     size: u64,
     at: u64,
+    len: usize,
+    /// Memory, of which the first bytes are those of the file.
     bytes: Vec<u8>,
 }
 
@@ -59,16 +63,30 @@ fn run_len(page: &PageItem, behind: &[PageItem], size: u64) -> u64
 }
 
 impl Window {
-    /// No bytes, which are some of any file of this size.
-    pub fn new(alloc: Global, size: u64) -> Window
+    /// No bytes, which are some of any file of this size, and memory for others.
+    pub fn new(alloc: Global, size: u64, memory: Vec<u8>) -> Window
         ensures { (file : FileState) → HasSize file size → IsSeenBy file result }
     {
         Window {
             alloc,
             size,
             at: 0,
-            bytes: Vec::new(alloc),
+            len: 0,
+            bytes: memory,
         }
+    }
+
+    /// Its memory, for another window.
+    pub fn into_memory(self) -> Vec<u8> {
+        self.bytes
+    }
+
+    /// Its bytes.
+    fn held(&self) -> &[u8]
+        ensures { result.now ≡ held self.now }
+    {
+        let (held, _) = self.bytes.split_at(self.len.min(self.bytes.len()));
+        held
     }
 
     /// Whether a page lies here.
@@ -77,7 +95,7 @@ impl Window {
     {
         match page.place.checked_sub(self.at) {
             Some(from) => {
-                u128::from(from) + u128::from(stored_len(page)) <= self.bytes.len() as u128
+                u128::from(from) + u128::from(stored_len(page)) <= self.held().len() as u128
             }
             None => false,
         }
@@ -88,10 +106,36 @@ impl Window {
         requires { LiesIn page.now self.now }
         ensures { result.now ≡ window_bytes self.now page.now }
     {
-        let (_, rest) = self.bytes.split_at((page.place - self.at) as usize);
+        let (_, rest) = self.held().split_at((page.place - self.at) as usize);
         let (stored, _) = rest.split_at(stored_len(page) as usize);
         stored
     }
+}
+
+/// Makes room for so many bytes. Bytes that are there already aren't set to zero again.
+fn make_room(bytes: &mut Vec<u8>, len: usize) -> Result<(), Wanting>
+    ensures { OnOk result (len ≤ vec_len bytes.new) }
+{
+    if bytes.len() < len {
+        bytes.resize(len, 0)?;
+    }
+    Ok(())
+}
+
+/// Reads bytes of a file from a place on to the front of others, and gives how many of so many were read.
+fn read_front<F: ReadAt>(
+    file: &mut F,
+    at: u64,
+    len: usize,
+    bytes: &mut [u8],
+) -> Result<usize, Failed>
+    requires { len ≤ length bytes.old }
+    ensures file { (F.state file.new).bytes ≡ (F.state file.old).bytes }
+    ensures cause { HasCause (F.state file.old).faults (F.state file.new).faults result }
+    ensures front { IfOk result (λ n. IsReadToFront (F.state file.old).bytes at len n bytes.new) }
+    ensures len { length bytes.new ≡ length bytes.old }
+{
+    file.read_at(at, &mut bytes[..len])
 }
 
 /// The window that begins with a page, in the memory of another, if the page lies in a file of its
@@ -116,10 +160,8 @@ fn read_window<F: ReadAt>(
         return Err(ReadFailure::Defect(outside));
     }
     let mut bytes = kept.bytes;
-    if bytes.resize(len as usize, 0).is_err() {
-        return Err(ReadFailure::Memory);
-    }
-    let count = file.read_at(at, bytes.as_mut_slice())?;
+    make_room(&mut bytes, len as usize)?;
+    let count = read_front(file, at, len as usize, bytes.as_mut_slice())?;
     if count as u64 != len {
         return Err(ReadFailure::Defect(outside));
     }
@@ -127,6 +169,7 @@ fn read_window<F: ReadAt>(
         alloc: kept.alloc,
         size: kept.size,
         at,
+        len: len as usize,
         bytes,
     })
 }
@@ -149,7 +192,10 @@ pub fn move_to<F: ReadAt>(
     if window.has(page) {
         return Ok(());
     }
-    let kept = mem::replace(window, Window::new(window.alloc, window.size));
+    let kept = mem::replace(
+        window,
+        Window::new(window.alloc, window.size, Vec::new(window.alloc)),
+    );
     *window = read_window(file, page, behind, outside, kept)?;
     Ok(())
 }

@@ -51,7 +51,7 @@ pub fn add_clusters<F: ReadAt>(
     for k in 0..reader.clusters() {
         let cluster = reader.cluster_in(alloc, file, k, kept.take())?;
         add_columns(rt, cluster.columns(), reader.schema(), columns, running);
-        kept = Some(cluster.into_columns());
+        kept = Some(cluster.into_memory());
     }
     Ok(())
 }

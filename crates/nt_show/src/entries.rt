@@ -10,20 +10,19 @@ ghost use Rattle.nt_show.specs.Shown.{entries_shown, ShowsFile};
 
 use crate::entry_range::EntryRange;
 use crate::lines::put_entry;
-use nt_column::ColumnSet;
 use nt_num::ReadError;
 use nt_outside::{Host, ReadAt, Refused, Stream, print_all};
-use nt_reader::{ClusterRead, Reader};
+use nt_reader::{ClusterRead, KeptMemory, Reader};
 use nt_tfile::ReadFailure;
 use std::alloc::Global;
 
 /// What goes from one cluster to the next: the entries that are left to show, counted from its first, the
-/// lines that wait to be printed, and columns whose memory it may have.
+/// lines that wait to be printed, and memory that it may have.
 #[derive(Drop)]
 struct Pending {
     range: EntryRange,
     waiting: Vec<u8>,
-    kept: Option<ColumnSet>,
+    kept: Option<KeptMemory>,
 }
 
 /// Gathers the lines of those entries of a cluster that lie in the range.
@@ -49,8 +48,7 @@ fn put_entries<H: Host>(
 }
 
 /// Reads a cluster, and then gathers the lines of its entries that lie in the range, which goes on
-/// behind them; or says the cluster's first fault. Its columns are kept, so that the next one has
-/// their memory.
+/// behind them; or says the cluster's first fault. Its memory is kept for the next one.
 fn put_cluster<H: Host, F: ReadAt>(
     alloc: Global,
     host: &mut H,
@@ -71,7 +69,7 @@ fn put_cluster<H: Host, F: ReadAt>(
         Ok(cluster) => {
             put_entries(alloc, host, &mut pending.waiting, &cluster, &pending.range)?;
             pending.range = pending.range.past(cluster.entries());
-            pending.kept = Some(cluster.into_columns());
+            pending.kept = Some(cluster.into_memory());
             Ok(None)
         }
         Err(ReadFailure::Defect(fault)) => Ok(Some(fault)),

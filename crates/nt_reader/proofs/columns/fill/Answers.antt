@@ -1,12 +1,19 @@
-use Rattle.std.proofs.Common.{◌∙◌, sym, arith}
+use Rattle.std.proofs.Common.{◌≡◌, ◌∙◌, subst, sym, arith}
 use Rattle.std.proofs.lemmas.List.{length-map}
 use Rattle.std.proofs.lemmas.Result.{on_ok_weaker}
 use Rattle.nt_reader.specs.Pages.{KeepsKind}
-use Rattle.nt_column.specs.Column.{Buffer}
+use Rattle.nt_column.specs.Column.{Column, Buffer, empty}
 use Rattle.nt_reader.proofs.Changes.{set-elements, set-changes, buffer-column}
 use Rattle.nt_reader.proofs.KeptTypes.{set-types}
 use Rattle.nt_reader.proofs.ColumnSteps.{filled-reads}
 use Rattle.nt_reader.proofs.columns.fill.Goals as goal
+
+pub push_pages-requires : goal.push_pages-requires
+push_pages-requires g c = record {
+  seen = c.requires.0;
+  none = subst (λ (x : Column). x ≡ empty x.kind)
+      (buffer-column c.args.columns.now c.args.of.now.id c.buffer.result.now c.buffer.ensures.value) c.requires.1.none;
+}
 
 pub returns-clause-read : goal.returns-clause-read
 returns-clause-read g c told is =

@@ -18,7 +18,7 @@ pub loop-id-init : goal.loop-id-init
 loop-id-init g c = record {
   same = refl;
   later = omega arith;
-  window = c.new-window.ensures (g.F.ReadAt.state c.args.file.now) c.requires;
+  window = c.requires;
   types = types-of_empty c.args.schema.now.columns _ c.in_ok-columns.ensures;
   done = none-read c.args.schema.now.columns c.in_ok-columns.columns c.in_ok-columns.ensures;
   read = λ told is.

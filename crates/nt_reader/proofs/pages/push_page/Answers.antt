@@ -9,7 +9,7 @@ use Rattle.nt_reader.proofs.pages.push_page.Goals as goal
 
 pub returns-in_err-check_size-clause-read : goal.returns-in_err-check_size-clause-read
 returns-in_err-check_size-clause-read g c told is =
-    let failed = size-fails told c.args.of.now.cluster c.args.of.now.id c.args.page.now c.args.column.now.column c.kind.result _
+    let failed = size-fails told c.args.of.now.cluster c.args.of.now.id c.args.page.now c.args.column.now c.kind.result _
     c.kind.ensures
     c.in_err-check_size.ensures.plain in
     search (rules, failed)
@@ -20,7 +20,7 @@ returns-in_err-move_to-clause-read g c told is =
     let named = c.in_column-outside.ensures
     ∙ ap (λ (e : ReadError). in_column c.args.of.now.cluster c.args.of.now.id e) c.fault_with.ensures in
     rw (p.1, p.2)
-    (place-fails told c.args.of.now.cluster c.args.of.now.id c.args.page.now c.args.column.now.column c.kind.result _
+    (place-fails told c.args.of.now.cluster c.args.of.now.id c.args.page.now c.args.column.now c.kind.result _
     c.in_column-outside.result _
     c.kind.ensures c.in_ok-check_size.ensures.plain named
     (c.in_err-move_to.ensures.read told is))
@@ -30,7 +30,7 @@ returns-clause-read g c told is =
     let named = c.in_column-outside.ensures
     ∙ ap (λ (e : ReadError). in_column c.args.of.now.cluster c.args.of.now.id e) c.fault_with.ensures in
     reads-as _ c.push_stored.result _ _
-    (stored-done told c.args.of.now.cluster c.args.of.now.id c.args.page.now c.args.column.now.column c.kind.result _
+    (stored-done told c.args.of.now.cluster c.args.of.now.id c.args.page.now c.args.column.now c.kind.result _
     c.in_column-outside.result
     (window_bytes c.move_to.new.window c.args.page.now) c.kind.ensures
     c.in_ok-check_size.ensures.plain named (c.in_ok-move_to.ensures.read told is))

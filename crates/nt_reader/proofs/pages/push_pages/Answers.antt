@@ -1,6 +1,7 @@
-use Rattle.std.proofs.Common.{◌∙◌, refl, arith}
+use Rattle.std.proofs.Common.{◌∙◌, ap, sym, refl, arith}
 use Rattle.std.proofs.lemmas.Result.{err_from_is_err_and}
 use Rattle.nt_column.specs.Column.{Column}
+use Rattle.nt_reader.specs.Pages.{column_with_pages}
 use Rattle.nt_reader.proofs.Chains.{fails-as}
 use Rattle.nt_reader.proofs.PageSteps.{pages-more, pages-fail}
 use Rattle.nt_reader.proofs.pages.push_pages.Goals as goal
@@ -10,8 +11,13 @@ loop-i-init g c = record {
   same = refl;
   later = omega arith;
   window = c.requires.seen;
-  grown = record { kind = refl; zeros = refl };
-  read = λ told is. refl;
+  grown = record {
+    kind = ap (λ (d : Column). d.kind) c.begin-filled.ensures.pages;
+    zeros = ap (λ (d : Column). d.zeros) (c.begin-filled.ensures.pages ∙ sym c.requires.none);
+  };
+  read = λ told is.
+      ap (λ (d : Column). column_with_pages c.args.of.now.cluster c.args.of.now.id c.args.pages.now d told)
+      (c.requires.none ∙ sym c.begin-filled.ensures.pages);
 }
 
 pub returns-in_err-push_page-clause-read : goal.returns-in_err-push_page-clause-read
@@ -19,7 +25,7 @@ returns-in_err-push_page-clause-read g c told is =
     let p = err_from_is_err_and c.from_residual.result c.from_residual.ensures.1 in
     rw (p.1, p.2)
     (fails-as (λ (d : Column). d) (λ (d : Column). d) _ _ _ (c.loop-i.invariant.read told is)
-    (pages-fail told c.args.of.now.cluster c.args.of.now.id c.loop-i.i c.args.pages.now _ c.loop-i.column.column _ (omega arith)
+    (pages-fail told c.args.of.now.cluster c.args.of.now.id c.loop-i.i c.args.pages.now _ c.loop-i.filled _ (omega arith)
     (c.in_err-push_page.ensures.read told (c.loop-i.invariant.same ∙ is))))
 
 pub loop-i-preserved : goal.loop-i-preserved
@@ -33,6 +39,6 @@ loop-i-preserved g c = record {
   };
   read = λ told is.
       c.loop-i.invariant.read told is
-      ∙ pages-more told c.args.of.now.cluster c.args.of.now.id c.loop-i.i c.args.pages.now _ c.loop-i.column.column _ (omega arith)
+      ∙ pages-more told c.args.of.now.cluster c.args.of.now.id c.loop-i.i c.args.pages.now _ c.loop-i.filled _ (omega arith)
       (c.in_ok-push_page.ensures.read told (c.loop-i.invariant.same ∙ is));
 }

@@ -11,9 +11,9 @@ invariant-loop-i g l =
       same : (state l.file).bytes ≡ (state l.initial.file).bytes;
       later : (state l.initial.file).faults ≤ (state l.file).faults;
       window : IsSeenBy (state l.file) l.window;
-      grown : KeepsKind l.initial.column.column l.column.column;
+      grown : KeepsKind l.fn.column.column l.filled;
       read : (told : List ℕ) → (state l.initial.file).bytes ≡ Some told
-          → column_with_pages l.of.cluster l.of.id l.pages l.initial.column.column told ≡ column_with_pages l.of.cluster l.of.id
+          → column_with_pages l.of.cluster l.of.id l.pages l.fn.column.column told ≡ column_with_pages l.of.cluster l.of.id
           (drop l.i l.pages)
-          l.column.column told;
+          l.filled told;
     }

@@ -4,7 +4,7 @@ use Rattle.nt_types.specs.TreeData.{TreesData, trees_of}
 use Rattle.nt_types.specs.TreeViews.{trees_view}
 use Rattle.nt_plans.specs.Plan.{PlansData}
 use Rattle.nt_trees.specs.TreeAt.{each_at}
-use Rattle.nt_join.specs.Chosen.{tree_in, chosen, number_in}
+use Rattle.nt_join.specs.Chosen.{chosen}
 use Rattle.nt_join.specs.Readable.{ReadableEach}
 use Rattle.nt_file_meaning.specs.Clusters.{columns_by_id}
 use Rattle.nt_reader.specs.Columns.{ClusterData, held_elements}

@@ -1,10 +1,8 @@
-use Rattle.std.proofs.Common.{◌≡◌, ◌∙◌, ap, sym, subst, arith}
-use Rattle.std.specs.Prelude.{IfOk}
-use Rattle.nt_types.specs.TreeData.{TreesData, trees_of}
-use Rattle.nt_types.specs.TreeViews.{trees_view}
+use Rattle.std.proofs.Common.{◌∙◌, ap, sym, subst, arith}
+use Rattle.nt_types.specs.TreeData.{TreesData}
 use Rattle.nt_plans.specs.Plan.{PlansData}
 use Rattle.nt_trees.specs.TreeAt.{each_at}
-use Rattle.nt_join.specs.Chosen.{tree_in, chosen, number_in}
+use Rattle.nt_join.specs.Chosen.{tree_in, number_in}
 use Rattle.nt_join.specs.Readable.{ReadableEach}
 use Rattle.nt_file_meaning.specs.Clusters.{columns_by_id}
 use Rattle.nt_reader.specs.Columns.{ClusterData, held_elements}

@@ -3,4 +3,4 @@ use Rattle.nt_reader.proofs.Windows.{none-there}
 use Rattle.nt_reader.proofs.window.Window.new.Goals as goal
 
 pub returns : goal.returns
-returns c file sized = record { sized = sized; has = λ told is. none-there told _ _ refl c.new.ensures.items }
+returns c file sized = record { sized = sized; has = λ told is. none-there told _ _ refl refl }
