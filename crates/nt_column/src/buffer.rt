@@ -113,6 +113,14 @@ impl ColumnBuf {
         Ok(self.len())
     }
 
+    /// How many more elements there is memory for.
+    #[inline(always)]
+    pub fn spare(&self) -> usize
+        ensures { result ≡ self.now.spare }
+    {
+        self.store.spare()
+    }
+
     /// Adds an element of any type but Switch.
     pub fn push(&mut self, value: u64)
         requires takes { TakesNumber self.old.column value }

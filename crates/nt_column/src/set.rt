@@ -113,6 +113,7 @@ impl Columns for ColumnSet {
         }
     }
 
+    #[inline(always)]
     fn len(&self, column: u32) -> u64 {
         if (column as usize) < self.columns() {
             self.column(column).len() as u64
@@ -121,6 +122,7 @@ impl Columns for ColumnSet {
         }
     }
 
+    #[inline(always)]
     fn number(&self, column: u32, i: u64) -> u64 {
         self.column(column).number(i as usize)
     }
@@ -129,6 +131,7 @@ impl Columns for ColumnSet {
         self.column(column).tag(i as usize)
     }
 
+    #[inline(always)]
     fn text(
         &self,
         alloc: Global,
@@ -152,6 +155,7 @@ impl Columns for ColumnSet {
         }
     }
 
+    #[inline(always)]
     fn words(&self, column: u32, from: u64, to: u64) -> Option<WordSlice<'_>>
         requires order { from ≤ to }
         requires within { to ≤ length (elements_at (columns_of self.now) column) }
