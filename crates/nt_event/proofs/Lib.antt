@@ -13,3 +13,4 @@ pub mod Fast
 pub mod Prints
 pub mod LineSteps
 pub mod Lawful
+pub mod InnerBytes

@@ -1,6 +1,6 @@
 -- A text, line by line. Each line ends with an LF, which the last may lack.
-use Rattle.std.specs.Prelude.{⊤, ◌≡◌, ◌≢◌, ℕ, ◌+◌, ◌<◌, ◌≤◌, ◌⊎◌, List, [], ◌∷◌, ◌++◌, length, slice_index, Option, None, Some, Result, Ok}
-use Rattle.std.specs.Prelude.{Err}
+use Rattle.std.specs.Prelude.{⊤, ◌≡◌, ◌≢◌, ℕ, ◌+◌, ◌<◌, ◌≤◌, ◌⊎◌, List, [], ◌∷◌, ◌++◌, length, take, get_or, slice_index}
+use Rattle.std.specs.Prelude.{Option, None, Some, Result, Ok, Err}
 use Rattle.std.specs.List.{slice_range}
 use Rattle.std.specs.Io.KnownBytes.{prepend_known, Consumes, IsAtEnd}
 use Rattle.nt_outside.specs.Faults.{Rose}
@@ -76,3 +76,20 @@ GivesLine old new (Ok None) = StaysAtEnd old new
 GivesLine old new (Err Fault) = Rose old.faults new.faults
 GivesLine old new (Err (TooLong line)) = (line ≡ old.number + 1) × (BeginsTooLong old.left ⊎ ((max_number < line) × HasMore old.left))
 GivesLine old new (Err Memory) = ⊤
+
+module _ {S : Type 0} (r : LineReader S) where
+  -- the bytes that are ready
+  abbrev pub ready_bytes : List ℕ
+  ready_bytes = slice_range r.piece.items r.at r.end
+
+  -- the first so many of them
+  abbrev pub ready_line : ℕ → List ℕ
+  ready_line len = take len ready_bytes
+
+  -- they are a line, its LF is behind them, and it can be given
+  pub record HasReady (len : ℕ) : Type 0 where
+    pub within : len < length ready_bytes
+    pub lf : get_or ready_bytes len 0 ≡ 10
+    pub one_line : HasNoLf (ready_line len)
+    pub fits : len ≤ max_line
+    pub number : r.number < max_number

@@ -28,6 +28,7 @@ mod lines;
 mod marks;
 mod printing;
 mod quoted;
+mod ready;
 mod scan;
 mod single;
 mod strings;

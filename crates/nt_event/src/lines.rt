@@ -15,10 +15,10 @@ use std::mem;
 const PIECE: usize = 1 << 16;
 
 /// The most bytes of a line.
-const MAX_LINE: usize = 1 << 24;
+pub(crate) const MAX_LINE: usize = 1 << 24;
 
 /// The largest number of a line.
-const MAX_NUMBER: u64 = 1 << 48;
+pub(crate) const MAX_NUMBER: u64 = 1 << 48;
 
 /// A line of a text, without its LF.
 #[derive(Drop)]
@@ -62,12 +62,12 @@ impl From<AllocError> for LineError {
 #[derive(Drop)]
 pub struct LineReader<S> {
     source: S,
-    /// Bytes of the source; those from `at` to `end` are still to be given.
-    piece: Vec<u8>,
-    at: usize,
-    end: usize,
+    /// Bytes of the source; those from `at` to `end` are ready, still to be given.
+    pub(crate) piece: Vec<u8>,
+    pub(crate) at: usize,
+    pub(crate) end: usize,
     /// The number of the last line that was given.
-    number: u64,
+    pub(crate) number: u64,
     /// Memory for the next line.
     spare: Vec<u8>,
     ghost within: { (at ≤ end) × (end ≤ vec_len piece) × (0 < vec_len piece) },
