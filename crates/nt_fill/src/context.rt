@@ -89,6 +89,7 @@ pub struct FillContextOf<'a, V: Gathering, P> {
 impl<'a, V: Gathering, P> Model for FillContextOf<'a, V, P> {
     ghost use Rattle.nt_column.specs.Column.{columns_of};
     ghost use Rattle.nt_fill.specs.Context.{FillState};
+    ghost use Rattle.nt_shred.specs.Lines.{KnowsRoom};
 
     ghost Value = { FillState V.Entry V.Birth P };
 
@@ -114,7 +115,7 @@ impl<'a, V: Gathering, P> Model for FillContextOf<'a, V, P> {
       pen = c.pen;
       columns = columns_of c.store.columns;
       entries = c.store.entries;
-    } };
+    } × KnowsRoom c.store.direct c.store.columns };
 }
 
 /// A context over a disk.

@@ -1,6 +1,7 @@
 //! Entries that are gathered.
 
 ghost use Rattle.std.specs.Prelude.{◌≡◌, ◌<◌, length, true, MatchBool, OnOk, OnErr};
+ghost use Rattle.std.specs.Str.{IsUtf8};
 ghost use Rattle.nt_types.specs.TreeData.{trees_of};
 ghost use Rattle.nt_types.specs.TreeViews.{trees_view};
 ghost use Rattle.nt_trees.specs.Fits.{fits_entry};
@@ -10,7 +11,7 @@ use crate::context::FillContext;
 use nt_column::Columns;
 use nt_outside::Disk;
 use nt_plans::columns_have_types;
-use nt_shred::shred;
+use nt_shred::{is_utf8, shred};
 use nt_types::Trees;
 use std::alloc::AllocError;
 
@@ -24,6 +25,7 @@ impl<'a, D: Disk> FillContext<'a, D> {
         ensures err { OnErr result (self.new ≡ self.old) }
     {
         columns_have_types();
+        self.store.direct.forget();
         shred(trees, self.schema, &mut self.store.columns)?;
         // A text that was added is of bytes, since its column is.
         self.store.columns.in_range();
@@ -36,6 +38,16 @@ impl<'a, D: Disk> FillContext<'a, D> {
     pub fn fill_line(&mut self, line: &[u8]) -> bool
         requires alive { MayGather self.old }
         requires room { length (gathered self.old) < self.old.cluster }
+        ensures { MatchBool result (GathersLine line.now self.old self.new) (self.new ≡ self.old) }
+    {
+        is_utf8(line) && self.fill_utf8(line)
+    }
+
+    /// The same of a line that is known to be UTF-8.
+    pub fn fill_utf8(&mut self, line: &[u8]) -> bool
+        requires alive { MayGather self.old }
+        requires room { length (gathered self.old) < self.old.cluster }
+        requires utf8 { IsUtf8 line.now }
         ensures { MatchBool result (GathersLine line.now self.old self.new) (self.new ≡ self.old) }
     {
         columns_have_types();

@@ -39,6 +39,7 @@ impl<'a, D: Disk> FillContext<'a, D> {
         };
         write_image(rt, gate, &to, &mut self.pass, &mut self.pen, &mut image)?;
         self.store.spare = image.bytes.into_vec();
+        self.store.direct.forget();
         self.store.columns.clear();
         self.store.entries = 0;
         Ok(())

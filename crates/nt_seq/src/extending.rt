@@ -39,6 +39,7 @@ impl<D: Disk> SeqWriter<D> {
         }
         match widen(self.alloc, &self.schema, before, &mut self.book) {
             Ok(columns) => {
+                self.direct.forget();
                 self.columns = columns;
                 Ok(())
             }

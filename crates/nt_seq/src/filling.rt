@@ -1,6 +1,7 @@
 //! Entries that are gathered.
 
 ghost use Rattle.std.specs.Prelude.{◌≡◌, ◌<◌, length, true, MatchBool, OnOk, OnErr};
+ghost use Rattle.std.specs.Str.{IsUtf8};
 ghost use Rattle.nt_types.specs.TreeData.{trees_of};
 ghost use Rattle.nt_types.specs.TreeViews.{trees_view};
 ghost use Rattle.nt_trees.specs.Fits.{fits_entry};
@@ -10,7 +11,7 @@ use crate::writer::SeqWriter;
 use nt_column::Columns;
 use nt_outside::Disk;
 use nt_plans::columns_have_types;
-use nt_shred::shred;
+use nt_shred::{is_utf8, shred};
 use nt_types::Trees;
 use std::alloc::AllocError;
 
@@ -25,6 +26,7 @@ impl<D: Disk> SeqWriter<D> {
         ensures err { OnErr result (self.new ≡ self.old) }
     {
         columns_have_types();
+        self.direct.forget();
         shred(trees, &self.schema, &mut self.columns)?;
         // A text that was added is of bytes, since its column is.
         self.columns.in_range();
@@ -37,6 +39,16 @@ impl<D: Disk> SeqWriter<D> {
     pub fn fill_line(&mut self, line: &[u8]) -> bool
         requires alive { self.old.alive ≡ true }
         requires room { length (gathered_by self.old) < self.old.params.cluster }
+        ensures { MatchBool result (GathersEntryOf line.now self.old self.new) (self.new ≡ self.old) }
+    {
+        is_utf8(line) && self.fill_utf8(line)
+    }
+
+    /// The same of a line that is known to be UTF-8.
+    fn fill_utf8(&mut self, line: &[u8]) -> bool
+        requires alive { self.old.alive ≡ true }
+        requires room { length (gathered_by self.old) < self.old.params.cluster }
+        requires utf8 { IsUtf8 line.now }
         ensures { MatchBool result (GathersEntryOf line.now self.old self.new) (self.new ≡ self.old) }
     {
         columns_have_types();

@@ -69,6 +69,7 @@ impl<D: Disk> SeqWriter<D> {
             &mut self.alive,
         )?;
         self.spare = image.bytes.into_vec();
+        self.direct.forget();
         self.columns.clear();
         self.entries = 0;
         Ok(())

@@ -35,6 +35,7 @@ impl<D: Disk> SeqWriter<D> {
         ensures err { OnErr result (self.new ≡ self.old) }
     {
         columns_have_types();
+        self.direct.forget();
         move_chosen(from, plans, places, i, &self.schema, &mut self.columns)?;
         self.columns.in_range();
         self.entries += 1;

@@ -48,6 +48,7 @@ pub struct SeqWriter<D: Disk> {
 
 impl<D: Disk> Model for SeqWriter<D> {
     ghost use Rattle.nt_column.specs.Column.{columns_of};
+    ghost use Rattle.nt_shred.specs.Lines.{KnowsRoom};
     ghost use Rattle.nt_seq.specs.Writer.{SeqState};
     ghost use Rattle.nt_seq.specs.Standing.{IsSequential};
 
@@ -75,7 +76,7 @@ impl<D: Disk> Model for SeqWriter<D> {
       columns = columns_of w.columns;
       entries = w.entries;
       alive = w.alive;
-    } };
+    } × KnowsRoom w.direct w.columns };
 }
 
 /// Columns without elements for the schema of these fields.

@@ -17,7 +17,7 @@ pub mod OneColumn
 pub mod Equal
 pub mod LineArms
 pub mod Cutting
-pub mod Noting
+pub mod RoomLeft
 pub mod Whole
 pub mod OptionalSteps
 mod Runs

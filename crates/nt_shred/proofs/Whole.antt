@@ -48,6 +48,7 @@ line-put ps line first end old new begin h blanks = record {
   range = h.range;
   fitting = h.fitting;
   gains = h.gains;
+  few = λ k. omega (arith, h.few k, blanks.past, begin.some);
 }
 
 -- the columns of a schema, with room that was made

@@ -1,5 +1,5 @@
 -- A line whose entry is added to the columns.
-use Rattle.std.specs.Prelude.{ℕ, ◌≡◌, true, List}
+use Rattle.std.specs.Prelude.{ℕ, ◌≡◌, ◌<◌, true, List, length}
 use Rattle.nt_types.specs.TreeData.{TreeData, trees_of}
 use Rattle.json.specs.Json.{array}
 use Rattle.json.specs.Lex.{tokens}
@@ -15,15 +15,19 @@ use Rattle.nt_trees.specs.Sound.{AllSound}
 use Rattle.nt_trees.specs.Put.{put_trees}
 use Rattle.nt_trees.specs.Fits.{fit_plans, fits_entry}
 use Rattle.nt_trees.specs.Views.{cols_of}
+use Rattle.nt_shred.specs.Frame.{HasRoomFor}
+use Rattle.nt_shred.specs.Places.{AddsUpTo}
 use Rattle.nt_shred.specs.Steps.{GainsInRoom, IsLast}
+use Rattle.nt_shred.specs.declared.line.Direct.{Direct}
 
--- the whole line is an array of a tree for each plan, and they are added
+-- the whole line is an array of a tree for each plan, and they are added, by no more elements a column than bytes
 pub record PutsLine (ps : PlansData) (line : List ℕ) (old new : List Buffer) : Type 0 where
   pub found : List TreeData
   pub told : tokens line ≡ json_tokens (array (jsons_of (trees_of found)))
   pub range : AllInRange (trees_of found)
   pub fitting : fit_plans ps (trees_of found) ≡ true
   pub gains : GainsInRoom (put_trees ps (trees_of found)) old new
+  pub few : AddsUpTo (length line) old new
 
 -- the set has the columns of a schema, sound for the entries so far
 pub record IsSoundSet (t : Table) (bs : List Buffer) : Type 0 where
@@ -39,3 +43,7 @@ pub record PutsEntry (t : Table) (line : List ℕ) (old new : List Buffer) : Typ
   pub added : cols_of new ≡ put_trees (open_plans t) (trees_of found) (cols_of old)
   pub last : (n : ℕ) → AllSound (open_plans t) (cols_of old) n → IsLast (open_plans t) (trees_of found) n (cols_of new)
   pub set : IsSetOf t.columns (columns_of new)
+
+-- what is known of the room in these columns holds
+abbrev pub KnowsRoom : Direct → List Buffer → Type 0
+KnowsRoom d bs = 0 < d.room → HasRoomFor bs d.room

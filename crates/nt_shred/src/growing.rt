@@ -29,7 +29,7 @@ fn has_narrow(out: &ColumnSet) -> bool
 }
 
 /// What ends of 32 bits count to, and one more.
-const NARROW: usize = 1 << 32;
+pub const NARROW: usize = 1 << 32;
 
 /// Whether the ends of all columns can count so many elements and so many more. Mostly any ends can, which needs
 /// no look at the columns.

@@ -32,7 +32,9 @@
 //! - The walks go as deep as the plans, which are of open fields and so of 64 levels at most.
 //! - Refused are strings with escapes, lines above 4096 bytes, and those for which there is no memory.
 //! - What an optional may contain is `null` itself in no schema. By a plan in which it is, `null` alone is taken.
-//! - What was added of a refused line is cut off again, at the lengths that were noted as room was made.
+//! - How much room all columns have is counted down from line to line, by the bytes of each, so that a line asks one test. Where it is
+//!   used up, or something else was done to the columns, each of them is looked at.
+//! - What was added of a refused line is cut off again, at the lengths that were noted before it.
 //! - A line of ASCII alone, as most are, is seen to be UTF-8 sixteen bytes at a time (`ascii.rt`), others by simdutf8.
 //! - Lists of integers, where most values are, have a loop of their own for each width and sign, in which the plan and
 //!   the column are looked up once.
@@ -56,5 +58,6 @@ mod putting;
 mod room;
 mod values;
 
+pub use ascii::is_utf8;
 pub use entry::shred;
 pub use line::Direct;

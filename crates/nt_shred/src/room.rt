@@ -1,28 +1,67 @@
 //! What is done to the columns before a line and after a refused one.
 
-ghost use Rattle.std.specs.Prelude.{◌≡◌, ◌≤◌, ◌^◌, List, length, true, OnOk};
+ghost use Rattle.std.specs.Prelude.{◌≡◌, ◌≤◌, ◌<◌, ◌^◌, List, length, true, IfOk, OnOk};
 ghost use Rattle.nt_column.specs.Column.{Buffer, columns_of};
 ghost use Rattle.nt_trees.specs.Described.{are_stored};
-ghost use Rattle.nt_shred.specs.Frame.{HasRoomFor};
+ghost use Rattle.nt_shred.specs.Frame.{HasRoomIn, HasRoomFor};
 ghost use Rattle.nt_shred.specs.Places.{Grew, lengths_of};
 
-use crate::growing::reserve_column;
+use crate::growing::{NARROW, reserve_column};
 use nt_column::ColumnSet;
 use std::alloc::AllocError;
 
-/// Makes room for so many more elements in each column, and notes how many it has.
-pub fn prepare(out: &mut ColumnSet, more: usize, marks: &mut Vec<usize>) -> Result<(), AllocError>
+/// How many more elements a column has memory for, and any ends can count.
+#[inline(always)]
+fn room_in(out: &ColumnSet, column: u32) -> usize
+    requires { column < length out.now }
+    ensures { 0 < result → HasRoomIn out.now column result }
+{
+    let buffer = out.column(column);
+    buffer
+        .spare()
+        .min((NARROW - 1).saturating_sub(buffer.len()))
+}
+
+/// Makes room for so many more elements in each column, and says how much there is in each at least.
+#[inline(never)]
+pub fn make_room(out: &mut ColumnSet, more: usize) -> Result<usize, AllocError>
     requires { length out.old ≤ 2 ^ 32 }
     ensures columns { columns_of out.new ≡ columns_of out.old }
-    ensures ok { OnOk result (HasRoomFor out.new more) }
-    ensures noted { OnOk result (marks.new.items ≡ lengths_of out.new) }
+    ensures ok { IfOk result (λ room. HasRoomFor out.new room × (more ≤ room)) }
 {
-    marks.clear();
-    marks.reserve(out.columns())?;
+    let mut room = usize::MAX;
     for column in 0..out.columns() {
-        let len = reserve_column(out, column as u32, more)?;
-        marks.push_reserved(len);
+        reserve_column(out, column as u32, more)?;
+        room = room.min(room_in(out, column as u32));
     }
+    if room > more {
+        return Ok(room);
+    }
+    Ok(more)
+}
+
+/// Notes how many elements each column has.
+fn note_each(out: &ColumnSet, marks: &mut [usize])
+    requires few { length out.now ≤ 2 ^ 32 }
+    requires count { length marks.old ≡ length out.now }
+    ensures { marks.new ≡ lengths_of out.now }
+{
+    for column in 0..marks.len() {
+        marks[column] = out.column(column as u32).len();
+    }
+}
+
+/// The same, in memory that is taken where it is lacking.
+#[inline(always)]
+pub fn note(out: &ColumnSet, marks: &mut Vec<usize>) -> Result<(), AllocError>
+    requires few { length out.now ≤ 2 ^ 32 }
+    ensures { OnOk result (marks.new.items ≡ lengths_of out.now) }
+{
+    if marks.len() != out.columns() {
+        marks.clear();
+        marks.resize(out.columns(), 0)?;
+    }
+    note_each(out, marks.as_mut_slice());
     Ok(())
 }
 

@@ -12,15 +12,18 @@ pub empty_columns-requires : goal.empty_columns-requires
 empty_columns-requires g c = described_known _ _ c.requires.schema
 
 pub invariant_of-result : goal.invariant_of-result
-invariant_of-result g c = record {
-  of = c.requires.pass.of;
-  staged_is = c.requires.pass.staged_is;
-  none_out = subst (λ (l : List (Entry ClusterMeta)). HasNoneOut l) (sym c.requires.pass.unused) tt;
-  filled = λ there. subst (λ (l : List (Entry ClusterMeta)). AllByRecursion IsFilledRange (ranges_of l)) (sym c.requires.pass.unused) tt;
-  count = c.requires.schema.count;
-  some = described_some c.described_fields_are_open.ensures _ c.args.schema.now c.requires.schema;
-  gives = c.in-Ok.ensures;
-  few = omega arith;
-  cluster = c.args.params.now.cluster_range;
-  page = c.args.params.now.page_range;
-}
+invariant_of-result g c = (
+  record {
+    of = c.requires.pass.of;
+    staged_is = c.requires.pass.staged_is;
+    none_out = subst (λ (l : List (Entry ClusterMeta)). HasNoneOut l) (sym c.requires.pass.unused) tt;
+    filled = λ there. subst (λ (l : List (Entry ClusterMeta)). AllByRecursion IsFilledRange (ranges_of l)) (sym c.requires.pass.unused) tt;
+    count = c.requires.schema.count;
+    some = described_some c.described_fields_are_open.ensures _ c.args.schema.now c.requires.schema;
+    gives = c.in-Ok.ensures;
+    few = omega arith;
+    cluster = c.args.params.now.cluster_range;
+    page = c.args.params.now.page_range;
+  },
+  c.new-in-Ok.ensures _,
+)

@@ -24,15 +24,15 @@ write_image-requires g c =
     let is = c.in_ok-image.ensures.meta ∙ (ap (λ (i : ℕ). cluster_meta page i n columns) c.number.ensures
     ∙ ap (λ (m : ℕ). cluster_meta page number m columns) (sym (entries_count t columns n))) in
     record {
-      of = c.self.invariant.of;
-      staged_is = c.self.invariant.staged_is;
+      of = c.self.invariant.0.of;
+      staged_is = c.self.invariant.0.staged_is;
       unpublished = subst (λ s. IsUnpublished s.staged s.pass) (sym c.self.view_is) c.requires.alive.unpublished;
-      none_out = c.self.invariant.none_out;
-      filled = c.self.invariant.filled;
+      none_out = c.self.invariant.0.none_out;
+      filled = c.self.invariant.0.filled;
       alive = subst (λ s. IsSome s.pen) (sym c.self.view_is) c.requires.alive.alive;
-      image_is = image_for t columns (entries_given t columns n) c.self.invariant.gives page number
+      image_is = image_for t columns (entries_given t columns n) c.self.invariant.0.gives page number
           c.self.inside.committer.now.birth.columns
-          (c.columns_have_types.ensures t) c.self.invariant.some c.self.invariant.count c.self.invariant.page
+          (c.columns_have_types.ensures t) c.self.invariant.0.some c.self.invariant.0.count c.self.invariant.0.page
           c.in_ok-image.image c.in_ok-image.ensures.bytes is;
     }
 
@@ -72,7 +72,7 @@ returns-in_err-write_image-clause-refused g c =
       fault = λ is.
           rw (← c.self.view_is) (record {
             columns = columns;
-            gives = c.self.invariant.gives;
+            gives = c.self.invariant.0.gives;
             fails = subst
                 (λ (m : ClusterMeta). FailsToWrite c.self.inside.store.staged m c.self.inside.pass c.write_image.new.pass c.self.inside.pen
                 c.write_image.new.pen) meta
@@ -85,20 +85,22 @@ returns-in_err-write_image-clause-refused g c =
 
 pub invariant_of-self-2 : goal.invariant_of-self-2
 invariant_of-self-2 g c =
-    let t = c.self.inside.schema.now in
-    record {
-      of = c.in_ok-write_image.ensures.pass.of;
-      staged_is = c.self.invariant.staged_is;
-      none_out = c.in_ok-write_image.ensures.pass.none_out;
-      filled = c.in_ok-write_image.ensures.pass.filled;
-      count = c.self.invariant.count;
-      some = c.self.invariant.some;
-      gives = subst (λ (cs : List Column). Gives t cs []) (sym c.clear.ensures)
-          (emptied_gives t (columns_of c.self.inside.store.columns) c.self.invariant.gives.set.described);
-      few = omega arith;
-      cluster = c.self.invariant.cluster;
-      page = c.self.invariant.page;
-    }
+    let t = c.self.inside.schema.now in (
+      record {
+        of = c.in_ok-write_image.ensures.pass.of;
+        staged_is = c.self.invariant.0.staged_is;
+        none_out = c.in_ok-write_image.ensures.pass.none_out;
+        filled = c.in_ok-write_image.ensures.pass.filled;
+        count = c.self.invariant.0.count;
+        some = c.self.invariant.0.some;
+        gives = subst (λ (cs : List Column). Gives t cs []) (sym c.clear.ensures)
+            (emptied_gives t (columns_of c.self.inside.store.columns) c.self.invariant.0.gives.set.described);
+        few = omega arith;
+        cluster = c.self.invariant.0.cluster;
+        page = c.self.invariant.0.page;
+      },
+      c.forget.ensures _,
+    )
 
 pub returns-clause-nothing : goal.returns-clause-nothing
 returns-clause-nothing g c = λ none.
@@ -122,7 +124,7 @@ returns-clause-ok g c = λ some.
         context = context;
         blob = record {
           bytes = blob_key (length c.in_ok-image.image.bytes - key_room) w.written.start ++ drop key_room c.in_ok-image.image.bytes;
-          blob = blob_of t columns (entries_given t columns n) c.self.invariant.gives page c.number.result w.written.start
+          blob = blob_of t columns (entries_given t columns n) c.self.invariant.0.gives page c.number.result w.written.start
               c.in_ok-image.image w.written.meta c.in_ok-image.ensures.bytes is w.meta;
           told_are = w.bytes;
         };

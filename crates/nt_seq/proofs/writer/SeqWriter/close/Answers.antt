@@ -19,7 +19,7 @@ returns-in-Ok-clause-counts g c =
 pub returns-in-Ok-clause-file : goal.returns-in-Ok-clause-file
 returns-in-Ok-clause-file g c =
     let alive = subst (λ s. s.alive ≡ true) (sym c.self.view_is) c.requires.alive in
-    let was = c.self.invariant.writing alive in
+    let was = c.self.invariant.0.writing alive in
     rw (← c.self.view_is) (λ h told.
     let left = left-whole g.D.Disk.state _ was c.keeps.ensures (λ k held. (g.met.D.Disk.told c.self.inside.disk k held).1) h told
     c.crashes_leave_closed_or_unfinished.ensures
@@ -29,7 +29,7 @@ returns-in-Ok-clause-file g c =
 pub returns-clause-cause : goal.returns-clause-cause
 returns-clause-cause g c =
     let alive = subst (λ s. s.alive ≡ true) (sym c.self.view_is) c.requires.alive in
-    let was = c.self.invariant.writing alive in
+    let was = c.self.invariant.0.writing alive in
     rw (← c.self.view_is) (record {
       undamaged = record {
         unspoiled = none-spoiled (book_ranges c.self.inside.book) (subst (λ (b : Bool). AllByRecursion IsSettledCluster (clusters_of b
@@ -43,7 +43,7 @@ returns-clause-cause g c =
 pub returns-clause-file : goal.returns-clause-file
 returns-clause-file g c =
     let alive = subst (λ s. s.alive ≡ true) (sym c.self.view_is) c.requires.alive in
-    let was = c.self.invariant.writing alive in
+    let was = c.self.invariant.0.writing alive in
     rw (← c.self.view_is) (λ h told.
     let left = left-open g.D.Disk.state _ was c.keeps.ensures (λ k held. (g.met.D.Disk.told c.self.inside.disk k held).1) h told
     c.crashes_leave_closed_or_unfinished.ensures

@@ -19,7 +19,7 @@ use Rattle.nt_seq.proofs.writer.SeqWriter.extend.Goals as goal
 pub widen-requires : goal.widen-requires
 widen-requires g c =
     let alive = subst (λ s. s.alive ≡ true) (sym c.self.view_is) c.requires.clear.alive in
-    let was = c.self.invariant.writing alive in
+    let was = c.self.invariant.0.writing alive in
     let t = c.self.inside.schema in
     let new = c.extend.new.self in
     let field = member_view c.args.member.now in
@@ -50,7 +50,7 @@ widen-requires g c =
 pub invariant_of-self-in-Ok-widen : goal.invariant_of-self-in-Ok-widen
 invariant_of-self-in-Ok-widen g c =
     let alive = subst (λ s. s.alive ≡ true) (sym c.self.view_is) c.requires.clear.alive in
-    let was = c.self.invariant.writing alive in
+    let was = c.self.invariant.0.writing alive in
     let t = c.self.inside.schema in
     let new = c.extend.new.self in
     let book = c.self.inside.book in
@@ -73,19 +73,21 @@ invariant_of-self-in-Ok-widen g c =
     let none = sym (entries_count t (columns_of c.self.inside.columns) c.self.inside.entries) ∙ ap length gathered in
     let next = c.in-Ok-widen.ensures.ok.1 ∙ ap (λ (k : ℕ). record book {
       firsts = book.firsts ++ first_elements (drop k new.columns);
-    }) c.columns-before.ensures in
-    record {
-      unclosed = c.self.invariant.unclosed;
-      writing = λ _. writing-widened g.D.Disk.state _ c.widen.new.book new (columns_of c.in-Ok-widen.columns) field
-          (place new.fields new.columns (as_read field.of) (length t.fields)) was none added out next c.in-Ok-widen.ensures.parts
-          (c.late_fields_are_described.ensures t field plain count new was.described c.requires.rules few (omega (arith, short)) added)
-          few (c.described_rows_are_whole.ensures.added t field plain count new added was.closable.whole) c.in-Ok-widen.ensures.ok.0;
-    }
+    }) c.columns-before.ensures in (
+      record {
+        unclosed = c.self.invariant.0.unclosed;
+        writing = λ _. writing-widened g.D.Disk.state _ c.widen.new.book new (columns_of c.in-Ok-widen.columns) field
+            (place new.fields new.columns (as_read field.of) (length t.fields)) was none added out next c.in-Ok-widen.ensures.parts
+            (c.late_fields_are_described.ensures t field plain count new was.described c.requires.rules few (omega (arith, short)) added)
+            few (c.described_rows_are_whole.ensures.added t field plain count new added was.closable.whole) c.in-Ok-widen.ensures.ok.0;
+      },
+      c.forget.ensures _,
+    )
 
 pub returns-in-Ok-widen : goal.returns-in-Ok-widen
 returns-in-Ok-widen g c =
     let alive = subst (λ s. s.alive ≡ true) (sym c.self.view_is) c.requires.clear.alive in
-    let was = c.self.invariant.writing alive in
+    let was = c.self.invariant.0.writing alive in
     let t = c.self.inside.schema in
     let new = c.extend.new.self in
     let book = c.self.inside.book in

@@ -24,7 +24,7 @@ invariant_of-self-2 g c =
     let new = c.shred.new.out in
     let room = subst (λ s. length (gathered_by s) < s.params.cluster) (sym c.self.view_is) c.requires.room in
     let count = entries_count t (columns_of old) n in
-    let was = c.self.invariant.writing (subst (λ s. s.alive ≡ true) (sym c.self.view_is) c.requires.alive) in
+    let was = c.self.invariant.0.writing (subst (λ s. s.alive ≡ true) (sym c.self.view_is) c.requires.alive) in
     let is : IsAdded t ts old new = record {
       set = c.in_ok-shred.ensures.set;
       in_range = c.in_range.ensures;
@@ -32,12 +32,14 @@ invariant_of-self-2 g c =
       fits = subst (λ s. fits_entry s.table ts ≡ true) (sym c.self.view_is) c.requires.fits;
       added = c.in_ok-shred.ensures.added;
       last = c.in_ok-shred.ensures.last;
-    } in
-    record {
-      unclosed = c.self.invariant.unclosed;
-      writing = λ _. writing-filled g.D.Disk.state _ (columns_of new) (n + 1) was (gives-added t ts old new n is was.gives)
-          (omega (arith, room, count));
-    }
+    } in (
+      record {
+        unclosed = c.self.invariant.0.unclosed;
+        writing = λ _. writing-filled g.D.Disk.state _ (columns_of new) (n + 1) was (gives-added t ts old new n is was.gives)
+            (omega (arith, room, count));
+      },
+      c.forget.ensures _,
+    )
 
 pub returns-clause-ok : goal.returns-clause-ok
 returns-clause-ok g c =
@@ -46,7 +48,7 @@ returns-clause-ok g c =
     let ts = trees_of (trees_view c.args.trees.now) in
     let old = c.self.inside.columns in
     let new = c.shred.new.out in
-    let was = c.self.invariant.writing (subst (λ s. s.alive ≡ true) (sym c.self.view_is) c.requires.alive) in
+    let was = c.self.invariant.0.writing (subst (λ s. s.alive ≡ true) (sym c.self.view_is) c.requires.alive) in
     let is : IsAdded t ts old new = record {
       set = c.in_ok-shred.ensures.set;
       in_range = c.in_range.ensures;

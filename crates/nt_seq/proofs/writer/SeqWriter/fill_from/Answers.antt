@@ -25,7 +25,7 @@ invariant_of-self-2 g c =
     let new = c.move_chosen.new.out in
     let room = subst (λ s. length (gathered_by s) < s.params.cluster) (sym c.self.view_is) c.requires.room.room in
     let count = entries_count t (columns_of old) n in
-    let was = c.self.invariant.writing (subst (λ s. s.alive ≡ true) (sym c.self.view_is) c.requires.room.alive) in
+    let was = c.self.invariant.0.writing (subst (λ s. s.alive ≡ true) (sym c.self.view_is) c.requires.room.alive) in
     let is : IsAdded t ts old new = record {
       set = c.in_ok-move_chosen.ensures.set;
       in_range = c.in_range.ensures;
@@ -33,12 +33,14 @@ invariant_of-self-2 g c =
       fits = subst (λ s. fits_entry s.table ts ≡ true) (sym c.self.view_is) c.requires.fits;
       added = c.in_ok-move_chosen.ensures.added;
       last = c.in_ok-move_chosen.ensures.last;
-    } in
-    record {
-      unclosed = c.self.invariant.unclosed;
-      writing = λ _. writing-filled g.D.Disk.state _ (columns_of new) (n + 1) was (gives-added t ts old new n is was.gives)
-          (omega (arith, room, count));
-    }
+    } in (
+      record {
+        unclosed = c.self.invariant.0.unclosed;
+        writing = λ _. writing-filled g.D.Disk.state _ (columns_of new) (n + 1) was (gives-added t ts old new n is was.gives)
+            (omega (arith, room, count));
+      },
+      c.forget.ensures _,
+    )
 
 pub returns-clause-ok : goal.returns-clause-ok
 returns-clause-ok g c =
@@ -47,7 +49,7 @@ returns-clause-ok g c =
     let ts = chosen_at (plans_of (plans_view c.args.plans.now)) (g.C.Columns.elements c.args.from.now) c.args.places.now c.args.i in
     let old = c.self.inside.columns in
     let new = c.move_chosen.new.out in
-    let was = c.self.invariant.writing (subst (λ s. s.alive ≡ true) (sym c.self.view_is) c.requires.room.alive) in
+    let was = c.self.invariant.0.writing (subst (λ s. s.alive ≡ true) (sym c.self.view_is) c.requires.room.alive) in
     let is : IsAdded t ts old new = record {
       set = c.in_ok-move_chosen.ensures.set;
       in_range = c.in_range.ensures;

@@ -14,12 +14,15 @@ invariant_of-result g c =
     let state = g.D.Disk.state in
     let begun = c.in-Ok-begin.ensures.begun in
     let held = held-begun fields p (state c.args.disk) (state c.begin.new.disk) book t c.requires.unstaged begun c.requires.blank.held in
-    rw (c.of-given.ensures, c.of-begun.ensures) (record {
-      unclosed = λ h told. (_, held h told, record { blobs = []; steps = inl refl });
-      writing = λ _. writing-begun state fields p c.args.disk c.begin.new.disk book t (columns_of c.in-Ok.columns)
-          c.requires.unstaged begun c.requires.blank.held c.requires.blank.out
-          (c.schemas_are_described.ensures fields p.plain t c.requires.fields begun.rows) (c.in-Ok.ensures t begun.rows);
-    })
+    rw (c.of-given.ensures, c.of-begun.ensures) (
+      record {
+        unclosed = λ h told. (_, held h told, record { blobs = []; steps = inl refl });
+        writing = λ _. writing-begun state fields p c.args.disk c.begin.new.disk book t (columns_of c.in-Ok.columns)
+            c.requires.unstaged begun c.requires.blank.held c.requires.blank.out
+            (c.schemas_are_described.ensures fields p.plain t c.requires.fields begun.rows) (c.in-Ok.ensures t begun.rows);
+      },
+      c.new-in-Ok-begin.ensures _,
+    )
 
 pub returns-in-Ok-begin-clause-ok : goal.returns-in-Ok-begin-clause-ok
 returns-in-Ok-begin-clause-ok g c =

@@ -18,7 +18,7 @@ use Rattle.nt_seq.proofs.writer.SeqWriter.write_next.Goals as goal
 pub append_next-requires : goal.append_next-requires
 append_next-requires g c =
     let alive = subst (λ s. s.alive ≡ true) (sym c.self.view_is) c.requires.alive in
-    let was = c.self.invariant.writing alive in
+    let was = c.self.invariant.0.writing alive in
     record {
       not_staged = was.not_staged;
       image_is = image-fits g.D.Disk.state _ was c.in_ok-image.image c.in_ok-image.ensures.bytes c.in_ok-image.ensures.meta
@@ -30,15 +30,17 @@ pub invariant_of-self-in_err-append_next : goal.invariant_of-self-in_err-append_
 invariant_of-self-in_err-append_next g c =
     let alive = subst (λ s. s.alive ≡ true) (sym c.self.view_is) c.requires.alive in
     let told = c.in_err-append_next.ensures in
-    let e = c.in_err-append_next.field-0.0 in
-    after-error g.D.Disk.state _ (c.self.invariant.writing alive) c.append_next.new.disk c.append_next.new.book
-    c.append_next.new.alive c.in_ok-image.image e (λ apart. told.kept e refl apart) (λ same.
-    told.fault (ap (λ (x : CommitError). Err x) same))
+    let e = c.in_err-append_next.field-0.0 in (
+      after-error g.D.Disk.state _ (c.self.invariant.0.writing alive) c.append_next.new.disk c.append_next.new.book
+          c.append_next.new.alive c.in_ok-image.image e (λ apart. told.kept e refl apart) (λ same.
+          told.fault (ap (λ (x : CommitError). Err x) same)),
+      c.self.invariant.1,
+    )
 
 pub invariant_of-self-2 : goal.invariant_of-self-2
 invariant_of-self-2 g c =
     let alive = subst (λ s. s.alive ≡ true) (sym c.self.view_is) c.requires.alive in
-    let was = c.self.invariant.writing alive in
+    let was = c.self.invariant.0.writing alive in
     let i = c.in_ok-image.image in
     let made = c.in_ok-image.ensures in
     let state = g.D.Disk.state in
@@ -50,12 +52,14 @@ invariant_of-self-2 g c =
     let fits = c.in_ok-append_next.ensures.limits (λ same. cc same) in
     let disk = c.append_next.new.disk in
     let next = c.append_next.new.book in
-    let cleared = columns_of c.clear.new.self in
-    record {
-      unclosed = unclosed-more state _ disk next cleared i was made.bytes meta fits appends empty;
-      writing = λ _. writing-alive state _ c.append_next.new.alive
-          (writing-more state _ disk next cleared i was made.bytes meta fits appends empty);
-    }
+    let cleared = columns_of c.clear.new.self in (
+      record {
+        unclosed = unclosed-more state _ disk next cleared i was made.bytes meta fits appends empty;
+        writing = λ _. writing-alive state _ c.append_next.new.alive
+            (writing-more state _ disk next cleared i was made.bytes meta fits appends empty);
+      },
+      c.forget.ensures _,
+    )
 
 -- something is gathered
 pub returns-in_err-image : goal.returns-in_err-image
@@ -79,7 +83,7 @@ returns-in_err-image g c =
 pub returns-in_err-append_next : goal.returns-in_err-append_next
 returns-in_err-append_next g c =
     let alive = subst (λ s. s.alive ≡ true) (sym c.self.view_is) c.requires.alive in
-    let was = c.self.invariant.writing alive in
+    let was = c.self.invariant.0.writing alive in
     let p = err_from_is_err_and c.from_residual-in_err-append_next.result c.from_residual-in_err-append_next.ensures.1 in
     let told = c.in_err-append_next.ensures in
     let inside = c.self.inside in
@@ -140,7 +144,7 @@ returns-in_err-append_next g c =
 pub returns : goal.returns
 returns g c =
     let alive = subst (λ s. s.alive ≡ true) (sym c.self.view_is) c.requires.alive in
-    let was = c.self.invariant.writing alive in
+    let was = c.self.invariant.0.writing alive in
     let i = c.in_ok-image.image in
     let made = c.in_ok-image.ensures in
     let state = g.D.Disk.state in

@@ -12,13 +12,13 @@ use Rattle.nt_shred.specs.Lines.{PutsEntry}
 use Rattle.nt_fill.specs.Context.{gathered}
 use Rattle.nt_fill.proofs.Bytes.{all_bytes, small_of}
 use Rattle.nt_fill.proofs.Entries.{entries_more, entries_count, nones_more, gives_of}
-use Rattle.nt_fill.proofs.filling.FillContext+D.fill_line.Goals as goal
+use Rattle.nt_fill.proofs.filling.FillContext+D.fill_utf8.Goals as goal
 
 pub overflow_add-self : goal.overflow_add-self
 overflow_add-self g c =
     let room = subst (λ s. length (gathered s) < s.cluster) (sym c.self.view_is) c.requires.room in
     let count = entries_count c.self.inside.schema.now (columns_of c.self.inside.store.columns) c.self.inside.store.entries in
-    record { fits = omega (arith, room, count, c.self.invariant.cluster.1) }
+    record { fits = omega (arith, room, count, c.self.invariant.0.cluster.1) }
 
 pub invariant_of-self-2 : goal.invariant_of-self-2
 invariant_of-self-2 g c =
@@ -28,26 +28,28 @@ invariant_of-self-2 g c =
     let new = c.put_line.new.out in
     let room = subst (λ s. length (gathered s) < s.cluster) (sym c.self.view_is) c.requires.room in
     let count = entries_count t (columns_of old) n in
-    let sound = subst (λ m. AllSound (open_plans t) (cols_of old) m) count c.self.invariant.gives.sound in
+    let sound = subst (λ m. AllSound (open_plans t) (cols_of old) m) count c.self.invariant.0.gives.sound in
     let taken : PutsEntry t c.args.line.now old new =
     subst (λ b. MatchBool b (PutsEntry t c.args.line.now old new) (columns_of new ≡ columns_of old)) c.if-not-put_line.false
-    c.put_line.ensures in
+    c.put_line.ensures.entry in
     let last = taken.last n sound in
-    let more : suc n ≡ n + 1 = omega arith in
-    record {
-      of = c.self.invariant.of;
-      staged_is = c.self.invariant.staged_is;
-      none_out = c.self.invariant.none_out;
-      filled = c.self.invariant.filled;
-      count = c.self.invariant.count;
-      some = c.self.invariant.some;
-      gives = gives_of t (columns_of new) (n + 1) taken.set c.in_range.ensures
-          (subst (λ m. AllSound (open_plans t) (cols_of new) m) more last.sound)
-          (nones_more t (trees_of taken.found) old new taken.added taken.fitting c.self.invariant.gives.nones);
-      few = omega (arith, room, count);
-      cluster = c.self.invariant.cluster;
-      page = c.self.invariant.page;
-    }
+    let more : suc n ≡ n + 1 = omega arith in (
+      record {
+        of = c.self.invariant.0.of;
+        staged_is = c.self.invariant.0.staged_is;
+        none_out = c.self.invariant.0.none_out;
+        filled = c.self.invariant.0.filled;
+        count = c.self.invariant.0.count;
+        some = c.self.invariant.0.some;
+        gives = gives_of t (columns_of new) (n + 1) taken.set c.in_range.ensures
+            (subst (λ m. AllSound (open_plans t) (cols_of new) m) more last.sound)
+            (nones_more t (trees_of taken.found) old new taken.added taken.fitting c.self.invariant.0.gives.nones);
+        few = omega (arith, room, count);
+        cluster = c.self.invariant.0.cluster;
+        page = c.self.invariant.0.page;
+      },
+      c.put_line.ensures.room,
+    )
 
 pub returns : goal.returns
 returns g c =
@@ -57,10 +59,10 @@ returns g c =
     let new = c.put_line.new.out in
     let taken : PutsEntry t c.args.line.now old new =
     subst (λ b. MatchBool b (PutsEntry t c.args.line.now old new) (columns_of new ≡ columns_of old)) c.if-not-put_line.false
-    c.put_line.ensures in
+    c.put_line.ensures.entry in
     let ts = trees_of taken.found in
     let count = entries_count t (columns_of old) n in
-    let sound = subst (λ m. AllSound (open_plans t) (cols_of old) m) count c.self.invariant.gives.sound in
+    let sound = subst (λ m. AllSound (open_plans t) (cols_of old) m) count c.self.invariant.0.gives.sound in
     let bytes = all_bytes (set_frame new) (cols_of new) (small_of new c.in_range.ensures) (open_plans t) ts (cols_of old)
     (all-typed-take new t.columns taken.set.described taken.set.stored (open_plans t) (c.columns_have_types.ensures t))
     (fit-open t.fields t.columns 0 (open_shapes t.fields t.columns 0 t.fields) ts ∙ taken.fitting)
