@@ -20,7 +20,7 @@ use Rattle.nt_contexts.specs.declared.error.ContextError.{ContextError}
 use Rattle.nt_contexts.specs.declared.error.ContextError.TheVariants.{Text, Limit, Outside, Memory}
 use Rattle.nt_contexts.specs.Reading.{GivesJust}
 use Rattle.nt_contexts.specs.Filling.{IsSameContext, IsHalt, Halts}
-use Rattle.nt_contexts.specs.Taking.{TakesNone, TakesEntry, TakesTextLine}
+use Rattle.nt_contexts.specs.Taking.{TakesNone, TakesEntry, TakesTextLine, TakesNextLine}
 use Rattle.nt_contexts.specs.Running.{GoesOn, IsCause, EndsEarly, error_of_line, ReadsLine}
 use Rattle.nt_contexts.proofs.Reading.{read-blank, read-entry, read-bad}
 use Rattle.nt_contexts.proofs.BadLines.{read-ahead, read-too_long}
@@ -155,3 +155,11 @@ module _ {D P : Type 0} (state : D → DiskState) (F : MembersData) (text : Opti
       (read-too_long F text on.entries was line on.read h.0 h.1)
   not_given c was is given.Memory on h =
       let ahead = read-ahead F text on.entries was on.read in ends_here c was was is Memory ahead.0 ahead.1 on ahead.2 tt
+
+  -- the next line was not taken, or not given
+  pub not_next : (old new : DiskContext D P) (was is : LinesState) (error : ContextError) → (on : GoesOn state F text start old was)
+      → TakesNextLine state F on.entries was is old new (Err error) → ReadsLine state F text start was is new (Err error)
+  not_next old new was is error on (inl h) = not_taken old new was is h.0 error on h.1 h.2
+  not_next old new was is error on (inr h) =
+      subst (λ (c : DiskContext D P). ReadsLine state F text start was is c (Err error)) (sym h.3)
+      (subst (λ (e : ContextError). ReadsLine state F text start was is old (Err e)) (sym h.1) (not_given old was is h.0 on h.2))

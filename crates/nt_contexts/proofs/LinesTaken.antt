@@ -1,5 +1,5 @@
 -- Lines that were taken, and what is left of a text behind them.
-use Rattle.std.proofs.Common.{◌≡◌, inl, inr, ℕ, ◌<◌, ◌≤◌, List, [], ◌∷◌, ◌++◌, length, Option, None, Result, Ok}
+use Rattle.std.proofs.Common.{◌≡◌, inl, inr, ℕ, ◌<◌, ◌≤◌, false, List, [], ◌∷◌, ◌++◌, length, Option, None, Result, Ok}
 use Rattle.std.proofs.Common.{Err, refl, sym}
 use Rattle.std.proofs.Common.{ap, ◌∙◌, subst, append-nil, arith}
 use Rattle.std.specs.Io.KnownBytes.{IsAtEnd}
@@ -22,7 +22,7 @@ use Rattle.nt_contexts.specs.declared.error.ContextError.{ContextError}
 use Rattle.nt_contexts.specs.declared.error.ContextError.TheVariants.{Text, Limit, Outside, Memory}
 use Rattle.nt_contexts.specs.Filling.{IsFor, IsSameContext, IsOpen, IsEmptied, HasCommitted, HasTaken, HasWrittenChunks, held_before}
 use Rattle.nt_contexts.specs.Filling.{Halts}
-use Rattle.nt_contexts.specs.Taking.{WritesChunk, WritesRest, PublishesAll}
+use Rattle.nt_contexts.specs.Taking.{WritesChunk, WritesRest, PublishesAll, TakesNextLine}
 use Rattle.nt_contexts.specs.Running.{GoesOn, HasAll, IsCause, ReadsLine, Ended}
 use Rattle.nt_contexts.proofs.Reading.{read-end}
 use Rattle.nt_contexts.proofs.BadLines.{read-nothing}
@@ -165,3 +165,9 @@ module _ {D P : Type 0} (state : D → DiskState) (F : MembersData) (text : Opti
     is_open = on.is_open;
     same = on.same;
   }
+
+  -- there was no next line
+  pub none_next : (old new : DiskContext D P) (was is : LinesState) → (on : GoesOn state F text start old was)
+      → TakesNextLine state F on.entries was is old new (Ok false) → HasAll state F text start new
+  none_next old new was is on none =
+      subst (λ (c : DiskContext D P). HasAll state F text start c) (sym none.1) (all_given old was is on none.0.was)

@@ -1,16 +1,22 @@
 -- What a context has taken after a line.
-use Rattle.std.proofs.Common.{◌≡◌, inr, ℕ, ◌+◌, false, List, [], ◌∷◌, ◌++◌, length, Result, Ok, Err, sym, ap, ◌∙◌, subst, append_assoc}
+use Rattle.std.proofs.Common.{◌≡◌, inr, ℕ, ◌+◌, false, true, List, [], ◌∷◌, ◌++◌, length, Result, Ok, Err}
+use Rattle.std.proofs.Common.{sym, ap, ◌∙◌, subst, append_assoc}
 use Rattle.std.specs.List.{flat_map}
-use Rattle.nt_types.specs.ShapeData.{MembersData}
-use Rattle.nt_types.specs.TreeData.{TreesData}
+use Rattle.nt_types.specs.ShapeData.{MemberData, MembersData, parts_of}
+use Rattle.nt_types.specs.TreeData.{TreeData, TreesData, trees_of}
+use Rattle.nt_types.specs.Rules.{AreFields}
+use Rattle.nt_types.specs.Fits.{fit_parts}
 use Rattle.nt_types.specs.Lines.{is_blank_line}
 use Rattle.nt_outside.specs.Disk.{DiskState}
 use Rattle.nt_event.specs.declared.lines.Line.{Line}
 use Rattle.nt_event.specs.Entry.{entry_of}
-use Rattle.nt_fill.specs.Context.{gathered, Gathers, MayGather}
+use Rattle.nt_event.specs.Standing.{SpellsTrees}
+use Rattle.nt_grammar.proofs.Described.{described-open}
+use Rattle.nt_dealing.proofs.TableFits.{table_fits}
+use Rattle.nt_fill.specs.Context.{gathered, Gathers, GathersLine, MayGather}
 use Rattle.nt_fill.specs.Flushes.{DiskContext}
 use Rattle.nt_contexts.specs.declared.error.ContextError.{ContextError}
-use Rattle.nt_contexts.specs.Filling.{IsSameContext, IsOpen, HasTaken, Halts}
+use Rattle.nt_contexts.specs.Filling.{IsFor, IsSameContext, IsOpen, HasTaken, Halts}
 use Rattle.nt_lists.specs.Chunks.{chunks}
 use Rattle.nt_contexts.specs.Taking.{WritesFull, TakesTextLine}
 
@@ -85,3 +91,22 @@ module _ {D P : Type 0} where
           (w rest) in
           record { same = same-trans old mid new same halts.same; committed = halts.committed; halt = halts.halt },
     )
+
+    -- a line whose entry was gathered as it stands there
+    pub took_spelled : (fields : List MemberData) (entries : List TreesData) (line : Line) (bytes : List ℕ) (old mid new : DiskContext D P)
+        (result : Result Unit ContextError) → IsFor fields old → GathersLine bytes old mid → bytes ≡ line.bytes
+        → is_blank_line bytes ≡ false
+        → ((ps : List MemberData) (ts : List TreeData) (l : List ℕ) → AreFields ps → SpellsTrees ts l
+        → fit_parts (parts_of ps) (trees_of ts) ≡ true → entry_of (parts_of ps) l ≡ Ok (trees_of ts))
+        → HasTaken state entries old
+        → ((es : List TreesData) → HasTaken state es mid → WritesFull state es mid new result)
+        → TakesTextLine state (parts_of fields) entries line old new result
+    took_spelled fields entries line bytes old mid new result is gathers same full reads taken writes =
+        let F = parts_of fields in
+        let entry = trees_of gathers.found in
+        let fits = sym (table_fits fields is.plain old.table entry is.rows (described-open fields is.plain old.table is.rules is.rows))
+        ∙ gathers.fits in
+        took_line F entries line entry old mid new result
+        (subst (λ (b : List ℕ). is_blank_line b ≡ false) same full)
+        (subst (λ (b : List ℕ). entry_of F b ≡ Ok entry) same (reads fields gathers.found bytes is.rules gathers.spells fits))
+        gathers.gathers (writes (entries ++ entry ∷ []) (took_entry entries entry old mid taken gathers.gathers))

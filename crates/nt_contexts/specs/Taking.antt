@@ -1,17 +1,20 @@
 -- What a context does with a line, and with what it has gathered.
-use Rattle.std.specs.Prelude.{◌≡◌, ◌⊎◌, true, false, List, [], ◌∷◌, ◌++◌, length, Result, Ok, Err}
+use Rattle.std.specs.Prelude.{◌≡◌, ◌⊎◌, Bool, true, false, List, [], ◌∷◌, ◌++◌, length, Result, Ok, Err}
 use Rattle.nt_types.specs.ShapeData.{MembersData}
 use Rattle.nt_types.specs.TreeData.{TreesData}
 use Rattle.nt_types.specs.Lines.{is_blank_line}
 use Rattle.nt_outside.specs.Disk.{DiskState}
 use Rattle.nt_lists.specs.Chunks.{chunks}
 use Rattle.nt_event.specs.declared.lines.Line.{Line}
+use Rattle.nt_event.specs.declared.lines.LineError.{LineError}
 use Rattle.nt_event.specs.Entry.{entry_of}
+use Rattle.nt_event.specs.Lines.{LinesState, IsNextLine, StaysAtEnd, GivesLine}
 use Rattle.nt_fill.specs.Context.{gathered}
 use Rattle.nt_fill.specs.Flushes.{DiskContext, WritesCluster}
 use Rattle.nt_contexts.specs.declared.error.ContextError.{ContextError}
 use Rattle.nt_contexts.specs.declared.error.ContextError.TheVariants.{Text, Limit, Outside, Memory}
 use Rattle.nt_contexts.specs.Filling.{HasTaken, IsOpen, IsEmptied, IsSameContext, HasCommitted, HasWrittenChunks, HasWrittenAll, Halts}
+use Rattle.nt_contexts.specs.Running.{error_of_line}
 
 -- what is wrong with a line
 abbrev pub IsEntryError : MembersData → Line → ContextError → Type 0
@@ -76,3 +79,20 @@ module _ {D P : Type 0} where
     abbrev pub PublishesAll : List TreesData → DiskContext D P → DiskContext D P → Result Unit ContextError → Type 0
     PublishesAll entries old new (Ok done) = HasWrittenAll state entries new × IsSameContext old new
     PublishesAll entries old new (Err error) = Halts state (λ chunk. Unit {0}) (chunks old.cluster entries) old new error
+
+    -- the line that came next was taken, or why not; or none was
+    abbrev pub TakesReady : MembersData → List TreesData → LinesState → LinesState → DiskContext D P → DiskContext D P
+        → Result Bool ContextError → Type 0
+    TakesReady F entries was is old new (Ok true) = (line : Line) × IsNextLine was is line × TakesEntry F entries line old new
+    TakesReady F entries was is old new (Ok false) = Unit {0}
+    TakesReady F entries was is old new (Err error) =
+        (line : Line) × IsNextLine was is line × TakesTextLine F entries line old new (Err error)
+
+    -- the next line was taken, or there is none; or why not: the line, or that it wasn't given
+    abbrev pub TakesNextLine : MembersData → List TreesData → LinesState → LinesState → DiskContext D P → DiskContext D P
+        → Result Bool ContextError → Type 0
+    TakesNextLine F entries was is old new (Ok true) = (line : Line) × IsNextLine was is line × TakesEntry F entries line old new
+    TakesNextLine F entries was is old new (Ok false) = StaysAtEnd was is × (new ≡ old)
+    TakesNextLine F entries was is old new (Err error) =
+        ((line : Line) × IsNextLine was is line × TakesTextLine F entries line old new (Err error))
+        ⊎ ((why : LineError) × (error ≡ error_of_line why) × GivesLine was is (Err why) × (new ≡ old))

@@ -11,7 +11,7 @@ ghost use Rattle.nt_contexts.specs.Taking.{WritesRest, PublishesAll};
 
 use crate::error::ContextError;
 use crate::shared::Shared;
-use crate::taking::{take_line, write_gathered};
+use crate::taking::{take_next, write_gathered};
 use nt_event::LineReader;
 use nt_fill::FillContext;
 use nt_outside::{Disk, Gate, Source};
@@ -69,17 +69,9 @@ pub(crate) fn read_all<D: Disk, S: Source, G: Gate>(
     ensures later { (left_of S.state lines.old).faults ≤ (left_of S.state lines.new).faults }
 {
     for count in 0..=MAX_NUMBER {
-        let line = match lines.next(shared.alloc) {
-            Ok(Some(line)) => line,
-            Ok(None) => {
-                write_rest(rt, shared.gate, fill)?;
-                return publish_written(rt, shared, fill);
-            }
-            Err(error) => return Err(ContextError::from(error)),
-        };
-        match take_line(rt, shared, fill, &line) {
-            Ok(()) => lines.reuse(line),
-            Err(error) => return Err(error),
+        if !take_next(rt, shared, lines, fill)? {
+            write_rest(rt, shared.gate, fill)?;
+            return publish_written(rt, shared, fill);
         }
     }
     unreachable!()
