@@ -2,9 +2,8 @@
 
 ghost use Rattle.nt_tfile.specs.Calls.{Serves};
 
-use nt_listing::read_columns;
 use nt_outside::ReadAt;
-use nt_reader::Reader;
+use nt_reader::{ClusterRead, Reader};
 use nt_tfile::ReadFailure;
 use nt_view::{ClusterBytes, PageView};
 use std::alloc::Global;
@@ -19,17 +18,18 @@ fn greatest_of(page: &PageView<'_>) -> u64 {
 }
 
 /// The greatest number of a column in the pages of a cluster, or 0.
-fn greatest_in(cluster: &ClusterBytes, column: u32) -> u64 {
+fn greatest_in(cluster: &ClusterRead<'_>, column: u32) -> u64 {
     let mut greatest = 0;
     for p in 0..cluster.pages() {
         if cluster.page(p).column == column {
-            greatest = greatest.max(greatest_of(&cluster.view(p)));
+            greatest = greatest.max(greatest_of(&cluster.columns().view(p)));
         }
     }
     greatest
 }
 
-/// How many clusters a file has, and the greatest number of a column in it. The pages of one cluster are in memory at a time.
+/// How many clusters a file has, and the greatest number of a column in it. The pages of each cluster are loaded in the memory of those
+/// before.
 pub fn greatest<F: ReadAt>(
     alloc: Global,
     file: &mut F,
@@ -39,10 +39,11 @@ pub fn greatest<F: ReadAt>(
 {
     let reader = Reader::attach(alloc, file)?;
     let mut greatest = 0;
+    let mut kept = ClusterBytes::new(alloc);
     for k in 0..reader.clusters() {
-        let kept = ClusterBytes::new(alloc);
-        let cluster = read_columns(alloc, file, k, reader.listed(k), reader.schema(), kept)?;
+        let cluster = reader.cluster_in(alloc, file, k, kept)?;
         greatest = greatest.max(greatest_in(&cluster, column));
+        kept = cluster.into_columns();
     }
     Ok((reader.clusters(), greatest))
 }

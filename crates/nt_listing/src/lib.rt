@@ -10,8 +10,11 @@
 //! columns, none of a wrong size, with the bytes that the file tells (`loaded`); a column with pages is of the type of its row (`types`);
 //! the outside is blamed only where the file's count rose (`file`). Nothing is only tested.
 //!
-//! Choices that bind nobody else: the pages of a cluster are listed in memory of their own. nt_reader, which decodes a cluster while it
-//! reads it, doesn't stand on this crate yet: printing from loaded pages wants to read ahead first.
+//! nt_reader keeps what is loaded here. nt_decoded decodes a cluster page by page while it reads it, and loads none. Both take from here
+//! what a row and a page list say of a column (`known_column`, `kind_of_row`, `begins_behind`, `pages_listed`), the faults of pages
+//! (`faults.rt`) and want of memory (`Wanting`).
+//!
+//! A choice that binds nobody else: the pages of a cluster are listed in memory of their own.
 #![tactic(auto)]
 
 mod columns;
@@ -21,4 +24,7 @@ mod page_listing;
 mod wanting;
 
 pub use columns::read_columns;
+pub use faults::{BAD_PAGE, COMPRESSED, OUT_OF_FILE, fault_with, in_column};
+pub use known::known_column;
+pub use page_listing::{begins_behind, kind_of_row, pages_listed};
 pub use wanting::Wanting;

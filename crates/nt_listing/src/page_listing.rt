@@ -30,7 +30,7 @@ pub struct Listing {
 }
 
 /// The type of a column, if it is one of those whose values can be read.
-fn kind_of_row(row: &ColumnRow) -> Option<ColumnType>
+pub fn kind_of_row(row: &ColumnRow) -> Option<ColumnType>
     ensures { result ≡ kind_of_code row.now.code }
 {
     ColumnType::of_code(row.code)

@@ -2,7 +2,6 @@ pub mod Unlike
 pub mod Lists
 pub mod Kept
 pub mod Mergeable
-pub mod LoadedValues
 pub mod Numbering
 pub mod GoingOn
 pub mod Started

@@ -11,13 +11,15 @@ use Rattle.nt_commit.specs.Appending.{due_bytes}
 use Rattle.nt_pages.specs.declared.image.ClusterImage.{ClusterImage}
 use Rattle.nt_pages.specs.Image.{key_room}
 use Rattle.nt_pagelists.specs.declared.cluster.ClusterList.{ClusterList}
-use Rattle.nt_file_meaning.specs.Clusters.{cluster_of}
+use Rattle.nt_file_meaning.specs.Clusters.{cluster_of, entries_of_columns}
 use Rattle.nt_file_meaning.specs.Holds.{HoldsCluster}
 use Rattle.nt_file_meaning.specs.Outlines.{Outline}
 use Rattle.nt_file_meaning.proofs.ClustersBack.{cluster}
+use Rattle.nt_encode.specs.Elements.{Element}
+use Rattle.nt_reader.specs.Columns.{ClusterData, given_entries, IsClusterFrom}
 use Rattle.nt_reader.specs.Outlines.{numbered_cluster}
 use Rattle.nt_view.specs.Loaded.{Loaded, AreLoadable}
-use Rattle.nt_listing.specs.Listings.{columns_listed}
+use Rattle.nt_listing.specs.Listings.{columns_listed, columns_of_loaded}
 use Rattle.nt_listing.specs.Loading.{IsLoadedFrom}
 use Rattle.nt_listing.proofs.ColumnsRead.{listed-loadable}
 use Rattle.nt_copied.specs.Copies.{Source, ReadAlike, NoneDeferred, IsCopyOf, stored_columns}
@@ -26,10 +28,13 @@ use Rattle.nt_container.specs.Spelling.{blob_key}
 use Rattle.nt_copying.specs.Copied.{copied_columns, IsImageOf}
 use Rattle.nt_append.specs.Appending.{settled_cluster, with_due_list}
 use Rattle.std.specs.Prelude.{◌-◌, drop}
-use Rattle.nt_merge.specs.Loading.{loaded_entries, IsLoadedCluster}
 use Rattle.nt_outside.specs.Disk.{DiskState}
 use Rattle.nt_merge.specs.Copying.{CopiesCluster, CopiesLoaded, IsCopyImage, IsReadCopy, IsReadOver, limit_of_copy, source_at}
 use Rattle.nt_merge.specs.Merging.{copied_meta}
+
+-- the entries that loaded columns give
+abbrev loaded_entries : Table → ClusterList → Loaded → List TreesData
+loaded_entries t k l = entries_of_columns t (columns_of_loaded 0 (length t.columns) l) k.entries
 
 pub can-load : (file : Option (List ℕ)) (number : ℕ) (k : ClusterList) (t : Table) (l : Loaded) → IsLoadedFrom file number k t l
     → AreLoadable l.pages l.zeros
@@ -91,20 +96,23 @@ module _ (stored : AreStored) (b : List ℕ) (o : Outline) (k columns : ℕ) (l 
         });
   }
 
--- ---- as a cluster that was listed
+-- ---- as a cluster that was read
 
-pub from-listed : (file : Option (List ℕ)) (k : ℕ) (o : Outline) (l : Loaded) (list : ClusterList) (t : Table) → list ≡ numbered_cluster o k
-    → t ≡ o.table → IsLoadedCluster file k list t l → IsLoadedFrom file k (numbered_cluster o k) o.table l
-from-listed file k o l list t one two is =
-    subst (λ (u : Table). IsLoadedFrom file k (numbered_cluster o k) u l) two
-    (subst (λ (m : ClusterList). IsLoadedFrom file k m t l) one is.loaded)
+pub from-read : (file : Option (List ℕ)) (k : ℕ) (o : Outline) (l : Loaded) (d : ClusterData) → l ≡ d.loaded
+    → IsClusterFrom file k (numbered_cluster o k) o.table d → IsLoadedFrom file k (numbered_cluster o k) o.table l
+from-read file k o l d is from =
+    subst (λ (x : Loaded). IsLoadedFrom file k (numbered_cluster o k) o.table x) (sym is) from.loaded
 
-pub read-listed : (b : List ℕ) (k : ℕ) (o : Outline) (l : Loaded) (list : ClusterList) (t : Table) → list ≡ numbered_cluster o k
-    → t ≡ o.table → cluster_of b t k list ≡ Ok (loaded_entries t list l)
+pub read-given : (file : Option (List ℕ)) (b : List ℕ) (k : ℕ) (o : Outline) (l : Loaded) (d : ClusterData) → l ≡ d.loaded
+    → IsClusterFrom file k (numbered_cluster o k) o.table d → cluster_of b o.table k (numbered_cluster o k) ≡ Ok (given_entries d)
     → cluster_of b o.table k (numbered_cluster o k) ≡ Ok (loaded_entries o.table (numbered_cluster o k) l)
-read-listed b k o l list t one two is =
-    subst (λ (u : Table). cluster_of b u k (numbered_cluster o k) ≡ Ok (loaded_entries u (numbered_cluster o k) l)) two
-    (subst (λ (m : ClusterList). cluster_of b t k m ≡ Ok (loaded_entries t m l)) one is)
+read-given file b k o l d is from read =
+    let own : List (List Element) = columns_of_loaded 0 (length o.table.columns) l in
+    let same : d.columns ≡ own =
+    from.columns ∙ ap (λ (x : Loaded). columns_of_loaded 0 (length o.table.columns) x) (sym is) in
+    read ∙ ap (λ (t : Table). Ok (entries_of_columns t d.columns d.entries)) from.table
+    ∙ ap (λ (cs : List (List Element)). Ok (entries_of_columns o.table cs d.entries)) same
+    ∙ ap (λ (n : ℕ). Ok (entries_of_columns o.table own n)) from.entries
 
 module _ (stored : AreStored) (file : Option (List ℕ)) (o : Outline) (k columns : ℕ) (l : Loaded) (book : BookData)
     (from : IsLoadedFrom file k (numbered_cluster o k) o.table l)

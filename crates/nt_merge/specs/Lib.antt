@@ -2,7 +2,6 @@ pub mod Comparing
 pub mod Files
 pub mod Planning
 pub mod Mergeable
-pub mod Loading
 pub mod Merging
 pub mod Copying
 pub mod Joining

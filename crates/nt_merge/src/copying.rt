@@ -8,7 +8,6 @@ ghost use Rattle.nt_merge.specs.Copying.{MayCopy, LeavesLoaded, LeavesCluster, S
 ghost use Rattle.nt_merge.specs.Merging.{IsMerging};
 
 use crate::copy_error::CopyError;
-use crate::loading::load_cluster;
 use nt_append::{append_image, appended_parts_go_on};
 use nt_book::Book;
 use nt_commit::CommitError;
@@ -79,13 +78,13 @@ fn copy_cluster<F: ReadAt, D: Disk>(
     loaded_pages_are_stored();
     keyed_images_are_copies();
     let memory = mem::replace(&mut target.pages, ClusterBytes::new(alloc));
-    let loaded = match load_cluster(alloc, file, k, reader.listed(k), reader.schema(), memory) {
-        Ok(loaded) => loaded,
+    let cluster = match reader.cluster_in(alloc, file, k, memory) {
+        Ok(cluster) => cluster,
         Err(failure) => return Err(CopyError::Read(failure)),
     };
-    match put_copy(alloc, disk, target, &loaded, reader.entries_of(k)) {
+    match put_copy(alloc, disk, target, cluster.columns(), cluster.entries()) {
         Ok(()) => {
-            target.pages = loaded;
+            target.pages = cluster.into_columns();
             Ok(())
         }
         Err(error) => Err(CopyError::Commit(error)),

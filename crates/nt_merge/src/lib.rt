@@ -4,9 +4,9 @@
 //! (`comparing.rt`). Files can be merged where each has an outline, all their fields are open, all their
 //! columns begin with the first entry, and their rows are the same but for flags (`specs/Comparing.antt`,
 //! `schema_error`). That a file whose clusters are copies of theirs means the same is said in nt_copied.
-//! `load_cluster` in `loading.rt` loads the pages of one of their clusters, of which nt_copying makes the
-//! image of another. `merge` in `merging.rt` begins a file under the schema of the first one, copies all clusters
-//! into it, file by file (`copying.rt`), and closes it.
+//! `merge` in `merging.rt` begins a file under the schema of the first one, copies all clusters into it, file by
+//! file (`copying.rt`), and closes it. A cluster is read by nt_reader, which keeps its pages as they are stored, and
+//! of these nt_copying makes the image of another.
 //!
 //! Proved of `plan`: after `Ok` the outlines are those of the files, and nothing stands against merging
 //! them; a defect is the first fault of the first file that has no outline, and else the
@@ -14,9 +14,7 @@
 //! closed fields, then the deferred columns, then rows unlike those of the first file (`told`); each file
 //! has the bytes that it had (`kept`), and `ReadFault` comes only where the count of one of them rose
 //! (`blamed`). Schemas that nothing stands against have open fields alone, no deferred column, and are
-//! alike the first one (`schemas_without_error_are_mergeable`). Of `load_cluster`: wherever the file tells its bytes, the entries of the pages are those that
-//! nt_file_meaning reads, or the fault is the first one (`read`), and the pages are all those of the open
-//! columns (`loaded`). Of `merge`, wherever all files tell their bytes (`told`, by `MergesTold` in
+//! alike the first one (`schemas_without_error_are_mergeable`). Of `merge`, wherever all files tell their bytes (`told`, by `MergesTold` in
 //! `specs/Merging.antt`): after `Ok` the file is the finished one of copies of all their clusters in order, as
 //! nt_copied says, and passes no limit, and so many clusters and entries are told; a defect is the first fault of a
 //! cluster; a limit is one that the file of the clusters before the first fault passes; after each refusal the file
@@ -34,14 +32,12 @@ mod copy_error;
 mod copying;
 mod error;
 mod laws;
-mod loading;
 mod merging;
 mod place;
 mod planning;
 
 pub use error::MergeError;
 pub use laws::schemas_without_error_are_mergeable;
-pub use loading::load_cluster;
 pub use merging::merge;
 pub use place::SchemaPlace;
 pub use planning::{MergePlan, plan};

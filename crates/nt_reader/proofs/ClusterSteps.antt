@@ -1,12 +1,16 @@
 -- The entries of a cluster, in the steps in which they are read.
-use Rattle.std.proofs.Common.{◌≡◌, ℕ, List, Result, Ok, Err, refl, ap, ◌∙◌}
+use Rattle.std.proofs.Common.{◌≡◌, ℕ, List, length, Result, Ok, Err, refl, ap, ◌∙◌}
+use Rattle.std.proofs.Math.Path.{fun_ext}
 use Rattle.nt_num.specs.declared.fault.ReadError.{ReadError}
 use Rattle.nt_lists.specs.Chaining.{◌>>=◌}
 use Rattle.nt_types.specs.TreeData.{TreesData}
 use Rattle.nt_encode.specs.Elements.{Element}
 use Rattle.nt_grammar.specs.Table.{Table}
 use Rattle.nt_plans.specs.Place.{open_plans}
+use Rattle.nt_trees.specs.Columns.{Cols}
 use Rattle.nt_trees.specs.Faults.{fault_in_any}
+use Rattle.nt_view.specs.Loaded.{Loaded, loaded_elements}
+use Rattle.nt_listing.specs.Listings.{columns_of_loaded, AreColumnsOf}
 use Rattle.nt_pagelists.specs.declared.cluster.ClusterList.{ClusterList}
 use Rattle.nt_file_meaning.specs.Clusters.{columns_from, columns_by_id, no_value_fault, entries_of_columns, cluster_of}
 use Rattle.nt_file_meaning.specs.Clusters.{columns_in_cluster}
@@ -41,6 +45,12 @@ pub cluster-done : (told : List ℕ) (t : Table) (number : ℕ) (k : ClusterList
     → cluster_of told t number k ≡ Ok (entries_of_columns t cs k.entries)
 cluster-done told t number k cs u h f = behind-columns told t number k cs h
     ∙ ap (λ (r : Result (Unit {0}) ReadError). r >>= λ u. Ok (entries_of_columns t cs k.entries)) f
+
+-- what is wrong with columns that are loaded
+pub values-over : (t : Table) (number : ℕ) (k : ClusterList) (l : Loaded) → AreColumnsOf (length t.columns) l
+    → values t number k (columns_of_loaded 0 (length t.columns) l)
+    ≡ no_value_fault number k (fault_in_any (open_plans t) (loaded_elements l) k.entries)
+values-over t number k l all = ap (λ (cols : Cols). no_value_fault number k (fault_in_any (open_plans t) cols k.entries)) (fun_ext all)
 
 -- the same of the columns alone
 pub only-columns-fail : {U W : Type 0} (one : U → List (List Element)) (all : W → List (List Element)) (told : List ℕ) (t : Table)

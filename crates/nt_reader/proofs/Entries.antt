@@ -1,5 +1,6 @@
 -- The entries that columns give.
 use Rattle.std.proofs.Common.{◌≡◌, ℕ, ◌<◌, List, length, get_or, slice_get, Some, option_map, sym, ap, subst, ◌∙◌, arith}
+use Rattle.std.proofs.Math.Path.{fun_ext}
 use Rattle.std.specs.List.{range_with_len}
 use Rattle.std.proofs.lemmas.Option.{slice_get-map, slice_get-get_or}
 use Rattle.std.proofs.lemmas.List.{length-map}
@@ -10,6 +11,9 @@ use Rattle.nt_grammar.specs.Table.{Table}
 use Rattle.nt_plans.specs.Place.{open_plans}
 use Rattle.nt_trees.specs.TreeAt.{each_at}
 use Rattle.nt_file_meaning.specs.Clusters.{columns_by_id, entries_of_columns}
+use Rattle.nt_trees.specs.Columns.{Cols}
+use Rattle.nt_view.specs.Loaded.{Loaded, loaded_elements}
+use Rattle.nt_listing.specs.Listings.{columns_of_loaded, AreColumnsOf}
 use Rattle.nt_reader.specs.Columns.{ClusterData, given_entries}
 
 given-at : (t : Table) (cs : List (List Element)) (n i : ℕ) → i < n
@@ -43,8 +47,7 @@ entry-is c seen i is lt =
     let same : get_or (given_entries c) i no_trees ≡ x = cc (here, there) in
     subst (λ (d : ClusterData). get_or (given_entries d) i no_trees ≡ x) is same
 
--- the same, told by what is seen alone
-pub entry-given : (c seen : ClusterData) (i : ℕ) → c ≡ seen → i < seen.entries
-    → get_or (given_entries seen) i no_trees ≡ each_at (open_plans seen.table) (columns_by_id seen.columns) i
-entry-given c seen i is lt =
-    entry-is c seen i is lt ∙ ap (λ (d : ClusterData). each_at (open_plans d.table) (columns_by_id d.columns) i) is
+-- an entry of loaded columns is that of the columns by their ids
+pub over-loaded : (t : Table) (l : Loaded) (i : ℕ) → AreColumnsOf (length t.columns) l
+    → each_at (open_plans t) (loaded_elements l) i ≡ each_at (open_plans t) (columns_by_id (columns_of_loaded 0 (length t.columns) l)) i
+over-loaded t l i all = ap (λ (cols : Cols). each_at (open_plans t) cols i) (sym (fun_ext all))

@@ -3,14 +3,7 @@ pub mod Blocks
 pub mod Counting
 pub mod Listing
 pub mod Chains
-pub mod Windows
-pub mod PageSteps
-pub mod ColumnKinds
-pub mod Changes
-pub mod ColumnSteps
 pub mod GroupSteps
 pub mod ClusterSteps
 pub mod KnownSteps
 pub mod Entries
-pub mod KeptTypes
-pub mod Fitting

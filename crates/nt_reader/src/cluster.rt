@@ -1,53 +1,54 @@
 //! A cluster that was read.
 
-ghost use Rattle.std.specs.Prelude.{◌≡◌, ◌<◌, ◌++◌, ◌∷◌, [], ℕ, Some, slice_get, slice_index_or, IfOk, OnOk, OnErr};
+ghost use Rattle.std.specs.Prelude.{◌≡◌, ◌<◌, ◌++◌, ◌∷◌, [], ℕ, length, take, Some, slice_get, slice_index_or, IfOk, OnOk, OnErr};
 ghost use Rattle.nt_types.specs.TreeData.{trees_of, no_trees};
 ghost use Rattle.nt_types.specs.TreeViews.{trees_view};
-ghost use Rattle.nt_column.specs.Column.{columns_of, elements_at};
 ghost use Rattle.nt_plans.specs.Place.{open_plans};
 ghost use Rattle.nt_trees.specs.Sound.{AllSound};
-ghost use Rattle.nt_trees.specs.Faults.{Spot, fault_in_any};
+ghost use Rattle.nt_trees.specs.Faults.{fault_in_any};
 ghost use Rattle.nt_join.specs.Spots.{spot_of};
 ghost use Rattle.nt_event.specs.Json.{line_of};
 ghost use Rattle.nt_file_meaning.specs.Clusters.{columns_by_id, frame_of, value_fault, no_value_fault, cluster_of, columns_in_cluster};
 ghost use Rattle.nt_tfile.specs.Calls.{Serves, IsReadAs, ReadsFile};
-ghost use Rattle.nt_reader.specs.Columns.{held_elements, given_entries};
+ghost use Rattle.nt_view.specs.Loaded.{loaded_elements};
+ghost use Rattle.nt_view.specs.declared.page_place.PagePlace.{PagePlace};
+ghost use Rattle.nt_reader.specs.Columns.{given_entries, IsClusterFrom};
 
-use crate::columns::{NumberedCluster, read_columns};
-use crate::faults::{BAD_VALUE, fault_with, in_column};
-use crate::reuse::{KeptMemory, kept_parts};
-use crate::window::Window;
-use nt_column::{ColumnSet, Columns};
 use nt_join::{ValueFault, check_values};
+use nt_listing::read_columns;
 use nt_num::ReadError;
 use nt_outside::ReadAt;
 use nt_pagelists::ClusterList;
 use nt_schema::Schema;
 use nt_tfile::ReadFailure;
 use nt_types::Trees;
+use nt_view::{ClusterBytes, PagePlace};
 use std::alloc::{AllocError, Global};
 use std::marker::Model;
 
-/// The columns of a cluster, in which nothing is wrong. Contracts see the schema, the elements of
-/// each column, and the number of entries; `given_entries` says what entries these give.
+/// The code of a value that no entry has.
+const BAD_VALUE: u8 = 22;
+
+/// A cluster in which nothing is wrong, with its pages as they are stored: values are read from these one by one, and a text that lies in
+/// one page is borrowed from it. Contracts see the schema, the elements of each column, the number of entries, and the pages;
+/// `given_entries` says what entries these give.
 #[derive(Drop)]
 pub struct ClusterRead<'a> {
-    pub(crate) schema: &'a Schema,
-    pub(crate) columns: ColumnSet,
-    pub(crate) entries: u64,
-    /// Memory of the bytes that were read at once.
-    pub(crate) bytes: Vec<u8>,
+    schema: &'a Schema,
+    columns: ClusterBytes,
+    entries: u64,
 }
 
 impl<'a> Model for ClusterRead<'a> {
-    ghost use Rattle.nt_file_meaning.specs.Clusters.{columns_by_id};
-    ghost use Rattle.nt_reader.specs.Columns.{ClusterData, held_elements, AreClusterColumns};
+    ghost use Rattle.std.specs.Prelude.{length};
+    ghost use Rattle.nt_listing.specs.Listings.{columns_of_loaded};
+    ghost use Rattle.nt_reader.specs.Columns.{ClusterData, IsSoundOver};
 
     ghost Value = { ClusterData };
 
-    ghost view = { λ c. record { table = c.schema.now; columns = held_elements c.columns; entries = c.entries } };
+    ghost view = { λ c. record { table = c.schema.now; columns = columns_of_loaded 0 (length c.schema.now.columns) c.columns; entries = c.entries; loaded = c.columns } };
 
-    ghost invariant = { λ c. AreClusterColumns c.schema.now (columns_by_id (held_elements c.columns)) c.entries };
+    ghost invariant = { λ c. IsSoundOver c.schema.now c.columns c.entries };
 }
 
 impl<'a> ClusterRead<'a> {
@@ -77,19 +78,43 @@ impl<'a> ClusterRead<'a> {
         nt_print::write_entry(alloc, &self.columns, self.schema, i, out)
     }
 
-    /// The elements of the columns, by id; of a closed column none.
-    pub fn columns(&self) -> &ColumnSet
-        ensures { (id : ℕ) → elements_at (columns_of result.now) id ≡ columns_by_id self.now.columns id }
+    /// The columns by id, read from their pages; of a closed one no element.
+    pub fn columns(&self) -> &ClusterBytes
+        ensures loaded { result.now ≡ self.now.loaded }
+        ensures columns { (id : ℕ) → loaded_elements result.now id ≡ columns_by_id self.now.columns id }
     {
         &self.columns
     }
 
-    /// Its memory, which another cluster can take.
-    pub fn into_memory(self) -> KeptMemory {
-        KeptMemory {
-            columns: self.columns,
-            bytes: self.bytes,
-        }
+    /// The number of pages of the open columns.
+    pub fn pages(&self) -> u32
+        ensures { result ≡ length self.now.loaded.pages }
+    {
+        self.columns.pages()
+    }
+
+    /// A page of the open columns, which stand by the columns' ids, and of each column in its order.
+    pub fn page(&self, i: u32) -> PagePlace
+        requires { i < length self.now.loaded.pages }
+        ensures { slice_get self.now.loaded.pages i ≡ Some result }
+    {
+        self.columns.page(i)
+    }
+
+    /// The bytes of a page as they are stored, without its checksum.
+    pub fn page_bytes(&self, i: u32) -> &[u8]
+        requires { i < length self.now.loaded.pages }
+        ensures { (d : PagePlace) → result.now
+            ≡ take (slice_index_or self.now.loaded.pages i d).size (slice_index_or self.now.loaded.stored i []) }
+    {
+        self.columns.page_bytes(i)
+    }
+
+    /// The columns with their pages, whose memory another cluster can take.
+    pub fn into_columns(self) -> ClusterBytes
+        ensures { result ≡ self.entry.loaded }
+    {
+        self.columns
     }
 }
 
@@ -103,39 +128,31 @@ fn frame_of(cluster: &ClusterList, id: u32) -> u64
     }
 }
 
-/// The fault of a value.
-fn value_fault(number: u32, cluster: &ClusterList, found: ValueFault) -> ReadError
+/// A value in the columns of the cluster with this number that no entry has, as a fault of the file.
+pub fn value_fault(number: u32, cluster: &ClusterList, found: ValueFault) -> ReadError
     ensures { result ≡ value_fault number cluster.now (spot_of found) }
 {
-    let id = found.column;
-    let error = in_column(
-        number,
-        id,
-        fault_with(BAD_VALUE, frame_of(cluster, id), 0, 0),
-    );
     ReadError {
-        code: error.code,
-        at: error.at,
+        code: BAD_VALUE,
+        at: frame_of(cluster, found.column),
         cluster: number,
-        column: id,
+        column: found.column,
         element: found.element,
         kept: 0,
         found: 0,
     }
 }
 
-/// Whether the values of columns are those of the entries of a cluster.
+/// Whether the values of loaded columns are those of the entries of a cluster.
 fn check(
-    columns: &ColumnSet,
+    columns: &ClusterBytes,
     schema: &Schema,
     number: u32,
     cluster: &ClusterList,
 ) -> Result<(), ReadError>
-    ensures fault { let cols = columns_by_id (held_elements columns.now) in
-        let found = fault_in_any (open_plans schema.now) cols cluster.now.entries in
+    ensures fault { let found = fault_in_any (open_plans schema.now) (loaded_elements columns.now) cluster.now.entries in
         IsReadAs (λ _. tt) result (no_value_fault number cluster.now found) }
-    ensures sound { let cols = columns_by_id (held_elements columns.now) in
-        IfOk result (λ _. AllSound (open_plans schema.now) cols cluster.now.entries) }
+    ensures sound { IfOk result (λ _. AllSound (open_plans schema.now) (loaded_elements columns.now) cluster.now.entries) }
 {
     match check_values(columns, schema, cluster.entries) {
         Ok(()) => Ok(()),
@@ -143,37 +160,28 @@ fn check(
     }
 }
 
-/// The cluster of this number, by what a page list tells of it; or its first fault. It is read in the
-/// memory of another, as far as that fits.
+/// The cluster of this number, by what a page list tells of it; or its first fault. Its pages are loaded in the memory of others.
 pub fn read_cluster<'a, F: ReadAt>(
     alloc: Global,
     file: &mut F,
     schema: &'a Schema,
     number: u32,
     cluster: &ClusterList,
-    kept: Option<KeptMemory>,
+    kept: ClusterBytes,
 ) -> Result<ClusterRead<'a>, ReadFailure>
     ensures file { Serves (F.state file.old) (F.state file.new) result }
     ensures read { ReadsFile (λ c. given_entries c)
         (λ told. cluster_of told schema.now number cluster.now) (F.state file.old) result }
     ensures columns { ReadsFile (λ c. c.columns)
         (λ told. columns_in_cluster told schema.now number cluster.now) (F.state file.old) result }
-    ensures table { IfOk result (λ c. c.table ≡ schema.now) }
+    ensures kept { let told = (F.state file.old).bytes in
+        IfOk result (λ c. IsClusterFrom told number cluster.now schema.now c) }
 {
-    let size = file.size()?;
-    let listed = NumberedCluster {
-        number,
-        list: cluster,
-    };
-    let (kept, bytes) = kept_parts(alloc, kept);
-    let mut window = Window::new(alloc, size, bytes);
-    let columns = read_columns(alloc, file, &listed, schema, kept, &mut window)?;
-    columns.in_range();
+    let columns = read_columns(alloc, file, number, cluster, schema, kept)?;
     check(&columns, schema, number, cluster)?;
     Ok(ClusterRead {
         schema,
         columns,
         entries: cluster.entries,
-        bytes: window.into_memory(),
     })
 }

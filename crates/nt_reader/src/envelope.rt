@@ -8,9 +8,10 @@ ghost use Rattle.nt_file_meaning.specs.Envelopes.{opened_envelope, envelope_of, 
 ghost use Rattle.nt_tfile.specs.Calls.{Serves, HasSize, ReadsFile, IsReadAs};
 ghost use Rattle.nt_reader.specs.Envelopes.{opened_bytes, block_of};
 
-use crate::faults::{BAD_ENVELOPE, COMPRESSED, OUT_OF_FILE, fault_with};
+use crate::faults::BAD_ENVELOPE;
 use byteorder::{ByteOrder, LittleEndian};
 use nt_frame::{EnvelopeFault, read_envelope};
+use nt_listing::{COMPRESSED, OUT_OF_FILE, fault_with};
 use nt_num::ReadError;
 use nt_outside::ReadAt;
 use nt_tfile::{ReadFailure, read_block};

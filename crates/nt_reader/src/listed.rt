@@ -8,8 +8,7 @@ ghost use Rattle.nt_file_meaning.specs.Clusters.{pages_listed};
 ghost use Rattle.nt_file_meaning.specs.Counts.{zeros_due};
 ghost use Rattle.nt_reader.specs.Outlines.{unlisted_page};
 
-use crate::columns::{begins_behind, pages_listed};
-use crate::known::known_column;
+use nt_listing::{begins_behind, known_column, pages_listed};
 use nt_pagelists::ClusterList;
 use nt_schema::Schema;
 

@@ -5,7 +5,7 @@ ghost use Rattle.nt_file_meaning.specs.Envelopes.{payload_start};
 ghost use Rattle.nt_file_meaning.specs.Outlines.{moved_column, moved_cluster};
 
 use crate::faults::place_inside;
-use crate::wanting::Wanting;
+use nt_listing::Wanting;
 use nt_pagelists::{ClusterList, ColumnList, ColumnLists, PageItems};
 use std::alloc::Global;
 

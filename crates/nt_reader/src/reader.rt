@@ -7,17 +7,17 @@ ghost use Rattle.nt_file_meaning.specs.Outlines.{outline_of, known_column};
 ghost use Rattle.nt_file_meaning.specs.Counts.{zeros_due};
 ghost use Rattle.nt_tfile.specs.Calls.{Serves, ReadsFile};
 ghost use Rattle.nt_reader.specs.Outlines.{numbered_cluster, entries_in, columns_read, page_number, page_count};
-ghost use Rattle.nt_reader.specs.Columns.{given_entries};
+ghost use Rattle.nt_reader.specs.Columns.{given_entries, IsClusterFrom};
 
 use crate::cluster::{ClusterRead, read_cluster};
 use crate::describing::read_described;
 use crate::groups::read_clusters;
 use crate::listed::{page_count, page_number, zeros_due};
-use crate::reuse::KeptMemory;
 use nt_outside::ReadAt;
 use nt_pagelists::ClusterList;
 use nt_schema::Schema;
 use nt_tfile::{ReadFailure, read_tfile};
+use nt_view::ClusterBytes;
 use std::alloc::Global;
 use std::marker::Model;
 
@@ -123,9 +123,9 @@ impl Reader {
         zeros_due(&self.schema, &self.clusters[k as usize], column)
     }
 
-    /// Reads a cluster: the pages of its open columns, and whether their values are those of entries.
+    /// Reads a cluster: the pages of its open columns, and whether their values are those of entries. Its pages stay as they are stored.
     ///
-    /// It takes memory for what the pages of the cluster hold, a column at a time.
+    /// It takes memory for what the pages of the cluster hold.
     ///
     /// # Errors
     ///
@@ -143,19 +143,19 @@ impl Reader {
             (entries_in self.now k) (F.state file.old) result }
         ensures columns { ReadsFile (λ c. c.columns)
             (columns_read self.now k) (F.state file.old) result }
-        ensures table { IfOk result (λ c. c.table ≡ self.now.table) }
+        ensures kept { let told = (F.state file.old).bytes in
+            IfOk result (λ c. IsClusterFrom told k (numbered_cluster self.now k) self.now.table c) }
     {
-        self.cluster_in(alloc, file, k, None)
+        self.cluster_in(alloc, file, k, ClusterBytes::new(alloc))
     }
 
-    /// Reads a cluster as `cluster` does, in the memory of one that was read before. That of any cluster does: columns of other
-    /// types than the file's are dropped.
+    /// Reads a cluster as `cluster` does, in the memory of pages that were loaded before.
     pub fn cluster_in<F: ReadAt>(
         &self,
         alloc: Global,
         file: &mut F,
         k: u32,
-        kept: Option<KeptMemory>,
+        kept: ClusterBytes,
     ) -> Result<ClusterRead<'_>, ReadFailure>
         requires { k < length self.now.clusters }
         ensures file { Serves (F.state file.old) (F.state file.new) result }
@@ -163,7 +163,8 @@ impl Reader {
             (entries_in self.now k) (F.state file.old) result }
         ensures columns { ReadsFile (λ c. c.columns)
             (columns_read self.now k) (F.state file.old) result }
-        ensures table { IfOk result (λ c. c.table ≡ self.now.table) }
+        ensures kept { let told = (F.state file.old).bytes in
+            IfOk result (λ c. IsClusterFrom told k (numbered_cluster self.now k) self.now.table c) }
     {
         read_cluster(
             alloc,

@@ -6,6 +6,7 @@ ghost use Rattle.nt_scan.specs.Steps.{AreAdded, ClustersAdded};
 
 use crate::leaf::column_kind;
 use nt_column::Columns;
+use nt_decoded::decode_cluster;
 use nt_outside::ReadAt;
 use nt_reader::Reader;
 use nt_schema::Schema;
@@ -49,7 +50,7 @@ pub fn add_clusters<F: ReadAt>(
 {
     let mut kept = None;
     for k in 0..reader.clusters() {
-        let cluster = reader.cluster_in(alloc, file, k, kept.take())?;
+        let cluster = decode_cluster(alloc, file, reader, k, kept.take())?;
         add_columns(rt, cluster.columns(), reader.schema(), columns, running);
         kept = Some(cluster.into_memory());
     }

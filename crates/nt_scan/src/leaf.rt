@@ -2,10 +2,10 @@
 
 ghost use Rattle.std.specs.Prelude.{◌≡◌, ◌<◌, length, slice_get, Some, IfOk, IsSome};
 ghost use Rattle.nt_grammar.specs.declared.rows.FieldRow.{FieldRow};
-ghost use Rattle.nt_file_meaning.specs.Clusters.{kind_of_code};
 ghost use Rattle.nt_scan.specs.Leaves.{number_kind, column_kind, leaf_of_row, leaves_of};
 
-use nt_schema::{ColumnRow, Schema};
+use nt_listing::kind_of_row;
+use nt_schema::Schema;
 use nt_total::is_integral;
 use nt_types::ColumnType;
 use std::alloc::{AllocError, Global};
@@ -19,13 +19,6 @@ const LEAF: u16 = 0;
 pub struct Leaf {
     pub field: u32,
     pub column: u32,
-}
-
-/// The type of a column, if it is one of those whose values can be read.
-fn kind_of_row(row: &ColumnRow) -> Option<ColumnType>
-    ensures { result ≡ kind_of_code row.now.code }
-{
-    ColumnType::of_code(row.code)
 }
 
 /// The type of a column, if it is there and its values are integers, characters or bytes.

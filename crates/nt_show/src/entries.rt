@@ -10,9 +10,10 @@ ghost use Rattle.nt_show.specs.Shown.{entries_shown, ShowsFile};
 
 use crate::entry_range::EntryRange;
 use crate::lines::put_entry;
+use nt_decoded::{DecodedCluster, KeptMemory, decode_cluster};
 use nt_num::ReadError;
 use nt_outside::{Host, ReadAt, Refused, Stream, print_all};
-use nt_reader::{ClusterRead, KeptMemory, Reader};
+use nt_reader::Reader;
 use nt_tfile::ReadFailure;
 use std::alloc::Global;
 
@@ -30,7 +31,7 @@ fn put_entries<H: Host>(
     alloc: Global,
     host: &mut H,
     waiting: &mut Vec<u8>,
-    cluster: &ClusterRead<'_>,
+    cluster: &DecodedCluster<'_>,
     range: &EntryRange,
 ) -> Result<(), Refused>
     ensures ok { OnOk result (PrintsSome (entry_lines (in_range range.now (given_entries cluster.now)))
@@ -65,7 +66,7 @@ fn put_cluster<H: Host, F: ReadAt>(
     ensures cause { HasCauses (H.state host.old) (H.state host.new) (F.state file.old) (F.state file.new) result }
     ensures rest { OnlyPrints (H.state host.old) (H.state host.new) }
 {
-    match reader.cluster_in(alloc, file, k, pending.kept.take()) {
+    match decode_cluster(alloc, file, reader, k, pending.kept.take()) {
         Ok(cluster) => {
             put_entries(alloc, host, &mut pending.waiting, &cluster, &pending.range)?;
             pending.range = pending.range.past(cluster.entries());

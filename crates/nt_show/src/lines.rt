@@ -8,9 +8,9 @@ ghost use Rattle.nt_reader.specs.Columns.{given_entries};
 ghost use Rattle.nt_show.specs.Ranges.{entry_lines};
 ghost use Rattle.nt_show.specs.Gathering.{PrintsSome, GathersPart, OnlyPrints};
 
+use nt_decoded::DecodedCluster;
 use nt_event::write_line;
 use nt_outside::{Host, Refused, Stream, print_all};
-use nt_reader::ClusterRead;
 use nt_types::Trees;
 use std::alloc::Global;
 
@@ -58,7 +58,7 @@ pub fn put_entry<H: Host>(
     alloc: Global,
     host: &mut H,
     waiting: &mut Vec<u8>,
-    cluster: &ClusterRead<'_>,
+    cluster: &DecodedCluster<'_>,
     i: u64,
 ) -> Result<(), Refused>
     requires { i < cluster.now.entries }

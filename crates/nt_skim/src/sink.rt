@@ -10,7 +10,7 @@ ghost use Rattle.nt_reader.specs.Columns.{given_entries};
 ghost use Rattle.nt_skim.specs.Skimming.{SinkState, AnswersPut, AnswersPutFrom};
 
 use crate::error::PutError;
-use nt_reader::ClusterRead;
+use nt_decoded::DecodedCluster;
 use nt_types::Trees;
 use std::alloc::Global;
 
@@ -35,7 +35,7 @@ pub trait EntrySink {
     fn put_from(
         &mut self,
         alloc: Global,
-        cluster: &ClusterRead<'_>,
+        cluster: &DecodedCluster<'_>,
         places: &[u32],
         i: u64,
     ) -> Result<(), PutError<Self::Fault>>

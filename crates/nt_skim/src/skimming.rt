@@ -13,13 +13,14 @@ ghost use Rattle.nt_skim.specs.Skimming.{TakesSelected, IsClusterSkimmed, IsSkim
 use crate::error::{PutError, SkimError};
 use crate::selection::{PlaceTest, SkimPlan};
 use crate::sink::EntrySink;
+use nt_decoded::{DecodedCluster, decode_cluster};
 use nt_outside::ReadAt;
-use nt_reader::{ClusterRead, Reader};
+use nt_reader::Reader;
 use nt_tfile::ReadFailure;
 use std::alloc::Global;
 
 /// Whether an entry passes the test.
-fn passes(cluster: &ClusterRead<'_>, test: &Option<PlaceTest>, i: u64) -> bool
+fn passes(cluster: &DecodedCluster<'_>, test: &Option<PlaceTest>, i: u64) -> bool
     requires { i < cluster.now.entries }
     ensures { result ≡ passes test.now (slice_index_or (given_entries cluster.now) i no_trees) }
 {
@@ -35,7 +36,7 @@ fn passes(cluster: &ClusterRead<'_>, test: &Option<PlaceTest>, i: u64) -> bool
 /// Puts an entry that passes, and says how many were put.
 fn put_entry<E: EntrySink>(
     alloc: Global,
-    cluster: &ClusterRead<'_>,
+    cluster: &DecodedCluster<'_>,
     plan: &SkimPlan,
     i: u64,
     out: &mut E,
@@ -62,7 +63,7 @@ fn put_entry<E: EntrySink>(
 /// Puts the entries of a cluster that pass, and says how many were put.
 fn put_entries<E: EntrySink>(
     alloc: Global,
-    cluster: &ClusterRead<'_>,
+    cluster: &DecodedCluster<'_>,
     plan: &SkimPlan,
     out: &mut E,
 ) -> Result<u64, SkimError<E::Fault>>
@@ -102,7 +103,7 @@ fn put_cluster<F: ReadAt, E: EntrySink>(
     ensures file { ServesSkim (F.state file.old) (F.state file.new) result }
     ensures left { LeavesSink (E.state out.old) (E.state out.new) result }
 {
-    match reader.cluster(alloc, file, k) {
+    match decode_cluster(alloc, file, reader, k, None) {
         Ok(cluster) => {
             cluster.entries_fit();
             put_entries(alloc, &cluster, plan, out)

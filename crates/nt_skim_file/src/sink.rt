@@ -14,8 +14,8 @@ ghost use Rattle.nt_skim_file.specs.Taking.{IsTaking, StaysWriter, MakesEntryRoo
 
 use crate::birth::SinkBirth;
 use nt_commit::CommitError;
+use nt_decoded::DecodedCluster;
 use nt_outside::Disk;
-use nt_reader::ClusterRead;
 use nt_seq::SeqWriter;
 use nt_skim::{EntrySink, PutError};
 use nt_types::{Fields, Trees};
@@ -61,7 +61,7 @@ fn take<D: Disk>(writer: &mut SeqWriter<D>, trees: &Trees) -> Result<(), CommitE
 /// Gathers what is chosen of an entry of a cluster, whose columns have its elements.
 fn gather<D: Disk>(
     writer: &mut SeqWriter<D>,
-    cluster: &ClusterRead<'_>,
+    cluster: &DecodedCluster<'_>,
     places: &[u32],
     i: u64,
 ) -> Result<(), AllocError>
@@ -80,7 +80,7 @@ fn gather<D: Disk>(
 /// Takes what is chosen of an entry of a cluster, without trees, as `take` takes its trees.
 fn take_from<D: Disk>(
     writer: &mut SeqWriter<D>,
-    cluster: &ClusterRead<'_>,
+    cluster: &DecodedCluster<'_>,
     places: &[u32],
     i: u64,
 ) -> Result<(), CommitError>
@@ -178,7 +178,7 @@ impl<D: Disk> EntrySink for FileSink<D> {
     fn put_from(
         &mut self,
         _: Global,
-        cluster: &ClusterRead<'_>,
+        cluster: &DecodedCluster<'_>,
         places: &[u32],
         i: u64,
     ) -> Result<(), PutError<CommitError>> {

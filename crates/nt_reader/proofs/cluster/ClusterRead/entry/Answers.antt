@@ -1,7 +1,7 @@
-use Rattle.std.proofs.Common.{ap, arith}
+use Rattle.std.proofs.Common.{ap, ◌∙◌, arith}
 use Rattle.std.proofs.lemmas.Result.{IfOk-weaker}
 use Rattle.nt_reader.specs.Columns.{ClusterData}
-use Rattle.nt_reader.proofs.Entries.{entry-at}
+use Rattle.nt_reader.proofs.Entries.{entry-at, over-loaded}
 use Rattle.nt_reader.proofs.cluster.ClusterRead.entry.Goals as goal
 
 pub entry-requires-after_bounds : goal.entry-requires-after_bounds
@@ -12,4 +12,5 @@ entry-requires-after_bounds c κs = record {
 }
 
 pub returns : goal.returns
-returns c = IfOk-weaker c.entry.result _ _ (λ ts e. entry-at _ _ c.args.i _ c.self.view_is c.requires e) c.entry.ensures
+returns c = IfOk-weaker c.entry.result _ _ (λ ts e. entry-at _ _ c.args.i _ c.self.view_is c.requires
+    (e ∙ over-loaded c.self.inside.schema.now c.self.inside.columns c.args.i c.self.invariant.all)) c.entry.ensures

@@ -1,0 +1,7 @@
+pub mod Windows
+pub mod PageSteps
+pub mod ColumnKinds
+pub mod Changes
+pub mod ColumnSteps
+pub mod KeptTypes
+pub mod Fitting

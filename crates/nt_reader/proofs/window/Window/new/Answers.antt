@@ -1,6 +1,0 @@
-use Rattle.std.proofs.Common.{refl}
-use Rattle.nt_reader.proofs.Windows.{none-there}
-use Rattle.nt_reader.proofs.window.Window.new.Goals as goal
-
-pub returns : goal.returns
-returns c file sized = record { sized = sized; has = λ told is. none-there told _ _ refl refl }
