@@ -9,8 +9,8 @@ pub const FIRST: &[u8] = b"[10,\"a\",0]\n[20,\"bc\",0]\n";
 /// The lines of both.
 pub const BOTH: &[u8] = b"[10,\"a\",0]\n[20,\"bc\",0]\n[30,\"\",7]\n[40,\"d\",8]\n[50,\"\",9]\n";
 
-/// Bytes that are changed at their places, what is printed before the fault, and the fault.
-pub const BENT: [(&[(usize, u8)], &[u8], Fault); 4] = [
+/// Bytes that are changed at their places, what is printed before the fault, and the fault, if there is one.
+pub const BENT: [(&[(usize, u8)], &[u8], Option<Fault>); 4] = [
     // the second page of `x` in the second cluster, and ends that fall, under a new checksum
     (
         &[
@@ -27,7 +27,7 @@ pub const BENT: [(&[(usize, u8)], &[u8], Fault); 4] = [
             (842, 125),
         ],
         FIRST,
-        (21, 795, 1, 0, 0, 10129216751442095306, 7747687844065994257),
+        Some((21, 795, 1, 0, 0, 10129216751442095306, 7747687844065994257)),
     ),
     // ends that fall alone
     (
@@ -44,7 +44,7 @@ pub const BENT: [(&[(usize, u8)], &[u8], Fault); 4] = [
             (842, 125),
         ],
         FIRST,
-        (22, 1254, 1, 1, 1, 0, 0),
+        Some((22, 1254, 1, 1, 1, 0, 0)),
     ),
     // a column that begins inside of the first cluster, in a footer under a new checksum
     (
@@ -60,10 +60,10 @@ pub const BENT: [(&[(usize, u8)], &[u8], Fault); 4] = [
             (1693, 244),
         ],
         b"",
-        (20, 1014, 0, 4, 0, 0, 0),
+        Some((20, 1014, 0, 4, 0, 0, 0)),
     ),
     // a page of a closed field that is read nowhere
-    (&[(705, 99)], BOTH, (0, 0, 0, 0, 0, 0, 0)),
+    (&[(705, 99)], BOTH, None),
 ];
 
 /// Bytes of the small file that are changed at their places, with the checksum of their envelope, and

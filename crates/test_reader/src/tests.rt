@@ -1,8 +1,11 @@
 //! Entries and first faults of whole files.
 
+ghost use Rattle.std.specs.Prelude.{◌<◌, length};
+
 use crate::bends::{BENT, BOTH, FIRST, Fault, SMALL};
 use crate::files::{two_clusters, two_entries};
 use crate::optionals::{OPTIONAL_LINES, TWO_VALUES, optionals};
+use nt_decoded::decode_cluster;
 use nt_event::write_line;
 use nt_lists::Bytes;
 use nt_memory::{Calls, MemFile};
@@ -21,11 +24,54 @@ fn fault_of(failure: ReadFailure) -> Result<Fault, AllocError> {
     }
 }
 
+/// How clusters are read: their pages lent as they are stored, or decoded.
+#[derive(Clone, Copy)]
+enum Way {
+    Lent,
+    Decoded,
+}
+
+const WAYS: [Way; 2] = [Way::Lent, Way::Decoded];
+
+/// Appends the lines of the entries of a cluster, or gives its first fault.
+fn read_cluster(
+    alloc: Global,
+    file: &mut MemFile,
+    reader: &Reader,
+    k: u32,
+    way: Way,
+    lines: &mut Vec<u8>,
+) -> Result<Option<Fault>, AllocError>
+    requires { k < length reader.now.clusters }
+{
+    match way {
+        Way::Lent => match reader.cluster(alloc, file, k) {
+            Ok(cluster) => {
+                for i in 0..cluster.entries() {
+                    let trees = cluster.entry(alloc, i)?;
+                    write_line(alloc, &trees, lines)?;
+                }
+            }
+            Err(failure) => return Ok(Some(fault_of(failure)?)),
+        },
+        Way::Decoded => match decode_cluster(alloc, file, reader, k, None) {
+            Ok(cluster) => {
+                for i in 0..cluster.entries() {
+                    cluster.write_entry(alloc, i, lines)?;
+                }
+            }
+            Err(failure) => return Ok(Some(fault_of(failure)?)),
+        },
+    }
+    Ok(None)
+}
+
 /// Appends the lines of a file's entries up to its first fault, and gives that fault. The calls with
 /// these numbers fail.
 fn read_lines(
     alloc: Global,
     file: &[u8],
+    way: Way,
     fails: &[u64],
     lines: &mut Vec<u8>,
 ) -> Result<Option<Fault>, AllocError> {
@@ -36,13 +82,9 @@ fn read_lines(
         Err(failure) => return Ok(Some(fault_of(failure)?)),
     };
     for k in 0..reader.clusters() {
-        let cluster = match reader.cluster(alloc, &mut file, k) {
-            Ok(cluster) => cluster,
-            Err(failure) => return Ok(Some(fault_of(failure)?)),
-        };
-        for i in 0..cluster.entries() {
-            let trees = cluster.entry(alloc, i)?;
-            write_line(alloc, &trees, lines)?;
+        let fault = read_cluster(alloc, &mut file, &reader, k, way, lines)?;
+        if fault.is_some() {
+            return Ok(fault);
         }
     }
     Ok(None)
@@ -57,24 +99,29 @@ fn bend(file: &mut Vec<u8>, edits: &[(usize, u8)]) {
     }
 }
 
+/// The lines of a file's entries up to its first fault, and that fault, are these, whichever way it is read.
+fn reads_as(
+    alloc: Global,
+    file: &[u8],
+    want: &[u8],
+    fault: Option<Fault>,
+) -> Result<bool, AllocError> {
+    for way in WAYS {
+        let mut lines = Vec::new(alloc);
+        let told = read_lines(alloc, file, way, &[], &mut lines)?;
+        if told != fault || lines.as_slice() != want {
+            return Ok(false);
+        }
+    }
+    Ok(true)
+}
+
 #[test]
 fn entries_are_read(rt: HostRuntime) -> Result<(), Fail> {
     let alloc = rt.alloc();
-    let mut lines = Vec::new(alloc);
-    assert_eq!(rt;
-        read_lines(alloc, &two_entries(alloc)?, &[], &mut lines)?,
-        None
-    );
-    assert_eq!(rt;
-        lines.as_slice(),
-        b"[1]\n[18446744073709551615]\n".as_slice()
-    );
-    lines.clear();
-    assert_eq!(rt;
-        read_lines(alloc, &two_clusters(alloc)?, &[], &mut lines)?,
-        None
-    );
-    assert_eq!(rt; lines.as_slice(), BOTH);
+    let want = b"[1]\n[18446744073709551615]\n";
+    assert!(rt; reads_as(alloc, &two_entries(alloc)?, want, None)?);
+    assert!(rt; reads_as(alloc, &two_clusters(alloc)?, BOTH, None)?);
     Ok(())
 }
 
@@ -84,10 +131,7 @@ fn the_first_fault_is_told(rt: HostRuntime) -> Result<(), Fail> {
     for (edits, want, fault) in BENT {
         let mut file = two_clusters(alloc)?;
         bend(&mut file, edits);
-        let mut lines = Vec::new(alloc);
-        let told = read_lines(alloc, &file, &[], &mut lines)?;
-        assert_eq!(rt; told.unwrap_or((0, 0, 0, 0, 0, 0, 0)), fault);
-        assert_eq!(rt; lines.as_slice(), want);
+        assert!(rt; reads_as(alloc, &file, want, fault)?);
     }
     Ok(())
 }
@@ -98,9 +142,7 @@ fn each_fault_has_its_place_in_the_file(rt: HostRuntime) -> Result<(), Fail> {
     for (edits, fault) in SMALL {
         let mut file = two_entries(alloc)?;
         bend(&mut file, edits);
-        let mut lines = Vec::new(alloc);
-        assert_eq!(rt; read_lines(alloc, &file, &[], &mut lines)?, Some(fault));
-        assert_eq!(rt; lines.as_slice(), b"".as_slice());
+        assert!(rt; reads_as(alloc, &file, b"", Some(fault))?);
     }
     Ok(())
 }
@@ -108,18 +150,11 @@ fn each_fault_has_its_place_in_the_file(rt: HostRuntime) -> Result<(), Fail> {
 #[test]
 fn an_optional_has_one_value_at_most(rt: HostRuntime) -> Result<(), Fail> {
     let alloc = rt.alloc();
-    let mut lines = Vec::new(alloc);
-    assert_eq!(rt;
-        read_lines(alloc, &optionals(alloc)?, &[], &mut lines)?,
-        None
-    );
-    assert_eq!(rt; lines.as_slice(), OPTIONAL_LINES);
+    assert!(rt; reads_as(alloc, &optionals(alloc)?, OPTIONAL_LINES, None)?);
     for (edits, fault) in TWO_VALUES {
         let mut file = optionals(alloc)?;
         bend(&mut file, edits);
-        let mut lines = Vec::new(alloc);
-        assert_eq!(rt; read_lines(alloc, &file, &[], &mut lines)?, Some(fault));
-        assert_eq!(rt; lines.as_slice(), b"".as_slice());
+        assert!(rt; reads_as(alloc, &file, b"", Some(fault))?);
     }
     Ok(())
 }
@@ -134,36 +169,41 @@ fn a_file_that_is_cut_is_no_file(rt: HostRuntime) -> Result<(), Fail> {
     ] {
         let mut file = two_entries(alloc)?;
         file.truncate(len);
+        assert!(rt; reads_as(alloc, &file, b"", Some(fault))?);
+    }
+    assert!(rt; reads_as(alloc, b"PK", b"", Some((2, 0, 0, 0, 0, 0, 0)))?);
+    Ok(())
+}
+
+/// The calls of reading a file each fail: up to one of them in the first cluster, up to another in the second.
+fn fails_in(
+    alloc: Global,
+    file: &[u8],
+    way: Way,
+    first: u64,
+    second: u64,
+) -> Result<bool, AllocError> {
+    for call in 1..=second {
         let mut lines = Vec::new(alloc);
-        assert_eq!(rt; read_lines(alloc, &file, &[], &mut lines)?, Some(fault));
+        let told = read_lines(alloc, file, way, &[call], &mut lines)?;
+        let want = if call <= first { b"".as_slice() } else { FIRST };
+        if told != Some((0, 0, 0, 0, 0, 0, 0)) || lines.as_slice() != want {
+            return Ok(false);
+        }
     }
     let mut lines = Vec::new(alloc);
-    let told = read_lines(alloc, b"PK", &[], &mut lines)?;
-    assert_eq!(rt; told, Some((2, 0, 0, 0, 0, 0, 0)));
-    Ok(())
+    let told = read_lines(alloc, file, way, &[second.saturating_add(1)], &mut lines)?;
+    Ok(told.is_none() && lines.as_slice() == BOTH)
 }
 
 #[test]
 fn pages_that_follow_one_another_are_read_by_one_call(rt: HostRuntime) -> Result<(), Fail> {
     let alloc = rt.alloc();
     let file = two_clusters(alloc)?;
-    // Attaching asks for two sizes, four windows of the container and three envelopes. The first
-    // cluster asks for a size and three columns, the second for one column more.
-    for (call, want) in [
-        (1, b"".as_slice()),
-        (9, b""),
-        (10, b""),
-        (13, b""),
-        (14, FIRST),
-        (18, FIRST),
-    ] {
-        let mut lines = Vec::new(alloc);
-        let told = read_lines(alloc, &file, &[call], &mut lines)?;
-        assert_eq!(rt; told, Some((0, 0, 0, 0, 0, 0, 0)));
-        assert_eq!(rt; lines.as_slice(), want);
-    }
-    let mut lines = Vec::new(alloc);
-    assert_eq!(rt; read_lines(alloc, &file, &[19], &mut lines)?, None);
-    assert_eq!(rt; lines.as_slice(), BOTH);
+    // Attaching asks for two sizes, four windows of the container and three envelopes. Decoding the first
+    // cluster asks for a size and three columns, the second for one column more. To lend them, each cluster asks
+    // for a size and all pages.
+    assert!(rt; fails_in(alloc, &file, Way::Decoded, 13, 18)?);
+    assert!(rt; fails_in(alloc, &file, Way::Lent, 11, 13)?);
     Ok(())
 }

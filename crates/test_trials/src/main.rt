@@ -9,6 +9,7 @@
 
 mod built;
 mod direct;
+mod lent;
 mod named;
 mod points;
 mod rows;

@@ -3,6 +3,7 @@
 use super::Trials;
 use super::setting::bytes_of;
 use crate::direct::{add_firsts, params_of, store};
+use crate::lent::{Part, add_lent};
 use crate::named::find;
 use crate::spelling::{add_number, number_of, short_of};
 use nt_draws::Making;
@@ -25,6 +26,8 @@ impl Trials {
             }
             ("points", []) => self.tell_points(told),
             ("firsts", []) => add_firsts(self.alloc, self.last_file("o"), told),
+            ("pages", [name]) => add_lent(self.alloc, self.last_file(name), Part::Pages, told),
+            ("texts", [name, ends]) => self.tell_texts(name, short_of(ends), told),
             ("bytes", [at, len]) => self.tell_bytes(number_of(at), number_of(len), told),
             ("same", parts) => self.compare(parts, told),
             ("alike", [from, behind]) => self.liken(number_of(from), number_of(behind), told),
@@ -50,6 +53,11 @@ impl Trials {
             self.answer(ran, true, told)?;
         }
         Ok(())
+    }
+
+    /// `texts NAME ENDS`: the texts of a file, by the column of their ends.
+    fn tell_texts(&self, name: &str, ends: u32, told: &mut Vec<u8>) -> Result<(), AllocError> {
+        add_lent(self.alloc, self.last_file(name), Part::Texts(ends), told)
     }
 
     /// `points`: the digits of the gate.
