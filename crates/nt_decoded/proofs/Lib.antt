@@ -5,3 +5,4 @@ pub mod Changes
 pub mod ColumnSteps
 pub mod KeptTypes
 pub mod Fitting
+pub mod Printed

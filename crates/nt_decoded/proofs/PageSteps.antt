@@ -20,7 +20,7 @@ use Rattle.nt_tfile.specs.declared.failure.ReadFailure.TheVariants.{Defect, Faul
 use Rattle.nt_tfile.specs.Calls.{IsReadOrFails}
 use Rattle.nt_decoded.specs.Windows.{found_page}
 use Rattle.nt_decoded.specs.Pages.{column_with_bytes, column_with_page, column_with_pages}
-use Rattle.nt_reader.proofs.Chains.{fails}
+use Rattle.nt_listing.proofs.Chains.{fails}
 
 -- the size that a page of so many elements has to have
 abbrev pub sized : ℕ → ℕ → ColumnType → PageItem → Result (Unit {0}) ReadError

@@ -1,7 +1,7 @@
 //! A cluster that was decoded.
 
-ghost use Rattle.std.specs.Prelude.{◌≡◌, ◌<◌, ◌++◌, ◌∷◌, [], ℕ, length, slice_index_or, IfOk, OnOk, OnErr};
-ghost use Rattle.nt_types.specs.TreeData.{no_trees};
+ghost use Rattle.std.specs.Prelude.{◌≡◌, ◌<◌, ◌≤◌, ◌++◌, ◌∷◌, [], ℕ, length, IfOk, OnErr};
+ghost use Rattle.std.specs.List.{flat_map, slice_range};
 ghost use Rattle.nt_column.specs.Column.{columns_of, elements_at};
 ghost use Rattle.nt_plans.specs.Place.{open_plans};
 ghost use Rattle.nt_trees.specs.Sound.{AllSound};
@@ -59,14 +59,22 @@ impl<'a> DecodedCluster<'a> {
         self.entries
     }
 
-    /// Appends the line of an entry, the same values as event text, and its LF; nothing where memory runs out.
-    pub fn write_entry(&self, alloc: Global, i: u64, out: &mut Vec<u8>) -> Result<(), AllocError>
-        requires { i < self.now.entries }
-        ensures ok { OnOk result (out.new.items ≡ out.old.items
-            ++ (line_of (slice_index_or (given_entries self.now) i no_trees) ++ 10 ∷ [])) }
+    /// Appends the lines of entries from one on, up to another or until there are so many bytes, and says which comes next: at least one
+    /// line. A line has the same values as event text, and its LF; nothing is appended where memory runs out.
+    pub fn write_entries(
+        &self,
+        alloc: Global,
+        part: (u64, u64),
+        most: usize,
+        out: &mut Vec<u8>,
+    ) -> Result<u64, AllocError>
+        requires { (part.0 < part.1) × (part.1 ≤ self.now.entries) }
+        ensures next { IfOk result (λ next. (part.0 < next) × (next ≤ part.1)) }
+        ensures ok { IfOk result (λ next. out.new.items ≡ out.old.items
+            ++ flat_map (λ entry. line_of entry ++ 10 ∷ []) (slice_range (given_entries self.now) part.0 next)) }
         ensures err { OnErr result (out.new.items ≡ out.old.items) }
     {
-        nt_print::write_entry(alloc, &self.columns, self.schema, i, out)
+        nt_lines::write_entries(alloc, &self.columns, self.schema, part, most, out)
     }
 
     /// The elements of the columns, by id; of a closed column none.

@@ -11,7 +11,7 @@ use nt_listing::Wanting;
 use nt_schema::Schema;
 use std::alloc::Global;
 
-/// Memory of a cluster that was read, which another takes.
+/// Memory of a cluster that was decoded, which another takes.
 #[derive(Drop)]
 pub struct KeptMemory {
     pub(crate) columns: ColumnSet,

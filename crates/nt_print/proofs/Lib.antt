@@ -1,10 +1,10 @@
-mod Arrays
+pub mod Arrays
 mod Decimals
 mod LentEnds
-mod Numbers
+pub mod Numbers
 mod Optionals
-mod Parts
-mod Places
+pub mod Parts
+pub mod Places
 mod ShortTexts
 mod SimpleTexts
 mod TripleTable

@@ -10,17 +10,18 @@ use std::alloc::AllocError;
 /// The room of eight numbers.
 pub static BLOCK_ROOM: [u8; 64] = [0; 64];
 
-/// Writes numbers, a mark in front of the first, and commas, and says where they end.
+/// Writes numbers behind what is written, a mark in front of the first, and commas, and says where they end.
 #[inline(always)]
-fn place_each<W: Word>(mark: u8, words: &[W], room: &mut [u8]) -> usize
+pub fn place_each<W: Word>(mark: u8, words: &[W], from: usize, room: &mut [u8]) -> usize
     requires below { AreBelow 1000000 (map W.number words.now) }
-    requires room { 7 * length words.now + 5 ≤ length room.old }
-    ensures text { take result room.new ≡ integers_text mark (map pos (map W.number words.now)) }
-    ensures few { result ≤ 7 * length words.now }
+    requires room { from + 7 * length words.now + 5 ≤ length room.old }
+    ensures text { take result room.new ≡ take from room.old
+        ++ integers_text mark (map pos (map W.number words.now)) }
+    ensures few { result ≤ from + 7 * length words.now }
     ensures len { length room.new ≡ length room.old }
 {
     let mut next = mark;
-    let mut at = 0;
+    let mut at = from;
     for word in words {
         at = place_short(next, word.number() as u32, at, room);
         next = b',';
@@ -39,7 +40,7 @@ pub fn put_block<W: Word>(mark: u8, words: &[W], out: &mut Vec<u8>) -> Result<()
 {
     let len = out.len();
     out.extend_from_slice(&BLOCK_ROOM)?;
-    let count = place_each(mark, words, &mut out[len..]);
+    let count = place_each(mark, words, 0, &mut out[len..]);
     out.truncate(len + count);
     Ok(())
 }

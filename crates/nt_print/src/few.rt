@@ -9,7 +9,7 @@ use crate::words::Word;
 
 /// Writes what stands behind the last value of an array, and says where it ends.
 #[inline(always)]
-fn place_end(later: bool, at: usize, room: &mut [u8]) -> usize
+pub fn place_end(later: bool, at: usize, room: &mut [u8]) -> usize
     requires { at + 2 ≤ length room.old }
     ensures text { take result room.new ≡ take at room.old ++ end_of later }
     ensures more { at < result }

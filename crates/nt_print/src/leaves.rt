@@ -73,7 +73,7 @@ fn put_signed(mark: u8, n: i64, out: &mut Vec<u8>) -> Result<(), AllocError>
 }
 
 /// The integer that an element of this width stands for, where it has a sign.
-fn signed_of(element: u64, bits: u8) -> i64
+pub fn signed_of(element: u64, bits: u8) -> i64
     requires { bits ≤ 64 }
     ensures { result ≡ integer_of bits true element }
 {

@@ -7,6 +7,9 @@
 //! optional integers. Most texts are of
 //! characters that stand for themselves: `short.rt` sees it while it writes a short one.
 //!
+//! The other public calls are the pieces of which nt_lines makes the lines of many entries: they write to room that was appended, or
+//! append one value.
+//!
 //! Words: those of nt_trees and nt_event; a *line* is the JSON array of an entry, and its LF; a *mark* is
 //! the byte in front of a value: the bracket of its array, or a comma.
 //!
@@ -49,4 +52,15 @@ mod triples;
 mod values;
 mod words;
 
+pub use blocks::place_each;
 pub use entry::write_entry;
+pub use few::place_end;
+pub use integers::{Integers, integers_of};
+pub use leaves::{mark_before, signed_of};
+pub use lists::{are_below, short_end};
+pub use marked::place_digits;
+pub use room::place_byte;
+pub use short::place_text;
+pub use spans::{begin_in, end_in};
+pub use values::put_value;
+pub use words::Word;

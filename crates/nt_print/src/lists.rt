@@ -17,7 +17,7 @@ use std::alloc::AllocError;
 
 /// Where numbers end that have at most six digits, and stand for themselves in this width and sign.
 #[inline]
-fn short_end(bits: u8, signed: bool) -> u64
+pub fn short_end(bits: u8, signed: bool) -> u64
     ensures short { result ≤ 1000000 }
     ensures same { (n : ℕ) → n < result → integer_of bits signed n ≡ pos n }
 {
@@ -32,7 +32,7 @@ fn short_end(bits: u8, signed: bool) -> u64
 
 /// Whether all numbers are below another. It ends behind the last one whatever they are, so that it can
 /// look at many at once.
-fn are_below<W: Word>(words: &[W], end: u64) -> bool
+pub fn are_below<W: Word>(words: &[W], end: u64) -> bool
     ensures { IsTrue result → AreBelow end (map W.number words.now) }
 {
     let mut all = true;

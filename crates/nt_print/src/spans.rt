@@ -9,7 +9,7 @@ use nt_join::reading::{begin, number};
 
 /// Where the part of an element ends, by the ends as they lie.
 #[inline(always)]
-fn end_in(list: &[u64], i: usize) -> u64
+pub fn end_in(list: &[u64], i: usize) -> u64
     requires { i < length list.now }
     ensures { result ≡ number_at (map plain list.now) i }
 {
@@ -18,7 +18,7 @@ fn end_in(list: &[u64], i: usize) -> u64
 
 /// Where the part of an element begins, by the ends as they lie.
 #[inline(always)]
-fn begin_in(list: &[u64], i: usize) -> u64
+pub fn begin_in(list: &[u64], i: usize) -> u64
     requires { i ≤ length list.now }
     ensures { result ≡ begin_at (map plain list.now) i }
 {

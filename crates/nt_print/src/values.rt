@@ -20,7 +20,7 @@ use std::alloc::{AllocError, Global};
 /// Appends a mark, and then the value of an element; a number right here, where it is called.
 #[inline(always)]
 #[cycle(print)]
-fn put_value<C: Columns>(
+pub fn put_value<C: Columns>(
     alloc: Global,
     columns: &C,
     plan: &Plan,

@@ -2,7 +2,8 @@
 use Rattle.std.proofs.Common.{◌≡◌, ◌∙◌, ap, ap₂, sym, refl, ℕ, zero, suc, ◌+◌, ◌-◌, ◌<◌, ◌≤◌, List, [], ◌∷◌, ◌++◌, length, take, drop}
 use Rattle.std.proofs.Common.{get_or, Option, Some, None, arith, length-drop}
 use Rattle.std.specs.Prelude.{min, slice_get}
-use Rattle.std.proofs.lemmas.List.{append-nil, take-append-drop, take-take, take_more, take_min, drop_min, take_all, get_or-drop}
+use Rattle.std.proofs.lemmas.List.{append-nil, take-append-drop, take-take, take_min, drop_min, take_all, drop-drop, drop-take}
+use Rattle.std.specs.List.{slice_range}
 use Rattle.std.proofs.lemmas.List.Concat.{flat_map-append}
 use Rattle.nt_types.specs.TreeData.{TreesData}
 use Rattle.nt_event.specs.Json.{line_of}
@@ -126,29 +127,22 @@ within_is range len from shown xs is first shows =
     ∙ ap (λ (n : ℕ). drop n xs) (ap (min range.from) is ∙ sym first) in
     ap (limited range.count) same ∙ shows (drop from xs) (length-drop from xs ∙ ap (λ (n : ℕ). n - from) is)
 
-there_is : (xs : List TreesData) (i : ℕ) (x : TreesData) → slice_get xs i ≡ Some x → (i < length xs) × (get_or xs i x ≡ x)
-there_is [] i x is = absurd (cc)
-there_is (y ∷ ys) zero x is = (omega arith, cc)
-there_is (y ∷ ys) (suc i) x is =
-    let rest = there_is ys i x is in
-    (omega (arith, rest.0), rest.1)
-
--- the line of one more entry
-pub more_lines : (xs : List TreesData) (from i : ℕ) (x : TreesData) → from ≤ i → slice_get xs i ≡ Some x
-    → entry_lines (take (i + 1 - from) (drop from xs)) ≡ entry_lines (take (i - from) (drop from xs)) ++ entry_lines (x ∷ [])
-more_lines xs from i x low is =
-    let at = there_is xs i x is in
-    let below : i - from < length (drop from xs) = omega (arith, at.0, length-drop from xs) in
-    let next : i + 1 - from ≡ (i - from) + 1 = omega arith in
-    let there : get_or (drop from xs) (i - from) x ≡ x = get_or-drop from xs (i - from) x ∙ ap (λ (n : ℕ). get_or xs n x) (omega arith)
-    ∙ at.1 in
-    ap (λ (n : ℕ). entry_lines (take n (drop from xs))) next
-    ∙ ap entry_lines (take_more (drop from xs) (i - from) x below ∙ ap (λ (y : TreesData). take (i - from) (drop from xs) ++ y ∷ []) there)
-    ∙ flat_map-append (λ entry. line_of entry ++ 10 ∷ []) (take (i - from) (drop from xs)) (x ∷ [])
-
 -- the lines of the first entries, and others
 pub first_lines : (xs : List TreesData) (k n : ℕ) → k ≤ n
     → entry_lines (take n xs) ≡ entry_lines (take k xs) ++ entry_lines (drop k (take n xs))
 first_lines xs k n low =
     ap entry_lines (sym (take-append-drop k (take n xs)) ∙ ap (λ (l : List TreesData). l ++ drop k (take n xs)) (take-take k n xs low))
     ∙ flat_map-append (λ entry. line_of entry ++ 10 ∷ []) (take k xs) (drop k (take n xs))
+
+-- the lines of entries up to one, and from there to another
+pub chunk_lines : (xs : List TreesData) (a b c : ℕ) → a ≤ b → b ≤ c
+    → entry_lines (slice_range xs a c) ≡ entry_lines (slice_range xs a b) ++ entry_lines (slice_range xs b c)
+chunk_lines xs a b c low high =
+    let all : (b - a) + (c - b) ≡ c - a = omega arith in
+    let next : a + (b - a) ≡ b = omega arith in
+    let rest : drop (b - a) (drop a xs) ≡ drop b xs = drop-drop (b - a) a xs ∙ ap (λ (n : ℕ). drop n xs) next in
+    let behind : drop (b - a) (take (c - a) (drop a xs)) ≡ slice_range xs b c =
+    ap (λ (n : ℕ). drop (b - a) (take n (drop a xs))) (sym all)
+    ∙ drop-take (b - a) (c - b) (drop a xs) ∙ ap (λ (l : List TreesData). take (c - b) l) rest in
+    first_lines (drop a xs) (b - a) (c - a) (omega arith)
+    ∙ ap (λ (l : List TreesData). entry_lines (slice_range xs a b) ++ entry_lines l) behind

@@ -9,7 +9,7 @@ ghost use Rattle.nt_show.specs.Listing.{ClusterTold, ClustersTold};
 ghost use Rattle.nt_show.specs.Shown.{entries_shown, ShowsFile};
 
 use crate::entry_range::EntryRange;
-use crate::lines::put_entry;
+use crate::lines::put_some;
 use nt_decoded::{DecodedCluster, KeptMemory, decode_cluster};
 use nt_num::ReadError;
 use nt_outside::{Host, ReadAt, Refused, Stream, print_all};
@@ -42,8 +42,9 @@ fn put_entries<H: Host>(
     ensures rest { OnlyPrints (H.state host.old) (H.state host.new) }
 {
     let (from, to) = range.within(cluster.entries());
-    for i in from..to {
-        put_entry(alloc, host, waiting, cluster, i)?;
+    let mut i = from;
+    while i < to {
+        i = put_some(alloc, host, waiting, cluster, (i, to))?;
     }
     Ok(())
 }

@@ -1,7 +1,8 @@
 //! Lines that are gathered before they are printed.
 
-ghost use Rattle.std.specs.Prelude.{◌≡◌, ◌<◌, ◌∷◌, [], slice_index_or, OnOk};
-ghost use Rattle.nt_types.specs.TreeData.{trees_of, no_trees};
+ghost use Rattle.std.specs.Prelude.{◌≡◌, ◌<◌, ◌≤◌, ◌∷◌, [], OnOk, IfOk};
+ghost use Rattle.std.specs.List.{slice_range};
+ghost use Rattle.nt_types.specs.TreeData.{trees_of};
 ghost use Rattle.nt_types.specs.TreeViews.{trees_view};
 ghost use Rattle.nt_outside.specs.Faults.{RoseOnFailed};
 ghost use Rattle.nt_reader.specs.Columns.{given_entries};
@@ -52,24 +53,25 @@ pub fn put_line<H: Host>(
     Ok(())
 }
 
-/// Puts the line of an entry of a cluster behind those that wait, and prints them all once they are
-/// many.
-pub fn put_entry<H: Host>(
+/// Puts the lines of entries of a cluster from one on, some of those up to another, behind those that wait, prints them all once they are
+/// many, and says which entry comes next.
+pub fn put_some<H: Host>(
     alloc: Global,
     host: &mut H,
     waiting: &mut Vec<u8>,
     cluster: &DecodedCluster<'_>,
-    i: u64,
-) -> Result<(), Refused>
-    requires { i < cluster.now.entries }
-    ensures ok { OnOk result (PrintsSome (entry_lines (slice_index_or (given_entries cluster.now) i no_trees ∷ []))
+    part: (u64, u64),
+) -> Result<u64, Refused>
+    requires { (part.0 < part.1) × (part.1 ≤ cluster.now.entries) }
+    ensures ok { IfOk result (λ next. (part.0 < next) × (next ≤ part.1)
+        × PrintsSome (entry_lines (slice_range (given_entries cluster.now) part.0 next))
         (H.state host.old).world waiting.old.items (H.state host.new).world waiting.new.items) }
-    ensures part { GathersPart (entry_lines (slice_index_or (given_entries cluster.now) i no_trees ∷ []))
+    ensures part { GathersPart (entry_lines (slice_range (given_entries cluster.now) part.0 part.1))
         (H.state host.old).world waiting.old.items (H.state host.new).world }
     ensures cause { RoseOnFailed (H.state host.old).faults (H.state host.new).faults result }
     ensures rest { OnlyPrints (H.state host.old) (H.state host.new) }
 {
-    cluster.write_entry(alloc, i, waiting)?;
+    let next = cluster.write_entries(alloc, part, MANY, waiting)?;
     print_many(host, waiting)?;
-    Ok(())
+    Ok(next)
 }

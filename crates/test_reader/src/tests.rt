@@ -31,6 +31,9 @@ enum Way {
     Decoded,
 }
 
+/// How many bytes of lines are made room for at once.
+const ROOM: usize = 100;
+
 const WAYS: [Way; 2] = [Way::Lent, Way::Decoded];
 
 /// Appends the lines of the entries of a cluster, or gives its first fault.
@@ -57,7 +60,7 @@ fn read_cluster(
         Way::Decoded => match decode_cluster(alloc, file, reader, k, None) {
             Ok(cluster) => {
                 for i in 0..cluster.entries() {
-                    cluster.write_entry(alloc, i, lines)?;
+                    cluster.write_entries(alloc, (i, i + 1), ROOM, lines)?;
                 }
             }
             Err(failure) => return Ok(Some(fault_of(failure)?)),

@@ -4,7 +4,7 @@ use Rattle.nt_lists.specs.Chaining.{◌>>=◌}
 use Rattle.nt_num.specs.declared.fault.ReadError.{ReadError}
 use Rattle.nt_encode.specs.Elements.{Element}
 use Rattle.nt_file_meaning.specs.Clusters.{columns_from}
-use Rattle.nt_reader.proofs.Chains.{fails-as}
+use Rattle.nt_listing.proofs.Chains.{fails-as}
 use Rattle.nt_decoded.proofs.Changes.{none-read, read-more, held-more, row-there, inside-more}
 use Rattle.nt_decoded.proofs.KeptTypes.{types-of_empty}
 use Rattle.nt_decoded.proofs.ColumnSteps.{columns-more, columns-fail}

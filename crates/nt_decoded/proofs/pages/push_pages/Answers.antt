@@ -2,7 +2,7 @@ use Rattle.std.proofs.Common.{◌∙◌, ap, sym, refl, arith}
 use Rattle.std.proofs.lemmas.Result.{err_from_is_err_and}
 use Rattle.nt_column.specs.Column.{Column}
 use Rattle.nt_decoded.specs.Pages.{column_with_pages}
-use Rattle.nt_reader.proofs.Chains.{fails-as}
+use Rattle.nt_listing.proofs.Chains.{fails-as}
 use Rattle.nt_decoded.proofs.PageSteps.{pages-more, pages-fail}
 use Rattle.nt_decoded.proofs.pages.push_pages.Goals as goal
 

@@ -1,4 +1,4 @@
-use Rattle.std.proofs.Common.{ℕ, ◌≡◌, ◌+◌, [], ◌∷◌, ◌++◌, refl, pos, decimal, map, take, drop, ap, sym, ◌∙◌, subst, arith}
+use Rattle.std.proofs.Common.{ℕ, ◌≡◌, ◌+◌, ◌∷◌, ◌++◌, refl, pos, decimal, map, take, drop, ap, sym, ◌∙◌, subst, arith}
 use Rattle.std.proofs.lemmas.List.{drop_more, drop_all}
 use Rattle.nt_print.specs.Integers.{AreBelow}
 use Rattle.nt_print.proofs.Parts.{IsPut-none, IsPut-next, IsPut-all}
@@ -21,7 +21,7 @@ loop-word-preserved g c =
       within = omega (arith, v.within, c.place_short-at.ensures.few);
       same = c.place_short-at.ensures.len ∙ v.same;
       below = below.1;
-      put = IsPut-next [] front _ c.loop-word.next (pos (g.W.Word.number first)) _ _ _
+      put = IsPut-next (take c.args.from c.args.room.now) front _ c.loop-word.next (pos (g.W.Word.number first)) _ _ _
           (ap (λ ws. map pos (map g.W.Word.number ws)) next) v.put
           (c.place_short-at.ensures.text ∙ ap (λ (n : ℕ). front ++ c.loop-word.next ∷ decimal n) c.number.ensures);
     }
@@ -29,5 +29,6 @@ loop-word-preserved g c =
 pub returns-clause-text : goal.returns-clause-text
 returns-clause-text g c =
     let none = drop_all c.loop-word.word-index c.args.words.now c.loop-word-test.false in
-    IsPut-all [] (take c.loop-word.at c.loop-word.room) c.loop-word.next _ _ (ap (λ ws. map pos (map g.W.Word.number ws)) none)
+    IsPut-all (take c.args.from c.args.room.now) (take c.loop-word.at c.loop-word.room) c.loop-word.next _ _
+    (ap (λ ws. map pos (map g.W.Word.number ws)) none)
     c.loop-word.invariant.put

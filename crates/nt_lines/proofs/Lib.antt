@@ -1,0 +1,3 @@
+mod LentPlans
+mod Placed
+mod Written
