@@ -26,8 +26,8 @@
 //! (`made_events_have_totals`). That memory is that of one cluster and one entry, no clause says. Tested in
 //! test_trials: lines and files that were worked out by hand, and each call of the outside failing in turn.
 //!
-//! A choice that binds nobody else: the numbers are taken from the trees of an entry, one entry after the other, since the columns of a
-//! cluster that was read are its own.
+//! A choice that binds nobody else: the numbers are taken from the trees of an entry, one entry after the other, since totals are stated
+//! over trees.
 #![tactic(auto)]
 
 mod clusters;

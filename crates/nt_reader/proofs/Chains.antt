@@ -24,22 +24,9 @@ use Rattle.nt_pagelists.specs.Objects.{page_list_kind}
 use Rattle.nt_file_meaning.specs.Headers.{header_payload_at}
 use Rattle.nt_file_meaning.specs.Outlines.{Outline, header_block, list_block, known_columns, no_progress, clusters_of_block, group_clusters}
 use Rattle.nt_file_meaning.specs.Outlines.{groups_clusters, described_of, outline_of}
+use Rattle.nt_listing.proofs.Chains.{fails, fails-as}
 use Rattle.nt_reader.specs.Failures.{IsInPayload}
 use Rattle.nt_reader.specs.Steps.{header_said, footer_said, clusters_with, clusters_behind}
-
--- what fails in a step fails in all
-pub fails : {U V W X : Type 0} (one : U → V) (all : W → X) (e : ReadFailure) (r : Result V ReadError) (f : V → Result X ReadError)
-    → IsReadOrFails one (Err e) r → IsReadOrFails all (Err e) (r >>= f)
-fails {V = V} one all (Defect d) r f h = ap (λ (s : Result V ReadError). s >>= f) h
-fails one all Fault r f h = tt
-fails one all Memory r f h = tt
-
--- the same along an equation
-pub fails-as : {U W X : Type 0} (one : U → X) (all : W → X) (e : ReadFailure) (r s : Result X ReadError) → s ≡ r
-    → IsReadOrFails one (Err e) r → IsReadOrFails all (Err e) s
-fails-as one all (Defect d) r s is h = is ∙ h
-fails-as one all Fault r s is h = tt
-fails-as one all Memory r s is h = tt
 
 -- what reads one reads another that is the same
 pub reads-as : {V W : Type 0} (view : V → W) (r : Result V ReadFailure) (s t : Result W ReadError) → s ≡ t → IsReadOrFails view r t

@@ -16,7 +16,7 @@ use Rattle.nt_file_meaning.specs.Clusters.{columns_from, columns_by_id, no_value
 use Rattle.nt_file_meaning.specs.Clusters.{columns_in_cluster}
 use Rattle.nt_tfile.specs.declared.failure.ReadFailure.{ReadFailure}
 use Rattle.nt_tfile.specs.Calls.{IsReadOrFails}
-use Rattle.nt_reader.proofs.Chains.{fails}
+use Rattle.nt_listing.proofs.Chains.{fails}
 
 pub columns-fail : {U W : Type 0} (one : U → List (List Element)) (all : W
     → List TreesData) (told : List ℕ) (t : Table) (number : ℕ) (k : ClusterList) (e : ReadFailure)

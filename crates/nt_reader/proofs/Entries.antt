@@ -33,7 +33,7 @@ entry-at c seen i entry is lt e =
     ∙ ap (λ (x : TreesData). Some x) (sym e))
 
 -- a cluster gives as many entries as it has
-length-given : (c : ClusterData) → length (given_entries c) ≡ c.entries
+pub length-given : (c : ClusterData) → length (given_entries c) ≡ c.entries
 length-given c = length-map _ _ ∙ length-range_with_len 0 c.entries
 
 -- the entry at a place

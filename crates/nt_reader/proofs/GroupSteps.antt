@@ -18,7 +18,8 @@ use Rattle.nt_tfile.specs.declared.failure.ReadFailure.{ReadFailure}
 use Rattle.nt_tfile.specs.Calls.{IsReadOrFails}
 use Rattle.nt_reader.specs.Failures.{IsInPayload}
 use Rattle.nt_reader.specs.Steps.{clusters_with, clusters_behind, CanBeCounted, AreCounted, IsGroupCounted}
-use Rattle.nt_reader.proofs.Chains.{fails-as, opened-read, opened-fails, payload-fails, group-read, clusters-more, clusters-fail}
+use Rattle.nt_listing.proofs.Chains.{fails-as}
+use Rattle.nt_reader.proofs.Chains.{opened-read, opened-fails, payload-fails, group-read, clusters-more, clusters-fail}
 use Rattle.nt_reader.proofs.Listing.{page_list-counted}
 
 -- what is read, as it is

@@ -12,7 +12,7 @@ use Rattle.nt_listing.specs.Listings.{columns_of_loaded, AreColumnsOf}
 use Rattle.nt_listing.specs.Loading.{IsLoadedFrom}
 
 -- what was read of a cluster: the rows of its schema, the elements of its columns by id, the number of its entries, and the pages that are
--- kept as they were loaded
+-- kept as they were loaded, of which a decoded cluster has none
 pub record ClusterData : Type 0 where
   pub table : Table
   pub columns : List (List Element)

@@ -93,7 +93,7 @@ impl<'a> ClusterRead<'a> {
         self.columns.pages()
     }
 
-    /// A page of the open columns, which stand by the columns' ids, and of each column in its order.
+    /// A page of the open columns. Pages stand in the order of their columns' ids, and those of a column in their own.
     pub fn page(&self, i: u32) -> PagePlace
         requires { i < length self.now.loaded.pages }
         ensures { slice_get self.now.loaded.pages i ≡ Some result }
@@ -174,7 +174,7 @@ pub fn read_cluster<'a, F: ReadAt>(
         (λ told. cluster_of told schema.now number cluster.now) (F.state file.old) result }
     ensures columns { ReadsFile (λ c. c.columns)
         (λ told. columns_in_cluster told schema.now number cluster.now) (F.state file.old) result }
-    ensures kept { let told = (F.state file.old).bytes in
+    ensures loaded { let told = (F.state file.old).bytes in
         IfOk result (λ c. IsClusterFrom told number cluster.now schema.now c) }
 {
     let columns = read_columns(alloc, file, number, cluster, schema, kept)?;

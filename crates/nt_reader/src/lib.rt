@@ -10,14 +10,15 @@
 //! any page is read, `Reader::pages_of`, `count_of` and `zeros_of` say how many elements a column has
 //! (`listed`). What they answer is said in nt_file_meaning.
 //!
-//! Who goes over all values of a cluster decodes it by nt_decoded, which is faster then.
+//! Who goes over all values of a cluster decodes it by nt_decoded, which is faster then; it also has some of the trees of an entry and
+//! single numbers of it.
 //!
 //! Words: those of nt_file_meaning and nt_view; an `Envelope` here is one that was read, its payload and its checksum.
 //!
 //! Proved: wherever the file tells its bytes, `attach` answers exactly `outline_of`, and `cluster` and
 //! `cluster_in` exactly `cluster_of` of nt_file_meaning, the first fault and its place included (`read`);
 //! the elements of a cluster's columns are those of its pages (`columns`), and these are all pages of its open
-//! columns, with the bytes that the file tells (`kept`); a fault of the outside comes
+//! columns, with the bytes that the file tells (`loaded`); a fault of the outside comes
 //! only where the file's count rose (`file`); an entry is that of the cluster (`entry`), and its line is
 //! that of event text (`write_entry`), also of a file that doesn't tell its bytes.
 //!

@@ -125,7 +125,7 @@ impl Reader {
 
     /// Reads a cluster: the pages of its open columns, and whether their values are those of entries. Its pages stay as they are stored.
     ///
-    /// It takes memory for what the pages of the cluster hold.
+    /// It takes memory for the stored bytes of its pages, for a list of them, and for the numbers of columns of a split index.
     ///
     /// # Errors
     ///
@@ -143,7 +143,7 @@ impl Reader {
             (entries_in self.now k) (F.state file.old) result }
         ensures columns { ReadsFile (λ c. c.columns)
             (columns_read self.now k) (F.state file.old) result }
-        ensures kept { let told = (F.state file.old).bytes in
+        ensures loaded { let told = (F.state file.old).bytes in
             IfOk result (λ c. IsClusterFrom told k (numbered_cluster self.now k) self.now.table c) }
     {
         self.cluster_in(alloc, file, k, ClusterBytes::new(alloc))
@@ -163,7 +163,7 @@ impl Reader {
             (entries_in self.now k) (F.state file.old) result }
         ensures columns { ReadsFile (λ c. c.columns)
             (columns_read self.now k) (F.state file.old) result }
-        ensures kept { let told = (F.state file.old).bytes in
+        ensures loaded { let told = (F.state file.old).bytes in
             IfOk result (λ c. IsClusterFrom told k (numbered_cluster self.now k) self.now.table c) }
     {
         read_cluster(

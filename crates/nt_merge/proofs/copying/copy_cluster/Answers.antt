@@ -11,7 +11,7 @@ put_copy-requires g c =
     let o = c.args.reader.now in
     record {
       loadable = can-load file c.args.k (numbered_cluster o c.args.k) o.table c.columns.result.now
-          (from-read file c.args.k o c.columns.result.now c.in-Ok.cluster c.columns.ensures.loaded c.in-Ok.ensures.kept);
+          (from-read file c.args.k o c.columns.result.now c.in-Ok.cluster c.columns.ensures.loaded c.in-Ok.ensures.loaded);
       columns_are = c.requires.may.columns_are;
       not_staged = c.requires.may.not_staged;
       end = c.requires.may.end;
@@ -26,11 +26,11 @@ returns-in-Ok-put_copy-clause-left g c =
     let old = g.D.Disk.state c.args.disk.now in
     let new = g.D.Disk.state c.put_copy.new.disk in
     copies-left c.loaded_pages_are_stored.ensures.columns file o c.args.k columns l c.args.target.now.book
-    (from-read file c.args.k o l c.in-Ok.cluster c.columns.ensures.loaded c.in-Ok.ensures.kept)
-    (λ b told. read-given file b c.args.k o l c.in-Ok.cluster c.columns.ensures.loaded c.in-Ok.ensures.kept (c.in-Ok.ensures.read b told))
+    (from-read file c.args.k o l c.in-Ok.cluster c.columns.ensures.loaded c.in-Ok.ensures.loaded)
+    (λ b told. read-given file b c.args.k o l c.in-Ok.cluster c.columns.ensures.loaded c.in-Ok.ensures.loaded (c.in-Ok.ensures.read b told))
     c.keyed_images_are_copies.ensures old new c.put_copy.new.target.book
     (subst (λ (n : ℕ). CopiesLoaded l columns n old new c.args.target.now.book c.put_copy.new.target.book)
-    (c.entries.ensures ∙ c.in-Ok.ensures.kept.entries) c.in-Ok-put_copy.ensures.left)
+    (c.entries.ensures ∙ c.in-Ok.ensures.loaded.entries) c.in-Ok-put_copy.ensures.left)
 
 pub returns-in-Err-put_copy-clause-left : goal.returns-in-Err-put_copy-clause-left
 returns-in-Err-put_copy-clause-left g c =
@@ -43,8 +43,9 @@ returns-in-Err-put_copy-clause-left g c =
     let error = c.in-Err-put_copy.error in
     left-refused file o c.args.k columns old new c.args.target.now.book c.put_copy.new.target.book l
     (over-left c.loaded_pages_are_stored.ensures.columns file o c.args.k columns l c.args.target.now.book
-    (from-read file c.args.k o l c.in-Ok.cluster c.columns.ensures.loaded c.in-Ok.ensures.kept)
-    (λ b told. read-given file b c.args.k o l c.in-Ok.cluster c.columns.ensures.loaded c.in-Ok.ensures.kept (c.in-Ok.ensures.read b told)))
+    (from-read file c.args.k o l c.in-Ok.cluster c.columns.ensures.loaded c.in-Ok.ensures.loaded)
+    (λ b told.
+    read-given file b c.args.k o l c.in-Ok.cluster c.columns.ensures.loaded c.in-Ok.ensures.loaded (c.in-Ok.ensures.read b told)))
     error
     (subst (λ (n : ℕ). LeavesLoaded l columns n old new c.args.target.now.book c.put_copy.new.target.book (Err error))
-    (c.entries.ensures ∙ c.in-Ok.ensures.kept.entries) c.in-Err-put_copy.ensures.left)
+    (c.entries.ensures ∙ c.in-Ok.ensures.loaded.entries) c.in-Err-put_copy.ensures.left)

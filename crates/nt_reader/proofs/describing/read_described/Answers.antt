@@ -2,7 +2,8 @@ use Rattle.std.proofs.Common.{ℕ, List, ◌∙◌}
 use Rattle.std.proofs.lemmas.Result.{err_from_is_err_and}
 use Rattle.nt_grammar.specs.Table.{Table}
 use Rattle.nt_pagelists.specs.declared.group.Group.{Group}
-use Rattle.nt_reader.proofs.Chains.{fails-as, first-fails, first-done}
+use Rattle.nt_listing.proofs.Chains.{fails-as}
+use Rattle.nt_reader.proofs.Chains.{first-fails, first-done}
 use Rattle.nt_reader.proofs.describing.read_described.Goals as goal
 
 pub returns-in_err-schema-clause-read : goal.returns-in_err-schema-clause-read
