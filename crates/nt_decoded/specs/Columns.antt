@@ -6,10 +6,6 @@ use Rattle.nt_types.specs.declared.column_type.ColumnType.TheVariants.{Bit}
 use Rattle.nt_encode.specs.Elements.{Element}
 use Rattle.nt_column.specs.Column.{Buffer, Column, empty, columns_of}
 use Rattle.nt_grammar.specs.Table.{Table}
-use Rattle.nt_plans.specs.Place.{open_plans}
-use Rattle.nt_trees.specs.Columns.{Cols}
-use Rattle.nt_trees.specs.Sound.{AllSound}
-use Rattle.nt_fitting.specs.Fitting.{AreOfRows}
 use Rattle.nt_grammar.specs.declared.rows.ColumnRow.{ColumnRow}
 use Rattle.nt_plans.specs.Needs.{need_of}
 use Rattle.nt_pagelists.specs.declared.cluster.ClusterList.{ClusterList}
@@ -70,8 +66,3 @@ KeepTypes cs ds = map (λ (c : Column). empty c.kind) ds ≡ map (λ (c : Column
 pub record FillsOne {E : Type 0} (id : ℕ) (cs ds : List Column) (result : Result Unit E) : Type 0 where
   pub one : ChangesOne id cs ds
   pub types : OnOk result (KeepTypes cs ds)
-
--- the columns of so many entries of a schema: they are sound, and their elements of the types of their rows
-pub record AreClusterColumns (t : Table) (cols : Cols) (entries : ℕ) : Type 0 where
-  pub sound : AllSound (open_plans t) cols entries
-  pub typed : AreOfRows t.columns cols

@@ -3,25 +3,19 @@
 ghost use Rattle.std.specs.Prelude.{◌≡◌, ◌<◌, ◌≤◌, ◌++◌, ◌∷◌, [], ℕ, length, IfOk, OnErr};
 ghost use Rattle.std.specs.List.{flat_map, slice_range};
 ghost use Rattle.nt_column.specs.Column.{columns_of, elements_at};
-ghost use Rattle.nt_plans.specs.Place.{open_plans};
-ghost use Rattle.nt_trees.specs.Sound.{AllSound};
-ghost use Rattle.nt_trees.specs.Faults.{fault_in_any};
 ghost use Rattle.nt_event.specs.Json.{line_of};
-ghost use Rattle.nt_file_meaning.specs.Clusters.{columns_by_id, no_value_fault, cluster_of, columns_in_cluster};
-ghost use Rattle.nt_tfile.specs.Calls.{Serves, IsReadAs, ReadsFile};
+ghost use Rattle.nt_file_meaning.specs.Clusters.{columns_by_id, cluster_of, columns_in_cluster};
+ghost use Rattle.nt_tfile.specs.Calls.{Serves, ReadsFile};
 ghost use Rattle.nt_reader.specs.Columns.{given_entries};
 ghost use Rattle.nt_reader.specs.Outlines.{entries_in, columns_read};
-ghost use Rattle.nt_decoded.specs.Columns.{held_elements};
 
 use crate::columns::{NumberedCluster, read_columns};
 use crate::reuse::{KeptMemory, kept_parts};
 use crate::window::Window;
 use nt_column::{ColumnSet, Columns};
-use nt_join::check_values;
-use nt_num::ReadError;
 use nt_outside::ReadAt;
 use nt_pagelists::ClusterList;
-use nt_reader::{Reader, value_fault};
+use nt_reader::{Reader, check_cluster};
 use nt_schema::Schema;
 use nt_tfile::ReadFailure;
 use std::alloc::{AllocError, Global};
@@ -41,8 +35,8 @@ pub struct DecodedCluster<'a> {
 impl<'a> Model for DecodedCluster<'a> {
     ghost use Rattle.nt_file_meaning.specs.Clusters.{columns_by_id};
     ghost use Rattle.nt_view.specs.Loaded.{nothing_loaded};
-    ghost use Rattle.nt_reader.specs.Columns.{ClusterData};
-    ghost use Rattle.nt_decoded.specs.Columns.{held_elements, AreClusterColumns};
+    ghost use Rattle.nt_reader.specs.Columns.{ClusterData, AreClusterColumns};
+    ghost use Rattle.nt_decoded.specs.Columns.{held_elements};
 
     ghost Value = { ClusterData };
 
@@ -93,25 +87,6 @@ impl<'a> DecodedCluster<'a> {
     }
 }
 
-/// Whether the values of columns are those of the entries of a cluster.
-fn check(
-    columns: &ColumnSet,
-    schema: &Schema,
-    number: u32,
-    cluster: &ClusterList,
-) -> Result<(), ReadError>
-    ensures fault { let cols = columns_by_id (held_elements columns.now) in
-        let found = fault_in_any (open_plans schema.now) cols cluster.now.entries in
-        IsReadAs (λ _. tt) result (no_value_fault number cluster.now found) }
-    ensures sound { let cols = columns_by_id (held_elements columns.now) in
-        IfOk result (λ _. AllSound (open_plans schema.now) cols cluster.now.entries) }
-{
-    match check_values(columns, schema, cluster.entries) {
-        Ok(()) => Ok(()),
-        Err(found) => Err(value_fault(number, cluster, found)),
-    }
-}
-
 /// The cluster of this number, by what a page list tells of it; or its first fault.
 fn decode<'a, F: ReadAt>(
     alloc: Global,
@@ -132,7 +107,7 @@ fn decode<'a, F: ReadAt>(
     let mut window = Window::new(alloc, size, bytes);
     let columns = read_columns(alloc, file, listed, schema, kept, &mut window)?;
     columns.in_range();
-    check(&columns, schema, listed.number, listed.list)?;
+    check_cluster(&columns, schema, listed.number, listed.list)?;
     Ok(DecodedCluster {
         schema,
         columns,

@@ -2,7 +2,7 @@
 //!
 //! Start with `decode_cluster` (`cluster`), which reads the pages of a cluster's open columns (`columns`, `pages`), decodes each while its
 //! bytes are in the cache (`window`), and looks at the values; it takes the memory of a cluster of before (`reuse`).
-//! `DecodedCluster::write_entry` gives the line of an entry, and `DecodedCluster::columns` all elements; `choosing` has some of the trees
+//! `DecodedCluster::write_entries` gives the lines of entries, and `DecodedCluster::columns` all elements; `choosing` has some of the trees
 //! of an entry, a number of it, and by which plans its columns are read.
 //!
 //! `ClusterRead` of nt_reader keeps the pages of a cluster as they are stored, and lends them. It takes no memory for a text, and decodes
@@ -12,7 +12,7 @@
 //!
 //! Proved: wherever the file tells its bytes, `decode_cluster` answers exactly `cluster_of` of nt_file_meaning, the first fault and its
 //! place included (`read`), as `Reader::cluster` does, and the elements of a cluster's columns are those of its pages (`columns`); a fault
-//! of the outside comes only where the file's count rose (`file`); the line of an entry is that of event text (`write_entry`); each entry
+//! of the outside comes only where the file's count rose (`file`); the lines of entries are those of event text (`write_entries`); each entry
 //! fits the schema (`entries_fit`), and is what the plans read in its columns (`readable`), also of a file that doesn't tell its bytes.
 //!
 //! Not proved: that pages which follow one another in the file are read by one call, at most 128 KiB at

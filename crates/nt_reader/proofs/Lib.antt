@@ -7,3 +7,4 @@ pub mod GroupSteps
 pub mod ClusterSteps
 pub mod KnownSteps
 pub mod Entries
+pub mod Fitting

@@ -4,7 +4,9 @@ use Rattle.nt_types.specs.TreeData.{TreesData}
 use Rattle.nt_encode.specs.Elements.{Element}
 use Rattle.nt_grammar.specs.Table.{Table}
 use Rattle.nt_plans.specs.Place.{open_plans}
+use Rattle.nt_trees.specs.Columns.{Cols}
 use Rattle.nt_trees.specs.Sound.{AllSound}
+use Rattle.nt_fitting.specs.Fitting.{AreOfRows}
 use Rattle.nt_pagelists.specs.declared.cluster.ClusterList.{ClusterList}
 use Rattle.nt_file_meaning.specs.Clusters.{entries_of_columns}
 use Rattle.nt_view.specs.Loaded.{Loaded, loaded_elements}
@@ -23,10 +25,15 @@ pub record ClusterData : Type 0 where
 abbrev pub given_entries : ClusterData → List TreesData
 given_entries c = entries_of_columns c.table c.columns c.entries
 
--- loaded columns are those of a schema, and nothing is wrong with the values of so many entries
+-- the columns of so many entries of a schema: they are sound, and their elements of the types of their rows
+pub record AreClusterColumns (t : Table) (cols : Cols) (entries : ℕ) : Type 0 where
+  pub sound : AllSound (open_plans t) cols entries
+  pub typed : AreOfRows t.columns cols
+
+-- loaded columns are those of a schema, and of so many entries
 pub record IsSoundOver (t : Table) (l : Loaded) (entries : ℕ) : Type 0 where
   pub all : AreColumnsOf (length t.columns) l
-  pub sound : AllSound (open_plans t) (λ k. loaded_elements l k) entries
+  pub are : AreClusterColumns t (λ k. loaded_elements l k) entries
 
 -- a cluster was read by what a page list tells of it: its columns are those of its pages, which are all those of its open columns, with
 -- the bytes of a file that tells them

@@ -1,9 +1,10 @@
 //! A cluster that was read.
 
-ghost use Rattle.std.specs.Prelude.{◌≡◌, ◌<◌, ◌++◌, ◌∷◌, [], ℕ, length, take, Some, slice_get, slice_index_or, IfOk, OnOk, OnErr};
+ghost use Rattle.std.specs.Prelude.{◌≡◌, ◌<◌, ◌++◌, ◌∷◌, [], ℕ, true, length, take, Some, slice_get, slice_index_or, IfOk, OnOk, OnErr};
 ghost use Rattle.nt_types.specs.TreeData.{trees_of, no_trees};
 ghost use Rattle.nt_types.specs.TreeViews.{trees_view};
 ghost use Rattle.nt_plans.specs.Place.{open_plans};
+ghost use Rattle.nt_trees.specs.Fits.{fits_entry};
 ghost use Rattle.nt_trees.specs.Sound.{AllSound};
 ghost use Rattle.nt_trees.specs.Faults.{fault_in_any};
 ghost use Rattle.nt_join.specs.Spots.{spot_of};
@@ -14,13 +15,17 @@ ghost use Rattle.nt_view.specs.Loaded.{loaded_elements};
 ghost use Rattle.nt_view.specs.declared.page_place.PagePlace.{PagePlace};
 ghost use Rattle.nt_reader.specs.Columns.{given_entries, IsClusterFrom};
 
+use nt_column::Columns;
+use nt_fitting::entries_fit_their_plans;
 use nt_join::{ValueFault, check_values};
 use nt_listing::read_columns;
 use nt_num::ReadError;
 use nt_outside::ReadAt;
 use nt_pagelists::ClusterList;
+use nt_plans::columns_have_types;
 use nt_schema::Schema;
 use nt_tfile::ReadFailure;
+use nt_trees::plans_take_what_fits;
 use nt_types::Trees;
 use nt_view::{ClusterBytes, PagePlace};
 use std::alloc::{AllocError, Global};
@@ -78,6 +83,17 @@ impl<'a> ClusterRead<'a> {
         nt_print::write_entry(alloc, &self.columns, self.schema, i, out)
     }
 
+    /// Each entry fits the open fields of the schema. It is a law, and does nothing.
+    pub fn entries_fit(&self)
+        ensures { (i : ℕ) → i < self.now.entries
+            → fits_entry self.now.table (slice_index_or (given_entries self.now) i no_trees) ≡ true }
+    {
+        let _entries = self.entries;
+        columns_have_types();
+        plans_take_what_fits();
+        entries_fit_their_plans();
+    }
+
     /// The columns by id, read from their pages; of a closed one no element.
     pub fn columns(&self) -> &ClusterBytes
         ensures loaded { result.now ≡ self.now.loaded }
@@ -129,7 +145,7 @@ fn frame_of(cluster: &ClusterList, id: u32) -> u64
 }
 
 /// A value in the columns of the cluster with this number that no entry has, as a fault of the file.
-pub fn value_fault(number: u32, cluster: &ClusterList, found: ValueFault) -> ReadError
+fn value_fault(number: u32, cluster: &ClusterList, found: ValueFault) -> ReadError
     ensures { result ≡ value_fault number cluster.now (spot_of found) }
 {
     ReadError {
@@ -143,16 +159,22 @@ pub fn value_fault(number: u32, cluster: &ClusterList, found: ValueFault) -> Rea
     }
 }
 
-/// Whether the values of loaded columns are those of the entries of a cluster.
-fn check(
-    columns: &ClusterBytes,
+/// Whether the values of columns are those of the entries of the cluster with this number; if not, the first that is wrong, as a fault of
+/// the file.
+///
+/// # Errors
+///
+/// A fault has code 22, and names the column and its element.
+pub fn check_cluster<C: Columns>(
+    columns: &C,
     schema: &Schema,
     number: u32,
     cluster: &ClusterList,
 ) -> Result<(), ReadError>
-    ensures fault { let found = fault_in_any (open_plans schema.now) (loaded_elements columns.now) cluster.now.entries in
+    ensures fault { let found = fault_in_any (open_plans schema.now) (C.Columns.elements columns.now) cluster.now.entries in
         IsReadAs (λ _. tt) result (no_value_fault number cluster.now found) }
-    ensures sound { IfOk result (λ _. AllSound (open_plans schema.now) (loaded_elements columns.now) cluster.now.entries) }
+    ensures sound { IfOk result
+        (λ _. AllSound (open_plans schema.now) (C.Columns.elements columns.now) cluster.now.entries) }
 {
     match check_values(columns, schema, cluster.entries) {
         Ok(()) => Ok(()),
@@ -178,7 +200,8 @@ pub fn read_cluster<'a, F: ReadAt>(
         IfOk result (λ c. IsClusterFrom told number cluster.now schema.now c) }
 {
     let columns = read_columns(alloc, file, number, cluster, schema, kept)?;
-    check(&columns, schema, number, cluster)?;
+    columns.in_range();
+    check_cluster(&columns, schema, number, cluster)?;
     Ok(ClusterRead {
         schema,
         columns,

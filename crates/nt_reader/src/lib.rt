@@ -19,8 +19,8 @@
 //! `cluster_in` exactly `cluster_of` of nt_file_meaning, the first fault and its place included (`read`);
 //! the elements of a cluster's columns are those of its pages (`columns`), and these are all pages of its open
 //! columns, with the bytes that the file tells (`loaded`); a fault of the outside comes
-//! only where the file's count rose (`file`); an entry is that of the cluster (`entry`), and its line is
-//! that of event text (`write_entry`), also of a file that doesn't tell its bytes.
+//! only where the file's count rose (`file`); an entry is that of the cluster (`entry`), its line is
+//! that of event text (`write_entry`), and it fits the schema (`entries_fit`), also of a file that doesn't tell its bytes.
 //!
 //! Not proved: that memory is that of the page lists and of one cluster, the largest of those
 //! that use it one after the other, whatever a file claims: nothing is reserved for a number in it
@@ -42,6 +42,6 @@ mod listed;
 mod moving;
 mod reader;
 
-pub use cluster::{ClusterRead, value_fault};
+pub use cluster::{ClusterRead, check_cluster};
 pub use envelope::{Block, Envelope, read_sealed};
 pub use reader::Reader;

@@ -14,16 +14,16 @@ returns-in_err-columns-clause-read g c told is =
     (columns-fail (λ (l : List (List Element)). l) (λ (l : List TreesData). l) told c.args.schema.now c.args.listed.now.number
     c.args.listed.now.list.now _ (c.in_err-columns.ensures.read told (c.size.ensures.same ∙ is)))
 
-pub returns-in_err-check-clause-read : goal.returns-in_err-check-clause-read
-returns-in_err-check-clause-read g c told is =
-    let p = err_from_is_err_and c.from_residual-in_err-check.result c.from_residual-in_err-check.ensures.1 in
+pub returns-in_err-check_cluster-clause-read : goal.returns-in_err-check_cluster-clause-read
+returns-in_err-check_cluster-clause-read g c told is =
+    let p = err_from_is_err_and c.from_residual-in_err-check_cluster.result c.from_residual-in_err-check_cluster.ensures.1 in
     rw (p.1, p.2) (values-fail told c.args.schema.now c.args.listed.now.number c.args.listed.now.list.now _ _
-    (c.in_ok-columns.ensures.read told (c.size.ensures.same ∙ is)) c.in_err-check.ensures.fault)
+    (c.in_ok-columns.ensures.read told (c.size.ensures.same ∙ is)) c.in_err-check_cluster.ensures.fault)
 
 pub returns-clause-read : goal.returns-clause-read
 returns-clause-read g c told is =
     cluster-done told c.args.schema.now c.args.listed.now.number c.args.listed.now.list.now _ _
-    (c.in_ok-columns.ensures.read told (c.size.ensures.same ∙ is)) c.in_ok-check.ensures.fault
+    (c.in_ok-columns.ensures.read told (c.size.ensures.same ∙ is)) c.in_ok-check_cluster.ensures.fault
 
 pub returns-in_err-columns-clause-columns : goal.returns-in_err-columns-clause-columns
 returns-in_err-columns-clause-columns g c told is =
@@ -32,19 +32,19 @@ returns-in_err-columns-clause-columns g c told is =
     (only-columns-fail (λ (l : List (List Element)). l) (λ (l : List (List Element)). l) told c.args.schema.now c.args.listed.now.number
     c.args.listed.now.list.now _ (c.in_err-columns.ensures.read told (c.size.ensures.same ∙ is)))
 
-pub returns-in_err-check-clause-columns : goal.returns-in_err-check-clause-columns
-returns-in_err-check-clause-columns g c told is =
-    let p = err_from_is_err_and c.from_residual-in_err-check.result c.from_residual-in_err-check.ensures.1 in
+pub returns-in_err-check_cluster-clause-columns : goal.returns-in_err-check_cluster-clause-columns
+returns-in_err-check_cluster-clause-columns g c told is =
+    let p = err_from_is_err_and c.from_residual-in_err-check_cluster.result c.from_residual-in_err-check_cluster.ensures.1 in
     rw (p.1, p.2) (only-values-fail told c.args.schema.now c.args.listed.now.number c.args.listed.now.list.now _ _
-    (c.in_ok-columns.ensures.read told (c.size.ensures.same ∙ is)) c.in_err-check.ensures.fault)
+    (c.in_ok-columns.ensures.read told (c.size.ensures.same ∙ is)) c.in_err-check_cluster.ensures.fault)
 
 pub returns-clause-columns : goal.returns-clause-columns
 returns-clause-columns g c told is =
     only-columns-done told c.args.schema.now c.args.listed.now.number c.args.listed.now.list.now _ _
-    (c.in_ok-columns.ensures.read told (c.size.ensures.same ∙ is)) c.in_ok-check.ensures.fault
+    (c.in_ok-columns.ensures.read told (c.size.ensures.same ∙ is)) c.in_ok-check_cluster.ensures.fault
 
 pub invariant_of-result : goal.invariant_of-result
 invariant_of-result g c = record {
-  sound = c.in_ok-check.ensures.sound;
+  sound = c.in_ok-check_cluster.ensures.sound;
   typed = rows-typed c.args.schema.now.columns c.in_ok-columns.columns c.in_ok-columns.ensures.types c.in_range.ensures;
 }

@@ -1,4 +1,4 @@
-use Rattle.nt_decoded.proofs.Fitting.{entry-fits}
+use Rattle.nt_reader.proofs.Fitting.{entry-fits}
 use Rattle.nt_decoded.proofs.cluster.DecodedCluster.entries_fit.Goals as goal
 
 pub returns : goal.returns

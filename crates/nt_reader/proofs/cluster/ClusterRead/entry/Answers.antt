@@ -7,7 +7,7 @@ use Rattle.nt_reader.proofs.cluster.ClusterRead.entry.Goals as goal
 pub entry-requires-after_bounds : goal.entry-requires-after_bounds
 entry-requires-after_bounds c κs = record {
   size = c.self.inside.entries;
-  sound = c.self.invariant.sound;
+  sound = c.self.invariant.are.sound;
   within = omega (arith, ap (λ (d : ClusterData). d.entries) c.self.view_is, c.requires);
 }
 

@@ -9,7 +9,7 @@ use Rattle.nt_reader.proofs.cluster.ClusterRead.write_entry.Goals as goal
 pub write_entry-requires-after_bounds : goal.write_entry-requires-after_bounds
 write_entry-requires-after_bounds c κs = record {
   size = c.self.inside.entries;
-  sound = c.self.invariant.sound;
+  sound = c.self.invariant.are.sound;
   within = omega (arith, ap (λ (d : ClusterData). d.entries) c.self.view_is, c.requires);
 }
 
