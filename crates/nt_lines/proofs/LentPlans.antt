@@ -1,11 +1,14 @@
 -- What columns lend, and the values that are read from it.
 use Rattle.std.proofs.Common.{◌≡◌, ℕ, ◌+◌, ◌-◌, ◌<◌, ◌≤◌, Bool, List, [], ◌∷◌, ◌++◌, length, map, take, drop, get_or, refl, sym, ap, subst}
 use Rattle.std.proofs.Common.{◌∙◌, suc, arith}
+use Rattle.std.proofs.Math.Path.{fun_ext}
 use Rattle.std.specs.List.{All, slice_range}
 use Rattle.std.proofs.lemmas.List.Elements.{All-push}
-use Rattle.std.proofs.lemmas.List.{map-append, take_more, take-map, drop-map, length-map}
+use Rattle.std.proofs.lemmas.List.{map-id, map-append, take_more, take-map, drop-map, length-map}
+use Rattle.serde_json.specs.Written.{compact_text}
 use Rattle.nt_types.specs.TreeData.{TreeData, TreesData, num, items, nothing}
 use Rattle.nt_types.specs.TreeData as trees
+use Rattle.nt_event.specs.Json.{data_of, line_of}
 use Rattle.nt_column.specs.Elements.{Element, plain, numbers, text_of}
 use Rattle.nt_column.proofs.Numbers.{numbers-range, numbers-plain_list}
 use Rattle.nt_plans.specs.Plan.{PlanData, number, maybe, list, text}
@@ -13,14 +16,16 @@ use Rattle.nt_plans.specs.PlanViews.{plan_view}
 use Rattle.nt_plans.specs.declared.plan.Plan.{Plan}
 use Rattle.nt_trees.specs.Columns.{Cols, number_at, begin_at}
 use Rattle.nt_trees.specs.Integers.{integer_of}
+use Rattle.nt_trees.specs.Sound.{Sound}
 use Rattle.nt_trees.specs.TreeAt.{tree_at, trees_from, text_from, only}
 use Rattle.nt_join.specs.Readable.{Readable}
 use Rattle.nt_join.proofs.Reach.{readable-is, text-within, items-readable, optional-readable}
 use Rattle.nt_print.specs.Integers.{integer_trees}
-use Rattle.nt_lines.specs.Lent.{AreNumbersLent, AreOptionsLent, AreListsLent, AreTextsLent, IsLentAs, AreLentAs, HasPart, part_at}
-use Rattle.nt_lines.specs.Lent.{HasValue, option_tree, lent_tree}
+use Rattle.nt_lines.specs.Lent.{AreNumbersLent, AreOptionsLent, AreListsLent, AreOptionListsLent, AreTextsLent, IsLentAs, AreLentAs}
+use Rattle.nt_lines.specs.Lent.{HasPart, HasOptions, part_at, HasValue, option_tree, options_tree, lent_tree}
 use Rattle.nt_lines.specs.declared.lent.Lent.{Lent}
-use Rattle.nt_lines.specs.declared.lent.Lent.TheVariants.{Numbers32, Numbers64, Options32, Options64, Lists32, Lists64, Texts, Nothing}
+use Rattle.nt_lines.specs.declared.lent.Lent.TheVariants.{Numbers32, Numbers64, Options32, Options64, Lists32, Lists64}
+use Rattle.nt_lines.specs.declared.lent.Lent.TheVariants.{OptionLists32, OptionLists64, Texts, Nothing}
 use Rattle.nt_lines.specs.declared.lent.LentPlan.{LentPlan}
 use Rattle.nt_print.proofs.Places.{number-within, lent-trees}
 
@@ -101,6 +106,26 @@ has-text p cols ends bytes i is r =
           (omega (arith, within, length-plain bytes (cols is.column) is.bytes_are));
     }
 
+has-options : (p : PlanData) (cols : Cols) (lists ends words : List ℕ) (bits : ℕ) (signed : Bool) (i : ℕ)
+    → AreOptionListsLent p cols lists ends words bits signed → Readable p cols i → HasOptions lists ends (length words) i
+has-options p cols lists ends words bits signed i is r =
+    let own = readable-is p (list is.lists_column is.items) cols i is.plan r in
+    let read = items-readable is.lists_column is.items cols i own in
+    let plan = is.options.plan in
+    let sound = subst (λ (q : PlanData). Sound q cols read.0.size) plan read.0.sound in
+    let same = sym is.lists_are in
+    record {
+      items = record {
+        there = omega (arith, own.within, own.sound.0, length-plain lists (cols is.lists_column) is.lists_are);
+        order = subst (λ (es : List Element). begin_at es i ≤ number_at es i) same read.1;
+        within = subst (λ (es : List Element). number_at es i ≤ length ends) same
+            (omega (arith, read.0.within, sound.0, length-plain ends (cols is.options.ends_column) is.options.ends_are));
+      };
+      each = subst (λ (es : List Element). (j : ℕ) → j < number_at es i → HasPart ends (length words) j) same
+          (λ j less. has-option is.items cols ends words bits signed j is.options
+          (record { size = read.0.size; sound = read.0.sound; within = omega (arith, less, read.0.within) }));
+    }
+
 pub has-value : (p : PlanData) (cols : Cols) (l : Lent) (i : ℕ) → IsLentAs p cols l → Readable p cols i → HasValue l i
 has-value p cols (Numbers32 words bits signed) i is r = has-number p cols words.now bits signed i is r
 has-value p cols (Numbers64 words bits signed) i is r = has-number p cols words.now bits signed i is r
@@ -108,6 +133,8 @@ has-value p cols (Options32 ends words bits signed) i is r = has-option p cols e
 has-value p cols (Options64 ends words bits signed) i is r = has-option p cols ends.now words.now bits signed i is r
 has-value p cols (Lists32 ends words bits signed) i is r = has-list p cols ends.now words.now bits signed i is r
 has-value p cols (Lists64 ends words bits signed) i is r = has-list p cols ends.now words.now bits signed i is r
+has-value p cols (OptionLists32 lists ends words bits signed) i is r = has-options p cols lists.now ends.now words.now bits signed i is r
+has-value p cols (OptionLists64 lists ends words bits signed) i is r = has-options p cols lists.now ends.now words.now bits signed i is r
 has-value p cols (Texts ends bytes) i is r = has-text p cols ends.now bytes.now i is r
 has-value p cols Nothing i is r = tt
 
@@ -151,24 +178,15 @@ option-lent p cols ends words bits signed i is =
     ∙ ap (λ (es : List Element). only (trees_from (tree_at of cols) (begin_at es i) (number_at es i - begin_at es i))) is.ends_are
     ∙ ap (λ (q : PlanData). tree_at q cols i) (sym is.plan)
 
--- an optional that has a number, and one that has none
-pub option-some : (ends words : List ℕ) (bits : ℕ) (signed : Bool) (i k : ℕ) → k ≡ begin_at (map plain ends) i
-    → k < number_at (map plain ends) i
-    → num (integer_of bits signed (number_at (map plain words) k)) ≡ option_tree ends words bits signed i
-option-some ends words bits signed i k is less =
-    let f : ℕ → TreeData = λ j. num (integer_of bits signed (number_at (map plain words) j)) in
-    let from = begin_at (map plain ends) i in
-    let to = number_at (map plain ends) i in
-    let some : to - from ≡ suc (to - suc from) = omega (arith, is, less) in
-    ap f is ∙ sym (ap (λ (n : ℕ). only (trees_from f from n)) some)
-
-pub option-none : (ends words : List ℕ) (bits : ℕ) (signed : Bool) (i : ℕ)
-    → number_at (map plain ends) i ≤ begin_at (map plain ends) i → nothing ≡ option_tree ends words bits signed i
-option-none ends words bits signed i none =
-    let f : ℕ → TreeData = λ j. num (integer_of bits signed (number_at (map plain words) j)) in
-    let from = begin_at (map plain ends) i in
-    let zeros : number_at (map plain ends) i - from ≡ 0 = omega (arith, none) in
-    sym (ap (λ (n : ℕ). only (trees_from f from n)) zeros)
+options-lent : (p : PlanData) (cols : Cols) (lists ends words : List ℕ) (bits : ℕ) (signed : Bool) (i : ℕ)
+    → AreOptionListsLent p cols lists ends words bits signed → options_tree lists ends words bits signed i ≡ tree_at p cols i
+options-lent p cols lists ends words bits signed i is =
+    let from = begin_at (map plain lists) i in
+    let count = number_at (map plain lists) i - from in
+    ap (λ (f : ℕ → TreeData). items (trees_from f from count))
+    (fun_ext (λ (j : ℕ). option-lent is.items cols ends words bits signed j is.options))
+    ∙ ap (λ (es : List Element). items (trees_from (tree_at is.items cols) (begin_at es i) (number_at es i - begin_at es i))) is.lists_are
+    ∙ ap (λ (q : PlanData). tree_at q cols i) (sym is.plan)
 
 text-lent : (p : PlanData) (cols : Cols) (ends bytes : List ℕ) (i : ℕ) → AreTextsLent p cols ends bytes
     → trees.text (text_of (map plain (part_at ends bytes i))) ≡ tree_at p cols i
@@ -188,5 +206,21 @@ value-lent p cols (Options32 ends words bits signed) i is has some = option-lent
 value-lent p cols (Options64 ends words bits signed) i is has some = option-lent p cols ends.now words.now bits signed i is
 value-lent p cols (Lists32 ends words bits signed) i is has some = list-lent p cols ends.now words.now bits signed i is has
 value-lent p cols (Lists64 ends words bits signed) i is has some = list-lent p cols ends.now words.now bits signed i is has
+value-lent p cols (OptionLists32 lists ends words bits signed) i is has some =
+    options-lent p cols lists.now ends.now words.now bits signed i is
+value-lent p cols (OptionLists64 lists ends words bits signed) i is has some =
+    options-lent p cols lists.now ends.now words.now bits signed i is
 value-lent p cols (Texts ends bytes) i is has some = text-lent p cols ends.now bytes.now i is
 value-lent p cols Nothing i is has some = absurd (some refl)
+
+-- ---- the text of a list of optional integers
+
+pub options-text : (o : List ℕ) (mark : ℕ) (lists ends words : List ℕ) (bits : ℕ) (signed : Bool) (i from to : ℕ)
+    → from ≡ begin_at (map plain lists) i → to ≡ number_at (map plain lists) i
+    → o ++ mark ∷ line_of (trees_from (option_tree ends (map (λ (n : ℕ). n) words) bits signed) from (to - from))
+    ≡ o ++ mark ∷ compact_text (data_of (options_tree lists ends words bits signed i))
+options-text o mark lists ends words bits signed i from to begins stops =
+    let text : (ℕ → TreeData) → ℕ → ℕ → List ℕ = λ f a b. o ++ mark ∷ line_of (trees_from f a (b - a)) in
+    ap (λ (ws : List ℕ). text (option_tree ends ws bits signed) from to) (map-id words)
+    ∙ ap (λ (a : ℕ). text (option_tree ends words bits signed) a to) begins
+    ∙ ap (λ (b : ℕ). text (option_tree ends words bits signed) (begin_at (map plain lists) i) b) stops

@@ -1,7 +1,7 @@
 -- Texts that are written to room behind what is written.
-use Rattle.std.proofs.Common.{◌≡◌, ℕ, ◌+◌, ◌≤◌, Bool, List, [], ◌∷◌, ◌++◌, ltb, length, map, take, sym, ap, ◌∙◌, arith}
-use Rattle.std.proofs.Common.{append_assoc}
-use Rattle.std.proofs.lemmas.List.{take-take, take_all, take_at, take-append-le, length-take, length-take-le, length-append}
+use Rattle.std.proofs.Common.{◌≡◌, ℕ, ◌+◌, ◌≤◌, Bool, List, [], ◌∷◌, ◌++◌, ltb, length, map, take, drop, sym, ap, ◌∙◌, arith}
+use Rattle.std.proofs.Common.{append_assoc, append-nil}
+use Rattle.std.proofs.lemmas.List.{drop_all, take-take, take_all, take_at, take-append-le, length-take, length-take-le, length-append}
 use Rattle.nt_event.specs.Json.{line_of}
 use Rattle.nt_trees.specs.Integers.{integer_of}
 use Rattle.nt_print.specs.Integers.{integer_trees, integers_text}
@@ -46,7 +46,17 @@ part-placed at count old part rest text within few is =
     ap (λ (n : ℕ). take n (take at old ++ (part ++ rest))) place
     ∙ take-behind (take at old) (part ++ rest) count ∙ ap (λ (l : List ℕ). take at old ++ l) (take-append-le count part rest few ∙ is)
 
--- what was there is in front of what was resized
-pub resized-front : (o more all : List ℕ) (n len : ℕ) → all ≡ take n o ++ more → length o ≡ len → len ≤ n → take len all ≡ o
-resized-front o more all n len is count le =
-    ap (take len) (is ∙ ap (λ (l : List ℕ). l ++ more) (take_all n o (omega (arith, count, le)))) ∙ take_at o more len count
+-- a whole list that was lent is what was written to it
+pub written-back : (len : ℕ) (old room : List ℕ) → length old ≡ len → length room ≡ length old
+    → take len (room ++ drop (length room) old) ≡ room
+written-back len old room size same =
+    ap (λ (l : List ℕ). take len (room ++ l)) (drop_all (length room) old (omega (arith, same)))
+    ∙ ap (take len) (append-nil room) ∙ take_all len room (omega (arith, size, same))
+
+-- what was there stays where it is cut behind that, and more is appended
+pub kept-cut : (from at : ℕ) (old room cut new : List ℕ) → from ≤ at → at ≤ length room → cut ≡ take at room → take (length cut) new ≡ cut
+    → take from room ≡ take from old → take from new ≡ take from old
+kept-cut from at old room cut new low within is kept same =
+    let count : at ≡ length cut = sym (ap length is ∙ length-take-le at room within) in
+    sym (take-take from at new low) ∙ ap (take from) (ap (λ (n : ℕ). take n new) count ∙ kept ∙ is)
+    ∙ take-take from at room low ∙ same

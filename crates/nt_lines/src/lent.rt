@@ -13,7 +13,7 @@ use nt_print::{Integers, integers_of};
 use std::alloc::{AllocError, Global};
 
 /// The words that the values of a plan are read from: numbers, with their width and whether they have a sign; optional ones or lists of
-/// such, by their ends; or texts, by their ends.
+/// such, by their ends; lists of optional ones, by the ends of the lists and those of the numbers; or texts, by their ends.
 #[derive(Clone, Copy)]
 pub enum Lent<'a> {
     Numbers32(&'a [u32], u8, bool),
@@ -22,6 +22,8 @@ pub enum Lent<'a> {
     Options64(&'a [u64], &'a [u64], u8, bool),
     Lists32(&'a [u64], &'a [u32], u8, bool),
     Lists64(&'a [u64], &'a [u64], u8, bool),
+    OptionLists32(&'a [u64], &'a [u64], &'a [u32], u8, bool),
+    OptionLists64(&'a [u64], &'a [u64], &'a [u64], u8, bool),
     Texts(&'a [u64], &'a [u8]),
     /// The columns are looked up for each value.
     Nothing,
@@ -80,6 +82,40 @@ fn lists_of<C: Columns>(columns: &C, ends: u32, of: Integers) -> Lent<'_>
     }
 }
 
+/// What the columns of lists of optional numbers lend.
+fn option_lists_of<C: Columns>(columns: &C, lists: u32, ends: u32, of: Integers) -> Lent<'_>
+    ensures { IsLentAs (list lists (maybe ends (number of.column of.bits of.signed))) (C.Columns.elements columns.now) result }
+{
+    let Some(WordSlice::Words64(lists)) = all_words(columns, lists) else {
+        return Lent::Nothing;
+    };
+    match options_of(columns, ends, of) {
+        Lent::Options32(ends, words, bits, signed) => {
+            Lent::OptionLists32(lists, ends, words, bits, signed)
+        }
+        Lent::Options64(ends, words, bits, signed) => {
+            Lent::OptionLists64(lists, ends, words, bits, signed)
+        }
+        _ => Lent::Nothing,
+    }
+}
+
+/// What the columns of lists lend.
+fn items_of<'a, C: Columns>(columns: &'a C, lists: u32, of: &Plan) -> Lent<'a>
+    ensures { IsLentAs (list lists (plan_view of.now)) (C.Columns.elements columns.now) result }
+{
+    if let Some(integers) = integers_of(of) {
+        return lists_of(columns, lists, integers);
+    }
+    let Plan::Maybe { ends, of: inside } = of else {
+        return Lent::Nothing;
+    };
+    match integers_of(inside) {
+        Some(integers) => option_lists_of(columns, lists, *ends, integers),
+        None => Lent::Nothing,
+    }
+}
+
 /// What the columns of texts lend.
 fn texts_of<C: Columns>(columns: &C, ends: u32, bytes: u32) -> Lent<'_>
     ensures { IsLentAs (text ends bytes) (C.Columns.elements columns.now) result }
@@ -106,10 +142,7 @@ fn lent_of<'a, C: Columns>(columns: &'a C, plan: &Plan) -> Lent<'a>
             Some(integers) => options_of(columns, *ends, integers),
             None => Lent::Nothing,
         },
-        Plan::List { ends, of } => match integers_of(of) {
-            Some(integers) => lists_of(columns, *ends, integers),
-            None => Lent::Nothing,
-        },
+        Plan::List { ends, of } => items_of(columns, *ends, of),
         _ => Lent::Nothing,
     }
 }

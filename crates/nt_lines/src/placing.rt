@@ -2,25 +2,26 @@
 //!
 //! Each says where it ends, or 0 where it isn't written; what stands before it stays in any case.
 
-ghost use Rattle.std.specs.Prelude.{◌≡◌, ◌+◌, ◌*◌, ◌<◌, ◌≤◌, ◌∷◌, ◌++◌, length, map, take, None, IfSome};
+ghost use Rattle.std.specs.Prelude.{◌≡◌, ◌+◌, ◌-◌, ◌*◌, ◌<◌, ◌≤◌, ◌∷◌, ◌++◌, ℕ, length, map, take, None, IfSome};
 ghost use Rattle.serde_json.specs.Written.{compact_text};
 ghost use Rattle.nt_event.specs.Json.{data_of, line_of};
-ghost use Rattle.nt_types.specs.TreeData.{num, nothing, text};
+ghost use Rattle.nt_types.specs.TreeData.{num, text};
 ghost use Rattle.nt_column.specs.Elements.{plain, text_of};
-ghost use Rattle.nt_trees.specs.Columns.{begin_at, number_at};
+ghost use Rattle.nt_trees.specs.Columns.{number_at};
 ghost use Rattle.nt_trees.specs.Integers.{integer_of};
 ghost use Rattle.nt_print.specs.Integers.{integer_trees, integers_text};
 ghost use Rattle.nt_lines.specs.Lent.{HasPart, HasValue, part_at, lent_tree};
 ghost use Rattle.nt_lines.specs.declared.lent.Lent.TheVariants.{Nothing};
 
 use crate::lent::Lent;
+use crate::options::{Options, place_optional, place_options};
 use nt_print::{
     Word, are_below, begin_in, end_in, place_byte, place_digits, place_each, place_end, place_text,
     short_end, signed_of,
 };
 
 /// So much room has a number with its mark and sign, and what is written behind it.
-const NUMBER_ROOM: usize = 33;
+pub const NUMBER_ROOM: usize = 33;
 
 /// Of fewer integers each is looked at by itself.
 const FEW: usize = 64;
@@ -42,7 +43,7 @@ fn place_signed(mark: u8, n: i64, at: usize, room: &mut [u8]) -> usize
 
 /// Writes a mark, and then the integer that an element of this width and sign stands for.
 #[inline(always)]
-fn place_integer(mark: u8, element: u64, form: (u8, bool), at: usize, room: &mut [u8]) -> usize
+pub fn place_integer(mark: u8, element: u64, form: (u8, bool), at: usize, room: &mut [u8]) -> usize
     requires { at + 33 ≤ length room.old }
     ensures text { take result room.new ≡ take at room.old ++ mark ∷ compact_text
         (data_of (num (integer_of form.0 form.1 element))) }
@@ -170,36 +171,13 @@ fn part_of<'a, W: Copy>(ends: &[u64], words: &'a [W], i: usize) -> &'a [W]
     &words[begin_in(ends, i) as usize..end_in(ends, i) as usize]
 }
 
-/// A number of 32 bits.
+/// The number of an element.
 #[inline(always)]
-fn number_32(words: &[u32], i: usize) -> u64
+pub fn number_in<W: Word>(words: &[W], i: usize) -> u64
     requires { i < length words.now }
-    ensures { result ≡ number_at (map plain words.now) i }
+    ensures { result ≡ number_at (map plain (map W.number words.now)) i }
 {
-    u64::from(words[i])
-}
-
-/// A number of 64 bits.
-#[inline(always)]
-fn number_64(words: &[u64], i: usize) -> u64
-    requires { i < length words.now }
-    ensures { result ≡ number_at (map plain words.now) i }
-{
-    words[i]
-}
-
-/// Where the number of an optional stands, if it has one.
-#[inline(always)]
-fn option_at(ends: &[u64], i: usize) -> Option<usize>
-    requires { i < length ends.now }
-    ensures some { IfSome result (λ k. (k ≡ begin_at (map plain ends.now) i) × (k < number_at (map plain ends.now) i)) }
-    ensures none { result ≡ None → number_at (map plain ends.now) i ≤ begin_at (map plain ends.now) i }
-{
-    let from = begin_in(ends, i);
-    if from < end_in(ends, i) {
-        return Some(from as usize);
-    }
-    None
+    words[i].number()
 }
 
 /// Writes bytes behind what is written, where there is room.
@@ -217,20 +195,17 @@ pub fn place_all(bytes: &[u8], at: usize, room: &mut [u8]) -> usize
     at + count
 }
 
-/// Writes a mark, and then what stands for no value.
-#[inline(never)]
-fn place_null(mark: u8, at: usize, room: &mut [u8]) -> usize
-    requires { at ≤ length room.old }
-    ensures text { 0 < result → take result room.new ≡ take at room.old
-        ++ mark ∷ compact_text (data_of nothing) }
-    ensures kept { take at room.new ≡ take at room.old }
-    ensures within { (result ≤ length room.new) × (length room.new ≡ length room.old) }
+/// Whether a value that found no room among so many bytes may have room where it is made apart: one that isn't lent, or a text in which
+/// something is escaped. Any other that is lent wants more room.
+#[inline(always)]
+pub fn is_made_apart(lent: &Lent<'_>, i: usize, left: usize) -> bool
+    requires { HasValue lent.now i }
 {
-    if room.len() - at < 1 {
-        return 0;
+    match lent {
+        Lent::Nothing => true,
+        Lent::Texts(ends, bytes) => part_of(ends, bytes, i).len() < left,
+        _ => false,
     }
-    place_byte(mark, at, room);
-    place_all(b"null", at + 1, room)
 }
 
 /// Writes a mark, and then a value that columns lend.
@@ -245,24 +220,34 @@ pub fn place_lent(lent: &Lent<'_>, i: usize, mark: u8, at: usize, room: &mut [u8
 {
     match lent {
         Lent::Numbers32(words, bits, signed) => {
-            place_number(mark, number_32(words, i), (*bits, *signed), at, room)
+            place_number(mark, number_in(words, i), (*bits, *signed), at, room)
         }
         Lent::Numbers64(words, bits, signed) => {
-            place_number(mark, number_64(words, i), (*bits, *signed), at, room)
+            place_number(mark, number_in(words, i), (*bits, *signed), at, room)
         }
-        Lent::Options32(ends, words, bits, signed) => match option_at(ends, i) {
-            Some(k) => place_number(mark, number_32(words, k), (*bits, *signed), at, room),
-            None => place_null(mark, at, room),
-        },
-        Lent::Options64(ends, words, bits, signed) => match option_at(ends, i) {
-            Some(k) => place_number(mark, number_64(words, k), (*bits, *signed), at, room),
-            None => place_null(mark, at, room),
-        },
+        Lent::Options32(ends, words, bits, signed) => {
+            let form = (*bits, *signed);
+            place_optional(mark, Options { ends, words, form }, i, at, room)
+        }
+        Lent::Options64(ends, words, bits, signed) => {
+            let form = (*bits, *signed);
+            place_optional(mark, Options { ends, words, form }, i, at, room)
+        }
         Lent::Lists32(ends, words, bits, signed) => {
             place_list(mark, part_of(ends, words, i), (*bits, *signed), at, room)
         }
         Lent::Lists64(ends, words, bits, signed) => {
             place_list(mark, part_of(ends, words, i), (*bits, *signed), at, room)
+        }
+        Lent::OptionLists32(lists, ends, words, bits, signed) => {
+            let form = (*bits, *signed);
+            let part = (begin_in(lists, i) as usize, end_in(lists, i) as usize);
+            place_options(mark, Options { ends, words, form }, part, at, room)
+        }
+        Lent::OptionLists64(lists, ends, words, bits, signed) => {
+            let form = (*bits, *signed);
+            let part = (begin_in(lists, i) as usize, end_in(lists, i) as usize);
+            place_options(mark, Options { ends, words, form }, part, at, room)
         }
         Lent::Texts(ends, bytes) => place_quoted(mark, part_of(ends, bytes, i), at, room),
         Lent::Nothing => 0,

@@ -7,11 +7,7 @@ use Rattle.nt_types.specs.TreeData.{TreeData, TreesData, no_trees, tree, pick}
 use Rattle.nt_event.specs.Json.{data_of, datas_of, line_of}
 use Rattle.nt_event.proofs.Prints.{front-then, two_put, three_put}
 use Rattle.nt_trees.specs.TreeAt.{trees_from}
-use Rattle.nt_print.specs.Marks.{mark_before, end_of}
-
--- what stands behind some values of an array, with its bracket where there are none
-abbrev pub rest_text : Bool → TreesData → List ℕ
-rest_text later ts = if later then items_text true (datas_of ts) else 91 ∷ items_text false (datas_of ts)
+use Rattle.nt_print.specs.Marks.{mark_before, end_of, rest_text}
 
 -- some values of an array stand behind what was there, and with these others it is whole
 pub record IsBegun (old new : List ℕ) (later : Bool) (left whole : TreesData) : Type 0 where
@@ -35,7 +31,7 @@ pub IsBegun-none : (old : List ℕ) (whole : TreesData) → IsBegun old old fals
 IsBegun-none old whole = record { text = refl; kept = kept-self old }
 
 -- one more value in front of the rest
-rest-more : (later : Bool) (t : TreeData) (rest : TreesData)
+pub rest-more : (later : Bool) (t : TreeData) (rest : TreesData)
     → mark_before later ∷ (compact_text (data_of t) ++ items_text true (datas_of rest)) ≡ rest_text later (tree t rest)
 rest-more true t rest = refl
 rest-more false t rest = refl
@@ -56,7 +52,7 @@ IsBegun-next old new next later t left rest whole is b value =
     }
 
 -- the end of an array
-rest-none : (later : Bool) → end_of later ≡ rest_text later no_trees
+pub rest-none : (later : Bool) → end_of later ≡ rest_text later no_trees
 rest-none true = refl
 rest-none false = refl
 

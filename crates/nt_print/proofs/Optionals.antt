@@ -13,9 +13,9 @@ use Rattle.nt_trees.specs.Columns.{Cols}
 use Rattle.nt_trees.specs.Integers.{integer_of}
 use Rattle.nt_trees.specs.TreeAt.{tree_at, trees_from, only}
 use Rattle.nt_print.specs.Integers.{integer_trees, integers_text}
-use Rattle.nt_print.specs.Marks.{mark_before}
+use Rattle.nt_print.specs.Marks.{mark_before, rest_text}
 use Rattle.nt_print.specs.Optionals.{optional_trees, StepsOn, CountsOn, last_behind}
-use Rattle.nt_print.proofs.Arrays.{IsBegun, rest_text, kept-more}
+use Rattle.nt_print.proofs.Arrays.{IsBegun, kept-more}
 use Rattle.nt_print.proofs.Places.{trees_from-numbers}
 
 -- one more end that counts on

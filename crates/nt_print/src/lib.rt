@@ -56,7 +56,7 @@ pub use blocks::place_each;
 pub use entry::write_entry;
 pub use few::place_end;
 pub use integers::{Integers, integers_of};
-pub use leaves::{mark_before, signed_of};
+pub use leaves::{mark_before, put_end, signed_of};
 pub use lists::{are_below, short_end};
 pub use marked::place_digits;
 pub use room::place_byte;

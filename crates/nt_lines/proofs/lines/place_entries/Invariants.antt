@@ -1,22 +1,18 @@
-use Rattle.std.proofs.Common.{◌≡◌, ◌≤◌, ◌-◌, length, map, take}
-use Rattle.nt_plans.specs.Plan.{plans_of}
-use Rattle.nt_plans.specs.PlanViews.{plan_view}
-use Rattle.nt_trees.specs.TreeAt.{each_at}
-use Rattle.nt_lines.specs.declared.lent.LentPlan.{LentPlan}
-use Rattle.nt_lines.specs.Lines.{written_lines}
+use Rattle.std.proofs.Common.{◌≡◌, ◌<◌, ◌≤◌, ◌-◌, ◌++◌, length, take}
+use Rattle.nt_lines.specs.Lines.{entry_trees, written_lines}
 use Rattle.nt_lines.proofs.lines.place_entries.Given as goal
 
 -- the lines so far
 abbrev pub invariant-loop-i : goal.invariant-loop-i
 invariant-loop-i g l =
-    let cols = g.C.Columns.elements l.lines.columns.now in
-    let ps = plans_of (map (λ (p : LentPlan). plan_view p.plan.now) l.lines.plans.items) in
+    let trees = entry_trees l.lines.plans.items (g.C.Columns.elements l.lines.columns.now) in
     record {
-      low : l.from ≤ l.i;
+      some : l.first < l.i;
       high : l.i ≤ l.to;
-      within : l.at ≤ length l.room;
-      same : length l.room ≡ length l.fn.room;
-      text : take l.at l.room ≡ written_lines (each_at ps cols) l.from (l.i - l.from);
+      low : l.from ≤ l.at;
+      within : l.at ≤ length l.out.items;
+      text : take l.at l.out.items ≡ take l.from l.fn.out.items ++ written_lines trees l.first (l.i - l.first);
+      kept : take l.from l.out.items ≡ take l.from l.fn.out.items;
     }
 
 abbrev pub decreases-loop-i : goal.decreases-loop-i
