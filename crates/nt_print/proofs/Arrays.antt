@@ -1,6 +1,6 @@
 -- Arrays that are printed, a value at a time.
 use Rattle.std.proofs.Common.{◌≡◌, ℕ, suc, ◌+◌, ◌-◌, ◌<◌, ◌≤◌, List, [], ◌∷◌, ◌++◌, Bool, true, false, length, take, decimal, sym, ap, ◌∙◌}
-use Rattle.std.proofs.Common.{refl, if◌then◌else◌, subst, arith, append_assoc, append-nil}
+use Rattle.std.proofs.Common.{refl, subst, arith, append_assoc, append-nil}
 use Rattle.std.proofs.lemmas.List.{take-append-le, take_all, length-take}
 use Rattle.serde_json.specs.Written.{compact_text, items_text}
 use Rattle.nt_types.specs.TreeData.{TreeData, TreesData, no_trees, tree, pick}

@@ -7,8 +7,11 @@ ghost use Rattle.nt_types.specs.TreeData.{text};
 ghost use Rattle.nt_print.specs.Simple.{AllSimple};
 
 use crate::room::{place_byte, place_eight};
-use crate::simple::{is_simple, others};
+use crate::simple::{are_simple, is_simple, others};
 use std::simd::prelude::*;
+
+/// So many bytes are looked at sixteen at a time and then copied, in less time than eight at a time.
+const MANY: usize = 64;
 
 /// Writes eight bytes behind a mark, a quote and the bytes before them, and says whether all stand for
 /// themselves.
@@ -66,6 +69,21 @@ fn place_few(bytes: &[u8], room: &mut [u8]) -> bool
     true
 }
 
+/// The same of many bytes, which are looked at first.
+fn place_many(bytes: &[u8], room: &mut [u8]) -> bool
+    requires room { length bytes.now + 2 ≤ length room.old }
+    ensures text { IsTrue result → take (length bytes.now + 2) room.new
+        ≡ take 2 room.old ++ bytes.now }
+    ensures simple { IsTrue result → AllSimple bytes.now }
+    ensures len { length room.new ≡ length room.old }
+{
+    if !are_simple(bytes) {
+        return false;
+    }
+    room[2..bytes.len() + 2].copy_from_slice(bytes);
+    true
+}
+
 /// The same of any bytes.
 #[inline(always)]
 fn place_bytes(bytes: &[u8], room: &mut [u8]) -> bool
@@ -77,8 +95,10 @@ fn place_bytes(bytes: &[u8], room: &mut [u8]) -> bool
 {
     if bytes.len() < 8 {
         place_few(bytes, room)
-    } else {
+    } else if bytes.len() < MANY {
         place_eights(bytes, room)
+    } else {
+        place_many(bytes, room)
     }
 }
 

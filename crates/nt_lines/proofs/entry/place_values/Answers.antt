@@ -58,7 +58,8 @@ loop-k-preserved g c =
     let end = c.in_ok-end.end in
     let plans = c.args.lines.now.plans.items in
     let next : drop k plans ≡ first ∷ drop (k + 1) plans =
-    drop_more plans k first (omega (arith, c.loop-k-test.true, c.len-k-end.ensures, c.args.lines.now.plans.ok)) ∙ ap (λ (p : LentPlan). p ∷ drop (k + 1) plans) (sym c.index.ensures) in
+    drop_more plans k first (omega (arith, c.loop-k-test.true, c.len-k-end.ensures, c.args.lines.now.plans.ok))
+    ∙ ap (λ (p : LentPlan). p ∷ drop (k + 1) plans) (sym c.index.ensures) in
     let sound = subst (λ (ps : List LentPlan). ReadableEach (plans_of (map view ps)) cols i) next v.readable in
     let some : 0 < end = omega (arith, c.if-end-eq0.false) in
     let text = c.in_ok-end.ensures.text some

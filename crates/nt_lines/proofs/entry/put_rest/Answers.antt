@@ -8,7 +8,8 @@ pub returns-clause-kept : goal.returns-clause-kept
 returns-clause-kept g c =
     let o = c.args.out.now.items in
     kept-kept o c.extend_from_slice.new.self.items c.put_values-2.new.out.items
-    (subst (λ (l : List ℕ). take (length o) l ≡ o) (sym c.in_ok-extend_from_slice.ensures.items) (kept-more o o c.args.made.now (kept-self o)))
+    (subst (λ (l : List ℕ). take (length o) l ≡ o) (sym c.in_ok-extend_from_slice.ensures.items)
+    (kept-more o o c.args.made.now (kept-self o)))
     c.put_values-2.ensures.kept
 
 pub returns-clause-ok : goal.returns-clause-ok

@@ -11,7 +11,8 @@ use Rattle.nt_lines.proofs.options.place_options.Goals as goal
 pub loop-i-init : goal.loop-i-init
 loop-i-init g c =
     let front = take c.args.at c.args.room.now ++ c.args.mark ∷ [] in
-    let tree = option_tree c.args.options.ends.now (map g.W.Word.number c.args.options.words.now) c.args.options.form.0 c.args.options.form.1 in
+    let s = c.args.options in
+    let tree = option_tree s.ends.now (map g.W.Word.number s.words.now) s.form.0 s.form.1 in
     let whole = trees_from tree c.args.part.0 (c.args.part.1 - c.args.part.0) in
     record {
       low = omega arith;
@@ -41,7 +42,8 @@ loop-i-preserved g c =
     let v = c.loop-i.invariant in
     let i = c.loop-i.i in
     let to = c.args.part.1 in
-    let tree = option_tree c.args.options.ends.now (map g.W.Word.number c.args.options.words.now) c.args.options.form.0 c.args.options.form.1 in
+    let s = c.args.options in
+    let tree = option_tree s.ends.now (map g.W.Word.number s.words.now) s.form.0 s.form.1 in
     record {
       low = omega (arith, v.low);
       high = omega (arith, c.loop-i-test.true);
@@ -71,9 +73,11 @@ pub returns-clause-text : goal.returns-clause-text
 returns-clause-text g c = λ some.
     let v = c.loop-i.invariant in
     let o = take c.args.at c.args.room.now in
-    let tree = option_tree c.args.options.ends.now (map g.W.Word.number c.args.options.words.now) c.args.options.form.0 c.args.options.form.1 in
+    let s = c.args.options in
+    let tree = option_tree s.ends.now (map g.W.Word.number s.words.now) s.form.0 s.form.1 in
     let whole = trees_from tree c.args.part.0 (c.args.part.1 - c.args.part.0) in
-    IsBegun-end (o ++ c.args.mark ∷ []) (take c.loop-i.end c.loop-i.room) (take c.place_end.result c.place_end.new.room) c.loop-i.later _ whole
+    IsBegun-end (o ++ c.args.mark ∷ []) (take c.loop-i.end c.loop-i.room) (take c.place_end.result c.place_end.new.room) c.loop-i.later _
+    whole
     (trees_from-none tree c.loop-i.i c.args.part.1 c.loop-i-test.false) v.begun c.place_end.ensures.text
     ∙ append_assoc o (c.args.mark ∷ []) (line_of whole)
 
@@ -81,9 +85,11 @@ pub returns-clause-kept : goal.returns-clause-kept
 returns-clause-kept g c =
     let v = c.loop-i.invariant in
     let o = take c.args.at c.args.room.now in
-    let tree = option_tree c.args.options.ends.now (map g.W.Word.number c.args.options.words.now) c.args.options.form.0 c.args.options.form.1 in
+    let s = c.args.options in
+    let tree = option_tree s.ends.now (map g.W.Word.number s.words.now) s.form.0 s.form.1 in
     let whole = trees_from tree c.args.part.0 (c.args.part.1 - c.args.part.0) in
     kept-placed c.args.at c.place_end.result c.args.room.now c.place_end.new.room (c.args.mark ∷ line_of whole) c.requires.within
-    (IsBegun-end (o ++ c.args.mark ∷ []) (take c.loop-i.end c.loop-i.room) (take c.place_end.result c.place_end.new.room) c.loop-i.later _ whole
+    (IsBegun-end (o ++ c.args.mark ∷ []) (take c.loop-i.end c.loop-i.room) (take c.place_end.result c.place_end.new.room) c.loop-i.later _
+    whole
     (trees_from-none tree c.loop-i.i c.args.part.1 c.loop-i-test.false) v.begun c.place_end.ensures.text
     ∙ append_assoc o (c.args.mark ∷ []) (line_of whole))
