@@ -4,7 +4,6 @@ use Rattle.std.proofs.Common.{Option, Some, None, Result, Ok, Err, arith}
 use Rattle.std.specs.Prelude.{nat_le, not, IfOk, if◌then◌else◌}
 use Rattle.std.proofs.lemmas.Bool.{and_parts, and_from, leb-true}
 use Rattle.std.proofs.lemmas.List.{length-map}
-use Rattle.nt_lists.specs.Chaining.{◌>>=◌}
 use Rattle.nt_lists.proofs.Chaining.{bind_ok}
 use Rattle.nt_lists.proofs.Variants.{ok_is}
 use Rattle.nt_types.specs.ShapeData.{ShapeData, MemberData, parts_of}

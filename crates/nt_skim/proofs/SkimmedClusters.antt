@@ -1,18 +1,17 @@
 -- Clusters that are skimmed one after the other.
-use Rattle.std.proofs.Common.{◌≡◌, ◌∙◌, ap, sym, refl, subst, ℕ, ◌+◌, ◌<◌, ◌≤◌, Bool, true, false, cond, List, [], ◌∷◌, ◌++◌, length}
-use Rattle.std.proofs.Common.{take, drop, map, filter, Option, Some, None, Result, Ok, Err, append_assoc, arith}
+use Rattle.std.proofs.Common.{◌≡◌, ◌∙◌, ap, sym, refl, subst, ℕ, ◌+◌, ◌<◌, ◌≤◌, List, [], ◌∷◌, ◌++◌, length}
+use Rattle.std.proofs.Common.{drop, Result, Ok, Err, append_assoc, arith}
 use Rattle.std.specs.Prelude.{slice_index_or, IsErrOf}
-use Rattle.std.proofs.lemmas.List.{append-nil, drop_more, drop_all, take_more, take_all, take-append-drop, length-append, map-append}
+use Rattle.std.proofs.lemmas.List.{append-nil, drop_more, drop_all, length-append}
 use Rattle.nt_lists.specs.Chaining.{◌>>=◌}
 use Rattle.nt_lists.proofs.Variants.{err_is}
 use Rattle.nt_num.specs.declared.fault.ReadError.{ReadError}
-use Rattle.nt_types.specs.TreeData.{TreesData, no_trees}
+use Rattle.nt_types.specs.TreeData.{TreesData}
 use Rattle.nt_skim.specs.declared.error.SkimError.{SkimError}
 use Rattle.nt_skim.specs.declared.error.SkimError.TheVariants.{Defect, Fault, Sink, Memory}
-use Rattle.nt_join.specs.Chosen.{chosen}
-use Rattle.nt_skim.specs.Select.{Selection, passes, selected, entries_read, before_fault}
+use Rattle.nt_skim.specs.Select.{Selection, selected, entries_read, before_fault}
 use Rattle.nt_skim.specs.Skimming.{SinkState, GainsEntries, GainsFirstEntries, entries_or_none, TakesSelected, IsClusterSkimmed, IsSkimmed}
-use Rattle.nt_skim.proofs.Selecting.{selected-append, gains-nothing, gains-then, gains-front, front-then}
+use Rattle.nt_skim.proofs.Selecting.{selected-append, gains-nothing, gains-then, front-then}
 
 -- what was read, and what is read of others behind it
 abbrev pub behind : List TreesData → Result (List TreesData) ReadError → Result (List TreesData) ReadError

@@ -13,7 +13,7 @@ ghost use Rattle.nt_skim.specs.Skimming.{TakesSelected, IsClusterSkimmed, IsSkim
 use crate::error::{PutError, SkimError};
 use crate::selection::{PlaceTest, SkimPlan};
 use crate::sink::EntrySink;
-use nt_decoded::{DecodedCluster, decode_cluster};
+use nt_decoded::{DecodedCluster, KeptMemory, decode_cluster};
 use nt_outside::ReadAt;
 use nt_reader::Reader;
 use nt_tfile::ReadFailure;
@@ -87,26 +87,35 @@ fn put_entries<E: EntrySink>(
     Ok(total)
 }
 
-/// Reads a cluster and puts its entries that pass, and says how many were put.
+/// A cluster of a file, by its number.
+#[derive(Clone, Copy)]
+struct ClusterOf<'a> {
+    reader: &'a Reader,
+    k: u32,
+}
+
+/// Reads a cluster in the memory of the one before and puts its entries that pass, and says how many were put.
 fn put_cluster<F: ReadAt, E: EntrySink>(
     alloc: Global,
-    reader: &Reader,
     file: &mut F,
-    k: u32,
+    of: ClusterOf<'_>,
+    kept: &mut Option<KeptMemory>,
     plan: &SkimPlan,
     out: &mut E,
 ) -> Result<u64, SkimError<E::Fault>>
-    requires there { k < length reader.now.clusters }
-    requires can { CanSkim reader.now.table (selection_of plan.now) (E.state out.old) }
+    requires there { of.k < length of.reader.now.clusters }
+    requires can { CanSkim of.reader.now.table (selection_of plan.now) (E.state out.old) }
     ensures skimmed { (b : List ℕ) → (F.state file.old).bytes ≡ Some b
-        → IsClusterSkimmed (selection_of plan.now) (entries_in reader.now k b) (E.state out.old) (E.state out.new) result }
+        → IsClusterSkimmed (selection_of plan.now) (entries_in of.entry.reader.now of.entry.k b) (E.state out.old) (E.state out.new) result }
     ensures file { ServesSkim (F.state file.old) (F.state file.new) result }
     ensures left { LeavesSink (E.state out.old) (E.state out.new) result }
 {
-    match decode_cluster(alloc, file, reader, k, None) {
+    match decode_cluster(alloc, file, of.reader, of.k, kept.take()) {
         Ok(cluster) => {
             cluster.entries_fit();
-            put_entries(alloc, &cluster, plan, out)
+            let put = put_entries(alloc, &cluster, plan, out);
+            *kept = Some(cluster.into_memory());
+            put
         }
         Err(ReadFailure::Defect(fault)) => Err(SkimError::Defect(fault)),
         Err(ReadFailure::Fault) => Err(SkimError::Fault),
@@ -136,8 +145,9 @@ pub fn skim<F: ReadAt, E: EntrySink>(
     ensures left { LeavesSink (E.state out.old) (E.state out.new) result }
 {
     let mut total: u64 = 0;
+    let mut kept = None;
     for k in 0..reader.clusters() {
-        match put_cluster(alloc, reader, file, k, plan, out) {
+        match put_cluster(alloc, file, ClusterOf { reader, k }, &mut kept, plan, out) {
             Ok(more) => match total.checked_add(more) {
                 Some(sum) => total = sum,
                 None => return Err(SkimError::Memory),

@@ -12,8 +12,8 @@ use Rattle.nt_skim.specs.Select.{selection_of, selected}
 use Rattle.nt_skim.proofs.SkimmedClusters.{cluster_done, never_fault}
 use Rattle.nt_skim.proofs.skimming.put_cluster.Goals as goal
 
-pub put_entries-requires-clause-fits : goal.put_entries-requires-clause-fits
-put_entries-requires-clause-fits g c i less =
+pub put_entries-put-requires-clause-fits : goal.put_entries-put-requires-clause-fits
+put_entries-put-requires-clause-fits g c i less =
     let e = slice_index_or (given_entries c.in-Ok.cluster) i no_trees in
     subst (λ (ms : List MemberData). fit_parts (parts_of ms) (chosen (selection_of c.args.plan.now).places e) ≡ true)
     (sym c.requires.can.fields)
@@ -21,9 +21,9 @@ put_entries-requires-clause-fits g c i less =
 
 pub returns-in-Ok-clause-skimmed : goal.returns-in-Ok-clause-skimmed
 returns-in-Ok-clause-skimmed g c b told =
-    cluster_done (selection_of c.args.plan.now) (entries_in c.args.reader.now c.args.k b) (given_entries c.in-Ok.cluster)
-    (g.E.EntrySink.state c.args.out.now) (g.E.EntrySink.state c.put_entries.new.out) c.put_entries.result
-    (c.in-Ok.ensures.read b told) c.put_entries.ensures.takes
+    cluster_done (selection_of c.args.plan.now) (entries_in c.args.of.reader.now c.args.of.k b) (given_entries c.in-Ok.cluster)
+    (g.E.EntrySink.state c.args.out.now) (g.E.EntrySink.state c.put_entries-put.new.out) c.put_entries-put.result
+    (c.in-Ok.ensures.read b told) c.put_entries-put.ensures.takes
 
 pub returns-in-Ok-clause-file : goal.returns-in-Ok-clause-file
 returns-in-Ok-clause-file g c = record {
@@ -31,5 +31,5 @@ returns-in-Ok-clause-file g c = record {
   later = c.in-Ok.ensures.file.later;
   fault = λ e.
       absurd (never_fault (selected (selection_of c.args.plan.now) (given_entries c.in-Ok.cluster)) (g.E.EntrySink.state c.args.out.now)
-      (g.E.EntrySink.state c.put_entries.new.out) c.put_entries.result c.put_entries.ensures.takes e);
+      (g.E.EntrySink.state c.put_entries-put.new.out) c.put_entries-put.result c.put_entries-put.ensures.takes e);
 }
