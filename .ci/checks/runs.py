@@ -5,6 +5,8 @@
 - So are 1, 2, 8 and 64 inputs with `--staged`, STAGED times in all; in the order line the chunks of each input stand together.
 - An input of 100000 events is written with the defaults, listed, and printed again; what is printed is written again as the same file.
 - An input of 100000 events with optional values, one in three of them null, is written and printed again, and so is what is printed.
+- So are lines from some bytes to 280 kB, of which a long list, a list of optional numbers, a long text, one with escapes and many records
+  are now longer and now shorter than the room that is left for lines.
 - Eight inputs of 100000 drawn events each are written with the defaults: ten clusters of each, dealt out in the order that is told.
 - Sixty-four small files are merged at once, and by eights in two rounds: the same file, with the entries of all in their order.
 - The generator makes these eight inputs' events ten times, with the same lines each time; its file has just their chunks, each context's
@@ -148,6 +150,27 @@ def optional_run(program):
         raise Amiss("the entries with optional values, written again, are another file")
 
 
+def unlike_run(program):
+    """Lines of many lengths, in which each kind of value is the one that doesn't fit behind those before it."""
+    lengths = [0, 1, 7, 40, 300, 1500, 2044, 2046, 2048, 5000, 13000, 40000]
+    lines = []
+    for k in range(600):
+        one, two, three, four, five = (lengths[(k * step + k // 12) % 12] for step in (1, 5, 7, 11, 1 + k % 4))
+        numbers = ",".join(str((k + j) * 48271 % 4294967296) for j in range(one // 4))
+        optional = ",".join("null" if (k + j) % 9 == 0 else str((k - j) * 48271) for j in range(two // 6))
+        escaped = "ab\\n\u00e9" * (four // 7)
+        records = ",".join(f'[{j % 256},"r{j}"]' for j in range(five // 12))
+        lines.append(f'[{k},[{numbers}],[{optional}],"{"abcdefghij" * (three // 10)}","{escaped}",[{records}],{k % 2 * 18446744073709551615}]\n')
+    save("unlike.schema", "n u16\nids vec<u32>\nmaybe vec<opt<i64>>\ntext string\nescaped string\n"
+         "parts vec<rec{a:u8,b:string}>\nlast u64\n")
+    save("unlike", "".join(lines))
+    for words in ([], ["--cluster", "7", "--page", "64", "--plain"]):
+        call(program, "write", *words, "unlike.root", "unlike.schema", "unlike")
+        save("again", call(program, "entries", "unlike.root"))
+        if bytes_of("again") != bytes_of("unlike"):
+            raise Amiss(f"the entries aren't the events of unlike lengths, with {words}")
+
+
 def drawn_lines(number):
     """100000 events, by draws that multiply the number before by 48271, modulo 2^31 - 1."""
     lines = []
@@ -248,6 +271,7 @@ def main():
             staged = staged_runs(program)
             long_run(program)
             optional_run(program)
+            unlike_run(program)
             eight_long(program)
             merged_files(program)
             made = generated(program)
@@ -256,7 +280,7 @@ def main():
             return 1
         finally:
             os.chdir("/")
-    print(f"runs: {RUNS} of eight inputs in {orders} orders, {sum(STAGED.values())} staged in {staged} orders, a long one, one of optional values, eight long ones, 64 that are merged, and what the generator makes in {made} orders, in {time.monotonic() - begun:.1f} seconds")
+    print(f"runs: {RUNS} of eight inputs in {orders} orders, {sum(STAGED.values())} staged in {staged} orders, a long one, one of optional values, one of unlike lines, eight long ones, 64 that are merged, and what the generator makes in {made} orders, in {time.monotonic() - begun:.1f} seconds")
     return 0
 
 
