@@ -66,6 +66,30 @@ pub fn whole(
     }
 }
 
+/// The same, for the widths that most integers have right where it is called.
+#[inline(always)]
+pub fn whole_in_place(
+    out: &mut ColumnSet,
+    column: u32,
+    bits: u8,
+    signed: bool,
+    line: &[u8],
+    at: usize,
+) -> Option<usize>
+    requires within { at ≤ length line.now }
+    requires can { CanPut (number column bits signed) (length line.now - at) out.old }
+    ensures { Leaves (λ end. Puts (number column bits signed) line.now at end out.old out.new)
+        out.old out.new result }
+{
+    if !signed && bits == 32 {
+        return whole_at_width(out, column, 32, false, line, at);
+    }
+    if !signed && bits == 64 {
+        return whole_at_width(out, column, 64, false, line, at);
+    }
+    whole(out, column, bits, signed, line, at)
+}
+
 /// Adds a text, and its end.
 pub fn string(out: &mut ColumnSet, ends: u32, bytes: u32, line: &[u8], at: usize) -> Option<usize>
     requires within { at ≤ length line.now }

@@ -22,6 +22,7 @@
 //! Only tested: nothing. Not proved: how much memory is taken; which lines are taken, and how long it takes.
 //!
 //! Choices that bind nobody else:
+//! - Integers, lists of integers and texts among the values of an entry or a record are read right there, without a call by their plan.
 //! - What lies inside is added first. So an end is the number of its elements then, and the index
 //!   of a choice that before, and nothing is counted beside the columns.
 //! - Each column gets room for as many elements as the entry adds to any one of them at most: texts
@@ -50,6 +51,7 @@ mod integer_items;
 pub mod integers;
 mod leaves;
 mod line;
+mod lists;
 mod most;
 mod optional;
 mod parts;

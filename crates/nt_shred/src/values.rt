@@ -8,7 +8,8 @@ ghost use Rattle.nt_shred.specs.Walk.{CanPut, CanPutEach, Puts, PutsAll, PutsSom
 
 use crate::counting::count;
 use crate::integer_items::wholes;
-use crate::leaves::{flag, string, whole};
+use crate::leaves::{flag, string, whole, whole_in_place};
+use crate::lists::integer_list;
 use crate::optional::{integers_of, optional_whole, optional_wholes};
 use crate::pushing::{push_end, push_tag};
 use nt_column::ColumnSet;
@@ -110,6 +111,30 @@ fn items(out: &mut ColumnSet, of: &Plan, line: &[u8], at: usize) -> Option<usize
     after(line, i, b']')
 }
 
+/// The same as `value`, right where it is called for what most fields are: an integer, a list of integers, or a text.
+#[inline(always)]
+#[cycle(value)]
+fn common(out: &mut ColumnSet, plan: &Plan, line: &[u8], at: usize) -> Option<usize>
+    requires within { at ≤ length line.now }
+    requires can { CanPut (plan_view plan.now) (length line.now - at) out.old }
+    ensures { Leaves (λ end. Puts (plan_view plan.now) line.now at end out.old out.new)
+        out.old out.new result }
+{
+    match plan {
+        Plan::Number {
+            column,
+            bits,
+            signed,
+        } => whole_in_place(out, *column, *bits, *signed, line, at),
+        Plan::Text { ends, bytes } => string(out, *ends, *bytes, line, at),
+        Plan::List { ends, of } => match integers_of(of) {
+            Some(integers) => integer_list(out, *ends, integers, line, at),
+            None => value(out, plan, line, at),
+        },
+        _ => value(out, plan, line, at),
+    }
+}
+
 /// Adds a value of each plan, up to the bracket.
 #[cycle(value)]
 pub fn each(out: &mut ColumnSet, plans: &[Plan], line: &[u8], at: usize) -> Option<usize>
@@ -121,7 +146,7 @@ pub fn each(out: &mut ColumnSet, plans: &[Plan], line: &[u8], at: usize) -> Opti
     let mut i = at;
     for (k, plan) in plans.iter().enumerate() {
         let next = comma_if(line, i, k > 0)?;
-        i = value(out, plan, line, next)?;
+        i = common(out, plan, line, next)?;
     }
     after(line, i, b']')
 }

@@ -28,7 +28,7 @@ use Rattle.nt_shred.proofs.values.+value.Goals as goal
 pub each-returns-in_err-i : goal.each-returns-in_err-i
 each-returns-in_err-i t c =
     let v = c.loop-k.invariant in
-    let new = c.value.new.out in
+    let new = c.common.new.out in
     leaves-none (λ end. PutsEach (plans_in c.args.plans.now) c.args.line.now c.args.at end c.args.out.now new) c.args.out.now new
     c.from_residual-in_err-i.result c.from_residual-in_err-i.ensures
     (grew-then c.args.out.now c.loop-k.out new (record { columns = v.extends; frame = v.frame }) c.in_err-i.ensures)
@@ -46,9 +46,9 @@ each-loop-k-preserved t c =
     drop_more plans k first c.loop-k-test.true ∙ ap (λ p. p ∷ rest) (sym c.index-plans-k.is) in
     let so_far = subst (λ qs. SoFarEach (plans_in plans) (plans_in qs) (nat_lt 0 k) line at c.loop-k.i start c.loop-k.out) next
     c.loop-k.invariant in
-    subst (λ b. SoFarEach (plans_in plans) (plans_in rest) b line at c.in_ok-i.i start c.value.new.out) (sym (lt-next k))
+    subst (λ b. SoFarEach (plans_in plans) (plans_in rest) b line at c.in_ok-i.i start c.common.new.out) (sym (lt-next k))
     (each-more (plans_in plans) (plan_view first) (plans_in rest) (nat_lt 0 k) line at c.loop-k.i c.in_ok-next.next c.in_ok-i.i start
-    c.loop-k.out c.value.new.out so_far c.in_ok-next.ensures c.in_ok-i.ensures)
+    c.loop-k.out c.common.new.out so_far c.in_ok-next.ensures c.in_ok-i.ensures)
 
 pub each-returns : goal.each-returns
 each-returns t c =
