@@ -14,7 +14,8 @@
 //!
 //! Choices that bind nobody else: a position of the parallel iterator is a block of 512 numbers, so that no closure is called for each
 //! number; fewer than 256 blocks are no work for a second thread; and a block of numbers of at most 32 bits is summed in 64 bits, since
-//! no such sum is larger.
+//! no such sum is larger; of numbers of 64 bits the lower and the higher halves are summed apart, each in 64 bits, so that many are
+//! added at once.
 #![tactic(auto)]
 
 mod lent;
@@ -24,6 +25,6 @@ mod running;
 mod total;
 
 pub use parallel::keys_in_parallel;
-pub use piece::{Piece, piece_of};
+pub use piece::Piece;
 pub use running::Running;
 pub use total::{Total, is_integral};

@@ -32,7 +32,7 @@ fn some_piece<C: Columns>(
     room: &mut [u64],
 ) -> (usize, Piece)
     requires bias { bias ≤ 2 ^ 63 }
-    requires room { (from < length (C.elements columns.now column)) × (0 < length room.old) }
+    requires room { (from < length (C.elements columns.now column)) × (0 < length room.old) × (length room.old ≤ 512) }
     ensures some { (0 < result.0) × (result.0 ≤ length room.old) }
     ensures within { from + result.0 ≤ length (C.elements columns.now column) }
     ensures piece { IsPieceOf

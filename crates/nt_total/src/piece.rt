@@ -1,6 +1,6 @@
 //! Totals of keys, which are put together.
 
-ghost use Rattle.std.specs.Prelude.{◌≡◌, ◌≤◌, ◌^◌, [], map};
+ghost use Rattle.std.specs.Prelude.{◌≡◌, ◌≤◌, ◌^◌, [], length, map};
 ghost use Rattle.nt_total.specs.Keys.{key, IsPieceOf, IsJoinOf};
 
 /// The sum of keys, the least and the greatest; of none 0, the largest number and 0.
@@ -50,23 +50,26 @@ impl Piece {
     }
 }
 
-/// What the keys of elements come to.
+/// What the keys of elements come to. They are so few that the sums of their lower and of their higher halves fit 64 bits each.
 #[inline(always)]
 fn keyed_piece(elements: &[u64], bias: u64) -> Piece
-    requires { bias ≤ 2 ^ 63 }
+    requires bias { bias ≤ 2 ^ 63 }
+    requires few { length elements.now ≤ 2 ^ 31 }
     ensures { IsPieceOf (map (key bias) elements.now) result }
 {
-    let mut sum: u128 = 0;
+    let mut low: u64 = 0;
+    let mut high: u64 = 0;
     let mut least = u64::MAX;
     let mut greatest: u64 = 0;
     for element in elements {
         let key = key(*element, bias);
-        sum = sum.wrapping_add(u128::from(key));
+        low += key % (1 << 32);
+        high += key >> 32;
         least = least.min(key);
         greatest = greatest.max(key);
     }
     Piece {
-        sum,
+        sum: u128::from(low) + (u128::from(high) << 32),
         least,
         greatest,
     }
@@ -74,7 +77,8 @@ fn keyed_piece(elements: &[u64], bias: u64) -> Piece
 
 /// What the keys of elements come to. Where there is no bias, no key is reckoned.
 pub fn piece_of(elements: &[u64], bias: u64) -> Piece
-    requires { bias ≤ 2 ^ 63 }
+    requires bias { bias ≤ 2 ^ 63 }
+    requires few { length elements.now ≤ 2 ^ 31 }
     ensures { IsPieceOf (map (key bias) elements.now) result }
 {
     if bias == 0 {
