@@ -37,6 +37,7 @@ length-whole bits zs = length-map zs (λ z. plain (twos_complement bits z))
 pub record RunSoFar (bits : ℕ) (signed : Bool) (line : List ℕ) (at i : ℕ) (first now : Buffer) : Type 0 where
   pub adds : AddsIntegers bits signed line at i first now
   pub takes : TakesIntegers bits (length line - i) now
+  pub within : i ≤ length line
 
 pub run-first : (bits : ℕ) (signed : Bool) (n : ℕ) (line : List ℕ) (at end : ℕ) (old new : Buffer)
     → TakesIntegers bits (length line - at) old → ElementStands bits signed n line at end
@@ -51,6 +52,7 @@ run-first bits signed n line at end old new t e column le = record {
   };
   takes = takes-more bits (length line - at) (length line - end) n old new t column le
       (omega (arith, e.stands.some, e.stands.within));
+  within = e.stands.within;
 }
 
 ints-more : (bits : ℕ) (signed : Bool) (zs : List ℤ) (z : ℤ) → AllInts bits signed zs → is_int bits signed z ≡ true → InWord z
@@ -81,6 +83,7 @@ run-more bits signed n line at i next end first old new s comma e column le =
       };
       takes = takes-more bits (length line - i) (length line - end) n old new s.takes column le
           (omega (arith, comma.some, e.stands.some, e.stands.within));
+      within = e.stands.within;
     }
 
 any-none : (b : Buffer) → AddsAny b b

@@ -29,7 +29,7 @@ pub(crate) fn element_at(line: &[u8], at: usize, bits: u8, signed: bool) -> Opti
 
 /// The element of the next integer of a list, right behind a comma, where that is quickly read.
 #[inline(always)]
-fn quick_element(line: &[u8], at: usize, bits: u8, signed: bool) -> Option<(u64, usize)>
+pub(crate) fn quick_element(line: &[u8], at: usize, bits: u8, signed: bool) -> Option<(u64, usize)>
     requires within { at ≤ length line.now }
     requires width { is_width bits ≡ true }
     ensures comma { IfSome result (λ r. CommaStands line.now at (at + 1)) }

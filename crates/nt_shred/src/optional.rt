@@ -16,7 +16,7 @@ ghost use Rattle.nt_shred.specs.Places.{TakesIntegers};
 ghost use Rattle.nt_shred.specs.Runs.{AddsRun, PutsIntegers, PutsRun, ends_behind};
 ghost use Rattle.nt_shred.specs.Walk.{CanPut, Puts, PutsAll, Leaves};
 
-use crate::integer_items::element_at;
+use crate::integer_items::{element_at, quick_element};
 use crate::leaves::whole;
 use crate::pushing::push_end;
 use core::mem::replace_with;
@@ -85,6 +85,10 @@ fn run(column: &mut ColumnBuf, bits: u8, signed: bool, line: &[u8], at: usize) -
     let (first, end) = element_at(line, at, bits, signed)?;
     column.push_at_width(bits, first);
     let mut i = end;
+    while let Some((quick, end)) = quick_element(line, i, bits, signed) {
+        column.push_at_width(bits, quick);
+        i = end;
+    }
     while let Some(next) = comma(line, i) {
         if next < line.len() && line[next] == b'n' {
             return Some(i);
@@ -156,21 +160,42 @@ fn put_run(out: &mut ColumnSet, of: Integers, line: &[u8], at: usize) -> Option<
 /// The column of ends with those behind one up to another. It is held by value, so that its place is kept in registers. Inlined, so
 /// that a loop has one width alone.
 #[inline(always)]
-fn counted_on(column: ColumnBuf, span: (u8, u64, u64)) -> (ColumnBuf, ())
-    requires width { bits_of column.column.kind ≡ span.0 }
-    requires takes { TakesNumber column.column span.2 }
-    requires room { (span.1 ≤ span.2) × (span.2 - span.1 ≤ column.spare) }
-    ensures column { result.0.column ≡ with_more column.column (ends_behind span.1 (span.2 - span.1)) }
-    ensures spare { column.spare ≤ result.0.spare + (span.2 - span.1) }
+fn counted_on(column: ColumnBuf, bits: u8, before: u64, last: u64) -> ColumnBuf
+    requires width { bits_of column.column.kind ≡ bits }
+    requires takes { TakesNumber column.column last }
+    requires room { (before ≤ last) × (last - before ≤ column.spare) }
+    ensures column { result.column ≡ with_more column.column (ends_behind before (last - before)) }
+    ensures spare { column.spare ≤ result.spare + (last - before) }
 {
-    let (bits, before, last) = span;
     let mut ends = column;
     let mut end = before;
     while end < last {
         end += 1;
         ends.push_at_width(bits, end);
     }
-    (ends, ())
+    ends
+}
+
+/// The same of ends of 64 bits, as nearly all are, with the two ends as a pair.
+fn wide_counted_on(column: ColumnBuf, span: (u64, u64)) -> (ColumnBuf, ())
+    requires width { bits_of column.column.kind ≡ 64 }
+    requires takes { TakesNumber column.column span.1 }
+    requires room { (span.0 ≤ span.1) × (span.1 - span.0 ≤ column.spare) }
+    ensures column { result.0.column ≡ with_more column.column (ends_behind span.0 (span.1 - span.0)) }
+    ensures spare { column.spare ≤ result.0.spare + (span.1 - span.0) }
+{
+    (counted_on(column, 64, span.0, span.1), ())
+}
+
+/// The same of ends of a width.
+fn any_counted_on(column: ColumnBuf, span: (u8, u64, u64)) -> (ColumnBuf, ())
+    requires width { bits_of column.column.kind ≡ span.0 }
+    requires takes { TakesNumber column.column span.2 }
+    requires room { (span.1 ≤ span.2) × (span.2 - span.1 ≤ column.spare) }
+    ensures column { result.0.column ≡ with_more column.column (ends_behind span.1 (span.2 - span.1)) }
+    ensures spare { column.spare ≤ result.0.spare + (span.2 - span.1) }
+{
+    (counted_on(column, span.0, span.1, span.2), ())
 }
 
 /// Adds the ends behind one up to another.
@@ -182,7 +207,11 @@ fn count_on(ends: &mut ColumnBuf, bits: u8, before: u64, last: u64)
     ensures column { ends.new.column ≡ with_more ends.old.column (ends_behind before (last - before)) }
     ensures spare { ends.old.spare ≤ ends.new.spare + (last - before) }
 {
-    replace_with(ends, (bits, before, last), counted_on);
+    if bits == 64 {
+        replace_with(ends, (before, last), wide_counted_on);
+    } else {
+        replace_with(ends, (bits, before, last), any_counted_on);
+    }
 }
 
 /// Adds the ends behind one up to another to their column of a set.
