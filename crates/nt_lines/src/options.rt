@@ -7,8 +7,10 @@ ghost use Rattle.nt_types.specs.TreeData.{nothing};
 ghost use Rattle.nt_column.specs.Elements.{plain};
 ghost use Rattle.nt_trees.specs.Columns.{begin_at, number_at};
 ghost use Rattle.nt_trees.specs.TreeAt.{trees_from};
-ghost use Rattle.nt_lines.specs.Lent.{HasPart, option_tree};
+ghost use Rattle.nt_lines.specs.Lent.{HasPart, HasValue, option_tree, lent_tree};
+ghost use Rattle.nt_lines.specs.declared.lent.Lent.TheVariants.{Nothing};
 
+use crate::lent::Lent;
 use crate::placing::{NUMBER_ROOM, number_in, place_integer};
 use nt_print::{Word, begin_in, end_in, mark_before, place_byte, place_end};
 
@@ -91,7 +93,7 @@ pub fn place_optional<W: Word>(
 
 /// Writes a mark, and then the array of the optional integers from one place to before another, where there is room for the longest.
 #[inline(never)]
-pub fn place_options<W: Word>(
+fn place_options<W: Word>(
     mark: u8,
     options: Options<'_, W>,
     part: (usize, usize),
@@ -118,4 +120,30 @@ pub fn place_options<W: Word>(
         later = true;
     }
     place_end(later, end, room)
+}
+
+/// Writes a mark, and then a list of optional integers that columns lend. It stands apart, so that nothing is set up for such lists where
+/// other values are written.
+#[inline(never)]
+pub fn place_lent_options(lent: &Lent<'_>, i: usize, mark: u8, at: usize, room: &mut [u8]) -> usize
+    requires { HasValue lent.now i × (at ≤ length room.old) }
+    ensures text { 0 < result → take result room.new ≡ take at room.old
+        ++ mark ∷ compact_text (data_of (lent_tree lent.now i)) }
+    ensures none { lent.now ≡ Nothing → result ≡ 0 }
+    ensures kept { take at room.new ≡ take at room.old }
+    ensures within { (result ≤ length room.new) × (length room.new ≡ length room.old) }
+{
+    match lent {
+        Lent::OptionLists32(lists, ends, words, bits, signed) => {
+            let form = (*bits, *signed);
+            let part = (begin_in(lists, i) as usize, end_in(lists, i) as usize);
+            place_options(mark, Options { ends, words, form }, part, at, room)
+        }
+        Lent::OptionLists64(lists, ends, words, bits, signed) => {
+            let form = (*bits, *signed);
+            let part = (begin_in(lists, i) as usize, end_in(lists, i) as usize);
+            place_options(mark, Options { ends, words, form }, part, at, room)
+        }
+        _ => 0,
+    }
 }

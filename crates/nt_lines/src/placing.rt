@@ -14,7 +14,7 @@ ghost use Rattle.nt_lines.specs.Lent.{HasPart, HasValue, part_at, lent_tree};
 ghost use Rattle.nt_lines.specs.declared.lent.Lent.TheVariants.{Nothing};
 
 use crate::lent::Lent;
-use crate::options::{Options, place_optional, place_options};
+use crate::options::{Options, place_lent_options, place_optional};
 use nt_print::{
     Word, are_below, begin_in, end_in, place_byte, place_digits, place_each, place_end, place_text,
     short_end, signed_of,
@@ -239,15 +239,8 @@ pub fn place_lent(lent: &Lent<'_>, i: usize, mark: u8, at: usize, room: &mut [u8
         Lent::Lists64(ends, words, bits, signed) => {
             place_list(mark, part_of(ends, words, i), (*bits, *signed), at, room)
         }
-        Lent::OptionLists32(lists, ends, words, bits, signed) => {
-            let form = (*bits, *signed);
-            let part = (begin_in(lists, i) as usize, end_in(lists, i) as usize);
-            place_options(mark, Options { ends, words, form }, part, at, room)
-        }
-        Lent::OptionLists64(lists, ends, words, bits, signed) => {
-            let form = (*bits, *signed);
-            let part = (begin_in(lists, i) as usize, end_in(lists, i) as usize);
-            place_options(mark, Options { ends, words, form }, part, at, room)
+        Lent::OptionLists32(..) | Lent::OptionLists64(..) => {
+            place_lent_options(lent, i, mark, at, room)
         }
         Lent::Texts(ends, bytes) => place_quoted(mark, part_of(ends, bytes, i), at, room),
         Lent::Nothing => 0,
