@@ -66,7 +66,7 @@ pub fn whole(
     }
 }
 
-/// The same, for the widths that most integers have right where it is called.
+/// The same. The widths that most integers have are read without a call.
 #[inline(always)]
 pub fn whole_in_place(
     out: &mut ColumnSet,

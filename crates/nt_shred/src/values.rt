@@ -111,7 +111,7 @@ fn items(out: &mut ColumnSet, of: &Plan, line: &[u8], at: usize) -> Option<usize
     after(line, i, b']')
 }
 
-/// The same as `value`, right where it is called for what most fields are: an integer, a list of integers, or a text.
+/// The same as `value`. What most fields are, an integer, a list of integers or a text, is read without a call by its plan.
 #[inline(always)]
 #[cycle(value)]
 fn common(out: &mut ColumnSet, plan: &Plan, line: &[u8], at: usize) -> Option<usize>
