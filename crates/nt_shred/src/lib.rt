@@ -22,7 +22,8 @@
 //! Only tested: nothing. Not proved: how much memory is taken; which lines are taken, and how long it takes.
 //!
 //! Choices that bind nobody else:
-//! - Integers, lists of integers and texts among the values of an entry or a record are read right there, without a call by their plan.
+//! - Integers, truth values, texts, lists of integers and optional integers among the values of an entry or a record are read right
+//!   there, without a call by their plan.
 //! - What lies inside is added first. So an end is the number of its elements then, and the index
 //!   of a choice that before, and nothing is counted beside the columns.
 //! - Each column gets room for as many elements as the entry adds to any one of them at most: texts

@@ -17,7 +17,7 @@ ghost use Rattle.nt_shred.specs.Runs.{AddsRun, PutsIntegers, PutsRun, ends_behin
 ghost use Rattle.nt_shred.specs.Walk.{CanPut, Puts, PutsAll, Leaves};
 
 use crate::integer_items::{element_at, quick_element};
-use crate::leaves::whole;
+use crate::leaves::whole_in_place;
 use crate::pushing::push_end;
 use core::mem::replace_with;
 use nt_column::{ColumnBuf, ColumnSet, Columns};
@@ -52,6 +52,7 @@ pub fn integers_of(plan: &Plan) -> Option<Integers>
 }
 
 /// Adds an optional integer: its element, if there is one, and the end.
+#[inline(always)]
 pub fn optional_whole(
     out: &mut ColumnSet,
     ends: u32,
@@ -69,7 +70,7 @@ pub fn optional_whole(
         push_end(out, ends, before);
         return Some(end);
     }
-    let end = whole(out, of.column, of.bits, of.signed, line, at)?;
+    let end = whole_in_place(out, of.column, of.bits, of.signed, line, at)?;
     push_end(out, ends, before + 1);
     Some(end)
 }

@@ -111,7 +111,8 @@ fn items(out: &mut ColumnSet, of: &Plan, line: &[u8], at: usize) -> Option<usize
     after(line, i, b']')
 }
 
-/// The same as `value`. What most fields are, an integer, a list of integers or a text, is read without a call by its plan.
+/// The same as `value`. What most fields are, an integer or a truth value, a text, a list of integers or an optional one, is read without
+/// a call by its plan.
 #[inline(always)]
 #[cycle(value)]
 fn common(out: &mut ColumnSet, plan: &Plan, line: &[u8], at: usize) -> Option<usize>
@@ -126,9 +127,14 @@ fn common(out: &mut ColumnSet, plan: &Plan, line: &[u8], at: usize) -> Option<us
             bits,
             signed,
         } => whole_in_place(out, *column, *bits, *signed, line, at),
+        Plan::Bool { column } => flag(out, *column, line, at),
         Plan::Text { ends, bytes } => string(out, *ends, *bytes, line, at),
         Plan::List { ends, of } => match integers_of(of) {
             Some(integers) => integer_list(out, *ends, integers, line, at),
+            None => value(out, plan, line, at),
+        },
+        Plan::Maybe { ends, of } => match integers_of(of) {
+            Some(integers) => optional_whole(out, *ends, integers, line, at),
             None => value(out, plan, line, at),
         },
         _ => value(out, plan, line, at),
