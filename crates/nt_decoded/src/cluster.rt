@@ -53,8 +53,9 @@ impl<'a> DecodedCluster<'a> {
         self.entries
     }
 
-    /// Appends the lines of entries from one on, up to another or until there are so many bytes, and says which comes next: at least one
-    /// line. A line has the same values as event text, and its LF; nothing is appended where memory runs out.
+    /// Appends the lines of entries from one on, and says which comes next. It ends before another entry, or behind the first line that may
+    /// not fit in so many bytes of `out`, which that line may pass. So there is at least one line. A line has the same values as event text,
+    /// and its LF; nothing is appended where memory runs out.
     pub fn write_entries(
         &self,
         alloc: Global,

@@ -66,8 +66,9 @@ fn place_lines<C: Columns>(
     place_entries(&lines, part, from, &mut made, out)
 }
 
-/// Appends the lines of entries from one on, up to another or until there are so many bytes, and says which comes next: at least one
-/// line; nothing where memory runs out. The columns are looked up once.
+/// Appends the lines of entries from one on, and says which comes next. It ends before another entry, or behind the first line that may not
+/// fit in so many bytes of `out`, which that line may pass. So there is at least one line; where memory runs out, nothing is appended.
+/// The columns are looked up once.
 pub fn write_entries<C: Columns>(
     alloc: Global,
     columns: &C,
