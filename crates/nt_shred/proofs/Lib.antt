@@ -24,3 +24,4 @@ mod Runs
 mod RunOfIntegers
 mod OptionalRuns
 mod OptionalValue
+mod Few

@@ -91,6 +91,7 @@ pub fn whole_in_place(
 }
 
 /// Adds a text, and its end.
+#[inline(always)]
 pub fn string(out: &mut ColumnSet, ends: u32, bytes: u32, line: &[u8], at: usize) -> Option<usize>
     requires within { at ≤ length line.now }
     requires can { CanPut (text ends bytes) (length line.now - at) out.old }

@@ -1,13 +1,19 @@
 //! Elements that are added to a set of columns, which has room for them.
 
-ghost use Rattle.std.specs.Prelude.{◌≡◌, ◌<◌, ◌^◌, ℕ, [], ◌∷◌, map};
+ghost use Rattle.std.specs.Prelude.{◌≡◌, ◌≢◌, ◌+◌, ◌<◌, ◌≤◌, ◌^◌, ℕ, [], ◌∷◌, length, map};
+ghost use Rattle.nt_types.specs.ColumnTable.{bits_of};
+ghost use Rattle.nt_types.specs.declared.column_type.ColumnType.TheVariants.{Switch};
+ghost use Rattle.nt_column.specs.Column.{with_more};
 ghost use Rattle.nt_column.specs.Elements.{plain};
 ghost use Rattle.nt_trees.specs.Columns.{add_to};
 ghost use Rattle.nt_trees.specs.Views.{cols_of};
 ghost use Rattle.nt_shred.specs.Frame.{set_frame, IsPlain, IsEnds, IsTags, FitsIn, ends_below};
 ghost use Rattle.nt_shred.specs.Steps.{GainsInRoom};
 
-use nt_column::ColumnSet;
+use nt_column::{ColumnBuf, ColumnSet};
+
+/// Fewer bytes than this are added one by one.
+const FEW: usize = 8;
 
 /// Adds a number.
 pub fn push(out: &mut ColumnSet, column: u32, value: u64)
@@ -47,11 +53,54 @@ pub fn push_tag(out: &mut ColumnSet, column: u32, index: u64, tag: u32)
     out.buffer(column).push_switch(index, tag);
 }
 
+/// Adds bytes to a column at once. It stands apart, so that nothing is set up for it where few bytes are added.
+#[inline(never)]
+fn push_many(buffer: &mut ColumnBuf, bytes: &[u8])
+    requires kind { bits_of buffer.old.column.kind ≡ 8 }
+    requires stored { buffer.old.column.zeros ≡ 0 }
+    requires spare { length bytes.now ≤ buffer.old.spare }
+    ensures column { buffer.new.column ≡ with_more buffer.old.column (map plain bytes.now) }
+    ensures spare { buffer.old.spare ≤ buffer.new.spare + length bytes.now }
+{
+    buffer.push_bytes(bytes);
+}
+
+/// Adds bytes to a column one by one.
+#[inline(always)]
+fn push_few(buffer: &mut ColumnBuf, bytes: &[u8])
+    requires kind { (bits_of buffer.old.column.kind ≡ 8) × (buffer.old.column.kind ≢ Switch) }
+    requires stored { buffer.old.column.zeros ≡ 0 }
+    requires spare { length bytes.now ≤ buffer.old.spare }
+    ensures column { buffer.new.column ≡ with_more buffer.old.column (map plain bytes.now) }
+    ensures spare { buffer.old.spare ≤ buffer.new.spare + length bytes.now }
+{
+    for byte in bytes {
+        buffer.push_at_width(8, u64::from(*byte));
+    }
+}
+
+/// Adds bytes to a column, a few of them one by one, which is quicker than a copy.
+#[inline(always)]
+fn push_all(buffer: &mut ColumnBuf, bytes: &[u8])
+    requires kind { (bits_of buffer.old.column.kind ≡ 8) × (buffer.old.column.kind ≢ Switch) }
+    requires stored { buffer.old.column.zeros ≡ 0 }
+    requires spare { length bytes.now ≤ buffer.old.spare }
+    ensures column { buffer.new.column ≡ with_more buffer.old.column (map plain bytes.now) }
+    ensures spare { buffer.old.spare ≤ buffer.new.spare + length bytes.now }
+{
+    if bytes.len() < FEW {
+        push_few(buffer, bytes);
+    } else {
+        push_many(buffer, bytes);
+    }
+}
+
 /// Adds bytes.
+#[inline(always)]
 pub fn push_bytes(out: &mut ColumnSet, column: u32, bytes: &[u8])
     requires column { IsPlain (set_frame out.old) column 8 }
     requires room { FitsIn out.old (add_to column (map plain bytes.now) (cols_of out.old)) }
     ensures { GainsInRoom (add_to column (map plain bytes.now)) out.old out.new }
 {
-    out.buffer(column).push_bytes(bytes);
+    push_all(out.buffer(column), bytes);
 }

@@ -4,8 +4,8 @@ use Rattle.nt_trees.proofs.Leaves.{length-plain}
 use Rattle.nt_shred.proofs.Sets.{spare-at, gains}
 use Rattle.nt_shred.proofs.pushing.push_bytes.Goals as goal
 
-pub push_bytes-requires-clause-spare : goal.push_bytes-requires-clause-spare
-push_bytes-requires-clause-spare c = omega (
+pub push_all-requires-clause-spare : goal.push_all-requires-clause-spare
+push_all-requires-clause-spare c = omega (
   arith,
   length-plain c.args.bytes.now,
   spare-at c.args.out.now c.args.column
@@ -13,5 +13,5 @@ push_bytes-requires-clause-spare c = omega (
 )
 
 pub returns : goal.returns
-returns c = gains c.args.out.now c.args.column c.buffer.result.now c.push_bytes.new.self (map plain c.args.bytes.now)
-    c.buffer.ensures.value c.push_bytes.ensures.column (omega (arith, length-plain c.args.bytes.now, c.push_bytes.ensures.spare))
+returns c = gains c.args.out.now c.args.column c.buffer.result.now c.push_all.new.buffer (map plain c.args.bytes.now)
+    c.buffer.ensures.value c.push_all.ensures.column (omega (arith, length-plain c.args.bytes.now, c.push_all.ensures.spare))
