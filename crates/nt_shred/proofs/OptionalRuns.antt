@@ -6,7 +6,6 @@ use Rattle.std.proofs.lemmas.Bool.{eq-eqb, true≢false, eqb-true}
 use Rattle.nt_types.specs.ShapeData.{no_kinds}
 use Rattle.nt_types.specs.TreeData.{num, nothing, trees_of}
 use Rattle.nt_types.specs.Fits.{all_trees}
-use Rattle.nt_event.specs.Json.{AllInRange}
 use Rattle.nt_event.specs.Standing.{StandsFrom}
 use Rattle.nt_event.proofs.Texts.{reads-null}
 use Rattle.nt_column.specs.Column.{Buffer}
@@ -26,7 +25,7 @@ use Rattle.nt_shred.specs.Runs.{PutsRun, AllInts, whole_elements, PutsIntegers, 
 use Rattle.nt_shred.specs.Walk.{CanPut, Puts}
 use Rattle.nt_shred.proofs.Singles.{one-more}
 use Rattle.nt_shred.proofs.Runs.{run-long}
-use Rattle.nt_shred.proofs.RunOfIntegers.{length-whole, length-ends}
+use Rattle.nt_shred.proofs.RunOfIntegers.{length-whole, range-ints, length-ends}
 
 -- ---- two columns that differ
 
@@ -79,14 +78,10 @@ module _ (e k bits : ℕ) (signed : Bool) (apart : (e == k) ≡ false) where
       ∙ (λ i j. both-more (j == k) (j == e) (cols j) (whole_elements bits zs) (ends_behind (suc m) (length zs)) x (plain (suc m))
       (not-both e k j apart) i)
 
-  fit-ints : (zs : List ℤ) → AllInts bits signed zs
+  fit-optionals : (zs : List ℤ) → AllInts bits signed zs
       → all_trees (fits_plan (maybe e (number k bits signed))) (trees_of (map (λ z. num z) zs)) ≡ true
-  fit-ints [] h = refl
-  fit-ints (z ∷ zs) h = rw (h.0, fit-ints zs h.2) refl
-
-range-ints : (bits : ℕ) (signed : Bool) (zs : List ℤ) → AllInts bits signed zs → AllInRange (trees_of (map (λ z. num z) zs))
-range-ints bits signed [] h = tt
-range-ints bits signed (z ∷ zs) h = (h.1, range-ints bits signed zs h.2)
+  fit-optionals [] h = refl
+  fit-optionals (z ∷ zs) h = rw (h.0, fit-optionals zs h.2) refl
 
 -- ---- as many ends as values
 
@@ -181,7 +176,7 @@ module _ (e k bits : ℕ) (signed : Bool) (line : List ℕ) (at : ℕ) (old : Li
           found = map (λ z. num z) h.values;
           stands = h.stands;
           range = range-ints bits signed h.values h.ints;
-          fitting = fit-ints e k bits signed can.differ.0 h.values h.ints;
+          fitting = fit-optionals e k bits signed can.differ.0 h.values h.ints;
           gains = record {
             columns = columns ∙ sym (put-ends e k bits signed can.differ.0 h.values (cols_of old));
             frame = g.frame ∙ h.gains.frame;

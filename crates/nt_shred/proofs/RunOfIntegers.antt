@@ -1,5 +1,5 @@
 -- Integers that stand one after the other, added to their column, and the ends of optionals that have them.
-use Rattle.std.proofs.Common.{◌≡◌, ℕ, zero, suc, ℤ, ◌+◌, ◌-◌, ◌≤◌, ◌<◌, Bool, true, List, [], ◌∷◌, ◌++◌, length, map}
+use Rattle.std.proofs.Common.{◌≡◌, ℕ, zero, suc, ℤ, ◌+◌, ◌-◌, ◌≤◌, ◌<◌, ◌==◌, Bool, true, false, cond, List, [], ◌∷◌, ◌++◌, length, map}
 use Rattle.std.proofs.Common.{slice_get, Option, None, Some, refl, sym, ◌∙◌, ap, arith, subst, append_assoc, append-nil, length-append}
 use Rattle.std.proofs.lemmas.List.{map-append, length-map}
 use Rattle.std.proofs.lemmas.Bool.{false≢true}
@@ -7,26 +7,28 @@ use Rattle.std.proofs.Math.ListN.{set}
 use Rattle.nt_types.specs.ColumnTable.{bits_of}
 use Rattle.nt_types.specs.declared.column_type.ColumnType.{ColumnType}
 use Rattle.nt_types.specs.declared.column_type.ColumnType.TheVariants.{Index32, Index64, SplitIndex32, SplitIndex64}
-use Rattle.nt_types.specs.TreeData.{num}
-use Rattle.nt_types.specs.Fits.{is_int}
-use Rattle.nt_event.specs.Json.{InWord}
+use Rattle.nt_types.specs.TreeData.{num, trees_of}
+use Rattle.nt_types.specs.Fits.{all_trees, is_int}
+use Rattle.nt_event.specs.Json.{AllInRange, InWord}
 use Rattle.nt_event.specs.Standing.{CommaStands}
 use Rattle.nt_event.proofs.Texts.{num-stands}
 use Rattle.nt_column.specs.Column.{Column, Buffer, with_more}
 use Rattle.nt_column.specs.Elements.{Element, plain}
+use Rattle.nt_plans.specs.Plan.{number}
 use Rattle.nt_plans.specs.Types.{is_index_type}
-use Rattle.nt_trees.specs.Columns.{add_to}
+use Rattle.nt_trees.specs.Columns.{Cols, add_to}
 use Rattle.nt_trees.specs.Integers.{twos_complement}
+use Rattle.nt_trees.specs.Put.{put_each, put_tree}
+use Rattle.nt_trees.specs.Fits.{fits_plan}
 use Rattle.nt_trees.specs.Views.{cols_of}
-use Rattle.nt_trees.proofs.Lists.{add_to-extends}
 use Rattle.nt_shred.specs.Frame.{set_frame, IsEnds}
 use Rattle.nt_shred.proofs.Sets.{gains, framed}
-use Rattle.nt_shred.specs.Places.{TakesIntegers}
-use Rattle.nt_shred.specs.Runs.{RunStands, AllInts, whole_elements, AddsIntegers, AddsAny, AddsRun, PutsIntegers, ends_behind}
+use Rattle.nt_shred.specs.Places.{Grew, TakesIntegers}
+use Rattle.nt_shred.specs.Runs.{RunStands, PutsRun, AllInts, whole_elements, AddsIntegers, AddsRun, PutsIntegers, ends_behind}
 use Rattle.nt_shred.specs.Walk.{ElementStands, Leaves}
-use Rattle.nt_shred.proofs.LineGrowth.{grew-by}
-use Rattle.nt_shred.proofs.OneColumn.{takes-more}
-use Rattle.nt_shred.proofs.Runs.{run-next}
+use Rattle.nt_shred.proofs.LineGrowth.{grew-not, few-more}
+use Rattle.nt_shred.proofs.OneColumn.{set-same, takes-more}
+use Rattle.nt_shred.proofs.Runs.{run-next, run-long}
 
 pub length-whole : (bits : ℕ) (zs : List ℤ) → length {A = Element} (whole_elements bits zs) ≡ length zs
 length-whole bits zs = length-map zs (λ z. plain (twos_complement bits z))
@@ -86,25 +88,10 @@ run-more bits signed n line at i next end first old new s comma e column le =
       within = e.stands.within;
     }
 
-any-none : (b : Buffer) → AddsAny b b
-any-none b = (
-  [],
-  ap (λ (l : List Element). record { kind = b.column.kind; elements = l; zeros = b.column.zeros }) (sym (append-nil b.column.elements)),
-  omega arith,
-)
-
+-- no integer
 pub run-not : (bits : ℕ) (signed : Bool) (line : List ℕ) (at : ℕ) (old : Buffer) (r : Option ℕ) → r ≡ None
     → AddsRun bits signed line at old old r
-run-not bits signed line at old r none = subst (AddsRun bits signed line at old old) (sym none) (any-none old)
-
-pub run-part : (bits : ℕ) (signed : Bool) (line : List ℕ) (at i : ℕ) (old now : Buffer) (r : Option ℕ) → r ≡ None
-    → RunSoFar bits signed line at i old now → AddsRun bits signed line at old now r
-run-part bits signed line at i old now r none s =
-    subst (AddsRun bits signed line at old now) (sym none) (
-      whole_elements bits s.adds.values,
-      s.adds.column,
-      omega (arith, s.adds.spare, length-whole bits s.adds.values),
-    )
+run-not bits signed line at old r none = subst (AddsRun bits signed line at old old) (sym none) refl
 
 -- ---- a column of a set
 
@@ -112,7 +99,7 @@ pub run-in : (k bits : ℕ) (signed : Bool) (line : List ℕ) (at : ℕ) (start 
     → slice_get start k ≡ Some old → AddsRun bits signed line at old new r
     → Leaves (λ end. PutsIntegers k bits signed line at end start (set start k new)) start (set start k new) r
 run-in k bits signed line at start old new None is h =
-    grew-by (add_to k h.0) start (set start k new) (gains start k old new h.0 is h.1 h.2) (add_to-extends k h.0 (cols_of start))
+    subst (Grew start) (sym (ap (set start k) h ∙ set-same start k old is)) (grew-not start)
 run-in k bits signed line at start old new (Some end) is h = record {
   values = h.values;
   stands = h.stands;
@@ -120,6 +107,54 @@ run-in k bits signed line at start old new (Some end) is h = record {
   gains = gains start k old new (whole_elements bits h.values) is h.column
       (omega (arith, h.spare, length-whole bits h.values));
 }
+
+-- ---- the items of a list of integers
+
+pub range-ints : (bits : ℕ) (signed : Bool) (zs : List ℤ) → AllInts bits signed zs → AllInRange (trees_of (map (λ z. num z) zs))
+range-ints bits signed [] h = tt
+range-ints bits signed (z ∷ zs) h = (h.1, range-ints bits signed zs h.2)
+
+fit-ints : (k bits : ℕ) (signed : Bool) (zs : List ℤ) → AllInts bits signed zs
+    → all_trees (fits_plan (number k bits signed)) (trees_of (map (λ z. num z) zs)) ≡ true
+fit-ints k bits signed [] h = refl
+fit-ints k bits signed (z ∷ zs) h = rw (h.0, fit-ints k bits signed zs h.2) refl
+
+-- one element and more of them
+one-more-of : (b : Bool) (c : List Element) (x : Element) (xs : List Element)
+    → (c ++ cond b (x ∷ []) []) ++ cond b xs [] ≡ c ++ cond b (x ∷ xs) []
+one-more-of true c x xs = append_assoc c (x ∷ []) xs
+one-more-of false c x xs = append-nil (c ++ [])
+
+none-of : (b : Bool) (c : List Element) → c ++ cond b [] [] ≡ c
+none-of true c = append-nil c
+none-of false c = append-nil c
+
+put-ints : (k bits : ℕ) (signed : Bool) (zs : List ℤ) (cols : Cols)
+    → put_each (put_tree (number k bits signed)) (trees_of (map (λ z. num z) zs)) cols ≡ add_to k (whole_elements bits zs) cols
+put-ints k bits signed [] cols = λ i j. sym (none-of (j == k) (cols j)) i
+put-ints k bits signed (z ∷ zs) cols =
+    let x = plain (twos_complement bits z) in
+    put-ints k bits signed zs (add_to k (x ∷ []) cols) ∙ (λ i j. one-more-of (j == k) (cols j) x (whole_elements bits zs) i)
+
+-- a run of them
+pub ints-run : (k bits : ℕ) (signed : Bool) (line : List ℕ) (at end : ℕ) (old new : List Buffer)
+    → PutsIntegers k bits signed line at end old new → PutsRun (number k bits signed) line at end old new
+ints-run k bits signed line at end old new h =
+    let es = whole_elements bits h.values in
+    let long = run-long (map (λ z. num z) h.values) line at end h.stands in
+    record {
+      found = map (λ z. num z) h.values;
+      stands = h.stands;
+      range = range-ints bits signed h.values h.ints;
+      fitting = fit-ints k bits signed h.values h.ints;
+      gains = record {
+        columns = h.gains.columns ∙ sym (put-ints k bits signed h.values (cols_of old));
+        frame = h.gains.frame;
+        room = h.gains.room;
+      };
+      few = few-more k es 0 (end - at) old old new h.gains (λ j. omega arith)
+          (omega (arith, long.0, length-map h.values (λ z. num z), length-whole bits h.values));
+    }
 
 -- ---- the ends of optionals
 

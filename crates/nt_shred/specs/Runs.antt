@@ -47,13 +47,9 @@ pub record AddsIntegers (bits : ℕ) (signed : Bool) (text : List ℕ) (at end :
   pub column : new.column ≡ with_more old.column (whole_elements bits values)
   pub spare : old.spare ≤ new.spare + length values
 
--- elements are added to this column
-abbrev pub AddsAny : Buffer → Buffer → Type 0
-AddsAny old new = (more : List Element) × (new.column ≡ with_more old.column more) × (old.spare ≤ new.spare + length more)
-
--- what is so up to a place that was found; where none was, the column has grown by anything
+-- what is so up to a place that was found; where none was, the column stays
 abbrev pub AddsRun : ℕ → Bool → List ℕ → ℕ → Buffer → Buffer → Option ℕ → Type 0
-AddsRun bits signed text at old new None = AddsAny old new
+AddsRun bits signed text at old new None = new ≡ old
 AddsRun bits signed text at old new (Some end) = AddsIntegers bits signed text at end old new
 
 -- integers stand there, and their elements are added to this column of a set

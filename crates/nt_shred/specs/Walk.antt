@@ -1,12 +1,12 @@
 -- A text that is read by plans, straight to the columns: what is required before, and what is so after.
-use Rattle.std.specs.Prelude.{ℕ, ℤ, ◌≡◌, ◌-◌, ◌<◌, ◌^◌, ◌||◌, Bool, true, false, List, Option, Some, None, length, slice_get, slice_set}
+use Rattle.std.specs.Prelude.{ℕ, ℤ, ◌≡◌, ◌-◌, ◌<◌, ◌^◌, ◌||◌, Bool, true, false, List, Option, Some, None}
 use Rattle.serde_json.specs.Written.{compact_text}
 use Rattle.nt_types.specs.TreeData.{TreeData, trees_of, num, is_nothing}
 use Rattle.nt_types.specs.Fits.{all_trees, is_int}
 use Rattle.nt_event.specs.Json.{InRange, AllInRange, InWord, data_of}
 use Rattle.nt_event.specs.Standing.{StandsFrom, ValueStands, ItemsStand, json_of, jsons_of}
 use Rattle.nt_column.specs.Column.{Buffer}
-use Rattle.nt_plans.specs.Plan.{PlanData, PlansData, number, maybe, choice, Differ, AllDiffer}
+use Rattle.nt_plans.specs.Plan.{PlanData, PlansData, maybe, choice, Differ, AllDiffer}
 use Rattle.nt_trees.specs.Integers.{twos_complement}
 use Rattle.nt_trees.specs.Sound.{Sound, AllSound}
 use Rattle.nt_trees.specs.Put.{put_each, put_tree, put_trees}
@@ -87,9 +87,3 @@ pub record PutsEach (ps : PlansData) (text : List ℕ) (at end : ℕ) (old new :
 abbrev pub Leaves : (ℕ → Type 0) → List Buffer → List Buffer → Option ℕ → Type 0
 Leaves P old new None = Grew old new
 Leaves P old new (Some end) = P end
-
--- what is left of a column to which the integers of a list are added, in whatever set it stands
-abbrev pub LeavesIn : ℕ → Bool → List ℕ → ℕ → Buffer → Buffer → Option ℕ → Type 0
-LeavesIn bits signed text at old new r = (k : ℕ) (start : List Buffer) → slice_get start k ≡ Some old
-    → CanPut (number k bits signed) (length text - at) start
-    → Leaves (λ end. PutsAll (number k bits signed) text at end start (slice_set start k new)) start (slice_set start k new) r

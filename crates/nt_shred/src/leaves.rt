@@ -4,7 +4,7 @@ ghost use Rattle.std.specs.Prelude.{◌-◌, ◌≤◌, length};
 ghost use Rattle.nt_plans.specs.Plan.{bool, number, text};
 ghost use Rattle.nt_shred.specs.Walk.{CanPut, Puts, Leaves};
 
-use crate::integer_items::element_at;
+use crate::integers::element_at;
 use crate::pushing::{push, push_at_width, push_bytes, push_end};
 use nt_column::{ColumnSet, Columns};
 use nt_event::{plain_string, truth};

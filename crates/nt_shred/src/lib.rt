@@ -3,10 +3,11 @@
 //! Start at `entry.rt` with nt_trees' `specs/Put` (what an entry adds), then `putting.rt`, the walk over plans and
 //! trees; or at [`Direct`] in `line.rt`: `put_line` reads a line of event text as it adds its elements, without trees,
 //! or refuses it. Then `values.rt`, the walk over plans and text, `leaves.rt`, the values without parts,
-//! `integer_items.rt`, lists of integers, `optional.rt`, optional integers and lists of these, and `room.rt`, what is
-//! done before and after a line. Both walks add by the steps of `pushing.rt`, `growing.rt` and `counting.rt`. Nearly
-//! every entry that is written comes as a line, and every one through these steps, so keep them free of maps, of memory
-//! for single values, and of walks over the rows of a schema.
+//! `integer_runs.rt`, integers that stand one after the other, `lists.rt`, lists of integers, `optional.rt`, optional
+//! integers and lists of these, and `room.rt`, what is done before and after a line. Both walks add by the steps of
+//! `pushing.rt`, `growing.rt` and `counting.rt`; `integers.rt` has what both know of integers. Nearly every entry that is
+//! written comes as a line, and every one through these steps, so keep them free of maps, of memory for single values,
+//! and of walks over the rows of a schema.
 //!
 //! Words: those of nt_trees and nt_event; a *frame* is what stays of a set of columns while it is filled; *room*
 //! is memory for elements, and ends that can count them; columns of ends are *narrow* where these
@@ -38,17 +39,17 @@
 //!   used up, or something else was done to the columns, each of them is looked at.
 //! - What was added of a refused line is cut off again, at the lengths that were noted before it.
 //! - A line of ASCII alone, as most are, is seen to be UTF-8 sixteen bytes at a time (`ascii.rt`), others by simdutf8.
-//! - Lists of integers, where most values are, have a loop of their own for each width and sign, in which the plan and
-//!   the column are looked up once.
-//! - A list of optional integers is a row of runs: of integers up to the next `null`, by such a loop, and then their ends, which
-//!   count on by one, and of a `null` with the end before it once more.
+//! - Integers one after the other, which most values are, are read as a run, by a loop of its own for each width and sign, in which
+//!   the plan and the column are looked up once. A run ends at what is no integer.
+//! - A list of integers is one run. A list of optional integers is a row of runs: of integers up to the next `null`, and then their
+//!   ends, which count on by one, and of a `null` with the end before it once more.
 #![tactic(auto)]
 
 mod ascii;
 pub mod counting;
 mod entry;
 pub mod growing;
-mod integer_items;
+mod integer_runs;
 pub mod integers;
 mod leaves;
 mod line;

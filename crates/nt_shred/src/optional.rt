@@ -1,55 +1,26 @@
 //! Optional integers, one and the items of a list.
 //!
-//! Of a list the integers up to the next `null` go to their column first, in a loop that has this column alone, and then their
-//! ends, which count on from the one before.
+//! Of a list the integers up to the next `null` go to their column first, as a run, and then their ends, which count on from the one
+//! before.
 
-ghost use Rattle.std.specs.Prelude.{◌≡◌, ◌-◌, ◌+◌, ◌<◌, ◌≤◌, length, true, false, IfSome};
+ghost use Rattle.std.specs.Prelude.{◌≡◌, ◌-◌, ◌+◌, ◌<◌, ◌≤◌, length};
 ghost use Rattle.nt_types.specs.ColumnTable.{bits_of};
 ghost use Rattle.nt_column.specs.Column.{TakesNumber, with_more};
 ghost use Rattle.nt_plans.specs.Plan.{maybe, number};
-ghost use Rattle.nt_plans.specs.PlanViews.{plan_view};
 ghost use Rattle.nt_trees.specs.Columns.{add_to};
 ghost use Rattle.nt_trees.specs.Views.{cols_of};
 ghost use Rattle.nt_shred.specs.Frame.{set_frame, IsEnds, FitsIn, ends_below};
 ghost use Rattle.nt_shred.specs.Steps.{GainsInRoom};
-ghost use Rattle.nt_shred.specs.Places.{TakesIntegers};
-ghost use Rattle.nt_shred.specs.Runs.{AddsRun, PutsIntegers, PutsRun, ends_behind};
+ghost use Rattle.nt_shred.specs.Runs.{PutsRun, ends_behind};
 ghost use Rattle.nt_shred.specs.Walk.{CanPut, Puts, PutsAll, Leaves};
 
-use crate::integer_items::{element_at, quick_element};
+use crate::integer_runs::put_run;
+use crate::integers::Integers;
 use crate::leaves::whole_in_place;
 use crate::pushing::push_end;
 use core::mem::replace_with;
 use nt_column::{ColumnBuf, ColumnSet, Columns};
 use nt_event::{after, comma, null};
-use nt_plans::Plan;
-
-/// The column of an integer, its width and its sign.
-#[derive(Clone, Copy)]
-pub struct Integers {
-    pub column: u32,
-    pub bits: u8,
-    pub signed: bool,
-}
-
-/// The column of a plan of integers.
-#[inline(always)]
-pub fn integers_of(plan: &Plan) -> Option<Integers>
-    ensures { IfSome result (λ r. plan_view plan.now ≡ number r.column r.bits r.signed) }
-{
-    match plan {
-        Plan::Number {
-            column,
-            bits,
-            signed,
-        } => Some(Integers {
-            column: *column,
-            bits: *bits,
-            signed: *signed,
-        }),
-        _ => None,
-    }
-}
 
 /// Adds an optional integer: its element, if there is one, and the end.
 #[inline(always)]
@@ -73,89 +44,6 @@ pub fn optional_whole(
     let end = whole_in_place(out, of.column, of.bits, of.signed, line, at)?;
     push_end(out, ends, before + 1);
     Some(end)
-}
-
-/// Adds the integers of a list up to the next `null` or the last of them, one at least. Inlined, so that a loop has one width and
-/// one sign alone.
-#[inline(always)]
-fn run(column: &mut ColumnBuf, bits: u8, signed: bool, line: &[u8], at: usize) -> Option<usize>
-    requires within { at ≤ length line.now }
-    requires takes { TakesIntegers bits (length line.now - at) column.old }
-    ensures { AddsRun bits signed line.now at column.old column.new result }
-{
-    let (first, end) = element_at(line, at, bits, signed)?;
-    column.push_at_width(bits, first);
-    let mut i = end;
-    while let Some((quick, end)) = quick_element(line, i, bits, signed) {
-        column.push_at_width(bits, quick);
-        i = end;
-    }
-    while let Some(next) = comma(line, i) {
-        if next < line.len() && line[next] == b'n' {
-            return Some(i);
-        }
-        let (value, end) = element_at(line, next, bits, signed)?;
-        column.push_at_width(bits, value);
-        i = end;
-    }
-    Some(i)
-}
-
-/// The same, by a loop for each width.
-#[inline(always)]
-fn run_by_width(
-    column: &mut ColumnBuf,
-    bits: u8,
-    signed: bool,
-    line: &[u8],
-    at: usize,
-) -> Option<usize>
-    requires within { at ≤ length line.now }
-    requires takes { TakesIntegers bits (length line.now - at) column.old }
-    ensures { AddsRun bits signed line.now at column.old column.new result }
-{
-    match bits {
-        8 => run(column, 8, signed, line, at),
-        16 => run(column, 16, signed, line, at),
-        32 => run(column, 32, signed, line, at),
-        64 => run(column, 64, signed, line, at),
-        _ => unreachable!(),
-    }
-}
-
-/// The same without a sign.
-#[inline(never)]
-fn unsigned_run(column: &mut ColumnBuf, bits: u8, line: &[u8], at: usize) -> Option<usize>
-    requires within { at ≤ length line.now }
-    requires takes { TakesIntegers bits (length line.now - at) column.old }
-    ensures { AddsRun bits false line.now at column.old column.new result }
-{
-    run_by_width(column, bits, false, line, at)
-}
-
-/// The same with a sign.
-#[inline(never)]
-fn signed_run(column: &mut ColumnBuf, bits: u8, line: &[u8], at: usize) -> Option<usize>
-    requires within { at ≤ length line.now }
-    requires takes { TakesIntegers bits (length line.now - at) column.old }
-    ensures { AddsRun bits true line.now at column.old column.new result }
-{
-    run_by_width(column, bits, true, line, at)
-}
-
-/// Adds the integers of a list up to the next `null` or the last of them to their column of a set.
-fn put_run(out: &mut ColumnSet, of: Integers, line: &[u8], at: usize) -> Option<usize>
-    requires within { at ≤ length line.now }
-    requires can { CanPut (number of.column of.bits of.signed) (length line.now - at) out.old }
-    ensures { Leaves (λ end. PutsIntegers of.column of.bits of.signed line.now at end out.old out.new)
-        out.old out.new result }
-{
-    let column = out.buffer(of.column);
-    if of.signed {
-        signed_run(column, of.bits, line, at)
-    } else {
-        unsigned_run(column, of.bits, line, at)
-    }
 }
 
 /// The column of ends with those behind one up to another. It is held by value, so that its place is kept in registers. Inlined, so

@@ -7,10 +7,10 @@ ghost use Rattle.nt_trees.specs.Views.{plans_in};
 ghost use Rattle.nt_shred.specs.Walk.{CanPut, CanPutEach, Puts, PutsAll, PutsSome, PutsEach, Leaves, takes_null};
 
 use crate::counting::count;
-use crate::integer_items::wholes;
+use crate::integers::integers_of;
 use crate::leaves::{flag, string, whole, whole_in_place};
-use crate::lists::integer_list;
-use crate::optional::{integers_of, optional_whole, optional_wholes};
+use crate::lists::{integer_items, integer_list};
+use crate::optional::{optional_whole, optional_wholes};
 use crate::pushing::{push_end, push_tag};
 use nt_column::ColumnSet;
 use nt_event::{after, comma, comma_if, null, number};
@@ -88,13 +88,8 @@ fn items(out: &mut ColumnSet, of: &Plan, line: &[u8], at: usize) -> Option<usize
     ensures { Leaves (λ end. PutsAll (plan_view of.now) line.now at end out.old out.new)
         out.old out.new result }
 {
-    if let Plan::Number {
-        column,
-        bits,
-        signed,
-    } = of
-    {
-        return wholes(out, *column, *bits, *signed, line, at);
+    if let Some(integers) = integers_of(of) {
+        return integer_items(out, integers, line, at);
     }
     if let Plan::Maybe { ends, of: inside } = of {
         if let Some(integers) = integers_of(inside) {

@@ -1,7 +1,7 @@
 use Rattle.std.proofs.Common.{◌≡◌, ◌∙◌, ◌^◌, nat_lt, true, pos, refl, ap, arith}
 use Rattle.std.proofs.lemmas.Bool.{ltb-true}
 use Rattle.nt_types.specs.Fits.{is_int}
-use Rattle.nt_shred.proofs.integer_items.element_at.Goals as goal
+use Rattle.nt_shred.proofs.integers.element_at.Goals as goal
 
 pub returns-in_ok-value-2 : goal.returns-in_ok-value-2
 returns-in_ok-value-2 c =

@@ -1,6 +1,6 @@
 use Rattle.std.proofs.Common.{◌+◌}
-use Rattle.nt_shred.proofs.RunOfIntegers.{run-first, run-more, run-not, run-part}
-use Rattle.nt_shred.proofs.optional.run.Goals as goal
+use Rattle.nt_shred.proofs.RunOfIntegers.{run-first, run-more, run-not}
+use Rattle.nt_shred.proofs.integer_runs.run.Goals as goal
 
 pub returns-in_err-first : goal.returns-in_err-first
 returns-in_err-first c =
@@ -17,13 +17,9 @@ loop-quick-preserved c =
     c.args.column.now c.loop-quick.column c.push_at_width-in-Some.new.self c.loop-quick.invariant c.in-Some.ensures.comma
     c.in-Some.ensures.element c.push_at_width-in-Some.ensures.column c.push_at_width-in-Some.ensures.spare
 
-pub returns-in_err-value : goal.returns-in_err-value
-returns-in_err-value c =
-    run-part c.args.bits c.args.signed c.args.line.now c.args.at c.loop-next.i c.args.column.now c.loop-next.column
-    c.from_residual-in_err-value.result c.from_residual-in_err-value.ensures c.loop-next.invariant
-
 pub loop-next-preserved : goal.loop-next-preserved
 loop-next-preserved c =
-    run-more c.args.bits c.args.signed c.in_ok-value.value c.args.line.now c.args.at c.loop-next.i c.in-Some-comma.next c.in_ok-value.end
-    c.args.column.now c.loop-next.column c.push_at_width-in-Some-comma.new.self c.loop-next.invariant c.in-Some-comma.ensures
-    c.in_ok-value.ensures c.push_at_width-in-Some-comma.ensures.column c.push_at_width-in-Some-comma.ensures.spare
+    run-more c.args.bits c.args.signed c.in-Some-element_at.value c.args.line.now c.args.at c.loop-next.i c.in-Some-comma.next
+    c.in-Some-element_at.end c.args.column.now c.loop-next.column c.push_at_width-in-Some-comma.new.self c.loop-next.invariant
+    c.in-Some-comma.ensures c.in-Some-element_at.ensures c.push_at_width-in-Some-comma.ensures.column
+    c.push_at_width-in-Some-comma.ensures.spare

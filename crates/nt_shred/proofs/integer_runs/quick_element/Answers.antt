@@ -1,7 +1,7 @@
 use Rattle.std.proofs.Common.{◌≡◌, ◌∙◌, ◌^◌, nat_lt, true, pos, refl, ap, arith}
 use Rattle.std.proofs.lemmas.Bool.{ltb-true}
 use Rattle.nt_types.specs.Fits.{is_int}
-use Rattle.nt_shred.proofs.integer_items.quick_element.Goals as goal
+use Rattle.nt_shred.proofs.integer_runs.quick_element.Goals as goal
 
 pub returns-clause-element : goal.returns-clause-element
 returns-clause-element c =

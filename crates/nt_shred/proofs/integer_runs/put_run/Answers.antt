@@ -2,7 +2,7 @@ use Rattle.std.proofs.Common.{◌-◌, length, subst, sym}
 use Rattle.nt_shred.specs.Runs.{AddsRun}
 use Rattle.nt_shred.proofs.OneColumn.{takes-at}
 use Rattle.nt_shred.proofs.RunOfIntegers.{run-in}
-use Rattle.nt_shred.proofs.optional.put_run.Goals as goal
+use Rattle.nt_shred.proofs.integer_runs.put_run.Goals as goal
 
 pub signed_run-requires-clause-takes : goal.signed_run-requires-clause-takes
 signed_run-requires-clause-takes c =
