@@ -21,11 +21,11 @@ use Rattle.nt_trees.proofs.Lists.{new_last}
 use Rattle.nt_shred.specs.Frame.{set_frame, ends_below, FitsIn}
 use Rattle.nt_shred.specs.Steps.{GainsInRoom}
 use Rattle.nt_shred.proofs.Sets.{frame-within, same-length}
-use Rattle.nt_shred.specs.Runs.{PutsRun, AllInts, whole_elements, PutsIntegers, ends_behind}
+use Rattle.nt_shred.specs.Runs.{PutsRun, AllInts, integer_elements, PutsIntegers, ends_behind}
 use Rattle.nt_shred.specs.Walk.{CanPut, Puts}
 use Rattle.nt_shred.proofs.Singles.{one-more}
 use Rattle.nt_shred.proofs.Runs.{run-long}
-use Rattle.nt_shred.proofs.RunOfIntegers.{length-whole, range-ints, length-ends}
+use Rattle.nt_shred.proofs.RunOfIntegers.{length-integers, range-ints, length-ends}
 
 -- ---- two columns that differ
 
@@ -57,7 +57,7 @@ not-both e k j apart here there =
 
 module _ (e k bits : ℕ) (signed : Bool) (apart : (e == k) ≡ false) where
   put-ends : (zs : List ℤ) (cols : Cols) → put_each (put_tree (maybe e (number k bits signed))) (trees_of (map (λ z. num z) zs)) cols
-      ≡ add_to e (ends_behind (last_end (cols e)) (length zs)) (add_to k (whole_elements bits zs) cols)
+      ≡ add_to e (ends_behind (last_end (cols e)) (length zs)) (add_to k (integer_elements bits zs) cols)
   put-ends [] cols = λ i j. sym (none (j == k) (j == e) (cols j)) i
     where
       none : (a b : Bool) (c : List Element) → (c ++ cond a [] []) ++ cond b [] [] ≡ c
@@ -72,10 +72,10 @@ module _ (e k bits : ℕ) (signed : Bool) (apart : (e == k) ≡ false) where
       let same : m + 1 ≡ suc m = omega arith in
       let here : last_end (one e) ≡ suc m = ap last_end (add_to-here e (plain (m + 1) ∷ []) (add_to k (x ∷ []) cols))
       ∙ new_last (add_to k (x ∷ []) cols e) (m + 1) 0 ∙ same in
-      put-ends zs one ∙ ap (λ (n : ℕ). add_to e (ends_behind n (length zs)) (add_to k (whole_elements bits zs) one)) here
-      ∙ ap (λ (n : ℕ). add_to e (ends_behind (suc m) (length zs)) (add_to k (whole_elements bits zs)
+      put-ends zs one ∙ ap (λ (n : ℕ). add_to e (ends_behind n (length zs)) (add_to k (integer_elements bits zs) one)) here
+      ∙ ap (λ (n : ℕ). add_to e (ends_behind (suc m) (length zs)) (add_to k (integer_elements bits zs)
       (add_to e (plain n ∷ []) (add_to k (x ∷ []) cols)))) same
-      ∙ (λ i j. both-more (j == k) (j == e) (cols j) (whole_elements bits zs) (ends_behind (suc m) (length zs)) x (plain (suc m))
+      ∙ (λ i j. both-more (j == k) (j == e) (cols j) (integer_elements bits zs) (ends_behind (suc m) (length zs)) x (plain (suc m))
       (not-both e k j apart) i)
 
   fit-optionals : (zs : List ℤ) → AllInts bits signed zs
@@ -125,26 +125,26 @@ module _ (e k bits : ℕ) (signed : Bool) (line : List ℕ) (at : ℕ) (old : Li
         (omega (arith, l.0, length-map h.values (λ z. num z)), l.1, l.2)
 
     pub mid-values : length (cols_of mid k) ≡ length (cols_of old k) + length h.values
-    mid-values = ap (λ (c : Cols). length (c k)) h.gains.columns ∙ ap length (add_to-here k (whole_elements bits h.values) (cols_of old))
-        ∙ length-append (cols_of old k) (whole_elements bits h.values)
-        ∙ ap (λ n. length (cols_of old k) + n) (length-whole bits h.values)
+    mid-values = ap (λ (c : Cols). length (c k)) h.gains.columns ∙ ap length (add_to-here k (integer_elements bits h.values) (cols_of old))
+        ∙ length-append (cols_of old k) (integer_elements bits h.values)
+        ∙ ap (λ n. length (cols_of old k) + n) (length-integers bits h.values)
 
     pub mid-fits : length (cols_of mid k) < ends_below (set_frame mid)
     mid-fits = omega (arith, mid-values, can.room.ends k within-values, long.0, long.1, ap ends_below h.gains.frame)
 
     both : (before last : ℕ) → before ≡ length (cols_of old k) → last ≡ length (cols_of mid k)
         → add_to e (ends_behind before (last - before)) (cols_of mid)
-        ≡ add_to e (ends_behind (last_end (cols_of old e)) (length h.values)) (add_to k (whole_elements bits h.values) (cols_of old))
+        ≡ add_to e (ends_behind (last_end (cols_of old e)) (length h.values)) (add_to k (integer_elements bits h.values) (cols_of old))
     both before last first final =
         let n : last - before ≡ length h.values = omega (arith, first, final, mid-values) in
         ap₂ (λ (m n : ℕ). add_to e (ends_behind m n) (cols_of mid)) (first ∙ values-are) n
         ∙ ap (add_to e (ends_behind (last_end (cols_of old e)) (length h.values))) h.gains.columns
 
     both-few : (j : ℕ) → length (add_to e (ends_behind (last_end (cols_of old e)) (length h.values))
-        (add_to k (whole_elements bits h.values) (cols_of old)) j) ≤ length (cols_of old j) + (end - at)
-    both-few j = both-long (j == k) (j == e) (cols_of old j) (whole_elements bits h.values)
+        (add_to k (integer_elements bits h.values) (cols_of old)) j) ≤ length (cols_of old j) + (end - at)
+    both-few j = both-long (j == k) (j == e) (cols_of old j) (integer_elements bits h.values)
         (ends_behind (last_end (cols_of old e)) (length h.values)) (end - at) (not-both e k j can.differ.0)
-        (omega (arith, length-whole bits h.values, long.0))
+        (omega (arith, length-integers bits h.values, long.0))
         (omega (arith, length-ends (last_end (cols_of old e)) (length h.values), long.0))
 
     pub mid-room : (before last : ℕ) → before ≡ length (cols_of old k) → last ≡ length (cols_of mid k)

@@ -24,14 +24,14 @@ use Rattle.nt_trees.specs.Views.{cols_of}
 use Rattle.nt_shred.specs.Frame.{set_frame, IsEnds}
 use Rattle.nt_shred.proofs.Sets.{gains, framed}
 use Rattle.nt_shred.specs.Places.{Grew, TakesIntegers}
-use Rattle.nt_shred.specs.Runs.{RunStands, PutsRun, AllInts, whole_elements, AddsIntegers, AddsRun, PutsIntegers, ends_behind}
+use Rattle.nt_shred.specs.Runs.{RunStands, PutsRun, AllInts, integer_elements, AddsIntegers, AddsRun, PutsIntegers, ends_behind}
 use Rattle.nt_shred.specs.Walk.{ElementStands, Leaves}
 use Rattle.nt_shred.proofs.LineGrowth.{grew-not, few-more}
 use Rattle.nt_shred.proofs.OneColumn.{set-same, takes-more}
 use Rattle.nt_shred.proofs.Runs.{run-next, run-long}
 
-pub length-whole : (bits : ℕ) (zs : List ℤ) → length {A = Element} (whole_elements bits zs) ≡ length zs
-length-whole bits zs = length-map zs (λ z. plain (twos_complement bits z))
+pub length-integers : (bits : ℕ) (zs : List ℤ) → length {A = Element} (integer_elements bits zs) ≡ length zs
+length-integers bits zs = length-map zs (λ z. plain (twos_complement bits z))
 
 -- ---- one column
 
@@ -68,7 +68,7 @@ pub run-more : (bits : ℕ) (signed : Bool) (n : ℕ) (line : List ℕ) (at i ne
 run-more bits signed n line at i next end first old new s comma e column le =
     let zs = s.adds.values in
     let z = e.value in
-    let es = whole_elements bits zs in
+    let es = integer_elements bits zs in
     let x = plain (twos_complement bits z) in
     record {
       adds = record {
@@ -104,8 +104,8 @@ run-in k bits signed line at start old new (Some end) is h = record {
   values = h.values;
   stands = h.stands;
   ints = h.ints;
-  gains = gains start k old new (whole_elements bits h.values) is h.column
-      (omega (arith, h.spare, length-whole bits h.values));
+  gains = gains start k old new (integer_elements bits h.values) is h.column
+      (omega (arith, h.spare, length-integers bits h.values));
 }
 
 -- ---- the items of a list of integers
@@ -130,17 +130,17 @@ none-of true c = append-nil c
 none-of false c = append-nil c
 
 put-ints : (k bits : ℕ) (signed : Bool) (zs : List ℤ) (cols : Cols)
-    → put_each (put_tree (number k bits signed)) (trees_of (map (λ z. num z) zs)) cols ≡ add_to k (whole_elements bits zs) cols
+    → put_each (put_tree (number k bits signed)) (trees_of (map (λ z. num z) zs)) cols ≡ add_to k (integer_elements bits zs) cols
 put-ints k bits signed [] cols = λ i j. sym (none-of (j == k) (cols j)) i
 put-ints k bits signed (z ∷ zs) cols =
     let x = plain (twos_complement bits z) in
-    put-ints k bits signed zs (add_to k (x ∷ []) cols) ∙ (λ i j. one-more-of (j == k) (cols j) x (whole_elements bits zs) i)
+    put-ints k bits signed zs (add_to k (x ∷ []) cols) ∙ (λ i j. one-more-of (j == k) (cols j) x (integer_elements bits zs) i)
 
 -- a run of them
 pub ints-run : (k bits : ℕ) (signed : Bool) (line : List ℕ) (at end : ℕ) (old new : List Buffer)
     → PutsIntegers k bits signed line at end old new → PutsRun (number k bits signed) line at end old new
 ints-run k bits signed line at end old new h =
-    let es = whole_elements bits h.values in
+    let es = integer_elements bits h.values in
     let long = run-long (map (λ z. num z) h.values) line at end h.stands in
     record {
       found = map (λ z. num z) h.values;
@@ -153,7 +153,7 @@ ints-run k bits signed line at end old new h =
         room = h.gains.room;
       };
       few = few-more k es 0 (end - at) old old new h.gains (λ j. omega arith)
-          (omega (arith, long.0, length-map h.values (λ z. num z), length-whole bits h.values));
+          (omega (arith, long.0, length-map h.values (λ z. num z), length-integers bits h.values));
     }
 
 -- ---- the ends of optionals

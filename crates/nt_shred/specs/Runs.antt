@@ -36,15 +36,15 @@ AllInts bits signed [] = ⊤
 AllInts bits signed (z ∷ zs) = (is_int bits signed z ≡ true) × InWord z × AllInts bits signed zs
 
 -- the elements of integers
-abbrev pub whole_elements : ℕ → List ℤ → List Element
-whole_elements bits zs = map (λ z. plain (twos_complement bits z)) zs
+abbrev pub integer_elements : ℕ → List ℤ → List Element
+integer_elements bits zs = map (λ z. plain (twos_complement bits z)) zs
 
 -- integers stand there, and their elements are added to this column
 pub record AddsIntegers (bits : ℕ) (signed : Bool) (text : List ℕ) (at end : ℕ) (old new : Buffer) : Type 0 where
   pub values : List ℤ
   pub stands : RunStands (map (λ z. num z) values) text at end
   pub ints : AllInts bits signed values
-  pub column : new.column ≡ with_more old.column (whole_elements bits values)
+  pub column : new.column ≡ with_more old.column (integer_elements bits values)
   pub spare : old.spare ≤ new.spare + length values
 
 -- what is so up to a place that was found; where none was, the column stays
@@ -57,7 +57,7 @@ pub record PutsIntegers (k bits : ℕ) (signed : Bool) (text : List ℕ) (at end
   pub values : List ℤ
   pub stands : RunStands (map (λ z. num z) values) text at end
   pub ints : AllInts bits signed values
-  pub gains : GainsInRoom (add_to k (whole_elements bits values)) old new
+  pub gains : GainsInRoom (add_to k (integer_elements bits values)) old new
 
 -- so many ends behind this one, each of one more
 abbrev pub ends_behind : ℕ → ℕ → List Element

@@ -4,7 +4,7 @@ ghost use Rattle.std.specs.Prelude.{◌-◌, ◌≤◌, length};
 ghost use Rattle.nt_plans.specs.Plan.{bool, number, text};
 ghost use Rattle.nt_shred.specs.Walk.{CanPut, Puts, Leaves};
 
-use crate::integers::element_at;
+use crate::integers::{Integers, element_at};
 use crate::pushing::{push, push_at_width, push_bytes, push_end};
 use nt_column::{ColumnSet, Columns};
 use nt_event::{plain_string, truth};
@@ -22,7 +22,7 @@ pub fn flag(out: &mut ColumnSet, column: u32, line: &[u8], at: usize) -> Option<
 
 /// Adds an integer. Inlined, so that a width and a sign that are known are not looked at.
 #[inline(always)]
-fn whole_at_width(
+fn integer_at_width(
     out: &mut ColumnSet,
     column: u32,
     bits: u8,
@@ -41,53 +41,39 @@ fn whole_at_width(
 }
 
 /// Adds an integer.
-pub fn whole(
-    out: &mut ColumnSet,
-    column: u32,
-    bits: u8,
-    signed: bool,
-    line: &[u8],
-    at: usize,
-) -> Option<usize>
+pub fn integer(out: &mut ColumnSet, of: Integers, line: &[u8], at: usize) -> Option<usize>
     requires within { at ≤ length line.now }
-    requires can { CanPut (number column bits signed) (length line.now - at) out.old }
-    ensures { Leaves (λ end. Puts (number column bits signed) line.now at end out.old out.new)
+    requires can { CanPut (number of.column of.bits of.signed) (length line.now - at) out.old }
+    ensures { Leaves (λ end. Puts (number of.column of.bits of.signed) line.now at end out.old out.new)
         out.old out.new result }
 {
-    if signed {
-        return whole_at_width(out, column, bits, true, line, at);
+    if of.signed {
+        return integer_at_width(out, of.column, of.bits, true, line, at);
     }
-    match bits {
-        8 => whole_at_width(out, column, 8, false, line, at),
-        16 => whole_at_width(out, column, 16, false, line, at),
-        32 => whole_at_width(out, column, 32, false, line, at),
-        64 => whole_at_width(out, column, 64, false, line, at),
+    match of.bits {
+        8 => integer_at_width(out, of.column, 8, false, line, at),
+        16 => integer_at_width(out, of.column, 16, false, line, at),
+        32 => integer_at_width(out, of.column, 32, false, line, at),
+        64 => integer_at_width(out, of.column, 64, false, line, at),
         _ => unreachable!(),
     }
 }
 
 /// The same. The widths that most integers have are read without a call.
 #[inline(always)]
-pub fn whole_in_place(
-    out: &mut ColumnSet,
-    column: u32,
-    bits: u8,
-    signed: bool,
-    line: &[u8],
-    at: usize,
-) -> Option<usize>
+pub fn integer_in_place(out: &mut ColumnSet, of: Integers, line: &[u8], at: usize) -> Option<usize>
     requires within { at ≤ length line.now }
-    requires can { CanPut (number column bits signed) (length line.now - at) out.old }
-    ensures { Leaves (λ end. Puts (number column bits signed) line.now at end out.old out.new)
+    requires can { CanPut (number of.column of.bits of.signed) (length line.now - at) out.old }
+    ensures { Leaves (λ end. Puts (number of.column of.bits of.signed) line.now at end out.old out.new)
         out.old out.new result }
 {
-    if !signed && bits == 32 {
-        return whole_at_width(out, column, 32, false, line, at);
+    if !of.signed && of.bits == 32 {
+        return integer_at_width(out, of.column, 32, false, line, at);
     }
-    if !signed && bits == 64 {
-        return whole_at_width(out, column, 64, false, line, at);
+    if !of.signed && of.bits == 64 {
+        return integer_at_width(out, of.column, 64, false, line, at);
     }
-    whole(out, column, bits, signed, line, at)
+    integer(out, of, line, at)
 }
 
 /// Adds a text, and its end.

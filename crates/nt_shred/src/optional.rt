@@ -16,7 +16,7 @@ ghost use Rattle.nt_shred.specs.Walk.{CanPut, Puts, PutsAll, Leaves};
 
 use crate::integer_runs::put_run;
 use crate::integers::Integers;
-use crate::leaves::whole_in_place;
+use crate::leaves::integer_in_place;
 use crate::pushing::push_end;
 use core::mem::replace_with;
 use nt_column::{ColumnBuf, ColumnSet, Columns};
@@ -24,7 +24,7 @@ use nt_event::{after, comma, null};
 
 /// Adds an optional integer: its element, if there is one, and the end.
 #[inline(always)]
-pub fn optional_whole(
+pub fn optional_integer(
     out: &mut ColumnSet,
     ends: u32,
     of: Integers,
@@ -41,7 +41,7 @@ pub fn optional_whole(
         push_end(out, ends, before);
         return Some(end);
     }
-    let end = whole_in_place(out, of.column, of.bits, of.signed, line, at)?;
+    let end = integer_in_place(out, of, line, at)?;
     push_end(out, ends, before + 1);
     Some(end)
 }
@@ -138,7 +138,7 @@ fn part(out: &mut ColumnSet, ends: u32, of: Integers, line: &[u8], at: usize) ->
 }
 
 /// Adds optional integers, the items of a list, up to its bracket.
-pub fn optional_wholes(
+pub fn optional_integers(
     out: &mut ColumnSet,
     ends: u32,
     of: Integers,

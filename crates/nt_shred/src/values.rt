@@ -7,10 +7,10 @@ ghost use Rattle.nt_trees.specs.Views.{plans_in};
 ghost use Rattle.nt_shred.specs.Walk.{CanPut, CanPutEach, Puts, PutsAll, PutsSome, PutsEach, Leaves, takes_null};
 
 use crate::counting::count;
-use crate::integers::integers_of;
-use crate::leaves::{flag, string, whole, whole_in_place};
+use crate::integers::{Integers, integers_of};
+use crate::leaves::{flag, integer, integer_in_place, string};
 use crate::lists::{integer_items, integer_list};
-use crate::optional::{optional_whole, optional_wholes};
+use crate::optional::{optional_integer, optional_integers};
 use crate::pushing::{push_end, push_tag};
 use nt_column::ColumnSet;
 use nt_event::{after, comma, comma_if, null, number};
@@ -30,7 +30,14 @@ fn value(out: &mut ColumnSet, plan: &Plan, line: &[u8], at: usize) -> Option<usi
             column,
             bits,
             signed,
-        } => whole(out, *column, *bits, *signed, line, at),
+        } => {
+            let of = Integers {
+                column: *column,
+                bits: *bits,
+                signed: *signed,
+            };
+            integer(out, of, line, at)
+        }
         Plan::Text { ends, bytes } => string(out, *ends, *bytes, line, at),
         Plan::List { ends, of } => {
             let first = after(line, at, b'[')?;
@@ -41,7 +48,7 @@ fn value(out: &mut ColumnSet, plan: &Plan, line: &[u8], at: usize) -> Option<usi
         }
         Plan::Maybe { ends, of } => {
             if let Some(integers) = integers_of(of) {
-                return optional_whole(out, *ends, integers, line, at);
+                return optional_integer(out, *ends, integers, line, at);
             }
             let end = optional(out, of, line, at)?;
             let total = count(out, of);
@@ -93,7 +100,7 @@ fn items(out: &mut ColumnSet, of: &Plan, line: &[u8], at: usize) -> Option<usize
     }
     if let Plan::Maybe { ends, of: inside } = of {
         if let Some(integers) = integers_of(inside) {
-            return optional_wholes(out, *ends, integers, line, at);
+            return optional_integers(out, *ends, integers, line, at);
         }
     }
     if let Some(end) = after(line, at, b']') {
@@ -121,7 +128,14 @@ fn common(out: &mut ColumnSet, plan: &Plan, line: &[u8], at: usize) -> Option<us
             column,
             bits,
             signed,
-        } => whole_in_place(out, *column, *bits, *signed, line, at),
+        } => {
+            let of = Integers {
+                column: *column,
+                bits: *bits,
+                signed: *signed,
+            };
+            integer_in_place(out, of, line, at)
+        }
         Plan::Bool { column } => flag(out, *column, line, at),
         Plan::Text { ends, bytes } => string(out, *ends, *bytes, line, at),
         Plan::List { ends, of } => match integers_of(of) {
@@ -129,7 +143,7 @@ fn common(out: &mut ColumnSet, plan: &Plan, line: &[u8], at: usize) -> Option<us
             None => value(out, plan, line, at),
         },
         Plan::Maybe { ends, of } => match integers_of(of) {
-            Some(integers) => optional_whole(out, *ends, integers, line, at),
+            Some(integers) => optional_integer(out, *ends, integers, line, at),
             None => value(out, plan, line, at),
         },
         _ => value(out, plan, line, at),

@@ -1,5 +1,5 @@
 use Rattle.nt_shred.proofs.Singles.{number-put}
-use Rattle.nt_shred.proofs.leaves.whole_at_width.Goals as goal
+use Rattle.nt_shred.proofs.leaves.integer_at_width.Goals as goal
 
 pub returns : goal.returns
 returns c =

@@ -6,7 +6,7 @@ use Rattle.nt_shred.proofs.LineGrowth.{grew-then}
 use Rattle.nt_shred.proofs.Walks.{all-none, all-done, so_far-grew}
 use Rattle.nt_shred.proofs.Runs.{all-run, run-long}
 use Rattle.nt_shred.proofs.Equal.{leaves-none, leaves-found}
-use Rattle.nt_shred.proofs.optional.optional_wholes.Goals as goal
+use Rattle.nt_shred.proofs.optional.optional_integers.Goals as goal
 
 pub returns-in-Some : goal.returns-in-Some
 returns-in-Some c =

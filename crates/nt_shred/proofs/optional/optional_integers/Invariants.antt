@@ -1,7 +1,7 @@
 use Rattle.std.proofs.Common.{true, length, ◌-◌}
 use Rattle.nt_plans.specs.Plan.{maybe, number}
 use Rattle.nt_shred.proofs.Walks.{SoFarAll}
-use Rattle.nt_shred.proofs.optional.optional_wholes.Given as goal
+use Rattle.nt_shred.proofs.optional.optional_integers.Given as goal
 
 abbrev pub invariant-loop-next : goal.invariant-loop-next
 invariant-loop-next l = SoFarAll (maybe l.ends (number l.of.column l.of.bits l.of.signed)) true l.line l.at l.i l.fn.out l.out
