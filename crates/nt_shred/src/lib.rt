@@ -39,6 +39,7 @@
 //!   used up, or something else was done to the columns, each of them is looked at.
 //! - What was added of a refused line is cut off again, at the lengths that were noted before it.
 //! - A line of ASCII alone, as most are, is seen to be UTF-8 sixteen bytes at a time (`ascii.rt`), others by simdutf8.
+//! - Fewer than eight bytes are added one by one (`FEW` in `pushing.rt`), which is quicker than a copy of them; more at once.
 //! - Integers one after the other, which most values are, are read as a run, by a loop of its own for each width and sign, in which
 //!   the plan and the column are looked up once. A run ends at what is no integer.
 //! - A list of integers is one run. A list of optional integers is a row of runs: of integers up to the next `null`, and then their

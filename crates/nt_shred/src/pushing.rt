@@ -65,20 +65,6 @@ fn push_many(buffer: &mut ColumnBuf, bytes: &[u8])
     buffer.push_bytes(bytes);
 }
 
-/// Adds bytes to a column one by one.
-#[inline(always)]
-fn push_few(buffer: &mut ColumnBuf, bytes: &[u8])
-    requires kind { (bits_of buffer.old.column.kind ≡ 8) × (buffer.old.column.kind ≢ Switch) }
-    requires stored { buffer.old.column.zeros ≡ 0 }
-    requires spare { length bytes.now ≤ buffer.old.spare }
-    ensures column { buffer.new.column ≡ with_more buffer.old.column (map plain bytes.now) }
-    ensures spare { buffer.old.spare ≤ buffer.new.spare + length bytes.now }
-{
-    for byte in bytes {
-        buffer.push_at_width(8, u64::from(*byte));
-    }
-}
-
 /// Adds bytes to a column, a few of them one by one, which is quicker than a copy.
 #[inline(always)]
 fn push_all(buffer: &mut ColumnBuf, bytes: &[u8])
@@ -88,10 +74,12 @@ fn push_all(buffer: &mut ColumnBuf, bytes: &[u8])
     ensures column { buffer.new.column ≡ with_more buffer.old.column (map plain bytes.now) }
     ensures spare { buffer.old.spare ≤ buffer.new.spare + length bytes.now }
 {
-    if bytes.len() < FEW {
-        push_few(buffer, bytes);
-    } else {
+    if bytes.len() >= FEW {
         push_many(buffer, bytes);
+        return;
+    }
+    for byte in bytes {
+        buffer.push_at_width(8, u64::from(*byte));
     }
 }
 
