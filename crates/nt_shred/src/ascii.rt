@@ -81,7 +81,8 @@ fn is_ascii(text: &[u8]) -> bool
 
 /// Whether these bytes are UTF-8.
 pub fn is_utf8(text: &[u8]) -> bool
-    ensures { IsTrue result → IsUtf8 text.now }
+    ensures yes { IsTrue result → IsUtf8 text.now }
+    ensures no { ¬ (IsTrue result) → ¬ (IsUtf8 text.now) }
 {
     is_ascii(text) || simdutf8::compat::from_utf8(text).is_ok()
 }
