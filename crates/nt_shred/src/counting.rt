@@ -17,10 +17,10 @@ pub fn count(out: &ColumnSet, plan: &Plan) -> u64
     ensures bound { result < ends_below (set_frame out.now) }
 {
     match plan {
-        Plan::Bool { column } => out.len(*column),
-        Plan::Number { column, .. } => out.len(*column),
-        Plan::Text { ends, .. } => out.len(*ends),
-        Plan::List { ends, .. } | Plan::Maybe { ends, .. } => out.len(*ends),
+        Plan::Bool { column } | Plan::Number { column, .. } => out.len(*column),
+        Plan::Text { ends, .. } | Plan::List { ends, .. } | Plan::Maybe { ends, .. } => {
+            out.len(*ends)
+        }
         Plan::Record(parts) => count(out, &parts.list[0]),
         Plan::Choice { tags, .. } => out.len(*tags),
     }
