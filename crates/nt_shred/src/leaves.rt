@@ -41,7 +41,7 @@ fn integer_at_width(
 }
 
 /// Adds an integer.
-pub fn integer(out: &mut ColumnSet, of: Integers, line: &[u8], at: usize) -> Option<usize>
+fn integer(out: &mut ColumnSet, of: Integers, line: &[u8], at: usize) -> Option<usize>
     requires within { at ≤ length line.now }
     requires can { CanPut (number of.column of.bits of.signed) (length line.now - at) out.old }
     ensures { Leaves (λ end. Puts (number of.column of.bits of.signed) line.now at end out.old out.new)

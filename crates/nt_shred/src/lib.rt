@@ -23,8 +23,8 @@
 //! Only tested: nothing. Not proved: how much memory is taken; which lines are taken, and how long it takes.
 //!
 //! Choices that bind nobody else:
-//! - Integers, truth values, texts, lists of integers and optional integers among the values of an entry or a record are read right
-//!   there, without a call by their plan.
+//! - There is one walk over values, `value_in_place`. Where an entry or a record goes over its fields it is inlined, so that integers,
+//!   truth values, texts, lists of integers and optional integers are read right there, without a call by their plan.
 //! - What lies inside is added first. So an end is the number of its elements then, and the index
 //!   of a choice that before, and nothing is counted beside the columns.
 //! - Each column gets room for as many elements as the entry adds to any one of them at most: texts
@@ -34,7 +34,8 @@
 //! - What ends of 32 bits can't count is want of memory.
 //! - The walks go as deep as the plans, which are of open fields and so of 64 levels at most.
 //! - Refused are strings with escapes, lines above 4096 bytes, and those for which there is no memory.
-//! - What an optional may contain is `null` itself in no schema. By a plan in which it is, `null` alone is taken.
+//! - In no schema is what an optional contains `null` itself. By a plan in which it could be, as that of an optional in an optional,
+//!   only `null` is taken, as no value.
 //! - How much room all columns have is counted down from line to line, by the bytes of each, so that a line asks one test. Where it is
 //!   used up, or something else was done to the columns, each of them is looked at.
 //! - What was added of a refused line is cut off again, at the lengths that were noted before it.

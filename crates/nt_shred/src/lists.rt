@@ -11,7 +11,7 @@ use nt_column::{ColumnSet, Columns};
 use nt_event::after;
 
 /// Adds integers, the items of a list, up to its bracket.
-pub fn integer_items(out: &mut ColumnSet, of: Integers, line: &[u8], at: usize) -> Option<usize>
+fn integer_items(out: &mut ColumnSet, of: Integers, line: &[u8], at: usize) -> Option<usize>
     requires within { at ≤ length line.now }
     requires can { CanPut (number of.column of.bits of.signed) (length line.now - at) out.old }
     ensures { Leaves (λ end. PutsAll (number of.column of.bits of.signed) line.now at end out.old out.new)

@@ -3,13 +3,11 @@ use Rattle.std.proofs.Common.{length, drop, sym, ap, subst, arith, refl}
 use Rattle.std.proofs.lemmas.List.{drop_more, drop_all}
 use Rattle.nt_types.specs.TreeData.{trees_of}
 use Rattle.nt_event.specs.Standing.{StandsFrom}
-use Rattle.nt_plans.specs.Plan.{list, maybe, record_of, choice}
+use Rattle.nt_plans.specs.Plan.{record_of, choice}
 use Rattle.nt_plans.specs.PlanViews.{plan_view}
 use Rattle.nt_plans.specs.declared.plan.Plan.{the_lemmas as plan_lemmas}
-use Rattle.nt_plans.proofs.PlanViews.{view-List, view-Maybe}
 use Rattle.nt_trees.specs.Columns.{last_end}
 use Rattle.nt_trees.specs.Put.{how_many_trees}
-use Rattle.nt_trees.specs.Sound.{Sound}
 use Rattle.nt_trees.specs.Views.{cols_of, plans_in}
 use Rattle.nt_shred.proofs.Arms.{list-sound}
 use Rattle.nt_shred.proofs.Alternatives.{nth-takes, nth-sound}
@@ -20,7 +18,7 @@ use Rattle.nt_shred.proofs.LineGrowth.{grew-then, room-later, room-to-add}
 use Rattle.nt_shred.proofs.Walks.{SoFarEach, puts-grew, all-none, all-more, all-done, so_far-grew, each-more, each-done}
 use Rattle.nt_shred.proofs.LineArms.{nth-of, list-ready, list-put, nothing-put, pick-inside, pick-put}
 use Rattle.nt_shred.proofs.OptionalSteps.{maybe-inside, none-put, some-leaves, maybe-ready, maybe-put}
-use Rattle.nt_shred.proofs.Equal.{can-is, puts-is, view-parts, leaves-none, leaves-found, lt-next, record-leaves}
+use Rattle.nt_shred.proofs.Equal.{leaves-none, leaves-found, lt-next, record-leaves}
 use Rattle.nt_shred.proofs.values.+value.Goals as goal
 
 -- ---- values of plans
@@ -28,7 +26,7 @@ use Rattle.nt_shred.proofs.values.+value.Goals as goal
 pub each-returns-in_err-i : goal.each-returns-in_err-i
 each-returns-in_err-i t c =
     let v = c.loop-k.invariant in
-    let new = c.common.new.out in
+    let new = c.value_in_place.new.out in
     leaves-none (λ end. PutsEach (plans_in c.args.plans.now) c.args.line.now c.args.at end c.args.out.now new) c.args.out.now new
     c.from_residual-in_err-i.result c.from_residual-in_err-i.ensures
     (grew-then c.args.out.now c.loop-k.out new (record { columns = v.extends; frame = v.frame }) c.in_err-i.ensures)
@@ -46,9 +44,9 @@ each-loop-k-preserved t c =
     drop_more plans k first c.loop-k-test.true ∙ ap (λ p. p ∷ rest) (sym c.index-plans-k.is) in
     let so_far = subst (λ qs. SoFarEach (plans_in plans) (plans_in qs) (nat_lt 0 k) line at c.loop-k.i start c.loop-k.out) next
     c.loop-k.invariant in
-    subst (λ b. SoFarEach (plans_in plans) (plans_in rest) b line at c.in_ok-i.i start c.common.new.out) (sym (lt-next k))
+    subst (λ b. SoFarEach (plans_in plans) (plans_in rest) b line at c.in_ok-i.i start c.value_in_place.new.out) (sym (lt-next k))
     (each-more (plans_in plans) (plan_view first) (plans_in rest) (nat_lt 0 k) line at c.loop-k.i c.in_ok-next.next c.in_ok-i.i start
-    c.loop-k.out c.common.new.out so_far c.in_ok-next.ensures c.in_ok-i.ensures)
+    c.loop-k.out c.value_in_place.new.out so_far c.in_ok-next.ensures c.in_ok-i.ensures)
 
 pub each-returns : goal.each-returns
 each-returns t c =
@@ -187,112 +185,88 @@ picked-returns t c =
 
 -- ---- optionals
 
-pub optional-returns-in-Some : goal.optional-returns-in-Some
-optional-returns-in-Some t c =
+pub value_or_null-returns-in-Some : goal.value_or_null-returns-in-Some
+value_or_null-returns-in-Some t c =
     none-put (plan_view c.args.of.now) c.args.line.now c.args.at c.in-Some.end c.args.out.now c.in-Some.ensures
 
-pub optional-returns : goal.optional-returns
-optional-returns t c =
+pub value_or_null-returns : goal.value_or_null-returns
+value_or_null-returns t c =
     some-leaves (plan_view c.args.of.now) c.args.line.now c.args.at c.args.out.now c.value.new.out c.value.result
     (sym c.takes_null.ensures ∙ c.if-takes_null.false) c.value.ensures
 
-pub value-optional-requires : goal.value-optional-requires
-value-optional-requires t c =
-    let ends = c.in-Maybe.ends in
-    let p = plan_view c.deref-in-Maybe-2.result.now in
-    let plan_is = ap plan_view c.in-Maybe.is
-    ∙ (view-Maybe ends c.in-Maybe.of ∙ ap (λ q. maybe ends (plan_view q)) (sym c.deref-in-Maybe-2.ensures)) in
-    let left = length c.args.line.now - c.args.at in (
-      search (rules, plan_lemmas, c.decreases, c.deref-in-Maybe-2.ensures, c.in-Maybe.is),
-      (
-        c.requires.within,
-        maybe-inside ends p left c.args.out.now
-            (can-is (plan_view c.args.plan.now) (maybe ends p) left c.args.out.now plan_is c.requires.can),
-      ),
-    )
+pub optional-value_or_null-requires : goal.optional-value_or_null-requires
+optional-value_or_null-requires t c = (
+  omega (arith, c.decreases),
+  (
+    c.requires.within,
+    maybe-inside c.args.ends (plan_view c.args.of.now) (length c.args.line.now - c.args.at) c.args.out.now c.requires.can,
+  ),
+)
 
-pub value-count-total-requires-clause-room : goal.value-count-total-requires-clause-room
-value-count-total-requires-clause-room t c =
-    let ends = c.in-Maybe.ends in
-    let p = plan_view c.deref-in-Maybe-2.result.now in
+pub optional-count-total-requires-clause-room : goal.optional-count-total-requires-clause-room
+optional-count-total-requires-clause-room t c =
+    let ends = c.args.ends in
+    let p = plan_view c.args.of.now in
     let line = c.args.line.now in
     let at = c.args.at in
-    let end = c.in_ok-end-in-Maybe.end in
+    let end = c.in_ok-end.end in
     let old = c.args.out.now in
-    let now = c.optional.new.out in
-    let plan_is = ap plan_view c.in-Maybe.is
-    ∙ (view-Maybe ends c.in-Maybe.of ∙ ap (λ q. maybe ends (plan_view q)) (sym c.deref-in-Maybe-2.ensures)) in
-    let can = can-is (plan_view c.args.plan.now) (maybe ends p) (length line - at) old plan_is c.requires.can in
-    let h : PutsSome p line at end old now = c.in_ok-end-in-Maybe.ensures in
-    maybe-now ends p h.found old now (maybe-ready ends p line at end old now can h) h.gains
+    let now = c.value_or_null.new.out in
+    let h : PutsSome p line at end old now = c.in_ok-end.ensures in
+    maybe-now ends p h.found old now (maybe-ready ends p line at end old now c.requires.can h) h.gains
 
-pub value-push_end-requires-in-Maybe-clause-room : goal.value-push_end-requires-in-Maybe-clause-room
-value-push_end-requires-in-Maybe-clause-room t c =
-    let ends = c.in-Maybe.ends in
-    let p = plan_view c.deref-in-Maybe-2.result.now in
+pub optional-push_end-requires-clause-room : goal.optional-push_end-requires-clause-room
+optional-push_end-requires-clause-room t c =
+    let ends = c.args.ends in
+    let p = plan_view c.args.of.now in
     let line = c.args.line.now in
     let at = c.args.at in
-    let end = c.in_ok-end-in-Maybe.end in
+    let end = c.in_ok-end.end in
     let old = c.args.out.now in
-    let now = c.optional.new.out in
-    let plan_is = ap plan_view c.in-Maybe.is
-    ∙ (view-Maybe ends c.in-Maybe.of ∙ ap (λ q. maybe ends (plan_view q)) (sym c.deref-in-Maybe-2.ensures)) in
-    let can = can-is (plan_view c.args.plan.now) (maybe ends p) (length line - at) old plan_is c.requires.can in
-    let h : PutsSome p line at end old now = c.in_ok-end-in-Maybe.ensures in
-    let ready = maybe-ready ends p line at end old now can h in
+    let now = c.value_or_null.new.out in
+    let h : PutsSome p line at end old now = c.in_ok-end.ensures in
+    let ready = maybe-ready ends p line at end old now c.requires.can h in
     let size = last_end (cols_of old ends) + how_many_in h.found in
-    let there = subst (λ q. Sound (plan_view q) (cols_of now) size) (c.deref-in-Maybe-2.ensures ∙ sym c.deref-in-Maybe-3.ensures)
-    (maybe-sound ends p h.found old now ready h.gains) in
-    maybe-end ends p h.found old now ready h.gains c.count-total.result (c.count-total.ensures.size size there)
+    maybe-end ends p h.found old now ready h.gains c.count-total.result
+    (c.count-total.ensures.size size (maybe-sound ends p h.found old now ready h.gains))
 
-pub value-returns-in_ok-end-in-Maybe : goal.value-returns-in_ok-end-in-Maybe
-value-returns-in_ok-end-in-Maybe t c =
-    let ends = c.in-Maybe.ends in
-    let p = plan_view c.deref-in-Maybe-2.result.now in
+pub optional-returns : goal.optional-returns
+optional-returns t c =
+    let ends = c.args.ends in
+    let p = plan_view c.args.of.now in
     let line = c.args.line.now in
     let at = c.args.at in
-    let end = c.in_ok-end-in-Maybe.end in
+    let end = c.in_ok-end.end in
     let old = c.args.out.now in
-    let now = c.optional.new.out in
-    let plan_is = ap plan_view c.in-Maybe.is
-    ∙ (view-Maybe ends c.in-Maybe.of ∙ ap (λ q. maybe ends (plan_view q)) (sym c.deref-in-Maybe-2.ensures)) in
-    let can = can-is (plan_view c.args.plan.now) (maybe ends p) (length line - at) old plan_is c.requires.can in
-    let h : PutsSome p line at end old now = c.in_ok-end-in-Maybe.ensures in
-    let ready = maybe-ready ends p line at end old now can h in
+    let now = c.value_or_null.new.out in
+    let h : PutsSome p line at end old now = c.in_ok-end.ensures in
+    let ready = maybe-ready ends p line at end old now c.requires.can h in
     let size = last_end (cols_of old ends) + how_many_in h.found in
-    let there = subst (λ q. Sound (plan_view q) (cols_of now) size) (c.deref-in-Maybe-2.ensures ∙ sym c.deref-in-Maybe-3.ensures)
-    (maybe-sound ends p h.found old now ready h.gains) in
-    puts-is (plan_view c.args.plan.now) (maybe ends p) line at end old c.push_end-in-Maybe.new.out plan_is
-    (maybe-put ends p line at end old now can h c.push_end-in-Maybe.new.out c.count-total.result c.push_end-in-Maybe.ensures
-    (c.count-total.ensures.size size there))
+    maybe-put ends p line at end old now c.requires.can h c.push_end.new.out c.count-total.result c.push_end.ensures
+    (c.count-total.ensures.size size (maybe-sound ends p h.found old now ready h.gains))
 
 -- ---- lists and records
 
-pub value-returns-in_ok-end-in-List : goal.value-returns-in_ok-end-in-List
-value-returns-in_ok-end-in-List t c =
-    let ends = c.in-List.ends in
-    let p = plan_view c.deref.result.now in
+pub list-returns : goal.list-returns
+list-returns t c =
+    let ends = c.args.ends in
+    let p = plan_view c.args.of.now in
     let line = c.args.line.now in
     let at = c.args.at in
-    let first = c.in_ok-first-in-List.first in
-    let end = c.in_ok-end-in-List.end in
+    let first = c.in_ok-first.first in
+    let end = c.in_ok-end.end in
     let old = c.args.out.now in
     let now = c.items.new.out in
-    let plan_is = ap plan_view c.in-List.is ∙ (view-List ends c.in-List.of ∙ ap (λ q. list ends (plan_view q)) (sym c.deref.ensures)) in
-    let begin : StandsFrom (91 ∷ []) line at first = c.in_ok-first-in-List.ensures in
-    let can = can-is (plan_view c.args.plan.now) (list ends p) (length line - at) old plan_is c.requires.can in
-    let h : PutsAll p line first end old now = c.in_ok-end-in-List.ensures in
+    let begin : StandsFrom (91 ∷ []) line at first = c.in_ok-first.ensures in
+    let can = c.requires.can in
+    let h : PutsAll p line first end old now = c.in_ok-end.ensures in
     let size = last_end (cols_of old ends) + how_many_trees (trees_of h.found) in
     let sound = list-sound ends p (trees_of h.found) old now (list-ready ends p line at first end old now begin can h) h.gains in
-    let there = subst (λ q. Sound (plan_view q) (cols_of now) size) (c.deref.ensures ∙ sym c.deref-in-List.ensures) sound in
-    puts-is (plan_view c.args.plan.now) (list ends p) line at end old c.push_end.new.out plan_is
-    (list-put ends p line at first end old now begin can h c.push_end.new.out c.count-last.result c.push_end.ensures
-    (c.count-last.ensures.size size there))
+    list-put ends p line at first end old now begin can h c.push_end.new.out c.count-last.result c.push_end.ensures
+    (c.count-last.ensures.size size sound)
 
-pub value-returns-in_ok-first-in-Record : goal.value-returns-in_ok-first-in-Record
-value-returns-in_ok-first-in-Record t c =
-    let inside = c.deref-in-Record.result.now in
-    let same : c.in-Record.parts.list.items ≡ inside = search (rules, c.deref-in-Record.ensures.value) in
-    let plan_is = ap plan_view c.in-Record.is ∙ (view-parts c.in-Record.parts ∙ ap (λ l. record_of (plans_in l)) same) in
-    record-leaves (plan_view c.args.plan.now) (plans_in inside) c.args.line.now c.args.at c.in_ok-first-in-Record.first c.args.out.now
-    c.each.new.out c.each.result plan_is c.in_ok-first-in-Record.ensures c.each.ensures
+pub record-returns : goal.record-returns
+record-returns t c =
+    let ps = plans_in c.args.plans.now in
+    record-leaves (record_of ps) ps c.args.line.now c.args.at c.in_ok-first.first c.args.out.now c.each.new.out c.each.result refl
+    c.in_ok-first.ensures c.each.ensures
