@@ -5,6 +5,8 @@ use Rattle.std.specs.Prelude.{IsErrOf}
 use Rattle.std.proofs.lemmas.List.{append-nil}
 use Rattle.nt_outside.specs.World.{World, Asked, Out, File, HostState}
 use Rattle.nt_book.specs.declared.params.Params.{Params}
+use Rattle.nt_close.specs.Laws.{EndsOverFirst}
+use Rattle.nt_outside.specs.Order.{EndsInSync}
 use Rattle.nt_draws.specs.declared.making.Making.{Making}
 use Rattle.nt_store.specs.Worlds.{AsksFor}
 use Rattle.nt_store.proofs.Refused.{none_made, nothing_made}
@@ -12,9 +14,9 @@ use Rattle.nt_generate.specs.declared.error.GenerateError.{GenerateError}
 use Rattle.nt_generate.specs.declared.error.GenerateError.TheVariants as generate
 use Rattle.nt_dealing.specs.Texts.{joined_chunks}
 use Rattle.nt_dealing.proofs.Whole.{passes_none}
-use Rattle.nt_generate.specs.Made.{made_chunks, made_lines}
+use Rattle.nt_generate.specs.Made.{made_chunks}
 use Rattle.nt_generate.specs.Leaving.{IsMadeByFailure, LeavesMade}
-use Rattle.nt_generate.specs.Generated.{GainsMadeFront, EndsOverFirstOrKept, GenerateTold}
+use Rattle.nt_generate.specs.Generated.{IsToldInPart, GenerateTold}
 use Rattle.nt_app.specs.declared.status.Status.{Status}
 use Rattle.nt_app.specs.declared.status.Status.TheVariants as status
 use Rattle.nt_app.specs.Statuses.{message_of}
@@ -37,9 +39,6 @@ default_params = record {
   group_range = (omega arith, omega arith);
 }
 
-nothing_gained : (p : Params) (m : Making) (w : World) → GainsMadeFront p m w w
-nothing_gained p m w = record { printed = []; left = made_lines p m; out = sym (append-nil w.out); lines = refl }
-
 -- want of memory for the words leaves all as it was
 pub memory_makes : (out : List ℕ) (m : Making) (state : HostState) → GenNamed out m state state status.Memory
 memory_makes out m state = record {
@@ -49,7 +48,7 @@ memory_makes out m state = record {
   answer_is = refl;
   generates = record {
     commits = [];
-    told = λ w at. (w, at, refl, λ other differs. refl, (inl (refl, refl), nothing_gained default_params m w));
+    told = λ w at. (w, at, refl, λ other differs. refl, inl (inl (refl, refl), refl));
     order = nothing_made out state.world state.world refl;
     crash = λ w w' is is' made. absurd (none_made out state.world state.world refl w w' is is' made);
     asked = (0, sym (append-nil state.asked));
@@ -62,25 +61,31 @@ memory_makes out m state = record {
 }
 
 -- a message on err changes nothing of what a command left
-gained_after : (p : Params) (m : Making) (w v : World) (err : List ℕ) → GainsMadeFront p m w v
-    → GainsMadeFront p m w (record v { err = err })
-gained_after p m w v err told = record { printed = told.printed; left = told.left; out = told.out; lines = told.lines }
+part_after : (p : Params) (m : Making) (commits o : List ℕ) (w v : World) (err : List ℕ) → IsToldInPart p m commits o w v
+    → IsToldInPart p m commits o w (record v { err = err })
+part_after p m commits o w v err told = record {
+  made = told.made;
+  whole = told.whole;
+  synced = steps_after o EndsInSync v err told.synced;
+  gained = record { printed = told.gained.printed; left = told.gained.left; out = told.gained.out; lines = told.gained.lines };
+}
 
 left_after : (p : Params) (m : Making) (commits o : List ℕ) (w v : World) (err : List ℕ)
-    → IsMadeByFailure EndsOverFirstOrKept p m commits o w v
-    → IsMadeByFailure EndsOverFirstOrKept p m commits o w (record v { err = err })
+    → IsMadeByFailure p m commits o w v → IsMadeByFailure p m commits o w (record v { err = err })
 left_after p m commits o w v err (inl kept) = inl kept
 left_after p m commits o w v err (inr (made, inl unfinished)) = inr (made, inl unfinished)
 left_after p m commits o w v err (inr (made, inr (inl never))) =
     inr (made, inr (inl (record { at = never.at; len = never.len; there = never.there; log = never.log })))
 left_after p m commits o w v err (inr (made, inr (inr (whole, left)))) =
-    inr (made, inr (inr (whole, steps_after o EndsOverFirstOrKept v err left)))
+    inr (made, inr (inr (whole, steps_after o EndsOverFirst v err left)))
 
 told_after : (o : List ℕ) (p : Params) (m : Making) (commits : List ℕ) (w v : World) (err : List ℕ) (made : Result Unit GenerateError)
     → GenerateTold o p m commits w v made → GenerateTold o p m commits w (record v { err = err }) made
 told_after o p m commits w v err (Ok done) told = told
-told_after o p m commits w v err (Err generate.Outside) told = (left_after p m commits o w v err told.0, gained_after p m w v err told.1)
-told_after o p m commits w v err (Err generate.Memory) told = (told.0, gained_after p m w v err told.1)
+told_after o p m commits w v err (Err generate.Outside) (inl told) = inl (left_after p m commits o w v err told.0, told.1)
+told_after o p m commits w v err (Err generate.Outside) (inr told) = inr (part_after p m commits o w v err told)
+told_after o p m commits w v err (Err generate.Memory) (inl told) = inl told
+told_after o p m commits w v err (Err generate.Memory) (inr told) = inr (part_after p m commits o w v err told)
 told_after o p m commits w v err (Err (generate.Limit reached limit)) told = told
 told_after o p m commits w v err (Err (generate.Defect fault)) told = told
 

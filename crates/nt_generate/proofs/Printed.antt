@@ -22,7 +22,7 @@ use Rattle.nt_generate.specs.declared.error.GenerateError.{GenerateError}
 use Rattle.nt_generate.specs.declared.error.GenerateError.TheVariants.{Outside, Memory, Limit, Defect}
 use Rattle.nt_generate.specs.Made.{made_lines, IsMade}
 use Rattle.nt_generate.specs.Leaving.{MakeTold, TellTold, PrintsTotalsFront}
-use Rattle.nt_generate.specs.Generated.{GainsMadeFront, GenerateTold}
+use Rattle.nt_generate.specs.Generated.{IsToldInPart, GenerateTold}
 
 pub some_is : (a b : World) → ◌≡◌ {A = Option World} (Some a) (Some b) → a ≡ b
 some_is a b e = cc
@@ -55,11 +55,6 @@ lines_are : (p : Params) (m : Making) (order bytes : List ℕ) (totals : List To
     → totals_in m.contexts order bytes ≡ Ok totals → total_lines totals ≡ made_lines p m
 lines_are p m order bytes totals made reads = ap total_lines (totals_are totals _ (sym reads ∙ made_read p m order bytes made))
 
--- nothing was printed
-gains_none : (p : Params) (m : Making) (w w' : World) → w'.out ≡ w.out → GainsMadeFront p m w w'
-gains_none p m w w' same =
-    record { printed = []; left = made_lines p m; out = same ∙ sym (append-nil w.out); lines = refl }
-
 -- so much was printed then
 pub record HasPrinted (p : Params) (m : Making) (commits name : List ℕ) (w w1 : World) (new : Option World)
     (result : Result Unit GenerateError) : Type 0 where
@@ -71,29 +66,21 @@ module _ (p : Params) (m : Making) (name : List ℕ) (w w1 : World) (out_is : w1
   -- a file that isn't made
   pub unmade : {V : Type 0} (order : V → List ℕ) (commits : List ℕ) (e : GenerateError) → MakeTold order p m commits name w w1 (Err e)
       → GenerateTold name p m commits w w1 (Err e)
-  unmade order commits Outside (inl kept) = (inl kept, gains_none p m w w1 out_is)
-  unmade order commits Outside (inr (made, inl opens)) = (inr (made, inl opens), gains_none p m w w1 out_is)
-  unmade order commits Outside (inr (made, inr (inl never))) = (inr (made, inr (inl never)), gains_none p m w w1 out_is)
-  unmade order commits Outside (inr (made, inr (inr (whole, left)))) = (
-    inr (
-      made,
-      inr (inr (
-        whole,
-        record { at = left.at; log = left.log; there = left.there; steps = left.steps; ends = inl left.ends },
-      )),
-    ),
-    gains_none p m w w1 out_is,
-  )
-  unmade order commits Memory (inl kept) = (inl kept, gains_none p m w w1 out_is)
-  unmade order commits Memory (inr opens) = (inr (opens.0, inl opens.1), gains_none p m w w1 out_is)
+  unmade order commits Outside told = inl (told, out_is)
+  unmade order commits Memory told = inl (told, out_is)
   unmade order commits (Limit reached most) told = (told.0, told.1, out_is)
   unmade order commits (Defect e) told = absurd told
 
   module _ (order : List ℕ) (made : MakesDisk name w w1) (whole : IsThereWith (IsMade p m order) (file w1 name))
       (left : IsLeftAfter EndsInSync name w1) where
-    gains : (printed rest : List ℕ) → made_lines p m ≡ printed ++ rest → GainsMadeFront p m w (prints ToOut printed w1)
-    gains printed rest lines =
-        record { printed = printed; left = rest; out = ap (λ (l : List ℕ). l ++ printed) out_is; lines = lines }
+    -- the front of the lines was printed
+    in_part : (printed rest : List ℕ) → made_lines p m ≡ printed ++ rest → IsToldInPart p m order name w (prints ToOut printed w1)
+    in_part printed rest lines = record {
+      made = made;
+      whole = whole;
+      synced = record { at = left.at; log = left.log; there = left.there; steps = left.steps; ends = left.ends };
+      gained = record { printed = printed; left = rest; out = ap (λ (l : List ℕ). l ++ printed) out_is; lines = lines };
+    }
 
     -- the front of the lines
     front_at : (new : Option World) → PrintsTotalsFront m.contexts order (file w1 name) w1 new
@@ -119,23 +106,10 @@ module _ (p : Params) (m : Making) (name : List ℕ) (w w1 : World) (out_is : w1
         }
     printed_told new (Err Outside) told =
         let front = front_at new told in
-        record {
-          printed = front.0;
-          is = front.2;
-          told = (
-            inr (
-              made,
-              inr (inr (
-                whole,
-                record { at = left.at; log = left.log; there = left.there; steps = left.steps; ends = inr left.ends },
-              )),
-            ),
-            gains front.0 front.1 front.3,
-          );
-        }
+        record { printed = front.0; is = front.2; told = inr (in_part front.0 front.1 front.3) }
     printed_told new (Err Memory) told =
         let front = front_at new told in
-        record { printed = front.0; is = front.2; told = (inr (made, inr whole), gains front.0 front.1 front.3) }
+        record { printed = front.0; is = front.2; told = inr (in_part front.0 front.1 front.3) }
     printed_told new (Err (Limit reached most)) told = absurd told
     printed_told new (Err (Defect e)) told =
         absurd (there_then _ _ (file w1 name) (λ bytes fact. fact) (both_there _ _ (λ bytes. ⊥) (file w1 name)

@@ -1,12 +1,10 @@
 -- What the making of a file leaves of a host.
 use Rattle.std.specs.Prelude.{◌≡◌, ◌⊎◌, ℕ, List, [], ◌∷◌, ◌++◌, Some, Result, Ok, Err}
-use Rattle.nt_outside.specs.Log.{Step}
 use Rattle.nt_outside.specs.Order.{EndsInSync}
 use Rattle.nt_outside.specs.World.{World, Out, File, HostState}
 use Rattle.nt_book.specs.declared.params.Params.{Params}
-use Rattle.nt_close.specs.Laws.{EndsOverFirst}
 use Rattle.nt_draws.specs.declared.making.Making.{Making}
-use Rattle.nt_store.specs.Worlds.{AsksFor, KeepsFiles, OthersStay, MakesDisk, IsLeftOpen, LeavesOpen, WritesInOrder}
+use Rattle.nt_store.specs.Worlds.{AsksFor, OthersStay, MakesDisk, LeavesOpen, IsLeftByMemory, WritesInOrder, IsLeftAfter}
 use Rattle.nt_generate.specs.declared.error.GenerateError.{GenerateError}
 use Rattle.nt_generate.specs.declared.error.GenerateError.TheVariants.{Outside, Memory, Limit, Defect}
 use Rattle.nt_generate.specs.Made.{made_lines, PassesMade}
@@ -19,21 +17,19 @@ pub record GainsMadeFront (p : Params) (m : Making) (w w' : World) : Type 0 wher
   pub out : w'.out ≡ w.out ++ printed
   pub lines : made_lines p m ≡ printed ++ left
 
--- where want of memory leaves the files: as before, or, once a disk was made, with one that is open or whole
-abbrev pub IsMadeByMemory : Params → Making → List ℕ → List ℕ → World → World → Type 0
-IsMadeByMemory p m commits name w w' = KeepsFiles w w' ⊎ (MakesDisk name w w' × (IsLeftOpen name w' ⊎ IsWhole p m commits name w'))
+-- the file is whole and its disk came back behind a sync, so what failed was to read it back or to print its totals: out gained their front
+pub record IsToldInPart (p : Params) (m : Making) (commits name : List ℕ) (w w' : World) : Type 0 where
+  pub made : MakesDisk name w w'
+  pub whole : IsWhole p m commits name w'
+  pub synced : IsLeftAfter EndsInSync name w'
+  pub gained : GainsMadeFront p m w w'
 
--- the last step was over the first byte, or a sync behind that failed; or the file was closed, whose last step is a sync, and what failed
--- was to read it back or to print its totals
-abbrev pub EndsOverFirstOrKept : List Step → Type 0
-EndsOverFirstOrKept log = EndsOverFirst log ⊎ EndsInSync log
-
--- what is left of what was committed in this order, by the answer: that the file read back has a fault never comes
+-- what is left of what was committed in this order, by the answer. Nothing was printed where it came before the disk was back; that the file read back has a fault never comes
 abbrev pub GenerateTold : List ℕ → Params → Making → List ℕ → World → World → Result Unit GenerateError → Type 0
 GenerateTold name p m commits w w' (Ok done) = MakesDisk name w w' × IsWhole p m commits name w' × (w'.out ≡ w.out ++ made_lines p m)
 GenerateTold name p m commits w w' (Err Outside) =
-    IsMadeByFailure EndsOverFirstOrKept p m commits name w w' × GainsMadeFront p m w w'
-GenerateTold name p m commits w w' (Err Memory) = IsMadeByMemory p m commits name w w' × GainsMadeFront p m w w'
+    (IsMadeByFailure p m commits name w w' × (w'.out ≡ w.out)) ⊎ IsToldInPart p m commits name w w'
+GenerateTold name p m commits w w' (Err Memory) = (IsLeftByMemory name w w' × (w'.out ≡ w.out)) ⊎ IsToldInPart p m commits name w w'
 GenerateTold name p m commits w w' (Err (Limit reached most)) = PassesMade p m reached most × LeavesOpen name w w' × (w'.out ≡ w.out)
 GenerateTold name p m commits w w' (Err (Defect e)) = ⊥
 

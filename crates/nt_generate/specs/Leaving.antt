@@ -28,17 +28,19 @@ pub record IsServed {V : Type 0} (old new : HostState) (result : Result V Genera
 abbrev pub IsWhole : Params → Making → List ℕ → List ℕ → World → Type 0
 IsWhole p m commits name w = IsThereWith (IsMade p m commits) (file w name)
 
--- where a failure leaves the files: as before, or, once a disk was made, with one that is open, never begun, or whole by steps that end so
-abbrev pub IsMadeByFailure : (List Step → Type 0) → Params → Making → List ℕ → List ℕ → World → World → Type 0
-IsMadeByFailure Ends p m commits name w w' =
+-- where a failure before the disk is back leaves the files: as before, or, once a disk was made, with one that is open, never begun, or
+-- whole, whose last step was over its first byte, or a sync behind that failed
+abbrev pub IsMadeByFailure : Params → Making → List ℕ → List ℕ → World → World → Type 0
+IsMadeByFailure p m commits name w w' =
     KeepsFiles w w'
-    ⊎ (MakesDisk name w w' × (IsLeftOpen name w' ⊎ IsNeverBegun name w' ⊎ (IsWhole p m commits name w' × IsLeftAfter Ends name w')))
+    ⊎ (MakesDisk name w w'
+    × (IsLeftOpen name w' ⊎ IsNeverBegun name w' ⊎ (IsWhole p m commits name w' × IsLeftAfter EndsOverFirst name w')))
 
 -- what is left once the disk is back, by the answer
 abbrev pub MakeTold : {V : Type 0} → (V → List ℕ) → Params → Making → List ℕ → List ℕ → World → World → Result V GenerateError → Type 0
 MakeTold order p m commits name w w' (Ok made) =
     (order made ≡ commits) × MakesDisk name w w' × IsWhole p m commits name w' × IsLeftAfter EndsInSync name w'
-MakeTold order p m commits name w w' (Err Outside) = IsMadeByFailure EndsOverFirst p m commits name w w'
+MakeTold order p m commits name w w' (Err Outside) = IsMadeByFailure p m commits name w w'
 MakeTold order p m commits name w w' (Err Memory) = IsLeftByMemory name w w'
 MakeTold order p m commits name w w' (Err (Limit reached most)) = PassesMade p m reached most × LeavesOpen name w w'
 MakeTold order p m commits name w w' (Err (Defect e)) = ⊥
