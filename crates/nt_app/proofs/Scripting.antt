@@ -8,10 +8,10 @@ use Rattle.nt_types.specs.ShapeData.{MemberData}
 use Rattle.nt_types.specs.Schema.{schema_text, at_line}
 use Rattle.nt_types.specs.declared.fault.SchemaKind.{SchemaKind}
 use Rattle.nt_outside.specs.Order.{EndsInSync}
-use Rattle.nt_outside.specs.World.{World, Asked, HostState, file}
+use Rattle.nt_outside.specs.World.{World, Asked, Text, HostState, file}
 use Rattle.nt_book.specs.declared.params.Params.{Params}
 use Rattle.nt_close.specs.Laws.{EndsOverFirst}
-use Rattle.nt_store.specs.Worlds.{IsThereWith, AsksFor}
+use Rattle.nt_store.specs.Worlds.{IsThereWith, AsksFirst, AsksFor}
 use Rattle.nt_store.specs.Stored.{asked_for}
 use Rattle.nt_store.proofs.Refused.{none_made, nothing_made}
 use Rattle.nt_script.specs.declared.error.LineFault.{LineFault}
@@ -44,6 +44,7 @@ memory_scripts o s i p state = record {
     order = nothing_made o state.world state.world refl;
     crash = λ w w' is is' made. absurd (none_made o state.world state.world refl w w' is is' made);
     asked = (0, sym (append-nil state.asked));
+    schema_first = λ w at bad. (0, sym (append-nil state.asked));
     cause = record { later = omega arith; failed = λ outside. absurd (cc) };
     back = record { err_faults = refl; opened = omega arith };
   };
@@ -196,6 +197,8 @@ run_seq o s i p old mid new answer writes reports =
       crash = made_reported o (message_of answer) _ old mid new left reports (λ w v. LeavesScript (IsWholeScript s i p w) o v writes.stored)
           (crash_after o s i p writes.stored) stores.crash;
       asked = subst (λ (l : List Asked). AsksFor (asked_for o s (i ∷ [])) old.asked l writes.stored) (sym reports.asked) stores.asked;
+      schema_first = λ w at bad.
+          subst (λ (l : List Asked). AsksFirst (Text s ∷ []) old.asked l) (sym reports.asked) (stores.schema_first w at bad);
       failed = λ outside.
           rose_reported _ old mid new reports (stores.cause.failed (outside_of writes.stored answer writes.answer_is outside));
       opened = after.opened;

@@ -1,16 +1,16 @@
 -- The command `write`, and the message after it.
-use Rattle.std.proofs.Common.{◌≡◌, ◌∙◌, inl, inr, sym, subst, refl, ℕ, List}
+use Rattle.std.proofs.Common.{◌≡◌, ◌∙◌, inl, inr, sym, subst, refl, ℕ, List, [], ◌∷◌}
 use Rattle.std.proofs.Common.{Result, Ok, Err, arith}
 use Rattle.std.specs.Prelude.{IsErrOf}
 use Rattle.std.proofs.lemmas.List.{append-nil}
 use Rattle.nt_outside.specs.Log.{Step}
-use Rattle.nt_outside.specs.World.{World, Asked, HostState}
+use Rattle.nt_outside.specs.World.{World, Asked, Text, HostState}
 use Rattle.nt_book.specs.declared.params.Params.{Params}
 use Rattle.nt_close.specs.Laws.{EndsOverFirst}
 use Rattle.nt_store.specs.declared.error.StoreError.{StoreError}
 use Rattle.nt_store.specs.declared.error.StoreError.TheVariants as store
 use Rattle.nt_store.specs.Orders.{GainsOrderFront, gains_nothing, gains_front}
-use Rattle.nt_store.specs.Worlds.{AsksFor, IsLeftByFailure, IsLeftAfter}
+use Rattle.nt_store.specs.Worlds.{AsksFirst, AsksFor, IsLeftByFailure, IsLeftAfter}
 use Rattle.nt_store.specs.Crashes.{IsWholeOf, LeavesAllOrNone}
 use Rattle.nt_store.specs.Stored.{StoresWhole, StoreTold, asked_for}
 use Rattle.nt_app.specs.declared.status.Status.{Status}
@@ -34,6 +34,7 @@ memory_writes o s is p state = record {
     order = nothing_made o state.world state.world refl;
     crash = none_left o s is p state.world state.world (Err store.Memory) refl;
     asked = (0, sym (append-nil state.asked));
+    schema_first = λ w at bad. (0, sym (append-nil state.asked));
     cause = record { later = omega arith; failed = λ outside. absurd (cc) };
     back = record { err_faults = refl; opened = omega arith };
   };
@@ -136,6 +137,8 @@ run_write o s is p old mid new answer writes reports =
       crash = made_reported o (message_of answer) _ old mid new left reports (λ w v. LeavesAllOrNone o s is p w v writes.stored)
           (crash_after o s is p writes.stored) stores.crash;
       asked = subst (λ (l : List Asked). AsksFor (asked_for o s is) old.asked l writes.stored) (sym reports.asked) stores.asked;
+      schema_first = λ w at bad.
+          subst (λ (l : List Asked). AsksFirst (Text s ∷ []) old.asked l) (sym reports.asked) (stores.schema_first w at bad);
       failed = λ outside.
           rose_reported _ old mid new reports (stores.cause.failed (outside_of writes.stored answer writes.answer_is outside));
       opened = after.opened;

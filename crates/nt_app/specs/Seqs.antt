@@ -8,6 +8,7 @@ use Rattle.nt_outside.specs.World.{World, HostState, file}
 use Rattle.nt_book.specs.declared.params.Params.{Params}
 use Rattle.nt_store.specs.Worlds.{IsThereWith, AsksFor, OthersStay, WritesInOrder}
 use Rattle.nt_store.specs.Stored.{asked_for}
+use Rattle.nt_store.specs.Schemas.{AsksSchemaFirst}
 use Rattle.nt_script.specs.declared.error.LineFault.{LineFault}
 use Rattle.nt_script.specs.declared.error.LineFault.TheVariants.{Event, Field}
 use Rattle.nt_script.specs.declared.store_error.ScriptStoreError.{ScriptStoreError}
@@ -72,6 +73,8 @@ pub record RunsSeq (out schema input : List ℕ) (p : Params) (old new : HostSta
   pub crash : ScriptCrashTold (IsWholeScript schema input p) out old.world new.world stored
   -- what was asked for: all names where the file is whole, and else the first of them
   pub asked : AsksFor (asked_for out schema (input ∷ [])) old.asked new.asked stored
+  -- and only the schema text, where it isn't there or isn't one
+  pub schema_first : AsksSchemaFirst schema old new
   -- the outside is blamed only where it failed
   pub failed : answer ≡ status.Outside → Rose old.faults new.faults
   -- each object that was opened came back

@@ -15,6 +15,7 @@ use Rattle.nt_store.specs.declared.error.StoreError.{StoreError}
 use Rattle.nt_store.specs.declared.error.StoreError.TheVariants as store
 use Rattle.nt_store.specs.Worlds.{IsThereWith, AsksFor, OthersStay, WritesInOrder}
 use Rattle.nt_store.specs.Texts.{AreTexts}
+use Rattle.nt_store.specs.Schemas.{AsksSchemaFirst}
 use Rattle.nt_store.specs.Crashes.{CrashTold}
 use Rattle.nt_store.specs.Stored.{StoreTold, Stores, asked_for}
 use Rattle.nt_app.specs.declared.status.Status.{Status}
@@ -69,6 +70,8 @@ pub record RunsWrite (out schema : List ℕ) (inputs : List (List ℕ)) (p : Par
   pub crash : CrashTold out schema inputs p old.world new.world stored
   -- what was asked for: all names where the file is whole, and else the first of them
   pub asked : AsksFor (asked_for out schema inputs) old.asked new.asked stored
+  -- and only the schema text, where it isn't there or isn't one
+  pub schema_first : AsksSchemaFirst schema old new
   -- the outside is blamed only where it failed
   pub failed : answer ≡ status.Outside → Rose old.faults new.faults
   -- each object that was opened came back

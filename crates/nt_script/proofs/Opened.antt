@@ -14,7 +14,7 @@ use Rattle.nt_store.specs.declared.error.StoreError.{StoreError}
 use Rattle.nt_store.specs.declared.error.StoreError.TheVariants as store
 use Rattle.nt_store.specs.Schemas.{TellsSchema}
 use Rattle.nt_store.specs.Worlds.{AsksOnly, HasStoreCause, LeavesOut}
-use Rattle.nt_store.proofs.Asking.{schema_asked, texts_asked}
+use Rattle.nt_store.proofs.Asking.{schema_asked, texts_asked, is_schema}
 use Rattle.nt_store.proofs.Refused.{nothing_made}
 use Rattle.nt_script.specs.declared.store_error.ScriptStoreError.TheVariants.{Outside}
 use Rattle.nt_script.specs.StoreErrors.{script_error_of_refusal, script_error_of_store}
@@ -49,6 +49,7 @@ stores_unread out schema input p old new e asks told cause back = record {
   order = nothing_made out old.world new.world asks.world;
   crash = none_left (IsWholeScript schema input p) out old.world new.world (Err (script_error_of_store e)) asks.world;
   asked = schema_asked out schema (input ∷ []) old.asked new.asked asks.asked;
+  schema_first = λ w is bad. asks.asked;
   cause = record { later = cause.later; failed = λ is. cause.failed (unread_fails {T = Members} e is) };
   back = back;
 }
@@ -61,10 +62,10 @@ unopened_told out schema input p w refused.Failed = inl (inl (refl, refl), refl)
 unopened_told out schema input p w refused.Memory = (inl (refl, refl), refl)
 
 pub stores_unopened : {T : Type 0} (out schema input : List ℕ) (p : Params) (old mid new : HostState) (f : Members) (r : Refused)
-    → AsksOnly {E = StoreError} (Text schema ∷ []) old mid (Ok f) → HasStoreCause {T = Members} old.faults mid.faults (Ok f)
-    → LeavesOut 0 old mid → Opens {T = T} (Text input) mid new (Err r)
+    → AsksOnly {E = StoreError} (Text schema ∷ []) old mid (Ok f) → ((w : World) → old.world ≡ Some w → TellsSchema (file w schema) (Ok f))
+    → HasStoreCause {T = Members} old.faults mid.faults (Ok f) → LeavesOut 0 old mid → Opens {T = T} (Text input) mid new (Err r)
     → StoresScript out schema input p old new (Err (script_error_of_refusal r))
-stores_unopened {T} out schema input p old mid new f r asks cause back opens =
+stores_unopened {T} out schema input p old mid new f r asks told cause back opens =
     let stays = opens.world ∙ asks.world in
     record {
       told = λ w is. (w, stays ∙ is, refl, λ other differs. refl, unopened_told out schema input p w r);
@@ -73,6 +74,7 @@ stores_unopened {T} out schema input p old mid new f r asks cause back opens =
       asked =
           texts_asked out schema (input ∷ []) old.asked mid.asked new.asked asks.asked
           (asks_refused r mid.asked new.asked (Text input) opens.asks.failed opens.asks.memory);
+      schema_first = λ w is bad. absurd (bad (is_schema (file w schema) (members_view f) (told w is)));
       cause = record {
         later = omega (arith, cause.later, opens.asks.cause.later);
         failed = λ is.

@@ -8,11 +8,12 @@ use Rattle.nt_outside.specs.declared.stream.Stream.TheVariants.{ToOut}
 use Rattle.nt_outside.specs.Log.{Step}
 use Rattle.nt_outside.specs.Order.{EndsInSync}
 use Rattle.nt_outside.specs.Source.{SourceState}
-use Rattle.nt_outside.specs.World.{World, Asked, Text, Out, HostState, PrintsAll, prints}
+use Rattle.nt_outside.specs.World.{World, Asked, Text, Out, HostState, PrintsAll, prints, file}
 use Rattle.nt_book.specs.declared.params.Params.{Params}
 use Rattle.nt_store.specs.Stored.{asked_for}
+use Rattle.nt_store.specs.Schemas.{AsksSchemaFirst}
 use Rattle.nt_store.specs.Worlds.{AsksFirst, LeavesOut, MakesDisk, IsWrittenInOrder, IsLeftAfter}
-use Rattle.nt_store.proofs.Asking.{asks_front}
+use Rattle.nt_store.proofs.Asking.{asks_front, is_schema}
 use Rattle.nt_store.proofs.Crashing.{or_as}
 use Rattle.nt_store.proofs.Refused.{world_is}
 use Rattle.nt_script.specs.declared.storing.Counts.{Counts}
@@ -70,6 +71,10 @@ module _ (out schema input : List ℕ) (p : Params) (fields : List MemberData) (
       (record { fields = fields; text = bytes; are = are; over = over }, left, same)
   unfiled_told w w' bytes are same (Schema line kind) told = absurd told
 
+  -- the schema text is one
+  schema_found : (new : HostState) → AsksSchemaFirst schema old new
+  schema_found new w is bad = absurd (bad (is_schema (file w schema) fields (have.are w is).2.schema_is))
+
   crash_as : (P Q : List ℕ → Type 0) (log : List Step) → ((bytes : List ℕ) → P bytes → Q bytes) → (e : ScriptStoreError)
       → ScriptCrash {T = Counts} P log (Err e) → ScriptCrash {T = Unit {0}} Q log (Err e)
   crash_as P Q log turn Outside leaves = or_as P Q log turn leaves
@@ -98,6 +103,7 @@ module _ (out schema input : List ℕ) (p : Params) (fields : List MemberData) (
               (whole_script w script.0 script.2) e left.leaves;
         };
     asked = asked_last new.asked files.asked;
+    schema_first = schema_found new;
     cause = record {
       later = omega (arith, have.later, files.cause.later);
       failed = λ is. let rose = files.cause.failed (cc is) in omega (arith, have.later, rose);
@@ -197,6 +203,7 @@ module _ (out schema input : List ℕ) (p : Params) (fields : List MemberData) (
         order = printed_order filed new counts files (Ok tt) told;
         crash = printed_crash filed new counts files (Ok tt) told (Ok tt) (λ Whole log leaves. leaves);
         asked = told.asked ∙ asked_every filed.asked files.asked;
+        schema_first = schema_found new;
         cause = record {
           later = omega (arith, have.later, files.cause.later, told.cause.later);
           failed = λ is. absurd (cc is);
@@ -230,6 +237,7 @@ module _ (out schema input : List ℕ) (p : Params) (fields : List MemberData) (
         order = printed_order filed new counts files (Err e) told;
         crash = printed_crash filed new counts files (Err e) told (Err Outside) (λ Whole log leaves. leaves.0);
         asked = (3, told.asked ∙ asked_every filed.asked files.asked);
+        schema_first = schema_found new;
         cause = record {
           later = omega (arith, have.later, files.cause.later, told.cause.later);
           failed = λ is. let rose = told.cause.failed in omega (arith, have.later, files.cause.later, rose);

@@ -9,6 +9,7 @@ use Rattle.nt_outside.specs.World.{World, Out, HostState, file}
 use Rattle.nt_book.specs.declared.params.Params.{Params}
 use Rattle.nt_close.specs.Laws.{EndsOverFirst}
 use Rattle.nt_store.specs.Stored.{asked_for}
+use Rattle.nt_store.specs.Schemas.{AsksSchemaFirst}
 use Rattle.nt_store.specs.Worlds.{IsThereWith, AsksFor, LeavesOut, KeepsFiles, OthersStay, MakesDisk, LeavesOpen, IsLeftByFailure}
 use Rattle.nt_store.specs.Worlds.{IsLeftByMemory, WritesInOrder, IsLeftAfter}
 use Rattle.nt_script.specs.declared.error.LineFault.{LineFault}
@@ -123,6 +124,7 @@ pub record StoresScript (out schema input : List ℕ) (p : Params) (old new : Ho
   -- and a crash leaves it unfinished or whole
   pub crash : ScriptCrashTold (IsWholeScript schema input p) out old.world new.world result
   pub asked : AsksFor (asked_for out schema (input ∷ [])) old.asked new.asked result
+  pub schema_first : AsksSchemaFirst schema old new
   pub cause : HasScriptCause old.faults new.faults result
   -- each object that was opened came back
   pub back : LeavesOut 0 old new

@@ -1,9 +1,11 @@
 -- What was asked for, joined, and the counts of a host.
 use Rattle.std.proofs.Common.{◌≡◌, ◌⊎◌, ◌∙◌, inl, inr, ap, sym, refl, ℕ, suc, ◌<◌, ◌≤◌, List, [], ◌∷◌, ◌++◌, length, map, take, drop}
 use Rattle.std.proofs.Common.{Option, Some, None, Result, Ok, Err, append_assoc, arith}
-use Rattle.std.specs.Prelude.{IsErrOf, IsSome}
+use Rattle.std.specs.Prelude.{IsErrOf, IsSome, IsOk}
 use Rattle.std.proofs.lemmas.List.{append-nil, take-append-drop}
 use Rattle.std.proofs.Math.Seq.{take-append_seam}
+use Rattle.nt_types.specs.ShapeData.{MemberData}
+use Rattle.nt_types.specs.Schema.{schema_text}
 use Rattle.nt_outside.specs.declared.fault.Refused.{Refused}
 use Rattle.nt_outside.specs.declared.fault.Refused.TheVariants as refused
 use Rattle.nt_outside.specs.Faults.{Rose, TakesIn}
@@ -13,7 +15,7 @@ use Rattle.nt_contexts.specs.Contexts.{TellTexts}
 use Rattle.nt_store.specs.declared.error.StoreError.{StoreError}
 use Rattle.nt_store.specs.declared.error.StoreError.TheVariants.{Outside}
 use Rattle.nt_store.specs.Stored.{asked_for}
-use Rattle.nt_store.specs.Worlds.{AsksFirst, AsksFor, HasStoreCause, AreOpenTexts}
+use Rattle.nt_store.specs.Worlds.{IsThereWith, AsksFirst, AsksFor, HasStoreCause, AreOpenTexts}
 
 -- the first objects were asked for
 pub asks_front : (old new objects front rest : List Asked) → new ≡ old ++ front → objects ≡ front ++ rest → AsksFirst objects old new
@@ -82,6 +84,12 @@ module _ (out schema : List ℕ) (inputs : List (List ℕ)) (old : List Asked) w
         asks_front old new (asked_for out schema inputs) (asked_for out schema inputs) [] (same
         ∙ every mid opened made first second asked) (sym (append-nil (asked_for out schema inputs)))
   ]
+
+-- a text whose fields are these is a schema
+pub is_schema : (found : Option (List ℕ)) (fields : List MemberData) → IsThereWith (λ text. schema_text text ≡ Ok fields) found
+    → IsThereWith (λ text. IsOk (schema_text text)) found
+is_schema None fields there = there
+is_schema (Some text) fields there = rw there refl
 
 there_is : (found : Option (List ℕ)) → IsSome found → (text : List ℕ) × (found ≡ Some text)
 there_is None some = absurd (cc some)

@@ -1,11 +1,12 @@
--- What the reading of a schema text answers.
-use Rattle.std.specs.Prelude.{⊤, ◌≡◌, List, ℕ, Option, Result, Ok, Err}
+-- What the reading of a schema text answers, and what is asked for before it is read.
+use Rattle.std.specs.Prelude.{⊤, ◌≡◌, List, [], ◌∷◌, ℕ, Option, Some, Result, Ok, Err, IsOk}
 use Rattle.nt_types.specs.Schema.{schema_text, at_line}
 use Rattle.nt_types.specs.Views.{members_view}
 use Rattle.nt_types.specs.declared.shape.Members.{Members}
 use Rattle.nt_store.specs.declared.error.StoreError.{StoreError}
 use Rattle.nt_store.specs.declared.error.StoreError.TheVariants.{Outside, Memory, Schema, Line, Limit}
-use Rattle.nt_store.specs.Worlds.{IsThereWith}
+use Rattle.nt_outside.specs.World.{World, Text, HostState, file}
+use Rattle.nt_store.specs.Worlds.{IsThereWith, AsksFirst}
 
 -- by the bytes of the text: its fields, or its first fault
 abbrev pub TellsFields : List ℕ → Result Members StoreError → Type 0
@@ -24,3 +25,9 @@ TellsSchema text (Err Memory) = ⊤
 TellsSchema text (Err Outside) = ⊤
 TellsSchema text (Err (Line input line kind)) = ⊥
 TellsSchema text (Err (Limit reached limit)) = ⊥
+
+-- where a host tells no text of this name that is a schema, nothing but this text was asked for
+abbrev pub AsksSchemaFirst : List ℕ → HostState → HostState → Type 0
+AsksSchemaFirst schema old new =
+    (w : World) → old.world ≡ Some w → (IsThereWith (λ text. IsOk (schema_text text)) (file w schema) → ⊥)
+    → AsksFirst (Text schema ∷ []) old.asked new.asked

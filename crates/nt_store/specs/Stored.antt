@@ -14,6 +14,7 @@ use Rattle.nt_store.specs.Orders.{order_line, GainsOrderFront}
 use Rattle.nt_store.specs.Worlds.{IsThereWith, AsksFor, HasStoreCause, LeavesOut, KeepsFiles, OthersStay, MakesDisk, LeavesOpen}
 use Rattle.nt_store.specs.Worlds.{IsLeftByFailure, IsLeftByMemory, WritesInOrder, IsLeftAfter}
 use Rattle.nt_store.specs.Texts.{AreTexts}
+use Rattle.nt_store.specs.Schemas.{AsksSchemaFirst}
 use Rattle.nt_store.specs.Whole.{IsStored}
 use Rattle.nt_store.specs.Crashes.{CrashTold}
 use Rattle.nt_dealing.specs.Texts.{all_chunks}
@@ -82,6 +83,7 @@ pub record Stores (out schema : List ℕ) (inputs : List (List ℕ)) (p : Params
   -- and a crash leaves it unfinished or whole
   pub crash : CrashTold out schema inputs p old.world new.world result
   pub asked : AsksFor (asked_for out schema inputs) old.asked new.asked result
+  pub schema_first : AsksSchemaFirst schema old new
   pub cause : HasStoreCause old.faults new.faults result
   -- each object that was opened came back
   pub back : LeavesOut 0 old new

@@ -16,7 +16,7 @@ returns-in_err-text g c =
     let p = err_from_is_err_and c.from_residual-in_err-text.result c.from_residual-in_err-text.ensures.1 in
     let read = c.in_ok-fields.ensures in
     rw (p.1, p.2) (stores_unopened c.args.names.out.now c.args.names.schema.now c.args.names.input.now c.args.params.now _ _ _
-    c.in_ok-fields.fields c.in_err-text.field-0.0 read.asks read.cause read.rest c.in_err-text.ensures.opens)
+    c.in_ok-fields.fields c.in_err-text.field-0.0 read.asks read.told read.cause read.rest c.in_err-text.ensures.opens)
 
 pub returns-in_err-counts : goal.returns-in_err-counts
 returns-in_err-counts g c =

@@ -5,7 +5,7 @@ use Rattle.nt_store.proofs.Opening.{map_length}
 use Rattle.nt_store.proofs.Ends.{out_told, back_in_order}
 use Rattle.nt_store.proofs.Refused.{nothing_made, refused_told, schema_told, refusal_is, refused_outside}
 use Rattle.nt_store.proofs.Asking.{schema_asked, texts_asked, all_asked, disk_refused, texts_told, texts_counted, cause_back, cause_first}
-use Rattle.nt_store.proofs.Asking.{cause_next}
+use Rattle.nt_store.proofs.Asking.{cause_next, is_schema}
 use Rattle.nt_store.proofs.Crashed.{none_left, back_safe}
 use Rattle.nt_store.proofs.storing.store.Goals as goal
 
@@ -32,6 +32,7 @@ returns-in_err-fields g c =
       order = nothing_made _ _ _ c.read_schema.ensures.asks.world;
       crash = none_left _ _ _ _ _ _ _ c.read_schema.ensures.asks.world;
       asked = schema_asked _ _ _ _ _ c.in_err-fields.ensures.asks.asked;
+      schema_first = λ w is bad. c.in_err-fields.ensures.asks.asked;
       cause = cause_first c.in_err-fields.field-0.0 _ _ c.in_err-fields.ensures.cause;
       back = c.read_schema.ensures.rest;
     })
@@ -45,6 +46,7 @@ returns-in_err-texts g c =
       order = nothing_made _ _ _ (c.open_texts.ensures.asks.world ∙ c.read_schema.ensures.asks.world);
       crash = none_left _ _ _ _ _ _ _ (c.open_texts.ensures.asks.world ∙ c.read_schema.ensures.asks.world);
       asked = texts_asked _ _ _ _ _ _ c.in_ok-fields.ensures.asks.asked c.in_err-texts.ensures.asks.asked;
+      schema_first = λ w is bad. absurd (bad (is_schema _ _ (c.in_ok-fields.ensures.told w is)));
       cause = cause_next c.in_err-texts.field-0.0 _ _ _ c.read_schema.ensures.cause.later c.in_err-texts.ensures.cause;
       back = record {
         err_faults = c.in_err-texts.ensures.rest.1.err_faults ∙ c.read_schema.ensures.rest.err_faults;
@@ -92,6 +94,7 @@ returns-in-Ok g c =
       asked = all_asked _ _ _ _ c.write_file-disk.result.1 _ _ _ _ c.in_ok-fields.ensures.asks.asked c.in_ok-texts.ensures.asks.asked
           made.asks.ok
           (c.return_disk.ensures.back.asked ∙ wrote.rest.asked);
+      schema_first = λ w is bad. absurd (bad (is_schema _ _ (c.in_ok-fields.ensures.told w is)));
       cause = cause_back _ _ _ _ _ c.write_file-disk.result.1 (omega (
         arith,
         c.read_schema.ensures.cause.later,
@@ -132,6 +135,7 @@ returns g c =
       asked = disk_refused _ _ _ _ _ c.in-Err.refused _ _ _ _ c.in_ok-fields.ensures.asks.asked c.in_ok-texts.ensures.asks.asked
           made.asks.failed
           made.asks.memory back.asked;
+      schema_first = λ w is bad. absurd (bad (is_schema _ _ (c.in_ok-fields.ensures.told w is)));
       cause = record {
         later = omega (arith, c.read_schema.ensures.cause.later, c.open_texts.ensures.cause.later, made.asks.cause.later, back.later);
         failed = λ is.
