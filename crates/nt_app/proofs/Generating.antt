@@ -3,20 +3,22 @@ use Rattle.std.proofs.Common.{◌≡◌, ◌⊎◌, ◌∙◌, inl, inr, sym, su
 use Rattle.std.proofs.Common.{Result, Ok, Err, arith}
 use Rattle.std.specs.Prelude.{IsErrOf}
 use Rattle.std.proofs.lemmas.List.{append-nil}
+use Rattle.nt_lists.proofs.Variants.{some_is}
 use Rattle.nt_outside.specs.World.{World, Asked, Out, File, HostState}
 use Rattle.nt_book.specs.declared.params.Params.{Params}
 use Rattle.nt_close.specs.Laws.{EndsOverFirst}
 use Rattle.nt_outside.specs.Order.{EndsInSync}
 use Rattle.nt_draws.specs.declared.making.Making.{Making}
-use Rattle.nt_store.specs.Worlds.{AsksFor}
+use Rattle.nt_store.specs.Worlds.{AsksFor, IsLeftAfter}
 use Rattle.nt_store.proofs.Refused.{none_made, nothing_made}
 use Rattle.nt_generate.specs.declared.error.GenerateError.{GenerateError}
 use Rattle.nt_generate.specs.declared.error.GenerateError.TheVariants as generate
 use Rattle.nt_dealing.specs.Texts.{joined_chunks}
 use Rattle.nt_dealing.proofs.Whole.{passes_none}
 use Rattle.nt_generate.specs.Made.{made_chunks}
-use Rattle.nt_generate.specs.Leaving.{IsMadeByFailure, LeavesMade}
+use Rattle.nt_generate.specs.Leaving.{IsWhole, IsMadeByFailure, LeavesMade}
 use Rattle.nt_generate.specs.Generated.{IsToldInPart, GenerateTold}
+use Rattle.nt_generate.proofs.Joined.{not_both}
 use Rattle.nt_app.specs.declared.status.Status.{Status}
 use Rattle.nt_app.specs.declared.status.Status.TheVariants as status
 use Rattle.nt_app.specs.Statuses.{message_of}
@@ -52,6 +54,8 @@ memory_makes out m state = record {
     order = nothing_made out state.world state.world refl;
     crash = λ w w' is is' made. absurd (none_made out state.world state.world refl w w' is is' made);
     asked = (0, sym (append-nil state.asked));
+    reads_whole = λ w w' is is' both.
+        absurd (not_both state.asked state.asked (Out out) (File out) (0, sym (append-nil state.asked)) both);
     served = record {
       later = omega arith;
       failed = λ outside. absurd (cc);
@@ -135,6 +139,12 @@ run_gen o m old mid new answer makes reports =
       crash = made_reported o (message_of answer) _ old mid new left reports (λ w v. LeavesMade o p m gens.commits v makes.made)
           (crash_after o p m gens.commits makes.made) gens.crash;
       asked = subst (λ (l : List Asked). AsksFor (Out o ∷ File o ∷ []) old.asked l makes.made) (sym reports.asked) gens.asked;
+      reads_whole = λ w w' is is' both.
+          let done = gens.told w is in
+          let said = reports.told done.0 done.1 in
+          let kept = gens.reads_whole w done.0 is done.1 (sym reports.asked ∙ both) in
+          subst (λ (v : World). IsWhole p m gens.commits o v × IsLeftAfter EndsInSync o v) (some_is _ _ (sym said.1 ∙ is'))
+          (kept.0, steps_after o EndsInSync done.0 _ kept.1);
       failed = λ outside. rose_reported _ old mid new reports (gens.served.failed (outside_of makes.made answer makes.answer_is outside));
       opened = after.opened;
       complete = λ w at serves fits.

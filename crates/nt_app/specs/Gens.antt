@@ -14,7 +14,7 @@ use Rattle.nt_generate.specs.declared.error.GenerateError.{GenerateError}
 use Rattle.nt_generate.specs.declared.error.GenerateError.TheVariants as generate
 use Rattle.nt_generate.specs.Made.{made_chunks}
 use Rattle.nt_generate.specs.Leaving.{MadeCrashTold}
-use Rattle.nt_generate.specs.Generated.{GenerateTold, Generates}
+use Rattle.nt_generate.specs.Generated.{GenerateTold, ReadsOnlyWhole, Generates}
 use Rattle.nt_app.specs.declared.status.Status.{Status}
 use Rattle.nt_app.specs.declared.status.Status.TheVariants as status
 use Rattle.nt_app.specs.Statuses.{message_of}
@@ -71,6 +71,8 @@ pub record RunsGen (out : List ℕ) (m : Making) (old new : HostState) (answer :
   pub crash : MadeCrashTold out p m commits old.world new.world made
   -- what was asked for: the name to write and then to read where all is done, and else the first of that
   pub asked : AsksFor (Out out ∷ File out ∷ []) old.asked new.asked made
+  -- and it was opened to be read only once it was whole, behind a sync
+  pub reads_whole : ReadsOnlyWhole out p m commits old new
   -- the outside is blamed only where it failed
   pub failed : answer ≡ status.Outside → Rose old.faults new.faults
   -- each object that was opened came back

@@ -1,19 +1,20 @@
 -- The making of a file and the telling of its totals, joined.
-use Rattle.std.proofs.Common.{◌≡◌, ◌∙◌, ap, sym, subst, refl, ℕ, List, [], ◌∷◌, ◌++◌, take, drop, Option}
-use Rattle.std.proofs.Common.{Result, Ok, Err, append_assoc, arith}
-use Rattle.std.proofs.lemmas.List.{take-append-drop}
+use Rattle.std.proofs.Common.{◌≡◌, ◌∙◌, ap, sym, subst, refl, ℕ, List, [], ◌∷◌, ◌++◌, length, take, drop, Option}
+use Rattle.std.proofs.Common.{Result, Ok, Err, append_assoc, length-append, arith}
+use Rattle.std.proofs.lemmas.List.{take-append-drop, length-take}
 use Rattle.nt_outside.specs.declared.stream.Stream.TheVariants.{ToOut}
 use Rattle.nt_outside.specs.Log.{Step}
 use Rattle.nt_outside.specs.World.{World, Asked, Out, File, HostState, file, prints}
 use Rattle.nt_book.specs.declared.params.Params.{Params}
 use Rattle.nt_draws.specs.declared.making.Making.{Making}
-use Rattle.nt_store.specs.Worlds.{AsksFor, IsWrittenInOrder}
+use Rattle.nt_outside.specs.Order.{EndsInSync}
+use Rattle.nt_store.specs.Worlds.{AsksFirst, AsksFor, IsWrittenInOrder, IsLeftAfter}
 use Rattle.nt_store.proofs.Asking.{asks_front}
 use Rattle.nt_generate.specs.declared.error.GenerateError.{GenerateError}
 use Rattle.nt_generate.specs.declared.error.GenerateError.TheVariants.{Outside, Memory, Limit, Defect}
 use Rattle.nt_generate.specs.Made.{IsMade}
 use Rattle.nt_generate.specs.Writing.{MadeCrash}
-use Rattle.nt_generate.specs.Leaving.{IsServed, LeavesMade, TellTold}
+use Rattle.nt_generate.specs.Leaving.{IsServed, IsWhole, LeavesMade, TellTold}
 use Rattle.nt_generate.specs.Leaving.{MakesFile, TellsTotals}
 use Rattle.nt_generate.specs.Generated.{Generates}
 use Rattle.nt_generate.proofs.Told.{tells_as}
@@ -60,6 +61,16 @@ crash_as V W P log Memory leaves = leaves
 crash_as V W P log (Limit reached most) leaves = leaves
 crash_as V W P log (Defect e) leaves = leaves
 
+-- where no more than the first of two objects was asked for, both weren't
+pub not_both : (old new : List Asked) (a b : Asked) → AsksFirst (a ∷ []) old new → new ≡ old ++ a ∷ b ∷ [] → ⊥
+not_both old new a b (n, is) both = omega (
+  arith,
+  ap length (sym is ∙ both),
+  length-append old (take n (a ∷ [])),
+  length-append old (a ∷ b ∷ []),
+  length-take n (a ∷ []),
+)
+
 -- the file isn't made
 pub ends_unmade : {V : Type 0} (order : V → List ℕ) (name : List ℕ) (p : Params) (m : Making) (old new : HostState) (e : GenerateError)
     → MakesFile order name p m old new (Err e) → Generates name p m old new (Err e)
@@ -83,6 +94,7 @@ ends_unmade {V} order name p m old new e makes = record {
       (drop makes.asked.0 (Out name ∷ []) ++ File name ∷ []) makes.asked.1
       (ap (λ (l : List Asked). l ++ File name ∷ []) (sym (take-append-drop makes.asked.0 (Out name ∷ [])))
       ∙ append_assoc (take makes.asked.0 (Out name ∷ [])) (drop makes.asked.0 (Out name ∷ [])) (File name ∷ []));
+  reads_whole = λ w w' is is' both. absurd (not_both old.asked new.asked (Out name) (File name) makes.asked both);
   served = served_as old new e makes.served;
 }
 
@@ -138,5 +150,16 @@ ends_told order name p m old mid new made result makes tells = record {
             (tells'.told back.0 back.1)) left.leaves;
       });
   asked = asks_both old.asked mid.asked new.asked (Out name) (File name) result makes.asked tells.asked;
+  reads_whole = λ w w' is is' both.
+      let back = makes.told w is in
+      let tells' = tells_as name m.contexts (order made) makes.commits mid new result back.5.0 tells in
+      let done = printed_told p m name w back.0 back.3 makes.commits back.5.1 back.5.2 back.5.3 new.world result
+      (tells'.told back.0 back.1) in
+      let same : prints ToOut done.printed back.0 ≡ w' = some_is _ _ (sym done.is ∙ is') in
+      let left = back.5.3 in
+      subst (λ (v : World). IsWhole p m makes.commits name v × IsLeftAfter EndsInSync name v) same (
+        back.5.2,
+        record { at = left.at; log = left.log; there = left.there; steps = left.steps; ends = left.ends },
+      );
   served = served_on old mid new (Ok made) result makes.served tells.served;
 }

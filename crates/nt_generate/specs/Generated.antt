@@ -33,6 +33,12 @@ GenerateTold name p m commits w w' (Err Memory) = (IsLeftByMemory name w w' × (
 GenerateTold name p m commits w w' (Err (Limit reached most)) = PassesMade p m reached most × LeavesOpen name w w' × (w'.out ≡ w.out)
 GenerateTold name p m commits w w' (Err (Defect e)) = ⊥
 
+-- the file of this name is opened to be read only once it is whole, and its disk came back behind a sync
+abbrev pub ReadsOnlyWhole : List ℕ → Params → Making → List ℕ → HostState → HostState → Type 0
+ReadsOnlyWhole name p m commits old new =
+    (w w' : World) → old.world ≡ Some w → new.world ≡ Some w' → new.asked ≡ old.asked ++ Out name ∷ File name ∷ []
+    → IsWhole p m commits name w' × IsLeftAfter EndsInSync name w'
+
 -- a file is made and read back, or why not
 pub record Generates (name : List ℕ) (p : Params) (m : Making) (old new : HostState) (result : Result Unit GenerateError) : Type 0 where
   -- the order of the commits, one for what is told and for a crash
@@ -45,5 +51,6 @@ pub record Generates (name : List ℕ) (p : Params) (m : Making) (old new : Host
   -- and a crash leaves it unfinished or whole
   pub crash : MadeCrashTold name p m commits old.world new.world result
   pub asked : AsksFor (Out name ∷ File name ∷ []) old.asked new.asked result
+  pub reads_whole : ReadsOnlyWhole name p m commits old new
   -- the outside is blamed only where it failed, and each object that was opened came back
   pub served : IsServed old new result
