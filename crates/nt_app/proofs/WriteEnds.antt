@@ -17,6 +17,7 @@ use Rattle.nt_store.specs.declared.error.StoreError.{StoreError}
 use Rattle.nt_store.specs.declared.error.StoreError.TheVariants as store
 use Rattle.nt_store.specs.Worlds.{IsThereWith}
 use Rattle.nt_store.specs.Texts.{AreTexts}
+use Rattle.nt_store.specs.Writing.{LimitBy}
 use Rattle.nt_store.specs.Stored.{IsTooLarge, StoreTold}
 use Rattle.nt_app.specs.declared.status.Status.TheVariants as status
 use Rattle.nt_app.specs.declared.status.TextFault.TheVariants as fault
@@ -122,8 +123,8 @@ same_bad fields texts i j line line' kind kind' one other =
     ]
 
 -- a limit is passed only where the texts don't fit
-not_over : (s : List ℕ) (is : List (List ℕ)) (p : Params) (w : World) (reached limit : ℕ) (fields : List MemberData) (texts : List (List ℕ))
-    → IsTooLarge s is p w reached limit → AreTexts w s is fields texts → FitsLimits fields texts p → ⊥
+not_over : {By : LimitBy} (s : List ℕ) (is : List (List ℕ)) (p : Params) (w : World) (reached limit : ℕ) (fields : List MemberData)
+    (texts : List (List ℕ)) → IsTooLarge By s is p w reached limit → AreTexts w s is fields texts → FitsLimits fields texts p → ⊥
 not_over s is p w reached limit fields texts over are fits =
     passes_none over.table p (all_chunks p.cluster fields texts) reached limit
     (fits over.table (same_texts w s is over.fields fields over.texts texts (λ f ts. Rows f p.plain over.table) over.are are over.rows))
@@ -144,8 +145,10 @@ completes o s is p w v (Err (store.Line input line kind)) fields texts told serv
     absurd (not_sound fields texts input line kind sound
     (same_texts w s is told.0.fields fields told.0.texts texts (λ f ts. IsFirstBad f ts input line kind) told.0.are are
     told.0.fails.first))
-completes o s is p w v (Err (store.Limit reached limit)) fields texts told served are sound fits =
+completes o s is p w v (Err (store.Limit reached limit)) fields texts (inl told) served are sound fits =
     absurd (not_over s is p w reached limit fields texts told.0 are fits)
+completes o s is p w v (Err (store.Limit reached limit)) fields texts (inr told) served are sound fits =
+    absurd (not_over s is p w reached limit fields texts told.1 are fits)
 
 refuses : (o s : List ℕ) (is : List (List ℕ)) (p : Params) (w v : World) (stored : Result Unit StoreError) (line : ℕ) (kind : SchemaKind)
     → StoreTold o s is p w v stored → (IsErrOf stored store.Outside → ⊥) → IsThereWith (λ text. schema_text text
@@ -158,8 +161,10 @@ refuses o s is p w v (Err (store.Schema line' kind')) line kind told served othe
     inl (same_fault line' line kind' kind (file w s) told.0 other)
 refuses o s is p w v (Err (store.Line input line' kind')) line kind told served other =
     absurd (not_both told.0.fields line kind (file w s) told.0.are.schema_is other)
-refuses o s is p w v (Err (store.Limit reached limit)) line kind told served other =
+refuses o s is p w v (Err (store.Limit reached limit)) line kind (inl told) served other =
     absurd (not_both told.0.fields line kind (file w s) told.0.are.schema_is other)
+refuses o s is p w v (Err (store.Limit reached limit)) line kind (inr told) served other =
+    absurd (not_both told.1.fields line kind (file w s) told.1.are.schema_is other)
 
 faults : (o s : List ℕ) (is : List (List ℕ)) (p : Params) (w v : World) (stored : Result Unit StoreError) (fields : List MemberData)
     (texts : List (List ℕ))
@@ -177,8 +182,10 @@ faults o s is p w v (Err (store.Line input' line' kind')) fields texts input lin
     inl (same_bad fields texts input' input line' line kind' kind
     (same_texts w s is told.0.fields fields told.0.texts texts (λ f ts. IsFirstBad f ts input' line' kind') told.0.are are
     told.0.fails.first) first)
-faults o s is p w v (Err (store.Limit reached limit)) fields texts input line kind told served are first fits =
+faults o s is p w v (Err (store.Limit reached limit)) fields texts input line kind (inl told) served are first fits =
     absurd (not_over s is p w reached limit fields texts told.0 are fits)
+faults o s is p w v (Err (store.Limit reached limit)) fields texts input line kind (inr told) served are first fits =
+    absurd (not_over s is p w reached limit fields texts told.1 are fits)
 
 pub answers_texts : (o s : List ℕ) (is : List (List ℕ)) (p : Params) (w v : World) (stored : Result Unit StoreError)
     → StoreTold o s is p w v stored

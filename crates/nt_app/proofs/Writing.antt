@@ -9,7 +9,7 @@ use Rattle.nt_book.specs.declared.params.Params.{Params}
 use Rattle.nt_close.specs.Laws.{EndsOverFirst}
 use Rattle.nt_store.specs.declared.error.StoreError.{StoreError}
 use Rattle.nt_store.specs.declared.error.StoreError.TheVariants as store
-use Rattle.nt_store.specs.Orders.{GainsOrderFront, gains_nothing, gains_front}
+use Rattle.nt_store.specs.Orders.{GainsOrderPart}
 use Rattle.nt_store.specs.Worlds.{AsksFirst, AsksFor, IsLeftByFailure, IsLeftAfter}
 use Rattle.nt_store.specs.Crashes.{IsWholeOf, LeavesAllOrNone}
 use Rattle.nt_store.specs.Stored.{StoresWhole, StoreTold, asked_for}
@@ -30,7 +30,7 @@ memory_writes o s is p state = record {
   stored = Err store.Memory;
   answer_is = refl;
   stores = record {
-    told = λ w at. (w, at, refl, λ other differs. refl, (inl (refl, refl), gains_nothing refl));
+    told = λ w at. (w, at, refl, λ other differs. refl, inl (inl (refl, refl), refl));
     order = nothing_made o state.world state.world refl;
     crash = none_left o s is p state.world state.world (Err store.Memory) refl;
     asked = (0, sym (append-nil state.asked));
@@ -41,11 +41,17 @@ memory_writes o s is p state = record {
 }
 
 -- a message on err changes nothing of what a command left
-gained_after : (s : List ℕ) (is : List (List ℕ)) (p : Params) (w v : World) (err : List ℕ) → GainsOrderFront s is p w v
-    → GainsOrderFront s is p w (record v { err = err })
-gained_after s is p w v err (gains_nothing same) = gains_nothing same
-gained_after s is p w v err (gains_front fields texts order printed left are of out line) =
-    gains_front fields texts order printed left are of out line
+gained_after : (s : List ℕ) (is : List (List ℕ)) (p : Params) (w v : World) (err printed behind : List ℕ)
+    → GainsOrderPart s is p w v printed behind → GainsOrderPart s is p w (record v { err = err }) printed behind
+gained_after s is p w v err printed behind part = record {
+  fields = part.fields;
+  texts = part.texts;
+  are = part.are;
+  order = part.order;
+  of = part.of;
+  line = part.line;
+  gained = part.gained;
+}
 
 whole_after : (o s : List ℕ) (is : List (List ℕ)) (p : Params) (w v : World) (err : List ℕ) → StoresWhole o s is p w v
     → StoresWhole o s is p w (record v { err = err })
@@ -81,14 +87,18 @@ steps_after o Ends v err left = record { at = left.at; log = left.log; there = l
 told_after : (o s : List ℕ) (is : List (List ℕ)) (p : Params) (w v : World) (err : List ℕ) (stored : Result Unit StoreError)
     → StoreTold o s is p w v stored → StoreTold o s is p w (record v { err = err }) stored
 told_after o s is p w v err (Ok done) told = whole_after o s is p w v err told
-told_after o s is p w v err (Err store.Outside) (inl told) =
-    inl (left_after o w v err told.0, gained_after s is p w v err told.1)
-told_after o s is p w v err (Err store.Outside) (inr told) =
-    inr (whole_after o s is p w v err told.0, steps_after o EndsOverFirst v err told.1)
-told_after o s is p w v err (Err store.Memory) told = (told.0, gained_after s is p w v err told.1)
+told_after o s is p w v err (Err store.Outside) (inl told) = inl (left_after o w v err told.0, told.1)
+told_after o s is p w v err (Err store.Outside) (inr (inl (printed, behind, part, left))) =
+    inr (inl (printed, behind, gained_after s is p w v err printed behind part, left))
+told_after o s is p w v err (Err store.Outside) (inr (inr told)) =
+    inr (inr (whole_after o s is p w v err told.0, steps_after o EndsOverFirst v err told.1))
+told_after o s is p w v err (Err store.Memory) (inl told) = inl told
+told_after o s is p w v err (Err store.Memory) (inr (line, part, left)) = inr (line, gained_after s is p w v err line [] part, left)
 told_after o s is p w v err (Err (store.Schema line kind)) told = told
 told_after o s is p w v err (Err (store.Line input line kind)) told = told
-told_after o s is p w v err (Err (store.Limit reached limit)) told = (told.0, told.1, gained_after s is p w v err told.2)
+told_after o s is p w v err (Err (store.Limit reached limit)) (inl told) = inl told
+told_after o s is p w v err (Err (store.Limit reached limit)) (inr (line, over, left, part)) =
+    inr (line, over, left, gained_after s is p w v err line [] part)
 
 -- the outside failed only where the file isn't written for that
 outside_of : (stored : Result Unit StoreError) (answer : Status) → answer ≡ status_of_store stored → answer ≡ status.Outside

@@ -8,7 +8,7 @@ use Rattle.nt_dealing.specs.Limits.{IsOver}
 use Rattle.nt_draws.specs.declared.making.Making.{Making}
 use Rattle.nt_draws.specs.Events.{event_fields}
 use Rattle.nt_store.specs.Whole.{IsStored}
-use Rattle.nt_store.specs.Writing.{PassesLimitOf}
+use Rattle.nt_store.specs.Writing.{LimitBy, PassesLimitOf}
 use Rattle.nt_generate.specs.Made.{made_texts, IsMade, PassesMade, MadeAreRead}
 
 module _ (p : Params) (m : Making) (read : MadeAreRead m) where
@@ -26,7 +26,8 @@ module _ (p : Params) (m : Making) (read : MadeAreRead m) where
   }
 
   -- and a limit that the texts pass is one that the events pass
-  pub made_passes : (reached most : ℕ) → PassesLimitOf event_fields p (made_texts m) reached most → PassesMade p m reached most
+  pub made_passes : {By : LimitBy} (reached most : ℕ) → PassesLimitOf By event_fields p (made_texts m) reached most
+      → PassesMade p m reached most
   made_passes reached most passes = record {
     table = passes.table;
     rows = passes.rows;

@@ -25,7 +25,7 @@ use Rattle.nt_store.specs.declared.error.StoreError.TheVariants.{Outside}
 use Rattle.nt_store.specs.Errors.{error_of_close}
 use Rattle.nt_store.specs.Whole.{IsStored}
 use Rattle.nt_store.specs.Laws.{RangesAreAsLong, FinishedAreStored, PassedAreOver, CrashesLeave}
-use Rattle.nt_store.specs.Writing.{HoldsNow, by_end, KeepsOrder}
+use Rattle.nt_store.specs.Writing.{HoldsNow, KeepsOrder}
 use Rattle.nt_store.specs.Crashes.{CrashLeaves}
 use Rattle.nt_store.specs.Filling.{IsFilledFile, IsOfNoText, CloseLeaves}
 use Rattle.nt_store.proofs.Begun.{shut_open, some_shut}
@@ -103,7 +103,7 @@ module _ (long : RangesAreAsLong) (stored : FinishedAreStored) (over : PassedAre
       table = t;
       rows = filled.holds.rows;
       over = over fields p texts t book filled.ranges len most filled.holds (inl cause.1);
-      by = by_end filled.holds.sound filled.holds.fit;
+      by = record { sound = filled.holds.sound; fit = filled.holds.fit };
     },
     still new.held (left.place.held ∙ is),
   )
@@ -112,7 +112,7 @@ module _ (long : RangesAreAsLong) (stored : FinishedAreStored) (over : PassedAre
       table = t;
       rows = filled.holds.rows;
       over = over fields p texts t book filled.ranges end most filled.holds (inr cause.1);
-      by = by_end filled.holds.sound filled.holds.fit;
+      by = record { sound = filled.holds.sound; fit = filled.holds.fit };
     },
     still new.held (left.place.held ∙ is),
   )

@@ -1,5 +1,5 @@
 -- What is left of a host once the disk of a file is back.
-use Rattle.std.proofs.Common.{◌≡◌, ◌≢◌, ◌∙◌, inl, inr, ap, sym, subst, refl, ℕ, List, Option, Some, Result, Ok, Err}
+use Rattle.std.proofs.Common.{◌≡◌, ◌≢◌, ◌∙◌, inl, inr, ap, sym, subst, refl, ℕ, List, [], ◌∷◌, ◌++◌, Option, Some, Result, Ok, Err}
 use Rattle.std.proofs.Common.{arith}
 use Rattle.std.specs.Option.{option_map}
 use Rattle.std.proofs.lemmas.Map.Lookups.{exact_bytes}
@@ -14,13 +14,13 @@ use Rattle.nt_outside.specs.World.{World, Files, Stored, file, creates, keeps_di
 use Rattle.nt_book.specs.declared.params.Params.{Params}
 use Rattle.nt_store.specs.declared.error.StoreError.{StoreError}
 use Rattle.nt_store.specs.declared.error.StoreError.TheVariants.{Outside, Memory, Schema, Line, Limit}
-use Rattle.nt_store.specs.Orders.{order_line, GainsOrderFront, gains_nothing, gains_front}
+use Rattle.nt_store.specs.Orders.{order_line, GainsOrderPart}
 use Rattle.nt_store.specs.Texts.{AreTexts}
-use Rattle.nt_store.specs.Worlds.{IsThereWith, OthersStay, MakesDisk, IsLeftOpen, IsNeverBegun, IsWrittenInOrder, WritesInOrder}
+use Rattle.nt_store.specs.Worlds.{IsThereWith, OthersStay, IsLeftOpen, LeavesOpen, IsNeverBegun, IsWrittenInOrder, WritesInOrder}
 use Rattle.nt_store.specs.Worlds.{IsLeftAfter}
 use Rattle.nt_close.specs.Laws.{EndsOverFirst}
-use Rattle.nt_store.specs.Stored.{StoresWhole, StoreTold}
-use Rattle.nt_store.specs.Writing.{NeverBegan, PrintsOrderFront, prints_nothing, prints_front, EndsWhole, FileTold, IsInOrderFrom}
+use Rattle.nt_store.specs.Stored.{StoresWhole, IsTooLarge, StoreTold}
+use Rattle.nt_store.specs.Writing.{NeverBegan, PrintsOrderPart, LimitBy, PassesLimitOf, EndsWhole, FileTold, IsInOrderFrom}
 
 -- a disk that came back is found under its name
 pub stored_kept : (files : Files) (name : List ℕ) (s : Stored) → map.get (map.insert files name s) name ≡ Some s
@@ -87,34 +87,34 @@ module _ (out schema : List ℕ) (inputs : List (List ℕ)) (p : Params) (fields
   others : (printed : List ℕ) (h : Held) → OthersStay out w (after printed h)
   others printed h = others_kept out h (prints ToOut printed (creates out w))
 
-  -- the world before the disk is back, with what out gained
-  record IsLeftWith (world : Option World) (h : Held) : Type 0 where
-    pub u : World
-    pub is : world ≡ Some u
-    pub named : u.creating ≡ Some out
-    pub err : u.err ≡ w.err
-    pub made : MakesDisk out w (keeps_disk out h u)
-    pub others : OthersStay out w (keeps_disk out h u)
-    pub gains : GainsOrderFront schema inputs p w (keeps_disk out h u)
-
-  left_with : (world : Option World) (h : Held) → PrintsOrderFront fields p texts (creates out w) world → IsLeftWith world h
-  left_with world h (prints_nothing is) = record {
-    u = creates out w;
-    is = is;
-    named = refl;
-    err = refl;
-    made = refl;
-    others = others_kept out h (creates out w);
-    gains = gains_nothing refl;
+  -- what out gained of the line of an order
+  gains : (world : Option World) (printed behind : List ℕ) (h : Held) → PrintsOrderPart fields p texts (creates out w) world printed behind
+      → GainsOrderPart schema inputs p w (after printed h) printed behind
+  gains world printed behind h part = record {
+    fields = fields;
+    texts = texts;
+    are = are;
+    order = part.order;
+    of = part.of;
+    line = part.line;
+    gained = refl;
   }
-  left_with world h (prints_front order printed left of is line) = record {
-    u = prints ToOut printed (creates out w);
-    is = is;
-    named = refl;
-    err = refl;
-    made = refl;
-    others = others printed h;
-    gains = gains_front fields texts order printed left are of refl line;
+
+  -- the file can't pass for finished
+  leaves_open : (u : World) (h : Held) → u.created ≡ w.created ++ out ∷ [] → BeginsOpen h.image → LeavesOpen out w (keeps_disk out h u)
+  leaves_open u h made begins = (made, kept_open out h u begins)
+
+  -- and the limit is passed
+  too_large : {By : LimitBy} (reached most : ℕ) → PassesLimitOf By fields p texts reached most
+      → IsTooLarge By schema inputs p w reached most
+  too_large reached most passes = record {
+    fields = fields;
+    texts = texts;
+    are = are;
+    table = passes.table;
+    rows = passes.rows;
+    over = passes.over;
+    by = passes.by;
   }
 
   module _ (world world' : Option World) (held : Option Held) (keeps : ComesBack world world' held) where
@@ -132,68 +132,46 @@ module _ (out schema : List ℕ) (inputs : List (List ℕ)) (p : Params) (fields
       printed = refl;
     }
 
+    -- nothing was printed before the disk came back
+    back_same : (h : Held) (result : Result Unit StoreError) → world ≡ Some (creates out w) → held ≡ Some h
+        → StoreTold out schema inputs p w (keeps_disk out h (creates out w)) result → IsBack out schema inputs p w world' result
+    back_same h result is held-is told =
+        (keeps_disk out h (creates out w), keeps out h _ is refl held-is, refl, others_kept out h (creates out w), told)
+
+    -- or so much
+    back_printed : (printed : List ℕ) (h : Held) (result : Result Unit StoreError) → world ≡ Some (prints ToOut printed (creates out w))
+        → held ≡ Some h → StoreTold out schema inputs p w (after printed h) result → IsBack out schema inputs p w world' result
+    back_printed printed h result is held-is told = (after printed h, keeps out h _ is refl held-is, refl, others printed h, told)
+
     -- what the writing of a file leaves
     pub out_told : (result : Result Unit StoreError) → FileTold fields p texts (creates out w) world held result
         → IsBack out schema inputs p w world' result
-    out_told (Ok value) ends = (
-      after (order_line ends.order) ends.file.0,
-      keeps out ends.file.0 _ ends.printed refl ends.file.1,
-      refl,
-      others (order_line
-          ends.order) ends.file.0,
-      whole ends,
-    )
-    out_told (Err Outside) (inr (ends, over)) = (
-      after (order_line ends.order) ends.file.0,
-      keeps out ends.file.0 _ ends.printed refl ends.file.1,
-      refl,
-      others (order_line ends.order) ends.file.0,
-      inr (whole ends, kept_steps EndsOverFirst out ends.file.0 (prints ToOut (order_line ends.order) (creates out w)) over),
-    )
-    out_told (Err Outside) (inl (front, (h, held-is, inl begins))) =
-        let l = left_with world h front in (
-          keeps_disk out h l.u,
-          keeps out h l.u l.is l.named held-is,
-          l.err,
-          l.others,
-          inl (inr (l.made, inl (kept_open out h l.u begins)), l.gains),
-        )
-    out_told (Err Outside) (inl (front, (h, held-is, inr began))) =
-        let l = left_with world h front in (
-          keeps_disk out h l.u,
-          keeps out h l.u l.is l.named held-is,
-          l.err,
-          l.others,
-          inl (inr (l.made, inr (kept_never_begun out h l.u began)), l.gains),
-        )
-    out_told (Err Memory) (front, (h, held-is, begins)) =
-        let l = left_with world h front in (
-          keeps_disk out h l.u,
-          keeps out h l.u l.is l.named held-is,
-          l.err,
-          l.others,
-          (inr (l.made, kept_open out h l.u begins), l.gains),
-        )
-    out_told (Err (Limit reached most)) (passes, front, (h, held-is, begins)) =
-        let l = left_with world h front in (
-          keeps_disk out h l.u,
-          keeps out h l.u l.is l.named held-is,
-          l.err,
-          l.others,
-          (
-            record {
-              fields = fields;
-              texts = texts;
-              are = are;
-              table = passes.table;
-              rows = passes.rows;
-              over = passes.over;
-              by = passes.by;
-            },
-            (l.made, kept_open out h l.u begins),
-            l.gains,
-          ),
-        )
+    out_told (Ok value) ends = back_printed (order_line ends.order) ends.file.0 (Ok value) ends.printed ends.file.1 (whole ends)
+    out_told (Err Outside) (inl (is, (h, held-is, inl begins))) =
+        back_same h (Err Outside) is held-is (inl (inr (refl, inl (kept_open out h (creates out w) begins)), refl))
+    out_told (Err Outside) (inl (is, (h, held-is, inr began))) =
+        back_same h (Err Outside) is held-is (inl (inr (refl, inr (kept_never_begun out h (creates out w) began)), refl))
+    out_told (Err Outside) (inr (inl (printed, behind, part, (h, held-is, begins)))) =
+        back_printed printed h (Err Outside) part.is held-is
+        (inr (inl (printed, behind, gains world printed behind h part, leaves_open (prints ToOut printed (creates out w)) h refl begins)))
+    out_told (Err Outside) (inr (inr (ends, over))) =
+        back_printed (order_line ends.order) ends.file.0 (Err Outside) ends.printed ends.file.1
+        (inr (inr (whole ends, kept_steps EndsOverFirst out ends.file.0 (prints ToOut (order_line ends.order) (creates out w)) over)))
+    out_told (Err Memory) (inl (is, (h, held-is, begins))) =
+        back_same h (Err Memory) is held-is (inl (inr (leaves_open (creates out w) h refl begins), refl))
+    out_told (Err Memory) (inr (line, part, (h, held-is, begins))) =
+        back_printed line h (Err Memory) part.is held-is
+        (inr (line, gains world line [] h part, leaves_open (prints ToOut line (creates out w)) h refl begins))
+    out_told (Err (Limit reached most)) (inl (passes, is, (h, held-is, begins))) =
+        back_same h (Err (Limit reached most)) is held-is
+        (inl (too_large reached most passes, leaves_open (creates out w) h refl begins, refl))
+    out_told (Err (Limit reached most)) (inr (line, passes, part, (h, held-is, begins))) =
+        back_printed line h (Err (Limit reached most)) part.is held-is (inr (
+          line,
+          too_large reached most passes,
+          leaves_open (prints ToOut line (creates out w)) h refl begins,
+          gains world line [] h part,
+        ))
     out_told (Err (Line input line kind)) (first, world-is, (h, held-is, begins)) = (
       keeps_disk out h (creates out w),
       keeps out h _ world-is refl held-is,
@@ -207,18 +185,17 @@ module _ (out schema : List ℕ) (inputs : List (List ℕ)) (p : Params) (fields
     )
     out_told (Err (Schema line kind)) told = absurd told
 
-    front_world : PrintsOrderFront fields p texts (creates out w) world → (u : World) × (world ≡ Some u) × (u.creating ≡ Some out)
-    front_world (prints_nothing is) = (_, is, refl)
-    front_world (prints_front order printed left of is line) = (_, is, refl)
-
     -- the name whose disk is out
     pub left_world : (result : Result Unit StoreError) → FileTold fields p texts (creates out w) world held result
         → (u : World) × (world ≡ Some u) × (u.creating ≡ Some out)
     left_world (Ok value) ends = (_, ends.printed, refl)
-    left_world (Err Outside) (inr ends) = (_, ends.0.printed, refl)
-    left_world (Err Outside) (inl (front, some)) = front_world front
-    left_world (Err Memory) (front, some) = front_world front
-    left_world (Err (Limit reached most)) (passes, front, some) = front_world front
+    left_world (Err Outside) (inl (is, some)) = (_, is, refl)
+    left_world (Err Outside) (inr (inl (printed, behind, part, some))) = (_, part.is, refl)
+    left_world (Err Outside) (inr (inr ends)) = (_, ends.0.printed, refl)
+    left_world (Err Memory) (inl (is, some)) = (_, is, refl)
+    left_world (Err Memory) (inr (line, part, some)) = (_, part.is, refl)
+    left_world (Err (Limit reached most)) (inl (passes, is, some)) = (_, is, refl)
+    left_world (Err (Limit reached most)) (inr (line, passes, part, some)) = (_, part.is, refl)
     left_world (Err (Line input line kind)) (first, world-is, some) = (_, world-is, refl)
     left_world (Err (Schema line kind)) told = absurd told
 

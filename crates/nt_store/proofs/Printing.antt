@@ -12,7 +12,7 @@ use Rattle.nt_store.specs.declared.error.StoreError.{StoreError}
 use Rattle.nt_store.specs.declared.error.StoreError.TheVariants.{Outside, Memory, Schema, Line, Limit}
 use Rattle.nt_store.specs.Orders.{order_line, IsOrderOf}
 use Rattle.nt_store.specs.Whole.{IsStored}
-use Rattle.nt_store.specs.Writing.{HoldsNow, PrintsOrderFront, prints_nothing, prints_front, PrintsOrder, FileTold}
+use Rattle.nt_store.specs.Writing.{HoldsNow, PrintsOrderPart, PrintsOrder, FileTold}
 use Rattle.nt_store.specs.Crashes.{CrashLeaves, EndsAsWhole, CrashesTo}
 use Rattle.nt_store.specs.Filling.{WhyUnfilled, FillLeaves, CloseLeaves}
 use Rattle.nt_store.proofs.Crashing.{leaves_as}
@@ -20,15 +20,15 @@ use Rattle.nt_store.proofs.Crashing.{leaves_as}
 module _ (fields : List MemberData) (p : Params) (texts : List (List ℕ)) (w : World) (new : Option World) where
   -- the front of the line of an order is printed
   pub front_printed : (order line : List ℕ) (n : ℕ) → IsOrderOf p fields texts order → line ≡ order_line order
-      → new ≡ Some (prints ToOut (take n line) w) → PrintsOrderFront fields p texts w new
+      → new ≡ Some (prints ToOut (take n line) w) → PrintsOrderPart fields p texts w new (take n line) (drop n line)
   front_printed order line n of line-is is =
-      prints_front order (take n line) (drop n line) of is (sym line-is ∙ sym (take-append-drop n line))
+      record { order = order; of = of; line = sym line-is ∙ sym (take-append-drop n line); is = is }
 
   -- or all of it
   whole_printed : (book : BookData) → IsOrderOf p fields texts (commit_order book) → PrintsOrder book w new
-      → PrintsOrderFront fields p texts w new
+      → PrintsOrderPart fields p texts w new (order_line (commit_order book)) []
   whole_printed book of is =
-      prints_front (commit_order book) (order_line (commit_order book)) [] of is (sym (append-nil (order_line (commit_order book))))
+      record { order = commit_order book; of = of; line = sym (append-nil (order_line (commit_order book))); is = is }
 
 -- the whole line is printed
 pub line_printed : (book : BookData) (line : List ℕ) (w : World) (new : Option World) → line ≡ order_line (commit_order book)
@@ -39,9 +39,9 @@ module _ (fields : List MemberData) (p : Params) (texts : List (List ℕ)) (w : 
   -- a file that isn't filled
   pub unfilled_told : (e : StoreError) → new ≡ Some w → WhyUnfilled {T = Unit {0}} fields p texts (Err e)
       → FillLeaves fields p texts held (Err e) → FileTold fields p texts w new held (Err e)
-  unfilled_told Outside is why left = inl (prints_nothing is, left)
-  unfilled_told Memory is why left = (prints_nothing is, left)
-  unfilled_told (Limit reached most) is why left = (why, prints_nothing is, left)
+  unfilled_told Outside is why left = inl (is, left)
+  unfilled_told Memory is why left = inl (is, left)
+  unfilled_told (Limit reached most) is why left = inl (why, is, left)
   unfilled_told (Line input line kind) is why left = (why, is, left)
   unfilled_told (Schema line kind) is why left = absurd why
 
@@ -52,12 +52,13 @@ module _ (fields : List MemberData) (p : Params) (texts : List (List ℕ)) (w : 
   closed_told book (Ok value) of printed (h, is, stored) =
       record { order = commit_order book; file = (h, is, stored.0); printed = printed }
   closed_told book (Err Outside) of printed (h, is, inl begins) =
-      inl (whole_printed fields p texts w new book of printed, (h, is, inl begins))
+      inr (inl (order_line (commit_order book), [], whole_printed fields p texts w new book of printed, (h, is, begins)))
   closed_told book (Err Outside) of printed (h, is, inr stored) =
-      inr (record { order = commit_order book; file = (h, is, stored.0); printed = printed }, stored.1)
-  closed_told book (Err Memory) of printed left = (whole_printed fields p texts w new book of printed, left)
+      inr (inr (record { order = commit_order book; file = (h, is, stored.0); printed = printed }, stored.1))
+  closed_told book (Err Memory) of printed left =
+      inr (order_line (commit_order book), whole_printed fields p texts w new book of printed, left)
   closed_told book (Err (Limit reached most)) of printed (passes, left) =
-      (passes, whole_printed fields p texts w new book of printed, left)
+      inr (order_line (commit_order book), passes, whole_printed fields p texts w new book of printed, left)
   closed_told book (Err (Line input line kind)) of printed left = absurd left
   closed_told book (Err (Schema line kind)) of printed left = absurd left
 

@@ -9,7 +9,6 @@ use Rattle.nt_book.specs.declared.params.Params.{Params}
 use Rattle.nt_store.specs.declared.error.StoreError.{StoreError}
 use Rattle.nt_store.specs.declared.error.StoreError.TheVariants.{Outside, Memory, Schema, Line, Limit}
 use Rattle.nt_store.specs.Errors.{error_of_refusal, IsRefusal}
-use Rattle.nt_store.specs.Orders.{gains_nothing}
 use Rattle.nt_store.specs.Schemas.{TellsSchema}
 use Rattle.nt_store.specs.Worlds.{MakesDisk, WritesInOrder}
 use Rattle.nt_store.specs.Stored.{StoreTold}
@@ -31,8 +30,8 @@ nothing_made name old new stays w w' is is' made = absurd (none_made name old ne
 
 refused_as : (out schema : List ℕ) (inputs : List (List ℕ)) (p : Params) (w : World) (e : StoreError) → IsRefusal e
     → StoreTold out schema inputs p w w (Err e)
-refused_as out schema inputs p w Outside is = inl (inl (refl, refl), gains_nothing refl)
-refused_as out schema inputs p w Memory is = (inl (refl, refl), gains_nothing refl)
+refused_as out schema inputs p w Outside is = inl (inl (refl, refl), refl)
+refused_as out schema inputs p w Memory is = inl (inl (refl, refl), refl)
 refused_as out schema inputs p w (Schema line kind) is = absurd is
 refused_as out schema inputs p w (Line input line kind) is = absurd is
 refused_as out schema inputs p w (Limit reached most) is = absurd is
@@ -44,8 +43,8 @@ refused_told out schema inputs p w world e is same = (w, same, refl, λ other di
 
 schema_as : (out schema : List ℕ) (inputs : List (List ℕ)) (p : Params) (w : World) (e : StoreError)
     → TellsSchema (file w schema) (Err e) → StoreTold out schema inputs p w w (Err e)
-schema_as out schema inputs p w Outside told = inl (inl (refl, refl), gains_nothing refl)
-schema_as out schema inputs p w Memory told = (inl (refl, refl), gains_nothing refl)
+schema_as out schema inputs p w Outside told = inl (inl (refl, refl), refl)
+schema_as out schema inputs p w Memory told = inl (inl (refl, refl), refl)
 schema_as out schema inputs p w (Schema line kind) told = (told, (refl, refl), refl)
 schema_as out schema inputs p w (Line input line kind) told = absurd told
 schema_as out schema inputs p w (Limit reached most) told = absurd told

@@ -22,7 +22,7 @@ use Rattle.nt_store.specs.Whole.{IsStored}
 use Rattle.nt_store.specs.Laws.{HoldsChunks}
 use Rattle.nt_store.specs.Crashes.{CrashLeaves}
 use Rattle.nt_store.specs.Worlds.{SomeFailed}
-use Rattle.nt_store.specs.Writing.{HoldsNow, NeverBegan, PassesLimitOf, FailsAtLine, IsInOrderFrom, KeepsOrder}
+use Rattle.nt_store.specs.Writing.{HoldsNow, NeverBegan, PassesEarly, PassesBehind, PassesLimitOf, FailsAtLine, IsInOrderFrom, KeepsOrder}
 
 -- a file is filled: it was begun for these fields, its clusters are the chunks of the texts, dealt out, and it can't pass for finished
 pub record IsFilledFile (fields : List MemberData) (p : Params) (texts : List (List ℕ)) (t : Table) (book : BookData) (h : Held) : Type 0
@@ -39,7 +39,7 @@ abbrev pub WhyUnfilled : {T : Type 0} → List MemberData → Params → List (L
 WhyUnfilled fields p texts (Ok made) = ⊤
 WhyUnfilled fields p texts (Err Outside) = ⊤
 WhyUnfilled fields p texts (Err Memory) = ⊤
-WhyUnfilled fields p texts (Err (Limit reached most)) = PassesLimitOf fields p texts reached most
+WhyUnfilled fields p texts (Err (Limit reached most)) = PassesLimitOf (PassesEarly reached most) fields p texts reached most
 WhyUnfilled fields p texts (Err (Line input line kind)) = FailsAtLine fields p texts input line kind
 WhyUnfilled fields p texts (Err (Schema line kind)) = ⊥
 
@@ -87,7 +87,7 @@ CloseLeaves fields p texts order held (Err Outside) =
     HoldsNow held (λ h. BeginsOpen h.image ⊎ (IsStored p fields texts order h.image × EndsOverFirst h.log))
 CloseLeaves fields p texts order held (Err Memory) = HoldsNow held (λ h. BeginsOpen h.image)
 CloseLeaves fields p texts order held (Err (Limit reached most)) =
-    PassesLimitOf fields p texts reached most × HoldsNow held (λ h. BeginsOpen h.image)
+    PassesLimitOf PassesBehind fields p texts reached most × HoldsNow held (λ h. BeginsOpen h.image)
 CloseLeaves fields p texts order held (Err (Line input line kind)) = ⊥
 CloseLeaves fields p texts order held (Err (Schema line kind)) = ⊥
 

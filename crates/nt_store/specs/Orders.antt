@@ -22,9 +22,12 @@ pub record IsOrderOf (p : Params) (fields : List MemberData) (texts : List (List
   pub sound : AreSound fields texts
   pub uses : UsesFor p.staged order (chunks_of p.cluster fields texts)
 
--- out gained nothing, or the front of the line of an order of all chunks of the texts
-pub data GainsOrderFront (schema : List ℕ) (inputs : List (List ℕ)) (p : Params) (w w' : World) : Type 0 where
-  gains_nothing : w'.out ≡ w.out → GainsOrderFront schema inputs p w w'
-  gains_front : (fields : List MemberData) (texts : List (List ℕ)) (order printed left : List ℕ) → AreTexts w schema inputs fields texts
-      → IsOrderOf p fields texts order → w'.out ≡ w.out ++ printed → order_line order ≡ printed ++ left
-      → GainsOrderFront schema inputs p w w'
+-- out gained this of the line of an order of all chunks of the texts
+pub record GainsOrderPart (schema : List ℕ) (inputs : List (List ℕ)) (p : Params) (w w' : World) (printed behind : List ℕ) : Type 0 where
+  pub fields : List MemberData
+  pub texts : List (List ℕ)
+  pub are : AreTexts w schema inputs fields texts
+  pub order : List ℕ
+  pub of : IsOrderOf p fields texts order
+  pub line : order_line order ≡ printed ++ behind
+  pub gained : w'.out ≡ w.out ++ printed

@@ -37,11 +37,13 @@ HoldsNow held P = (h : Held) × (held ≡ Some h) × P h
 abbrev pub NeverBegan : Held → Type 0
 NeverBegan h = (n : ℕ) × (h.log ≡ FailedAppend n ∷ [])
 
--- out gained nothing, or the front of the line of an order of all chunks of these texts
-pub data PrintsOrderFront (fields : List MemberData) (p : Params) (texts : List (List ℕ)) (w : World) (new : Option World) : Type 0 where
-  prints_nothing : new ≡ Some w → PrintsOrderFront fields p texts w new
-  prints_front : (order printed left : List ℕ) → IsOrderOf p fields texts order → new ≡ Some (prints ToOut printed w)
-      → order_line order ≡ printed ++ left → PrintsOrderFront fields p texts w new
+-- out gained this of the line of an order of all chunks of these texts
+pub record PrintsOrderPart (fields : List MemberData) (p : Params) (texts : List (List ℕ)) (w : World) (new : Option World)
+    (printed behind : List ℕ) : Type 0 where
+  pub order : List ℕ
+  pub of : IsOrderOf p fields texts order
+  pub line : order_line order ≡ printed ++ behind
+  pub is : new ≡ Some (prints ToOut printed w)
 
 -- out gained the whole line of a book's order
 abbrev pub PrintsOrder : BookData → World → Option World → Type 0
@@ -58,19 +60,26 @@ pub record EndsWhole (fields : List MemberData) (p : Params) (texts : List (List
   pub file : HoldsNow held (λ h. IsStored p fields texts order h.image)
   pub printed : new ≡ Some (prints ToOut (order_line order) w)
 
--- what comes first in the writing of a file that passes a limit: its header; a chunk as it is committed, before which nothing fails; or,
--- once all chunks of texts without a bad line are committed, what stands behind them
-pub data PassesBy (t : Table) (fields : List MemberData) (p : Params) (texts : List (List ℕ)) (reached most : ℕ) : Type 0 where
-  by_header : (reached ≡ blob_len (length (header_object t))) ⊎ (reached ≡ clusters_place t) → PassesBy t fields p texts reached most
-  by_chunk : FailsByChunk t fields p texts reached most → PassesBy t fields p texts reached most
-  by_end : AreSound fields texts → CommitsFit t p (all_chunks p.cluster fields texts) → PassesBy t fields p texts reached most
+-- what passes the limit comes before all chunks are committed: the header, or a chunk as it is committed, before which nothing fails
+pub data PassesEarly (reached most : ℕ) (t : Table) (fields : List MemberData) (p : Params) (texts : List (List ℕ)) : Type 0 where
+  by_header : (reached ≡ blob_len (length (header_object t))) ⊎ (reached ≡ clusters_place t) → PassesEarly reached most t fields p texts
+  by_chunk : FailsByChunk t fields p texts reached most → PassesEarly reached most t fields p texts
+
+-- or it stands behind them, once all chunks of texts without a bad line are committed
+pub record PassesBehind (t : Table) (fields : List MemberData) (p : Params) (texts : List (List ℕ)) : Type 0 where
+  pub sound : AreSound fields texts
+  pub fit : CommitsFit t p (all_chunks p.cluster fields texts)
+
+-- what passes a limit first, by the rows of fields, how the file is written, and the texts
+abbrev pub LimitBy : Type 1
+LimitBy = Table → List MemberData → Params → List (List ℕ) → Type 0
 
 -- the chunks of the texts pass this limit, which is the first that anything fails by
-pub record PassesLimitOf (fields : List MemberData) (p : Params) (texts : List (List ℕ)) (reached most : ℕ) : Type 0 where
+pub record PassesLimitOf (By : LimitBy) (fields : List MemberData) (p : Params) (texts : List (List ℕ)) (reached most : ℕ) : Type 0 where
   pub table : Table
   pub rows : Rows fields p.plain table
   pub over : IsOver table p (all_chunks p.cluster fields texts) reached most
-  pub by : PassesBy table fields p texts reached most
+  pub by : By table fields p texts
 
 -- a text has this first bad line, before which nothing fails
 pub record FailsAtLine (fields : List MemberData) (p : Params) (texts : List (List ℕ)) (input line : ℕ) (kind : TextKind) : Type 0 where
@@ -78,16 +87,22 @@ pub record FailsAtLine (fields : List MemberData) (p : Params) (texts : List (Li
   pub rows : Rows fields p.plain table
   pub fails : FailsByLine table fields p texts input line kind
 
--- what the writing of a file from its fields and texts leaves, by the answer. Where the outside failed and the file is whole nevertheless,
--- the last step was over its first byte, or a sync behind that failed
+-- what the writing of a file from its fields and texts leaves, by the answer. Out gains the line of the order only once all chunks are
+-- committed: whole where memory or a limit ends it then, and a part of it where the outside fails. Where that failed and the file is whole
+-- nevertheless, the last step was over its first byte, or a sync behind that failed
 abbrev pub FileTold : List MemberData → Params → List (List ℕ) → World → Option World → Option Held → Result Unit StoreError → Type 0
 FileTold fields p texts w new held (Ok done) = EndsWhole fields p texts w new held
 FileTold fields p texts w new held (Err Outside) =
-    (PrintsOrderFront fields p texts w new × HoldsNow held (λ h. BeginsOpen h.image ⊎ NeverBegan h))
-    ⊎ ((ends : EndsWhole fields p texts w new held) × EndsOverFirst ends.file.0.log)
-FileTold fields p texts w new held (Err Memory) = PrintsOrderFront fields p texts w new × HoldsNow held (λ h. BeginsOpen h.image)
+    ((new ≡ Some w) × HoldsNow held (λ h. BeginsOpen h.image ⊎ NeverBegan h))
+    ⊎ (((printed behind : List ℕ) × PrintsOrderPart fields p texts w new printed behind × HoldsNow held (λ h. BeginsOpen h.image))
+    ⊎ ((ends : EndsWhole fields p texts w new held) × EndsOverFirst ends.file.0.log))
+FileTold fields p texts w new held (Err Memory) =
+    ((new ≡ Some w) × HoldsNow held (λ h. BeginsOpen h.image))
+    ⊎ ((line : List ℕ) × PrintsOrderPart fields p texts w new line [] × HoldsNow held (λ h. BeginsOpen h.image))
 FileTold fields p texts w new held (Err (Limit reached most)) =
-    PassesLimitOf fields p texts reached most × PrintsOrderFront fields p texts w new × HoldsNow held (λ h. BeginsOpen h.image)
+    (PassesLimitOf (PassesEarly reached most) fields p texts reached most × (new ≡ Some w) × HoldsNow held (λ h. BeginsOpen h.image))
+    ⊎ ((line : List ℕ) × PassesLimitOf PassesBehind fields p texts reached most × PrintsOrderPart fields p texts w new line []
+    × HoldsNow held (λ h. BeginsOpen h.image))
 FileTold fields p texts w new held (Err (Line input line kind)) =
     FailsAtLine fields p texts input line kind × (new ≡ Some w) × HoldsNow held (λ h. BeginsOpen h.image)
 FileTold fields p texts w new held (Err (Schema line kind)) = ⊥

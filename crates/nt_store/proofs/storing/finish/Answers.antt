@@ -1,11 +1,10 @@
-use Rattle.std.proofs.Common.{◌∙◌, ap, inl, arith}
+use Rattle.std.proofs.Common.{◌∙◌, ap, inl, inr, arith}
 use Rattle.std.proofs.lemmas.Result.{err_from_is_err_and}
 use Rattle.nt_dealing.specs.Dealt.{commit_order}
 use Rattle.nt_store.specs.declared.error.StoreError.TheVariants.{Outside}
 use Rattle.nt_store.specs.Orders.{order_line}
 use Rattle.nt_store.proofs.Begun.{shut_open}
 use Rattle.nt_store.proofs.Crashing.{leaves_open}
-use Rattle.nt_store.specs.Writing.{prints_nothing}
 use Rattle.nt_store.proofs.Printing.{front_printed, line_printed, closed_told, closed_crashes}
 use Rattle.nt_store.proofs.storing.finish.Goals as goal
 
@@ -13,7 +12,7 @@ pub returns-in_err-order-clause-file : goal.returns-in_err-order-clause-file
 returns-in_err-order-clause-file g c =
     let p = err_from_is_err_and c.from_residual.result c.from_residual.ensures.1 in
     record {
-      told = λ fields ts w h is held filled. rw (p.1, p.2) (prints_nothing is, (h, held, shut_open h.image filled.shut));
+      told = λ fields ts w h is held filled. rw (p.1, p.2) (inl (is, (h, held, shut_open h.image filled.shut)));
       order = λ h held. (h, held, λ shut order. order);
       crash = λ fields ts w h is held filled. rw (p.1, p.2) (h, held, filled.unfinished);
     }
@@ -22,7 +21,7 @@ pub returns-in_err-line-clause-file : goal.returns-in_err-line-clause-file
 returns-in_err-line-clause-file g c =
     let p = err_from_is_err_and c.from_residual-in_err-line.result c.from_residual-in_err-line.ensures.1 in
     record {
-      told = λ fields ts w h is held filled. rw (p.1, p.2) (prints_nothing is, (h, held, shut_open h.image filled.shut));
+      told = λ fields ts w h is held filled. rw (p.1, p.2) (inl (is, (h, held, shut_open h.image filled.shut)));
       order = λ h held. (h, held, λ shut order. order);
       crash = λ fields ts w h is held filled. rw (p.1, p.2) (h, held, filled.unfinished);
     }
@@ -34,11 +33,13 @@ returns-in_err-print_all-clause-file g c =
     record {
       told = λ fields ts w h is held filled.
           let front = c.print_all.ensures.front w is in
-          rw (p.1, p.2) (inl (
+          rw (p.1, p.2) (inr (inl (
+            _,
+            _,
             front_printed fields c.args.params.now ts w _ (commit_order c.args.book.now) c.deref-2.result.now front.0
                 (record { sound = filled.holds.sound; uses = filled.holds.are.uses }) line front.2,
-            (h, held, inl (shut_open h.image filled.shut)),
-          ));
+            (h, held, shut_open h.image filled.shut),
+          )));
       order = λ h held. (h, held, λ shut order. order);
       crash = λ fields ts w h is held filled. rw (p.1, p.2) (h, held, leaves_open _ h.log Outside filled.unfinished);
     }
