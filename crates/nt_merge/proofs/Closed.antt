@@ -47,6 +47,7 @@ use Rattle.nt_seq.proofs.Plain.{plain-file}
 use Rattle.nt_merge.specs.Copying.{HasMerged}
 use Rattle.nt_merge.specs.Merging.{Numbered, sources, readings, copied_metas, IsMerging, IsMerged, IsMergedFile, IsUnfinished}
 use Rattle.nt_merge.specs.Merging.{IsCutAt, IsCutFile, shut, cut_unclosed, cut_whole}
+use Rattle.nt_merge.proofs.AtEnd.{all-beside, none-first}
 
 -- what nt_merge_limits says of a file within the limits
 abbrev pub FitsWithin : Type 0
@@ -138,7 +139,8 @@ module _ (t : Table) (p : Params) (given old : DiskState) (book : BookData) (ns 
             image-is;
         fits = subst (λ (ms : List ClusterMeta). MergeFits t p ms)
             (has.copies.metas ∙ ap (λ (l : List Numbered). copied_metas l) (take-whole ns))
-            (fit t p book (record { kept = kept; begin = is.closable.begin; limits = is.limits; beside = beside }) stays is.short is.few);
+            (fit t p book (all-beside t p given old book ns is kept has) stays is.short is.few);
+        none_refused = none-first t p given old book ns is kept has passed;
       }
 
   pub whole : passed_by_close p t book ≡ None → IsMergedFile t p ns (closed_on behind before h).image

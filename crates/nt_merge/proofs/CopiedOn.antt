@@ -1,6 +1,6 @@
 -- The next cluster of a file, copied behind those before it.
 use Rattle.std.proofs.Common.{◌≡◌, ◌∙◌, ap, sym, subst, ℕ, ◌+◌, ◌<◌, List, [], ◌∷◌, ◌++◌, length, take, drop, Option, Some}
-use Rattle.std.proofs.Common.{Ok, Err, arith}
+use Rattle.std.proofs.Common.{None, Ok, Err, arith}
 use Rattle.nt_num.specs.declared.fault.ReadError.{ReadError}
 use Rattle.nt_types.specs.TreeData.{TreesData}
 use Rattle.std.proofs.lemmas.List.{length-map}
@@ -25,11 +25,15 @@ use Rattle.nt_seq.proofs.Flat.{listed-flat}
 use Rattle.nt_merge.specs.declared.copy_error.CopyError.{CopyError}
 use Rattle.nt_merge.specs.declared.copy_error.CopyError.TheVariants.{Read, Commit}
 use Rattle.nt_merge.specs.Copying.{AreOfFile, IsJoinable, HasMerged, CopiesCluster, IsReadOver, LeavesCluster, ToldUpTo, source_at}
-use Rattle.nt_merge.specs.Merging.{Numbered, reading_of, readings, sound_numbered, copied_meta, copied_metas, IsMerging, HasCopies}
+use Rattle.nt_merge.specs.Fronts.{passed_by_copy}
+use Rattle.nt_merge.specs.Merging.{Numbered, reading_of, readings, sound_numbered, copied_meta, copied_metas, refused_behind, first_refusal}
+use Rattle.nt_merge.specs.Merging.{IsFirstMergeFault, IsFirstMergeLimit, IsMerging, HasCopies}
 use Rattle.nt_merge.specs.Planning.{of_file}
-use Rattle.nt_merge.proofs.GoingOn.{copies-more}
+use Rattle.nt_merge.proofs.First.{fault-first, copy-first, copy-fits}
+use Rattle.nt_merge.proofs.Fronts.{copy-front, listed-next}
+use Rattle.nt_merge.proofs.GoingOn.{copies-more, metas-more}
 use Rattle.nt_merge.proofs.Numbering.{read-more, read-fault, sound-next}
-use Rattle.nt_merge.proofs.Positions.{here, behind, next-here, take-next, metas-append}
+use Rattle.nt_merge.proofs.Positions.{here, behind, next-here, take-next, drop-more, metas-append}
 
 -- what a file passes where a cluster is put behind others, the whole file passes
 abbrev pub AppendedPass : Type 0
@@ -61,13 +65,47 @@ module _ (t : Table) (p : Params) (given old : DiskState) (book : BookData) (is 
         columns_are ∙ (sym firsts ∙ (long ∙ sym able.as_many))
 
     module _ (bytes : Option (List ℕ)) (told : bytes ≡ Some b) (new : DiskState) (book' : BookData)
-        (has : HasMerged t p given old book ns (at + k)) where
+        (has : HasMerged t p given old book ns (at + k)) (kept : IsBookKept book) where
+      beside : IsBookBeside t p book
+      beside = record {
+        kept = kept;
+        begin = is.closable.begin;
+        limits = is.limits;
+        beside = listed-flat t p book is.closable.noted is.not_staged is.untorn;
+      }
+
+      -- what is kept of the clusters so far
+      abbrev metas : List ClusterMeta
+      metas = copied_metas (take (at + k) ns)
+
+      -- nothing is refused before the next one
+      so-far : first_refusal t p ns ≡ refused_behind t p metas (n ∷ rest)
+      so-far = has.reach ∙ ap (λ (l : List Numbered). refused_behind t p metas l) next
+
+      -- the limit that a copy passes
+      passed-here : (len : ℕ)
+          → passed_by_copy t p metas len
+          ≡ limit_error_with book.limits (book_end book) (length (book_ranges book)) len (length (due_bytes book))
+      passed-here len =
+          sym (copy-front t p book beside has.listed len
+          ∙ ap (λ (ms : List ClusterMeta). passed_by_copy t p ms len) has.copies.metas)
+
       pub copied-on : CopiesCluster bytes o k columns old new book book' → HasMerged t p given new book' ns (at + (k + 1))
       copied-on copies =
           let one = copies.told b told as-many in
+          let sum : at + k + 1 ≡ at + (k + 1) = omega arith in
+          let all : metas ++ copied_meta n.source ∷ [] ≡ copied_metas (take (at + (k + 1)) ns) =
+          sym (metas-append (take (at + k) ns) (n ∷ []))
+          ∙ ap copied_metas (take-next ns (at + k) n rest next ∙ ap (λ (m : ℕ). take m ns) sum) in
+          let left : rest ≡ drop (at + (k + 1)) ns =
+          sym (ap (λ (l : List Numbered). drop 1 l) next)
+          ∙ (sym (drop-more ns (at + k) 1) ∙ ap (λ (m : ℕ). drop m ns) sum) in
+          let none : passed_by_copy t p metas (copied_meta n.source).len ≡ None =
+          passed-here (copied_meta n.source).len
+          ∙ (ap (λ (m : ClusterMeta). limit_error_with book.limits (book_end book) (length (book_ranges book)) m.len
+          (length (due_bytes book))) (sym one.meta_is) ∙ copies.fits) in
           let more : take (at + k) ns ++ n ∷ [] ≡ take (at + (k + 1)) ns =
-          (let sum : at + k + 1 ≡ at + (k + 1) = omega arith in
-          take-next ns (at + k) n rest next ∙ ap (λ (m : ℕ). take m ns) sum) in
+          take-next ns (at + k) n rest next ∙ ap (λ (m : ℕ). take m ns) sum in
           let lists : List (List TreesData) = has.lists ++ one.entries ∷ [] in
           record {
             lists = lists;
@@ -76,14 +114,23 @@ module _ (t : Table) (p : Params) (given old : DiskState) (book : BookData) (is 
             copies = subst (λ (l : List Numbered). HasCopies t p given new book' l lists) more
                 (copies-more t p given old new book book' copies.image copies.fits copies.next is n one.entries
                 (one.copy t able.alike able.none_deferred) one.meta_is (take (at + k) ns) has.lists has.copies);
+            listed = listed-next t p book beside book' copies.image.meta
+                (ap (λ (c : BookData). c.lists) copies.next.appends.gains.same)
+                (metas-more t p given old new book book' copies.image copies.fits copies.next is);
+            reach = so-far
+                ∙ (copy-fits t p rest metas n one.entries (read-as one.entries one.read) none
+                ∙ (ap (λ (ms : List ClusterMeta). refused_behind t p ms rest) all
+                ∙ ap (λ (l : List Numbered). refused_behind t p (copied_metas (take (at + (k + 1)) ns)) l) left));
           }
 
-      fault-told : (e : ReadError) → cluster_of b o.table k (numbered_cluster o k) ≡ Err e → readings ns ≡ Err (file, e)
-      fault-told e read = read-fault ns (at + k) has.lists has.read n rest next (file, e) (ap (of_file file) read)
+      fault-told : (e : ReadError) → cluster_of b o.table k (numbered_cluster o k) ≡ Err e → IsFirstMergeFault t p ns file e
+      fault-told e read = record {
+        fault = read-fault ns (at + k) has.lists has.read n rest next (file, e) (ap (of_file file) read);
+        first = so-far ∙ fault-first t p rest metas n (file, e) (ap (of_file file) read);
+      }
 
-      module _ (kept : IsBookKept book) (pass : AppendedPass) where
-        over-told : (error : LimitError) → IsReadOver (source_at b o k) k book (Some error)
-            → MergeOverBy t p (copied_metas (sound_numbered ns)) error
+      module _ (pass : AppendedPass) where
+        over-told : (error : LimitError) → IsReadOver (source_at b o k) k book (Some error) → IsFirstMergeLimit t p ns error
         over-told error over =
             let more = copied_metas (sound_numbered rest) in
             let sound : sound_numbered ns ≡ take (at + k) ns ++ n ∷ sound_numbered rest =
@@ -91,13 +138,13 @@ module _ (t : Table) (p : Params) (given old : DiskState) (book : BookData) (is 
             let same : kept_metas book ++ copied_meta n.source ∷ more ≡ copied_metas (sound_numbered ns) =
             ap (λ (ms : List ClusterMeta). ms ++ copied_meta n.source ∷ more) has.copies.metas
             ∙ sym (ap copied_metas sound ∙ metas-append (take (at + k) ns) (n ∷ sound_numbered rest)) in
-            subst (λ (ms : List ClusterMeta). MergeOverBy t p ms error) same
-            (pass t p book (record {
-              kept = kept;
-              begin = is.closable.begin;
-              limits = is.limits;
-              beside = listed-flat t p book is.closable.noted is.not_staged is.untorn;
-            }) (copied_meta n.source) more error over.passes)
+            record {
+              over = subst (λ (ms : List ClusterMeta). MergeOverBy t p ms error) same
+                  (pass t p book beside (copied_meta n.source) more error over.passes);
+              first = so-far
+                  ∙ copy-first t p rest metas n over.entries error (read-as over.entries over.read)
+                  (passed-here (copied_meta n.source).len ∙ over.passes);
+            }
 
         -- what is told where it wasn't copied
         pub refusal-told : (all : ℕ) (e : CopyError) → LeavesCluster bytes o k columns old new book book' (Err e)

@@ -22,7 +22,6 @@ use Rattle.nt_pagelists.proofs.Named.{clusters-unstaged}
 use Rattle.nt_pagelists.specs.Blobs.{blob_len}
 use Rattle.nt_pagelists.specs.Objects.{ClusterSpan, list_len}
 use Rattle.nt_layout.specs.Headers.{header_sum}
-use Rattle.nt_layout.specs.Groups.{PlacedList, places_beside}
 use Rattle.nt_layout.specs.Finished.{spans, list_places, footer_object, file_len}
 use Rattle.nt_close.specs.Closing.{IsClosed, IsCloseCut}
 use Rattle.nt_close.specs.Damage.{IsUndamaged}
@@ -36,10 +35,10 @@ use Rattle.nt_merge_limits.specs.Limits.{kept_metas, IsBookBeside, MergeOverBy}
 use Rattle.nt_seq.specs.Crashes.{AppendsLeave}
 use Rattle.nt_seq.specs.Standing.{IsSettledCluster}
 use Rattle.nt_seq.specs.Written.{file_so_far}
-use Rattle.nt_seq.proofs.Flat.{params-flat, listed-flat, passed-flat}
 use Rattle.nt_merge.specs.Copying.{HasMerged}
-use Rattle.nt_merge.specs.Merging.{Numbered, sources, readings, sound_numbered, copied_metas, IsMerging}
+use Rattle.nt_merge.specs.Merging.{Numbered, sources, readings, sound_numbered, copied_metas, IsFirstMergeLimit, IsMerging}
 use Rattle.nt_merge.specs.Merging.{EndsMerge, IsCutFile, merged_entries}
+use Rattle.nt_merge.proofs.AtEnd.{passed-lists, all-beside, close-first}
 use Rattle.nt_merge.proofs.Closed.{MadeOfCopies, FitsWithin, merged, in-order, closed-crash, cut-open, take-whole}
 use Rattle.nt_merge.proofs.Numbering.{sound-all}
 
@@ -89,13 +88,6 @@ undamaged t p given old book is =
 
 -- ---- a limit that a close passes
 
-left-lens : (sum : ℕ) (book : BookData) (n : ℕ) (ss : List ClusterSpan)
-    → map (λ (l : PlacedList). list_len sum book l.span) (drop n (places_beside book ss)) ≡ map (list_len sum book) (drop n ss)
-left-lens sum book zero [] = refl
-left-lens sum book zero (s ∷ ss) = ap (λ (l : List ℕ). list_len sum book s ∷ l) (left-lens sum book zero ss)
-left-lens sum book (suc n) [] = refl
-left-lens sum book (suc n) (s ∷ ss) = left-lens sum book n ss
-
 in-drop : {A : Type 0} (n : ℕ) (xs : List A) (x : A) → Contains (drop n xs) x → Contains xs x
 in-drop zero xs x has = has
 in-drop (suc n) [] x has = has
@@ -122,24 +114,14 @@ module _ (t : Table) (p : Params) (given old : DiskState) (book : BookData) (ns 
   metas-are =
       has.copies.metas ∙ ap (λ (l : List Numbered). copied_metas l) (take-whole ns ∙ sym (sound-all ns has.lists read-all))
 
-  pub close-over : ClosedPass → (error : LimitError) → passed_by_close p t book ≡ Some error
-      → MergeOverBy t p (copied_metas (sound_numbered ns)) error
-  close-over pass error passed =
-      let left = drop (length book.lists) (spans book p.group) in
-      let foot = blob_len (length (footer_object t book (list_places false t book p.group))) in
-      let end = file_len t book (list_places false t book p.group) in
-      let lens : map (λ (l : PlacedList). list_len (header_sum t) book l.span) (drop (length book.lists) (places_beside book (spans book
-      p.group))) ≡ map (list_len (header_sum t) book) left =
-      left-lens (header_sum t) book (length book.lists) (spans book p.group) in
-      subst (λ (ms : List ClusterMeta). MergeOverBy t p ms error) metas-are
-      (pass t p book (record {
-        kept = kept;
-        begin = is.closable.begin;
-        limits = is.limits;
-        beside = listed-flat t p book is.closable.noted is.not_staged is.untorn;
-      }) false left error (λ s. in-drop (length book.lists) (spans book p.group) s)
-      (subst (λ (l : List ℕ). first_passed p.limits (l ++ foot ∷ []) end ≡ Some error) lens
-      (sym (passed-flat t p book (params-flat t p book is.closable.noted is.not_staged)) ∙ passed)))
+  pub close-over : ClosedPass → (error : LimitError) → passed_by_close p t book ≡ Some error → IsFirstMergeLimit t p ns error
+  close-over pass error passed = record {
+    over = subst (λ (ms : List ClusterMeta). MergeOverBy t p ms error) metas-are
+        (pass t p book (all-beside t p given old book ns is kept has) false (drop (length book.lists) (spans book p.group)) error
+        (λ s. in-drop (length book.lists) (spans book p.group) s)
+        (sym (passed-lists t p book is.closable.noted is.not_staged) ∙ passed));
+    first = close-first t p given old book ns is kept has error passed;
+  }
 
   module _ (finishes : ClosedIsFinished) (made : MadeOfCopies) (fit : FitsWithin) (leave : AppendsLeave) (new : DiskState)
       (passed : passed_by_close p t book ≡ None) where

@@ -97,7 +97,7 @@ module _ (t : Table) (p : Params) (given old new : DiskState) (book next : BookD
       (AllByRecursion-append IsSettledCluster (book_clusters book) (cluster ∷ []) is.settled (refl, tt))
 
   -- what is kept of its clusters
-  metas-more : kept_metas next ≡ kept_metas book ++ i.meta ∷ []
+  pub metas-more : kept_metas next ≡ kept_metas book ++ i.meta ∷ []
   metas-more =
       ap (λ (cs : List (Cluster ClusterMeta)). map (λ (c : Cluster ClusterMeta). c.meta) cs) appends.gains.clusters
       ∙ map-append (λ (c : Cluster ClusterMeta). c.meta) (book_clusters book) (cluster ∷ [])

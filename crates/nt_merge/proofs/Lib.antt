@@ -3,6 +3,9 @@ pub mod Lists
 pub mod Kept
 pub mod Mergeable
 pub mod Numbering
+pub mod Fronts
+pub mod First
+pub mod AtEnd
 pub mod GoingOn
 pub mod Started
 pub mod Closed

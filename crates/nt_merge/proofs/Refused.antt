@@ -24,8 +24,19 @@ use Rattle.nt_merge.specs.declared.error.MergeError.{MergeError}
 use Rattle.nt_merge.specs.declared.error.MergeError.TheVariants.{Defect, Schema, RangeTooLarge, FileTooLarge, TooManyClusters, ReadFault}
 use Rattle.nt_merge.specs.declared.error.MergeError.TheVariants.{DiskFault, Memory}
 use Rattle.nt_merge.specs.Joining.{RefusesTarget, ToldOfAll}
-use Rattle.nt_merge.specs.Merging.{Numbered, sound_numbered, copied_metas, IsCutAt, IsCutFile, IsLeftUnfinished, MergesTold}
-use Rattle.nt_merge.specs.Merging.{nothing_written, shut, cut_unclosed, torn_at_once}
+use Rattle.nt_merge.specs.Merging.{Numbered, sound_numbered, copied_metas, IsFirstMergeLimit, IsCutAt, IsCutFile, IsLeftUnfinished}
+use Rattle.nt_merge.specs.Merging.{MergesTold, nothing_written, shut, cut_unclosed, torn_at_once}
+use Rattle.nt_merge.proofs.First.{header-first}
+
+-- what a file passes where it is begun, a file of any clusters passes
+abbrev pub BegunPass : Table → Params → Type 0
+BegunPass t p =
+    (metas : List ClusterMeta) (error : LimitError) → passed_by_begin p.limits t ≡ Some error → MergeOverBy t p metas error
+
+begin-over : (t : Table) (p : Params) (ns : List Numbered) → BegunPass t p → (passed : LimitError)
+    → passed_by_begin p.limits t ≡ Some passed → IsFirstMergeLimit t p ns passed
+begin-over t p ns pass passed is =
+    record { over = pass (copied_metas (sound_numbered ns)) passed is; first = header-first t p ns passed is }
 
 no-sync : (before after : List Step) → [] ≡ before ++ Sync ∷ after → ⊥
 no-sync [] after is = cc is
@@ -75,17 +86,16 @@ module _ (old new : DiskState) (empty : WhereHeld old.held (λ (h : Held). h ≡
       opened (inr (n, is)) = torn_at_once n is
 
   -- the file wasn't begun
-  pub begin-refused : (t : Table) (p : Params) (ns : List Numbered)
-      → ((metas : List ClusterMeta) (error : LimitError) → passed_by_begin p.limits t ≡ Some error → MergeOverBy t p metas error)
-      → (e : MergeError) → RefusesTarget t p old new e → MergesTold t p ns old new (Err e)
+  pub begin-refused : (t : Table) (p : Params) (ns : List Numbered) → BegunPass t p → (e : MergeError) → RefusesTarget t p old new e
+      → MergesTold t p ns old new (Err e)
   begin-refused t p ns pass (Defect file e) never = absurd never
   begin-refused t p ns pass (Schema place) never = absurd never
   begin-refused t p ns pass (RangeTooLarge len most) is = record {
-    over = pass (copied_metas (sound_numbered ns)) (limit.RangeTooLarge len most) is.0;
+    first = begin-over t p ns pass (limit.RangeTooLarge len most) is.0;
     left = untouched-unfinished is.1.place.held;
   }
   begin-refused t p ns pass (FileTooLarge end most) is = record {
-    over = pass (copied_metas (sound_numbered ns)) (limit.FileTooLarge end most) is.0;
+    first = begin-over t p ns pass (limit.FileTooLarge end most) is.0;
     left = untouched-unfinished is.1.place.held;
   }
   begin-refused t p ns pass TooManyClusters never = absurd never
@@ -106,9 +116,9 @@ pub copies-refused : (t : Table) (p : Params) (given new : DiskState) (book : Bo
     → IsLeftUnfinished given new → ToldOfAll t p given new book ns (Err e) → MergesTold t p ns given new (Err e)
 copies-refused t p given new book ns (Defect file e) left told = (told, left)
 copies-refused t p given new book ns (Schema place) left told = absurd told
-copies-refused t p given new book ns (RangeTooLarge len most) left told = record { over = told; left = left }
-copies-refused t p given new book ns (FileTooLarge end most) left told = record { over = told; left = left }
-copies-refused t p given new book ns TooManyClusters left told = record { over = told; left = left }
+copies-refused t p given new book ns (RangeTooLarge len most) left told = record { first = told; left = left }
+copies-refused t p given new book ns (FileTooLarge end most) left told = record { first = told; left = left }
+copies-refused t p given new book ns TooManyClusters left told = record { first = told; left = left }
 copies-refused t p given new book ns ReadFault left told = left
 copies-refused t p given new book ns DiskFault left told = unfinished-cut t p ns given new left
 copies-refused t p given new book ns Memory left told = left

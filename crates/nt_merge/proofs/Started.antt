@@ -22,8 +22,12 @@ use Rattle.nt_close.specs.Steps.{begun_on}
 use Rattle.nt_copied.specs.Copies.{AreCopies, NoneDeferred, no_copy}
 use Rattle.nt_seq.specs.Standing.{IsSettledCluster}
 use Rattle.nt_seq.specs.Written.{file_so_far}
+use Rattle.nt_merge_limits.specs.Limits.{kept_metas}
 use Rattle.nt_merge.specs.Copying.{HasMerged}
+use Rattle.nt_merge.specs.Fronts.{lists_in_front}
 use Rattle.nt_merge.specs.Merging.{Numbered, IsMerging}
+use Rattle.nt_merge.proofs.First.{header-fits}
+use Rattle.nt_merge.proofs.Fronts.{none-listed}
 
 firsts_none : (rows : List ColumnRow) → AllByRecursion (λ (c : ColumnRow). c.first ≡ 0) rows
     → map (λ (c : ColumnRow). c.first) rows ≡ replicate (length rows) 0
@@ -73,6 +77,9 @@ module _ (t : Table) (p : Params) (given new : DiskState) (book : BookData) (fla
     few = omega (arith, ap length none-yet);
   }
 
+  none-kept : kept_metas book ≡ []
+  none-kept = ap (map (λ (c : Cluster ClusterMeta). c.meta)) none-yet
+
   -- none was yet
   pub merged-none : (ns : List Numbered) → HasMerged t p given new book ns 0
   merged-none ns = record {
@@ -81,8 +88,11 @@ module _ (t : Table) (p : Params) (given new : DiskState) (book : BookData) (fla
     copies = record {
       ranges = [];
       copies = subst (λ (cs : List (Cluster ClusterMeta)). AreCopies t [] [] [] cs) (sym none-yet) no_copy;
-      metas = ap (map (λ (c : Cluster ClusterMeta). c.meta)) none-yet;
+      metas = none-kept;
       held = subst (λ (b : BookData). Becomes given.held new.held (λ h. file_so_far t (part_bytes (parts_so_far t b p.group []))))
           (sym is.book_is) held-begun;
     };
+    listed = ap (λ (b : BookData). length b.lists) is.book_is
+        ∙ (sym (none-listed p.group) ∙ ap (λ (ms : List ClusterMeta). lists_in_front p.group (length ms)) (sym none-kept));
+    reach = header-fits t p ns is.within;
   }

@@ -27,12 +27,13 @@ use Rattle.nt_copied.specs.Copies.{Source, ReadAlike, NoneDeferred, IsCopyOf}
 use Rattle.nt_copied.specs.Stored.{stored_payload, stored_meta}
 use Rattle.nt_copying.specs.Copied.{HaveTheirSums, all_loaded, copied_columns}
 use Rattle.nt_append.specs.Appending.{FailsOnDisk, KeepsDiskAndBook, range_behind, settled_cluster, with_due_list}
-use Rattle.nt_merge_limits.specs.Limits.{MergeOverBy}
+use Rattle.nt_merge_limits.specs.Limits.{kept_metas}
 use Rattle.nt_seq.specs.Beside.{AppendsNext}
 use Rattle.nt_merge.specs.declared.copy_error.CopyError.{CopyError}
 use Rattle.nt_merge.specs.declared.copy_error.CopyError.TheVariants.{Read, Commit}
-use Rattle.nt_merge.specs.Merging.{Numbered, numbered_from, readings, sound_numbered, copied_meta, copied_metas, IsMerging, HasCopies}
-use Rattle.nt_merge.specs.Merging.{IsLeftUnfinished}
+use Rattle.nt_merge.specs.Fronts.{lists_in_front}
+use Rattle.nt_merge.specs.Merging.{Numbered, numbered_from, readings, copied_meta, copied_metas, refused_behind, first_refusal}
+use Rattle.nt_merge.specs.Merging.{IsFirstMergeFault, IsFirstMergeLimit, IsMerging, HasCopies, IsLeftUnfinished}
 
 -- a loaded cluster can be copied behind the clusters of a book of so many columns, which ends where the disk does and isn't staged
 pub record MayCopy (l : Loaded) (columns : ℕ) (disk : DiskState) (book : BookData) : Type 0 where
@@ -146,11 +147,13 @@ pub record ServesCopy (old new : FileState) (disk disk' : DiskState) (result : R
 
 -- ---- clusters that are copied one after the other
 
--- the first of these clusters were copied, all of them read
+-- the first of these clusters were copied, all of them read, with the page lists among them, and nothing of them was refused
 pub record HasMerged (t : Table) (p : Params) (given disk : DiskState) (book : BookData) (ns : List Numbered) (k : ℕ) : Type 0 where
   pub lists : List (List TreesData)
   pub read : readings (take k ns) ≡ Ok lists
   pub copies : HasCopies t p given disk book (take k ns) lists
+  pub listed : length book.lists ≡ lists_in_front p.group (length (kept_metas book))
+  pub reach : first_refusal t p ns ≡ refused_behind t p (copied_metas (take k ns)) (drop k ns)
 
 -- from a place on these clusters are those of a file of this number with these bytes and this outline, and others
 pub record AreOfFile (file : ℕ) (b : List ℕ) (o : Outline) (ns : List Numbered) (at : ℕ) : Type 0 where
@@ -163,21 +166,21 @@ pub record IsJoinable (t u : Table) : Type 0 where
   pub none_deferred : NoneDeferred u.columns
   pub as_many : length u.columns ≡ length t.columns
 
--- what is told of clusters up to a place, by the answer: they are copied; or which is the first fault; or a limit that the file of those
--- before it passes
+-- what is told of clusters up to a place, by the answer: they are copied; or what is refused first, which is the first fault, or a limit
+-- that the file of those before it passes
 abbrev pub ToldUpTo : ℕ → Table → Params → DiskState → DiskState → BookData → List Numbered → ℕ → Result Unit CopyError → Type 0
 ToldUpTo file t p given new book ns at (Ok done) = HasMerged t p given new book ns at
-ToldUpTo file t p given new book ns at (Err (Read (failure.Defect e))) = readings ns ≡ Err (file, e)
+ToldUpTo file t p given new book ns at (Err (Read (failure.Defect e))) = IsFirstMergeFault t p ns file e
 ToldUpTo file t p given new book ns at (Err (Read failure.Fault)) = Unit {0}
 ToldUpTo file t p given new book ns at (Err (Read failure.Memory)) = Unit {0}
 ToldUpTo file t p given new book ns at (Err (Commit commit.Memory)) = Unit {0}
 ToldUpTo file t p given new book ns at (Err (Commit commit.Fault)) = Unit {0}
 ToldUpTo file t p given new book ns at (Err (Commit (commit.RangeTooLarge len most))) =
-    MergeOverBy t p (copied_metas (sound_numbered ns)) (limit.RangeTooLarge len most)
+    IsFirstMergeLimit t p ns (limit.RangeTooLarge len most)
 ToldUpTo file t p given new book ns at (Err (Commit (commit.FileTooLarge end most))) =
-    MergeOverBy t p (copied_metas (sound_numbered ns)) (limit.FileTooLarge end most)
+    IsFirstMergeLimit t p ns (limit.FileTooLarge end most)
 ToldUpTo file t p given new book ns at (Err (Commit commit.TooManyClusters)) =
-    MergeOverBy t p (copied_metas (sound_numbered ns)) limit.TooManyClusters
+    IsFirstMergeLimit t p ns limit.TooManyClusters
 
 -- the file that clusters are copied into can go on, or isn't finished
 abbrev pub CopyGoesOn : Table → Params → DiskState → DiskState → BookData → Result Unit CopyError → Type 0

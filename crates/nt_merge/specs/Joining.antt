@@ -17,7 +17,6 @@ use Rattle.nt_close.specs.Closing.{IsClosable}
 use Rattle.nt_close.specs.Damage.{IsUndamaged}
 use Rattle.nt_schema.specs.Whole.{AreWhole}
 use Rattle.nt_copied.specs.Copies.{NoneDeferred}
-use Rattle.nt_merge_limits.specs.Limits.{MergeOverBy}
 use Rattle.nt_merge.specs.declared.copy_error.CopyError.{CopyError}
 use Rattle.nt_merge.specs.declared.copy_error.CopyError.TheVariants.{Read, Commit}
 use Rattle.nt_merge.specs.declared.error.MergeError.{MergeError}
@@ -25,7 +24,7 @@ use Rattle.nt_merge.specs.declared.error.MergeError.TheVariants.{Defect, Schema,
 use Rattle.nt_merge.specs.declared.error.MergeError.TheVariants.{DiskFault, Memory}
 use Rattle.nt_merge.specs.Copying.{IsJoinable, CopiesFile, CopyGoesOn, HasMerged}
 use Rattle.nt_merge.specs.Files.{TellBytes, KeepFiles, OneRose}
-use Rattle.nt_merge.specs.Merging.{Numbered, all_numbered, readings, sound_numbered, copied_metas, IsMerging}
+use Rattle.nt_merge.specs.Merging.{Numbered, all_numbered, IsFirstMergeFault, IsFirstMergeLimit, IsMerging}
 use Rattle.nt_merge.specs.Merging.{IsLeftUnfinished, MergesTold, merged_table}
 use Rattle.nt_merge.specs.Planning.{error_of_read}
 
@@ -75,13 +74,11 @@ module _ {F : Type 0} (state : F → FileState) where
 -- what is told of all clusters of some files, by the answer
 abbrev pub ToldOfAll : Table → Params → DiskState → DiskState → BookData → List Numbered → Result Unit MergeError → Type 0
 ToldOfAll t p given new book ns (Ok done) = HasMerged t p given new book ns (length ns)
-ToldOfAll t p given new book ns (Err (Defect file e)) = readings ns ≡ Err (file, e)
+ToldOfAll t p given new book ns (Err (Defect file e)) = IsFirstMergeFault t p ns file e
 ToldOfAll t p given new book ns (Err (Schema place)) = ⊥
-ToldOfAll t p given new book ns (Err (RangeTooLarge len most)) =
-    MergeOverBy t p (copied_metas (sound_numbered ns)) (limit.RangeTooLarge len most)
-ToldOfAll t p given new book ns (Err (FileTooLarge end most)) =
-    MergeOverBy t p (copied_metas (sound_numbered ns)) (limit.FileTooLarge end most)
-ToldOfAll t p given new book ns (Err TooManyClusters) = MergeOverBy t p (copied_metas (sound_numbered ns)) limit.TooManyClusters
+ToldOfAll t p given new book ns (Err (RangeTooLarge len most)) = IsFirstMergeLimit t p ns (limit.RangeTooLarge len most)
+ToldOfAll t p given new book ns (Err (FileTooLarge end most)) = IsFirstMergeLimit t p ns (limit.FileTooLarge end most)
+ToldOfAll t p given new book ns (Err TooManyClusters) = IsFirstMergeLimit t p ns limit.TooManyClusters
 ToldOfAll t p given new book ns (Err ReadFault) = Unit {0}
 ToldOfAll t p given new book ns (Err DiskFault) = Unit {0}
 ToldOfAll t p given new book ns (Err Memory) = Unit {0}

@@ -1,7 +1,9 @@
 -- What is left of clusters that are copied from several files into one, one behind the other (RNTuple Binary Format Specification 1.0.0.0,
 -- sections Pages, Page Locations and Page List Envelope).
-use Rattle.std.specs.Prelude.{ℕ, ◌≡◌, ◌≤◌, ◌+◌, ◌++◌, false, List, [], ◌∷◌, map, length, None, Result, Ok, Err, sum_by}
+use Rattle.std.specs.Prelude.{ℕ, ◌≡◌, ◌≤◌, ◌+◌, ◌++◌, false, List, [], ◌∷◌, map, length, Option, None, Some, Result, Ok, Err, sum_by}
+use Rattle.std.specs.Prelude.{option_map}
 use Rattle.std.specs.List.{AllByRecursion}
+use Rattle.std.specs.Option.{option_or}
 use Rattle.nt_lists.specs.Chaining.{◌>>=◌}
 use Rattle.nt_lists.specs.Parts.{part_bytes}
 use Rattle.nt_num.specs.declared.fault.ReadError.{ReadError}
@@ -13,6 +15,8 @@ use Rattle.nt_outside.specs.Disk.{DiskState}
 use Rattle.nt_grammar.specs.declared.rows.ColumnRow.{ColumnRow}
 use Rattle.nt_grammar.specs.Table.{Table, in_header}
 use Rattle.nt_book.specs.declared.meta.ClusterMeta.{ClusterMeta}
+use Rattle.nt_book.specs.declared.limits.LimitError.{LimitError}
+use Rattle.nt_book.specs.declared.limits.LimitError.TheVariants as limit
 use Rattle.nt_book.specs.declared.params.Params.{Params}
 use Rattle.nt_book.specs.Books.{BookData, book_clusters}
 use Rattle.nt_pagelists.specs.declared.cluster.ClusterList.{ClusterList}
@@ -26,9 +30,10 @@ use Rattle.nt_cuts.specs.Cuts.{LeavesUnfinished, LeavesUnfinishedOr, LeavesOnly}
 use Rattle.nt_close.specs.Closing.{IsClosable}
 use Rattle.nt_close.specs.Laws.{IsShut, EndsOverFirst}
 use Rattle.nt_close.specs.Passing.{measures_of, passed_by_begin}
-use Rattle.nt_merge_limits.specs.Limits.{MergeOver, MergeFits, kept_metas}
+use Rattle.nt_merge_limits.specs.Limits.{MergeOverBy, MergeFits, kept_metas}
 use Rattle.nt_seq.specs.Standing.{IsSettledCluster}
 use Rattle.nt_seq.specs.Written.{file_so_far}
+use Rattle.nt_merge.specs.Fronts.{passed_by_copy, passed_by_end}
 use Rattle.nt_merge.specs.Planning.{of_file}
 use Rattle.nt_merge.specs.declared.error.MergeError.{MergeError}
 use Rattle.nt_merge.specs.declared.error.MergeError.TheVariants.{Defect, Schema, RangeTooLarge, FileTooLarge, TooManyClusters, ReadFault}
@@ -90,6 +95,42 @@ abbrev pub merged_table : List Outline → Table
 merged_table [] = in_header [] []
 merged_table (o ∷ os) = bare o.table
 
+-- ---- what is refused first
+
+-- a limit, as what a merge says of it
+abbrev pub error_of_limit : LimitError → MergeError
+error_of_limit (limit.RangeTooLarge len most) = RangeTooLarge len most
+error_of_limit (limit.FileTooLarge end most) = FileTooLarge end most
+error_of_limit limit.TooManyClusters = TooManyClusters
+
+-- the fault of a cluster; where it is read, what is refused from then on
+abbrev pub fault_or : Result (List TreesData) (ℕ × ReadError) → Option MergeError → Option MergeError
+fault_or (Ok entries) more = more
+fault_or (Err fault) more = Some (Defect fault.0 fault.1)
+
+-- what is refused first of clusters that are copied behind others, of which this is kept: of one after the other its first fault, and then
+-- a limit that its copy passes; and behind all of them a limit that the file passes where it is closed
+abbrev pub refused_behind : Table → Params → List ClusterMeta → List Numbered → Option MergeError
+refused_behind t p metas [] = option_map error_of_limit (passed_by_end t p metas)
+refused_behind t p metas (n ∷ ns) =
+    fault_or (reading_of n)
+    (option_or (option_map error_of_limit (passed_by_copy t p metas (copied_meta n.source).len))
+    (refused_behind t p (metas ++ copied_meta n.source ∷ []) ns))
+
+-- what is refused first where these clusters are merged: before all of them a limit that the header passes
+abbrev pub first_refusal : Table → Params → List Numbered → Option MergeError
+first_refusal t p ns = option_or (option_map error_of_limit (passed_by_begin p.limits t)) (refused_behind t p [] ns)
+
+-- this is the first fault of the clusters, and nothing is refused before it
+pub record IsFirstMergeFault (t : Table) (p : Params) (ns : List Numbered) (file : ℕ) (e : ReadError) : Type 0 where
+  pub fault : readings ns ≡ Err (file, e)
+  pub first : first_refusal t p ns ≡ Some (Defect file e)
+
+-- the file of the clusters before the first fault passes this limit, and nothing is refused before it
+pub record IsFirstMergeLimit (t : Table) (p : Params) (ns : List Numbered) (passed : LimitError) : Type 0 where
+  pub over : MergeOverBy t p (copied_metas (sound_numbered ns)) passed
+  pub first : first_refusal t p ns ≡ Some (error_of_limit passed)
+
 -- ---- the file that they are copied into
 
 -- it can go on, and be closed: it is begun, each range of its book is settled and no longer than a range may get, there are no more of
@@ -122,11 +163,12 @@ pub record HasCopies (t : Table) (p : Params) (given disk : DiskState) (book : B
 abbrev pub merged_entries : List (List TreesData) → ℕ
 merged_entries lists = sum_by (λ (entries : List TreesData). length entries) lists
 
--- a file is the finished one of copies of these clusters, all of which were read, and passes no limit
+-- a file is the finished one of copies of these clusters, all of which were read, and passes no limit; so nothing is refused
 pub record IsMerged (t : Table) (p : Params) (ns : List Numbered) (lists : List (List TreesData)) (file : List ℕ) : Type 0 where
   pub read : readings ns ≡ Ok lists
   pub copied : IsCopied file t (sources ns) lists (measures_of p)
   pub fits : MergeFits t p (copied_metas ns)
+  pub none_refused : first_refusal t p ns ≡ None
 
 -- a file of copies of all of them
 abbrev pub IsMergedFile : Table → Params → List Numbered → List ℕ → Type 0
@@ -173,19 +215,19 @@ pub record IsCutFile (t : Table) (p : Params) (ns : List Numbered) (h left : Hel
   pub order : FirstByteLast left.log
   pub crash : LeavesUnfinishedOr (IsMergedFile t p ns) left.log
 
--- a limit that the file of the clusters before the first fault passes
-pub record RefusesMerge (t : Table) (p : Params) (ns : List Numbered) (old new : DiskState) (reached limit : ℕ) : Type 0 where
-  pub over : MergeOver t p (copied_metas (sound_numbered ns)) reached limit
+-- a limit that is refused first, and the file isn't finished
+pub record RefusesMerge (t : Table) (p : Params) (ns : List Numbered) (old new : DiskState) (passed : LimitError) : Type 0 where
+  pub first : IsFirstMergeLimit t p ns passed
   pub left : IsLeftUnfinished old new
 
 -- by the answer
 abbrev pub MergesTold : Table → Params → List Numbered → DiskState → DiskState → Result (ℕ × ℕ) MergeError → Type 0
 MergesTold t p ns old new (Ok (clusters, entries)) = EndsMerge t p ns old new clusters entries
-MergesTold t p ns old new (Err (Defect file e)) = (readings ns ≡ Err (file, e)) × IsLeftUnfinished old new
+MergesTold t p ns old new (Err (Defect file e)) = IsFirstMergeFault t p ns file e × IsLeftUnfinished old new
 MergesTold t p ns old new (Err (Schema place)) = ⊥
-MergesTold t p ns old new (Err (RangeTooLarge len most)) = RefusesMerge t p ns old new len most
-MergesTold t p ns old new (Err (FileTooLarge end most)) = RefusesMerge t p ns old new end most
-MergesTold t p ns old new (Err TooManyClusters) = RefusesMerge t p ns old new (p.limits.clusters + 1) p.limits.clusters
+MergesTold t p ns old new (Err (RangeTooLarge len most)) = RefusesMerge t p ns old new (limit.RangeTooLarge len most)
+MergesTold t p ns old new (Err (FileTooLarge end most)) = RefusesMerge t p ns old new (limit.FileTooLarge end most)
+MergesTold t p ns old new (Err TooManyClusters) = RefusesMerge t p ns old new limit.TooManyClusters
 MergesTold t p ns old new (Err ReadFault) = IsLeftUnfinished old new
 MergesTold t p ns old new (Err DiskFault) = BecomesSome old.held new.held (IsCutFile t p ns)
 MergesTold t p ns old new (Err Memory) = IsLeftUnfinished old new

@@ -17,7 +17,12 @@
 //! alike the first one (`schemas_without_error_are_mergeable`). Of `merge`, wherever all files tell their bytes (`told`, by `MergesTold` in
 //! `specs/Merging.antt`): after `Ok` the file is the finished one of copies of all their clusters in order, as
 //! nt_copied says, and passes no limit, and so many clusters and entries are told; a defect is the first fault of a
-//! cluster; a limit is one that the file of the clusters before the first fault passes; after each refusal the file
+//! cluster; a limit is one that the file of the clusters before the first fault passes. A defect or a limit is exactly
+//! what is refused first in the order of the work (`first_refusal` there): a limit that the header passes; then, of one
+//! cluster after the other, its first fault, and a limit that its copy passes behind the others, with the page list in
+//! front of it; and behind all clusters a limit that the page lists, the footer or the whole file pass. So no limit is
+//! passed before a fault that is told, no cluster has a fault before a limit that is told, and after `Ok` nothing is
+//! refused. How far the file reaches in front of a cluster stands in `specs/Fronts.antt`. After each refusal the file
 //! isn't finished, but that after `DiskFault` it may stand there whole, or its first append failed; the first byte is
 //! written over only when all the rest stays; wherever a crash came, it left what isn't finished or,
 //! once the first byte was written over, the whole file. Each file keeps its bytes, `ReadFault` comes only where the

@@ -184,8 +184,8 @@ fn close_target<D: Disk>(
 ///
 /// # Errors
 ///
-/// The first that comes: a limit that the header passes; then, cluster by cluster, its first fault, or a limit that it passes behind the
-/// others; then a limit that the page lists and the footer pass. `ReadFault` comes only where the count of faults of one of the files
+/// Exactly the first that comes: a limit that the header passes; then, cluster by cluster, its first fault, and a limit that it passes behind
+/// the others; then a limit that the page lists and the footer pass. `ReadFault` comes only where the count of faults of one of the files
 /// rose, `DiskFault` only where the disk's did, `Memory` where memory ran out. After each of them the file isn't finished, but that after
 /// `DiskFault` it may stand there whole.
 pub fn merge<F: ReadAt, D: Disk>(

@@ -30,7 +30,7 @@ loop-k-preserved g c =
           copied-on t p given old book (inv.going t p given able merging) file b c.args.reader.now ns at is_of c.loop-k.k
           (omega (arith, c.loop-k-test.true, c.clusters-k-end.ensures)) c.loop-k.target.columns inv.may.columns_are able
           (g.F.ReadAt.state c.loop-k.file).bytes (inv.same ∙ told) new next
-          (inv.told file t p given ns at b told is_of able merging has) left;
+          (inv.told file t p given ns at b told is_of able merging has) c.keeps.ensures left;
     }
 
 pub returns-in-Err-clause-going : goal.returns-in-Err-clause-going

@@ -21,7 +21,7 @@ returns-in-Err-RangeTooLarge-clause-told g c = λ given is ns has.
     rw c.in-Err-RangeTooLarge.field-0-is at c.in-Err-RangeTooLarge.ensures.closes in
     let old = g.D.Disk.state c.args.disk.now in
     record {
-      over = close-over c.args.schema.now c.args.params.now given old c.args.book.now ns is c.keeps.ensures has
+      first = close-over c.args.schema.now c.args.params.now given old c.args.book.now ns is c.keeps.ensures has
           c.merges_pass_what_their_fronts_pass.ensures.closed
           (limit.RangeTooLarge c.in-Err-RangeTooLarge.len c.in-Err-RangeTooLarge.limit) closes.cause.1;
       left = stays-unfinished c.crashes_leave_closed_or_unfinished.ensures c.args.schema.now c.args.params.now given old
@@ -35,7 +35,7 @@ returns-in-Err-FileTooLarge-clause-told g c = λ given is ns has.
     rw c.in-Err-FileTooLarge.field-0-is at c.in-Err-FileTooLarge.ensures.closes in
     let old = g.D.Disk.state c.args.disk.now in
     record {
-      over = close-over c.args.schema.now c.args.params.now given old c.args.book.now ns is c.keeps.ensures has
+      first = close-over c.args.schema.now c.args.params.now given old c.args.book.now ns is c.keeps.ensures has
           c.merges_pass_what_their_fronts_pass.ensures.closed
           (limit.FileTooLarge c.in-Err-FileTooLarge.end c.in-Err-FileTooLarge.limit) closes.cause.1;
       left = stays-unfinished c.crashes_leave_closed_or_unfinished.ensures c.args.schema.now c.args.params.now given old
