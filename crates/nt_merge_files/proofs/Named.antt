@@ -56,7 +56,7 @@ module _ (out : List ℕ) (names : List (List ℕ)) (p : Params) where
   named-told w w' bytes there (Err Outside) (inr whole) =
       inr (there-with (λ bs. MakesMerged (IsWholeMerge p bs) out w w' × IsLeftAfter EndsOverFirst out w') w bytes there whole)
   named-told w w' bytes there (Err Memory) left = left
-  named-told w w' bytes there (Err (Defect file e)) told = there-with (λ bs. FirstFaultTold out bs file e w w') w bytes there told
+  named-told w w' bytes there (Err (Defect file e)) told = there-with (λ bs. FirstFaultTold out p bs file e w w') w bytes there told
   named-told w w' bytes there (Err (Schema place)) (told, left) =
       (there-with (λ bs. HasSchemaError bs place) w bytes there told, left)
   named-told w w' bytes there (Err (Limit reached limit)) (told, left) =

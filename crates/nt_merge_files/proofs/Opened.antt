@@ -1,7 +1,7 @@
 -- What is left of a host once open files were merged.
-use Rattle.std.proofs.Common.{inl, inr, sym, refl, ℕ, ◌<◌, List, length, Result, Ok, Err}
+use Rattle.std.proofs.Common.{inl, inr, ap, sym, refl, ℕ, ◌<◌, List, length, Result, Ok, Err}
 use Rattle.std.proofs.Common.{append-nil, arith}
-use Rattle.std.specs.Prelude.{IsErrOf}
+use Rattle.std.specs.Prelude.{IsErrOf, Option, option_map}
 use Rattle.nt_outside.specs.File.{FileState}
 use Rattle.nt_outside.specs.World.{World, HostState}
 use Rattle.nt_book.specs.declared.params.Params.{Params}
@@ -53,9 +53,18 @@ module _ (means : MeansSources) (pages : HasThePages) (read : ReadIsDescribed) (
         ends,
       )
   open-told out w w' (Err Memory) left = left
-  open-told out w w' (Err (Defect file e)) (fault, left) = inr (record { outlines = os; planned = planned; fault = fault }, left)
+  open-told out w w' (Err (Defect file e)) (fault, left) = inr (
+    record {
+      outlines = os;
+      planned = planned;
+      fault = fault.fault;
+      first = ap (λ (o : Option MergeError). option_map (error_of_merge p.limits.clusters) o) fault.first;
+    },
+    left,
+  )
   open-told out w w' (Err (Schema place)) told = absurd told
-  open-told out w w' (Err (Limit reached limit)) (over, left) = (record { outlines = os; planned = planned; over = over }, left)
+  open-told out w w' (Err (Limit reached limit)) (passed, left) =
+      (record { outlines = os; planned = planned; over = passed.over; first = passed.first }, left)
 
 module _ {F : Type 0} (state : F → FileState) where
   pub opened-planned : MeansSources → HasThePages → ReadIsDescribed → BareIsDescribed → Mergeable → (out : List ℕ) (p : Params)

@@ -1,7 +1,7 @@
 -- What is left of a host once the disk of a merge is back.
-use Rattle.std.proofs.Common.{◌≡◌, ◌⊎◌, ◌∙◌, inl, inr, sym, subst, refl, ℕ, ◌≤◌, List, [], ◌∷◌, Option, Some, Result}
+use Rattle.std.proofs.Common.{◌≡◌, ◌⊎◌, ◌∙◌, inl, inr, ap, sym, subst, refl, ℕ, ◌≤◌, List, [], ◌∷◌, Option, Some, Result}
 use Rattle.std.proofs.Common.{Ok, Err, arith}
-use Rattle.std.specs.Prelude.{IsErrOf}
+use Rattle.std.specs.Prelude.{IsErrOf, option_map}
 use Rattle.nt_outside.specs.declared.fault.Refused.{Refused}
 use Rattle.nt_outside.specs.declared.fault.Refused.TheVariants as refused
 use Rattle.nt_outside.specs.Disk.{DiskState}
@@ -27,13 +27,14 @@ use Rattle.nt_merge.specs.declared.error.MergeError.TheVariants as merge
 use Rattle.nt_merge.specs.Files.{TellBytes, OneRose}
 use Rattle.nt_merge.specs.Joining.{ServesMerge}
 use Rattle.nt_merge.specs.Planning.{outlines_from}
-use Rattle.nt_merge.specs.Merging.{Numbered, all_numbered, merged_table, IsMerged, IsMergedFile, IsUnclosed, MergesTold}
+use Rattle.nt_merge.specs.Merging.{Numbered, all_numbered, merged_table, first_refusal, IsMerged, IsMergedFile, IsUnclosed, MergesTold}
 use Rattle.nt_merge.specs.Merging.{IsCutAt, cut_unclosed, torn_at_once, cut_whole}
 use Rattle.nt_merge.proofs.Kept.{keep-none}
 use Rattle.nt_merge_files.specs.declared.error.MergeStoreError.{MergeStoreError}
 use Rattle.nt_merge_files.specs.declared.error.MergeStoreError.TheVariants.{Outside, Memory}
-use Rattle.nt_merge_files.specs.Errors.{merge_refusal, counts_of_merge}
+use Rattle.nt_merge_files.specs.Errors.{merge_refusal, counts_of_merge, error_of_merge}
 use Rattle.nt_merge_files.specs.Crashes.{MergeCrash, LeavesMerge}
+use Rattle.nt_merge_files.specs.Whole.{refused_first}
 use Rattle.nt_merge_files.specs.Storing.{MakesMerged, CopiesTold, MergesPlanned}
 use Rattle.nt_merge_files.proofs.Crashes.{written-in-order, leaves-behind, none-left}
 use Rattle.nt_merge_files.proofs.Disks.{begins-open, ordered, crashes}
@@ -79,6 +80,9 @@ module _ (out : List ℕ) (w : World) (world : Option World) (held : Option Held
     opens : (h : Held) → IsUnclosed nothing_held h → LeavesOpen out w (after h)
     opens h unclosed = (refl, kept_open out h (creates out w) (begins-open h unclosed))
 
+    in-store : (e : MergeError) → first_refusal t p ns ≡ Some e → refused_first t p ns ≡ Some (error_of_merge p.limits.clusters e)
+    in-store e is = ap (λ (o : Option MergeError). option_map (error_of_merge p.limits.clusters) o) is
+
     cut-told : (h : Held) → IsCutAt t p ns nothing_held h → CopiesTold out t p ns w (after h) (Err Outside)
     cut-told h (cut_unclosed unclosed) = inl (inr (refl, inl (opens h unclosed).1))
     cut-told h (torn_at_once n is) = inl (inr (refl, inr (kept_never_begun out h (creates out w) (n, is))))
@@ -102,15 +106,15 @@ module _ (out : List ℕ) (w : World) (world : Option World) (held : Option Held
     back-told old new empty same (Err (merge.RangeTooLarge len most)) told =
         let now = told.left nothing_held empty in
         with-told (counts_of_merge p.limits.clusters (Err (merge.RangeTooLarge len most))) now.0 (same ∙ now.1)
-        (told.over, opens now.0 now.2.unclosed)
+        (record { over = told.first.over; first = in-store _ told.first.first }, opens now.0 now.2.unclosed)
     back-told old new empty same (Err (merge.FileTooLarge end most)) told =
         let now = told.left nothing_held empty in
         with-told (counts_of_merge p.limits.clusters (Err (merge.FileTooLarge end most))) now.0 (same ∙ now.1)
-        (told.over, opens now.0 now.2.unclosed)
+        (record { over = told.first.over; first = in-store _ told.first.first }, opens now.0 now.2.unclosed)
     back-told old new empty same (Err merge.TooManyClusters) told =
         let now = told.left nothing_held empty in
         with-told (counts_of_merge p.limits.clusters (Err merge.TooManyClusters)) now.0 (same ∙ now.1)
-        (told.over, opens now.0 now.2.unclosed)
+        (record { over = told.first.over; first = in-store _ told.first.first }, opens now.0 now.2.unclosed)
     back-told old new empty same (Err merge.ReadFault) told =
         let now = told nothing_held empty in
         with-told (Err Outside) now.0 (same ∙ now.1) (inl (inr (refl, inl (opens now.0 now.2.unclosed).1)))

@@ -1,6 +1,6 @@
 -- The finished file of copies is the whole one of the files that are merged.
-use Rattle.std.proofs.Common.{◌≡◌, subst, ℕ, ◌<◌, ◌^◌, List, [], ◌∷◌, length, None, Some, Ok, arith}
-use Rattle.std.specs.Prelude.{All}
+use Rattle.std.proofs.Common.{◌≡◌, ap, subst, ℕ, ◌<◌, ◌^◌, List, [], ◌∷◌, length, None, Some, Ok, arith}
+use Rattle.std.specs.Prelude.{All, Option, option_map}
 use Rattle.nt_types.specs.TreeData.{TreesData}
 use Rattle.nt_format.specs.Reading.{IsBytes}
 use Rattle.nt_payloads.proofs.WholeFiles.{all_bytes}
@@ -15,11 +15,13 @@ use Rattle.nt_copied.specs.Alike.{bare}
 use Rattle.nt_copied.specs.Copies.{Source, IsCopied, HasStoredPages}
 use Rattle.nt_close.specs.Passing.{measures_of}
 use Rattle.nt_store.proofs.Whole.{measures}
+use Rattle.nt_merge.specs.declared.error.MergeError.{MergeError}
 use Rattle.nt_merge.specs.Comparing.{schema_error}
 use Rattle.nt_merge.specs.Files.{TellBytes}
 use Rattle.nt_merge.specs.Planning.{ArePlanned, outlines_from, tables_of}
 use Rattle.nt_merge.specs.Merging.{all_numbered, sources, merged_table, IsMerged}
 use Rattle.nt_merge.proofs.Target.{Mergeable}
+use Rattle.nt_merge_files.specs.Errors.{error_of_merge}
 use Rattle.nt_merge_files.specs.Whole.{AreAlike, IsMergeOf}
 use Rattle.nt_merge_files.proofs.Meanings.{outlines-first, mean-together}
 
@@ -90,4 +92,5 @@ module _ (means : MeansSources) (pages : HasThePages) (read : ReadIsDescribed) (
         pages = pages image t ss lists (measures_of p) fits (measures p) is.copied;
         laid = is.copied;
         fits = is.fits;
+        none_refused = ap (λ (o : Option MergeError). option_map (error_of_merge p.limits.clusters) o) is.none_refused;
       }

@@ -17,11 +17,13 @@ use Rattle.nt_script.specs.Whole.{line_of_clusters}
 use Rattle.nt_merge_limits.specs.Limits.{MergeOver}
 use Rattle.nt_merge.specs.Files.{TellBytes, KeepFiles, OneRose}
 use Rattle.nt_merge.specs.Planning.{outlines_from}
-use Rattle.nt_merge.specs.Merging.{Numbered, all_numbered, readings, sound_numbered, copied_metas, merged_table, IsMerged, IsMergedFile}
+use Rattle.nt_merge.specs.Merging.{Numbered, all_numbered, sound_numbered, copied_metas, merged_table, IsFirstMergeFault, IsMerged}
+use Rattle.nt_merge.specs.Merging.{IsMergedFile}
 use Rattle.nt_merge_files.specs.declared.error.MergeStoreError.{MergeStoreError}
 use Rattle.nt_merge_files.specs.declared.error.MergeStoreError.TheVariants.{Outside, Memory, Defect, Schema, Limit}
 use Rattle.nt_merge_files.specs.Files.{AreThere, AreThereWith}
-use Rattle.nt_merge_files.specs.Whole.{IsMergeOf, IsWholeMerge, AreMergeNumbers, HasSchemaError, IsFirstClusterFault, PassesMerge}
+use Rattle.nt_merge_files.specs.Whole.{refused_first, IsMergeOf, IsWholeMerge, AreMergeNumbers, HasSchemaError, IsFirstClusterFault}
+use Rattle.nt_merge_files.specs.Whole.{PassesMerge}
 use Rattle.nt_merge_files.specs.Crashes.{MergeCrashTold}
 
 -- a disk of this name was made, and its file is whole in this sense
@@ -33,6 +35,11 @@ pub record MakesMerged (Whole : List ℕ → Type 0) (out : List ℕ) (w w' : Wo
 
 -- ---- of these clusters, into a file of this schema
 
+-- the file of the clusters before the first fault passes this limit, with what was reached, and nothing is refused before that
+pub record PassesFirst (t : Table) (p : Params) (ns : List Numbered) (reached limit : ℕ) : Type 0 where
+  pub over : MergeOver t p (copied_metas (sound_numbered ns)) reached limit
+  pub first : refused_first t p ns ≡ Some (Limit reached limit)
+
 -- what is left of the files once the disk is back, by the answer; nothing is printed yet
 abbrev pub CopiesTold : List ℕ → Table → Params → List Numbered → World → World → Result Counts MergeStoreError → Type 0
 CopiesTold out t p ns w w' (Ok counts) =
@@ -41,10 +48,9 @@ CopiesTold out t p ns w w' (Ok counts) =
 CopiesTold out t p ns w w' (Err Outside) =
     IsLeftByFailure out w w' ⊎ (MakesMerged (IsMergedFile t p ns) out w w' × IsLeftAfter EndsOverFirst out w')
 CopiesTold out t p ns w w' (Err Memory) = IsLeftByMemory out w w'
-CopiesTold out t p ns w w' (Err (Defect file e)) = (readings ns ≡ Err (file, e)) × LeavesOpen out w w'
+CopiesTold out t p ns w w' (Err (Defect file e)) = IsFirstMergeFault t p ns file e × LeavesOpen out w w'
 CopiesTold out t p ns w w' (Err (Schema place)) = ⊥
-CopiesTold out t p ns w w' (Err (Limit reached limit)) =
-    MergeOver t p (copied_metas (sound_numbered ns)) reached limit × LeavesOpen out w w'
+CopiesTold out t p ns w w' (Err (Limit reached limit)) = PassesFirst t p ns reached limit × LeavesOpen out w w'
 
 module _ {F : Type 0} (state : F → FileState) where
   -- the count of a host never falls; where the outside failed it rose, or that of one of the files
@@ -70,10 +76,10 @@ module _ {F : Type 0} (state : F → FileState) where
 -- ---- of files with these bytes
 
 -- the first fault of the files is told, by the file's number: it is one before the clusters, and no disk was made; or it is one of a
--- cluster, and the file can't pass for finished
-abbrev pub FirstFaultTold : List ℕ → List (List ℕ) → ℕ → ReadError → World → World → Type 0
-FirstFaultTold out bytes file e w w' =
-    ((outlines_from 0 bytes ≡ Err (file, e)) × KeepsFiles w w') ⊎ (IsFirstClusterFault bytes file e × LeavesOpen out w w')
+-- cluster, before which nothing is refused, and the file can't pass for finished
+abbrev pub FirstFaultTold : List ℕ → Params → List (List ℕ) → ℕ → ReadError → World → World → Type 0
+FirstFaultTold out p bytes file e w w' =
+    ((outlines_from 0 bytes ≡ Err (file, e)) × KeepsFiles w w') ⊎ (IsFirstClusterFault p bytes file e × LeavesOpen out w w')
 
 -- what is left of the files, by the answer; nothing is printed yet
 abbrev pub MergeOpenTold : List ℕ → Params → List (List ℕ) → World → World → Result Counts MergeStoreError → Type 0
@@ -83,7 +89,7 @@ MergeOpenTold out p bytes w w' (Ok counts) =
 MergeOpenTold out p bytes w w' (Err Outside) =
     IsLeftByFailure out w w' ⊎ (MakesMerged (IsWholeMerge p bytes) out w w' × IsLeftAfter EndsOverFirst out w')
 MergeOpenTold out p bytes w w' (Err Memory) = IsLeftByMemory out w w'
-MergeOpenTold out p bytes w w' (Err (Defect file e)) = FirstFaultTold out bytes file e w w'
+MergeOpenTold out p bytes w w' (Err (Defect file e)) = FirstFaultTold out p bytes file e w w'
 MergeOpenTold out p bytes w w' (Err (Schema place)) = HasSchemaError bytes place × KeepsFiles w w'
 MergeOpenTold out p bytes w w' (Err (Limit reached limit)) = PassesMerge p bytes reached limit × LeavesOpen out w w'
 
@@ -118,7 +124,7 @@ MergeNamedTold out names p w w' (Err Outside) =
     IsLeftByFailure out w w'
     ⊎ AreThereWith (λ bytes. MakesMerged (IsWholeMerge p bytes) out w w' × IsLeftAfter EndsOverFirst out w') w names
 MergeNamedTold out names p w w' (Err Memory) = IsLeftByMemory out w w'
-MergeNamedTold out names p w w' (Err (Defect file e)) = AreThereWith (λ bytes. FirstFaultTold out bytes file e w w') w names
+MergeNamedTold out names p w w' (Err (Defect file e)) = AreThereWith (λ bytes. FirstFaultTold out p bytes file e w w') w names
 MergeNamedTold out names p w w' (Err (Schema place)) = AreThereWith (λ bytes. HasSchemaError bytes place) w names × KeepsFiles w w'
 MergeNamedTold out names p w w' (Err (Limit reached limit)) =
     AreThereWith (λ bytes. PassesMerge p bytes reached limit) w names × LeavesOpen out w w'
@@ -155,7 +161,7 @@ MergeTold out names p w w' (Err Outside) =
     ⊎ (((line : List ℕ) × StoresMerge out names p w w' [] line × IsLeftAfter EndsOverFirst out w')
     ⊎ ((printed behind : List ℕ) × StoresMerge out names p w w' printed behind × IsLeftAfter EndsInSync out w'))
 MergeTold out names p w w' (Err Memory) = IsLeftByMemory out w w' × (w'.out ≡ w.out)
-MergeTold out names p w w' (Err (Defect file e)) = AreThereWith (λ bytes. FirstFaultTold out bytes file e w w') w names × (w'.out ≡ w.out)
+MergeTold out names p w w' (Err (Defect file e)) = AreThereWith (λ bytes. FirstFaultTold out p bytes file e w w') w names × (w'.out ≡ w.out)
 MergeTold out names p w w' (Err (Schema place)) =
     AreThereWith (λ bytes. HasSchemaError bytes place) w names × KeepsFiles w w' × (w'.out ≡ w.out)
 MergeTold out names p w w' (Err (Limit reached limit)) =

@@ -100,7 +100,8 @@ fn merge_named<H: Host>(
 /// # Errors
 ///
 /// `Defect` is the first fault of the files, `Schema` the first place that stands against merging them, `Limit` a limit that the new file
-/// would pass. After these and after `Memory` the new file can't pass for finished. `Outside` comes only where the host's count rose.
+/// would pass. A fault of a cluster comes only where no limit is passed before it, and a limit only where no cluster before it has a fault.
+/// After these and after `Memory` the new file can't pass for finished. `Outside` comes only where the host's count rose.
 pub fn store_merged<H: Host>(
     alloc: Global,
     host: &mut H,
