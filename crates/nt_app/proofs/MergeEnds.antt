@@ -1,22 +1,24 @@
 -- How `merge` ends where the outside serves.
-use Rattle.std.proofs.Common.{◌≡◌, ◌⊎◌, ◌∙◌, inl, inr, ap, sym, subst, refl, ℕ, List, [], Result, Ok, Err}
+use Rattle.std.proofs.Common.{◌≡◌, ◌⊎◌, ◌∙◌, inl, inr, ap, sym, subst, refl, ℕ, List, [], Some, Result, Ok, Err}
 use Rattle.std.specs.Prelude.{IsErrOf}
-use Rattle.nt_lists.proofs.Variants.{err_is}
+use Rattle.std.proofs.lemmas.Option.{none-some}
+use Rattle.nt_lists.proofs.Variants.{some_is, err_is}
 use Rattle.nt_num.specs.declared.fault.ReadError.{ReadError}
 use Rattle.nt_outside.specs.World.{World}
 use Rattle.nt_book.specs.declared.params.Params.{Params}
 use Rattle.nt_file_meaning.specs.Outlines.{Outline}
 use Rattle.nt_merge.specs.declared.place.SchemaPlace.{SchemaPlace as MergePlace}
-use Rattle.nt_merge.specs.Planning.{outlines_from}
+use Rattle.nt_merge.specs.Planning.{ArePlanned, outlines_from}
 use Rattle.nt_merge_files.specs.declared.error.MergeStoreError.{MergeStoreError}
 use Rattle.nt_merge_files.specs.declared.error.MergeStoreError.TheVariants as store
 use Rattle.nt_merge_files.specs.Files.{AreThereWith}
-use Rattle.nt_merge_files.specs.Whole.{IsWholeMerge, HasSchemaError, PassesMerge}
+use Rattle.nt_merge_files.specs.Whole.{refused_of, IsWholeMerge, HasSchemaError, PassesMerge}
 use Rattle.nt_merge_files.specs.Storing.{FirstFaultTold, StoresMerge, MergeTold}
 use Rattle.nt_app.specs.declared.status.Status.TheVariants as status
-use Rattle.nt_app.specs.Merges.{place_of_merge, status_of_merge, MeanAlike, FitsMerge, MergeWithin, MergeBeyond, HasFaultOf, AnswersMerge}
+use Rattle.nt_app.specs.Merges.{place_of_merge, status_of_merge, MeanAlike, FitsMerge, MergeWithin, MergeBeyond, HasRefusal}
+use Rattle.nt_app.specs.Merges.{HasFaultOf, AnswersMerge}
 use Rattle.nt_app.proofs.Joined.{texts_are}
-use Rattle.nt_app.proofs.MergeOnce.{same_outlines, outlined_or_not, alike_or_not, same_place, same_fault, mean_no_fault, all_fit, not_over}
+use Rattle.nt_app.proofs.MergeOnce.{same_outlines, outlined_or_not, alike_or_not, same_place, mean_no_fault, same_refused, all_fit, not_over}
 
 -- files under these names have both
 both_of : (P Q : List (List ℕ) → Type 0) (w : World) (names : List (List ℕ)) → AreThereWith P w names → AreThereWith Q w names
@@ -26,7 +28,7 @@ both_of P Q w names one other =
 
 module _ (p : Params) (bytes : List (List ℕ)) where
   -- files that mean something have no fault, whatever limits there are
-  mean-no_defect : (out : List ℕ) (w v : World) (file : ℕ) (e : ReadError) (os : List Outline) → FirstFaultTold out bytes file e w v
+  mean-no_defect : (out : List ℕ) (w v : World) (file : ℕ) (e : ReadError) (os : List Outline) → FirstFaultTold out p bytes file e w v
       → MeanAlike bytes os → ⊥
   mean-no_defect out w v file e os told mean =
       elim told [
@@ -34,7 +36,7 @@ module _ (p : Params) (bytes : List (List ℕ)) where
         | inr some ↦ mean_no_fault bytes os some.0.outlines (file, e) mean some.0.planned some.0.fault
       ]
 
-  defect-alike : (out : List ℕ) (w v : World) (file : ℕ) (e : ReadError) (place : MergePlace) → FirstFaultTold out bytes file e w v
+  defect-alike : (out : List ℕ) (w v : World) (file : ℕ) (e : ReadError) (place : MergePlace) → FirstFaultTold out p bytes file e w v
       → HasSchemaError bytes place → ⊥
   defect-alike out w v file e place told not =
       elim told [
@@ -49,8 +51,20 @@ module _ (p : Params) (bytes : List (List ℕ)) where
         | inr some ↦ alike_or_not bytes some.outlines place some.planned not
       ]
 
+  -- what is refused first is one thing
+  same_first : (one other : MergeStoreError) (os : List Outline) → ArePlanned bytes os → refused_of p bytes os ≡ Some one
+      → HasRefusal p bytes other → one ≡ other
+  same_first one other os planned is has =
+      some_is one other (sym is ∙ (same_refused bytes p os has.outlines planned has.planned ∙ has.first))
+
+  -- what was written whole has nothing that is refused
+  whole-none : (image : List ℕ) (refusal : MergeStoreError) → IsWholeMerge p bytes image → HasRefusal p bytes refusal → ⊥
+  whole-none image refusal (clusters, whole) has =
+      none-some refusal
+      (sym whole.none_refused ∙ (same_refused bytes p whole.outlines has.outlines whole.planned has.planned ∙ has.first))
+
   -- the first fault is told
-  first_fault : (out : List ℕ) (w v : World) (file file' : ℕ) (e e' : ReadError) → FirstFaultTold out bytes file e w v
+  first_fault : (out : List ℕ) (w v : World) (file file' : ℕ) (e e' : ReadError) → FirstFaultTold out p bytes file e w v
       → HasFaultOf p bytes file' e' → ◌≡◌ {A = ℕ × ReadError} (file, e) (file', e')
   first_fault out w v file file' e e' (inl told) (inl none) = err_is _ _ (sym told.0 ∙ none)
   first_fault out w v file file' e e' (inl told) (inr some) =
@@ -58,15 +72,15 @@ module _ (p : Params) (bytes : List (List ℕ)) where
   first_fault out w v file file' e e' (inr told) (inl none) =
       absurd (outlined_or_not bytes told.0.outlines (file', e') told.0.planned.outlines none)
   first_fault out w v file file' e e' (inr told) (inr some) =
-      same_fault bytes told.0.outlines some.outlines (file, e) (file', e') told.0.planned some.planned told.0.fault some.fault
+      let both = same_first (store.Defect file e) (store.Defect file' e') told.0.outlines told.0.planned told.0.first some in
+      cc both
 
   -- what was written whole has no fault
   whole-no_fault : (image : List ℕ) (file : ℕ) (e : ReadError) → IsWholeMerge p bytes image → HasFaultOf p bytes file e → ⊥
   whole-no_fault image file e (clusters, whole) fault =
-      let mean : MeanAlike bytes whole.outlines = record { planned = whole.planned; each = whole.each; mean = whole.mean } in
       elim fault [
         | inl none ↦ outlined_or_not bytes whole.outlines (file, e) whole.planned.outlines none
-        | inr some ↦ mean_no_fault bytes whole.outlines some.outlines (file, e) mean some.planned some.fault
+        | inr some ↦ whole-none image (store.Defect file e) (clusters, whole) some
       ]
 
   -- and fits
@@ -78,8 +92,27 @@ module _ (p : Params) (bytes : List (List ℕ)) where
   fault_within file e reached limit fault over =
       elim fault [
         | inl none ↦ outlined_or_not bytes over.outlines (file, e) over.planned.outlines none
-        | inr some ↦ not_over bytes p some.outlines reached limit some.planned some.before over
+        | inr some ↦
+            let both = same_first (store.Limit reached limit) (store.Defect file e) over.outlines over.planned over.first some in
+            cc both
       ]
+
+  -- a limit that is refused first
+  limit-no_defect : (out : List ℕ) (w v : World) (file : ℕ) (e : ReadError) (reached limit : ℕ) → FirstFaultTold out p bytes file e w v
+      → HasRefusal p bytes (store.Limit reached limit) → ⊥
+  limit-no_defect out w v file e reached limit told has =
+      elim told [
+        | inl none ↦ outlined_or_not bytes has.outlines (file, e) has.planned.outlines none.0
+        | inr some ↦
+            let both = same_first (store.Defect file e) (store.Limit reached limit) some.0.outlines some.0.planned some.0.first has in
+            cc both
+      ]
+
+  first_limit : (reached limit reached' limit' : ℕ) → PassesMerge p bytes reached limit
+      → HasRefusal p bytes (store.Limit reached' limit') → ◌≡◌ {A = ℕ × ℕ} (reached, limit) (reached', limit')
+  first_limit reached limit reached' limit' over has =
+      let both = same_first (store.Limit reached limit) (store.Limit reached' limit') over.outlines over.planned over.first has in
+      cc both
 
 module _ (out : List ℕ) (names : List (List ℕ)) (p : Params) (w v : World) where
   -- the bytes of a file that was written whole
@@ -118,6 +151,24 @@ module _ (out : List ℕ) (names : List (List ℕ)) (p : Params) (w v : World) w
       let (bytes, one, other) = both_of _ _ w names told.0 beyond in
       absurd (alike_or_not bytes other.0 place other.1.planned one)
   limits (Err (store.Limit reached limit)) told served beyond = inl (reached, limit, refl)
+
+  passes : (stored : Result Unit MergeStoreError) (reached limit : ℕ) → MergeTold out names p w v stored
+      → (IsErrOf stored store.Outside → ⊥) → AreThereWith (λ bytes. HasRefusal p bytes (store.Limit reached limit)) w names
+      → (status_of_merge stored ≡ status.Limit reached limit) ⊎ (status_of_merge stored ≡ status.Memory)
+  passes (Ok done) reached limit told served has =
+      let (bytes, one, other) = both_of _ _ w names (whole_of told.0 [] told.1) has in
+      absurd (whole-none p bytes one.0 (store.Limit reached limit) one.1 other)
+  passes (Err store.Outside) reached limit told served has = absurd (served refl)
+  passes (Err store.Memory) reached limit told served has = inr refl
+  passes (Err (store.Defect file e)) reached limit told served has =
+      let (bytes, one, other) = both_of _ _ w names told.0 has in
+      absurd (limit-no_defect p bytes out w v file e reached limit one other)
+  passes (Err (store.Schema place)) reached limit told served has =
+      let (bytes, one, other) = both_of _ _ w names told.0 has in
+      absurd (alike_or_not bytes other.outlines place other.planned one)
+  passes (Err (store.Limit reached' limit')) reached limit told served has =
+      let (bytes, one, other) = both_of _ _ w names told.0 has in
+      inl (ap (λ (x : ℕ × ℕ). status.Limit x.0 x.1) (first_limit p bytes reached' limit' reached limit one other))
 
   unlikes : (stored : Result Unit MergeStoreError) (place : MergePlace) → MergeTold out names p w v stored
       → (IsErrOf stored store.Outside → ⊥) → AreThereWith (λ bytes. HasSchemaError bytes place) w names
@@ -161,6 +212,7 @@ module _ (out : List ℕ) (names : List (List ℕ)) (p : Params) (w v : World) w
   answers_merge stored told served = record {
     complete = λ fits. completes stored told served fits;
     limited = λ beyond. limits stored told served beyond;
+    passed = λ reached limit has. passes stored reached limit told served has;
     unlike = λ place not. unlikes stored place told served not;
     faulty = λ file e fault. faults stored file e told served fault;
   }

@@ -1,7 +1,7 @@
 -- What is read of files that are merged is one thing: their bytes, their outlines, what they mean, and what stands against merging them.
 use Rattle.std.proofs.Common.{◌≡◌, ◌∙◌, ap, sym, subst, refl, ℕ, ◌+◌, List, [], ◌∷◌, Result, Ok, Err}
 use Rattle.nt_lists.specs.Chaining.{◌>>=◌}
-use Rattle.nt_lists.proofs.Variants.{some_is, ok_is, err_is}
+use Rattle.nt_lists.proofs.Variants.{some_is, ok_is}
 use Rattle.nt_num.specs.declared.fault.ReadError.{ReadError}
 use Rattle.nt_types.specs.TreeData.{TreesData}
 use Rattle.nt_grammar.specs.Table.{Table}
@@ -18,7 +18,7 @@ use Rattle.nt_merge.specs.Comparing.{schema_error}
 use Rattle.nt_merge.specs.Planning.{of_file, outlines_from, tables_of, ArePlanned}
 use Rattle.nt_merge.specs.Merging.{numbered_from, all_numbered, readings, sound_numbered, copied_metas, merged_table}
 use Rattle.nt_merge.proofs.Numbering.{readings-behind, sound-all}
-use Rattle.nt_merge_files.specs.Whole.{MeanEach, clusters_together, HasSchemaError, PassesMerge}
+use Rattle.nt_merge_files.specs.Whole.{refused_of, MeanEach, clusters_together, HasSchemaError, PassesMerge}
 use Rattle.nt_app.specs.Merges.{MeanAlike, FitsClusters, FitsMerge, FitsBefore}
 
 -- ---- what files mean is read of their clusters, one after the other
@@ -100,13 +100,7 @@ module _ (bytes : List (List ℕ)) where
       let same = same_outlines one.outlines other.outlines one.outlines_are other.outlines_are in
       some_is x y (sym one.against ∙ (ap (λ (l : List Outline). schema_error (tables_of l)) same ∙ other.against))
 
-  -- the first fault of their clusters is one, and none where each means something
-  pub same_fault : (os os' : List Outline) (one other : ℕ × ReadError) → ArePlanned bytes os → ArePlanned bytes os'
-      → readings (all_numbered 0 bytes os) ≡ Err one → readings (all_numbered 0 bytes os') ≡ Err other → one ≡ other
-  same_fault os os' one other are are' is is' =
-      let same = same_outlines os os' are.outlines are'.outlines in
-      err_is one other (sym is ∙ (ap (λ (l : List Outline). readings (all_numbered 0 bytes l)) same ∙ is'))
-
+  -- none of their clusters has a fault where each means something
   pub mean_no_fault : (os os' : List Outline) (fault : ℕ × ReadError) → MeanAlike bytes os → ArePlanned bytes os'
       → readings (all_numbered 0 bytes os') ≡ Err fault → ⊥
   mean_no_fault os os' fault mean are is =
@@ -115,6 +109,10 @@ module _ (bytes : List (List ℕ)) where
       cc both
 
   module _ (p : Params) where
+    -- what is refused first of them is one thing
+    pub same_refused : (os os' : List Outline) → ArePlanned bytes os → ArePlanned bytes os' → refused_of p bytes os ≡ refused_of p bytes os'
+    same_refused os os' are are' = ap (λ (l : List Outline). refused_of p bytes l) (same_outlines os os' are.outlines are'.outlines)
+
     -- where each means something, all their clusters stand before a fault
     pub all_fit : (os : List Outline) → MeanAlike bytes os → FitsMerge p bytes os → FitsBefore p bytes os
     all_fit os mean fits =

@@ -55,10 +55,10 @@ whole_after out names p w v err printed behind told = record {
   gained = told.gained;
 }
 
-defect_after : (out : List ℕ) (bytes : List (List ℕ)) (file : ℕ) (e : ReadError) (w v : World) (err : List ℕ)
-    → FirstFaultTold out bytes file e w v → FirstFaultTold out bytes file e w (record v { err = err })
-defect_after out bytes file e w v err (inl told) = inl told
-defect_after out bytes file e w v err (inr told) = inr told
+defect_after : (out : List ℕ) (p : Params) (bytes : List (List ℕ)) (file : ℕ) (e : ReadError) (w v : World) (err : List ℕ)
+    → FirstFaultTold out p bytes file e w v → FirstFaultTold out p bytes file e w (record v { err = err })
+defect_after out p bytes file e w v err (inl told) = inl told
+defect_after out p bytes file e w v err (inr told) = inr told
 
 told_after : (out : List ℕ) (names : List (List ℕ)) (p : Params) (stored : Result Unit MergeStoreError) (w v : World) (err : List ℕ)
     → MergeTold out names p w v stored → MergeTold out names p w (record v { err = err }) stored
@@ -70,7 +70,7 @@ told_after out names p (Err store.Outside) w v err (inr (inr told)) =
     inr (inr (told.0, told.1, whole_after out names p w v err told.0 told.1 told.2, steps_after out EndsInSync v err told.3))
 told_after out names p (Err store.Memory) w v err told = told
 told_after out names p (Err (store.Defect file e)) w v err told =
-    (record { bytes = told.0.bytes; there = told.0.there; has = defect_after out told.0.bytes file e w v err told.0.has }, told.1)
+    (record { bytes = told.0.bytes; there = told.0.there; has = defect_after out p told.0.bytes file e w v err told.0.has }, told.1)
 told_after out names p (Err (store.Schema place)) w v err told = told
 told_after out names p (Err (store.Limit reached limit)) w v err told = told
 

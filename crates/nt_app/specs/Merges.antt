@@ -11,11 +11,11 @@ use Rattle.nt_merge_limits.specs.Limits.{MergeFits}
 use Rattle.nt_merge.specs.declared.place.SchemaPlace.{SchemaPlace as MergePlace}
 use Rattle.nt_merge.specs.declared.place.SchemaPlace.TheVariants as unlike
 use Rattle.nt_merge.specs.Planning.{ArePlanned, outlines_from}
-use Rattle.nt_merge.specs.Merging.{Numbered, all_numbered, readings, sound_numbered, copied_metas, merged_table}
+use Rattle.nt_merge.specs.Merging.{Numbered, all_numbered, sound_numbered, copied_metas, merged_table}
 use Rattle.nt_merge_files.specs.declared.error.MergeStoreError.{MergeStoreError}
 use Rattle.nt_merge_files.specs.declared.error.MergeStoreError.TheVariants as store
 use Rattle.nt_merge_files.specs.Files.{AreThereWith}
-use Rattle.nt_merge_files.specs.Whole.{MeanEach, HasSchemaError}
+use Rattle.nt_merge_files.specs.Whole.{refused_of, MeanEach, HasSchemaError}
 use Rattle.nt_merge_files.specs.Crashes.{MergeCrashTold}
 use Rattle.nt_merge_files.specs.Storing.{merge_asked, IsWholeMergeOf, MergeTold, StoresMerged}
 use Rattle.nt_app.specs.declared.status.SchemaPlace.{SchemaPlace}
@@ -73,17 +73,15 @@ MergeWithin p bytes = (outlines : List Outline) × MeanAlike bytes outlines × F
 abbrev pub MergeBeyond : Params → List (List ℕ) → Type 0
 MergeBeyond p bytes = (outlines : List Outline) × MeanAlike bytes outlines × (FitsMerge p bytes outlines → ⊥)
 
--- nothing stands against the schemas, this is the first fault of the clusters, by the number of its file, and the file of those before
--- it passes no limit
-pub record HasFaultWithin (p : Params) (bytes : List (List ℕ)) (file : ℕ) (e : ReadError) : Type 0 where
+-- nothing stands against the schemas, and of all that is refused in the order of the work this comes first
+pub record HasRefusal (p : Params) (bytes : List (List ℕ)) (refusal : MergeStoreError) : Type 0 where
   pub outlines : List Outline
   pub planned : ArePlanned bytes outlines
-  pub fault : readings (all_numbered 0 bytes outlines) ≡ Err (file, e)
-  pub before : FitsBefore p bytes outlines
+  pub first : refused_of p bytes outlines ≡ Some refusal
 
--- this is the first fault of files: one before the clusters of any, or such a one
+-- this is the first fault of files, by the number of its file: one before the clusters of any, or one of a cluster that comes first
 abbrev pub HasFaultOf : Params → List (List ℕ) → ℕ → ReadError → Type 0
-HasFaultOf p bytes file e = (outlines_from 0 bytes ≡ Err (file, e)) ⊎ HasFaultWithin p bytes file e
+HasFaultOf p bytes file e = (outlines_from 0 bytes ≡ Err (file, e)) ⊎ HasRefusal p bytes (store.Defect file e)
 
 -- which answer it is, by what the files are, where the outside serves: this one, unless memory runs out
 pub record AnswersMerge (names : List (List ℕ)) (p : Params) (w : World) (answer : Status) : Type 0 where
@@ -92,6 +90,9 @@ pub record AnswersMerge (names : List (List ℕ)) (p : Params) (w : World) (answ
   -- a limit is told where one is passed then
   pub limited : AreThereWith (MergeBeyond p) w names
       → ((reached limit : ℕ) × (answer ≡ status.Limit reached limit)) ⊎ (answer ≡ status.Memory)
+  -- just this one is told, with what was reached, where it is passed before any other and before a fault of the clusters
+  pub passed : (reached limit : ℕ) → AreThereWith (λ bytes. HasRefusal p bytes (store.Limit reached limit)) w names
+      → (answer ≡ status.Limit reached limit) ⊎ (answer ≡ status.Memory)
   -- the first that stands against the schemas is told of any files that have outlines
   pub unlike : (place : MergePlace) → AreThereWith (λ bytes. HasSchemaError bytes place) w names
       → (answer ≡ status.Schema (place_of_merge place)) ⊎ (answer ≡ status.Memory)
