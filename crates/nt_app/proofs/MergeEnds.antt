@@ -18,7 +18,8 @@ use Rattle.nt_app.specs.declared.status.Status.TheVariants as status
 use Rattle.nt_app.specs.Merges.{place_of_merge, status_of_merge, MeanAlike, FitsMerge, MergeWithin, MergeBeyond, HasRefusal}
 use Rattle.nt_app.specs.Merges.{HasFaultOf, AnswersMerge}
 use Rattle.nt_app.proofs.Joined.{texts_are}
-use Rattle.nt_app.proofs.MergeOnce.{same_outlines, outlined_or_not, alike_or_not, same_place, mean_no_fault, same_refused, all_fit, not_over}
+use Rattle.nt_app.proofs.MergeOnce.{same_outlines, outlined_or_not, alike_or_not, same_place, same_fault, mean_no_fault, same_refused}
+use Rattle.nt_app.proofs.MergeOnce.{all_fit, not_over}
 
 -- files under these names have both
 both_of : (P Q : List (List ℕ) → Type 0) (w : World) (names : List (List ℕ)) → AreThereWith P w names → AreThereWith Q w names
@@ -45,11 +46,9 @@ module _ (p : Params) (bytes : List (List ℕ)) where
       ]
 
   fault-alike : (file : ℕ) (e : ReadError) (place : MergePlace) → HasFaultOf p bytes file e → HasSchemaError bytes place → ⊥
-  fault-alike file e place fault not =
-      elim fault [
-        | inl none ↦ outlined_or_not bytes not.outlines (file, e) not.outlines_are none
-        | inr some ↦ alike_or_not bytes some.outlines place some.planned not
-      ]
+  fault-alike file e place (inl none) not = outlined_or_not bytes not.outlines (file, e) not.outlines_are none
+  fault-alike file e place (inr (inl some)) not = alike_or_not bytes some.outlines place some.planned not
+  fault-alike file e place (inr (inr within)) not = alike_or_not bytes within.outlines place within.planned not
 
   -- what is refused first is one thing
   same_first : (one other : MergeStoreError) (os : List Outline) → ArePlanned bytes os → refused_of p bytes os ≡ Some one
@@ -67,21 +66,26 @@ module _ (p : Params) (bytes : List (List ℕ)) where
   first_fault : (out : List ℕ) (w v : World) (file file' : ℕ) (e e' : ReadError) → FirstFaultTold out p bytes file e w v
       → HasFaultOf p bytes file' e' → ◌≡◌ {A = ℕ × ReadError} (file, e) (file', e')
   first_fault out w v file file' e e' (inl told) (inl none) = err_is _ _ (sym told.0 ∙ none)
-  first_fault out w v file file' e e' (inl told) (inr some) =
+  first_fault out w v file file' e e' (inl told) (inr (inl some)) =
       absurd (outlined_or_not bytes some.outlines (file, e) some.planned.outlines told.0)
+  first_fault out w v file file' e e' (inl told) (inr (inr within)) =
+      absurd (outlined_or_not bytes within.outlines (file, e) within.planned.outlines told.0)
   first_fault out w v file file' e e' (inr told) (inl none) =
       absurd (outlined_or_not bytes told.0.outlines (file', e') told.0.planned.outlines none)
-  first_fault out w v file file' e e' (inr told) (inr some) =
+  first_fault out w v file file' e e' (inr told) (inr (inl some)) =
       let both = same_first (store.Defect file e) (store.Defect file' e') told.0.outlines told.0.planned told.0.first some in
       cc both
+  first_fault out w v file file' e e' (inr told) (inr (inr within)) =
+      same_fault bytes told.0.outlines within.outlines (file, e) (file', e') told.0.planned within.planned told.0.fault within.fault
 
   -- what was written whole has no fault
   whole-no_fault : (image : List ℕ) (file : ℕ) (e : ReadError) → IsWholeMerge p bytes image → HasFaultOf p bytes file e → ⊥
-  whole-no_fault image file e (clusters, whole) fault =
-      elim fault [
-        | inl none ↦ outlined_or_not bytes whole.outlines (file, e) whole.planned.outlines none
-        | inr some ↦ whole-none image (store.Defect file e) (clusters, whole) some
-      ]
+  whole-no_fault image file e (clusters, whole) (inl none) =
+      outlined_or_not bytes whole.outlines (file, e) whole.planned.outlines none
+  whole-no_fault image file e whole (inr (inl some)) = whole-none image (store.Defect file e) whole some
+  whole-no_fault image file e (clusters, whole) (inr (inr within)) =
+      let mean : MeanAlike bytes whole.outlines = record { planned = whole.planned; each = whole.each; mean = whole.mean } in
+      mean_no_fault bytes whole.outlines within.outlines (file, e) mean within.planned within.fault
 
   -- and fits
   whole-fits : (image : List ℕ) (os : List Outline) → IsWholeMerge p bytes image → outlines_from 0 bytes ≡ Ok os → FitsMerge p bytes os
@@ -89,13 +93,12 @@ module _ (p : Params) (bytes : List (List ℕ)) where
       subst (FitsMerge p bytes) (same_outlines bytes whole.outlines os whole.planned.outlines is) whole.fits
 
   fault_within : (file : ℕ) (e : ReadError) (reached limit : ℕ) → HasFaultOf p bytes file e → PassesMerge p bytes reached limit → ⊥
-  fault_within file e reached limit fault over =
-      elim fault [
-        | inl none ↦ outlined_or_not bytes over.outlines (file, e) over.planned.outlines none
-        | inr some ↦
-            let both = same_first (store.Limit reached limit) (store.Defect file e) over.outlines over.planned over.first some in
-            cc both
-      ]
+  fault_within file e reached limit (inl none) over = outlined_or_not bytes over.outlines (file, e) over.planned.outlines none
+  fault_within file e reached limit (inr (inl some)) over =
+      let both = same_first (store.Limit reached limit) (store.Defect file e) over.outlines over.planned over.first some in
+      cc both
+  fault_within file e reached limit (inr (inr within)) over =
+      not_over bytes p within.outlines reached limit within.planned within.before over
 
   -- a limit that is refused first
   limit-no_defect : (out : List ℕ) (w v : World) (file : ℕ) (e : ReadError) (reached limit : ℕ) → FirstFaultTold out p bytes file e w v

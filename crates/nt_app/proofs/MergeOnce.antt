@@ -1,7 +1,7 @@
 -- What is read of files that are merged is one thing: their bytes, their outlines, what they mean, and what stands against merging them.
 use Rattle.std.proofs.Common.{◌≡◌, ◌∙◌, ap, sym, subst, refl, ℕ, ◌+◌, List, [], ◌∷◌, Result, Ok, Err}
 use Rattle.nt_lists.specs.Chaining.{◌>>=◌}
-use Rattle.nt_lists.proofs.Variants.{some_is, ok_is}
+use Rattle.nt_lists.proofs.Variants.{some_is, ok_is, err_is}
 use Rattle.nt_num.specs.declared.fault.ReadError.{ReadError}
 use Rattle.nt_types.specs.TreeData.{TreesData}
 use Rattle.nt_grammar.specs.Table.{Table}
@@ -100,7 +100,13 @@ module _ (bytes : List (List ℕ)) where
       let same = same_outlines one.outlines other.outlines one.outlines_are other.outlines_are in
       some_is x y (sym one.against ∙ (ap (λ (l : List Outline). schema_error (tables_of l)) same ∙ other.against))
 
-  -- none of their clusters has a fault where each means something
+  -- the first fault of their clusters is one, and none where each means something
+  pub same_fault : (os os' : List Outline) (one other : ℕ × ReadError) → ArePlanned bytes os → ArePlanned bytes os'
+      → readings (all_numbered 0 bytes os) ≡ Err one → readings (all_numbered 0 bytes os') ≡ Err other → one ≡ other
+  same_fault os os' one other are are' is is' =
+      let same = same_outlines os os' are.outlines are'.outlines in
+      err_is one other (sym is ∙ (ap (λ (l : List Outline). readings (all_numbered 0 bytes l)) same ∙ is'))
+
   pub mean_no_fault : (os os' : List Outline) (fault : ℕ × ReadError) → MeanAlike bytes os → ArePlanned bytes os'
       → readings (all_numbered 0 bytes os') ≡ Err fault → ⊥
   mean_no_fault os os' fault mean are is =

@@ -11,7 +11,7 @@ use Rattle.nt_merge_limits.specs.Limits.{MergeFits}
 use Rattle.nt_merge.specs.declared.place.SchemaPlace.{SchemaPlace as MergePlace}
 use Rattle.nt_merge.specs.declared.place.SchemaPlace.TheVariants as unlike
 use Rattle.nt_merge.specs.Planning.{ArePlanned, outlines_from}
-use Rattle.nt_merge.specs.Merging.{Numbered, all_numbered, sound_numbered, copied_metas, merged_table}
+use Rattle.nt_merge.specs.Merging.{Numbered, all_numbered, readings, sound_numbered, copied_metas, merged_table}
 use Rattle.nt_merge_files.specs.declared.error.MergeStoreError.{MergeStoreError}
 use Rattle.nt_merge_files.specs.declared.error.MergeStoreError.TheVariants as store
 use Rattle.nt_merge_files.specs.Files.{AreThereWith}
@@ -79,9 +79,19 @@ pub record HasRefusal (p : Params) (bytes : List (List ℕ)) (refusal : MergeSto
   pub planned : ArePlanned bytes outlines
   pub first : refused_of p bytes outlines ≡ Some refusal
 
--- this is the first fault of files, by the number of its file: one before the clusters of any, or one of a cluster that comes first
+-- nothing stands against the schemas, this is the first fault of the clusters, by the number of its file, and the file of those before
+-- it passes no limit
+pub record HasFaultWithin (p : Params) (bytes : List (List ℕ)) (file : ℕ) (e : ReadError) : Type 0 where
+  pub outlines : List Outline
+  pub planned : ArePlanned bytes outlines
+  pub fault : readings (all_numbered 0 bytes outlines) ≡ Err (file, e)
+  pub before : FitsBefore p bytes outlines
+
+-- this is the first fault of files, by the number of its file: one before the clusters of any; or one of a cluster that comes first in the
+-- order of the work, or before which the whole file passes no limit
 abbrev pub HasFaultOf : Params → List (List ℕ) → ℕ → ReadError → Type 0
-HasFaultOf p bytes file e = (outlines_from 0 bytes ≡ Err (file, e)) ⊎ HasRefusal p bytes (store.Defect file e)
+HasFaultOf p bytes file e =
+    (outlines_from 0 bytes ≡ Err (file, e)) ⊎ (HasRefusal p bytes (store.Defect file e) ⊎ HasFaultWithin p bytes file e)
 
 -- which answer it is, by what the files are, where the outside serves: this one, unless memory runs out
 pub record AnswersMerge (names : List (List ℕ)) (p : Params) (w : World) (answer : Status) : Type 0 where
