@@ -1,13 +1,13 @@
 -- The command `merge`, and the message after it.
-use Rattle.std.proofs.Common.{◌≡◌, ◌∙◌, inl, inr, sym, subst, refl, ℕ, List, [], Result, Ok, Err, arith}
+use Rattle.std.proofs.Common.{◌≡◌, ◌∙◌, inl, inr, sym, subst, refl, ℕ, List, [], map, Result, Ok, Err, arith}
 use Rattle.std.specs.Prelude.{IsErrOf}
 use Rattle.std.proofs.lemmas.List.{append-nil}
 use Rattle.nt_outside.specs.Order.{EndsInSync}
-use Rattle.nt_outside.specs.World.{World, Asked, HostState}
+use Rattle.nt_outside.specs.World.{World, Asked, File, HostState}
 use Rattle.nt_num.specs.declared.fault.ReadError.{ReadError}
 use Rattle.nt_book.specs.declared.params.Params.{Params}
 use Rattle.nt_close.specs.Laws.{EndsOverFirst}
-use Rattle.nt_store.specs.Worlds.{AsksFor}
+use Rattle.nt_store.specs.Worlds.{AsksFirst, AsksFor}
 use Rattle.nt_store.proofs.Refused.{none_made, nothing_made}
 use Rattle.nt_merge_files.specs.declared.error.MergeStoreError.{MergeStoreError}
 use Rattle.nt_merge_files.specs.declared.error.MergeStoreError.TheVariants as store
@@ -33,6 +33,7 @@ memory_merges out names p state = record {
     order = nothing_made out state.world state.world refl;
     crash = λ w w' is is' made. absurd (none_made out state.world state.world refl w w' is is' made);
     asked = (0, sym (append-nil state.asked));
+    plan_first = λ w at none. (0, sym (append-nil state.asked));
     later = omega arith;
     failed = λ outside. absurd (cc);
     back = record { err_faults = refl; opened = omega arith };
@@ -106,6 +107,8 @@ run_merge out names p old mid new answer merges reports =
       crash = made_reported out (message_of answer) _ old mid new left reports
           (λ w v. LeavesMerge (IsWholeMergeOf names p w) out v merges.stored) (crash_after out names p merges.stored) stores.crash;
       asked = subst (λ (l : List Asked). AsksFor (merge_asked out names) old.asked l merges.stored) (sym reports.asked) stores.asked;
+      plan_first = λ w at none.
+          subst (λ (l : List Asked). AsksFirst (map File names) old.asked l) (sym reports.asked) (stores.plan_first w at none);
       failed = λ outside. rose_reported _ old mid new reports (stores.failed (outside_of merges.stored answer merges.answer_is outside));
       opened = after.opened;
       served = λ w at serves.

@@ -17,7 +17,7 @@ use Rattle.nt_merge_files.specs.declared.error.MergeStoreError.TheVariants as st
 use Rattle.nt_merge_files.specs.Files.{AreThereWith}
 use Rattle.nt_merge_files.specs.Whole.{refused_of, MeanEach, HasSchemaError}
 use Rattle.nt_merge_files.specs.Crashes.{MergeCrashTold}
-use Rattle.nt_merge_files.specs.Storing.{merge_asked, IsWholeMergeOf, MergeTold, StoresMerged}
+use Rattle.nt_merge_files.specs.Storing.{merge_asked, AsksFilesFirst, IsWholeMergeOf, MergeTold, StoresMerged}
 use Rattle.nt_app.specs.declared.status.SchemaPlace.{SchemaPlace}
 use Rattle.nt_app.specs.declared.status.SchemaPlace.TheVariants as unmet
 use Rattle.nt_app.specs.declared.status.Status.{Status}
@@ -124,6 +124,8 @@ pub record RunsMerge (out : List ℕ) (names : List (List ℕ)) (p : Params) (ol
   pub crash : MergeCrashTold (IsWholeMergeOf names p) out old.world new.world stored
   -- what was asked for: all names where the file is whole, and else the first of them
   pub asked : AsksFor (merge_asked out names) old.asked new.asked stored
+  -- and only the files, where they aren't there or can't be merged
+  pub plan_first : AsksFilesFirst names old new
   -- the outside is blamed only where it failed
   pub failed : answer ≡ status.Outside → Rose old.faults new.faults
   -- each object that was opened came back

@@ -24,7 +24,8 @@ pub record IsToldInPart (p : Params) (m : Making) (commits name : List ℕ) (w w
   pub synced : IsLeftAfter EndsInSync name w'
   pub gained : GainsMadeFront p m w w'
 
--- what is left of what was committed in this order, by the answer. Nothing was printed where it came before the disk was back; that the file read back has a fault never comes
+-- what is left of what was committed in this order, by the answer. Where it ended before the disk was back, nothing was printed; that the
+-- file read back has a fault never comes
 abbrev pub GenerateTold : List ℕ → Params → Making → List ℕ → World → World → Result Unit GenerateError → Type 0
 GenerateTold name p m commits w w' (Ok done) = MakesDisk name w w' × IsWhole p m commits name w' × (w'.out ≡ w.out ++ made_lines p m)
 GenerateTold name p m commits w w' (Err Outside) =

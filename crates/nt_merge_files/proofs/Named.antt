@@ -1,7 +1,7 @@
 -- What is left of a host once the files that were merged are back.
 use Rattle.std.proofs.Common.{◌≡◌, ◌∙◌, inl, inr, ap, sym, subst, refl, ℕ, ◌≤◌, List, [], ◌∷◌, ◌++◌, map, length, take, drop, Result}
 use Rattle.std.proofs.Common.{Ok, Err, append_assoc, arith}
-use Rattle.std.proofs.lemmas.List.{length-map, take-append-drop}
+use Rattle.std.proofs.lemmas.List.{append-nil, length-map, take-append-drop}
 use Rattle.nt_outside.specs.File.{FileState}
 use Rattle.nt_outside.specs.World.{World, Asked, File, Out, HostState}
 use Rattle.nt_book.specs.declared.params.Params.{Params}
@@ -15,7 +15,7 @@ use Rattle.nt_merge_files.specs.declared.error.MergeStoreError.{MergeStoreError}
 use Rattle.nt_merge_files.specs.declared.error.MergeStoreError.TheVariants.{Outside, Memory, Defect, Schema, Limit}
 use Rattle.nt_merge_files.specs.Errors.{IsMergeRefusal, HasOpeningCause}
 use Rattle.nt_merge_files.specs.Files.{as_text, AreOpenFiles, ReturnsFiles, AreThere, AreThereWith}
-use Rattle.nt_merge_files.specs.Whole.{IsWholeMerge, HasSchemaError, PassesMerge}
+use Rattle.nt_merge_files.specs.Whole.{IsWholeMerge, HavePlan, HasSchemaError, PassesMerge}
 use Rattle.nt_merge_files.specs.Storing.{MakesMerged, FirstFaultTold, MergeOpenTold, MergesOpen, merge_asked, IsWholeMergeOf}
 use Rattle.nt_merge_files.specs.Storing.{MergeNamedTold, MergesNamed}
 use Rattle.nt_merge_files.proofs.Crashes.{leaves-into, none-left}
@@ -87,6 +87,11 @@ module _ (out : List ℕ) (names : List (List ℕ)) (p : Params) where
               (merges.crash at.bytes at.tell w w' (asks.world ∙ is) (sym back.world ∙ is') made);
           asked = asked-then result old.asked mid.asked new.asked asks.asked
               (subst (λ (l : List Asked). AsksFor last mid.asked l result) (sym back.asked) merges.asked);
+          plan_first = λ w is none.
+              let at = files-told state w old.world names files is are in
+              let none-asked = merges.plan_first at.bytes at.tell (λ plan. none (there-with HavePlan w at.bytes at.there plan)) in
+              asks_front old.asked new.asked (map File names) (map File names) [] (back.asked ∙ (none-asked ∙ asks.asked))
+              (sym (append-nil (map File names)));
           later = omega (arith, later, merges.cause.later, back.later);
           failed = λ bad. elim (merges.cause.failed bad) [
             | inl rose ↦ omega (arith, later, rose, back.later)
@@ -117,6 +122,7 @@ module _ (out : List ℕ) (names : List (List ℕ)) (p : Params) where
     order = nothing_made out old.world new.world asks.world;
     crash = none-left (IsWholeMergeOf names p) out old.world new.world (Err e) asks.world;
     asked = asked-first old.asked new.asked asks.asked;
+    plan_first = λ w is none. asks.asked;
     later = cause.later;
     failed = λ is. cause.failed (cc is);
     back = left;

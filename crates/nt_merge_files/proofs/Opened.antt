@@ -92,6 +92,7 @@ module _ {F : Type 0} (state : F → FileState) where
             (whole-of means pages read bare-is law p bytes plan (are bytes tell) plans some) out w' result
             (merges.crash bytes (told bytes tell) plans.outlines w w' is is' made);
         asked = merges.asked;
+        plan_first = λ bytes tell none. absurd (none (plan, planned bytes tell));
         cause = record {
           kept = keep-more state files mid files' kept merges.cause.kept;
           later = merges.cause.later;
@@ -139,6 +140,7 @@ module _ {F : Type 0} (state : F → FileState) where
     order = λ bytes tell. nothing_made out host.world host.world refl;
     crash = λ bytes tell. none-left (λ w. IsWholeMerge p bytes) out host.world host.world (Err (error_of_merge most e)) refl;
     asked = (0, sym (append-nil host.asked));
+    plan_first = λ bytes tell none. refl;
     cause = record {
       kept = kept;
       later = omega arith;

@@ -1,5 +1,5 @@
 -- The parts of merging files of a host, joined.
-use Rattle.std.proofs.Common.{◌≡◌, ◌∙◌, inl, inr, ap, sym, subst, refl, ℕ, List, [], ◌++◌, length, take, drop, Some, Result, Ok, Err}
+use Rattle.std.proofs.Common.{◌≡◌, ◌∙◌, inl, inr, ap, sym, subst, refl, ℕ, List, [], ◌++◌, map, length, take, drop, Some, Result, Ok, Err}
 use Rattle.std.proofs.Common.{append-nil, arith}
 use Rattle.std.proofs.lemmas.List.{take-append-drop}
 use Rattle.nt_types.specs.TreeData.{TreesData}
@@ -7,9 +7,9 @@ use Rattle.nt_outside.specs.declared.fault.Failed.{Failed}
 use Rattle.nt_outside.specs.declared.stream.Stream.TheVariants.{ToOut}
 use Rattle.nt_outside.specs.Log.{Step}
 use Rattle.nt_outside.specs.Order.{FirstByteLast, EndsInSync}
-use Rattle.nt_outside.specs.World.{World, HostState, PrintsAll, prints}
+use Rattle.nt_outside.specs.World.{World, Asked, File, HostState, PrintsAll, prints}
 use Rattle.nt_book.specs.declared.params.Params.{Params}
-use Rattle.nt_store.specs.Worlds.{LeavesOut, WritesInOrder, IsLeftAfter}
+use Rattle.nt_store.specs.Worlds.{AsksFirst, LeavesOut, WritesInOrder, IsLeftAfter}
 use Rattle.nt_store.proofs.Asking.{asks_all}
 use Rattle.nt_store.proofs.Refused.{world_is}
 use Rattle.nt_script.specs.declared.storing.Counts.{Counts}
@@ -20,7 +20,7 @@ use Rattle.nt_merge_files.specs.Crashes.{MergeCrash, MergeCrashTold}
 use Rattle.nt_merge_files.specs.Files.{AreThere}
 use Rattle.nt_merge_files.specs.Whole.{IsMergeOf}
 use Rattle.nt_merge_files.specs.Storing.{MakesMerged, merge_asked, IsWholeMergeOf, MergeNamedTold, MergesNamed, StoresMerge, MergeTold}
-use Rattle.nt_merge_files.specs.Storing.{StoresMerged}
+use Rattle.nt_merge_files.specs.Storing.{AsksFilesFirst, StoresMerged}
 use Rattle.nt_merge_files.proofs.Crashes.{written-in-order, order-left, leaves-behind, behind-as}
 
 module _ (out : List ℕ) (names : List (List ℕ)) (p : Params) where
@@ -68,6 +68,7 @@ module _ (out : List ℕ) (names : List (List ℕ)) (p : Params) where
         (behind-as out w' Whole (Err e) {S = Unit {0}} (Err e) (λ log leaves. unwritten-crash Whole log e leaves)
         (named.crash w w' is is' made));
     asked = named.asked;
+    plan_first = named.plan_first;
     later = named.later;
     failed = λ is. named.failed (cc is);
     back = named.back;
@@ -161,6 +162,11 @@ module _ (out : List ℕ) (names : List (List ℕ)) (p : Params) where
       opened = omega (arith, told.opened, named.back.opened);
     }
 
+  -- a print asks for nothing
+  asked-first-then : (old mid new : HostState) → new.asked ≡ mid.asked → AsksFilesFirst names old mid → AsksFilesFirst names old new
+  asked-first-then old mid new same first w is none =
+      subst (λ (l : List Asked). AsksFirst (map File names) old.asked l) (sym same) (first w is none)
+
   pub stored : (old mid new : HostState) (counts : Counts) → MergesNamed out names p old mid (Ok counts)
       → PrintsAll ToOut (counts_line counts.clusters counts.entries) mid new (Ok tt) → StoresMerged out names p old new (Ok tt)
   unfolding made-by
@@ -179,6 +185,7 @@ module _ (out : List ℕ) (names : List (List ℕ)) (p : Params) where
         order = printed-order old mid new counts named (Ok tt) told;
         crash = printed-crash old mid new counts named (Ok tt) told (Ok tt) (λ Whole log leaves. leaves);
         asked = told.asked ∙ named.asked;
+        plan_first = asked-first-then old mid new told.asked named.plan_first;
         later = omega (arith, named.later, told.cause.later);
         failed = λ is. absurd (cc is);
         back = back-then old mid new counts named (Ok tt) told;
@@ -209,6 +216,7 @@ module _ (out : List ℕ) (names : List (List ℕ)) (p : Params) where
         order = printed-order old mid new counts named (Err e) told;
         crash = printed-crash old mid new counts named (Err e) told (Err Outside) (λ Whole log leaves. leaves.0);
         asked = asks_all {T = Unit {0}} (Err Outside) old.asked new.asked (merge_asked out names) (told.asked ∙ named.asked);
+        plan_first = asked-first-then old mid new told.asked named.plan_first;
         later = omega (arith, named.later, told.cause.later);
         failed = λ is. let rose = told.cause.failed in omega (arith, named.later, rose);
         back = back-then old mid new counts named (Err e) told;

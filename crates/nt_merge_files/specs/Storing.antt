@@ -10,8 +10,8 @@ use Rattle.nt_grammar.specs.Table.{Table}
 use Rattle.nt_book.specs.declared.params.Params.{Params}
 use Rattle.nt_close.specs.Laws.{EndsOverFirst}
 use Rattle.nt_file_meaning.specs.Outlines.{Outline}
-use Rattle.nt_store.specs.Worlds.{AsksFor, LeavesOut, KeepsFiles, OthersStay, MakesDisk, LeavesOpen, IsLeftByFailure, IsLeftByMemory}
-use Rattle.nt_store.specs.Worlds.{WritesInOrder, IsLeftAfter}
+use Rattle.nt_store.specs.Worlds.{AsksFirst, AsksFor, LeavesOut, KeepsFiles, OthersStay, MakesDisk, LeavesOpen, IsLeftByFailure}
+use Rattle.nt_store.specs.Worlds.{IsLeftByMemory, WritesInOrder, IsLeftAfter}
 use Rattle.nt_script.specs.declared.storing.Counts.{Counts}
 use Rattle.nt_script.specs.Whole.{line_of_clusters}
 use Rattle.nt_merge_limits.specs.Limits.{MergeOver}
@@ -22,8 +22,8 @@ use Rattle.nt_merge.specs.Merging.{IsMergedFile}
 use Rattle.nt_merge_files.specs.declared.error.MergeStoreError.{MergeStoreError}
 use Rattle.nt_merge_files.specs.declared.error.MergeStoreError.TheVariants.{Outside, Memory, Defect, Schema, Limit}
 use Rattle.nt_merge_files.specs.Files.{AreThere, AreThereWith}
-use Rattle.nt_merge_files.specs.Whole.{refused_first, IsMergeOf, IsWholeMerge, AreMergeNumbers, HasSchemaError, IsFirstClusterFault}
-use Rattle.nt_merge_files.specs.Whole.{PassesMerge}
+use Rattle.nt_merge_files.specs.Whole.{refused_first, IsMergeOf, IsWholeMerge, AreMergeNumbers, HavePlan, HasSchemaError}
+use Rattle.nt_merge_files.specs.Whole.{IsFirstClusterFault, PassesMerge}
 use Rattle.nt_merge_files.specs.Crashes.{MergeCrashTold}
 
 -- a disk of this name was made, and its file is whole in this sense
@@ -104,6 +104,8 @@ module _ {F : Type 0} (state : F → FileState) where
     pub crash : (bytes : List (List ℕ)) → TellBytes state files bytes
         → MergeCrashTold (λ w. IsWholeMerge p bytes) out old.world new.world result
     pub asked : AsksFor (Out out ∷ []) old.asked new.asked result
+    -- and nothing, where they can't be merged
+    pub plan_first : (bytes : List (List ℕ)) → TellBytes state files bytes → (HavePlan bytes → ⊥) → new.asked ≡ old.asked
     pub cause : HasMergeCause state files files' old.faults new.faults result
     pub back : LeavesOut 0 old new
 
@@ -112,6 +114,11 @@ module _ {F : Type 0} (state : F → FileState) where
 -- the names that are asked for: the files that are merged, in order, and then the one that is written
 abbrev pub merge_asked : List ℕ → List (List ℕ) → List Asked
 merge_asked out names = map File names ++ Out out ∷ []
+
+-- where a host has no files under these names that can be merged, nothing but they was asked for
+abbrev pub AsksFilesFirst : List (List ℕ) → HostState → HostState → Type 0
+AsksFilesFirst names old new =
+    (w : World) → old.world ≡ Some w → (AreThereWith HavePlan w names → ⊥) → AsksFirst (map File names) old.asked new.asked
 
 -- these bytes are the whole file of files of a host
 abbrev pub IsWholeMergeOf : List (List ℕ) → Params → World → List ℕ → Type 0
@@ -138,6 +145,7 @@ pub record MergesNamed (out : List ℕ) (names : List (List ℕ)) (p : Params) (
   pub order : WritesInOrder out old.world new.world
   pub crash : MergeCrashTold (IsWholeMergeOf names p) out old.world new.world result
   pub asked : AsksFor (merge_asked out names) old.asked new.asked result
+  pub plan_first : AsksFilesFirst names old new
   pub later : old.faults ≤ new.faults
   pub failed : IsErrOf result Outside → Rose old.faults new.faults
   pub back : LeavesOut 0 old new
@@ -179,6 +187,7 @@ pub record StoresMerged (out : List ℕ) (names : List (List ℕ)) (p : Params) 
   -- and a crash leaves it unfinished or whole
   pub crash : MergeCrashTold (IsWholeMergeOf names p) out old.world new.world result
   pub asked : AsksFor (merge_asked out names) old.asked new.asked result
+  pub plan_first : AsksFilesFirst names old new
   -- a count of faults never falls, and it rose where the outside failed
   pub later : old.faults ≤ new.faults
   pub failed : IsErrOf result Outside → Rose old.faults new.faults

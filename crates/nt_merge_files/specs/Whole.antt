@@ -76,6 +76,10 @@ pub record AreMergeNumbers (clusters : List (List TreesData)) (counts : Counts) 
   pub clusters_are : counts.clusters ≡ length clusters
   pub entries_are : counts.entries ≡ merged_entries clusters
 
+-- files with these bytes can be merged: they have outlines, and nothing stands against merging their schemas
+abbrev pub HavePlan : List (List ℕ) → Type 0
+HavePlan bytes = (outlines : List Outline) × ArePlanned bytes outlines
+
 -- files with these bytes have outlines, and this is the first place of their schemas that stands against merging them
 pub record HasSchemaError (bytes : List (List ℕ)) (place : SchemaPlace) : Type 0 where
   pub outlines : List Outline
