@@ -26,8 +26,8 @@ pub record IsSelectedFile (p : Params) (fields : List MemberData) (entries : Lis
   pub table : Table
   pub rows : Rows fields p.plain table
   pub laid : IsLaid bytes table (chunks p.cluster entries) (measures_of p)
-  -- no cluster is longer than a range may get
   pub late : IsLaidLate bytes table (chunks p.cluster entries) (measures_of p)
+  -- no cluster is longer than a range may get
   pub short : AllByRecursion (λ (c : Cluster ClusterMeta). c.len ≤ p.limits.range) (book_clusters late.book)
   pub means : Means bytes table (chunks p.cluster entries)
 
