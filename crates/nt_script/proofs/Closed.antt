@@ -1,5 +1,5 @@
 -- The file of a script that is written whole, once it is closed, or not.
-use Rattle.std.proofs.Common.{◌≡◌, ◌∙◌, inl, inr, ap, sym, subst, refl, ℕ, ◌<◌, List, Option, Some}
+use Rattle.std.proofs.Common.{◌≡◌, ◌∙◌, inl, inr, ap, sym, subst, refl, ℕ, ◌<◌, List, Option, Some, None}
 use Rattle.std.proofs.Common.{Result, Ok, Err, arith}
 use Rattle.std.specs.Prelude.{IfOk}
 use Rattle.nt_types.specs.ShapeData.{MemberData}
@@ -75,27 +75,29 @@ module _ {D : Type 0} (state : D → DiskState) (w : SeqState D) (F : List Membe
     unclosed = record { blobs = is.blobs; steps = inl refl }
 
     -- the closed file is that of the script
-    turn : (bytes : List ℕ) → IsFileOf state w bytes → IsScriptFile w.params F text bytes
-    turn bytes file = file_here state w F text first rows done law bytes file
+    turn : passed_by_close w.params w.table w.book ≡ None → (bytes : List ℕ) → IsFileOf state w bytes
+        → IsScriptFile w.params F text bytes
+    turn none bytes file = file_here state w F text first rows done law is kept none bytes file
 
     -- after Ok
-    pub closed_here : (n : ℕ × ℕ) → EndsFile state w disk (Ok n) → AreCounts state w n.0 n.1
+    pub closed_here : (n : ℕ × ℕ) → passed_by_close w.params w.table w.book ≡ None → EndsFile state w disk (Ok n)
+        → AreCounts state w n.0 n.1
         → HoldsNow (state disk).held (λ left. LeavesFile state w left (Ok n))
         → LeavesScriptFile F w.params text (state disk) (Ok (record { clusters = n.0; entries = n.1 }))
-    closed_here n ends are left =
+    closed_here n none ends are left =
         let same : left.0 ≡ closed_on behind before h =
         held_is (state disk).held left.0 (closed_on behind before h) left.1 (ends.held h held) in
         record {
           told = (
-            (left.0, left.1, (turn left.0.image left.2.whole, (_, ap (λ (k : Held). k.log) same))),
+            (left.0, left.1, (turn none left.0.image left.2.whole, (_, ap (λ (k : Held). k.log) same))),
             numbers_here state w F text first rows done (record { clusters = n.0; entries = n.1 }) are,
           );
           crash = (
             left.0,
             left.1,
             (
-              or_as (IsFileOf state w) (IsScriptFile w.params F text) left.0.log turn left.2.crash.0,
-              λ bytes may. turn bytes (left.2.crash.1 bytes may),
+              or_as (IsFileOf state w) (IsScriptFile w.params F text) left.0.log (turn none) left.2.crash.0,
+              λ bytes may. turn none bytes (left.2.crash.1 bytes may),
             ),
           );
         }
@@ -132,12 +134,12 @@ module _ {D : Type 0} (state : D → DiskState) (w : SeqState D) (F : List Membe
     unclosed_here close.Fault none cause left ends = record {
       told = elim ends.2.shut as (λ _. ScriptFileTold F w.params text (state disk) (Err Outside)) [
         | inl shut ↦ inl (ends.0, ends.1, inl (shut_open ends.0.image shut))
-        | inr file ↦ inr (ends.0, ends.1, (turn ends.0.image file.whole, file.last))
+        | inr file ↦ inr (ends.0, ends.1, (turn cause.1 ends.0.image file.whole, file.last))
       ];
       crash = (
         ends.0,
         ends.1,
-        or_as (IsFileOf state w) (IsScriptFile w.params F text) ends.0.log turn ends.2.crash,
+        or_as (IsFileOf state w) (IsScriptFile w.params F text) ends.0.log (turn cause.1) ends.2.crash,
       );
     }
 
@@ -167,13 +169,13 @@ module _ {D : Type 0} (state : D → DiskState) (w : SeqState D) (law : LateFile
       subst (λ (q : Params). Rows F q.plain first → IsDoneScript state F (Some text) first q w
       → LeavesScriptFile F q text (state disk) result) same left
 
-  closed_ok : (n : ℕ × ℕ) → EndsFile state w disk (Ok n) → AreCounts state w n.0 n.1
+  closed_ok : (n : ℕ × ℕ) → passed_by_close w.params w.table w.book ≡ None → EndsFile state w disk (Ok n) → AreCounts state w n.0 n.1
       → BecomesSome (state w.given).held (state disk).held (λ h left. LeavesFile state w left (Ok n))
       → FinishesScript state w disk (Ok (record { clusters = n.0; entries = n.1 }))
-  closed_ok n ends are file = record {
+  closed_ok n none ends are file = record {
     left = λ F text first p rows done empty.
         by_params (Ok (record { clusters = n.0; entries = n.1 })) F text first p done.params
-        (λ r d. closed_here state w F text first r d law is kept empty disk n ends are (file nothing_held empty)) rows done;
+        (λ r d. closed_here state w F text first r d law is kept empty disk n none ends are (file nothing_held empty)) rows done;
     order = λ empty. let left = file nothing_held empty in (left.0, left.1, left.2.order);
     failed = λ bad. absurd (cc bad);
   }
@@ -193,10 +195,10 @@ module _ {D : Type 0} (state : D → DiskState) (w : SeqState D) (law : LateFile
   module _ (r : Result (ℕ × ℕ) CloseError) (ends : EndsFile state w disk r)
       (file : BecomesSome (state w.given).held (state disk).held (λ h left. LeavesFile state w left r)) where
     -- the file was closed
-    pub finishes : (n : ℕ × ℕ) → r ≡ Ok n → IfOk r (λ m. AreCounts state w m.0 m.1)
+    pub finishes : (n : ℕ × ℕ) → r ≡ Ok n → AnswersClosing w r → IfOk r (λ m. AreCounts state w m.0 m.1)
         → FinishesScript state w disk (Ok (record { clusters = n.0; entries = n.1 }))
-    finishes n is are =
-        closed_ok n (subst (EndsFile state w disk) is ends)
+    finishes n is answers are =
+        closed_ok n (subst (AnswersClosing w) is answers).cause.1 (subst (EndsFile state w disk) is ends)
         (subst (λ (o : Result (ℕ × ℕ) CloseError). IfOk o (λ m. AreCounts state w m.0 m.1)) is are)
         (subst (λ (o : Result (ℕ × ℕ) CloseError). BecomesSome (state w.given).held (state disk).held (λ h left. LeavesFile state w left o))
         is file)

@@ -20,6 +20,7 @@ pub mod HeaderPassed
 pub mod WouldBe
 pub mod Counted
 pub mod Fronts
+pub mod Fitted
 pub mod WholePassed
 pub mod Closed
 pub mod Early

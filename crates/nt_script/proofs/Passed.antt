@@ -1,10 +1,12 @@
 -- The limits that the clusters of a sequential writer pass, or don't.
-use Rattle.std.proofs.Common.{◌≡◌, ◌∙◌, sym, ap, subst, ℕ, zero, suc, ◌+◌, ◌<◌, ◌≤◌, List, [], ◌∷◌, length, take, drop, map, Some, refl}
-use Rattle.std.proofs.Common.{inl, inr, false, arith}
+use Rattle.std.proofs.Common.{◌≡◌, ◌∙◌, sym, ap, subst, ℕ, zero, suc, ◌+◌, ◌*◌, ◌-◌, ◌<◌, ◌≤◌, min, List, [], ◌∷◌, length}
+use Rattle.std.proofs.Common.{take, drop, map, Some, refl, inl, inr, false, arith}
 use Rattle.std.specs.Prelude.{slice_index_or}
 use Rattle.std.specs.Int.{div_ceil}
-use Rattle.std.specs.List.{AllByRecursion}
-use Rattle.std.proofs.lemmas.List.{length-map, take-map, drop-map}
+use Rattle.std.specs.List.{AllByRecursion, range_with_len}
+use Rattle.std.proofs.Math.Nat.{mul-le-mul_right}
+use Rattle.std.proofs.lemmas.Grind.{div_ceil_times}
+use Rattle.std.proofs.lemmas.List.{length-map, length-drop, take-map, drop-map, take_min}
 use Rattle.nt_outside.specs.Disk.{DiskState}
 use Rattle.nt_grammar.specs.Table.{Table}
 use Rattle.nt_machine.specs.History.{Cluster}
@@ -15,22 +17,22 @@ use Rattle.nt_book.specs.declared.limits.LimitError.{LimitError}
 use Rattle.nt_book.specs.Books.{BookData, book_clusters, no_cluster}
 use Rattle.nt_book.specs.Kept.{IsBookKept}
 use Rattle.nt_pagelists.specs.Blobs.{blob_len}
-use Rattle.nt_pagelists.specs.Objects.{ClusterSpan, list_len}
+use Rattle.nt_pagelists.specs.Objects.{ClusterSpan, cluster_span, list_len}
 use Rattle.nt_layout.specs.Headers.{header_sum, clusters_place}
 use Rattle.nt_layout.specs.Beside.{lists_left}
 use Rattle.nt_layout.specs.Finished.{list_places, spans, footer_object, file_len}
 use Rattle.nt_layout.specs.Groups.{PlacedList, places_beside}
-use Rattle.nt_finished.proofs.Spans.{spans_in_order}
 use Rattle.nt_close.specs.Filled.{AreListsNoted}
 use Rattle.nt_close.specs.Passing.{passed_by_close}
 use Rattle.nt_dealing.specs.Lengths.{page_list_len, group_count, footer_len}
 use Rattle.nt_dealing.proofs.Lengths.{length-list_object}
 use Rattle.nt_dealing.proofs.Files.{length-footer_object, length-file_of}
 use Rattle.nt_merge_limits.specs.Limits.{IsBookBeside}
+use Rattle.nt_merge_limits.proofs.Lists.{times-suc}
 use Rattle.nt_seq.specs.Standing.{IsShortCluster, IsWriting}
 use Rattle.nt_seq.specs.Writer.{SeqState}
 use Rattle.nt_seq.proofs.Flat.{params-flat, listed-flat, passed-flat}
-use Rattle.nt_store.proofs.Passing.{inside, small, blobs_or, ends, Names, range_named, file_named}
+use Rattle.nt_store.proofs.Passing.{blobs_or, ends, Names, range_named, file_named}
 use Rattle.nt_script.specs.Limits.{AreListsBetween, next_list_len, clusters_end, StandsWithin, IsOverEnd, list_passed, footer_passed}
 use Rattle.nt_script.specs.Limits.{end_passed}
 use Rattle.nt_script.specs.Taking.{metas_of}
@@ -107,17 +109,42 @@ module _ (t : Table) (p : Params) (book : BookData) (noted : AreListsNoted t p b
   counts : length book_metas ≡ length (book_clusters book)
   counts = length-map (book_clusters book) (λ (c : Cluster ClusterMeta). c.meta)
 
-  list_over : (reached most : ℕ) (s : ClusterSpan) → s.from + s.count ≤ length (book_clusters book) → s.count ≤ p.group
-      → p.limits.range < list_len (header_sum t) book s → (reached ≡ list_len (header_sum t) book s) × (most ≡ p.limits.range)
-      → IsOverEnd t p book_metas reached most
-  list_over reached most s within few above (is, limit-is) =
-      let same : take s.count (drop s.from book_metas) ≡ map (λ (c : Cluster ClusterMeta). c.meta) (take s.count (drop s.from (book_clusters
-      book))) =
-      ap (λ (l : List ClusterMeta). take s.count l) (drop-map (λ (c : Cluster ClusterMeta). c.meta) s.from (book_clusters book))
-      ∙ take-map (λ (c : Cluster ClusterMeta). c.meta) s.count (drop s.from (book_clusters book)) in
-      list_passed s.from s.count few
-      (is ∙ (length-list_object book (header_sum t) s within ∙ ap page_list_len (sym same))) limit-is
-      (omega (arith, above, is, limit-is))
+  abbrev n : ℕ
+  n = length (book_clusters book)
+
+  some-group : 0 < p.group
+  some-group = omega (arith, p.group_range.0)
+
+  -- how long the page list of a group is
+  group-len : (i : ℕ) → i < div_ceil n p.group
+      → list_len (header_sum t) book (cluster_span p.group n i) ≡ next_list_len p.group book_metas i
+  group-len i less =
+      let next : suc i * p.group ≤ div_ceil n p.group * p.group = mul-le-mul_right p.group (omega (arith, less)) in
+      let low : i * p.group < n = omega (arith, next, (div_ceil_times n p.group some-group).1, times-suc i p.group) in
+      let meta : Cluster ClusterMeta → ClusterMeta = λ c. c.meta in
+      let count : ℕ = min p.group (n - i * p.group) in
+      let rest : length (drop (i * p.group) book_metas) ≡ n - i * p.group =
+      length-drop (i * p.group) book_metas ∙ ap (λ (k : ℕ). k - i * p.group) counts in
+      length-list_object book (header_sum t) (cluster_span p.group n i) (omega (arith, low))
+      ∙ ap page_list_len
+      (sym (ap (λ (l : List ClusterMeta). take count l) (drop-map meta (i * p.group) (book_clusters book))
+      ∙ take-map meta count (drop (i * p.group) (book_clusters book)))
+      ∙ (ap (λ (k : ℕ). take (min p.group k) (drop (i * p.group) book_metas)) (sym rest)
+      ∙ take_min p.group (drop (i * p.group) book_metas)))
+
+  -- these are the clusters of a group
+  abbrev IsGroup : ClusterSpan → Type 0
+  IsGroup s = (i : ℕ) × (i < div_ceil n p.group) × (s ≡ cluster_span p.group n i)
+
+  groups-from : (i m : ℕ) → i + m ≤ div_ceil n p.group → AllByRecursion IsGroup (map (cluster_span p.group n) (range_with_len i m))
+  groups-from i zero within = tt
+  groups-from i (suc m) within = ((i, omega (arith, within), refl), groups-from (i + 1) m (omega (arith, within)))
+
+  list_over : (reached most : ℕ) (s : ClusterSpan) → IsGroup s → p.limits.range < list_len (header_sum t) book s
+      → (reached ≡ list_len (header_sum t) book s) × (most ≡ p.limits.range) → IsOverEnd t p book_metas reached most
+  list_over reached most s (i, less, same) above (is, limit-is) =
+      list_passed i (subst (λ (k : ℕ). i < group_count p.group k) (sym counts) less)
+      (is ∙ (ap (list_len (header_sum t) book) same ∙ group-len i less)) limit-is (omega (arith, above, is, limit-is))
 
   abbrev foot : ℕ
   foot = blob_len (length (footer_object t book (list_places false t book p.group)))
@@ -130,7 +157,7 @@ module _ (t : Table) (p : Params) (book : BookData) (noted : AreListsNoted t p b
   footer_over reached most len same above (is, limit-is) =
       footer_passed (is ∙ (same ∙ foot-is)) limit-is (omega (arith, above, is, limit-is))
 
-  -- the page lists that are left are of groups among the clusters, none of which is too large
+  -- the page lists that are left are of groups
   left-all : (P : ClusterSpan → Type 0) → AllByRecursion P (spans book p.group)
       → AllByRecursion (λ (l : PlacedList). P l.span) (lists_left t book p.group)
   left-all P all =
@@ -141,15 +168,13 @@ module _ (t : Table) (p : Params) (book : BookData) (noted : AreListsNoted t p b
   pub closed_over : (e : LimitError) (reached most : ℕ) → passed_by_close p t book ≡ Some e → Names e reached most
       → IsOverEnd t p book_metas reached most
   closed_over e reached most passed names =
-      let n = length (book_clusters book) in
-      let some : 0 < p.group = omega (arith, p.group_range.0) in
+      let groups : AllByRecursion (λ (l : PlacedList). IsGroup l.span) (lists_left t book p.group) =
+      left-all IsGroup (groups-from 0 (div_ceil n p.group) (omega arith)) in
       let end = file_len t book (list_places false t book p.group) in
-      elim (blobs_or (λ (l : PlacedList). list_len (header_sum t) book l.span) (λ (l : PlacedList). l.span.from + l.span.count ≤ n)
-      (λ (l : PlacedList). l.span.count ≤ p.group) p.limits (lists_left t book p.group) (foot ∷ []) end e
-      (left-all (λ (s : ClusterSpan). s.from + s.count ≤ n) (inside 0 n (spans book p.group) (spans_in_order p.group n some)))
-      (left-all (λ (s : ClusterSpan). s.count ≤ p.group) (small p.group n 0 (div_ceil n p.group)))
+      elim (blobs_or (λ (l : PlacedList). list_len (header_sum t) book l.span) (λ (l : PlacedList). IsGroup l.span)
+      (λ (l : PlacedList). IsGroup l.span) p.limits (lists_left t book p.group) (foot ∷ []) end e groups groups
       (sym (passed-flat t p book (params-flat t p book noted flat)) ∙ passed)) [
-        | inl list ↦ list_over reached most list.x.span list.first list.second list.above
+        | inl list ↦ list_over reached most list.x.span list.first list.above
             (range_named e reached most _ p.limits.range names list.is)
         | inr rest ↦ elim (blobs_or (λ (m : ℕ). m) (λ (m : ℕ). m ≡ foot) (λ (m : ℕ). Unit {0}) p.limits (foot ∷ []) [] end e
             (refl, tt) (tt, tt) rest) [
@@ -158,7 +183,7 @@ module _ (t : Table) (p : Params) (book : BookData) (noted : AreListsNoted t p b
               | inr last ↦
                   let over = ends p.limits end e last in
                   let named = file_named e reached most end p.limits.file names over.1 in
-                  end_passed (named.0 ∙ length-file_of false t book p.group flat kept begin some) named.1
+                  end_passed (named.0 ∙ length-file_of false t book p.group flat kept begin some-group) named.1
                   (omega (arith, over.0, named.0, named.1))
             ]
       ]

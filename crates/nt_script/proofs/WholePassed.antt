@@ -1,5 +1,5 @@
 -- A limit that a script passes where it is written line by line is passed by its whole file.
-use Rattle.std.proofs.Common.{◌≡◌, ◌∙◌, ap, sym, refl, subst, ℕ, zero, suc, ◌+◌, ◌*◌, ◌<◌, ◌≤◌, ◌==◌, Bool, true, false, List, []}
+use Rattle.std.proofs.Common.{◌≡◌, ◌∙◌, ap, sym, refl, subst, ℕ, zero, suc, ◌+◌, ◌<◌, ◌≤◌, ◌==◌, Bool, true, false, List, []}
 use Rattle.std.proofs.Common.{◌∷◌, ◌++◌, length, get_or, Some, None, if◌then◌else◌, append_assoc, sum_by, arith}
 use Rattle.std.specs.Prelude.{nat_lt}
 use Rattle.std.specs.List.{AllByRecursion, Contains}
@@ -18,7 +18,7 @@ use Rattle.nt_book.specs.declared.meta.ClusterMeta.{ClusterMeta}
 use Rattle.nt_book.specs.declared.params.Params.{Params}
 use Rattle.nt_layout.specs.Headers.{clusters_place}
 use Rattle.nt_close.specs.Passing.{passed_by_begin}
-use Rattle.nt_dealing.specs.Lengths.{whole_len}
+use Rattle.nt_dealing.specs.Lengths.{group_count, whole_len}
 use Rattle.nt_script.specs.Script.{Script, last_entries}
 use Rattle.nt_script.specs.Clusters.{GrowsByScript}
 use Rattle.nt_script.specs.Reading.{segment_metas, behind_segments}
@@ -28,7 +28,7 @@ use Rattle.nt_script.specs.Taking.{GrowsBySegments}
 use Rattle.nt_script.specs.Passing.{PassesWriting, PassesClosing, PassesLimit, passes_begun, passes_writing}
 use Rattle.nt_script.specs.Passing.{passes_closing}
 use Rattle.nt_script.specs.Fitting.{CountsScript, FitsWhole, WholePasses, whole_begun, whole_cluster, whole_file, whole_count, whole_end}
-use Rattle.nt_merge_limits.proofs.Lists.{AreFullLists}
+use Rattle.nt_merge_limits.proofs.Lists.{AreFullLists, times-suc, groups-enough}
 use Rattle.nt_merge_limits.proofs.Fronts.{front-within}
 use Rattle.nt_script.proofs.Between.{next-stays, due-list, with-due}
 use Rattle.nt_script.proofs.Segments.{grows-script}
@@ -136,7 +136,10 @@ module _ (fields : List MemberData) (p : Params) (s : Script) (reached most : �
             let is = subst (λ (f : LimitError). TellsLimit p f reached most) (sym (some_is _ _ named)) told in
             let above : p.limits.range < due = grind (arith, nat_tests, y) in
             let list = due-list g before lists (omega (arith, above)) in
-            whole_end metas all.1 (list_passed (lists * g) g (omega arith)
+            let some : 0 < g = omega (arith, p.group_range.0) in
+            let low : suc lists ≤ group_count g (length metas) =
+            groups-enough g (suc lists) (length metas) some (omega (arith, times-suc lists g, list.0, counts-are)) in
+            whole_end metas all.1 (list_passed lists (omega (arith, low))
             (is.0 ∙ (list.1 ∙ sym (ap (λ (l : List ClusterMeta). next_list_len g l lists) metas-are
             ∙ next-stays g before (here.meta ∷ all.0) lists (omega (arith, list.0))))) is.1 (omega (arith, above, is.0, is.1)))
         at false false true d e x y z u named told =
@@ -170,6 +173,13 @@ module _ (fields : List MemberData) (p : Params) (s : Script) (reached most : �
   whole_passed (passes_writing error w tells) = writing_passed error w tells
   whole_passed (passes_closing c) = closing_passed c
 
+-- a script that passes a limit has the rows of its fields
+pub passed_rows : (fields : List MemberData) (p : Params) (s : Script) (reached most : ℕ) → PassesLimit fields p s reached most
+    → (t : Table) × Rows fields p.plain t
+passed_rows fields p s reached most (passes_begun t error described passed tells) = (t, described)
+passed_rows fields p s reached most (passes_writing error w tells) = (w.first, w.rows)
+passed_rows fields p s reached most (passes_closing c) = (c.written.first, c.written.rows)
+
 -- ---- a whole that fits
 
 short_at : (most : ℕ) (ms : List ClusterMeta) (i : ℕ) (m : ClusterMeta) → AllByRecursion (λ (x : ClusterMeta). x.len ≤ most) ms
@@ -189,8 +199,8 @@ fits_none fields p s reached most fits passes =
     at (whole_passed fields p s reached most fits.first fits.table fits.rows fits.grows passes)
   where
     at_end : (metas : List ClusterMeta) → CountsScript p fits.first 0 s metas → IsOverEnd fits.table p metas reached most → ⊥
-    at_end metas counts (list_passed from count few is limit_is above) =
-        let within = (fits.whole metas counts).lists from count few in omega (arith, within, is, limit_is, above)
+    at_end metas counts (list_passed k less is limit_is above) =
+        let within = (fits.whole metas counts).lists k less in omega (arith, within, is, limit_is, above)
     at_end metas counts (footer_passed is limit_is above) =
         let within = (fits.whole metas counts).footer in omega (arith, within, is, limit_is, above)
     at_end metas counts (end_passed is limit_is above) =

@@ -25,10 +25,12 @@ use Rattle.nt_script.specs.Script.{Script, last_entries, and_field, read_script}
 use Rattle.nt_script.specs.Clusters.{bad_line, fields_of_script, script_clusters, GrowsByScript}
 use Rattle.nt_script.specs.Limits.{StandsWithin, IsOverEnd}
 use Rattle.nt_script.specs.Passing.{PassesLimit, passes_closing}
+use Rattle.nt_script.specs.Fitting.{MayFit}
 use Rattle.nt_script.specs.Running.{IsDoneScript}
 use Rattle.nt_script.specs.Whole.{clusters_of_text, IsScriptFile}
 use Rattle.nt_script.specs.Filing.{AreNumbersOf}
 use Rattle.nt_script.proofs.Passed.{stands_within, closed_over}
+use Rattle.nt_script.proofs.Fitted.{closed_fits}
 
 -- the law of late files
 abbrev pub LateFilesMean : Type 0
@@ -53,8 +55,16 @@ module _ {D : Type 0} (state : D → DiskState) (w : SeqState D) (F : List Membe
   grown_text : GrowsByScript w.params.plain first 0 (read_script F text) w.table
   grown_text = subst (λ (s : Script). GrowsByScript w.params.plain first 0 s w.table) (sym done.read) done.grows
 
-  pub file_here : LateFilesMean → (image : List ℕ) → IsFileOf state w image → IsScriptFile w.params F text image
-  file_here law image file = record {
+  -- it may be within the limits, where its closing passes none
+  fits_here : IsWriting state w → IsBookKept w.book → passed_by_close w.params w.table w.book ≡ None
+      → MayFit F w.params (read_script F text)
+  fits_here is kept none =
+      subst (MayFit F w.params) (sym (done.read ∙ done.script_is))
+      (closed_fits state w is kept none F first done.segments done.entries rows done.segments_grow done.keeps)
+
+  pub file_here : LateFilesMean → IsWriting state w → IsBookKept w.book → passed_by_close w.params w.table w.book ≡ None
+      → (image : List ℕ) → IsFileOf state w image → IsScriptFile w.params F text image
+  file_here law is kept none image file = record {
     sound = sound_text;
     first = first;
     rows = rows;
@@ -68,6 +78,7 @@ module _ {D : Type 0} (state : D → DiskState) (w : SeqState D) (F : List Membe
         (clusters_of_text w.params F text) written_text;
     means = law image w.table (clusters_of_text w.params F text) (measures_of w.params) file.described (measures w.params)
         (file.late (clusters_of_text w.params F text) written_text);
+    fits = fits_here is kept none;
   }
 
   pub numbers_here : (counts : Counts) → AreCounts state w counts.clusters counts.entries → AreNumbersOf w.params F text counts

@@ -78,8 +78,8 @@ pub record PassesHere (t : Table) (p : Params) (segments : List Segment) (es nex
 
 -- what closes the file of clusters of which this is kept passes a limit: a page list, the footer, or the end
 pub data IsOverEnd (t : Table) (p : Params) (metas : List ClusterMeta) (reached limit : ℕ) : Type 0 where
-  -- the page list of some of them, at most as many as a group has
-  list_passed : (from count : ℕ) → count ≤ p.group → reached ≡ page_list_len (take count (drop from metas)) → limit ≡ p.limits.range
+  -- the page list of a group, each of which has so many clusters, but for the last one
+  list_passed : (k : ℕ) → k < group_count p.group (length metas) → reached ≡ next_list_len p.group metas k → limit ≡ p.limits.range
       → limit < reached → IsOverEnd t p metas reached limit
   footer_passed : reached ≡ footer_len t (group_count p.group (length metas)) → limit ≡ p.limits.range → limit < reached
       → IsOverEnd t p metas reached limit

@@ -15,6 +15,7 @@ use Rattle.nt_close.specs.Passing.{measures_of}
 use Rattle.nt_finished.specs.LateFiles.{IsLaidLate}
 use Rattle.nt_seq.specs.Written.{entries_of_clusters}
 use Rattle.nt_script.specs.Script.{read_script}
+use Rattle.nt_script.specs.Fitting.{MayFit}
 use Rattle.nt_script.specs.Clusters.{bad_line, fields_of_script, script_clusters, GrowsByScript}
 
 -- the clusters of the script of a text
@@ -34,6 +35,8 @@ pub record IsScriptFile (p : Params) (fields : List MemberData) (text bytes : Li
   -- where no field is added, it is laid out as by a writer that adds none
   pub unchanged : fields_of_script (read_script fields text) ≡ [] → IsLaid bytes table (clusters_of_text p fields text) (measures_of p)
   pub means : Means bytes table (clusters_of_text p fields text)
+  -- and it is within the limits
+  pub fits : MayFit fields p (read_script fields text)
 
 -- the words `clusters` and `entries`, each with its number, and a line feed
 abbrev pub counts_line : ℕ → ℕ → List ℕ
