@@ -1,5 +1,5 @@
 -- The file of entries that a writer has taken, once it is closed, or not.
-use Rattle.std.proofs.Common.{◌≡◌, ◌∙◌, inl, inr, ap, subst, refl, ℕ, ◌<◌, List, [], Option, Some, Result}
+use Rattle.std.proofs.Common.{◌≡◌, ◌∙◌, inl, inr, ap, subst, refl, ℕ, ◌<◌, List, [], Option, Some, None, Result}
 use Rattle.std.proofs.Common.{Ok, Err, true, arith}
 use Rattle.std.specs.Prelude.{IfOk}
 use Rattle.nt_lists.specs.Chunks.{chunks}
@@ -31,6 +31,7 @@ use Rattle.nt_script.specs.Passing.{passes_closing}
 use Rattle.nt_script.specs.Taking.{HasWrittenLines}
 use Rattle.nt_script.proofs.Closed.{none_spoiled, none_torn, none_unpublished}
 use Rattle.nt_script.proofs.Passed.{stands_within, closed_over}
+use Rattle.nt_script.proofs.Fitted.{closed_fits}
 use Rattle.nt_script.proofs.Wholes.{LateFilesMean}
 use Rattle.nt_skim_file.specs.declared.error.SkimStoreError.TheVariants.{Outside}
 use Rattle.nt_skim_file.specs.Errors.{skim_of_close}
@@ -50,14 +51,16 @@ module _ {D : Type 0} (state : D → DiskState) (w : SeqState D) (F : List Membe
   written = has.written
 
   -- the file of the writer is that of the entries
-  pub file_here : LateFilesMean → (image : List ℕ) → IsFileOf state w image → IsSelectedFile w.params F es image
-  file_here law image file = record {
+  pub file_here : LateFilesMean → IsWriting state w → IsBookKept w.book → passed_by_close w.params w.table w.book ≡ None
+      → (image : List ℕ) → IsFileOf state w image → IsSelectedFile w.params F es image
+  file_here law is kept none image file = record {
     table = w.table;
     rows = rows;
     laid = file.first F rows clusters written;
     late = file.late clusters written;
     short = file.short clusters written;
     means = law image w.table clusters (measures_of w.params) file.described (measures w.params) (file.late clusters written);
+    fits = closed_fits state w is kept none F w.table [] es rows refl has.keeps;
   }
 
   numbers_here : (counts : Counts) → AreCounts state w counts.clusters counts.entries → AreSelectedNumbers w.params es counts
@@ -85,26 +88,27 @@ module _ {D : Type 0} (state : D → DiskState) (w : SeqState D) (F : List Membe
 
   module _ (law : LateFilesMean) (shut : UnclosedAreShut) (is : IsWriting state w) (kept : IsBookKept w.book)
       (now : HoldsNow (state w.disk).held (IsUnclosedOf w.begun)) (disk : D) where
-    turn : (bytes : List ℕ) → IsFileOf state w bytes → IsSelectedFile w.params F es bytes
-    turn bytes file = file_here law bytes file
+    turn : passed_by_close w.params w.table w.book ≡ None → (bytes : List ℕ) → IsFileOf state w bytes
+        → IsSelectedFile w.params F es bytes
+    turn none bytes file = file_here law is kept none bytes file
 
     -- after Ok
-    closed_here : (n : ℕ × ℕ) → EndsFile state w disk (Ok n) → AreCounts state w n.0 n.1
+    closed_here : (n : ℕ × ℕ) → passed_by_close w.params w.table w.book ≡ None → EndsFile state w disk (Ok n) → AreCounts state w n.0 n.1
         → HoldsNow (state disk).held (λ left. LeavesFile state w left (Ok n))
         → LeavesEntries w.params F es (state disk) (Ok (record { clusters = n.0; entries = n.1 }))
-    closed_here n ends are left =
+    closed_here n none ends are left =
         let same = held_is (state disk).held left.0 _ left.1 (ends.held now.0 now.1) in
         record {
           told = (
-            (left.0, left.1, (turn left.0.image left.2.whole, (_, ap (λ (k : Held). k.log) same))),
+            (left.0, left.1, (turn none left.0.image left.2.whole, (_, ap (λ (k : Held). k.log) same))),
             numbers_here (record { clusters = n.0; entries = n.1 }) are,
           );
           crash = (
             left.0,
             left.1,
             (
-              or_as (IsFileOf state w) (IsSelectedFile w.params F es) left.0.log turn left.2.crash.0,
-              λ bytes may. turn bytes (left.2.crash.1 bytes may),
+              or_as (IsFileOf state w) (IsSelectedFile w.params F es) left.0.log (turn none) left.2.crash.0,
+              λ bytes may. turn none bytes (left.2.crash.1 bytes may),
             ),
           );
         }
@@ -134,9 +138,9 @@ module _ {D : Type 0} (state : D → DiskState) (w : SeqState D) (F : List Membe
     unclosed_here close.Fault answers ends left = record {
       told = elim left.2.shut as (λ _. EntriesTold w.params F es (state disk) (Err Outside)) [
         | inl shut-is ↦ inl (left.0, left.1, inl (shut_open left.0.image shut-is))
-        | inr file ↦ inr (left.0, left.1, (turn left.0.image file.whole, file.last))
+        | inr file ↦ inr (left.0, left.1, (turn answers.cause.1 left.0.image file.whole, file.last))
       ];
-      crash = (left.0, left.1, or_as (IsFileOf state w) (IsSelectedFile w.params F es) left.0.log turn left.2.crash);
+      crash = (left.0, left.1, or_as (IsFileOf state w) (IsSelectedFile w.params F es) left.0.log (turn answers.cause.1) left.2.crash);
     }
 
 -- the disk has failed where the closing did
@@ -158,13 +162,13 @@ module _ {D : Type 0} (state : D → DiskState) (w : SeqState D) (law : LateFile
   abbrev Has : List TreesData → Type 0
   Has es = HasWrittenLines state [] es w
 
-  closed_ok : (n : ℕ × ℕ) → EndsFile state w disk (Ok n) → AreCounts state w n.0 n.1
+  closed_ok : (n : ℕ × ℕ) → passed_by_close w.params w.table w.book ≡ None → EndsFile state w disk (Ok n) → AreCounts state w n.0 n.1
       → BecomesSome (state w.given).held (state disk).held (λ h left. LeavesFile state w left (Ok n))
       → EndsEntries state w Has disk (Ok (record { clusters = n.0; entries = n.1 }))
-  closed_ok n ends are file = record {
+  closed_ok n none ends are file = record {
     left = λ F es rows has empty.
-        closed_here state w F es rows has law shut (sequential.writing alive) kept (sequential.unclosed nothing_held empty) disk n ends are
-        (file nothing_held empty);
+        closed_here state w F es rows has law shut (sequential.writing alive) kept (sequential.unclosed nothing_held empty) disk n none
+        ends are (file nothing_held empty);
     order = λ empty. let left = file nothing_held empty in (left.0, left.1, left.2.order);
     failed = λ bad. absurd (cc bad);
   }
@@ -183,10 +187,10 @@ module _ {D : Type 0} (state : D → DiskState) (w : SeqState D) (law : LateFile
   module _ (r : Result (ℕ × ℕ) CloseError) (ends : EndsFile state w disk r)
       (file : BecomesSome (state w.given).held (state disk).held (λ h left. LeavesFile state w left r)) where
     -- the file was closed
-    pub closed : (n : ℕ × ℕ) → r ≡ Ok n → IfOk r (λ m. AreCounts state w m.0 m.1)
+    pub closed : (n : ℕ × ℕ) → r ≡ Ok n → AnswersClosing w r → IfOk r (λ m. AreCounts state w m.0 m.1)
         → EndsEntries state w Has disk (Ok (record { clusters = n.0; entries = n.1 }))
-    closed n is are =
-        closed_ok n (subst (EndsFile state w disk) is ends)
+    closed n is answers are =
+        closed_ok n (subst (AnswersClosing w) is answers).cause.1 (subst (EndsFile state w disk) is ends)
         (subst (λ (o : Result (ℕ × ℕ) CloseError). IfOk o (λ m. AreCounts state w m.0 m.1)) is are)
         (subst (λ (o : Result (ℕ × ℕ) CloseError). BecomesSome (state w.given).held (state disk).held (λ h left. LeavesFile state w left o))
         is file)
