@@ -20,8 +20,8 @@ use Rattle.nt_script.specs.declared.store_error.ScriptStoreError.TheVariants as 
 use Rattle.nt_script.specs.Script.{BadScriptLine, read_script}
 use Rattle.nt_script.specs.Clusters.{bad_line}
 use Rattle.nt_script.specs.Passing.{PassesLimit}
-use Rattle.nt_script.specs.Fitting.{FitsWhole}
-use Rattle.nt_script.proofs.WholePassed.{fits_none}
+use Rattle.nt_script.specs.Fitting.{FitsWhole, MayFit}
+use Rattle.nt_script.proofs.WholePassed.{whole_passed, passed_rows, fits_none}
 use Rattle.nt_script.specs.Crashes.{LeavesScript}
 use Rattle.nt_script.specs.Storing.{AreScriptTexts, MakesScriptFile, StoresWholeScript, IsWholeScript, IsTooLargeScript, ScriptTold}
 use Rattle.nt_app.specs.declared.status.Status.{Status}
@@ -29,7 +29,7 @@ use Rattle.nt_app.specs.declared.status.Status.TheVariants as status
 use Rattle.nt_app.specs.declared.status.TextFault.TheVariants as fault
 use Rattle.nt_app.specs.Statuses.{message_of}
 use Rattle.nt_app.specs.Reports.{Reports}
-use Rattle.nt_app.specs.Seqs.{fault_of_line, status_of_script, SeqNamed, AnswersScript, RunsSeq}
+use Rattle.nt_app.specs.Seqs.{fault_of_line, status_of_script, SeqNamed, ScriptPasses, AnswersScript, RunsSeq}
 use Rattle.nt_app.proofs.Reported.{LeavesFile, made_reported, left_reported, rose_reported}
 use Rattle.nt_app.proofs.Writing.{left_after, steps_after}
 use Rattle.nt_app.proofs.WriteEnds.{same_fields, not_both, same_fault}
@@ -138,6 +138,23 @@ completes o s i p w v (Err (script.Line line kind)) fields text told served are 
 completes o s i p w v (Err (script.Limit reached limit)) fields text told served are sound fits =
     absurd (not_over s i p w reached limit fields text told.0 are fits)
 
+limits : (o s i : List ℕ) (p : Params) (w v : World) (stored : Result Unit ScriptStoreError) (fields : List MemberData)
+    (text : List ℕ) → ScriptTold o s i p w v stored → (IsErrOf stored script.Outside → ⊥) → AreScriptTexts w s i fields text
+    → bad_line (read_script fields text) ≡ None → (MayFit fields p (read_script fields text) → ⊥)
+    → ((reached limit : ℕ) × (status_of_script stored ≡ status.Limit reached limit)) ⊎ (status_of_script stored ≡ status.Memory)
+limits o s i p w v (Ok done) fields text told served are sound beyond =
+    absurd (beyond (same_script w s i told.1.fields fields told.1.text text (λ f t. MayFit f p (read_script f t)) told.1.are are
+    told.1.file.whole.fits))
+limits o s i p w v (Err script.Outside) fields text told served are sound beyond = absurd (served refl)
+limits o s i p w v (Err script.Memory) fields text told served are sound beyond = inr refl
+limits o s i p w v (Err (script.Schema line kind)) fields text told served are sound beyond =
+    absurd (not_both fields line kind (file w s) are.schema_is told.0)
+limits o s i p w v (Err (script.Line line kind)) fields text told served are sound beyond =
+    absurd (not_sound (bad_line (read_script fields text)) (record { line = line; kind = kind }) sound
+    (same_script w s i told.0.fields fields told.0.text text
+    (λ f t. bad_line (read_script f t) ≡ Some (record { line = line; kind = kind })) told.0.are are told.0.bad.first))
+limits o s i p w v (Err (script.Limit reached limit)) fields text told served are sound beyond = inl (reached, limit, refl)
+
 refuses : (o s i : List ℕ) (p : Params) (w v : World) (stored : Result Unit ScriptStoreError) (line : ℕ) (kind : SchemaKind)
     → ScriptTold o s i p w v stored → (IsErrOf stored script.Outside → ⊥)
     → IsThereWith (λ text. schema_text text ≡ Err (at_line line kind)) (file w s)
@@ -176,9 +193,39 @@ answers_script : (o s i : List ℕ) (p : Params) (w v : World) (stored : Result 
     → (IsErrOf stored script.Outside → ⊥) → AnswersScript s i p w (status_of_script stored)
 answers_script o s i p w v stored told served = record {
   complete = λ fields text are sound fits. completes o s i p w v stored fields text told served are sound fits;
+  limited = λ fields text are sound beyond. limits o s i p w v stored fields text told served are sound beyond;
   refused = λ line kind other. refuses o s i p w v stored line kind told served other;
   faulty = λ fields text line kind are first fits. faults o s i p w v stored fields text line kind told served are first fits;
 }
+
+-- a limit that is told is passed by the whole file
+passes_whole : (s i : List ℕ) (p : Params) (w : World) (reached limit : ℕ) → IsTooLargeScript s i p w reached limit
+    → ScriptPasses s i p w reached limit
+passes_whole s i p w reached limit large =
+    let script = read_script large.fields large.text in
+    let rows = passed_rows large.fields p script reached limit large.over in
+    record {
+      fields = large.fields;
+      text = large.text;
+      are = large.are;
+      first = rows.0;
+      rows = rows.1;
+      over = λ table grows. whole_passed large.fields p script reached limit rows.0 table rows.1 grows large.over;
+      beyond = λ fits. fits_none large.fields p script reached limit fits large.over;
+    }
+
+told_passed : (o s i : List ℕ) (p : Params) (w v : World) (stored : Result Unit ScriptStoreError) (reached limit : ℕ)
+    → ScriptTold o s i p w v stored → status_of_script stored ≡ status.Limit reached limit → ScriptPasses s i p w reached limit
+told_passed o s i p w v (Ok done) reached limit told is = absurd (cc is)
+told_passed o s i p w v (Err script.Outside) reached limit told is = absurd (cc is)
+told_passed o s i p w v (Err script.Memory) reached limit told is = absurd (cc is)
+told_passed o s i p w v (Err (script.Schema line kind)) reached limit told is = absurd (cc is)
+told_passed o s i p w v (Err (script.Line line kind)) reached limit told is = absurd (cc is)
+told_passed o s i p w v (Err (script.Limit r l)) reached limit told is =
+    let first : r ≡ reached = cc is in
+    let second : l ≡ limit = cc is in
+    subst (λ (k : ℕ). ScriptPasses s i p w reached k) second
+    (subst (λ (n : ℕ). ScriptPasses s i p w n l) first (passes_whole s i p w r l told.0))
 
 -- `seq`, and then its message
 pub run_seq : (o s i : List ℕ) (p : Params) (old mid new : HostState) (answer : Status) → SeqNamed o s i p old mid answer
@@ -202,6 +249,9 @@ run_seq o s i p old mid new answer writes reports =
       failed = λ outside.
           rose_reported _ old mid new reports (stores.cause.failed (outside_of writes.stored answer writes.answer_is outside));
       opened = after.opened;
+      passed = λ w at reached limit is.
+          let done = stores.told w at in
+          told_passed o s i p w done.0 writes.stored reached limit done.4 (sym writes.answer_is ∙ is);
       served = λ w at serves.
           let done = stores.told w at in
           subst (AnswersScript s i p w) (sym writes.answer_is) (answers_script o s i p w done.0 writes.stored done.4

@@ -29,7 +29,7 @@ use Rattle.nt_app.specs.Statuses.{message_of}
 use Rattle.nt_app.specs.Reports.{Reports}
 use Rattle.nt_app.specs.Skims.{choice_said, IsChoiceOf, status_of_skim, SkimNamed, AnswersSkim, RunsSkim}
 use Rattle.nt_app.proofs.Reported.{LeavesFile, made_reported, left_reported, rose_reported}
-use Rattle.nt_app.proofs.SkimEnds.{answers_skim}
+use Rattle.nt_app.proofs.SkimEnds.{answers_skim, told_passed}
 use Rattle.nt_app.proofs.Writing.{left_after, steps_after}
 
 -- want of memory for the words leaves all as it was
@@ -144,6 +144,9 @@ run_skim out name c p old mid new answer skims reports =
       asked = subst (λ (l : List Asked). AsksFor (skim_asked out name) old.asked l skims.stored) (sym reports.asked) stores.asked;
       failed = λ outside. rose_reported _ old mid new reports (stores.failed (outside_of skims.stored answer skims.answer_is outside));
       opened = after.opened;
+      passed = λ w at reached limit is.
+          let done = stores.told w at in
+          told_passed out name c p w done.0 skims.stored reached limit done.4 (sym skims.answer_is ∙ is);
       served = λ w at serves.
           let done = stores.told w at in
           subst (AnswersSkim name c p w) (sym skims.answer_is) (answers_skim out name c p w done.0 skims.stored done.4

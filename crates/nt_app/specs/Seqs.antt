@@ -3,6 +3,8 @@ use Rattle.std.specs.Prelude.{◌≡◌, ◌⊎◌, ℕ, List, [], ◌∷◌, So
 use Rattle.nt_types.specs.ShapeData.{MemberData}
 use Rattle.nt_types.specs.Schema.{schema_text, at_line}
 use Rattle.nt_types.specs.declared.fault.SchemaKind.{SchemaKind}
+use Rattle.nt_grammar.specs.Rows.{Rows}
+use Rattle.nt_grammar.specs.Table.{Table}
 use Rattle.nt_outside.specs.Faults.{Rose}
 use Rattle.nt_outside.specs.World.{World, HostState, file}
 use Rattle.nt_book.specs.declared.params.Params.{Params}
@@ -14,8 +16,8 @@ use Rattle.nt_script.specs.declared.error.LineFault.TheVariants.{Event, Field}
 use Rattle.nt_script.specs.declared.store_error.ScriptStoreError.{ScriptStoreError}
 use Rattle.nt_script.specs.declared.store_error.ScriptStoreError.TheVariants as script
 use Rattle.nt_script.specs.Script.{read_script}
-use Rattle.nt_script.specs.Clusters.{bad_line}
-use Rattle.nt_script.specs.Fitting.{FitsWhole}
+use Rattle.nt_script.specs.Clusters.{bad_line, GrowsByScript}
+use Rattle.nt_script.specs.Fitting.{FitsWhole, MayFit, WholePasses}
 use Rattle.nt_script.specs.Crashes.{ScriptCrashTold}
 use Rattle.nt_script.specs.Storing.{AreScriptTexts, IsWholeScript, ScriptTold, StoresScript}
 use Rattle.nt_app.specs.declared.status.Status.{Status}
@@ -45,12 +47,27 @@ pub record SeqNamed (out schema input : List ℕ) (p : Params) (old new : HostSt
   pub answer_is : answer ≡ status_of_script stored
   pub stores : StoresScript out schema input p old new stored
 
+-- the whole file of a host's script passes this limit, whatever table its fields make, and so it doesn't fit
+pub record ScriptPasses (schema input : List ℕ) (p : Params) (w : World) (reached limit : ℕ) : Type 0 where
+  pub fields : List MemberData
+  pub text : List ℕ
+  pub are : AreScriptTexts w schema input fields text
+  pub first : Table
+  pub rows : Rows fields p.plain first
+  pub over : (table : Table) → GrowsByScript p.plain first 0 (read_script fields text) table
+      → WholePasses first table p (read_script fields text) reached limit
+  pub beyond : FitsWhole fields p (read_script fields text) → ⊥
+
 -- which answer it is, by what the texts are, where the outside serves: this one, unless memory runs out
 pub record AnswersScript (schema input : List ℕ) (p : Params) (w : World) (answer : Status) : Type 0 where
   -- the file is whole where no line of the script is bad and no limit is passed
   pub complete : (fields : List MemberData) (text : List ℕ) → AreScriptTexts w schema input fields text
       → bad_line (read_script fields text) ≡ None → FitsWhole fields p (read_script fields text)
       → (answer ≡ status.Done) ⊎ (answer ≡ status.Memory)
+  -- a limit is told where no line is bad, and the whole file can't be within the limits
+  pub limited : (fields : List MemberData) (text : List ℕ) → AreScriptTexts w schema input fields text
+      → bad_line (read_script fields text) ≡ None → (MayFit fields p (read_script fields text) → ⊥)
+      → ((reached limit : ℕ) × (answer ≡ status.Limit reached limit)) ⊎ (answer ≡ status.Memory)
   -- the schema text's first fault is told
   pub refused : (line : ℕ) (kind : SchemaKind) → IsThereWith (λ text. schema_text text ≡ Err (at_line line kind)) (file w schema)
       → (answer ≡ status.Text None line (fault.Schema kind)) ⊎ (answer ≡ status.Memory)
@@ -79,5 +96,8 @@ pub record RunsSeq (out schema input : List ℕ) (p : Params) (old new : HostSta
   pub failed : answer ≡ status.Outside → Rose old.faults new.faults
   -- each object that was opened came back
   pub opened : new.opened ≡ old.opened
+  -- a limit that is told is one that the whole file of the script passes
+  pub passed : (w : World) → old.world ≡ Some w → (reached limit : ℕ) → answer ≡ status.Limit reached limit
+      → ScriptPasses schema input p w reached limit
   -- where the outside serves, the texts say which answer it is
   pub served : (w : World) → old.world ≡ Some w → Served old new → AnswersScript schema input p w answer

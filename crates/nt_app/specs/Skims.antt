@@ -3,13 +3,15 @@ use Rattle.std.specs.Prelude.{◌≡◌, ◌⊎◌, ℕ, List, Option, Some, opt
 use Rattle.nt_num.specs.declared.fault.ReadError.{ReadError}
 use Rattle.nt_types.specs.ShapeData.{MemberData}
 use Rattle.nt_types.specs.TreeData.{TreesData}
+use Rattle.nt_grammar.specs.Rows.{Rows}
+use Rattle.nt_grammar.specs.Table.{Table}
 use Rattle.nt_outside.specs.Faults.{Rose}
 use Rattle.nt_outside.specs.World.{World, HostState, file}
 use Rattle.nt_book.specs.declared.params.Params.{Params}
 use Rattle.nt_file_meaning.specs.Files.{HasDefect}
 use Rattle.nt_file_meaning.specs.Outlines.{outline_of}
 use Rattle.nt_store.specs.Worlds.{IsThereWith, AsksFor, OthersStay, WritesInOrder}
-use Rattle.nt_script.specs.Fitting.{FitsWhole}
+use Rattle.nt_script.specs.Fitting.{FitsWhole, WholePasses}
 use Rattle.nt_skim.specs.declared.error.PlanError.{PlanError}
 use Rattle.nt_skim.specs.declared.error.PlanError.TheVariants as plan
 use Rattle.nt_skim.specs.Planning.{NameTest}
@@ -17,7 +19,7 @@ use Rattle.nt_skim.specs.Select.{Selection}
 use Rattle.nt_skim_file.specs.declared.error.SkimStoreError.{SkimStoreError}
 use Rattle.nt_skim_file.specs.declared.error.SkimStoreError.TheVariants as store
 use Rattle.nt_skim_file.specs.Choosing.{SkimChoiceData, IsUnplanned, SelectsAll, SelectsBefore}
-use Rattle.nt_skim_file.specs.Whole.{script_of}
+use Rattle.nt_skim_file.specs.Whole.{script_of, MayFitSelected}
 use Rattle.nt_skim_file.specs.Crashes.{SkimCrashTold}
 use Rattle.nt_skim_file.specs.Storing.{skim_asked, IsWholeSkimOf, SkimTold, StoresSelected}
 use Rattle.nt_command_line.specs.SkimWords.{SaidTest}
@@ -74,6 +76,23 @@ pub record FitsSkim (c : SkimChoiceData) (p : Params) (bytes : List ℕ) : Type 
   pub all : SelectsAll c bytes selection entries
   pub fits : FitsSelected p selection.fields entries
 
+-- all that is selected of a file can't be within the limits
+pub record SkimBeyond (c : SkimChoiceData) (p : Params) (bytes : List ℕ) : Type 0 where
+  pub selection : Selection
+  pub entries : List TreesData
+  pub all : SelectsAll c bytes selection entries
+  pub beyond : MayFitSelected p selection.fields entries → ⊥
+
+-- the whole file of what is selected before the first fault of a file passes this limit, and so it doesn't fit
+pub record SkimPasses (c : SkimChoiceData) (p : Params) (bytes : List ℕ) (reached limit : ℕ) : Type 0 where
+  pub selection : Selection
+  pub entries : List TreesData
+  pub before : SelectsBefore c bytes selection entries
+  pub table : Table
+  pub rows : Rows selection.fields p.plain table
+  pub over : WholePasses table table p (script_of entries) reached limit
+  pub beyond : FitsSelected p selection.fields entries → ⊥
+
 -- this is the first fault of a file: one before its clusters, or one of its clusters, where what is selected before it fits
 pub record HasDefectBehind (c : SkimChoiceData) (p : Params) (bytes : List ℕ) (e : ReadError) : Type 0 where
   pub fault : HasDefect bytes e
@@ -84,6 +103,9 @@ pub record HasDefectBehind (c : SkimChoiceData) (p : Params) (bytes : List ℕ) 
 pub record AnswersSkim (name : List ℕ) (c : SkimChoiceData) (p : Params) (w : World) (answer : Status) : Type 0 where
   -- the new file is whole where the old one means a schema and entries, nothing stands against the plan, and no limit is passed
   pub complete : IsThereWith (FitsSkim c p) (file w name) → (answer ≡ status.Done) ⊎ (answer ≡ status.Memory)
+  -- a limit is told where the new file can't be within the limits then
+  pub limited : IsThereWith (SkimBeyond c p) (file w name)
+      → ((reached limit : ℕ) × (answer ≡ status.Limit reached limit)) ⊎ (answer ≡ status.Memory)
   -- the first that stands against the plan is told of any file that has an outline
   pub unplanned : (e : PlanError) → IsThereWith (λ bytes. IsUnplanned c bytes e) (file w name)
       → (answer ≡ status_of_plan e) ⊎ (answer ≡ status.Memory)
@@ -109,5 +131,8 @@ pub record RunsSkim (out name : List ℕ) (c : SkimChoiceData) (p : Params) (old
   pub failed : answer ≡ status.Outside → Rose old.faults new.faults
   -- each object that was opened came back
   pub opened : new.opened ≡ old.opened
+  -- a limit that is told is one that the whole file of what is selected passes
+  pub passed : (w : World) → old.world ≡ Some w → (reached limit : ℕ) → answer ≡ status.Limit reached limit
+      → IsThereWith (λ bytes. SkimPasses c p bytes reached limit) (file w name)
   -- where the outside serves, the file says which answer it is
   pub served : (w : World) → old.world ≡ Some w → Served old new → AnswersSkim name c p w answer
