@@ -43,6 +43,7 @@ memory_skims out name c p state = record {
     order = nothing_made out state.world state.world refl;
     crash = none_left (IsWholeSkimOf name c p) out state.world state.world (Err store.Memory) refl;
     asked = (0, sym (append-nil state.asked));
+    plan_first = λ w is lacks. (0, sym (append-nil state.asked));
     later = omega arith;
     failed = λ outside. absurd (cc);
     back = record { err_faults = refl; opened = omega arith };
@@ -142,6 +143,7 @@ run_skim out name c p old mid new answer skims reports =
       crash = made_reported out (message_of answer) _ old mid new left reports
           (λ w v. LeavesSkim (IsWholeSkimOf name c p w) out v skims.stored) (crash_after out name c p skims.stored) stores.crash;
       asked = subst (λ (l : List Asked). AsksFor (skim_asked out name) old.asked l skims.stored) (sym reports.asked) stores.asked;
+      plan_first = λ w is lacks. let first = stores.plan_first w is lacks in (first.0, reports.asked ∙ first.1);
       failed = λ outside. rose_reported _ old mid new reports (stores.failed (outside_of skims.stored answer skims.answer_is outside));
       opened = after.opened;
       passed = λ w at reached limit is.

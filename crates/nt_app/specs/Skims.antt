@@ -21,7 +21,7 @@ use Rattle.nt_skim_file.specs.declared.error.SkimStoreError.TheVariants as store
 use Rattle.nt_skim_file.specs.Choosing.{SkimChoiceData, IsUnplanned, SelectsAll, SelectsBefore}
 use Rattle.nt_skim_file.specs.Whole.{script_of, MayFitSelected}
 use Rattle.nt_skim_file.specs.Crashes.{SkimCrashTold}
-use Rattle.nt_skim_file.specs.Storing.{skim_asked, IsWholeSkimOf, SkimTold, StoresSelected}
+use Rattle.nt_skim_file.specs.Storing.{skim_asked, AsksPlanFirst, IsWholeSkimOf, SkimTold, StoresSelected}
 use Rattle.nt_command_line.specs.SkimWords.{SaidTest}
 use Rattle.nt_app.specs.declared.status.SchemaPlace.TheVariants as unmet
 use Rattle.nt_app.specs.declared.status.Status.{Status}
@@ -127,6 +127,8 @@ pub record RunsSkim (out name : List ℕ) (c : SkimChoiceData) (p : Params) (old
   pub crash : SkimCrashTold (IsWholeSkimOf name c p) out old.world new.world stored
   -- what was asked for: both names where the file is whole, and else the first of them
   pub asked : AsksFor (skim_asked out name) old.asked new.asked stored
+  -- the plan stands first: no more than the file that is read was asked for where it isn't there or has no plan
+  pub plan_first : AsksPlanFirst name c old new
   -- the outside is blamed only where it failed
   pub failed : answer ≡ status.Outside → Rose old.faults new.faults
   -- each object that was opened came back

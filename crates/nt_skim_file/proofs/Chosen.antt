@@ -31,6 +31,7 @@ use Rattle.nt_skim_file.specs.Choosing.{SkimChoiceData, IsPlanned, SelectsAll, C
 use Rattle.nt_skim_file.specs.Storing.{MakesSelectedFile, SkimFilesTold, FilesSelection, MakesSkim, IsWholeSkim, OpenTold, SkimsOpen}
 use Rattle.nt_skim_file.proofs.Meanings.{means-read, defect-read, defect-outline}
 use Rattle.nt_skim_file.proofs.Hosted.{none_left}
+use Rattle.nt_skim_file.proofs.Unique.{planned-or_none}
 
 -- ---- what is chosen
 
@@ -176,6 +177,8 @@ module _ (out : List ℕ) (c : SkimChoiceData) (p : Params) (file mid : FileStat
           leaves = open_crash out c p bytes chosen.reader (selection_of chosen.plan) (chooses.told bytes tell) left.log result left.leaves;
         };
     asked = files.asked;
+    plan_first = λ bytes tell lacks.
+        absurd (planned-or_none c bytes chosen.reader (selection_of chosen.plan) (chooses.told bytes tell) lacks);
     cause = record {
       kept = record {
         same = files.cause.kept.same ∙ chooses.kept.same;
@@ -204,6 +207,7 @@ module _ (out : List ℕ) (c : SkimChoiceData) (p : Params) (file mid : FileStat
     order = nothing_made out host.world host.world refl;
     crash = λ bytes tell. none_left (λ w. IsWholeSkim c p bytes) out host.world host.world (Err e) refl;
     asked = (0, sym (append-nil host.asked));
+    plan_first = λ bytes tell lacks. refl;
     cause = record {
       kept = chooses.kept;
       later = omega arith;

@@ -90,6 +90,10 @@ module _ (out name : List ℕ) (c : SkimChoiceData) (p : Params) where
         };
     asked = asked_then result old.asked mid.asked new.asked opens.asks.ok
         (subst (λ (l : List Asked). AsksFor (Out out ∷ []) mid.asked l result) (sym back.asked) skims.asked);
+    plan_first = λ w is lacks.
+        let at = opened.bytes w is in
+        let bytes = there_is (file w name) at.0 in
+        (1, back.asked ∙ (skims.plan_first bytes.0 (at.1 ∙ bytes.1) (lacks bytes.0 bytes.1) ∙ opens.asks.ok));
     later = omega (arith, opens.asks.cause.later, skims.cause.later, back.faults_taken.later);
     failed = λ bad. elim (skims.cause.failed bad) [
       | inl rose ↦ omega (arith, opens.asks.cause.later, rose, back.faults_taken.later)
@@ -114,6 +118,7 @@ module _ (out name : List ℕ) (c : SkimChoiceData) (p : Params) where
     order = nothing_made out old.world new.world opens.world;
     crash = none_left (IsWholeSkimOf name c p) out old.world new.world (Err (skim_refusal r)) opens.world;
     asked = asked_first old.asked new.asked (asks_refused r old.asked new.asked (File name) opens.asks.failed opens.asks.memory);
+    plan_first = λ w is lacks. asks_refused r old.asked new.asked (File name) opens.asks.failed opens.asks.memory;
     later = opens.asks.cause.later;
     failed = λ is. opens.asks.cause.failed (refusal_fails {T = T} r is);
     back = record { err_faults = opens.asks.err_faults; opened = omega (arith, opens.asks.refused) };

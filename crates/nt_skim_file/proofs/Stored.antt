@@ -100,6 +100,7 @@ module _ (out name : List ℕ) (c : SkimChoiceData) (p : Params) where
           leaves = unwritten_crash (IsWholeSkimOf name c p w) left.log e left.leaves;
         };
     asked = named.asked;
+    plan_first = named.plan_first;
     later = named.later;
     failed = λ is. named.failed (cc is);
     back = named.back;
@@ -202,6 +203,7 @@ module _ (out name : List ℕ) (c : SkimChoiceData) (p : Params) where
         order = printed_order old mid new counts named (Ok tt) told;
         crash = printed_crash old mid new counts named (Ok tt) told (Ok tt) (λ Whole log leaves. leaves);
         asked = told.asked ∙ named.asked;
+        plan_first = λ w is lacks. let first = named.plan_first w is lacks in (first.0, told.asked ∙ first.1);
         later = omega (arith, named.later, told.cause.later);
         failed = λ is. absurd (cc is);
         back = back_then old mid new counts named (Ok tt) told;
@@ -233,6 +235,7 @@ module _ (out name : List ℕ) (c : SkimChoiceData) (p : Params) where
         order = printed_order old mid new counts named (Err e) told;
         crash = printed_crash old mid new counts named (Err e) told (Err Outside) (λ Whole log leaves. leaves.0);
         asked = (2, told.asked ∙ named.asked);
+        plan_first = λ w is lacks. let first = named.plan_first w is lacks in (first.0, told.asked ∙ first.1);
         later = omega (arith, named.later, told.cause.later);
         failed = λ is. let rose = told.cause.failed in omega (arith, named.later, rose);
         back = back_then old mid new counts named (Err e) told;

@@ -1,5 +1,5 @@
 -- What is read of a file is one thing: what it means, its outline, and what is chosen of it.
-use Rattle.std.proofs.Common.{◌≡◌, ◌∙◌, ap, sym, refl, ℕ, ◌+◌, List, [], ◌∷◌, ◌++◌, Result, Ok, Err}
+use Rattle.std.proofs.Common.{◌≡◌, ◌∙◌, inl, inr, ap, sym, refl, ℕ, ◌+◌, List, [], ◌∷◌, ◌++◌, Result, Ok, Err}
 use Rattle.std.proofs.lemmas.List.Concat.{flat_map-cons}
 use Rattle.nt_lists.specs.Chaining.{◌>>=◌}
 use Rattle.nt_num.specs.declared.fault.ReadError.{ReadError}
@@ -12,7 +12,7 @@ use Rattle.nt_file_meaning.specs.Files.{entries_from, Means, HasDefect}
 use Rattle.nt_skim.specs.declared.error.PlanError.{PlanError}
 use Rattle.nt_skim.specs.Planning.{planned}
 use Rattle.nt_skim.specs.Select.{Selection, selected, readings_from, cluster_readings, entries_read, before_fault}
-use Rattle.nt_skim_file.specs.Choosing.{SkimChoiceData, IsUnplanned, SelectsAll, SelectsBefore}
+use Rattle.nt_skim_file.specs.Choosing.{SkimChoiceData, IsPlanned, IsUnplanned, HasNoPlan, SelectsAll, SelectsBefore}
 use Rattle.nt_skim_file.proofs.Meanings.{entries_of_all, before-none, outlined, not_outlined}
 
 next_joined : (r whole : Result (List TreesData) ReadError) (each : Result (List (List TreesData)) ReadError)
@@ -126,3 +126,10 @@ module _ (c : SkimChoiceData) (bytes : List ℕ) where
   -- a file has an outline or not
   pub outlined-or_not : (o : Outline) (e : ReadError) → outline_of bytes ≡ Ok o → outline_of bytes ≡ Err e → ⊥
   outlined-or_not o e one other = let both = sym one ∙ other in cc both
+
+  -- so a file that has a plan doesn't lack it
+  pub planned-or_none : (o : Outline) (s : Selection) → IsPlanned c bytes o s → HasNoPlan c bytes → ⊥
+  planned-or_none o s one (inl (e, refused)) = outlined-or_not o e one.outline refused
+  planned-or_none o s one (inr (e, not)) =
+      planned-or_not s (selected s (before_fault (cluster_readings bytes o))) e
+      (record { o = o; is_planned = one; entries_are = refl }) not

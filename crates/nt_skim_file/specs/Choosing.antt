@@ -1,6 +1,7 @@
 -- What is chosen of a file.
-use Rattle.std.specs.Prelude.{◌≡◌, ℕ, ◌<◌, List, length, Option, Some, Result, Ok, Err, IfOk, IsErrOf}
+use Rattle.std.specs.Prelude.{◌≡◌, ◌⊎◌, ℕ, ◌<◌, List, length, Option, Some, Result, Ok, Err, IfOk, IsErrOf}
 use Rattle.std.specs.List.{flat_map}
+use Rattle.nt_num.specs.declared.fault.ReadError.{ReadError}
 use Rattle.nt_types.specs.TreeData.{TreesData}
 use Rattle.nt_types.specs.Rules.{AreFields}
 use Rattle.nt_grammar.specs.Table.{Table}
@@ -31,6 +32,10 @@ pub record IsUnplanned (c : SkimChoiceData) (bytes : List ℕ) (e : PlanError) :
   pub o : Outline
   pub outline : outline_of bytes ≡ Ok o
   pub plan : planned o.table c.names c.test ≡ Err e
+
+-- it has no plan: its outline is refused, or something stands against the plan
+abbrev pub HasNoPlan : SkimChoiceData → List ℕ → Type 0
+HasNoPlan c bytes = ((e : ReadError) × (outline_of bytes ≡ Err e)) ⊎ ((e : PlanError) × IsUnplanned c bytes e)
 
 -- all that is selected of a file: of the entries that it means, one cluster behind the other
 pub record SelectsAll (c : SkimChoiceData) (bytes : List ℕ) (s : Selection) (entries : List TreesData) : Type 0 where

@@ -12,8 +12,8 @@ use Rattle.nt_book.specs.declared.params.Params.{Params}
 use Rattle.nt_close.specs.Laws.{EndsOverFirst}
 use Rattle.nt_file_meaning.specs.Files.{HasDefect}
 use Rattle.nt_file_meaning.specs.Outlines.{Outline, outline_of}
-use Rattle.nt_store.specs.Worlds.{IsThereWith, AsksFor, LeavesOut, KeepsFiles, OthersStay, MakesDisk, LeavesOpen, IsLeftByFailure}
-use Rattle.nt_store.specs.Worlds.{IsLeftByMemory, WritesInOrder, IsLeftAfter}
+use Rattle.nt_store.specs.Worlds.{IsThereWith, AsksFirst, AsksFor, LeavesOut, KeepsFiles, OthersStay, MakesDisk, LeavesOpen}
+use Rattle.nt_store.specs.Worlds.{IsLeftByFailure, IsLeftByMemory, WritesInOrder, IsLeftAfter}
 use Rattle.nt_script.specs.declared.storing.Counts.{Counts}
 use Rattle.nt_script.specs.Whole.{line_of_clusters}
 use Rattle.nt_skim.specs.Select.{Selection, selected, entries_read, before_fault, cluster_readings}
@@ -22,7 +22,7 @@ use Rattle.nt_skim_file.specs.declared.error.SkimStoreError.TheVariants.{Outside
 use Rattle.nt_skim_file.specs.Whole.{IsSelectedFile, IsWholeSelection, AreSelectedNumbers, PassesSelected}
 use Rattle.nt_skim_file.specs.Crashes.{SkimCrashTold}
 use Rattle.nt_skim_file.specs.Filing.{KeepsFile}
-use Rattle.nt_skim_file.specs.Choosing.{SkimChoiceData, IsPlanned, IsUnplanned, SelectsAll, SelectsBefore}
+use Rattle.nt_skim_file.specs.Choosing.{SkimChoiceData, IsPlanned, IsUnplanned, HasNoPlan, SelectsAll, SelectsBefore}
 
 -- a disk of this name was made, and its file is the whole one of these entries
 pub record MakesSelectedFile (out : List ℕ) (p : Params) (fields : List MemberData) (entries : List TreesData) (w w' : World) : Type 0 where
@@ -109,6 +109,10 @@ OpenTold out c p bytes w w' (Err (Defect e)) = DefectTold out c bytes e w w'
 OpenTold out c p bytes w w' (Err (Unplanned e)) = IsUnplanned c bytes e × KeepsFiles w w'
 OpenTold out c p bytes w w' (Err (Limit reached most)) = PassesSkim c p bytes reached most × LeavesOpen out w w'
 
+-- nothing is asked for where an open file that tells its bytes has no plan
+abbrev pub AsksOncePlanned : SkimChoiceData → FileState → List Asked → List Asked → Type 0
+AsksOncePlanned c file old new = (bytes : List ℕ) → file.bytes ≡ Some bytes → HasNoPlan c bytes → new ≡ old
+
 -- what an open file selects was written under a name, or not
 pub record SkimsOpen (out : List ℕ) (c : SkimChoiceData) (p : Params) (file file' : FileState) (old new : HostState)
     (result : Result Counts SkimStoreError) : Type 0 where
@@ -119,6 +123,7 @@ pub record SkimsOpen (out : List ℕ) (c : SkimChoiceData) (p : Params) (file fi
   pub crash : (bytes : List ℕ) → file.bytes ≡ Some bytes
       → SkimCrashTold (λ w. IsWholeSkim c p bytes) out old.world new.world result
   pub asked : AsksFor (Out out ∷ []) old.asked new.asked result
+  pub plan_first : AsksOncePlanned c file old.asked new.asked
   pub cause : HasSkimCause file file' old.faults new.faults result
   pub back : LeavesOut 0 old new
 
@@ -127,6 +132,12 @@ pub record SkimsOpen (out : List ℕ) (c : SkimChoiceData) (p : Params) (file fi
 -- the names that are asked for: the file that is read, and then the one that is written
 abbrev pub skim_asked : List ℕ → List ℕ → List Asked
 skim_asked out name = File name ∷ Out out ∷ []
+
+-- no more than the file that is read is asked for where it isn't there or has no plan
+abbrev pub AsksPlanFirst : List ℕ → SkimChoiceData → HostState → HostState → Type 0
+AsksPlanFirst name c old new =
+    (w : World) → old.world ≡ Some w → ((bytes : List ℕ) → file w name ≡ Some bytes → HasNoPlan c bytes)
+    → AsksFirst (File name ∷ []) old.asked new.asked
 
 -- the file is the whole one of all that is selected, and out gained this of the line of its numbers
 pub record StoresSkim (out name : List ℕ) (c : SkimChoiceData) (p : Params) (w w' : World) (printed behind : List ℕ) : Type 0 where
@@ -160,6 +171,7 @@ pub record SkimsNamed (out name : List ℕ) (c : SkimChoiceData) (p : Params) (o
   pub order : WritesInOrder out old.world new.world
   pub crash : SkimCrashTold (IsWholeSkimOf name c p) out old.world new.world result
   pub asked : AsksFor (skim_asked out name) old.asked new.asked result
+  pub plan_first : AsksPlanFirst name c old new
   pub later : old.faults ≤ new.faults
   pub failed : IsErrOf result Outside → Rose old.faults new.faults
   pub back : LeavesOut 0 old new
@@ -193,6 +205,8 @@ pub record StoresSelected (out name : List ℕ) (c : SkimChoiceData) (p : Params
   -- and a crash leaves it unfinished or whole
   pub crash : SkimCrashTold (IsWholeSkimOf name c p) out old.world new.world result
   pub asked : AsksFor (skim_asked out name) old.asked new.asked result
+  -- the plan stands before the file that is written is asked for
+  pub plan_first : AsksPlanFirst name c old new
   -- a count of faults never falls, and it rose where the outside failed
   pub later : old.faults ≤ new.faults
   pub failed : IsErrOf result Outside → Rose old.faults new.faults

@@ -12,8 +12,8 @@
 //! and the new file means the schema of the plan's fields with just what is selected of these clusters, in clusters of as many entries
 //! as the parameters say; it is laid out for them within the limits, and exactly the line of its numbers was printed. A defect is
 //! exactly the first fault of the file that is read: before any disk was made, or in its clusters; what stands against the plan comes
-//! only of a file that has an outline, is exactly the first thing that does, and then no disk was made; a limit is one that what is selected
-//! before the first fault passes. After these and after `Memory` the new file is left open or wasn't made, and after `Outside` too,
+//! only of a file that has an outline, is exactly the first thing that does, and then no disk was made; the new file is asked for only
+//! once the outline and the plan stand (`plan_first`); a limit is one that what is selected before the first fault passes. After these and after `Memory` the new file is left open or wasn't made, and after `Outside` too,
 //! unless it is whole or its first append failed. The first byte is written over only when all the rest stays. So wherever a crash
 //! comes behind the first sync, it leaves a file that is refused as unfinished, or, where the first byte was written over before, the
 //! whole one; behind all steps of `Ok` just that. `Outside` comes only where the host's count rose, and each object that was opened
