@@ -3,6 +3,7 @@ pub mod Messages
 pub mod Reported
 pub mod WriteEnds
 pub mod Writing
+pub mod ScriptEnds
 pub mod Scripting
 pub mod Generating
 pub mod Shown
