@@ -13,8 +13,9 @@
 //!
 //! Proved: after `Ok` the file is made, and out has the lines of the totals of what is made, which are the same at each run; a limit
 //! is one that the chunks of what is made pass, in whatever order they are committed, and then the file is left open; after `Memory` it is
-//! left open or made, and after `Outside` too, unless its first append failed; of these lines a prefix was printed, all of them or fewer. A fault of the file
-//! that is read back never comes where the host tells its bytes. Wherever a crash comes behind the first sync, it leaves a file that is
+//! left open or made, or there is none, and after `Outside` too, unless its first append failed. It is opened to be read only once it is
+//! made and its disk came back behind a sync; before that nothing is printed, and then a prefix of these lines, all of them or fewer. A
+//! fault of the file that is read back never comes where the host tells its bytes. Wherever a crash comes behind the first sync, it leaves a file that is
 //! refused as unfinished, or, where the first byte was written over before, one that is made; behind all steps of `Ok` just that.
 //! `Outside` comes only where the host's count rose, and each object that was opened comes back (all by `Generates`).
 //!

@@ -12,11 +12,12 @@
 //! page it has byte for byte the pages that are stored in them; it is laid out for these within the limits, and exactly the line of its
 //! numbers was printed. A defect is exactly the first fault of the files, with the number of its file: of the first that has no outline,
 //! and then no disk was made, or else of the clusters, file by file. `Schema` comes only of files that all have outlines, names exactly the
-//! first place that stands against merging them, and then no disk was made. A limit is one that the file of the clusters before the first
-//! fault passes. A limit, or the fault of a cluster, is exactly what is refused first in the order of the work (`refused_of` in
-//! `specs/Whole.antt`): a limit that the header passes; of one cluster after the other its first fault, and a limit that its copy passes;
-//! and a limit that the file passes where it is closed. After `Ok` nothing is refused. After these and after `Memory` the new file is left
-//! open or wasn't made, and after `Outside` too, unless it is whole or its first append failed. The first byte is written over only when all the rest stays. So wherever a crash comes behind the first sync,
+//! first place that stands against merging them, and then no disk was made. Where they can't be merged, nothing but they was asked for.
+//! A limit is one that the file of the clusters before the first fault passes. A limit, or the fault of a cluster, is exactly what is
+//! refused first in the order of the work (`refused_of` in `specs/Whole.antt`): a limit that the header passes; of one cluster after the
+//! other its first fault, and a limit that its copy passes; and a limit that the file passes where it is closed. After `Ok` nothing is
+//! refused. After these and after `Memory` the new file is left open or wasn't made, and after `Outside` too, unless it is whole or its
+//! first append failed. The first byte is written over only when all the rest stays. So wherever a crash comes behind the first sync,
 //! it leaves a file that is refused as unfinished, or, where the first byte was written over before, the whole one; behind all steps of
 //! `Ok` just that. `Outside` comes only where the host's count rose, and each object that was opened comes back.
 //!

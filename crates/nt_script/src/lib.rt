@@ -19,12 +19,14 @@
 //! `Outside` comes only where a count of faults rose. What is gathered is written before a line adds its field, whatever that
 //! line says (`done` of `add_field`). A table that describes fields has just these (`tables_have_just_their_fields`).
 //!
-//! Proved of `store_script` (`StoresScript`): after `Ok` the file is the whole one of the script, within the limits
-//! (`fits`), and exactly the line of its numbers was printed; a schema fault is the text's first one, a bad line the script's first one, and a limit one that
-//! is passed where the file is begun, where a cluster or the page list in front of it is written, or where the file is closed; after these and after `Memory` the file is
-//! left open, and after `Outside` too, unless it is whole or its first append failed; of a file that is whole then, either the step of
-//! its first byte failed or the sync behind it, and nothing is printed, or the print of its numbers failed. The first byte is written over only when all the rest
-//! stays. So wherever a crash comes behind the first sync, it leaves a file that is refused as unfinished, or, where the
+//! Proved of `store_script` (`StoresScript`): after `Ok` the file is the whole one of the script, within the limits (`fits`), and exactly
+//! the line of its numbers was printed; a schema fault is the text's first one, a bad line the script's first one, and a limit one that
+//! is passed where the file is begun, where a cluster or the page list in front of it is written, or where the file is closed. After a
+//! schema fault no file was made, and nothing but the schema text was asked for; after a bad line and a limit the file is left open,
+//! after `Memory` it is so or wasn't made, and after `Outside` too, unless it is whole or its first append failed; of a file that is
+//! whole then, either the step of its first byte failed or the sync behind it, and nothing is printed, or the print of its numbers
+//! failed. The first byte is written over only when all the rest stays.
+//! So wherever a crash comes behind the first sync, it leaves a file that is refused as unfinished, or, where the
 //! first byte was written over before, the whole one; behind all steps of `Ok` just that, and of an answer but `Ok` and
 //! `Outside` only what is unfinished. `Outside` comes only where the host's count rose, and each object that was opened
 //! comes back. Nothing is only tested.

@@ -11,12 +11,14 @@
 //! *unfinished* nt_cuts's (`specs/Crashes.antt`).
 //!
 //! Proved: after `Ok` the file is stored, and out has the line of its order; a schema fault is the text's first one, a bad line the
-//! first of the lowest input, and a limit one that the chunks pass in whatever order they are committed; after these and after
-//! `Memory` the file is left open, and after `Outside` too, unless it is stored or its first append failed. The first byte is
-//! written over only when all the rest stays. So wherever a crash comes behind the first sync, it leaves a file that is refused as
-//! unfinished, or, where the first byte was written over before, the stored file, in the order whose line out has; behind all steps
-//! of `Ok` just that, and of an answer but `Ok` and `Outside` only what is unfinished. `Outside` comes only where the host's count
-//! rose, and each object that was opened comes back. Nothing is only tested.
+//! first of the lowest input, and a limit one that the chunks pass in whatever order they are committed. After a schema fault no
+//! file was made, and nothing but the schema text was asked for; after a bad line and a limit the file is left open, after `Memory` it
+//! is so or wasn't made, and after `Outside` too, unless it is stored or its first append failed. The line of the order is printed only
+//! once all chunks are committed: whole then, but where that print fails. The first byte is written over only when all the rest stays.
+//! So wherever a crash comes behind the first sync, it leaves a file that is refused as unfinished, or, where the first byte was written
+//! over before, the stored file, in the order whose line out has; behind all steps of `Ok` just that, and of an answer but `Ok` and
+//! `Outside` only what is unfinished. `Outside` comes only where the host's count rose, and each object that was opened comes back.
+//! Nothing is only tested.
 #![tactic(auto)]
 
 mod closing;
